@@ -1,0 +1,8 @@
+pub mod Tokens
+pub mod Unit
+pub mod Words
+pub mod Punctuators
+pub mod Numbers
+pub mod Characters
+pub mod Blanks
+pub mod Lexical

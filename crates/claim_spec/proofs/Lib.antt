@@ -1,0 +1,2 @@
+-- laws of the claim that proofs above cite
+pub mod OneSegment

@@ -1,0 +1,30 @@
+//! What the program claims of a function, and how it says so.
+//!
+//! `specs/Code.antt` has the functions of a file: which instructions they reach, what they call, how deep
+//! their stack goes. `specs/Claim.antt` has the calling convention and [`Agrees`](../specs/Claim.antt), the
+//! agreement of a function's code with its C source. `specs/Verdict.antt` has the outcomes of a run, and for
+//! each its status, its report and its certificate, byte for byte. The enums here name the refusals.
+#![tactic(auto)]
+
+/// A quantity with a maximum.
+#[derive(Clone, Copy, Debug, PartialEq, Eq)]
+pub enum Quantity {
+    /// Bytes of the executable.
+    Elf,
+    /// Bytes of the C source.
+    C,
+}
+
+/// Why the functions of an executable and of a source don't go together.
+#[derive(Clone, Copy, Debug, PartialEq, Eq)]
+pub enum PairKind {
+    /// No function is to be validated: none has both a body and a symbol.
+    NothingListed,
+}
+
+/// Why the code of a function is refused.
+#[derive(Clone, Copy, Debug, PartialEq, Eq)]
+pub enum CodeKind {
+    /// The code is not of a form that is read so far.
+    Later,
+}

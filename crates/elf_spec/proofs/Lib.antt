@@ -1,0 +1,2 @@
+-- laws of the image that proofs above cite
+pub mod Functions

@@ -1,0 +1,5 @@
+pub mod Memory
+pub mod Registers
+pub mod Steps
+pub mod Runs
+pub mod Kept
