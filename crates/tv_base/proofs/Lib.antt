@@ -1,0 +1,3 @@
+mod Caused
+mod Grown
+mod Taken

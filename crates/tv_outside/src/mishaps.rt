@@ -1,0 +1,71 @@
+ghost use Rattle.std.specs.Prelude.{◌≡◌, ◌+◌, ◌-◌, ◌^◌, ◌≤◌, min, ◌<◌, IsErrOf, IfOk, OnOk, OnErr};
+ghost use Rattle.tv_base.specs.declared.faults.OutsideFault.TheVariants.{Failed};
+ghost use Rattle.tv_base.specs.Faults.{HasCause};
+
+use tv_base::OutsideFault;
+
+/// Which calls of an object in memory fail, and how much a call takes.
+#[derive(Clone, Copy)]
+pub(crate) struct Mishaps<'a> {
+    /// The numbers of the calls that fail. The object's first call has the number 1.
+    failing: &'a [u64],
+    /// The most bytes that a call takes.
+    pub(crate) most: usize,
+    /// How many calls there were.
+    calls: u64,
+    /// How many calls failed; it stops at the last value.
+    pub(crate) faults: u64,
+}
+
+impl<'a> Mishaps<'a> {
+    pub(crate) fn new(failing: &'a [u64], most: usize) -> Self
+        ensures { result.faults ≡ 0 }
+    {
+        Mishaps {
+            failing,
+            most,
+            calls: 0,
+            faults: 0,
+        }
+    }
+
+    /// Raises the count, and answers the refusal.
+    pub(crate) fn fail<T>(&mut self) -> Result<T, OutsideFault>
+        ensures refusal { IsErrOf result Failed }
+        ensures count { self.new.faults ≡ min (self.old.faults + 1) (2 ^ 64 - 1) }
+        ensures cause { HasCause self.old.faults self.new.faults result }
+    {
+        self.faults = self.faults.saturating_add(1);
+        Err(OutsideFault::Failed)
+    }
+
+    /// Counts a call, and refuses it where its number is among those that fail.
+    pub(crate) fn count_call(&mut self) -> Result<(), OutsideFault>
+        ensures cause { HasCause self.old.faults self.new.faults result }
+        ensures fault { OnErr result (IsErrOf result Failed) }
+        ensures well { OnOk result (self.new.faults ≡ self.old.faults) }
+    {
+        self.calls = self.calls.saturating_add(1);
+        if self.failing.contains(&self.calls) {
+            return self.fail();
+        }
+        Ok(())
+    }
+
+    /// Counts a call that is to write `size` bytes, and answers how many of them it takes. Where it
+    /// would take none of some, it fails.
+    pub(crate) fn count_put(&mut self, size: usize) -> Result<usize, OutsideFault>
+        ensures bound { IfOk result (λ count. count ≤ size) }
+        ensures progress { IfOk result (λ count. 0 < size → 0 < count) }
+        ensures cause { HasCause self.old.faults self.new.faults result }
+        ensures fault { OnErr result (IsErrOf result Failed) }
+        ensures well { OnOk result (self.new.faults ≡ self.old.faults) }
+    {
+        self.count_call()?;
+        let count = size.min(self.most);
+        if count == 0 && size > 0 {
+            return self.fail();
+        }
+        Ok(count)
+    }
+}

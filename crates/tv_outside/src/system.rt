@@ -1,0 +1,174 @@
+ghost use Rattle.std.specs.Prelude.{◌≡◌, ◌<◌, ◌≤◌, [], Option, None, string_bytes, IsErr, IsErrOf, IfOk, OnOk};
+ghost use Rattle.tv_base.specs.declared.faults.OutsideFault.TheVariants.{NoMemory};
+ghost use Rattle.tv_base.specs.Faults.{HasCause};
+
+use std::io::{self, ErrorKind, Print, Read, Write};
+use std::rt::Files;
+use tv_base::{Desk, OutsideFault, Sink, Store};
+
+/// The refusal that an error of the operating system comes to: want of memory, or a failure, at
+/// which the count rises.
+fn refused<T>(faults: &mut u64, error: &io::Error) -> Result<T, OutsideFault>
+    ensures refusal { IsErr result }
+    ensures cause { HasCause faults.old faults.new result }
+    ensures no_memory { IsErrOf result NoMemory → faults.new ≡ faults.old }
+{
+    if error.kind() == ErrorKind::OutOfMemory {
+        return Err(OutsideFault::NoMemory);
+    }
+    *faults = faults.saturating_add(1);
+    Err(OutsideFault::Failed)
+}
+
+/// Files of the operating system, read. It tells nothing of their content.
+#[derive(Drop)]
+pub struct FileDesk<R: Files + Drop> {
+    rt: R,
+    file: Option<R::File>,
+    faults: u64,
+}
+
+impl<R: Files + Drop> FileDesk<R> {
+    /// A desk with no file begun.
+    pub fn new(rt: R) -> Self
+        ensures { ⟦<FileDesk<R> as Desk>⟧.faults result ≡ 0 }
+    {
+        FileDesk {
+            rt,
+            file: None,
+            faults: 0,
+        }
+    }
+}
+
+impl<R: Files + Drop> Desk for FileDesk<R> {
+    ghost bytes = { λ _ _. None };
+
+    ghost left = { λ _. None };
+
+    ghost faults = { λ desk. desk.faults };
+
+    fn begin(&mut self, name: &str) -> Result<(), OutsideFault> {
+        match std::fs::open(&self.rt, name) {
+            Ok(file) => {
+                self.file = Some(file);
+                Ok(())
+            }
+            Err(error) => refused(&mut self.faults, &error),
+        }
+    }
+
+    fn read(&mut self, buf: &mut [u8]) -> Result<usize, OutsideFault> {
+        let Some(file) = &mut self.file else {
+            return Ok(0);
+        };
+        match file.read(buf) {
+            Ok(count) => Ok(count),
+            Err(error) => refused(&mut self.faults, &error),
+        }
+    }
+}
+
+/// What a write of `size` bytes came to. A write of some bytes that took none is a failure.
+fn taken(faults: &mut u64, size: usize, outcome: io::Result<usize>) -> Result<usize, OutsideFault>
+    requires { IfOk outcome (λ count. count ≤ size) }
+    ensures bound { IfOk result (λ count. count ≤ size) }
+    ensures progress { IfOk result (λ count. 0 < size → 0 < count) }
+    ensures cause { HasCause faults.old faults.new result }
+    ensures unfailing { OnOk result (faults.new ≡ faults.old) }
+    ensures no_memory { IsErrOf result NoMemory → faults.new ≡ faults.old }
+{
+    match outcome {
+        Ok(0) if size > 0 => {
+            *faults = faults.saturating_add(1);
+            Err(OutsideFault::Failed)
+        }
+        Ok(count) => Ok(count),
+        Err(error) => refused(faults, &error),
+    }
+}
+
+/// Standard output. It tells nothing of what it holds.
+#[derive(Drop)]
+pub struct OutSink<R: Print + Drop> {
+    rt: R,
+    faults: u64,
+}
+
+impl<R: Print + Drop> OutSink<R> {
+    /// Standard output, with no fault so far.
+    pub fn new(rt: R) -> Self
+        ensures { ⟦<OutSink<R> as Sink>⟧.faults result ≡ 0 }
+    {
+        OutSink { rt, faults: 0 }
+    }
+}
+
+impl<R: Print + Drop> Sink for OutSink<R> {
+    ghost held = { λ _ _. None };
+
+    ghost begun = { λ _. [] };
+
+    ghost faults = { λ sink. sink.faults };
+
+    fn put(&mut self, bytes: &[u8]) -> Result<usize, OutsideFault> {
+        let outcome = self.rt.write_some(bytes);
+        taken(&mut self.faults, bytes.len(), outcome)
+    }
+}
+
+/// Files of the operating system, written. It tells nothing of what they hold.
+#[derive(Drop)]
+pub struct FileStore<R: Files + AllocGlobal + Drop> {
+    rt: R,
+    begun: String,
+    file: Option<R::File>,
+    faults: u64,
+}
+
+impl<R: Files + AllocGlobal + Drop> FileStore<R> {
+    /// A store with no file begun, where every write fails.
+    pub fn new(rt: R) -> Self
+        ensures faults { ⟦<FileStore<R> as Sink>⟧.faults result ≡ 0 }
+        ensures begun { ⟦<FileStore<R> as Sink>⟧.begun result ≡ [] }
+    {
+        let begun = String::new(rt.alloc());
+        FileStore {
+            rt,
+            begun,
+            file: None,
+            faults: 0,
+        }
+    }
+}
+
+impl<R: Files + AllocGlobal + Drop> Sink for FileStore<R> {
+    ghost held = { λ _ _. None };
+
+    ghost begun = { λ store. string_bytes store.begun };
+
+    ghost faults = { λ store. store.faults };
+
+    fn put(&mut self, bytes: &[u8]) -> Result<usize, OutsideFault> {
+        let Some(file) = &mut self.file else {
+            self.faults = self.faults.saturating_add(1);
+            return Err(OutsideFault::Failed);
+        };
+        let outcome = file.write(bytes);
+        taken(&mut self.faults, bytes.len(), outcome)
+    }
+}
+
+impl<R: Files + AllocGlobal + Drop> Store for FileStore<R> {
+    fn begin(&mut self, name: &str) -> Result<(), OutsideFault> {
+        let begun = String::from_str(self.rt.alloc(), name)?;
+        match std::fs::create(&self.rt, name) {
+            Ok(file) => {
+                self.file = Some(file);
+                self.begun = begun;
+                Ok(())
+            }
+            Err(error) => refused(&mut self.faults, &error),
+        }
+    }
+}
