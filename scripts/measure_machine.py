@@ -1,0 +1,155 @@
+#!/usr/bin/env python3
+"""Measures how fast the machine runs, and the memory that it takes for stores.
+
+    scripts/measure_machine.py
+
+It stands outside the gate and needs `rt` and GNU `time` (Debian: time) on the path. It proves the machine and a small program in a
+scratch repository, takes over what `rt` has kept in out/, and runs the program as it is compiled. Each
+row is a run: instructions, bytes stored at distinct addresses, seconds, instructions a second and the
+peak of memory.
+"""
+
+import shutil
+import subprocess
+import sys
+import tempfile
+import time
+from pathlib import Path
+
+ROOT = Path(__file__).resolve().parent.parent
+CRATES = {
+    "rv_instr": "",
+    "rv_spec": "rv_instr",
+    "rv_decode": "rv_instr",
+    "rv_machine": "rv_instr rv_spec rv_decode",
+}
+
+# Its arguments, after its name, are the words of a program in hexadecimal numbers. Runs it from 00010000 to its end, and
+# prints how the run ended, pc and x10.
+PROBE = r"""//! Runs a program whose words are the arguments.
+#![tactic(auto)]
+
+use rv_instr::Reg;
+use rv_machine::{Machine, Memory, run};
+use std::env;
+
+fn number(text: &str) -> u32 {
+    let mut n: u32 = 0;
+    for b in text.bytes() {
+        let digit = match b {
+            b'0'..=b'9' => b - b'0',
+            b'a'..=b'f' => b - b'a' + 10,
+            _ => 0,
+        };
+        n = n.wrapping_mul(16).wrapping_add(u32::from(digit));
+    }
+    n
+}
+
+fn main(rt: HostRuntime) -> anyhow::Result<()> {
+    let words: Vec<String> = env::args(&rt)?.collect(rt.alloc())?;
+    let mut memory = Memory::new(rt.alloc());
+    let mut at: u32 = 0x10000;
+    for word in words.as_slice().iter().skip(1) {
+        for byte in number(word.as_str()).to_le_bytes() {
+            memory.put(at, byte)?;
+            at = at.wrapping_add(1);
+        }
+    }
+    let mut machine = Machine::new(0x10000, memory);
+    let ran = run(&mut machine, at, 1000000000)?;
+    println!(rt; "{ran:?} {:08x} {:08x}", machine.pc(), machine.register(Reg::new(10)))?;
+    Ok(())
+}
+"""
+
+
+def built(room):
+    """The program that runs the words of its arguments, proved and compiled in a scratch repository."""
+    for name in CRATES:
+        shutil.copytree(ROOT / "crates" / name, room / "crates" / name)
+    (room / "crates/probe/src").mkdir(parents=True)
+    (room / "crates/probe/src/main.rt").write_text(PROBE)
+    listed = CRATES | {"probe": "anyhow rv_instr rv_machine"}
+    (room / "crates.txt").write_text("".join(f"{name}: {deps}\n" for name, deps in listed.items()))
+    (room / "HANDLES").write_text("Handles allowed: none.\n")
+    subprocess.run(["git", "init", "-q", "."], cwd=room, check=True)
+    ran = subprocess.run(["rt", "run"], cwd=room / "crates/probe", capture_output=True, text=True)
+    program = room / "crates/probe/out/probe"
+    if ran.returncode or not program.exists():
+        sys.exit(f"the program is not built: {ran.stdout[-2000:]}{ran.stderr[-2000:]}")
+    return program
+
+
+def upper(rd, value):
+    return value << 12 | rd << 7 | 0x37
+
+
+def add_immediate(rd, source, value):
+    return (value & 0xFFF) << 20 | source << 15 | rd << 7 | 0x13
+
+
+def add(rd, left, right):
+    return right << 20 | left << 15 | rd << 7 | 0x33
+
+
+def load_word(rd, base):
+    return base << 15 | 2 << 12 | rd << 7 | 0x03
+
+
+def store(f3, source, base):
+    return source << 20 | base << 15 | f3 << 12 | 0x23
+
+
+def branch_back(left, distance):
+    """A branch `distance` bytes back where the register is not zero."""
+    offset = -distance & 0x1FFF
+    return (offset >> 12) << 31 | (offset >> 5 & 63) << 25 | left << 15 | 1 << 12 | (offset >> 1 & 15) << 8 | (offset >> 11 & 1) << 7 | 0x63
+
+
+def constant(rd, value):
+    """Two words that put a value into a register."""
+    return [upper(rd, value + 0x800 >> 12 & 0xFFFFF), add_immediate(rd, rd, value & 0xFFF)]
+
+
+def loop(times, body):
+    """A program that goes over a body so often; x5 counts, x6 is 00100000 at the start. With its count of instructions."""
+    whole = body + [add_immediate(5, 5, -1)]
+    words = constant(5, times) + constant(6, 0x100000) + whole + [branch_back(5, 4 * len(whole))]
+    return words, 4 + times * (len(whole) + 1)
+
+
+ROWS = [
+    ("nothing", loop(1, []), 0),
+    ("registers alone", loop(2500000, [add(10, 10, 5), add(11, 11, 10)]), 0),
+    ("a load and a store in each five", loop(2000000, [load_word(10, 6), add(11, 11, 10), store(2, 5, 6)]), 4),
+    ("10^5 bytes, one after the other", loop(100000, [store(0, 5, 6), add_immediate(6, 6, 1)]), 100000),
+    ("10^5 bytes, 64 apart", loop(100000, [store(0, 5, 6), add_immediate(6, 6, 64)]), 100000),
+    ("10^5 words, one after the other", loop(100000, [store(2, 5, 6), add_immediate(6, 6, 4)]), 400000),
+    ("10^6 words, one after the other", loop(1000000, [store(2, 5, 6), add_immediate(6, 6, 4)]), 4000000),
+]
+
+
+def measure(program, words):
+    """The seconds of a run that stops at its end, and its peak of memory in MiB."""
+    # The kernel counts to a process the memory of what it was before it became the program: of `time`, not of Python.
+    command = ["time", "-f", "%M", str(program)] + [f"{word:08x}" for word in words]
+    begin = time.monotonic()
+    ran = subprocess.run(command, capture_output=True, text=True)
+    seconds = time.monotonic() - begin
+    if ran.returncode or not ran.stdout.startswith("Stopped"):
+        sys.exit(f"the run failed: status {ran.returncode}, {ran.stdout}{ran.stderr}")
+    return seconds, int(ran.stderr) / 1024
+
+
+def main():
+    with tempfile.TemporaryDirectory() as folder:
+        program = built(Path(folder))
+        print("| Run | Instructions | Bytes stored | Seconds | Instructions a second | Peak MiB |\n|---|---|---|---|---|---|")
+        for name, (words, count), stored in ROWS:
+            seconds, peak = measure(program, words)
+            print(f"| {name} | {count} | {stored} | {seconds:.2f} | {count / seconds:.0f} | {peak:.1f} |", flush=True)
+
+
+if __name__ == "__main__":
+    main()
