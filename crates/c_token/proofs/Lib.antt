@@ -1,0 +1,6 @@
+pub mod Fronts
+pub mod Digits
+pub mod Comments
+pub mod Marks
+pub mod Steps
+pub mod Unique

@@ -1,0 +1,10 @@
+pub mod Basics
+pub mod Then
+pub mod Parts
+pub mod Whole
+pub mod Many
+pub mod Times
+pub mod Lists
+pub mod Trailing
+pub mod OneOf
+pub mod Example
