@@ -1,0 +1,6 @@
+use Rattle.elf_spec.specs.Image.{size_at}
+use Rattle.elf_read.proofs.loaded.Image.size_at.Goals as goal
+
+pub returns : goal.returns
+unfolding size_at
+returns c = rw (← c.self.view_is, ← c.as_slice.ensures.value) c.size_among.ensures

@@ -1,0 +1,233 @@
+//! The source text of one small C function, read into its tree.
+//!
+//! The main type is [`Unit`], which a clause sees as the tree of `c_spec`'s `specs/Unit.antt`. [`read`]
+//! has the crate's contract: it gives the tree of a text that is a source, and refuses every other text.
+//! It goes over the text once.
+#![tactic(auto)]
+
+ghost use Rattle.std.specs.Prelude.{◌≡◌, IfOk, IfErr, IfSome, IsNone};
+ghost use Rattle.c_spec.specs.Unit.{Unit, IsC, IsRefusedSource};
+ghost use Rattle.thin_source.specs.Refused.{IsFaultOf};
+ghost use Rattle.thin_source.specs.Parts.{unit_of};
+
+mod parser;
+mod scan;
+
+use c_spec::{Operand, Operator, SourceKind};
+use parser::{Header, Parser, Sum};
+use std::alloc::{AllocError, Global};
+use std::marker::Model;
+use tv_bytes::Bytes;
+
+/// A function of two unsigned parameters, and the expression that it returns.
+#[derive(Debug, Drop)]
+pub struct Unit {
+    name: Bytes,
+    first: Bytes,
+    second: Bytes,
+    left: Operand,
+    operator: Operator,
+    right: Operand,
+}
+
+impl Model for Unit {
+    ghost use Rattle.c_spec.specs.Unit.{Unit};
+
+    ghost Value = { Unit };
+
+    ghost view = { λ u. record { name = u.name; first = u.first; second = u.second; left = u.left; operator = u.operator; right = u.right } };
+}
+
+impl Unit {
+    /// The function's name.
+    pub fn name(&self) -> &[u8]
+        ensures { result.now ≡ self.now.name }
+    {
+        self.name.as_slice()
+    }
+
+    /// The left operand of the expression.
+    pub fn left(&self) -> Operand
+        ensures { result ≡ self.now.left }
+    {
+        self.left
+    }
+
+    /// What the expression does with its operands.
+    pub fn operator(&self) -> Operator
+        ensures { result ≡ self.now.operator }
+    {
+        self.operator
+    }
+
+    /// The right operand of the expression.
+    pub fn right(&self) -> Operand
+        ensures { result ≡ self.now.right }
+    {
+        self.right
+    }
+}
+
+/// Where and why a text is no source.
+#[derive(Clone, Copy, Debug, PartialEq, Eq)]
+pub struct SourceFault {
+    /// Why.
+    pub kind: SourceKind,
+    /// The place, in bytes from the front.
+    pub offset: usize,
+}
+
+/// Why a text was not read.
+#[derive(Clone, Copy, Debug, PartialEq, Eq)]
+pub enum SourceError {
+    /// The text is no source.
+    Fault(SourceFault),
+    /// There was no memory.
+    NoMemory,
+}
+
+impl From<AllocError> for SourceError {
+    ghost use Rattle.thin_source.specs.declared.SourceError.TheVariants.{NoMemory};
+
+    ghost from_gives = { λ _ error. error ≡ NoMemory };
+
+    fn from(_: AllocError) -> Self {
+        SourceError::NoMemory
+    }
+}
+
+/// The tree of a source text, in work linear in its bytes.
+///
+/// A text that is not of the one form (ISO C11, 6.9.1) is refused at offset 0:
+/// `unsigned F(unsigned A,unsigned B){return X+Y;}` with `+` or `-`, X and Y each being A or B, and spaces
+/// and line feeds between the tokens.
+pub fn read(alloc: Global, text: &[u8]) -> Result<Unit, SourceError>
+    ensures accepted { IfOk result (λ unit. IsC text.now unit) }
+    ensures refused { IfErr result (λ error. IsFaultOf text.now error) }
+{
+    let Some((header, sum)) = parts(text) else {
+        return Err(SourceError::Fault(SourceFault {
+            kind: SourceKind::Later,
+            offset: 0,
+        }));
+    };
+    Ok(Unit {
+        name: Bytes::copied(alloc, header.name)?,
+        first: Bytes::copied(alloc, header.first)?,
+        second: Bytes::copied(alloc, header.second)?,
+        left: sum.left,
+        operator: sum.operator,
+        right: sum.right,
+    })
+}
+
+/// The head and the body of a source.
+fn parts<'a>(text: &'a [u8]) -> Option<(Header<'a>, Sum)>
+    ensures accepted { IfSome result (λ p. IsC text.now (unit_of p)) }
+    ensures refused { IsNone result → (unit : Unit) → IsC text.now unit → ⊥ }
+{
+    let mut parser = Parser::new(text);
+    let header = parser.header()?;
+    let sum = parser.body(header.first, header.second)?;
+    if !parser.is_at_end() {
+        return None;
+    }
+    Some((header, sum))
+}
+
+#[cfg(test)]
+mod tests {
+    use super::*;
+    use std::test::Fail;
+
+    /// A source and the name, the operator and the operands of its tree.
+    type Accepted = (&'static [u8], &'static [u8], Operand, Operator, Operand);
+
+    const ACCEPTED: [Accepted; 6] = [
+        (
+            b"unsigned f(unsigned a,unsigned b){return a+b;}",
+            b"f",
+            Operand::First,
+            Operator::Plus,
+            Operand::Second,
+        ),
+        (
+            b"unsigned f(unsigned a,unsigned b){return a-b;}",
+            b"f",
+            Operand::First,
+            Operator::Minus,
+            Operand::Second,
+        ),
+        (
+            b"unsigned f(unsigned a,unsigned b){return b+a;}",
+            b"f",
+            Operand::Second,
+            Operator::Plus,
+            Operand::First,
+        ),
+        (
+            b"unsigned g(unsigned a,unsigned b){return a+b;}",
+            b"g",
+            Operand::First,
+            Operator::Plus,
+            Operand::Second,
+        ),
+        (
+            b"\n unsigned f1_ (unsigned\nA, unsigned  _b) {\n return A\n- A ; }\n\n",
+            b"f1_",
+            Operand::First,
+            Operator::Minus,
+            Operand::First,
+        ),
+        (
+            b"unsigned returns(unsigned unsignedx,unsigned Return){return Return-Return;}",
+            b"returns",
+            Operand::Second,
+            Operator::Minus,
+            Operand::Second,
+        ),
+    ];
+
+    #[test]
+    fn reads_the_one_form(rt: HostRuntime) -> Result<(), Fail> {
+        for (text, name, left, operator, right) in ACCEPTED {
+            let unit = read(rt.alloc(), text)?;
+            assert_eq!(rt; unit.name(), name);
+            assert_eq!(rt; unit.left(), left);
+            assert_eq!(rt; unit.operator(), operator);
+            assert_eq!(rt; unit.right(), right);
+        }
+        Ok(())
+    }
+
+    const REFUSED: [&[u8]; 13] = [
+        b"",
+        b"unsigned f(unsigned a,unsigned b){return a/b;}",
+        b"unsigned f(unsigned a,unsigned a){return a+a;}",
+        b"unsigned while(unsigned a,unsigned b){return a+b;}",
+        b"unsigned f(unsigned __asm__,unsigned b){return b+b;}",
+        b"unsigned f(unsigned 1a,unsigned b){return b+b;}",
+        b"unsigned f(unsigned a,unsigned b){return-a;}",
+        b"unsigned f(unsigned a,unsigned b){returna-b;}",
+        b"unsigned f(unsigned a,unsigned b){return\ta+b;}",
+        b"unsigned f(unsigned a,unsigned b){return a+c;}",
+        b"unsigned f(unsigned a,unsigned b){return a+b;}}",
+        b"unsigned f(unsigned a,unsigned b){return a+b;",
+        b"unsigned\xc3\xa9 f(unsigned a,unsigned b){return a+b;}",
+    ];
+
+    #[test]
+    fn refuses_other_texts(rt: HostRuntime) -> Result<(), Fail> {
+        let fault = SourceFault {
+            kind: SourceKind::Later,
+            offset: 0,
+        };
+        for text in REFUSED {
+            assert_eq!(rt;
+                read(rt.alloc(), text).map(|_| ()),
+                Err(SourceError::Fault(fault))
+            );
+        }
+        Ok(())
+    }
+}
