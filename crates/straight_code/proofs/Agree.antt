@@ -1,0 +1,271 @@
+-- Straight code that is accepted does what the C source says.
+use Rattle.std.proofs.Common.{◌≡◌, ◌≢◌, ℕ, zero, suc, ◌+◌, ◌*◌, ◌-◌, ◌^◌, ◌<◌, ◌≤◌, ◌==◌, Bool, true, false, cond, List, [], ◌∷◌, length, get_or, map, refl, sym, ◌∙◌, ap, subst, arith, eqb-true, ne_eqb}
+use Rattle.std.specs.Prelude.{ℤ, pos, ◌&&◌, nat_le, bytes_eq, is_some, Option, Some, None, IfSome, Contains, option_and_then}
+use Rattle.std.specs.List.{list_all}
+use Rattle.std.proofs.lemmas.Bool.{leb-true, leb-false}
+use Rattle.std.proofs.lemmas.List.{get_or_past}
+use Rattle.std.proofs.lemmas.List.Elements.{All-get_or}
+use Rattle.std.proofs.lemmas.Slice.Eq.{bytes_eq-Decides}
+use Rattle.rv_instr.specs.declared.Instr.TheVariants.{Jalr}
+use Rattle.rv_spec.specs.Machine.{Machine, Memory, IsMachine, read_register, byte_at}
+use Rattle.rv_spec.specs.Step.{after, step}
+use Rattle.rv_spec.proofs.Steps.{after_stopped, after_step, after-add}
+use Rattle.elf_spec.specs.Image.{Image, entry_of, size_at, fixed_byte, object_of}
+use Rattle.c_spec.specs.Unit.{Unit}
+use Rattle.c_meaning_spec.specs.Run.{More, Back, Place, Bars, c_run, returned, HaveTypes}
+use Rattle.claim_spec.specs.Claim.{Meets, HoldsFixed, Gives, AgreesFrom, run_beside, widened, kept_registers, IsValid}
+use Rattle.claim_spec.specs.Code.{HasCode, itself}
+use Rattle.term_spec.specs.declared.Variable.TheVariants.{Parameter, Entry}
+use Rattle.term_spec.specs.Term.{Term, Of, Test, Truth, Equal, AreWords, value_of, truth_of}
+use Rattle.term_spec.specs.Normal.{normal_test}
+use Rattle.term_spec.proofs.Values.{value-normal_test}
+use Rattle.straight_code.specs.Straight.{crooked_at, words_before_last}
+use Rattle.straight_code.specs.Decision.{Registers, entry_terms, term_at, terms_from, result_term, result_test, kept_test, tests_of, is_truth, all_true, accepts}
+use Rattle.straight_code.proofs.Stack.{HasStraightCode, has_straight_code, straight_stack}
+use Rattle.straight_code.proofs.Terms.{assignment_of, entry_follows}
+use Rattle.straight_code.proofs.Run.{IsAt, Runs, fetches, run_plain, HasReturned, step_return}
+use Rattle.straight_code.proofs.Result.{result_worth}
+
+-- ---- registers are words
+
+pub read_below : (m : Machine) → IsMachine m → (r : ℕ) → read_register m r < 2 ^ 32
+unfolding read_register
+read_below m is r = at_zero (r == 0)
+  where
+    at_place : (b : Bool) → nat_le (length m.registers) r ≡ b → get_or m.registers r 0 < 2 ^ 32
+    at_place true e = let here = get_or_past m.registers r 0 (leb-true (length m.registers) r e) in omega (arith, here)
+    at_place false e = All-get_or (λ x. x < 2 ^ 32) m.registers r 0 (leb-false (length m.registers) r e) is.words
+
+    at_zero : (b : Bool) → cond b 0 (get_or m.registers r 0) < 2 ^ 32
+    at_zero true = omega arith
+    at_zero false = at_place (nat_le (length m.registers) r) refl
+
+are_words : (m : Machine) → IsMachine m → AreWords (assignment_of m)
+are_words m is (Parameter i) = read_below m is (10 + i)
+are_words m is (Entry r) = read_below m is r
+
+-- ---- what is accepted holds
+
+truth_from : (m : Machine) (t : Test) → AreWords (assignment_of m) → is_truth (normal_test t) ≡ true → truth_of (assignment_of m) t ≡ true
+unfolding truth_of
+truth_from m t words e = sym (value-normal_test (assignment_of m) words t) ∙ is_worth (normal_test t) e
+  where
+    is_worth : (n : Test) → is_truth n ≡ true → truth_of (assignment_of m) n ≡ true
+    is_worth (Truth value) h = h
+    is_worth (Equal left right) h = absurd (cc)
+
+equal_from : (m : Machine) (left right : Term) → AreWords (assignment_of m) → is_truth (normal_test (Equal left right)) ≡ true
+    → value_of (assignment_of m) left ≡ value_of (assignment_of m) right
+unfolding truth_of
+equal_from m left right words e = eqb-true (value_of (assignment_of m) left) (value_of (assignment_of m) right) (truth_from m (Equal left right) words e)
+
+both_true : (a b : Bool) → (a && b) ≡ true → (a ≡ true) × (b ≡ true)
+both_true true b e = (refl, e)
+both_true false b e = absurd (cc)
+
+each_of : (test : Test → Bool) (f : ℕ → Test) (xs : List ℕ) (x : ℕ) → list_all test (map f xs) ≡ true → Contains xs x → test (f x) ≡ true
+each_of test f [] x e (k, below, here) = absurd (omega (arith, below))
+each_of test f (y ∷ xs) x e (zero, below, here) = subst (λ z. test (f z) ≡ true) here (both_true (test (f y)) (list_all test (map f xs)) e).0
+each_of test f (y ∷ xs) x e (suc k, below, here) = each_of test f xs x (both_true (test (f y)) (list_all test (map f xs)) e).1 (k, omega (arith, below), here)
+
+result_accepted : (m : Machine) (unit : Unit) (terms : Registers) → AreWords (assignment_of m) → all_true (tests_of unit terms) ≡ true
+    → value_of (assignment_of m) (term_at terms 10) ≡ value_of (assignment_of m) (result_term unit.operator unit.left unit.right)
+result_accepted m unit terms words e =
+    equal_from m (term_at terms 10) (result_term unit.operator unit.left unit.right) words
+    (both_true (is_truth (normal_test (result_test unit terms))) (list_all (λ test. is_truth (normal_test test)) (map (kept_test terms) (1 ∷ kept_registers))) e).0
+
+kept_accepted : (m : Machine) (unit : Unit) (terms : Registers) (r : ℕ) → AreWords (assignment_of m) → all_true (tests_of unit terms) ≡ true → Contains (1 ∷ kept_registers) r
+    → value_of (assignment_of m) (term_at terms r) ≡ read_register m r
+unfolding value_of
+kept_accepted m unit terms r words e among =
+    equal_from m (term_at terms r) (Of (Entry r)) words
+    (each_of (λ test. is_truth (normal_test test)) (kept_test terms) (1 ∷ kept_registers) r
+    (both_true (is_truth (normal_test (result_test unit terms))) (list_all (λ test. is_truth (normal_test test)) (map (kept_test terms) (1 ∷ kept_registers))) e).1 among)
+
+behind_first : (xs : List ℕ) (x y : ℕ) → Contains xs y → Contains (x ∷ xs) y
+behind_first xs x y (k, below, here) = (suc k, omega (arith, below), here)
+
+-- ---- the call
+
+-- a call of straight code that is accepted
+record IsCall (image : Image) (unit : Unit) (entry size count stack : ℕ) (m : Machine) (values : List ℤ) : Type 0 where
+  has : HasStraightCode image entry size count
+  sized : size_at image entry ≡ Some size
+  accepted : all_true (tests_of unit (terms_from image entry count (entry_terms 32))) ≡ true
+  typed : HaveTypes unit unit.name values
+  meets : Meets image entry stack m values
+
+-- where the call is to come back to
+abbrev stop_of : Machine → ℕ
+stop_of m = read_register m 1
+
+-- the terms after k words
+abbrev terms_after : (image : Image) (entry k : ℕ) → Registers
+terms_after image entry k = terms_from image entry k (entry_terms 32)
+
+IsAfter : (image : Image) (entry k : ℕ) (m now : Machine) → Type 0
+IsAfter image entry k m now = IsAt (assignment_of m) (entry + 4 * k) (terms_after image entry k) m.memory now
+
+inside : (image : Image) (unit : Unit) (entry size count stack k : ℕ) (m : Machine) (values : List ℤ) → IsCall image unit entry size count stack m values
+    → k ≤ count → entry + 4 * k ≢ stop_of m
+inside image unit entry size count stack k m values is within e =
+    let words = is.has.words in
+    is.meets.return_outside entry size itself is.sized (record { from = omega (arith, e); below = omega (arith, e, words, within) })
+
+after_words : (image : Image) (unit : Unit) (entry size count stack k : ℕ) (m : Machine) (values : List ℤ) → IsCall image unit entry size count stack m values
+    → k ≤ count → Runs (stop_of m) k (IsAfter image entry k m) m
+unfolding IsAfter
+after_words image unit entry size count stack k m values is within =
+    let words = is.has.words in
+    let in_space = is.has.code.in_space in
+    run_plain image (assignment_of m) (stop_of m) entry k (entry_terms 32) m.memory m (are_words m is.meets.machine) is.meets.fixed
+    (record { at_place = is.meets.at_entry; same_memory = refl; follows = entry_follows m is.meets.machine.count })
+    (omega (arith, words, in_space, within))
+    (λ j below. is.has.straight.plain j (omega (arith, below, within)))
+    (λ j below. inside image unit entry size count stack j m values is (omega (arith, below, within)))
+
+-- the return, from the last word
+after_return : (image : Image) (unit : Unit) (entry size count stack : ℕ) (m now : Machine) (values : List ℤ) → IsCall image unit entry size count stack m values
+    → IsAfter image entry count m now → (final : Machine) × (step now ≡ Some final) × HasReturned (stop_of m) now final
+unfolding IsAfter
+after_return image unit entry size count stack m now values is at_last =
+    let words = is.has.words in
+    let in_space = is.has.code.in_space in
+    let kept = kept_accepted m unit (terms_after image entry count) 1 (are_words m is.meets.machine) is.accepted (0, omega arith, refl) in
+    step_return now (stop_of m)
+    (fetches image (assignment_of m) (entry + 4 * count) (terms_after image entry count) m.memory now (Jalr 0 1 (pos 0)) is.meets.fixed at_last (omega (arith, words, in_space)) is.has.straight.last)
+    (at_last.follows.agree 1 ∙ kept)
+    is.meets.return_aligned
+    (read_below m is.meets.machine 1)
+
+-- a machine to which the call has come back
+record IsBack (image : Image) (entry count : ℕ) (m final : Machine) : Type 0 where
+  always : (j : ℕ) → after m (stop_of m) (count + suc j) ≡ Some final
+  at_stop : final.pc ≡ stop_of m
+  same_memory : final.memory ≡ m.memory
+  worth : (r : ℕ) → read_register final r ≡ value_of (assignment_of m) (term_at (terms_after image entry count) r)
+
+comes_back : (image : Image) (unit : Unit) (entry size count stack : ℕ) (m : Machine) (values : List ℤ) → IsCall image unit entry size count stack m values
+    → (final : Machine) × IsBack image entry count m final
+unfolding IsAfter
+comes_back image unit entry size count stack m values is =
+    let last = after_words image unit entry size count stack count m values is (omega arith) in
+    let back = after_return image unit entry size count stack m last.0 values is last.2 in (
+      back.0,
+      record {
+        always = λ j. always_back last.0 back.0 last.1 last.2.at_place back.1 back.2.at_stop j;
+        at_stop = back.2.at_stop;
+        same_memory = back.2.memory_same ∙ last.2.same_memory;
+        worth = λ r. back.2.registers_same r ∙ last.2.follows.agree r;
+      },
+    )
+  where
+    always_back : (now final : Machine) → after m (stop_of m) count ≡ Some now → now.pc ≡ entry + 4 * count → step now ≡ Some final → final.pc ≡ stop_of m
+        → (j : ℕ) → after m (stop_of m) (count + suc j) ≡ Some final
+    always_back now final run at_last steps at_stop j =
+        let apart : now.pc ≢ stop_of m = λ e. inside image unit entry size count stack count m values is (omega arith) (sym at_last ∙ e) in
+        after-add m (stop_of m) count (suc j)
+        ∙ (ap (λ o. option_and_then (λ n. after n (stop_of m) (suc j)) o) run
+        ∙ (after_step now (stop_of m) j (ne_eqb now.pc (stop_of m) apart)
+        ∙ (ap (λ o. option_and_then (λ n. after n (stop_of m) j) o) steps
+        ∙ after_stopped final (stop_of m) j at_stop)))
+
+-- ---- the C run
+
+same_name : (name : List ℕ) → bytes_eq name name ≡ true
+same_name name = (bytes_eq-Decides name name).1 refl
+
+run_more : (unit : Unit) (values : List ℤ) (memory : Memory) (place : Place) (bars : Bars) → c_run unit unit.name values memory place bars 0 ≡ More
+unfolding c_run
+run_more unit values memory place bars = refl
+
+run_back : (unit : Unit) (values : List ℤ) (memory : Memory) (place : Place) (bars : Bars) (n : ℕ)
+    → c_run unit unit.name values memory place bars (suc n) ≡ Back (Some (returned unit values)) memory
+unfolding c_run
+run_back unit values memory place bars n = rw (same_name unit.name) refl
+
+back_is : (unit : Unit) (values : List ℤ) (memory : Memory) (place : Place) (bars : Bars) (n : ℕ) (value : Option ℤ) (left : Memory)
+    → c_run unit unit.name values memory place bars n ≡ Back value left → (value ≡ Some (returned unit values)) × (left ≡ memory)
+back_is unit values memory place bars zero value left e = let more = run_more unit values memory place bars in absurd (cc)
+back_is unit values memory place bars (suc n) value left e = let back = run_back unit values memory place bars n in (cc, cc)
+
+-- ---- the theorem
+
+-- the number of steps up to the last word, or behind it
+data Steps (count : ℕ) : ℕ → Type 0 where
+  early : (k : ℕ) → k ≤ count → Steps count k
+  late : (j : ℕ) → Steps count (count + suc j)
+
+steps_of : (count k : ℕ) → Steps count k
+steps_of count k = at_place (nat_le k count) refl
+  where
+    at_place : (b : Bool) → nat_le k count ≡ b → Steps count k
+    at_place true e = early k (leb-true k count e)
+    at_place false e = let above = leb-false k count e in subst (λ n. Steps count n) (omega (arith, above)) (late (k - count - 1))
+
+some_machine : (a b : Machine) → Some a ≡ Some b → a ≡ b
+some_machine a b e = cc
+
+kept_fixed : (image : Image) (memory left : Memory) → left ≡ memory → HoldsFixed image memory → HoldsFixed image left
+kept_fixed image memory left e holds = subst (λ mem. HoldsFixed image mem) (sym e) holds
+
+stays_safe : (image : Image) (unit : Unit) (entry size count stack k : ℕ) (m : Machine) (values : List ℤ) → IsCall image unit entry size count stack m values
+    → Steps count k → (now : Machine) × (after m (stop_of m) k ≡ Some now) × HoldsFixed image now.memory
+unfolding IsAfter
+stays_safe image unit entry size count stack k m values is (early steps within) =
+    let reached = after_words image unit entry size count stack steps m values is within in
+    (reached.0, reached.1, kept_fixed image m.memory reached.0.memory reached.2.same_memory is.meets.fixed)
+stays_safe image unit entry size count stack k m values is (late j) =
+    let back = comes_back image unit entry size count stack m values is in
+    (back.0, back.1.always j, kept_fixed image m.memory back.0.memory back.1.same_memory is.meets.fixed)
+
+gives_result : (image : Image) (unit : Unit) (entry size count stack : ℕ) (m final : Machine) (values : List ℤ) (value : Option ℤ) (memory : Memory)
+    → IsCall image unit entry size count stack m values → IsBack image entry count m final → value ≡ Some (returned unit values) → memory ≡ m.memory → Gives m final stack value memory
+gives_result image unit entry size count stack m final values value memory is back value_is memory_is =
+    let words = are_words m is.meets.machine in
+    let terms = terms_after image entry count in
+    record {
+      result_given = subst (λ o. IfSome o (λ v. read_register final 10 ≡ widened v)) (sym value_is)
+          (back.worth 10 ∙ (result_accepted m unit terms words is.accepted ∙ sym (result_worth unit m values is.typed is.meets.arguments)));
+      memory_given = λ address below outside. ap (λ mem. byte_at mem address) (back.same_memory ∙ sym memory_is);
+      registers_kept = λ register among. back.worth register ∙ kept_accepted m unit terms register words is.accepted (behind_first kept_registers 1 register among);
+    }
+
+gives_at : (image : Image) (unit : Unit) (entry size count stack k n : ℕ) (m final : Machine) (values : List ℤ) (value : Option ℤ) (memory : Memory)
+    → IsCall image unit entry size count stack m values → Steps count k → after m (stop_of m) k ≡ Some final → final.pc ≡ stop_of m
+    → value ≡ Some (returned unit values) → memory ≡ m.memory → Gives m final stack value memory
+unfolding IsAfter
+gives_at image unit entry size count stack k n m final values value memory is (early steps within) run at_stop value_is memory_is =
+    let reached = after_words image unit entry size count stack steps m values is within in
+    let same : reached.0 ≡ final = some_machine reached.0 final (sym reached.1 ∙ run) in
+    let place : reached.0.pc ≡ entry + 4 * steps = reached.2.at_place in
+    absurd (inside image unit entry size count stack steps m values is within (sym place ∙ (ap (λ x. x.pc) same ∙ at_stop)))
+gives_at image unit entry size count stack k n m final values value memory is (late j) run at_stop value_is memory_is =
+    let back = comes_back image unit entry size count stack m values is in
+    let same : back.0 ≡ final = some_machine back.0 final (sym (back.1.always j) ∙ run) in
+    gives_result image unit entry size count stack m final values value memory is (subst (λ x. IsBack image entry count m x) same back.1) value_is memory_is
+
+agrees_from : (image : Image) (unit : Unit) (entry size count stack : ℕ) (m : Machine) (values : List ℤ) → IsCall image unit entry size count stack m values
+    → AgreesFrom image stack m (run_beside image unit unit.name stack m values)
+agrees_from image unit entry size count stack m values is =
+    let back = comes_back image unit entry size count stack m values is in
+    let place = object_of image in
+    let bars : Bars = record { low = read_register m 2 - stack; high = read_register m 2; is_fixed = λ address. is_some (fixed_byte image address) } in
+    record {
+      safe = λ k. stays_safe image unit entry size count stack k m values is (steps_of count k);
+      returns = (λ machine. (1, Some (returned unit values), m.memory, run_back unit values m.memory place bars 0), λ source. (count + 1, back.0, back.1.always 0, back.1.at_stop));
+      gives = λ k n final value memory run at_stop source.
+          let told = back_is unit values m.memory place bars n value memory source in
+          gives_at image unit entry size count stack k n m final values value memory is (steps_of count k) run at_stop told.0 told.1;
+    }
+
+-- straight code that is accepted is valid, and takes no stack
+pub straight_valid : (image : Image) (unit : Unit) (entry size : ℕ) → entry_of image unit.name ≡ Some entry → size_at image entry ≡ Some size → HasCode image entry size
+    → crooked_at image entry size ≡ None → accepts image unit entry size ≡ true → IsValid image unit unit.name 0
+straight_valid image unit entry size named sized code straight accepted = record {
+  entry = entry;
+  entry_is = named;
+  stack_is = straight_stack image entry size code sized straight;
+  agrees = λ stack takes m values typed meets fine. agrees_from image unit entry size (words_before_last size) stack m values
+      (record { has = has_straight_code image entry size code straight; sized = sized; accepted = accepted; typed = typed; meets = meets });
+}

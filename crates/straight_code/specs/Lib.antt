@@ -1,0 +1,4 @@
+pub mod Straight
+pub mod Decision
+pub mod Refusal
+pub mod Terms

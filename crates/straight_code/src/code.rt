@@ -1,0 +1,103 @@
+// The words of the function, and whether they are straight.
+
+ghost use Rattle.std.specs.Prelude.{◌≡◌, ◌+◌, ◌<◌, ◌≤◌, ◌%◌, ◌^◌, ◌==◌, not};
+ghost use Rattle.claim_spec.specs.Code.{instr_at};
+ghost use Rattle.straight_code.specs.Straight as spec;
+
+use byteorder::{ByteOrder, LittleEndian};
+use elf_read::Image;
+use rv_decode::decode;
+use rv_instr::{ArithmeticOperation, ImmediateOperation, Instr, Reg};
+
+// The instruction at an address.
+#[tactic(auto, unfolding(claim_spec::specs::Code::instr_at))]
+pub(crate) fn instruction(image: &Image, address: u32) -> Option<Instr>
+    requires { address + 4 ≤ 2 ^ 32 }
+    ensures { result ≡ instr_at image.now address }
+{
+    let first = image.fixed_byte(address)?;
+    let second = image.fixed_byte(address + 1)?;
+    let third = image.fixed_byte(address + 2)?;
+    let fourth = image.fixed_byte(address + 3)?;
+    let bytes = [first, second, third, fourth];
+    decode(LittleEndian::read_u32(&bytes))
+}
+
+// Whether a write to the register leaves the stack pointer alone.
+fn keeps_stack_pointer(rd: Reg) -> bool
+    ensures { result ≡ not (rd == 2) }
+{
+    rd.number() != 2
+}
+
+// Whether the instruction is one of those before the last.
+fn is_plain(form: &Instr) -> bool
+    ensures { result ≡ spec.is_plain (Some form.now) }
+{
+    match *form {
+        Instr::Arithmetic {
+            operation: ArithmeticOperation::Add | ArithmeticOperation::Subtract,
+            rd,
+            ..
+        } => keeps_stack_pointer(rd),
+        Instr::Immediate {
+            operation: ImmediateOperation::Add,
+            rd,
+            ..
+        } => keeps_stack_pointer(rd),
+        _ => false,
+    }
+}
+
+// Whether the instruction is the return.
+fn is_return(form: &Instr) -> bool
+    ensures { result ≡ spec.is_return (Some form.now) }
+{
+    match *form {
+        Instr::Jalr { rd, base, offset } => rd.number() == 0 && base.number() == 1 && offset == 0,
+        _ => false,
+    }
+}
+
+// The same of the word at an address.
+fn is_plain_at(image: &Image, address: u32) -> bool
+    requires { address + 4 ≤ 2 ^ 32 }
+    ensures { result ≡ spec.is_plain (instr_at image.now address) }
+{
+    match instruction(image, address) {
+        Some(form) => is_plain(&form),
+        None => false,
+    }
+}
+
+fn is_return_at(image: &Image, address: u32) -> bool
+    requires { address + 4 ≤ 2 ^ 32 }
+    ensures { result ≡ spec.is_return (instr_at image.now address) }
+{
+    match instruction(image, address) {
+        Some(form) => is_return(&form),
+        None => false,
+    }
+}
+
+// The first address of the function at which its code isn't straight.
+pub(crate) fn crooked_word(image: &Image, entry: u32, size: u32) -> Option<u32>
+    requires not_empty { 0 < size }
+    requires in_space { entry + size ≤ 2 ^ 32 }
+    requires aligned { size % 4 ≡ 0 }
+    ensures { result ≡ spec.crooked_at image.now entry size }
+{
+    let last = size / 4 - 1;
+    for k in 0..last {
+        let address = entry + 4 * k;
+        if !is_plain_at(image, address) {
+            return Some(address);
+        }
+    }
+    let address = entry + 4 * last;
+    if is_return_at(image, address) {
+        None
+    } else {
+        Some(address)
+    }
+}
