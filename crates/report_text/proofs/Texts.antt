@@ -1,0 +1,47 @@
+-- Texts and counts of judgements, over those of the program.
+use Rattle.std.proofs.Common.{◌≡◌, ℕ, ◌+◌, Bool, true, false, cond, List, [], ◌∷◌, ◌++◌, refl, ap, ◌∙◌, sym}
+use Rattle.std.specs.Prelude.{sum_by}
+use Rattle.std.specs.List.{list_all}
+use Rattle.std.proofs.lemmas.List.Folds.{list_all-map}
+use Rattle.std.specs.Prelude.{flat_map, filter, count_by, if◌then◌else◌}
+use Rattle.std.proofs.lemmas.List.Sums.{sum_by-cons}
+use Rattle.claim_spec.specs.Verdict as claim
+use Rattle.report_text.specs.declared.verdicts.Judgement.{Judgement}
+use Rattle.std.specs.Prelude.{Vec}
+use Rattle.std.specs.declared.alloc.Global.{Global}
+use Rattle.report_text.specs.declared.verdicts.Verdict.{Verdict}
+use Rattle.report_text.specs.declared.verdicts.Verdict.TheVariants.{Judged}
+use Rattle.report_text.specs.Verdicts.{verdict_of}
+use Rattle.report_text.specs.Judgements.{judgement_of, judgements_of, part_if_valid}
+
+pub lines_are : (js : List Judgement) → flat_map claim.judgement_line (judgements_of js) ≡ flat_map (λ j. claim.judgement_line (judgement_of j)) js
+lines_are [] = refl
+lines_are (j ∷ js) = ap (λ rest. claim.judgement_line (judgement_of j) ++ rest) (lines_are js)
+
+part_first : (j : Judgement) (valid : Bool) (rest : List claim.Judgement) → j.valid ≡ valid
+    → flat_map claim.part_text (cond valid (judgement_of j ∷ rest) rest) ≡ (if valid then claim.part_text (judgement_of j) else []) ++ flat_map claim.part_text rest
+part_first j true rest e = refl
+part_first j false rest e = refl
+
+pub parts_are : (js : List Judgement) → flat_map claim.part_text (filter (λ j. j.valid) (judgements_of js)) ≡ flat_map part_if_valid js
+parts_are [] = refl
+parts_are (j ∷ js) = part_first j j.valid (filter (λ j. j.valid) (judgements_of js)) refl ∙ ap (λ rest. part_if_valid j ++ rest) (parts_are js)
+
+sums_are : (f : claim.Judgement → ℕ) (js : List Judgement) → sum_by f (judgements_of js) ≡ sum_by (λ j. f (judgement_of j)) js
+sums_are f [] = refl
+sums_are f (j ∷ js) =
+    sum_by-cons f (judgement_of j) (judgements_of js) ∙ ap (λ n. f (judgement_of j) + n) (sums_are f js)
+    ∙ sym (sum_by-cons (λ x. f (judgement_of x)) j js)
+
+pub counts_are : (p : claim.Judgement → Bool) (js : List Judgement) → count_by p (judgements_of js) ≡ count_by (λ j. p (judgement_of j)) js
+counts_are p js = sums_are (λ j. cond (p j) 1 0) js
+
+-- whether all are valid
+pub all_valid_are : (js : List Judgement) (whole : Bool) → whole ≡ list_all (λ j. j.valid) js → claim.all_valid (judgements_of js) ≡ whole
+all_valid_are js whole e = list_all-map (λ j. j.valid) judgement_of js ∙ sym e
+
+pub judged_status : (verdict : Verdict) (judgements : Vec Judgement Global) (js : List Judgement) (whole : Bool) → verdict ≡ Judged judgements
+    → js ≡ judgements.items → list_all (λ j. j.valid) js ≡ whole → claim.status_of (verdict_of verdict) ≡ (if whole then 0 else 1)
+judged_status verdict judgements js whole is items all =
+    ap (λ v. claim.status_of (verdict_of v)) is
+    ∙ ap (λ b. if b then 0 else 1) (all_valid_are judgements.items whole (sym all ∙ ap (list_all (λ j. j.valid)) items))

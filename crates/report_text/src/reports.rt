@@ -1,0 +1,201 @@
+ghost use Rattle.std.specs.Prelude.{◌≡◌, IfOk, count_by, flat_map, not};
+ghost use Rattle.claim_spec.specs.Verdict as claim;
+ghost use Rattle.report_text.specs.Judgements.{judgement_of, judgements_of};
+ghost use Rattle.report_text.specs.Verdicts.{verdict_of};
+
+use crate::lines::{push_address, push_decimal};
+use crate::{Judgement, Verdict};
+use c_spec::SourceKind;
+use c_spec::token::TokenFaultKind;
+use claim_spec::{CodeKind, PairKind, Quantity};
+use elf_spec::ElfKind;
+use std::alloc::{AllocError, Global};
+use tv_base::limits::{C_BYTES, ELF_BYTES};
+
+/// `limit QUANTITY MAXIMUM`
+fn limit(alloc: Global, quantity: Quantity) -> Result<Vec<u8>, AllocError>
+    ensures { IfOk result (λ text. text.items ≡ claim.report_of (claim.TooLarge quantity)) }
+{
+    let mut text = Vec::from_slice(alloc, b"limit ")?;
+    match quantity {
+        Quantity::Elf => {
+            text.extend_from_slice(b"elf ")?;
+            push_decimal(&mut text, ELF_BYTES as u64)?;
+        }
+        Quantity::C => {
+            text.extend_from_slice(b"c ")?;
+            push_decimal(&mut text, C_BYTES as u64)?;
+        }
+    }
+    text.push(b'\n')?;
+    Ok(text)
+}
+
+/// `refused elf KIND at OFFSET`
+fn refused_elf(alloc: Global, kind: ElfKind, offset: usize) -> Result<Vec<u8>, AllocError>
+    ensures { IfOk result (λ text. text.items ≡ claim.report_of (claim.RefusedElf kind offset)) }
+{
+    let mut text = Vec::from_slice(alloc, b"refused elf ")?;
+    match kind {
+        ElfKind::Later => text.extend_from_slice(b"Later")?,
+    }
+    text.extend_from_slice(b" at ")?;
+    push_decimal(&mut text, offset as u64)?;
+    text.push(b'\n')?;
+    Ok(text)
+}
+
+/// The word of a text without tokens.
+fn token_word(kind: TokenFaultKind) -> &'static [u8]
+    ensures { result.now ≡ claim.token_word kind }
+{
+    match kind {
+        TokenFaultKind::Byte => b"Byte",
+        TokenFaultKind::Number => b"Number",
+        TokenFaultKind::Character => b"Character",
+        TokenFaultKind::Comment => b"Comment",
+    }
+}
+
+/// The word of a refusal of a source.
+fn source_word(kind: SourceKind) -> &'static [u8]
+    ensures { result.now ≡ claim.source_word kind }
+{
+    match kind {
+        SourceKind::Token(kind) => token_word(kind),
+        SourceKind::Later => b"Later",
+    }
+}
+
+/// `refused c KIND at OFFSET`
+fn refused_c(alloc: Global, kind: SourceKind, offset: usize) -> Result<Vec<u8>, AllocError>
+    ensures { IfOk result (λ text. text.items ≡ claim.report_of (claim.RefusedC kind offset)) }
+{
+    let mut text = Vec::from_slice(alloc, b"refused c ")?;
+    text.extend_from_slice(source_word(kind))?;
+    text.extend_from_slice(b" at ")?;
+    push_decimal(&mut text, offset as u64)?;
+    text.push(b'\n')?;
+    Ok(text)
+}
+
+/// `refused pair KIND NAME`
+fn refused_pair(alloc: Global, kind: PairKind, name: &[u8]) -> Result<Vec<u8>, AllocError>
+    ensures { IfOk result (λ text. text.items ≡ claim.report_of (claim.RefusedPair kind name.now)) }
+{
+    let mut text = Vec::from_slice(alloc, b"refused pair ")?;
+    match kind {
+        PairKind::NothingListed => text.extend_from_slice(b"NothingListed")?,
+    }
+    text.push(b' ')?;
+    text.extend_from_slice(name)?;
+    text.push(b'\n')?;
+    Ok(text)
+}
+
+/// `refused code KIND NAME at ADDRESS`
+fn refused_code(
+    alloc: Global,
+    kind: CodeKind,
+    name: &[u8],
+    address: u32,
+) -> Result<Vec<u8>, AllocError>
+    ensures { IfOk result (λ text. text.items ≡ claim.report_of (claim.RefusedCode kind name.now address)) }
+{
+    let mut text = Vec::from_slice(alloc, b"refused code ")?;
+    match kind {
+        CodeKind::Later => text.extend_from_slice(b"Later")?,
+    }
+    text.push(b' ')?;
+    text.extend_from_slice(name)?;
+    text.extend_from_slice(b" at ")?;
+    push_address(alloc, &mut text, address)?;
+    text.push(b'\n')?;
+    Ok(text)
+}
+
+/// `valid NAME stack=S` or `unproved NAME`
+fn judged(alloc: Global, judgement: &Judgement) -> Result<Vec<u8>, AllocError>
+    ensures { IfOk result (λ text. text.items ≡ claim.judgement_line (judgement_of judgement.now)) }
+{
+    if !judgement.valid {
+        let mut text = Vec::from_slice(alloc, b"unproved ")?;
+        text.extend_from_slice(judgement.name.as_slice())?;
+        text.push(b'\n')?;
+        return Ok(text);
+    }
+    let mut text = Vec::from_slice(alloc, b"valid ")?;
+    text.extend_from_slice(judgement.name.as_slice())?;
+    text.extend_from_slice(b" stack=")?;
+    push_decimal(&mut text, judgement.stack)?;
+    text.push(b'\n')?;
+    Ok(text)
+}
+
+/// `total valid=V unproved=U`
+#[tactic(auto, unfolding(claim_spec::specs::Verdict::total_line))]
+fn total(alloc: Global, valid: usize, unproved: usize) -> Result<Vec<u8>, AllocError>
+    ensures { IfOk result (λ text. text.items ≡ claim.total_line valid unproved) }
+{
+    let mut text = Vec::from_slice(alloc, b"total valid=")?;
+    push_decimal(&mut text, valid as u64)?;
+    text.extend_from_slice(b" unproved=")?;
+    push_decimal(&mut text, unproved as u64)?;
+    text.push(b'\n')?;
+    Ok(text)
+}
+
+/// How many of them are valid.
+fn valid_count(judgements: &[Judgement]) -> usize
+    ensures { result ≡ count_by (λ j. j.valid) judgements.now }
+{
+    judgements.iter().filter(|j| j.valid).count()
+}
+
+/// How many of them are not valid.
+fn unproved_count(judgements: &[Judgement]) -> usize
+    ensures { result ≡ count_by (λ j. not j.valid) judgements.now }
+{
+    judgements.iter().filter(|j| !j.valid).count()
+}
+
+/// A line for each of them, in their order.
+fn lines(alloc: Global, judgements: &[Judgement]) -> Result<Vec<u8>, AllocError>
+    ensures { IfOk result (λ text. text.items ≡ flat_map (λ j. claim.judgement_line (judgement_of j)) judgements.now) }
+{
+    let mut text = Vec::new(alloc);
+    for judgement in judgements {
+        let line = judged(alloc, judgement)?;
+        text.extend_from_slice(line.as_slice())?;
+    }
+    Ok(text)
+}
+
+/// A line for each of them, in their order, and the line of the totals.
+fn all_judged(alloc: Global, judgements: &[Judgement]) -> Result<Vec<u8>, AllocError>
+    ensures { IfOk result (λ text. text.items ≡ claim.judgements_text (judgements_of judgements.now)) }
+{
+    let mut text = lines(alloc, judgements)?;
+    let line = total(alloc, valid_count(judgements), unproved_count(judgements))?;
+    text.extend_from_slice(line.as_slice())?;
+    Ok(text)
+}
+
+/// What is reported of a verdict: lines that each end with a line feed.
+pub fn report(alloc: Global, verdict: &Verdict) -> Result<Vec<u8>, AllocError>
+    ensures { IfOk result (λ text. text.items ≡ claim.report_of (verdict_of verdict.now)) }
+{
+    match verdict {
+        Verdict::RefusedWords => Vec::from_slice(alloc, b"refused words\n"),
+        Verdict::TooLarge(quantity) => limit(alloc, *quantity),
+        Verdict::RefusedElf { kind, offset } => refused_elf(alloc, *kind, *offset),
+        Verdict::RefusedC { kind, offset } => refused_c(alloc, *kind, *offset),
+        Verdict::RefusedPair { kind, name } => refused_pair(alloc, *kind, name.as_slice()),
+        Verdict::RefusedCode {
+            kind,
+            name,
+            address,
+        } => refused_code(alloc, *kind, name.as_slice(), *address),
+        Verdict::Judged(judgements) => all_judged(alloc, judgements.as_slice()),
+    }
+}

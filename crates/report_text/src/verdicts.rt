@@ -1,0 +1,75 @@
+ghost use Rattle.std.specs.Prelude.{◌≡◌};
+ghost use Rattle.std.specs.List.{list_all};
+ghost use Rattle.claim_spec.specs.Verdict.{status_of};
+ghost use Rattle.report_text.specs.Verdicts.{verdict_of};
+
+use c_spec::SourceKind;
+use claim_spec::{CodeKind, PairKind, Quantity};
+use elf_spec::ElfKind;
+use tv_bytes::Bytes;
+
+/// What is said of a listed function.
+#[derive(Debug, Drop)]
+pub struct Judgement {
+    /// Its name.
+    pub name: Bytes,
+    /// Whether its code does what its source says.
+    pub valid: bool,
+    /// How many bytes of stack a call of it takes.
+    pub stack: u64,
+}
+
+/// The outcome of a run that neither a fault of the outside nor want of memory ended.
+#[derive(Debug, Drop)]
+pub enum Verdict {
+    /// The words are no command.
+    RefusedWords,
+    /// A quantity is above its maximum.
+    TooLarge(Quantity),
+    /// The first file is no executable. The offset counts bytes of the file.
+    RefusedElf {
+        kind: ElfKind,
+        offset: usize,
+    },
+    /// The second file is no C source. The offset counts bytes of the file.
+    RefusedC {
+        kind: SourceKind,
+        offset: usize,
+    },
+    /// The two don't go together, by the function or global of this name.
+    RefusedPair {
+        kind: PairKind,
+        name: Bytes,
+    },
+    /// The code of the function of this name is refused, at this address.
+    RefusedCode {
+        kind: CodeKind,
+        name: Bytes,
+        address: u32,
+    },
+    /// Each listed function has its judgement, in the order of the list.
+    Judged(Vec<Judgement>),
+}
+
+/// Whether all of them are valid.
+fn all_valid(judgements: &[Judgement]) -> bool
+    ensures { result ≡ list_all (λ j. j.valid) judgements.now }
+{
+    judgements.iter().all(|j| j.valid)
+}
+
+/// The exit status: 0 where all listed functions are valid and 1 where some aren't, 2 for the words, 3 for
+/// the inputs, 7 for a limit.
+pub fn status(verdict: &Verdict) -> u8
+    ensures { result ≡ status_of (verdict_of verdict.now) }
+{
+    match verdict {
+        Verdict::RefusedWords => 2,
+        Verdict::TooLarge(_) => 7,
+        Verdict::RefusedElf { .. }
+        | Verdict::RefusedC { .. }
+        | Verdict::RefusedPair { .. }
+        | Verdict::RefusedCode { .. } => 3,
+        Verdict::Judged(judgements) => { if all_valid(judgements) { 0 } else { 1 } }
+    }
+}

@@ -1,0 +1,46 @@
+use Rattle.std.proofs.Common.{◌+◌, ◌≡◌, take, arith, subst}
+use Rattle.std.specs.Prelude.{IfSome}
+use Rattle.report_text.specs.Verdicts.{verdict_of}
+use Rattle.tv_core.specs.Verdicts.{Judges, IsSound}
+use Rattle.tv_core.specs.Ends.{TakesAtMost}
+use Rattle.tv_core.proofs.Reaching.{elf_too_large, c_too_large, files_judged, taken_of_two}
+use Rattle.tv_core.proofs.reach.reach.Goals as goal
+
+pub returns-then-len-gt-ELF_BYTES-clause-reached : goal.returns-then-len-gt-ELF_BYTES-clause-reached
+returns-then-len-gt-ELF_BYTES-clause-reached g c =
+    elf_too_large (g.D.Desk.bytes c.args.desk.now) c.args.job.now.elf.now c.args.job.now.source.now c.in_ok-elf.elf.items
+    c.in_ok-elf.ensures.bytes (omega arith)
+
+pub returns-then-len-gt-C_BYTES-clause-reached : goal.returns-then-len-gt-C_BYTES-clause-reached
+returns-then-len-gt-C_BYTES-clause-reached g c =
+    c_too_large (g.D.Desk.bytes c.args.desk.now) c.args.job.now.elf.now c.args.job.now.source.now c.in_ok-elf.elf.items c.in_ok-source.source.items
+    c.in_ok-elf.ensures.bytes (omega arith)
+    (subst (λ b. IfSome (b c.args.job.now.source.now) (λ text. c.in_ok-source.source.items ≡ take (4194304 + 1) text))
+    c.in_ok-elf.ensures.same_bytes c.in_ok-source.ensures.bytes)
+    (omega arith)
+
+pub returns-in_err-verdict-clause-taken : goal.returns-in_err-verdict-clause-taken
+returns-in_err-verdict-clause-taken g c =
+    taken_of_two (g.D.Desk.bytes c.args.desk.now) c.args.job.now.elf.now c.args.job.now.source.now
+    (g.D.Desk.left c.args.desk.now) (g.D.Desk.left c.read_file.new.desk) (g.D.Desk.left c.read_file-2.new.desk) c.in_ok-elf.ensures.taken
+    (subst (λ b. TakesAtMost b c.args.job.now.source.now (4194304 + 1) (g.D.Desk.left c.read_file.new.desk) (g.D.Desk.left c.read_file-2.new.desk))
+    c.in_ok-elf.ensures.same_bytes c.in_ok-source.ensures.taken)
+
+pub returns-clause-reached : goal.returns-clause-reached
+returns-clause-reached g c =
+    files_judged (g.D.Desk.bytes c.args.desk.now) c.args.job.now.elf.now c.args.job.now.source.now c.in_ok-elf.elf.items c.in_ok-source.source.items
+    (verdict_of c.in_ok-verdict.verdict) c.in_ok-elf.ensures.bytes (omega arith)
+    (subst (λ b. IfSome (b c.args.job.now.source.now) (λ text. c.in_ok-source.source.items ≡ take (4194304 + 1) text))
+    c.in_ok-elf.ensures.same_bytes c.in_ok-source.ensures.bytes)
+    (omega arith)
+    (subst (λ x. Judges c.in_ok-elf.elf.items x (verdict_of c.in_ok-verdict.verdict)) c.as_slice-2.ensures.value
+    (subst (λ x. Judges x c.as_slice-2.result.now (verdict_of c.in_ok-verdict.verdict)) c.as_slice.ensures.value c.in_ok-verdict.ensures.exact))
+    (subst (λ x. IsSound c.in_ok-elf.elf.items x (verdict_of c.in_ok-verdict.verdict)) c.as_slice-2.ensures.value
+    (subst (λ x. IsSound x c.as_slice-2.result.now (verdict_of c.in_ok-verdict.verdict)) c.as_slice.ensures.value c.in_ok-verdict.ensures.sound))
+
+pub returns-clause-taken : goal.returns-clause-taken
+returns-clause-taken g c =
+    taken_of_two (g.D.Desk.bytes c.args.desk.now) c.args.job.now.elf.now c.args.job.now.source.now
+    (g.D.Desk.left c.args.desk.now) (g.D.Desk.left c.read_file.new.desk) (g.D.Desk.left c.read_file-2.new.desk) c.in_ok-elf.ensures.taken
+    (subst (λ b. TakesAtMost b c.args.job.now.source.now (4194304 + 1) (g.D.Desk.left c.read_file.new.desk) (g.D.Desk.left c.read_file-2.new.desk))
+    c.in_ok-elf.ensures.same_bytes c.in_ok-source.ensures.taken)

@@ -1,0 +1,71 @@
+ghost use Rattle.std.specs.Prelude.{◌≡◌, ◌⊎◌, ℕ, OnOk, OnErr};
+ghost use Rattle.claim_spec.specs.Verdict.{certificate_of, report_of};
+ghost use Rattle.tv_base.specs.Faults.{HasCause};
+ghost use Rattle.tv_base.specs.Writing.{Grows, GrowsPartly};
+ghost use Rattle.report_text.specs.Judgements.{judgements_of};
+ghost use Rattle.report_text.specs.Verdicts.{verdict_of};
+ghost use Rattle.tv_core.specs.Ends.{Becomes, BecomesPartly, LeavesUnder, LeavesPartly, PublishesPartly, IsCausedByEither};
+
+use report_text::{Judgement, Verdict, certificate, report};
+use std::alloc::Global;
+use tv_base::{OutsideFault, Sink, Store, write_all};
+
+/// Writes the certificate of the valid functions under its name.
+fn store_certificate<K: Store>(
+    alloc: Global,
+    name: &str,
+    judgements: &[Judgement],
+    store: &mut K,
+) -> Result<(), OutsideFault>
+    ensures ok { OnOk result (Becomes (K.held store.old) name.now (certificate_of (judgements_of judgements.now)) (K.held store.new)) }
+    ensures part { BecomesPartly (K.held store.old) name.now (certificate_of (judgements_of judgements.now)) (K.held store.new) }
+    ensures cause { HasCause (K.faults store.old) (K.faults store.new) result }
+    ensures unfailing { OnOk result (K.faults store.new ≡ K.faults store.old) }
+{
+    let text = certificate(alloc, judgements)?;
+    store.begin(name)?;
+    write_all(store, text.as_slice())?;
+    Ok(())
+}
+
+/// Writes what a verdict leaves in the store: a certificate where functions were judged.
+fn store_verdict<K: Store>(
+    alloc: Global,
+    name: &str,
+    verdict: &Verdict,
+    store: &mut K,
+) -> Result<(), OutsideFault>
+    ensures ok { OnOk result (LeavesUnder name.now (verdict_of verdict.now) (K.held store.old) (K.held store.new)) }
+    ensures part { LeavesPartly name.now (verdict_of verdict.now) (K.held store.old) (K.held store.new) }
+    ensures cause { HasCause (K.faults store.old) (K.faults store.new) result }
+    ensures unfailing { OnOk result (K.faults store.new ≡ K.faults store.old) }
+{
+    match verdict {
+        Verdict::Judged(judgements) => {
+            store_certificate(alloc, name, judgements.as_slice(), store)?;
+            Ok(())
+        }
+        _ => Ok(()),
+    }
+}
+
+/// Writes the certificate, and then the report.
+pub(crate) fn publish<R: Sink, K: Store>(
+    alloc: Global,
+    name: &str,
+    verdict: &Verdict,
+    out: &mut R,
+    store: &mut K,
+) -> Result<(), OutsideFault>
+    ensures reported { OnOk result (Grows (R.held out.old) (R.begun out.old) (report_of (verdict_of verdict.now)) (R.held out.new)) }
+    ensures stored { OnOk result (LeavesUnder name.now (verdict_of verdict.now) (K.held store.old) (K.held store.new)) }
+    ensures part { PublishesPartly name.now (verdict_of verdict.now) (R.begun out.old) (R.held out.old) (R.held out.new) (K.held store.old) (K.held store.new) }
+    ensures store_part { LeavesPartly name.now (verdict_of verdict.now) (K.held store.old) (K.held store.new) }
+    ensures store_first { (K.faults store.new ≡ K.faults store.old) ⊎ (R.held out.new ≡ R.held out.old) }
+    ensures cause { IsCausedByEither (R.faults out.old) (R.faults out.new) (K.faults store.old) (K.faults store.new) result }
+{
+    let text = report(alloc, verdict)?;
+    store_verdict(alloc, name, verdict, store)?;
+    write_all(out, text.as_slice())?;
+    Ok(())
+}
