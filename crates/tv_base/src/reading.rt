@@ -59,6 +59,8 @@ fn read_piece<D: Desk>(
     ensures part { OnErr result (IsPartlyTaken (length buf.old) (D.left desk.old) (D.left desk.new)) }
     ensures same_bytes { D.bytes desk.new ≡ D.bytes desk.old }
     ensures cause { HasCause (D.faults desk.old) (D.faults desk.new) result }
+    ensures unfailing { OnOk result (D.faults desk.new ≡ D.faults desk.old) }
+    ensures no_memory { IsErrOf result NoMemory → D.faults desk.new ≡ D.faults desk.old }
 {
     let count = desk.read(buf)?;
     bytes.extend_from_slice(&buf[..count])?;
@@ -85,6 +87,8 @@ pub fn read_up_to<D: Desk>(
     ensures part { OnErr result (IsPartlyTaken most (D.left desk.old) (D.left desk.new)) }
     ensures same_bytes { D.bytes desk.new ≡ D.bytes desk.old }
     ensures cause { HasCause (D.faults desk.old) (D.faults desk.new) result }
+    ensures unfailing { OnOk result (D.faults desk.new ≡ D.faults desk.old) }
+    ensures no_memory { IsErrOf result NoMemory → D.faults desk.new ≡ D.faults desk.old }
 {
     let mut buf = make_buffer(alloc)?;
     let mut bytes = Vec::new(alloc);

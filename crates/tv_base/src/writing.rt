@@ -50,6 +50,7 @@ pub fn write_all<S: Sink>(sink: &mut S, bytes: &[u8]) -> Result<(), OutsideFault
     ensures same_name { S.begun sink.new ≡ S.begun sink.old }
     ensures cause { HasCause (S.faults sink.old) (S.faults sink.new) result }
     ensures unfailing { OnOk result (S.faults sink.new ≡ S.faults sink.old) }
+    ensures no_memory { IsErrOf result NoMemory → S.faults sink.new ≡ S.faults sink.old }
 {
     let mut at = 0;
     'pieces: while at < bytes.len() {

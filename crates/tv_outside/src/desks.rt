@@ -1,8 +1,9 @@
-ghost use Rattle.std.specs.Prelude.{◌≡◌, ◌<◌, ◌≤◌, [], length, take, Some, IsOk, IfOk, OnOk, OnErr, IsErrOf};
+ghost use Rattle.std.specs.Prelude.{◌≡◌, ◌<◌, ◌≤◌, [], length, min, take, Some, None, IfSome, IsOk, IfOk, OnOk, OnErr, IsErrOf};
 ghost use Rattle.tv_base.specs.declared.faults.OutsideFault.TheVariants.{NoMemory};
 ghost use Rattle.tv_base.specs.Faults.{HasCause};
 ghost use Rattle.tv_base.specs.Reading.{HandsOver, IsAtEnd};
 ghost use Rattle.tv_outside.specs.Given.{bytes_of, steady_bytes_of};
+ghost use Rattle.tv_outside.specs.Plans.{desk_plan, fresh, called, GoesAs, TakesAs};
 
 use crate::given::{GivenFile, copy_front, find};
 use crate::mishaps::Mishaps;
@@ -23,6 +24,7 @@ impl<'a> MemDesk<'a> {
         ensures bytes { ⟦<MemDesk<'a> as Desk>⟧.bytes result ≡ bytes_of files.now }
         ensures left { ⟦<MemDesk<'a> as Desk>⟧.left result ≡ Some [] }
         ensures faults { ⟦<MemDesk<'a> as Desk>⟧.faults result ≡ 0 }
+        ensures plan { desk_plan result ≡ fresh failing.now most }
     {
         MemDesk {
             files,
@@ -46,7 +48,16 @@ impl<'a> Desk for MemDesk<'a> {
 
     ghost faults = { λ desk. desk.mishaps.faults };
 
-    fn begin(&mut self, name: &str) -> Result<(), OutsideFault> {
+    fn begin(&mut self, name: &str) -> Result<(), OutsideFault>
+        ensures planned { GoesAs (desk_plan self.old) (⟦<MemDesk<'a> as Desk>⟧.bytes self.old name.now ≡ None) result }
+        ensures counted { desk_plan self.new ≡ called (desk_plan self.old) }
+        ensures begins { OnOk result (⟦<MemDesk<'a> as Desk>⟧.left self.new ≡ ⟦<MemDesk<'a> as Desk>⟧.bytes self.old name.now) }
+        ensures same_bytes { ⟦<MemDesk<'a> as Desk>⟧.bytes self.new ≡ ⟦<MemDesk<'a> as Desk>⟧.bytes self.old }
+        ensures refused { OnErr result (⟦<MemDesk<'a> as Desk>⟧.left self.new ≡ ⟦<MemDesk<'a> as Desk>⟧.left self.old) }
+        ensures cause { HasCause (⟦<MemDesk<'a> as Desk>⟧.faults self.old) (⟦<MemDesk<'a> as Desk>⟧.faults self.new) result }
+        ensures unfailing { OnOk result (⟦<MemDesk<'a> as Desk>⟧.faults self.new ≡ ⟦<MemDesk<'a> as Desk>⟧.faults self.old) }
+        ensures no_memory { IsErrOf result NoMemory → ⟦<MemDesk<'a> as Desk>⟧.faults self.new ≡ ⟦<MemDesk<'a> as Desk>⟧.faults self.old }
+    {
         self.mishaps.count_call()?;
         match find(self.files, name) {
             Some(bytes) => {
@@ -57,7 +68,19 @@ impl<'a> Desk for MemDesk<'a> {
         }
     }
 
-    fn read(&mut self, buf: &mut [u8]) -> Result<usize, OutsideFault> {
+    fn read(&mut self, buf: &mut [u8]) -> Result<usize, OutsideFault>
+        requires { 0 < length buf.old }
+        ensures planned { IfSome (⟦<MemDesk<'a> as Desk>⟧.left self.old) (λ left. TakesAs (desk_plan self.old) (min (length left) (length buf.old)) result) }
+        ensures counted { desk_plan self.new ≡ called (desk_plan self.old) }
+        ensures bound { IfOk result (λ count. count ≤ length buf.old) }
+        ensures hands_over { IfOk result (λ count. HandsOver (⟦<MemDesk<'a> as Desk>⟧.left self.old) (take count buf.new) (⟦<MemDesk<'a> as Desk>⟧.left self.new)) }
+        ensures end { IfOk result (λ count. count ≡ 0 → IsAtEnd (⟦<MemDesk<'a> as Desk>⟧.left self.old)) }
+        ensures same_bytes { ⟦<MemDesk<'a> as Desk>⟧.bytes self.new ≡ ⟦<MemDesk<'a> as Desk>⟧.bytes self.old }
+        ensures refused { OnErr result (⟦<MemDesk<'a> as Desk>⟧.left self.new ≡ ⟦<MemDesk<'a> as Desk>⟧.left self.old) }
+        ensures cause { HasCause (⟦<MemDesk<'a> as Desk>⟧.faults self.old) (⟦<MemDesk<'a> as Desk>⟧.faults self.new) result }
+        ensures unfailing { OnOk result (⟦<MemDesk<'a> as Desk>⟧.faults self.new ≡ ⟦<MemDesk<'a> as Desk>⟧.faults self.old) }
+        ensures no_memory { IsErrOf result NoMemory → ⟦<MemDesk<'a> as Desk>⟧.faults self.new ≡ ⟦<MemDesk<'a> as Desk>⟧.faults self.old }
+    {
         self.mishaps.count_call()?;
         let count = copy_front(self.left, buf, self.mishaps.most);
         if count == 0 && !self.left.is_empty() {

@@ -1,6 +1,7 @@
 ghost use Rattle.std.specs.Prelude.{◌≡◌, ◌+◌, ◌-◌, ◌^◌, ◌≤◌, min, ◌<◌, IsErrOf, IfOk, OnOk, OnErr};
 ghost use Rattle.tv_base.specs.declared.faults.OutsideFault.TheVariants.{Failed};
 ghost use Rattle.tv_base.specs.Faults.{HasCause};
+ghost use Rattle.tv_outside.specs.Plans.{plan_of, fresh, called, GoesAs, TakesAs};
 
 use tv_base::OutsideFault;
 
@@ -19,7 +20,8 @@ pub(crate) struct Mishaps<'a> {
 
 impl<'a> Mishaps<'a> {
     pub(crate) fn new(failing: &'a [u64], most: usize) -> Self
-        ensures { result.faults ≡ 0 }
+        ensures faults { result.faults ≡ 0 }
+        ensures plan { plan_of result ≡ fresh failing.now most }
     {
         Mishaps {
             failing,
@@ -33,6 +35,7 @@ impl<'a> Mishaps<'a> {
     pub(crate) fn fail<T>(&mut self) -> Result<T, OutsideFault>
         ensures refusal { IsErrOf result Failed }
         ensures count { self.new.faults ≡ min (self.old.faults + 1) (2 ^ 64 - 1) }
+        ensures plan { plan_of self.new ≡ plan_of self.old }
         ensures cause { HasCause self.old.faults self.new.faults result }
     {
         self.faults = self.faults.saturating_add(1);
@@ -44,6 +47,8 @@ impl<'a> Mishaps<'a> {
         ensures cause { HasCause self.old.faults self.new.faults result }
         ensures fault { OnErr result (IsErrOf result Failed) }
         ensures well { OnOk result (self.new.faults ≡ self.old.faults) }
+        ensures planned { GoesAs (plan_of self.old) ⊥ result }
+        ensures counted { plan_of self.new ≡ called (plan_of self.old) }
     {
         self.calls = self.calls.saturating_add(1);
         if self.failing.contains(&self.calls) {
@@ -60,6 +65,8 @@ impl<'a> Mishaps<'a> {
         ensures cause { HasCause self.old.faults self.new.faults result }
         ensures fault { OnErr result (IsErrOf result Failed) }
         ensures well { OnOk result (self.new.faults ≡ self.old.faults) }
+        ensures planned { TakesAs (plan_of self.old) size result }
+        ensures counted { plan_of self.new ≡ called (plan_of self.old) }
     {
         self.count_call()?;
         let count = size.min(self.most);

@@ -3,6 +3,7 @@ ghost use Rattle.tv_base.specs.declared.faults.OutsideFault.TheVariants.{NoMemor
 ghost use Rattle.tv_base.specs.Faults.{HasCause};
 ghost use Rattle.tv_base.specs.Writing.{Grows};
 ghost use Rattle.tv_outside.specs.Shelf.{unnamed};
+ghost use Rattle.tv_outside.specs.Plans.{sink_plan, fresh, called, TakesAs};
 
 use crate::mishaps::Mishaps;
 use std::alloc::Global;
@@ -22,6 +23,7 @@ impl<'a> MemSink<'a> {
         ensures held { ⟦<MemSink<'a> as Sink>⟧.held result ≡ unnamed [] }
         ensures begun { ⟦<MemSink<'a> as Sink>⟧.begun result ≡ [] }
         ensures faults { ⟦<MemSink<'a> as Sink>⟧.faults result ≡ 0 }
+        ensures plan { sink_plan result ≡ fresh failing.now most }
     {
         MemSink {
             text: Vec::new(alloc),
@@ -51,7 +53,18 @@ impl<'a> Sink for MemSink<'a> {
 
     ghost faults = { λ sink. sink.mishaps.faults };
 
-    fn put(&mut self, bytes: &[u8]) -> Result<usize, OutsideFault> {
+    fn put(&mut self, bytes: &[u8]) -> Result<usize, OutsideFault>
+        ensures planned { TakesAs (sink_plan self.old) (length bytes.now) result }
+        ensures counted { sink_plan self.new ≡ called (sink_plan self.old) }
+        ensures bound { IfOk result (λ count. count ≤ length bytes.now) }
+        ensures progress { IfOk result (λ count. 0 < length bytes.now → 0 < count) }
+        ensures grows { IfOk result (λ count. Grows (⟦<MemSink<'a> as Sink>⟧.held self.old) (⟦<MemSink<'a> as Sink>⟧.begun self.old) (take count bytes.now) (⟦<MemSink<'a> as Sink>⟧.held self.new)) }
+        ensures same_name { ⟦<MemSink<'a> as Sink>⟧.begun self.new ≡ ⟦<MemSink<'a> as Sink>⟧.begun self.old }
+        ensures refused { OnErr result (⟦<MemSink<'a> as Sink>⟧.held self.new ≡ ⟦<MemSink<'a> as Sink>⟧.held self.old) }
+        ensures cause { HasCause (⟦<MemSink<'a> as Sink>⟧.faults self.old) (⟦<MemSink<'a> as Sink>⟧.faults self.new) result }
+        ensures unfailing { OnOk result (⟦<MemSink<'a> as Sink>⟧.faults self.new ≡ ⟦<MemSink<'a> as Sink>⟧.faults self.old) }
+        ensures no_memory { IsErrOf result NoMemory → ⟦<MemSink<'a> as Sink>⟧.faults self.new ≡ ⟦<MemSink<'a> as Sink>⟧.faults self.old }
+    {
         let count = self.mishaps.count_put(bytes.len())?;
         self.text.extend_from_slice(&bytes[..count])?;
         Ok(count)

@@ -3,6 +3,7 @@ ghost use Rattle.tv_base.specs.declared.faults.OutsideFault.TheVariants.{NoMemor
 ghost use Rattle.tv_base.specs.Faults.{HasCause};
 ghost use Rattle.tv_base.specs.Writing.{Grows, IsEmptied};
 ghost use Rattle.tv_outside.specs.Shelf.{on_shelf};
+ghost use Rattle.tv_outside.specs.Plans.{store_plan, fresh, called, GoesAs, TakesAs};
 
 use crate::mishaps::Mishaps;
 use crate::shelf::Shelf;
@@ -23,6 +24,7 @@ impl<'a> MemStore<'a> {
         ensures held { (name : List ℕ) → ⟦<MemStore<'a> as Sink>⟧.held result name ≡ Some [] }
         ensures begun { ⟦<MemStore<'a> as Sink>⟧.begun result ≡ [] }
         ensures faults { ⟦<MemStore<'a> as Sink>⟧.faults result ≡ 0 }
+        ensures plan { store_plan result ≡ fresh failing.now most }
     {
         MemStore {
             shelf: Shelf::new(alloc),
@@ -59,7 +61,18 @@ impl<'a> Sink for MemStore<'a> {
 
     ghost faults = { λ store. store.mishaps.faults };
 
-    fn put(&mut self, bytes: &[u8]) -> Result<usize, OutsideFault> {
+    fn put(&mut self, bytes: &[u8]) -> Result<usize, OutsideFault>
+        ensures planned { TakesAs (store_plan self.old) (length bytes.now) result }
+        ensures counted { store_plan self.new ≡ called (store_plan self.old) }
+        ensures bound { IfOk result (λ count. count ≤ length bytes.now) }
+        ensures progress { IfOk result (λ count. 0 < length bytes.now → 0 < count) }
+        ensures grows { IfOk result (λ count. Grows (⟦<MemStore<'a> as Sink>⟧.held self.old) (⟦<MemStore<'a> as Sink>⟧.begun self.old) (take count bytes.now) (⟦<MemStore<'a> as Sink>⟧.held self.new)) }
+        ensures same_name { ⟦<MemStore<'a> as Sink>⟧.begun self.new ≡ ⟦<MemStore<'a> as Sink>⟧.begun self.old }
+        ensures refused { OnErr result (⟦<MemStore<'a> as Sink>⟧.held self.new ≡ ⟦<MemStore<'a> as Sink>⟧.held self.old) }
+        ensures cause { HasCause (⟦<MemStore<'a> as Sink>⟧.faults self.old) (⟦<MemStore<'a> as Sink>⟧.faults self.new) result }
+        ensures unfailing { OnOk result (⟦<MemStore<'a> as Sink>⟧.faults self.new ≡ ⟦<MemStore<'a> as Sink>⟧.faults self.old) }
+        ensures no_memory { IsErrOf result NoMemory → ⟦<MemStore<'a> as Sink>⟧.faults self.new ≡ ⟦<MemStore<'a> as Sink>⟧.faults self.old }
+    {
         let count = self.mishaps.count_put(bytes.len())?;
         self.shelf.add(&bytes[..count])?;
         Ok(count)
@@ -67,7 +80,17 @@ impl<'a> Sink for MemStore<'a> {
 }
 
 impl<'a> Store for MemStore<'a> {
-    fn begin(&mut self, name: &str) -> Result<(), OutsideFault> {
+    fn begin(&mut self, name: &str) -> Result<(), OutsideFault>
+        ensures planned { GoesAs (store_plan self.old) ⊥ result }
+        ensures counted { store_plan self.new ≡ called (store_plan self.old) }
+        ensures empties { OnOk result (IsEmptied (⟦<MemStore<'a> as Sink>⟧.held self.old) name.now (⟦<MemStore<'a> as Sink>⟧.held self.new)) }
+        ensures name { OnOk result (⟦<MemStore<'a> as Sink>⟧.begun self.new ≡ name.now) }
+        ensures refused { OnErr result (⟦<MemStore<'a> as Sink>⟧.held self.new ≡ ⟦<MemStore<'a> as Sink>⟧.held self.old) }
+        ensures refused_name { OnErr result (⟦<MemStore<'a> as Sink>⟧.begun self.new ≡ ⟦<MemStore<'a> as Sink>⟧.begun self.old) }
+        ensures cause { HasCause (⟦<MemStore<'a> as Sink>⟧.faults self.old) (⟦<MemStore<'a> as Sink>⟧.faults self.new) result }
+        ensures unfailing { OnOk result (⟦<MemStore<'a> as Sink>⟧.faults self.new ≡ ⟦<MemStore<'a> as Sink>⟧.faults self.old) }
+        ensures no_memory { IsErrOf result NoMemory → ⟦<MemStore<'a> as Sink>⟧.faults self.new ≡ ⟦<MemStore<'a> as Sink>⟧.faults self.old }
+    {
         self.mishaps.count_call()?;
         self.shelf.begin(name)?;
         Ok(())
