@@ -1,2 +1,1 @@
--- laws of the claim that proofs above cite
-pub mod OneSegment
+pub mod Direct

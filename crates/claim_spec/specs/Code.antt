@@ -10,6 +10,8 @@ use Rattle.rv_instr.specs.Instr.{instr}
 use Rattle.rv_spec.specs.Arithmetic.{word}
 use Rattle.rv_spec.specs.Machine.{past}
 use Rattle.elf_spec.specs.Image.{Image, fixed_byte, size_at}
+use Rattle.claim_spec.specs.declared.CodeKind.{CodeKind}
+use Rattle.claim_spec.specs.declared.CodeKind.TheVariants.{Empty, Writable, Misplaced}
 
 abbrev pub word_of_bytes : Option ℕ → Option ℕ → Option ℕ → Option ℕ → Option ℕ
 word_of_bytes (Some a) (Some b) (Some c) (Some d) = Some (little_number 4 (a ∷ b ∷ c ∷ d ∷ []))
@@ -24,6 +26,17 @@ instr_at image address =
 pub record InRange (entry size address : ℕ) : Type 0 where
   pub from : entry ≤ address
   pub below : address < entry + size
+
+-- every byte of the range is fixed, and the range doesn't wrap
+pub record IsFixedRange (image : Image) (entry size : ℕ) : Type 0 where
+  pub in_space : entry + size ≤ 2 ^ 32
+  pub fixed : (address : ℕ) → InRange entry size address → IsSome (fixed_byte image address)
+
+-- what is wrong with the range of a function: the first of these that holds
+pub data IsRangeFault (image : Image) (entry size : ℕ) : CodeKind → Type 0 where
+  empty : size ≡ 0 → IsRangeFault image entry size Empty
+  writable : 0 < size → (IsFixedRange image entry size → ⊥) → IsRangeFault image entry size Writable
+  misplaced : 0 < size → IsFixedRange image entry size → (entry % 4 ≡ 0 → size % 4 ≡ 0 → ⊥) → IsRangeFault image entry size Misplaced
 
 -- the function has code: it isn't empty, doesn't wrap, no code may write it, and its words are aligned
 pub record HasCode (image : Image) (entry size : ℕ) : Type 0 where

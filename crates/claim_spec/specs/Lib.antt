@@ -1,3 +1,4 @@
 pub mod Code
+pub mod Faults
 pub mod Claim
 pub mod Verdict

@@ -1,22 +1,22 @@
 -- The outcomes of a run on two files, and for each its status, its report and its certificate, byte for byte.
-use Rattle.std.specs.Prelude.{ℕ, Bool, not, is_some, if◌then◌else◌, List, [], ◌∷◌, ◌++◌, filter, flat_map, count_by, codes, decimal}
-use Rattle.std.specs.List.{list_all}
+use Rattle.std.specs.Prelude.{ℕ, Bool, not, is_some, if◌then◌else◌, List, [], ◌∷◌, ◌++◌, filter, find, flat_map, count_by, bytes_eq, codes, decimal, Option, Some, None}
+use Rattle.std.specs.List.{list_all, list_any}
 use Rattle.std.specs.Int.{w32, to_be_bytes}
 use Rattle.hex.specs.Hex.{encode_lower}
 use Rattle.elf_spec.specs.Image.{Image, entry_of}
 use Rattle.elf_spec.specs.declared.ElfKind.{ElfKind}
-use Rattle.elf_spec.specs.declared.ElfKind.TheVariants.{Later as later_file}
+use Rattle.elf_spec.specs.declared.ElfKind.TheVariants as file
 use Rattle.c_spec.specs.Unit.{Unit, bodies}
 use Rattle.c_spec.specs.declared.SourceKind.{SourceKind}
 use Rattle.c_spec.specs.declared.SourceKind.TheVariants.{Token, Later as later_source}
 use Rattle.c_spec.specs.declared.token.TokenFaultKind.{TokenFaultKind}
 use Rattle.c_spec.specs.declared.token.TokenFaultKind.TheVariants.{Byte, Number, Character, Comment}
 use Rattle.claim_spec.specs.declared.Quantity.{Quantity}
-use Rattle.claim_spec.specs.declared.Quantity.TheVariants.{Elf, C}
+use Rattle.claim_spec.specs.declared.Quantity.TheVariants.{Elf, C, Functions}
 use Rattle.claim_spec.specs.declared.PairKind.{PairKind}
-use Rattle.claim_spec.specs.declared.PairKind.TheVariants.{NothingListed}
+use Rattle.claim_spec.specs.declared.PairKind.TheVariants.{NothingListed, NoSource, NoSymbol}
 use Rattle.claim_spec.specs.declared.CodeKind.{CodeKind}
-use Rattle.claim_spec.specs.declared.CodeKind.TheVariants.{Later as later_code}
+use Rattle.claim_spec.specs.declared.CodeKind.TheVariants.{NoFunction, Ambiguous, Empty, Writable, Misplaced, Undecoded, Indirect, Leaves, Overlap}
 
 -- what is said of a listed function: whether it is valid, and how much stack it takes
 pub record Judgement : Type 0 where
@@ -37,17 +37,49 @@ pub data Verdict : Type 0 where
 unfoldable pub listed : Image → Unit → List (List ℕ)
 listed image unit = filter (λ name. is_some (entry_of image name)) (bodies unit)
 
--- how many bytes a file may have
+-- the names to validate: those that the command gives, in its order, or else the listed ones
+abbrev pub names_of : Option (List (List ℕ)) → Image → Unit → List (List ℕ)
+names_of (Some names) image unit = names
+names_of None image unit = listed image unit
+
+-- why a name can't be validated: it has no body, or else no symbol
+abbrev pub pair_fault : Image → Unit → (name : List ℕ) → Option PairKind
+pair_fault image unit name =
+    if not (list_any (λ body. bytes_eq name body) (bodies unit)) then Some NoSource
+    else if not (is_some (entry_of image name)) then Some NoSymbol
+    else None
+
+-- the first name that can't be validated
+abbrev pub first_unpaired : Image → Unit → List (List ℕ) → Option (List ℕ)
+first_unpaired image unit names = find (λ name. is_some (pair_fault image unit name)) names
+
+-- how many bytes a file may have, and how many functions the list
 abbrev pub maximum_of : Quantity → ℕ
 maximum_of Elf = 16777216
 maximum_of C = 4194304
+maximum_of Functions = 4096
 
 abbrev pub quantity_word : Quantity → List ℕ
 quantity_word Elf = codes "elf"
 quantity_word C = codes "c"
+quantity_word Functions = codes "functions"
 
 abbrev pub elf_word : ElfKind → List ℕ
-elf_word later_file = codes "Later"
+elf_word file.Short = codes "Short"
+elf_word file.Magic = codes "Magic"
+elf_word file.Class = codes "Class"
+elf_word file.Endian = codes "Endian"
+elf_word file.Version = codes "Version"
+elf_word file.Kind = codes "Kind"
+elf_word file.Machine = codes "Machine"
+elf_word file.Flags = codes "Flags"
+elf_word file.HeaderSize = codes "HeaderSize"
+elf_word file.Table = codes "Table"
+elf_word file.SegmentRange = codes "SegmentRange"
+elf_word file.SegmentOverlap = codes "SegmentOverlap"
+elf_word file.NoSymbols = codes "NoSymbols"
+elf_word file.SymbolTable = codes "SymbolTable"
+elf_word file.StringTable = codes "StringTable"
 
 abbrev pub token_word : TokenFaultKind → List ℕ
 token_word Byte = codes "Byte"
@@ -61,9 +93,19 @@ source_word later_source = codes "Later"
 
 abbrev pub pair_word : PairKind → List ℕ
 pair_word NothingListed = codes "NothingListed"
+pair_word NoSource = codes "NoSource"
+pair_word NoSymbol = codes "NoSymbol"
 
 abbrev pub code_word : CodeKind → List ℕ
-code_word later_code = codes "Later"
+code_word NoFunction = codes "NoFunction"
+code_word Ambiguous = codes "Ambiguous"
+code_word Empty = codes "Empty"
+code_word Writable = codes "Writable"
+code_word Misplaced = codes "Misplaced"
+code_word Undecoded = codes "Undecoded"
+code_word Indirect = codes "Indirect"
+code_word Leaves = codes "Leaves"
+code_word Overlap = codes "Overlap"
 
 abbrev pub all_valid : List Judgement → Bool
 all_valid judgements = list_all (λ j. j.valid) judgements
@@ -72,10 +114,10 @@ all_valid judgements = list_all (λ j. j.valid) judgements
 abbrev pub status_of : Verdict → ℕ
 status_of RefusedWords = 2
 status_of (TooLarge quantity) = 7
-status_of (RefusedElf kind offset) = 3
-status_of (RefusedC kind offset) = 3
-status_of (RefusedPair kind name) = 3
-status_of (RefusedCode kind name address) = 3
+status_of (RefusedElf fault offset) = 3
+status_of (RefusedC fault offset) = 3
+status_of (RefusedPair fault name) = 3
+status_of (RefusedCode fault name address) = 3
 status_of (Judged judgements) = if all_valid judgements then 0 else 1
 
 -- a line feed at its end
@@ -98,11 +140,11 @@ judgements_text judgements =
 abbrev pub report_of : Verdict → List ℕ
 report_of RefusedWords = line (codes "refused words")
 report_of (TooLarge quantity) = line (codes "limit " ++ quantity_word quantity ++ codes " " ++ decimal (maximum_of quantity))
-report_of (RefusedElf kind offset) = line (codes "refused elf " ++ elf_word kind ++ codes " at " ++ decimal offset)
-report_of (RefusedC kind offset) = line (codes "refused c " ++ source_word kind ++ codes " at " ++ decimal offset)
-report_of (RefusedPair kind name) = line (codes "refused pair " ++ pair_word kind ++ codes " " ++ name)
-report_of (RefusedCode kind name address) =
-    line (codes "refused code " ++ code_word kind ++ codes " " ++ name ++ codes " at " ++ encode_lower (to_be_bytes w32 address))
+report_of (RefusedElf fault offset) = line (codes "refused elf " ++ elf_word fault ++ codes " at " ++ decimal offset)
+report_of (RefusedC fault offset) = line (codes "refused c " ++ source_word fault ++ codes " at " ++ decimal offset)
+report_of (RefusedPair fault name) = line (codes "refused pair " ++ pair_word fault ++ codes " " ++ name)
+report_of (RefusedCode fault name address) =
+    line (codes "refused code " ++ code_word fault ++ codes " " ++ name ++ codes " at " ++ encode_lower (to_be_bytes w32 address))
 report_of (Judged judgements) = judgements_text judgements
 
 -- the part of a valid function: one leaf, whose three goals need no clauses

@@ -1,1 +1,11 @@
 pub mod Refusal
+pub mod Faults
+pub mod Values
+pub mod Indexed
+pub mod Offsets
+pub mod Zeros
+pub mod Names
+pub mod Separate
+pub mod Fixed
+pub mod Extents
+pub mod Buckets

@@ -1,17 +1,27 @@
-//! Reads an executable of 32-bit RISC-V into its image: its loaded segments and its defined symbols.
+//! Reads an ELF32 executable of RISC-V into its image: its loaded segments and its defined symbols.
 //!
-//! The main type is [`Image`], which a clause sees as the image of the specification crate `elf_spec`, so
-//! what an accessor answers is what that crate's word of the same name says. [`read`] answers the image of
-//! the bytes exactly where they are an executable, and otherwise the reason and the offset of the refusal.
-//! The meaning is defined in `elf_spec`: `specs/Image.antt` and `specs/File.antt`.
+//! The main type is [`Image`], which borrows the file and which a clause sees as the image of the
+//! specification crate `elf_spec`; so what an accessor answers is what that crate's word of the same name
+//! says, and no accessor takes memory. [`read`] answers the image of the bytes exactly where they are an
+//! executable, and otherwise the kind and the offset of their first fault. The meaning is defined in
+//! `elf_spec`: `specs/Image.antt`, `specs/Runs.antt` and `specs/File.antt`.
 #![tactic(auto)]
 
 mod fields;
-mod forms;
+mod fixed;
+mod header;
 mod loaded;
+mod names;
+mod parts;
 mod reader;
+mod segments;
+mod sizes;
+mod strings;
+mod symbols;
 
-pub use loaded::{Image, Segment, Symbol};
+pub use elf_spec::Named;
+pub use loaded::Image;
+pub use parts::{Extent, Segment, Symbol};
 pub use reader::{ElfError, ElfFault, read};
 
 #[cfg(test)]

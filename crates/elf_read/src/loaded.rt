@@ -1,180 +1,174 @@
 //! The image of an executable, and what is read off it.
 
-ghost use Rattle.std.specs.Prelude.{◌≡◌, ◌==◌, ◌&&◌, if◌then◌else◌, max, unwrap_or, map, filter, bytes_eq, None};
+ghost use Rattle.std.specs.Prelude.{◌≡◌, ◌<◌, ◌==◌, ℕ, true, length, ◌&&◌, ◌∷◌, if◌then◌else◌, max, unwrap_or, bytes_eq, map, filter, slice_get, None, Some, IfOk};
+ghost use Rattle.std.specs.Bool.{OnTrue, OnFalse};
+ghost use Rattle.std.specs.Option.{option_map};
 ghost use Rattle.elf_spec.specs.Image as spec;
 
+use crate::fixed::{byte_at, extent_at, extents, fixed_segments};
+use crate::names::Chains;
+use crate::sizes::sizes;
+use crate::{Extent, Segment, Symbol};
+use elf_spec::Named;
+use std::alloc::{AllocError, Global};
+use std::collections::BTreeMap;
 use std::marker::Model;
-use tv_bytes::Bytes;
 
-/// A segment that is loaded: a program header of type `PT_LOAD` (System V ABI, program header).
+/// What an executable holds: its segments in the order of their headers, its defined symbols in the order
+/// of their table. It borrows the file.
 #[derive(Debug, Drop)]
-pub struct Segment {
-    /// `p_vaddr`, the address of its first byte.
-    pub vaddr: u32,
-    /// `p_memsz`, how many bytes it has in memory.
-    pub memsz: u32,
-    /// `p_flags`.
-    pub flags: u32,
-    /// Its `p_filesz` bytes in the file, which stand at its start.
-    pub bytes: Bytes,
+pub struct Image<'a> {
+    segments: Vec<Segment<'a>>,
+    symbols: Vec<Symbol<'a>>,
+    // The segments with fixed bytes, by address.
+    fixed: Vec<Segment<'a>>,
+    // The addresses of the runs of fixed bytes.
+    extents: Vec<Extent>,
+    // The symbols by their names.
+    chains: Chains,
+    // The size of each function, by its entry.
+    sizes: BTreeMap<u32, u32>,
+    global_pointer: Option<u32>,
 }
 
-impl Model for Segment {
-    ghost use Rattle.elf_spec.specs.Image.{Segment as segment};
-
-    ghost Value = { segment };
-
-    ghost view = { λ s. record { vaddr = s.vaddr; memsz = s.memsz; flags = s.flags; bytes = s.bytes } };
-}
-
-/// A symbol that is defined: its `st_shndx` isn't 0 (System V ABI, symbol table).
-#[derive(Debug, Drop)]
-pub struct Symbol {
-    /// Its name, without the 0 byte that ends it.
-    pub name: Bytes,
-    /// `st_value`, an address.
-    pub value: u32,
-    /// `st_size`, in bytes.
-    pub size: u32,
-    /// Its type, `st_info & 15`: 1 for an object, 2 for a function.
-    pub kind: u8,
-}
-
-impl Model for Symbol {
-    ghost use Rattle.elf_spec.specs.Image.{Symbol as symbol};
-
-    ghost Value = { symbol };
-
-    ghost view = { λ s. record { name = s.name; value = s.value; size = s.size; kind = s.kind } };
-}
-
-/// What an executable holds: its segments in the order of their headers, its symbols in the order of their
-/// table.
-#[derive(Debug, Drop)]
-pub struct Image {
-    segments: Vec<Segment>,
-    symbols: Vec<Symbol>,
-}
-
-impl Model for Image {
+impl<'a> Model for Image<'a> {
     ghost use Rattle.elf_spec.specs.Image.{Image as image};
 
     ghost Value = { image };
 
-    ghost view = { λ a. record { segments = a.segments.items; symbols = a.symbols.items } };
+    ghost use Rattle.elf_read.specs.Indexed.{image_view, IsIndexed};
+
+    ghost view = { image_view };
+
+    ghost invariant = { IsIndexed };
 }
 
-impl Image {
-    /// An image of these segments and symbols.
-    pub(crate) fn new(segments: Vec<Segment>, symbols: Vec<Symbol>) -> Image
-        ensures { result ≡ record { segments = segments.items; symbols = symbols.items } }
+impl<'a> Image<'a> {
+    ghost use Rattle.elf_read.specs.Values.{segment_of, symbol_of, IsExtentAt};
+    ghost use Rattle.elf_read.specs.Separate.{AreSeparate};
+
+    /// The image of some segments and symbols.
+    pub(crate) fn new(
+        alloc: Global,
+        segments: Vec<Segment<'a>>,
+        symbols: Vec<Symbol<'a>>,
+    ) -> Result<Image<'a>, AllocError>
+        requires { AreSeparate (map segment_of segments.items) }
+        ensures { IfOk result (λ image. image ≡ record { segments = map segment_of segments.entry.items; symbols = map symbol_of symbols.entry.items }) }
     {
-        Image { segments, symbols }
+        let fixed = fixed_segments(alloc, segments.as_slice())?;
+        let extents = extents(alloc, fixed.as_slice())?;
+        let chains = Chains::new(alloc, symbols.as_slice())?;
+        let sizes = sizes(alloc, symbols.as_slice())?;
+        let global_pointer = first_named(symbols.as_slice(), b"__global_pointer$");
+        Ok(Image {
+            segments,
+            symbols,
+            fixed,
+            extents,
+            chains,
+            sizes,
+            global_pointer,
+        })
     }
 
-    /// The address at which the function of a name begins: the value of its first symbol of type `STT_FUNC`.
-    pub fn entry_of(&self, name: &[u8]) -> Option<u32>
-        ensures { result ≡ spec.entry_of self.now name.now }
+    /// The segment of a place in the order of the program headers.
+    pub fn segment(&self, i: usize) -> Option<&Segment<'a>>
+        ensures { option_map (λ s. segment_of s.now) result ≡ slice_get self.now.segments i }
     {
-        first_function(self.symbols.as_slice(), name)
+        self.segments.get(i)
+    }
+
+    /// The symbol of a place among the defined ones, in the order of their table.
+    pub fn symbol(&self, i: usize) -> Option<&Symbol<'a>>
+        ensures { option_map (λ s. symbol_of s.now) result ≡ slice_get self.now.symbols i }
+    {
+        self.symbols.get(i)
     }
 
     /// The size in bytes of the function that begins at an address: the greatest of its symbols.
     pub fn size_at(&self, entry: u32) -> Option<u32>
         ensures { result ≡ spec.size_at self.now entry }
     {
-        size_among(self.symbols.as_slice(), entry)
+        self.sizes.get(&entry).copied()
+    }
+
+    /// The functions of a name: its symbols of type `STT_FUNC`.
+    pub fn function(&self, name: &[u8]) -> Named
+        ensures { result ≡ spec.function_named self.now name.now }
+    {
+        self.chains.named(self.symbols.as_slice(), 2, name)
+    }
+
+    /// The globals of a name: its symbols of type `STT_OBJECT`.
+    pub fn object(&self, name: &[u8]) -> Named
+        ensures { result ≡ spec.object_named self.now name.now }
+    {
+        self.chains.named(self.symbols.as_slice(), 1, name)
+    }
+
+    /// The value of the first symbol `__global_pointer$`, of any type (RISC-V psABI, global pointer).
+    pub fn global_pointer(&self) -> Option<u32>
+        ensures { result ≡ spec.global_pointer self.now }
+    {
+        self.global_pointer
     }
 
     /// The byte that the file fixes at an address: one of a segment that nothing may write.
     pub fn fixed_byte(&self, address: u32) -> Option<u8>
         ensures { result ≡ spec.fixed_byte self.now address }
     {
-        fixed_among(self.segments.as_slice(), address)
+        byte_at(self.fixed.as_slice(), address)
     }
 
-    /// The value of the first symbol `__global_pointer$`, of any type.
-    pub fn global_pointer(&self) -> Option<u32>
-        ensures { result ≡ spec.global_pointer self.now }
+    /// The addresses of a run of fixed bytes, of a place among the runs by address. The bytes are those of
+    /// [`Image::fixed_byte`].
+    pub fn run(&self, i: usize) -> Option<Extent>
+        ensures { IsExtentAt self.now i result }
     {
-        first_named(self.symbols.as_slice(), b"__global_pointer$")
+        extent_at(self.extents.as_slice(), i)
     }
 }
 
-impl Symbol {
-    /// Whether this is the symbol of a function with this name.
-    fn is_function(&self, name: &[u8]) -> bool
-        ensures { result ≡ spec.has_name 2 name.now self.now }
+ghost use Rattle.elf_read.specs.Values as values;
+
+impl<'a> Symbol<'a> {
+    /// Whether this is a symbol of a type and a name.
+    pub(crate) fn has_name(&self, kind: u8, name: &[u8]) -> bool
+        ensures { result ≡ spec.has_name kind name.now (values.symbol_of self.now) }
     {
-        self.kind == 2 && self.name.as_slice() == name
+        self.kind == kind && self.name == name
     }
 }
 
-impl Segment {
+impl<'a> Segment<'a> {
+    /// It has bytes, and nothing may write them: it is without the flag `PF_W`, which is 2.
+    pub(crate) fn has_fixed_bytes(&self) -> bool
+        ensures unwritable { OnTrue result (spec.is_fixed (values.segment_of self.now) ≡ true) }
+        ensures full { OnTrue result (0 < length self.now.bytes.now) }
+        ensures none { OnFalse result ((address : ℕ) → (if spec.is_fixed (values.segment_of self.now) then spec.byte_in (values.segment_of self.now) address else None) ≡ None) }
+    {
+        self.flags / 2 % 2 == 0 && !self.bytes.is_empty()
+    }
+
     /// The file's byte at an address, unless the segment may be written.
-    fn fixed_byte(&self, address: u32) -> Option<u8>
-        ensures { result ≡ (if spec.is_fixed self.now then spec.byte_in self.now address else None) }
+    pub(crate) fn fixed_byte(&self, address: u32) -> Option<u8>
+        ensures { result ≡ (if spec.is_fixed (values.segment_of self.now) then spec.byte_in (values.segment_of self.now) address else None) }
     {
         if self.flags / 2 % 2 != 0 || address < self.vaddr {
             return None;
         }
         let place = (address - self.vaddr) as usize;
-        self.bytes.as_slice().get(place).copied()
+        self.bytes.get(place).copied()
     }
-}
-
-fn first_function(symbols: &[Symbol], name: &[u8]) -> Option<u32>
-    ensures { result ≡ spec.first_of (map (λ s. s.value) (filter (spec.has_name 2 name.now) symbols.now)) }
-{
-    for symbol in symbols {
-        if symbol.is_function(name) {
-            return Some(symbol.value);
-        }
-    }
-    None
 }
 
 fn first_named(symbols: &[Symbol], name: &[u8]) -> Option<u32>
-    ensures { result ≡ spec.first_of (map (λ s. s.value) (filter (λ s. bytes_eq s.name name.now) symbols.now)) }
+    ensures { result ≡ spec.first_of (map (λ s. s.value) (filter (λ s. bytes_eq s.name name.now) (map values.symbol_of symbols.now))) }
 {
     for symbol in symbols {
-        if symbol.name.as_slice() == name {
+        if symbol.name == name {
             return Some(symbol.value);
-        }
-    }
-    None
-}
-
-fn size_among(symbols: &[Symbol], entry: u32) -> Option<u32>
-    ensures { result ≡ spec.size_among symbols.now entry }
-{
-    let mut size = None;
-    let mut at = symbols.len();
-    while at > 0 {
-        at -= 1;
-        size = symbols[at].size_beside(entry, size);
-    }
-    size
-}
-
-impl Symbol {
-    /// The size of the function at an entry, given that of the symbols behind this one.
-    fn size_beside(&self, entry: u32, behind: Option<u32>) -> Option<u32>
-        ensures { result ≡ (if (self.now.kind == 2) && (self.now.value == entry) then Some (max self.now.size (unwrap_or behind 0)) else behind) }
-    {
-        if self.kind != 2 || self.value != entry {
-            return behind;
-        }
-        Some(self.size.max(behind.unwrap_or(0)))
-    }
-}
-
-fn fixed_among(segments: &[Segment], address: u32) -> Option<u8>
-    ensures { result ≡ spec.fixed_among segments.now address }
-{
-    for segment in segments {
-        if let Some(byte) = segment.fixed_byte(address) {
-            return Some(byte);
         }
     }
     None

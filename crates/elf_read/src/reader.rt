@@ -1,20 +1,23 @@
 //! Reading an executable.
 
-ghost use Rattle.std.specs.Prelude.{◌≡◌, ◌==◌, ◌≤◌, ◌+◌, length, IfOk, IfErr};
-ghost use Rattle.std.specs.List.{before_first, position_or_len};
+ghost use Rattle.std.specs.Prelude.{◌≡◌, ◌+◌, ◌*◌, ◌≤◌, ℕ, length, Some, All, IfOk, IfErr, OnOk};
 ghost use Rattle.elf_spec.specs.File as spec;
+ghost use Rattle.elf_spec.specs.declared.ElfKind.{ElfKind};
+ghost use Rattle.elf_read.specs.Faults.{KeepsBelow};
+ghost use Rattle.elf_read.specs.Offsets.{IsRising};
 ghost use Rattle.elf_read.specs.Refusal.{IsRefusal};
-ghost use Rattle.elf_read.specs.declared.reader.ElfError.TheVariants.{NoMemory};
+ghost use Rattle.elf_read.specs.declared.reader.ElfError.TheVariants.{Fault, NoMemory};
 
-use crate::fields::{strings_from, u32_at};
-use crate::forms::is_executable;
-use crate::{Image, Segment, Symbol};
+use crate::Image;
+use crate::header::check_header;
+use crate::segments::{loads, overlap_fault, range_fault, segments};
+use crate::strings::Strings;
+use crate::symbols::{defined_symbols, has_strings, is_table, name_fault, strings, symbol_table};
 use elf_spec::ElfKind;
 use std::alloc::{AllocError, Global};
 use thiserror::Error;
-use tv_bytes::Bytes;
 
-/// Why and where a file is refused.
+/// Why and where a file is refused: its first fault.
 #[derive(Clone, Copy, Debug, PartialEq, Eq, Error)]
 #[error("{kind:?} at {offset}")]
 pub struct ElfFault {
@@ -43,83 +46,104 @@ impl From<AllocError> for ElfError {
     }
 }
 
-/// Reads the bytes of a file into their image.
-pub fn read(alloc: Global, bytes: &[u8]) -> Result<Image, ElfError>
+impl From<ElfFault> for ElfError {
+    ghost from_gives = { λ fault error. error ≡ Fault fault };
+
+    fn from(fault: ElfFault) -> Self {
+        ElfError::Fault(fault)
+    }
+}
+
+/// Reads the bytes of a file into their image, in memory linear in the file.
+pub fn read<'a>(alloc: Global, bytes: &'a [u8]) -> Result<Image<'a>, ElfError>
     ensures accepted { IfOk result (λ image. spec.IsElf bytes.now image) }
     ensures refused { IfErr result (λ error. IsRefusal bytes.now error) }
 {
-    if !is_executable(bytes) {
-        return Err(ElfError::Fault(ElfFault {
-            kind: ElfKind::Later,
-            offset: 0,
-        }));
+    check_header(bytes)?;
+    let loads = loads(alloc, bytes)?;
+    check_loads(bytes, loads.as_slice())?;
+    let table = check_table(bytes)?;
+    let strings = Strings::new(alloc, strings(bytes, table))?;
+    check_names(bytes, table, &strings)?;
+    let segments = segments(alloc, bytes, loads.as_slice())?;
+    let symbols = defined_symbols(alloc, bytes, table, &strings)?;
+    Ok(Image::new(alloc, segments, symbols)?)
+}
+
+/// Refuses a file for the first fault of its segments.
+fn check_loads(bytes: &[u8], loads: &[usize]) -> Result<(), ElfFault>
+    requires below { KeepsBelow bytes.now (spec.rank ElfKind.SegmentRange) }
+    requires loads { loads.now ≡ spec.loads bytes.now }
+    requires inside { All (λ at. at + 32 ≤ length bytes.now) loads.now }
+    requires rising { IsRising loads.now }
+    ensures kept { OnOk result (KeepsBelow bytes.now (spec.rank ElfKind.NoSymbols)) }
+    ensures refused { IfErr result (λ fault. spec.IsRefusedFile bytes.now fault.kind fault.offset) }
+{
+    if let Some(offset) = range_fault(bytes, loads) {
+        return Err(ElfFault {
+            kind: ElfKind::SegmentRange,
+            offset,
+        });
     }
-    let image = image_of(alloc, bytes)?;
-    Ok(image)
-}
-
-/// The image of an executable.
-#[tactic(auto, unfolding(elf_spec::specs::File::image_of))]
-fn image_of(alloc: Global, bytes: &[u8]) -> Result<Image, AllocError>
-    requires { spec.IsExecutable bytes.now }
-    ensures { IfOk result (λ image. image ≡ spec.image_of bytes.now) }
-{
-    let mut segments = Vec::with_capacity(alloc, 1)?;
-    segments.push(segment_at(alloc, bytes, u32_at(bytes, 28) as usize)?)?;
-    let table = u32_at(bytes, u32_at(bytes, 32) as usize + 56) as usize;
-    let mut symbols = Vec::with_capacity(alloc, 1)?;
-    symbols.push(symbol_at(alloc, bytes, table + 16)?)?;
-    Ok(Image::new(segments, symbols))
-}
-
-/// The segment of the program header at an offset.
-fn segment_at(alloc: Global, bytes: &[u8], at: usize) -> Result<Segment, AllocError>
-    requires there { at + 32 ≤ length bytes.now }
-    requires form { spec.IsSegmentAt bytes.now at }
-    ensures { IfOk result (λ segment. segment ≡ spec.segment_at bytes.now at) }
-{
-    let start = u32_at(bytes, at + 4) as usize;
-    let size = u32_at(bytes, at + 16) as usize;
-    let content = Bytes::copied(alloc, &bytes[start..start + size])?;
-    Ok(Segment {
-        vaddr: u32_at(bytes, at + 8),
-        memsz: u32_at(bytes, at + 20),
-        flags: u32_at(bytes, at + 24),
-        bytes: content,
-    })
-}
-
-/// The symbol of the entry at an offset.
-fn symbol_at(alloc: Global, bytes: &[u8], at: usize) -> Result<Symbol, AllocError>
-    requires form { spec.IsExecutable bytes.now }
-    requires there { at + 16 ≤ length bytes.now }
-    ensures { IfOk result (λ symbol. symbol ≡ spec.symbol_at bytes.now at) }
-{
-    let rest = strings_from(bytes, u32_at(bytes, at) as usize);
-    let name = Bytes::copied(alloc, name_in(rest))?;
-    Ok(Symbol {
-        name,
-        value: u32_at(bytes, at + 4),
-        size: u32_at(bytes, at + 8),
-        kind: bytes[at + 12] % 16,
-    })
-}
-
-/// What stands before the first 0 byte, or all where there is none.
-fn name_in(strings: &[u8]) -> &[u8]
-    ensures { result.now ≡ before_first (λ b. b == 0) strings.now }
-{
-    &strings[..name_length(strings)]
-}
-
-/// Where the first 0 byte is, or the length where there is none.
-fn name_length(strings: &[u8]) -> usize
-    ensures { result ≡ position_or_len (λ b. b == 0) strings.now }
-{
-    for (i, b) in strings.iter().enumerate() {
-        if *b == 0 {
-            return i;
-        }
+    if let Some(offset) = overlap_fault(bytes, loads) {
+        return Err(ElfFault {
+            kind: ElfKind::SegmentOverlap,
+            offset,
+        });
     }
-    strings.len()
+    Ok(())
+}
+
+/// The offset of the header of the symbol table; or the refusal of a file without one or with a faulty one.
+fn check_table(bytes: &[u8]) -> Result<usize, ElfFault>
+    requires long { 52 ≤ length bytes.now }
+    requires sections { spec.u32_at bytes.now 32 + 40 * spec.u16_at bytes.now 48 ≤ length bytes.now }
+    requires below { KeepsBelow bytes.now (spec.rank ElfKind.NoSymbols) }
+    ensures kept { OnOk result (KeepsBelow bytes.now (spec.rank ElfKind.StringTable)) }
+    ensures table { IfOk result (λ table. spec.symbol_table bytes.now ≡ Some table) }
+    ensures inside { IfOk result (λ table. table + 40 ≤ length bytes.now) }
+    ensures is_table { IfOk result (λ table. spec.IsTable bytes.now table) }
+    ensures strings { IfOk result (λ table. spec.HasStrings bytes.now table) }
+    ensures refused { IfErr result (λ fault. spec.IsRefusedFile bytes.now fault.kind fault.offset) }
+{
+    let Some(table) = symbol_table(bytes) else {
+        return Err(ElfFault {
+            kind: ElfKind::NoSymbols,
+            offset: 32,
+        });
+    };
+    if !is_table(bytes, table) {
+        return Err(ElfFault {
+            kind: ElfKind::SymbolTable,
+            offset: table,
+        });
+    }
+    if !has_strings(bytes, table) {
+        return Err(ElfFault {
+            kind: ElfKind::StringTable,
+            offset: table,
+        });
+    }
+    Ok(table)
+}
+
+/// Refuses a file for the first symbol whose name isn't ended.
+fn check_names(bytes: &[u8], table: usize, strings: &Strings) -> Result<(), ElfFault>
+    requires below { KeepsBelow bytes.now (spec.rank ElfKind.StringTable) }
+    requires table { spec.symbol_table bytes.now ≡ Some table }
+    requires inside { table + 40 ≤ length bytes.now }
+    requires is_table { spec.IsTable bytes.now table }
+    requires has_strings { spec.HasStrings bytes.now table }
+    requires strings { strings.now ≡ spec.strings_from bytes.now table 0 }
+    ensures kept { OnOk result ((kind : ElfKind) (at : ℕ) → spec.Keeps bytes.now kind at) }
+    ensures ended { OnOk result (All (λ at. spec.IsEnded bytes.now table at) (spec.symbols bytes.now table)) }
+    ensures refused { IfErr result (λ fault. spec.IsRefusedFile bytes.now fault.kind fault.offset) }
+{
+    if let Some(offset) = name_fault(bytes, table, strings) {
+        return Err(ElfFault {
+            kind: ElfKind::StringTable,
+            offset,
+        });
+    }
+    Ok(())
 }

@@ -1,2 +1,3 @@
--- laws of the image that proofs above cite
+-- laws of files and images that proofs above cite
 pub mod Functions
+pub mod Verdicts

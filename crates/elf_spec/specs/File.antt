@@ -1,10 +1,10 @@
--- Which bytes are an executable, and its image. Everything is said of offsets in the whole file.
--- For now an executable is one read-only segment and one function symbol.
-use Rattle.std.specs.Prelude.{◌≡◌, ◌≢◌, ◌+◌, ◌*◌, ◌^◌, ◌%◌, ◌/◌, ◌≤◌, ◌==◌, ℕ, List, [], ◌∷◌, length, take, drop, slice_index, Contains}
+-- Which bytes are an executable, and its image; and why, and where, other bytes are refused. Everything is said
+-- of offsets in the whole file. (System V ABI, chapters 4 and 5; RISC-V psABI, ELF object files.)
+use Rattle.std.specs.Prelude.{◌≡◌, ◌+◌, ◌*◌, ◌^◌, ◌%◌, ◌/◌, ◌<◌, ◌≤◌, ◌==◌, not, ℕ, zero, suc, List, [], ◌∷◌, length, take, drop, map, filter, find, slice_index, Contains, Option, Some, None, IsSome}
 use Rattle.std.specs.List.{before_first}
 use Rattle.byteorder.specs.Endian.{little_number}
 use Rattle.elf_spec.specs.declared.ElfKind.{ElfKind}
-use Rattle.elf_spec.specs.declared.ElfKind.TheVariants.{Later}
+use Rattle.elf_spec.specs.declared.ElfKind.TheVariants.{Short, Magic, Class, Endian, Version, Kind, Machine, Flags, HeaderSize, Table, SegmentRange, SegmentOverlap, NoSymbols, SymbolTable, StringTable}
 use Rattle.elf_spec.specs.Image.{Segment, Symbol, Image}
 
 -- the numbers of one, two and four bytes at an offset, little-endian (System V ABI, data representation)
@@ -17,95 +17,122 @@ u16_at bytes at = little_number 2 (drop at bytes)
 unfoldable pub u32_at : List ℕ → ℕ → ℕ
 u32_at bytes at = little_number 4 (drop at bytes)
 
--- the ELF header, 52 bytes: a 32-bit little-endian RISC-V executable without compressed code, of the
--- soft-float calling convention, with one program header and three section headers
--- (System V ABI, ELF header; RISC-V psABI, e_flags)
-pub record IsHeader (bytes : List ℕ) : Type 0 where
-  pub long : 52 ≤ length bytes
-  pub magic : take 4 bytes ≡ 0x7f ∷ 0x45 ∷ 0x4c ∷ 0x46 ∷ []
-  pub class : u8_at bytes 4 ≡ 1
-  pub endian : u8_at bytes 5 ≡ 1
-  pub ident_version : u8_at bytes 6 ≡ 1
-  pub kind : u16_at bytes 16 ≡ 2
-  pub machine : u16_at bytes 18 ≡ 243
-  pub version : u32_at bytes 20 ≡ 1
-  pub flags : u32_at bytes 36 % 16 ≡ 0
-  pub header_size : u16_at bytes 40 ≡ 52
-  pub program_header_size : u16_at bytes 42 ≡ 32
-  pub program_headers : u16_at bytes 44 ≡ 1
-  pub section_header_size : u16_at bytes 46 ≡ 40
-  pub section_headers : u16_at bytes 48 ≡ 3
+-- the offsets of the entries of a table: as many as `count`, `size` bytes each
+abbrev pub entries : (from size count : ℕ) → List ℕ
+entries from size zero = []
+entries from size (suc count) = from ∷ entries (from + size) size count
 
--- e_phoff and e_shoff
-abbrev pub program_header_of : List ℕ → ℕ
-program_header_of bytes = u32_at bytes 28
+-- the program headers: e_phnum from e_phoff on
+abbrev pub program_headers : List ℕ → List ℕ
+program_headers bytes = entries (u32_at bytes 28) 32 (u16_at bytes 44)
 
-abbrev pub section_header_of : List ℕ → ℕ → ℕ
-section_header_of bytes i = u32_at bytes 32 + 40 * i
+-- the section headers: e_shnum from e_shoff on
+abbrev pub section_headers : List ℕ → List ℕ
+section_headers bytes = entries (u32_at bytes 32) 40 (u16_at bytes 48)
 
--- both tables end inside the file
-pub record HasTables (bytes : List ℕ) : Type 0 where
-  pub program : program_header_of bytes + 32 ≤ length bytes
-  pub section : u32_at bytes 32 + 120 ≤ length bytes
+-- the program headers whose p_type is PT_LOAD
+abbrev pub loads : List ℕ → List ℕ
+loads bytes = filter (λ at. u32_at bytes at == 1) (program_headers bytes)
 
--- the program header at an offset: PT_LOAD, without PF_W, as long in the file as in memory, in the file
--- and in the address space (System V ABI, program header)
-pub record IsSegmentAt (bytes : List ℕ) (at : ℕ) : Type 0 where
-  pub kind : u32_at bytes at ≡ 1
-  pub fixed : u32_at bytes (at + 24) / 2 % 2 ≡ 0
-  pub whole : u32_at bytes (at + 16) ≡ u32_at bytes (at + 20)
-  pub in_file : u32_at bytes (at + 4) + u32_at bytes (at + 16) ≤ length bytes
+-- the bytes of a PT_LOAD header (p_filesz from p_offset on) are no more than its memory (p_memsz from p_vaddr
+-- on), lie in the file, and its memory lies below 2^32
+pub record IsPlaced (bytes : List ℕ) (at : ℕ) : Type 0 where
+  pub sizes : u32_at bytes (at + 16) ≤ u32_at bytes (at + 20)
+  pub in_file : 0 < u32_at bytes (at + 16) → u32_at bytes (at + 4) + u32_at bytes (at + 16) ≤ length bytes
   pub in_space : u32_at bytes (at + 8) + u32_at bytes (at + 20) ≤ 2 ^ 32
 
--- the section headers: the empty one, the symbol table of two symbols, its string table, both in the file
--- (System V ABI, section header: sh_type, sh_offset, sh_size, sh_link, sh_entsize)
-pub record AreSections (bytes : List ℕ) : Type 0 where
-  pub null : u32_at bytes (section_header_of bytes 0 + 4) ≡ 0
-  pub symbols : u32_at bytes (section_header_of bytes 1 + 4) ≡ 2
-  pub symbols_link : u32_at bytes (section_header_of bytes 1 + 24) ≡ 2
-  pub symbols_entry : u32_at bytes (section_header_of bytes 1 + 36) ≡ 16
-  pub symbols_size : u32_at bytes (section_header_of bytes 1 + 20) ≡ 32
-  pub symbols_in_file : u32_at bytes (section_header_of bytes 1 + 16) + 32 ≤ length bytes
-  pub strings : u32_at bytes (section_header_of bytes 2 + 4) ≡ 3
-  pub strings_in_file : u32_at bytes (section_header_of bytes 2 + 16) + u32_at bytes (section_header_of bytes 2 + 20) ≤ length bytes
+-- an address of the memory of a program header
+pub record InMemory (bytes : List ℕ) (at address : ℕ) : Type 0 where
+  pub from : u32_at bytes (at + 8) ≤ address
+  pub below : address < u32_at bytes (at + 8) + u32_at bytes (at + 20)
 
--- symbol i of the table, 16 bytes
-abbrev pub symbol_of : List ℕ → ℕ → ℕ
-symbol_of bytes i = u32_at bytes (section_header_of bytes 1 + 16) + 16 * i
+-- the memories of two program headers share no address
+pub record AreApart (bytes : List ℕ) (first second : ℕ) : Type 0 where
+  pub apart : (address : ℕ) → InMemory bytes first address → InMemory bytes second address → ⊥
 
--- the string table from a name's place on
-abbrev pub strings_from : List ℕ → ℕ → List ℕ
-strings_from bytes name =
-    drop name (take (u32_at bytes (section_header_of bytes 2 + 20)) (drop (u32_at bytes (section_header_of bytes 2 + 16)) bytes))
+-- the header of the symbol table: of the first section whose sh_type is SHT_SYMTAB
+unfoldable pub symbol_table : List ℕ → Option ℕ
+symbol_table bytes = find (λ at. u32_at bytes (at + 4) == 2) (section_headers bytes)
 
--- the range of the function symbol at an offset is aligned, not empty, and inside the segment
-pub record IsRangeAt (bytes : List ℕ) (at : ℕ) : Type 0 where
-  pub entry_aligned : u32_at bytes (at + 4) % 4 ≡ 0
-  pub size_aligned : u32_at bytes (at + 8) % 4 ≡ 0
-  pub not_empty : u32_at bytes (at + 8) ≢ 0
-  pub from_segment : u32_at bytes (program_header_of bytes + 8) ≤ u32_at bytes (at + 4)
-  pub in_segment : u32_at bytes (at + 4) + u32_at bytes (at + 8)
-      ≤ u32_at bytes (program_header_of bytes + 8) + u32_at bytes (program_header_of bytes + 20)
+-- the symbol table has entries of 16 bytes, ends with one, and lies in the file (sh_entsize, sh_size, sh_offset)
+pub record IsTable (bytes : List ℕ) (table : ℕ) : Type 0 where
+  pub entry_size : u32_at bytes (table + 36) ≡ 16
+  pub whole : u32_at bytes (table + 20) % 16 ≡ 0
+  pub in_file : u32_at bytes (table + 16) + u32_at bytes (table + 20) ≤ length bytes
 
--- symbol 0 is undefined and has no name; symbol 1 is a defined FUNC, its name ended by a 0 byte
--- (System V ABI, symbol table)
-pub record AreSymbols (bytes : List ℕ) : Type 0 where
-  pub no_name : u32_at bytes (symbol_of bytes 0) ≡ 0
-  pub undefined : u16_at bytes (symbol_of bytes 0 + 14) ≡ 0
-  pub defined : u16_at bytes (symbol_of bytes 1 + 14) ≢ 0
-  pub function : u8_at bytes (symbol_of bytes 1 + 12) % 16 ≡ 2
-  pub ended : Contains (strings_from bytes (u32_at bytes (symbol_of bytes 1))) 0
-  pub range : IsRangeAt bytes (symbol_of bytes 1)
+-- the header of the section that sh_link of the symbol table names: its string table
+abbrev pub string_table : List ℕ → (table : ℕ) → ℕ
+string_table bytes table = u32_at bytes 32 + 40 * u32_at bytes (table + 24)
 
--- the file has one of the accepted forms
-pub record IsExecutable (bytes : List ℕ) : Type 0 where
-  pub header : IsHeader bytes
-  pub tables : HasTables bytes
-  pub segment : IsSegmentAt bytes (program_header_of bytes)
-  pub sections : AreSections bytes
-  pub symbols : AreSymbols bytes
+-- there is such a section, its sh_type is SHT_STRTAB, and it lies in the file
+pub record HasStrings (bytes : List ℕ) (table : ℕ) : Type 0 where
+  pub linked : u32_at bytes (table + 24) < u16_at bytes 48
+  pub strings : u32_at bytes (string_table bytes table + 4) ≡ 3
+  pub in_file : u32_at bytes (string_table bytes table + 16) + u32_at bytes (string_table bytes table + 20) ≤ length bytes
 
--- the segment of a program header
+-- the entries of the symbol table, undefined ones and the first one too
+abbrev pub symbols : List ℕ → (table : ℕ) → List ℕ
+symbols bytes table = entries (u32_at bytes (table + 16)) 16 (u32_at bytes (table + 20) / 16)
+
+-- the string table from a place on
+abbrev pub strings_from : List ℕ → (table name : ℕ) → List ℕ
+strings_from bytes table name =
+    drop name (take (u32_at bytes (string_table bytes table + 20)) (drop (u32_at bytes (string_table bytes table + 16)) bytes))
+
+-- the name of a symbol (st_name) is ended by a 0 byte inside the string table
+abbrev pub IsEnded : List ℕ → (table at : ℕ) → Type 0
+IsEnded bytes table at = Contains (strings_from bytes table (u32_at bytes at)) 0
+
+-- what the file keeps of each kind at an offset; where it doesn't, it has a fault of that kind at that offset
+abbrev pub Keeps : List ℕ → ElfKind → (at : ℕ) → Type 0
+Keeps bytes Short at = at ≡ length bytes → 52 ≤ length bytes
+Keeps bytes Magic at = at < 4 → u8_at bytes at ≡ slice_index (0x7f ∷ 0x45 ∷ 0x4c ∷ 0x46 ∷ []) at
+Keeps bytes Class at = at ≡ 4 → u8_at bytes 4 ≡ 1
+Keeps bytes Endian at = at ≡ 5 → u8_at bytes 5 ≡ 1
+Keeps bytes Version at = (at ≡ 6 → u8_at bytes 6 ≡ 1) × (at ≡ 20 → u32_at bytes 20 ≡ 1)
+Keeps bytes Kind at = at ≡ 16 → u16_at bytes 16 ≡ 2
+Keeps bytes Machine at = at ≡ 18 → u16_at bytes 18 ≡ 243
+Keeps bytes Flags at = at ≡ 36 → u32_at bytes 36 % 16 ≡ 0
+Keeps bytes HeaderSize at =
+    (at ≡ 40 → u16_at bytes 40 ≡ 52) × (at ≡ 42 → 0 < u16_at bytes 44 → u16_at bytes 42 ≡ 32)
+    × (at ≡ 46 → 0 < u16_at bytes 48 → u16_at bytes 46 ≡ 40)
+Keeps bytes Table at =
+    (at ≡ 28 → u32_at bytes 28 + 32 * u16_at bytes 44 ≤ length bytes)
+    × (at ≡ 32 → u32_at bytes 32 + 40 * u16_at bytes 48 ≤ length bytes)
+Keeps bytes SegmentRange at = Contains (loads bytes) at → IsPlaced bytes at
+Keeps bytes SegmentOverlap at =
+    Contains (loads bytes) at → (earlier : ℕ) → Contains (loads bytes) earlier → earlier < at → AreApart bytes earlier at
+Keeps bytes NoSymbols at = at ≡ 32 → IsSome (symbol_table bytes)
+Keeps bytes SymbolTable at = symbol_table bytes ≡ Some at → IsTable bytes at
+Keeps bytes StringTable at =
+    (symbol_table bytes ≡ Some at → HasStrings bytes at)
+    × ((table : ℕ) → symbol_table bytes ≡ Some table → HasStrings bytes table → Contains (symbols bytes table) at → IsEnded bytes table at)
+
+-- the place of each kind in the order in which they are tried
+abbrev pub rank : ElfKind → ℕ
+rank Short = 1
+rank Magic = 2
+rank Class = 3
+rank Endian = 4
+rank Version = 5
+rank Kind = 6
+rank Machine = 7
+rank Flags = 8
+rank HeaderSize = 9
+rank Table = 10
+rank SegmentRange = 11
+rank SegmentOverlap = 12
+rank NoSymbols = 13
+rank SymbolTable = 14
+rank StringTable = 15
+
+-- the file is refused for this reason at this offset: for its first fault, first by kind, then by offset
+pub record IsRefusedFile (bytes : List ℕ) (kind : ElfKind) (offset : ℕ) : Type 0 where
+  pub fault : Keeps bytes kind offset → ⊥
+  pub first : (earlier : ElfKind) → rank earlier < rank kind → (at : ℕ) → Keeps bytes earlier at
+  pub lowest : (at : ℕ) → at < offset → Keeps bytes kind at
+
+-- the segment of a PT_LOAD header
 abbrev pub segment_at : List ℕ → ℕ → Segment
 segment_at bytes at = record {
   vaddr = u32_at bytes (at + 8);
@@ -114,26 +141,28 @@ segment_at bytes at = record {
   bytes = take (u32_at bytes (at + 16)) (drop (u32_at bytes (at + 4)) bytes);
 }
 
--- the symbol of an entry of the table
-abbrev pub symbol_at : List ℕ → ℕ → Symbol
-symbol_at bytes at = record {
-  name = before_first (λ b. b == 0) (strings_from bytes (u32_at bytes at));
+-- the symbol of an entry: its name ends before the 0 byte
+abbrev pub symbol_at : List ℕ → (table at : ℕ) → Symbol
+symbol_at bytes table at = record {
+  name = before_first (λ b. b == 0) (strings_from bytes table (u32_at bytes at));
   value = u32_at bytes (at + 4);
   size = u32_at bytes (at + 8);
   kind = u8_at bytes (at + 12) % 16;
 }
 
+-- the defined symbols of a symbol table: those whose st_shndx isn't SHN_UNDEF
+abbrev pub defined_symbols : List ℕ → Option ℕ → List Symbol
+defined_symbols bytes None = []
+defined_symbols bytes (Some table) =
+    map (symbol_at bytes table) (filter (λ at. not (u16_at bytes (at + 14) == 0)) (symbols bytes table))
+
 unfoldable pub image_of : List ℕ → Image
 image_of bytes = record {
-  segments = segment_at bytes (program_header_of bytes) ∷ [];
-  symbols = symbol_at bytes (symbol_of bytes 1) ∷ [];
+  segments = map (segment_at bytes) (loads bytes);
+  symbols = defined_symbols bytes (symbol_table bytes);
 }
 
--- the bytes are an executable, and this is its image
+-- the bytes are an executable, which has no fault, and this is its image
 pub record IsElf (bytes : List ℕ) (image : Image) : Type 0 where
-  pub accepted : IsExecutable bytes
+  pub accepted : (kind : ElfKind) (at : ℕ) → Keeps bytes kind at
   pub image_is : image ≡ image_of bytes
-
--- the file is refused for this reason, at this offset
-abbrev pub IsRefusedFile : (bytes : List ℕ) → ElfKind → (offset : ℕ) → Type 0
-IsRefusedFile bytes Later offset = (offset ≡ 0) × (IsExecutable bytes → ⊥)

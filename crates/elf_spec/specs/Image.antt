@@ -1,6 +1,8 @@
 -- What an executable holds that the claim reads: its loaded segments and its defined symbols.
-use Rattle.std.specs.Prelude.{ℕ, ◌-◌, ◌/◌, ◌%◌, ◌==◌, ◌&&◌, nat_le, max, bytes_eq, Bool, if◌then◌else◌, List, [], ◌∷◌, map, filter, codes, slice_get, Option, Some, None, unwrap_or}
+use Rattle.std.specs.Prelude.{ℕ, ◌-◌, ◌/◌, ◌%◌, ◌==◌, ◌&&◌, not, nat_le, max, bytes_eq, Bool, if◌then◌else◌, List, [], ◌∷◌, map, filter, find, codes, slice_get, Option, Some, None, unwrap_or}
 use Rattle.std.specs.Option.{option_or}
+use Rattle.elf_spec.specs.declared.Named.{Named}
+use Rattle.elf_spec.specs.declared.Named.TheVariants.{Absent, One, Two}
 
 -- a PT_LOAD segment: its p_vaddr, p_memsz and p_flags, and the p_filesz bytes of the file (System V ABI, program header)
 pub record Segment : Type 0 where
@@ -63,6 +65,23 @@ entry_of image name = first_of (values_of function_kind name image)
 -- where the global of a name stands: the value of its first OBJECT symbol
 unfoldable pub object_of : Image → List ℕ → Option ℕ
 object_of image name = first_of (values_of object_kind name image)
+
+abbrev pub named_beside : ℕ → Option ℕ → Named
+named_beside value None = One value
+named_beside value (Some other) = Two value other
+
+-- the first value, and the first other one
+abbrev pub named_of : List ℕ → Named
+named_of [] = Absent
+named_of (value ∷ values) = named_beside value (find (λ other. not (other == value)) values)
+
+-- the functions of a name: FUNC symbols, by their values
+unfoldable pub function_named : Image → List ℕ → Named
+function_named image name = named_of (values_of function_kind name image)
+
+-- the globals of a name: OBJECT symbols, by their values
+unfoldable pub object_named : Image → List ℕ → Named
+object_named image name = named_of (values_of object_kind name image)
 
 abbrev pub size_among : List Symbol → ℕ → Option ℕ
 size_among [] entry = None

@@ -1,6 +1,6 @@
 -- The tokens of a text, its limit, and what stands next.
-use Rattle.std.proofs.Common.{◌≡◌, ℕ, Bool, true, false, List, [], ◌∷◌, ◌++◌, Result, Ok, Err, refl, ap, sym, ◌∙◌, subst, append_assoc, IsTrue, cond}
-use Rattle.exact_read.specs.Reading.{Fault, Deep, Wrong, Outcome, Reader, Marks, plains, Within, limit, Stops}
+use Rattle.std.proofs.Common.{◌≡◌, Bool, true, false, List, [], ◌∷◌, ◌++◌, Ok, Err, refl, ap, sym, cond}
+use Rattle.exact_read.specs.Reading.{Fault, Deep, Outcome, Reader, Marks, plains, Within, limit, Stops}
 use Rattle.exact_read.specs.Grammar.{bind}
 
 pub plains-append : {T U : Type 0} (marks : Marks T U) (left right : List U) → plains marks (left ++ right) ≡ plains marks left ++ plains marks right

@@ -3,7 +3,7 @@ use Rattle.std.proofs.Common.{◌≡◌, ℕ, Bool, true, false, List, [], ◌�
 use Rattle.std.specs.Prelude.{◌==◌, ◌&&◌, nat_le, if◌then◌else◌}
 use Rattle.exact_read.specs.Reading.{Reader, Marks, plains, Stops}
 use Rattle.exact_read.specs.Exact.{Exact}
-use Rattle.exact_read.specs.Grammar.{anything, read_one, One, read_many, Many, none, some, read_then, Then, stop_then, read_whole}
+use Rattle.exact_read.specs.Grammar.{anything, read_one, One, read_many, Many, none, read_then, Then, read_whole}
 use Rattle.exact_read.proofs.Parts.{exact-one, exact-same, stops_anything}
 use Rattle.exact_read.proofs.Then.{Joins, exact-then}
 use Rattle.exact_read.proofs.Many.{Items, exact-many}

@@ -1,8 +1,11 @@
 pub mod Basics
+pub mod Within
 pub mod Then
 pub mod Parts
 pub mod Whole
 pub mod Many
+pub mod Stop
+pub mod Folds
 pub mod Times
 pub mod Lists
 pub mod Trailing

@@ -1,10 +1,10 @@
 -- Lists with a separator are read exactly.
-use Rattle.std.proofs.Common.{◌≡◌, ℕ, Bool, true, false, List, [], ◌∷◌, ◌++◌, Option, Some, None, refl, sym, ap, ◌∙◌, subst, IsTrue, cond, ◌||◌, ◌&&◌, not}
+use Rattle.std.proofs.Common.{◌≡◌, Bool, true, false, List, [], ◌∷◌, ◌++◌, Some, None, refl, sym, ap, ◌∙◌, subst, IsTrue, cond, ◌||◌, ◌&&◌, not}
 use Rattle.exact_read.specs.Reading.{Reader, Marks, plains, Stops}
 use Rattle.exact_read.specs.Exact.{Exact}
-use Rattle.exact_read.specs.Grammar.{anything, class_of, read_one, One, read_map, Map, read_many, Many, none, some, stop_many, context_after, read_then, Then, stop_then, read_next_item, NextItem, read_separated, Separated}
+use Rattle.exact_read.specs.Grammar.{anything, class_of, read_many, Many, none, some, read_next_item, NextItem, read_separated, Separated}
 use Rattle.exact_read.proofs.Parts.{exact-one, exact-map, exact-same, stops_anything}
-use Rattle.exact_read.proofs.Then.{Joins, exact-then}
+use Rattle.exact_read.proofs.Then.{exact-then}
 use Rattle.exact_read.proofs.Many.{Items, exact-many}
 
 -- what a list asks: a separator can stand where an item ends, and there is a separator and an item

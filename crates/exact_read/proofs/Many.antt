@@ -1,9 +1,9 @@
 -- Items one behind the other are read exactly.
-use Rattle.std.proofs.Common.{◌≡◌, ◌≢◌, ℕ, suc, zero, ◌+◌, ◌≤◌, ◌<◌, arith, length, Bool, true, false, List, [], ◌∷◌, ◌++◌, Result, Ok, Err, refl, ap, sym, ◌∙◌, subst, append_assoc, append-nil, IsTrue, cond, not, ◌&&◌, ◌||◌, length-append}
+use Rattle.std.proofs.Common.{◌≡◌, ℕ, suc, zero, ◌≤◌, arith, length, Bool, true, false, List, [], ◌∷◌, ◌++◌, Ok, Err, refl, ap, sym, ◌∙◌, subst, append_assoc, IsTrue, cond, not, ◌&&◌, ◌||◌, length-append}
 use Rattle.exact_read.specs.Reading.{Fault, Deep, Wrong, Outcome, Reader, Marks, plains, Within, limit, Stops}
-use Rattle.exact_read.specs.Exact.{IsTaken, IsWrong, IsDeep, Exact}
-use Rattle.exact_read.specs.Grammar.{bind, read_at_most, read_many, Many, none, some, context_after, opens, stop_many}
-use Rattle.exact_read.proofs.Basics.{plains-append, plains-two, Within-append, limit-within, limit-over, bind-limit, limit-bind, Stops-other, ok, err, ok_parts, err_parts, err_again}
+use Rattle.exact_read.specs.Exact.{IsTaken, IsDeep, Exact}
+use Rattle.exact_read.specs.Grammar.{bind, read_at_most, read_many, Many, none, some, opens, stop_many}
+use Rattle.exact_read.proofs.Basics.{plains-two, Within-append, limit-within, bind-limit, limit-bind, Stops-other, ok, ok_parts}
 
 -- what the items ask
 pub record Items {T U X C : Type 0} (marks : Marks T U) (starts ends : C → T → Bool) (S : C → X → List U → Type 0) (stop : C → X → T → Bool) (next : C → X → C) : Type 0 where
@@ -71,7 +71,7 @@ ends_true true true h = absurd (cc)
 ends_true true false h = (refl, refl)
 ends_true false s h = absurd (cc)
 
-many_opens : {T U X C : Type 0} {marks : Marks T U} {starts ends : C → T → Bool} {S : C → X → List U → Type 0} {stop : C → X → T → Bool} {next : C → X → C} → Items marks starts ends S stop next
+pub many_opens : {T U X C : Type 0} {marks : Marks T U} {starts ends : C → T → Bool} {S : C → X → List U → Type 0} {stop : C → X → T → Bool} {next : C → X → C} → Items marks starts ends S stop next
     → (context : C) (xs : List X) (text : List U) (rest : List T) → Many next S context xs text → Stops (stop_many starts ends next context xs) rest → Stops (opens starts ends context) (plains marks text ++ rest)
 many_opens {starts = starts} {ends = ends} items context xs text [] (none c) stops = tt
 many_opens {starts = starts} {ends = ends} items context xs text (token ∷ more) (none c) stops = (ends_true (ends context token) (starts context token) stops).0

@@ -1,12 +1,12 @@
 -- Words of a table, which may begin alike, are read exactly.
-use Rattle.std.proofs.Common.{◌≡◌, ℕ, Bool, true, false, List, [], ◌∷◌, ◌++◌, Result, Ok, Err, Option, Some, None, refl, sym, ap, ◌∙◌, subst, IsTrue, cond, append-nil, append_assoc}
+use Rattle.std.proofs.Common.{◌≡◌, Bool, true, false, List, [], ◌∷◌, ◌++◌, Ok, Err, Option, Some, None, refl, sym, ap, ◌∙◌, subst, cond, append_assoc}
 use Rattle.std.specs.Prelude.{map}
 use Rattle.std.specs.Option.{option_map_or}
-use Rattle.exact_read.specs.Reading.{Fault, Deep, Wrong, Outcome, Reader, Marks, plains, Within, limit, Stops}
-use Rattle.exact_read.specs.Exact.{IsTaken, IsWrong, IsDeep, Exact}
+use Rattle.exact_read.specs.Reading.{Deep, Wrong, Outcome, Marks, plains, Within, limit}
+use Rattle.exact_read.specs.Exact.{Exact}
 use Rattle.exact_read.specs.Grammar.{anything, advance, finished, is_empty, read_one_of, In, here, later, OneOf}
 use Rattle.exact_read.proofs.Parts.{stops_anything}
-use Rattle.exact_read.proofs.Basics.{ok, err, ok_parts, err_parts}
+use Rattle.exact_read.proofs.Basics.{err}
 
 -- a table of words: tokens can be told apart, placing a token keeps it, and no word begins another
 pub record IsTable {T U : Type 0} (marks : Marks T U) (place : T → U) (same : T → T → Bool) : Type 0 where

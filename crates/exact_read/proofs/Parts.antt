@@ -1,10 +1,10 @@
 -- The smaller operators are read exactly: nothing, one token, a changed value, one of two parts.
-use Rattle.std.proofs.Common.{◌≡◌, ℕ, Bool, true, false, List, [], ◌∷◌, ◌++◌, Result, Ok, Err, Option, Some, None, refl, ap, sym, ◌∙◌, subst, append_assoc, IsTrue, cond, ◌⊎◌, inl, inr, ◌&&◌, not}
-use Rattle.exact_read.specs.Reading.{Fault, Deep, Wrong, Outcome, Reader, Marks, plains, Within, limit, Stops}
+use Rattle.std.proofs.Common.{◌≡◌, Bool, true, false, List, [], ◌∷◌, ◌++◌, Ok, Err, Option, Some, None, refl, ap, sym, ◌∙◌, subst, IsTrue, cond, ◌⊎◌, inl, inr, ◌&&◌, not}
+use Rattle.exact_read.specs.Reading.{Deep, Wrong, Outcome, Reader, Marks, plains, limit, Stops}
 use Rattle.exact_read.specs.Exact.{IsTaken, IsWrong, IsDeep, Exact}
 use Rattle.std.specs.Option.{option_map_or}
 use Rattle.exact_read.specs.Grammar.{bind, anything, read_nothing, Nothing, nothing, read_one, One, read_map, Map, read_or, Or, first, second, saw, read_peek, Peek}
-use Rattle.exact_read.proofs.Basics.{plains-append, plains-two, Within-append, limit-within, limit-over, bind-limit, limit-bind, Stops-other, ok, err, ok_parts, err_again}
+use Rattle.exact_read.proofs.Basics.{limit-bind, ok, err, ok_parts, err_again}
 
 pub stops_anything : {T : Type 0} (rest : List T) → Stops anything rest
 stops_anything [] = tt

@@ -1,9 +1,10 @@
 -- One part and then another are read exactly where each is.
-use Rattle.std.proofs.Common.{◌≡◌, ℕ, Bool, true, false, List, [], ◌∷◌, ◌++◌, Result, Ok, Err, refl, ap, sym, ◌∙◌, subst, append_assoc, IsTrue}
+use Rattle.std.proofs.Common.{◌≡◌, Bool, List, [], ◌∷◌, ◌++◌, Ok, Err, refl, ap, sym, ◌∙◌, subst, append_assoc, append-nil, ◌⊎◌, inl, inr}
 use Rattle.exact_read.specs.Reading.{Fault, Deep, Wrong, Outcome, Reader, Marks, plains, Within, limit, Stops}
 use Rattle.exact_read.specs.Exact.{IsTaken, IsWrong, IsDeep, Exact}
 use Rattle.exact_read.specs.Grammar.{bind, read_then, Then, stop_then}
-use Rattle.exact_read.proofs.Basics.{plains-append, plains-two, Within-append, limit-within, limit-over, bind-limit, limit-bind, Stops-other}
+use Rattle.exact_read.proofs.Basics.{plains-two, Within-append, limit-within, bind-limit, limit-bind, Stops-other, ok}
+use Rattle.exact_read.proofs.Within.{FirstOver, within_or_over, over-limit}
 
 -- what two parts ask of each other
 pub record Joins {T U X Y : Type 0} (marks : Marks T U) (S1 : X → List U → Type 0) (stop1 : X → T → Bool) (S2 : X → Y → List U → Type 0) (stop2 : X → Y → T → Bool) : Type 0 where
@@ -30,11 +31,11 @@ ended {T} {K} {X} {Y} first second before = by_first (first before) refl
     by_first (Err (fault, rest)) e = early fault rest e
 
 taken_both : {T U K X Y : Type 0} {marks : Marks T U} {entry : T → Bool} {S1 : X → List U → Type 0} {stop1 : X → T → Bool} {S2 : X → Y → List U → Type 0} {stop2 : X → Y → T → Bool} {first : Reader T K X} {second : X → Reader T K Y}
-    (one_is : Exact marks entry S1 stop1 first) (two_is : (x : X) → Exact marks (stop1 x) (S2 x) (stop2 x) (second x))
+    (one_is : Exact marks entry S1 stop1 first) (two_is : (x : X) (left : List U) → S1 x left → Within marks left → Exact marks (stop1 x) (S2 x) (stop2 x) (second x))
     (before : List T) (value : X × Y) (rest : List T) → Stops entry before → Ended first second before (Ok (value, rest)) → IsTaken marks (Then S1 S2) (stop_then stop2) before value rest
 taken_both {marks = marks} {entry = entry} {stop1 = stop1} {first = first} {second = second} one_is two_is before value rest enters (both x middle y more e e') =
     let one = one_is.takes before x middle enters e in
-    let two = (two_is x).takes middle y more one.stops e' in
+    let two = (two_is x one.text one.spells one.within).takes middle y more one.stops e' in
     record {
       text = one.text ++ two.text;
       cut = one.cut ∙ ap (λ t. plains marks one.text ++ t) two.cut ∙ sym (plains-two marks one.text two.text rest);
@@ -44,23 +45,42 @@ taken_both {marks = marks} {entry = entry} {stop1 = stop1} {first = first} {seco
     }
 
 again_both : {T U K X Y : Type 0} {marks : Marks T U} {entry : T → Bool} {S1 : X → List U → Type 0} {stop1 : X → T → Bool} {S2 : X → Y → List U → Type 0} {stop2 : X → Y → T → Bool} {first : Reader T K X} {second : X → Reader T K Y}
-    (one_is : Exact marks entry S1 stop1 first) (two_is : (x : X) → Exact marks (stop1 x) (S2 x) (stop2 x) (second x)) (joins : Joins marks S1 stop1 S2 stop2)
+    (one_is : Exact marks entry S1 stop1 first) (two_is : (x : X) (left : List U) → S1 x left → Within marks left → Exact marks (stop1 x) (S2 x) (stop2 x) (second x)) (joins : Joins marks S1 stop1 S2 stop2)
     (value : X × Y) (text : List U) (rest : List T) → Then S1 S2 value text → Stops (stop_then stop2 value) rest → Stops entry (plains marks text ++ rest) → read_then first second (plains marks text ++ rest) ≡ limit marks text rest (Ok (value, rest))
-again_both {marks = marks} {entry = entry} {stop1 = stop1} {first = first} {second = second} one_is two_is joins value text rest spells stops enters =
-    let right_is : second value.0 (plains marks spells.right ++ rest) ≡ limit marks spells.right rest (Ok (value.1, rest)) =
-    (two_is value.0).again value.1 spells.right rest spells.second stops (joins.ends value.0 value.1 spells.left spells.right rest spells.first spells.second stops) in
-    let same : plains marks text ++ rest ≡ plains marks spells.left ++ (plains marks spells.right ++ rest) =
-    ap (λ t. plains marks t ++ rest) spells.cut ∙ plains-two marks spells.left spells.right rest in
-    let left_is : first (plains marks spells.left ++ (plains marks spells.right ++ rest)) ≡ limit marks spells.left (plains marks spells.right ++ rest) (Ok (value.0, plains marks spells.right ++ rest)) =
-    one_is.again value.0 spells.left (plains marks spells.right ++ rest) spells.first (joins.ends value.0 value.1 spells.left spells.right rest spells.first spells.second stops) (subst (Stops entry) same enters) in
-    ap (read_then first second) same
-    ∙ ap (λ o. bind o (λ x more. bind (second x more) (λ y after. Ok ((x, y), after)))) left_is
-    ∙ bind-limit marks spells.left spells.right rest value.0 (λ x more. bind (second x more) (λ y after. Ok ((x, y), after))) (Ok (value, rest))
-    (ap (λ o. bind o (λ y after. Ok ((value.0, y), after))) right_is ∙ limit-bind marks spells.right rest value.1 (λ y after. Ok ((value.0, y), after)))
-    ∙ ap (λ t. limit marks t rest (Ok (value, rest))) (sym spells.cut)
+again_both {T} {U} {K} {X} {Y} {marks = marks} {entry = entry} {stop1 = stop1} {S2 = S2} {stop2 = stop2} {first = first} {second = second} one_is two_is joins value text rest spells stops enters =
+    by_left (within_or_over marks spells.left)
+  where
+    ends : Stops (stop1 value.0) (plains marks spells.right ++ rest)
+    ends = joins.ends value.0 value.1 spells.left spells.right rest spells.first spells.second stops
+
+    same : plains marks text ++ rest ≡ plains marks spells.left ++ (plains marks spells.right ++ rest)
+    same = ap (λ t. plains marks t ++ rest) spells.cut ∙ plains-two marks spells.left spells.right rest
+
+    left_is : first (plains marks spells.left ++ (plains marks spells.right ++ rest)) ≡ limit marks spells.left (plains marks spells.right ++ rest) (Ok (value.0, plains marks spells.right ++ rest))
+    left_is = one_is.again value.0 spells.left (plains marks spells.right ++ rest) spells.first ends (subst (Stops entry) same enters)
+
+    next : X → Reader T K (X × Y)
+    next x more = bind (second x more) (λ y after. Ok ((x, y), after))
+
+    by_left : Within marks spells.left ⊎ FirstOver marks spells.left → read_then first second (plains marks text ++ rest) ≡ limit marks text rest (Ok (value, rest))
+    by_left (inl w) =
+        let right_is : second value.0 (plains marks spells.right ++ rest) ≡ limit marks spells.right rest (Ok (value.1, rest)) =
+        (two_is value.0 spells.left spells.first w).again value.1 spells.right rest spells.second stops ends in
+        ap (read_then first second) same
+        ∙ ap (λ o. bind o (λ x more. bind (second x more) (λ y after. Ok ((x, y), after)))) left_is
+        ∙ bind-limit marks spells.left spells.right rest value.0 (λ x more. bind (second x more) (λ y after. Ok ((x, y), after))) (Ok (value, rest))
+        (ap (λ o. bind o (λ y after. Ok ((value.0, y), after))) right_is ∙ limit-bind marks spells.right rest value.1 (λ y after. Ok ((value.0, y), after)))
+        ∙ ap (λ t. limit marks t rest (Ok (value, rest))) (sym spells.cut)
+    by_left (inr f) =
+        let goes : limit marks spells.left (plains marks spells.right ++ rest) (ok {K = K} value.0 (plains marks spells.right ++ rest)) ≡ Err (Deep, marks.plain f.last ∷ plains marks f.more ++ (plains marks spells.right ++ rest)) =
+        ap (λ t. limit marks t (plains marks spells.right ++ rest) (ok value.0 (plains marks spells.right ++ rest))) (sym (append-nil spells.left)) ∙ over-limit marks spells.left [] (plains marks spells.right ++ rest) (ok value.0 (plains marks spells.right ++ rest)) f in
+        ap (read_then first second) same
+        ∙ ap (λ o. bind o (λ x more. bind (second x more) (λ y after. Ok ((x, y), after)))) (left_is ∙ goes)
+        ∙ sym (over-limit marks spells.left spells.right rest (Ok (value, rest)) f)
+        ∙ ap (λ t. limit marks t rest (Ok (value, rest))) (sym spells.cut)
 
 wrong_either : {T U K X Y : Type 0} {marks : Marks T U} {entry : T → Bool} {S1 : X → List U → Type 0} {stop1 : X → T → Bool} {S2 : X → Y → List U → Type 0} {stop2 : X → Y → T → Bool} {first : Reader T K X} {second : X → Reader T K Y}
-    (one_is : Exact marks entry S1 stop1 first) (two_is : (x : X) → Exact marks (stop1 x) (S2 x) (stop2 x) (second x)) (joins : Joins marks S1 stop1 S2 stop2)
+    (one_is : Exact marks entry S1 stop1 first) (two_is : (x : X) (left : List U) → S1 x left → Within marks left → Exact marks (stop1 x) (S2 x) (stop2 x) (second x)) (joins : Joins marks S1 stop1 S2 stop2)
     (before : List T) (kind : K) (rest : List T) → Stops entry before → Ended first second before (Err (Wrong kind, rest)) → IsWrong marks (Then S1 S2) (read_then first second) before kind rest
 wrong_either {marks = marks} {entry = entry} {stop1 = stop1} {first = first} {second = second} one_is two_is joins before kind rest enters (early fault more e) =
     let one = one_is.wrongs before kind more enters e in
@@ -76,7 +96,7 @@ wrong_either {marks = marks} {entry = entry} {stop1 = stop1} {first = first} {se
     }
 wrong_either {T = T} {X = X} {marks = marks} {entry = entry} {stop1 = stop1} {first = first} {second = second} one_is two_is joins before kind rest enters (late x middle fault more e e') =
     let one = one_is.takes before x middle enters e in
-    let two = (two_is x).wrongs middle kind more one.stops e' in
+    let two = (two_is x one.text one.spells one.within).wrongs middle kind more one.stops e' in
     let next = λ (v : X) (r : List T). bind (second v r) (λ y after. Ok ((v, y), after)) in
     record {
       front = one.text ++ two.front;
@@ -97,7 +117,7 @@ wrong_either {T = T} {X = X} {marks = marks} {entry = entry} {stop1 = stop1} {fi
     }
 
 deep_either : {T U K X Y : Type 0} {marks : Marks T U} {entry : T → Bool} {S1 : X → List U → Type 0} {stop1 : X → T → Bool} {S2 : X → Y → List U → Type 0} {stop2 : X → Y → T → Bool} {first : Reader T K X} {second : X → Reader T K Y}
-    (one_is : Exact marks entry S1 stop1 first) (two_is : (x : X) → Exact marks (stop1 x) (S2 x) (stop2 x) (second x)) (joins : Joins marks S1 stop1 S2 stop2)
+    (one_is : Exact marks entry S1 stop1 first) (two_is : (x : X) (left : List U) → S1 x left → Within marks left → Exact marks (stop1 x) (S2 x) (stop2 x) (second x)) (joins : Joins marks S1 stop1 S2 stop2)
     (before rest : List T) → Stops entry before → Ended first second before (Err (Deep, rest)) → IsDeep marks (Then S1 S2) before rest
 deep_either {marks = marks} {entry = entry} {stop1 = stop1} {first = first} {second = second} one_is two_is joins before rest enters (early fault more e) =
     let one = one_is.deeps before more enters e in
@@ -116,7 +136,7 @@ deep_either {marks = marks} {entry = entry} {stop1 = stop1} {first = first} {sec
     }
 deep_either {marks = marks} {entry = entry} {stop1 = stop1} {first = first} {second = second} one_is two_is joins before rest enters (late x middle fault more e e') =
     let one = one_is.takes before x middle enters e in
-    let two = (two_is x).deeps middle more one.stops e' in
+    let two = (two_is x one.text one.spells one.within).deeps middle more one.stops e' in
     record {
       front = one.text ++ two.front;
       last = two.last;
@@ -130,13 +150,19 @@ deep_either {marks = marks} {entry = entry} {stop1 = stop1} {first = first} {sec
       spells = record { left = one.text; right = two.front ++ two.last ∷ two.more; cut = append_assoc one.text two.front (two.last ∷ two.more); first = one.spells; second = two.spells };
     }
 
-pub exact-then : {T U K X Y : Type 0} {marks : Marks T U} {entry : T → Bool} {S1 : X → List U → Type 0} {stop1 : X → T → Bool} {S2 : X → Y → List U → Type 0} {stop2 : X → Y → T → Bool} {first : Reader T K X} {second : X → Reader T K Y}
-    (one_is : Exact marks entry S1 stop1 first) (two_is : (x : X) → Exact marks (stop1 x) (S2 x) (stop2 x) (second x)) → Joins marks S1 stop1 S2 stop2
+-- the second part may ask that the first has no token at which too much is open
+pub exact-then_within : {T U K X Y : Type 0} {marks : Marks T U} {entry : T → Bool} {S1 : X → List U → Type 0} {stop1 : X → T → Bool} {S2 : X → Y → List U → Type 0} {stop2 : X → Y → T → Bool} {first : Reader T K X} {second : X → Reader T K Y}
+    (one_is : Exact marks entry S1 stop1 first) (two_is : (x : X) (left : List U) → S1 x left → Within marks left → Exact marks (stop1 x) (S2 x) (stop2 x) (second x)) → Joins marks S1 stop1 S2 stop2
     → Exact marks entry (Then S1 S2) (stop_then stop2) (read_then first second)
-exact-then {marks = marks} {entry = entry} {stop1 = stop1} {first = first} {second = second} one_is two_is joins =
+exact-then_within {marks = marks} {entry = entry} {stop1 = stop1} {first = first} {second = second} one_is two_is joins =
     record {
       takes = λ before value rest enters e. taken_both one_is two_is before value rest enters (subst (Ended first second before) e (ended first second before));
       again = λ value text rest. again_both one_is two_is joins value text rest;
       wrongs = λ before kind rest enters e. wrong_either one_is two_is joins before kind rest enters (subst (Ended first second before) e (ended first second before));
       deeps = λ before rest enters e. deep_either one_is two_is joins before rest enters (subst (Ended first second before) e (ended first second before));
     }
+
+pub exact-then : {T U K X Y : Type 0} {marks : Marks T U} {entry : T → Bool} {S1 : X → List U → Type 0} {stop1 : X → T → Bool} {S2 : X → Y → List U → Type 0} {stop2 : X → Y → T → Bool} {first : Reader T K X} {second : X → Reader T K Y}
+    (one_is : Exact marks entry S1 stop1 first) (two_is : (x : X) → Exact marks (stop1 x) (S2 x) (stop2 x) (second x)) → Joins marks S1 stop1 S2 stop2
+    → Exact marks entry (Then S1 S2) (stop_then stop2) (read_then first second)
+exact-then one_is two_is joins = exact-then_within one_is (λ x left one within. two_is x) joins

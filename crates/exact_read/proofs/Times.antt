@@ -1,10 +1,10 @@
 -- A number of parts of one kind is read exactly.
-use Rattle.std.proofs.Common.{◌≡◌, ℕ, suc, zero, Bool, true, List, [], ◌∷◌, ◌++◌, Result, Ok, Err, refl, ap, sym, ◌∙◌, subst, IsTrue}
-use Rattle.exact_read.specs.Reading.{Fault, Deep, Wrong, Outcome, Reader, Marks, plains, Within, limit, Stops}
+use Rattle.std.proofs.Common.{◌≡◌, ℕ, suc, zero, Bool, List, [], ◌∷◌, ◌++◌, Ok, Err, refl, sym, subst}
+use Rattle.exact_read.specs.Reading.{Outcome, Reader, Marks, plains, Stops}
 use Rattle.exact_read.specs.Exact.{Exact}
-use Rattle.exact_read.specs.Grammar.{bind, read_nothing, Nothing, nothing, read_then, Then, stop_then, read_map, Map, read_times, Times, none, some}
+use Rattle.exact_read.specs.Grammar.{bind, Nothing, nothing, read_then, Then, read_map, Map, read_times, Times, none, some}
 use Rattle.exact_read.proofs.Basics.{plains-two}
-use Rattle.exact_read.proofs.Then.{Joins, exact-then}
+use Rattle.exact_read.proofs.Then.{exact-then}
 use Rattle.exact_read.proofs.Parts.{exact-nothing, exact-map, exact-same}
 
 -- what the parts ask: one part can stand, and each stops where another begins

@@ -1,10 +1,10 @@
 -- Lists whose last separator may be left out are read exactly.
-use Rattle.std.proofs.Common.{◌≡◌, ℕ, Bool, true, false, List, [], ◌∷◌, ◌++◌, Option, Some, None, refl, sym, ap, ◌∙◌, subst, IsTrue, cond, ◌||◌, ◌&&◌, not}
+use Rattle.std.proofs.Common.{◌≡◌, Bool, true, false, List, [], ◌∷◌, ◌++◌, Option, Some, None, refl, sym, ap, ◌∙◌, subst, IsTrue, ◌||◌, ◌&&◌, not}
 use Rattle.exact_read.specs.Reading.{Reader, Marks, plains, Stops}
 use Rattle.exact_read.specs.Exact.{Exact}
-use Rattle.exact_read.specs.Grammar.{anything, class_of, read_one, One, read_map, Map, read_many, Many, none, some, stop_many, opens, read_then, Then, stop_then, list_starts, list_ends, list_next, read_list_part, ListPart, read_list, Listed}
+use Rattle.exact_read.specs.Grammar.{anything, class_of, read_many, Many, none, some, stop_many, opens, list_starts, list_ends, list_next, read_list_part, ListPart, read_list, Listed}
 use Rattle.exact_read.proofs.Parts.{exact-one, exact-map, exact-same, stops_anything}
-use Rattle.exact_read.proofs.Then.{Joins, exact-then}
+use Rattle.exact_read.proofs.Then.{exact-then}
 use Rattle.exact_read.proofs.Many.{Items, exact-many}
 use Rattle.exact_read.proofs.Lists.{Separates, class_passes}
 

@@ -1,11 +1,11 @@
 -- Whole inputs are read exactly.
-use Rattle.std.proofs.Common.{◌≡◌, ◌≢◌, ℕ, Bool, true, false, List, [], ◌∷◌, ◌++◌, Result, Ok, Err, refl, ap, sym, ◌∙◌, subst, append_assoc, append-nil, IsTrue, cond}
-use Rattle.exact_read.specs.Reading.{Fault, Deep, Wrong, Outcome, Reader, Marks, plains, Within, limit, Stops}
-use Rattle.exact_read.specs.Exact.{IsTaken, IsWrong, IsDeep, Exact}
-use Rattle.exact_read.specs.Whole.{IsWhole, IsWrongAt, NoneGoesOn}
-use Rattle.exact_read.specs.Grammar.{bind, anything, at_end, read_whole}
+use Rattle.std.proofs.Common.{◌≡◌, Bool, true, false, List, [], ◌∷◌, ◌++◌, Result, Ok, Err, refl, ap, sym, ◌∙◌, subst, append-nil, cond}
+use Rattle.exact_read.specs.Reading.{Fault, Deep, Wrong, Outcome, Reader, Marks, plains, limit}
+use Rattle.exact_read.specs.Exact.{IsDeep, Exact}
+use Rattle.exact_read.specs.Whole.{IsWhole, IsWrongAt}
+use Rattle.exact_read.specs.Grammar.{anything, at_end, read_whole}
 use Rattle.exact_read.proofs.Parts.{stops_anything}
-use Rattle.exact_read.proofs.Basics.{plains-append, plains-two, Within-append, limit-within, limit-over, bind-limit, limit-bind, Stops-other, ok, err, ok_parts, err_parts, err_again}
+use Rattle.exact_read.proofs.Basics.{limit-within, ok, err, ok_parts, err_parts}
 
 -- a text is never read as one that goes on behind it
 limit_ends : {T U K X : Type 0} (marks : Marks T U) (text : List U) (x y : X) (token : T) (more : List T) (kind : K) → (limit marks text [] (ok {K = K} x []) ≡ ok y (token ∷ more) → ⊥) × (limit marks text [] (ok {K = K} x []) ≡ err (Wrong kind) (token ∷ more) → ⊥) × ((rest : List T) → limit marks text [] (ok {K = K} x []) ≡ err (Wrong kind) rest → ⊥)

@@ -1,6 +1,6 @@
 -- The law of exactness: how a reader relates to a grammar.
-use Rattle.std.specs.Prelude.{◌≡◌, ℕ, Bool, true, false, List, [], ◌∷◌, ◌++◌, Result, Ok, Err}
-use Rattle.exact_read.specs.Reading.{Fault, Deep, Wrong, Outcome, Reader, Marks, plains, Within, limit, Stops}
+use Rattle.std.specs.Prelude.{◌≡◌, Bool, true, List, ◌∷◌, ◌++◌, Ok, Err}
+use Rattle.exact_read.specs.Reading.{Deep, Wrong, Reader, Marks, plains, Within, limit, Stops}
 
 -- what was read: a whole text of the grammar, and behind it a place where the value ends
 pub record IsTaken {T U X : Type 0} (marks : Marks T U) (S : X → List U → Type 0) (stop : X → T → Bool) (before : List T) (value : X) (rest : List T) : Type 0 where

@@ -1,7 +1,7 @@
 -- The operators of grammars: for each the reader, the texts, and where they stop.
-use Rattle.std.specs.Prelude.{◌≡◌, ℕ, map, Bool, true, false, ◌&&◌, ◌||◌, not, if◌then◌else◌, List, [], ◌∷◌, ◌++◌, length, Option, Some, None, Result, Ok, Err, IsTrue, suc, zero}
+use Rattle.std.specs.Prelude.{◌≡◌, ℕ, map, Bool, true, false, ◌&&◌, ◌||◌, not, if◌then◌else◌, List, [], ◌∷◌, ◌++◌, length, Option, Some, None, Result, Ok, Err, suc, zero}
 use Rattle.std.specs.Option.{option_map_or}
-use Rattle.exact_read.specs.Reading.{Fault, Deep, Wrong, Outcome, Reader, Marks, plains, Within, limit, Stops}
+use Rattle.exact_read.specs.Reading.{Fault, Deep, Wrong, Outcome, Reader, Marks}
 
 -- nothing: the value, and no token
 abbrev pub read_nothing : {T K X : Type 0} → X → Reader T K X

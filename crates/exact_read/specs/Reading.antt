@@ -1,5 +1,5 @@
 -- Readers, and the tokens that a grammar places.
-use Rattle.std.specs.Prelude.{◌≡◌, ℕ, Bool, true, false, if◌then◌else◌, IsTrue, List, [], ◌∷◌, ◌++◌, map, Result, Ok, Err}
+use Rattle.std.specs.Prelude.{◌≡◌, Bool, false, if◌then◌else◌, IsTrue, List, [], ◌∷◌, ◌++◌, Result, Err}
 
 -- why a reader stops: a construct is open too deep, or a token is wrong, which is told by a kind
 pub data Fault (K : Type 0) : Type 0 where

@@ -1,5 +1,5 @@
 -- What is said of a whole input.
-use Rattle.std.specs.Prelude.{◌≡◌, Bool, true, false, List, [], ◌∷◌, ◌++◌}
+use Rattle.std.specs.Prelude.{◌≡◌, List, [], ◌∷◌, ◌++◌}
 use Rattle.exact_read.specs.Reading.{Marks, plains, Within}
 
 -- the tokens are a text of the grammar, and too much is open nowhere

@@ -7,8 +7,8 @@ use Rattle.report_text.specs.declared.verdicts.Verdict.TheVariants.{RefusedWords
 abbrev pub verdict_of : Verdict → claim.Verdict
 verdict_of RefusedWords = claim.RefusedWords
 verdict_of (TooLarge quantity) = claim.TooLarge quantity
-verdict_of (RefusedElf kind offset) = claim.RefusedElf kind offset
-verdict_of (RefusedC kind offset) = claim.RefusedC kind offset
-verdict_of (RefusedPair kind name) = claim.RefusedPair kind name
-verdict_of (RefusedCode kind name address) = claim.RefusedCode kind name address
+verdict_of (RefusedElf fault offset) = claim.RefusedElf fault offset
+verdict_of (RefusedC fault offset) = claim.RefusedC fault offset
+verdict_of (RefusedPair fault name) = claim.RefusedPair fault name
+verdict_of (RefusedCode fault name address) = claim.RefusedCode fault name address
 verdict_of (Judged judgements) = claim.Judged (judgements_of judgements.items)

@@ -10,7 +10,7 @@ use c_spec::token::TokenFaultKind;
 use claim_spec::{CodeKind, PairKind, Quantity};
 use elf_spec::ElfKind;
 use std::alloc::{AllocError, Global};
-use tv_base::limits::{C_BYTES, ELF_BYTES};
+use tv_base::limits::{C_BYTES, ELF_BYTES, FUNCTIONS};
 
 /// `limit QUANTITY MAXIMUM`
 fn limit(alloc: Global, quantity: Quantity) -> Result<Vec<u8>, AllocError>
@@ -26,9 +26,36 @@ fn limit(alloc: Global, quantity: Quantity) -> Result<Vec<u8>, AllocError>
             text.extend_from_slice(b"c ")?;
             push_decimal(&mut text, C_BYTES as u64)?;
         }
+        Quantity::Functions => {
+            text.extend_from_slice(b"functions ")?;
+            push_decimal(&mut text, FUNCTIONS as u64)?;
+        }
     }
     text.push(b'\n')?;
     Ok(text)
+}
+
+/// The word of a refusal of an executable.
+fn elf_word(kind: ElfKind) -> &'static [u8]
+    ensures { result.now ≡ claim.elf_word kind }
+{
+    match kind {
+        ElfKind::Short => b"Short",
+        ElfKind::Magic => b"Magic",
+        ElfKind::Class => b"Class",
+        ElfKind::Endian => b"Endian",
+        ElfKind::Version => b"Version",
+        ElfKind::Kind => b"Kind",
+        ElfKind::Machine => b"Machine",
+        ElfKind::Flags => b"Flags",
+        ElfKind::HeaderSize => b"HeaderSize",
+        ElfKind::Table => b"Table",
+        ElfKind::SegmentRange => b"SegmentRange",
+        ElfKind::SegmentOverlap => b"SegmentOverlap",
+        ElfKind::NoSymbols => b"NoSymbols",
+        ElfKind::SymbolTable => b"SymbolTable",
+        ElfKind::StringTable => b"StringTable",
+    }
 }
 
 /// `refused elf KIND at OFFSET`
@@ -36,9 +63,7 @@ fn refused_elf(alloc: Global, kind: ElfKind, offset: usize) -> Result<Vec<u8>, A
     ensures { IfOk result (λ text. text.items ≡ claim.report_of (claim.RefusedElf kind offset)) }
 {
     let mut text = Vec::from_slice(alloc, b"refused elf ")?;
-    match kind {
-        ElfKind::Later => text.extend_from_slice(b"Later")?,
-    }
+    text.extend_from_slice(elf_word(kind))?;
     text.extend_from_slice(b" at ")?;
     push_decimal(&mut text, offset as u64)?;
     text.push(b'\n')?;
@@ -79,18 +104,44 @@ fn refused_c(alloc: Global, kind: SourceKind, offset: usize) -> Result<Vec<u8>, 
     Ok(text)
 }
 
+/// The word of a refusal of a pair.
+fn pair_word(kind: PairKind) -> &'static [u8]
+    ensures { result.now ≡ claim.pair_word kind }
+{
+    match kind {
+        PairKind::NothingListed => b"NothingListed",
+        PairKind::NoSource => b"NoSource",
+        PairKind::NoSymbol => b"NoSymbol",
+    }
+}
+
 /// `refused pair KIND NAME`
 fn refused_pair(alloc: Global, kind: PairKind, name: &[u8]) -> Result<Vec<u8>, AllocError>
     ensures { IfOk result (λ text. text.items ≡ claim.report_of (claim.RefusedPair kind name.now)) }
 {
     let mut text = Vec::from_slice(alloc, b"refused pair ")?;
-    match kind {
-        PairKind::NothingListed => text.extend_from_slice(b"NothingListed")?,
-    }
+    text.extend_from_slice(pair_word(kind))?;
     text.push(b' ')?;
     text.extend_from_slice(name)?;
     text.push(b'\n')?;
     Ok(text)
+}
+
+/// The word of a refusal of code.
+fn code_word(kind: CodeKind) -> &'static [u8]
+    ensures { result.now ≡ claim.code_word kind }
+{
+    match kind {
+        CodeKind::NoFunction => b"NoFunction",
+        CodeKind::Ambiguous => b"Ambiguous",
+        CodeKind::Empty => b"Empty",
+        CodeKind::Writable => b"Writable",
+        CodeKind::Misplaced => b"Misplaced",
+        CodeKind::Undecoded => b"Undecoded",
+        CodeKind::Indirect => b"Indirect",
+        CodeKind::Leaves => b"Leaves",
+        CodeKind::Overlap => b"Overlap",
+    }
 }
 
 /// `refused code KIND NAME at ADDRESS`
@@ -103,9 +154,7 @@ fn refused_code(
     ensures { IfOk result (λ text. text.items ≡ claim.report_of (claim.RefusedCode kind name.now address)) }
 {
     let mut text = Vec::from_slice(alloc, b"refused code ")?;
-    match kind {
-        CodeKind::Later => text.extend_from_slice(b"Later")?,
-    }
+    text.extend_from_slice(code_word(kind))?;
     text.push(b' ')?;
     text.extend_from_slice(name)?;
     text.extend_from_slice(b" at ")?;

@@ -28,12 +28,17 @@ fn reports_each_outcome(rt: HostRuntime) -> Result<(), Fail> {
         (Verdict::TooLarge(Quantity::Elf), 7, "limit elf 16777216\n"),
         (Verdict::TooLarge(Quantity::C), 7, "limit c 4194304\n"),
         (
+            Verdict::TooLarge(Quantity::Functions),
+            7,
+            "limit functions 4096\n",
+        ),
+        (
             Verdict::RefusedElf {
-                kind: ElfKind::Later,
-                offset: 0,
+                kind: ElfKind::SegmentOverlap,
+                offset: 84,
             },
             3,
-            "refused elf Later at 0\n",
+            "refused elf SegmentOverlap at 84\n",
         ),
         (
             Verdict::RefusedC {
@@ -53,12 +58,12 @@ fn reports_each_outcome(rt: HostRuntime) -> Result<(), Fail> {
         ),
         (
             Verdict::RefusedCode {
-                kind: CodeKind::Later,
+                kind: CodeKind::Undecoded,
                 name: Bytes::copied(rt.alloc(), b"f")?,
                 address: 0x0001_abcd,
             },
             3,
-            "refused code Later f at 0001abcd\n",
+            "refused code Undecoded f at 0001abcd\n",
         ),
         (
             Verdict::Judged(judgements(rt.alloc())?),

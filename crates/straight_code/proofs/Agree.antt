@@ -15,10 +15,10 @@ use Rattle.c_spec.specs.Unit.{Unit}
 use Rattle.c_meaning_spec.specs.Run.{More, Back, Place, Bars, c_run, returned, HaveTypes}
 use Rattle.claim_spec.specs.Claim.{Meets, HoldsFixed, Gives, AgreesFrom, run_beside, widened, kept_registers, IsValid}
 use Rattle.claim_spec.specs.Code.{HasCode, itself}
-use Rattle.term_spec.specs.declared.Variable.TheVariants.{Parameter, Entry}
-use Rattle.term_spec.specs.Term.{Term, Of, Test, Truth, Equal, AreWords, value_of, truth_of}
-use Rattle.term_spec.specs.Normal.{normal_test}
-use Rattle.term_spec.proofs.Values.{value-normal_test}
+use Rattle.straight_terms.specs.declared.Variable.TheVariants.{Parameter, Entry}
+use Rattle.straight_terms.specs.Term.{Term, Of, Test, Truth, Equal, AreWords, value_of, truth_of}
+use Rattle.straight_terms.specs.Normal.{normal_test}
+use Rattle.straight_terms.proofs.Values.{value-normal_test}
 use Rattle.straight_code.specs.Straight.{crooked_at, words_before_last}
 use Rattle.straight_code.specs.Decision.{Registers, entry_terms, term_at, terms_from, result_term, result_test, kept_test, tests_of, is_truth, all_true, accepts}
 use Rattle.straight_code.proofs.Stack.{HasStraightCode, has_straight_code, straight_stack}

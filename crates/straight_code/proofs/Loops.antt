@@ -6,9 +6,9 @@ use Rattle.std.proofs.lemmas.List.{take_all, map-append, map-set}
 use Rattle.std.proofs.lemmas.List.Folds.{list_all-map, list_all_at, list_all_more}
 use Rattle.elf_spec.specs.Image.{Image}
 use Rattle.claim_spec.specs.Code.{instr_at}
-use Rattle.term_spec.specs.Term.{Test}
-use Rattle.term_core.specs.declared.term.Term as tree
-use Rattle.term_core.specs.Trees.{term_of}
+use Rattle.straight_terms.specs.Term.{Test}
+use Rattle.straight_terms.specs.declared.term.Term as tree
+use Rattle.straight_terms.specs.Trees.{term_of}
 use Rattle.straight_code.specs.Straight.{is_plain, is_return, crooked_from}
 use Rattle.straight_code.specs.Decision.{Registers, entry_term, entry_terms, put_term, effect_of, terms_from}
 

@@ -12,7 +12,7 @@ use Rattle.c_spec.specs.declared.Operator.TheVariants.{Plus, Minus}
 use Rattle.c_spec.specs.Unit.{Unit}
 use Rattle.c_meaning_spec.specs.Run.{argument, operate, returned, to_unsigned, HaveTypes}
 use Rattle.claim_spec.specs.Claim.{widened}
-use Rattle.term_spec.specs.Term.{Term, value_of, sum_of, difference_of}
+use Rattle.straight_terms.specs.Term.{Term, value_of, sum_of, difference_of}
 use Rattle.straight_code.specs.Decision.{operand_term, result_term}
 use Rattle.straight_code.proofs.Terms.{assignment_of}
 

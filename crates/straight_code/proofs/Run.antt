@@ -14,9 +14,9 @@ use Rattle.rv_spec.proofs.Steps.{fetched, step_arithmetic, step_immediate, step_
 use Rattle.elf_spec.specs.Image.{Image}
 use Rattle.claim_spec.specs.Claim.{HoldsFixed}
 use Rattle.claim_spec.specs.Code.{instr_at}
-use Rattle.term_spec.specs.Term as term
-use Rattle.term_spec.specs.Term.{Assignment, AreWords, value_of}
-use Rattle.term_spec.proofs.Values.{value_below}
+use Rattle.straight_terms.specs.Term as term
+use Rattle.straight_terms.specs.Term.{Assignment, AreWords, value_of}
+use Rattle.straight_terms.proofs.Values.{value_below}
 use Rattle.straight_code.specs.Decision.{Registers, term_at, put_term, effect_of, terms_from}
 use Rattle.straight_code.proofs.Forms.{IsPlain, sum_form, difference_form, immediate_form}
 use Rattle.straight_code.proofs.Fetch.{fetched_is}

@@ -7,8 +7,8 @@ use Rattle.std.specs.Prelude.{nat_le}
 use Rattle.rv_spec.specs.Machine.{Machine, read_register, write_register}
 use Rattle.rv_spec.specs.Step.{next, put}
 use Rattle.rv_spec.proofs.Registers.{read-write_same, read-write_other}
-use Rattle.term_spec.specs.declared.Variable.TheVariants.{Parameter, Entry}
-use Rattle.term_spec.specs.Term.{Term, Of, Constant, Assignment, value_of}
+use Rattle.straight_terms.specs.declared.Variable.TheVariants.{Parameter, Entry}
+use Rattle.straight_terms.specs.Term.{Term, Of, Constant, Assignment, value_of}
 use Rattle.straight_code.specs.Decision.{Registers, entry_term, entry_terms, term_at, put_term}
 
 -- the words with which a machine enters the function

@@ -14,9 +14,9 @@ use Rattle.c_spec.specs.declared.Operator.TheVariants.{Plus, Minus}
 use Rattle.c_spec.specs.Unit.{Unit}
 use Rattle.claim_spec.specs.Code.{instr_at}
 use Rattle.claim_spec.specs.Claim.{kept_registers}
-use Rattle.term_spec.specs.declared.Variable.TheVariants.{Parameter, Entry}
-use Rattle.term_spec.specs.Term.{Term, Of, Constant, Add, Subtract, Test, Truth, Equal}
-use Rattle.term_spec.specs.Normal.{normal_test}
+use Rattle.straight_terms.specs.declared.Variable.TheVariants.{Parameter, Entry}
+use Rattle.straight_terms.specs.Term.{Term, Of, Constant, Add, Subtract, Test, Truth, Equal}
+use Rattle.straight_terms.specs.Normal.{normal_test}
 use Rattle.straight_code.specs.Straight.{words_before_last}
 
 -- what a register holds at the entry: x0 is 0, and x10 and x11 have the two parameters (RISC-V psABI, integer

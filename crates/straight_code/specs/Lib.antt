@@ -1,4 +1,3 @@
 pub mod Straight
 pub mod Decision
-pub mod Refusal
 pub mod Terms

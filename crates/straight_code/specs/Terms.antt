@@ -1,7 +1,7 @@
 -- The terms of the registers, without the pointers of the code.
 use Rattle.std.specs.Prelude.{List, map}
-use Rattle.term_spec.specs.Term.{Term}
-use Rattle.term_core.specs.Trees.{term_of}
+use Rattle.straight_terms.specs.Term.{Term}
+use Rattle.straight_terms.specs.Trees.{term_of}
 use Rattle.straight_code.specs.declared.state.Registers.{Registers}
 
 abbrev pub terms_of : Registers → List Term

@@ -1,27 +1,12 @@
 // The words of the function, and whether they are straight.
 
 ghost use Rattle.std.specs.Prelude.{◌≡◌, ◌+◌, ◌<◌, ◌≤◌, ◌%◌, ◌^◌, ◌==◌, not};
-ghost use Rattle.claim_spec.specs.Code.{instr_at};
+ghost use Rattle.claim_spec.specs.Code.{HasCode, instr_at};
 ghost use Rattle.straight_code.specs.Straight as spec;
 
-use byteorder::{ByteOrder, LittleEndian};
+use decompile::instruction;
 use elf_read::Image;
-use rv_decode::decode;
 use rv_instr::{ArithmeticOperation, ImmediateOperation, Instr, Reg};
-
-// The instruction at an address.
-#[tactic(auto, unfolding(claim_spec::specs::Code::instr_at))]
-pub(crate) fn instruction(image: &Image, address: u32) -> Option<Instr>
-    requires { address + 4 ≤ 2 ^ 32 }
-    ensures { result ≡ instr_at image.now address }
-{
-    let first = image.fixed_byte(address)?;
-    let second = image.fixed_byte(address + 1)?;
-    let third = image.fixed_byte(address + 2)?;
-    let fourth = image.fixed_byte(address + 3)?;
-    let bytes = [first, second, third, fourth];
-    decode(LittleEndian::read_u32(&bytes))
-}
 
 // Whether a write to the register leaves the stack pointer alone.
 fn keeps_stack_pointer(rd: Reg) -> bool
@@ -60,7 +45,7 @@ fn is_return(form: &Instr) -> bool
 }
 
 // The same of the word at an address.
-fn is_plain_at(image: &Image, address: u32) -> bool
+fn is_plain_at(image: &Image<'_>, address: u32) -> bool
     requires { address + 4 ≤ 2 ^ 32 }
     ensures { result ≡ spec.is_plain (instr_at image.now address) }
 {
@@ -70,7 +55,7 @@ fn is_plain_at(image: &Image, address: u32) -> bool
     }
 }
 
-fn is_return_at(image: &Image, address: u32) -> bool
+fn is_return_at(image: &Image<'_>, address: u32) -> bool
     requires { address + 4 ≤ 2 ^ 32 }
     ensures { result ≡ spec.is_return (instr_at image.now address) }
 {
@@ -80,11 +65,9 @@ fn is_return_at(image: &Image, address: u32) -> bool
     }
 }
 
-// The first address of the function at which its code isn't straight.
-pub(crate) fn crooked_word(image: &Image, entry: u32, size: u32) -> Option<u32>
-    requires not_empty { 0 < size }
-    requires in_space { entry + size ≤ 2 ^ 32 }
-    requires aligned { size % 4 ≡ 0 }
+/// The first address of the function at which its code isn't straight.
+pub fn crooked_word(image: &Image<'_>, entry: u32, size: u32) -> Option<u32>
+    requires { HasCode image.now entry size }
     ensures { result ≡ spec.crooked_at image.now entry size }
 {
     let last = size / 4 - 1;

@@ -2,15 +2,15 @@
 
 ghost use Rattle.std.specs.Prelude.{◌≡◌, ◌<◌, IfOk, IsTrue, map, nat_lt};
 ghost use Rattle.std.specs.List.{list_all};
-ghost use Rattle.term_core.specs.Trees.{term_of, test_of};
-ghost use Rattle.term_spec.specs.Normal as form;
+ghost use Rattle.straight_terms.specs.Trees.{term_of, test_of};
+ghost use Rattle.straight_terms.specs.Normal as form;
 ghost use Rattle.straight_code.specs.Decision as spec;
 ghost use Rattle.straight_code.specs.Terms.{terms_of};
 
 use crate::state::Registers;
 use c_spec::{Operand, Operator};
 use std::alloc::{AllocError, Global};
-use term_core::{Term, Test, Variable, normal_test};
+use straight_terms::{Term, Test, Variable, normal_test};
 use thin_source::Unit;
 
 // The return address, and sp, gp, tp and s0 to s11, which a function keeps (RISC-V psABI, integer register

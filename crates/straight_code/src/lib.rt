@@ -1,81 +1,50 @@
 //! The decision on straight code: whether a function of sums and differences does what its C source says.
 //!
-//! [`decide`] answers for one function. Straight code (`specs/Straight.antt`) is ADD, SUB and ADDI, and then
+//! [`crooked_word`] finds where the code of a function isn't straight, and [`decide`] answers for a straight
+//! function. Straight code (`specs/Straight.antt`) is ADD, SUB and ADDI, and then
 //! the return; a term stands for each register. The function is accepted (`specs/Decision.antt`) where the
 //! normal forms of a few equations of terms are true, and then it is valid: its code does what the source
 //! says, in the sense of `claim_spec` (`specs/Claim.antt`), and takes no stack.
 
 #![tactic(auto)]
 
-ghost use Rattle.std.specs.Prelude.{◌≡◌, IfOk, IfErr, IsTrue};
+ghost use Rattle.std.specs.Prelude.{◌≡◌, Some, None, IfOk, IsTrue};
 ghost use Rattle.elf_spec.specs.Image.{entry_of, size_at};
 ghost use Rattle.claim_spec.specs.Claim.{IsValid};
 ghost use Rattle.claim_spec.specs.Code.{HasCode, IsStack};
 ghost use Rattle.straight_code.specs.Straight.{crooked_at};
 ghost use Rattle.straight_code.specs.Decision.{accepts};
-ghost use Rattle.straight_code.specs.Refusal.{IsRefusal};
-ghost use Rattle.straight_code.specs.declared.StraightError.TheVariants.{NoMemory};
 
 mod code;
 mod equations;
 mod registers;
 mod state;
 
-use code::crooked_word;
+pub use code::crooked_word;
 use elf_read::Image;
 use equations::are_true;
 use registers::final_registers;
 use std::alloc::{AllocError, Global};
 use thin_source::Unit;
-use thiserror::Error;
 
-/// Why there is no decision.
-#[derive(Clone, Copy, Debug, PartialEq, Eq, Error)]
-pub enum StraightError {
-    /// The code isn't straight.
-    #[error("no straight code at {address:08x}")]
-    Crooked {
-        /// The address of the first word that isn't of the form.
-        address: u32,
-    },
-    /// There was no memory.
-    #[error("no memory")]
-    NoMemory,
-}
-
-impl From<AllocError> for StraightError {
-    ghost from_gives = { λ _ error. error ≡ NoMemory };
-
-    fn from(_: AllocError) -> Self {
-        StraightError::NoMemory
-    }
-}
-
-/// Whether the function at an entry, with so many bytes of code, is accepted. The function is the one of the
-/// source's name.
+/// Whether the straight function at an entry, with so many bytes of code, is accepted. The function is the one
+/// of the source's name.
 pub fn decide(
     alloc: Global,
-    image: &Image,
+    image: &Image<'_>,
     unit: &Unit,
     entry: u32,
     size: u32,
-) -> Result<bool, StraightError>
+) -> Result<bool, AllocError>
     requires named { entry_of image.now unit.now.name ≡ Some entry }
     requires sized { size_at image.now entry ≡ Some size }
     requires code { HasCode image.now entry size }
-    ensures straight { IfOk result (λ accepted. crooked_at image.now entry size ≡ None) }
+    requires straight { crooked_at image.now entry size ≡ None }
     ensures decided { IfOk result (λ accepted. accepted ≡ accepts image.now unit.now entry size) }
-    ensures refused { IfErr result (λ error. IsRefusal image.now entry size error) }
     ensures stack { IfOk result (λ accepted. IsStack image.now entry 0) }
     ensures valid { IfOk result (λ accepted. IsTrue accepted → IsValid image.now unit.now unit.now.name 0) }
 {
-    if let Some(address) = crooked_word(image, entry, size) {
-        return Err(StraightError::Crooked { address });
-    }
     let registers = final_registers(alloc, image, entry, size)?;
     let accepted = are_true(alloc, unit, &registers)?;
     Ok(accepted)
 }
-
-#[cfg(test)]
-mod tests;

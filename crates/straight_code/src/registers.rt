@@ -3,17 +3,17 @@
 ghost use Rattle.std.specs.Prelude.{◌≡◌, ◌+◌, ◌<◌, ◌≤◌, ◌%◌, ◌^◌, IfOk, OnOk, vec_len};
 ghost use Rattle.straight_code.specs.Decision as spec;
 ghost use Rattle.straight_code.specs.Terms.{terms_of};
-ghost use Rattle.term_core.specs.Trees.{term_of};
-ghost use Rattle.term_spec.specs.Term as tree;
+ghost use Rattle.straight_terms.specs.Trees.{term_of};
+ghost use Rattle.straight_terms.specs.Term as tree;
 ghost use Rattle.rv_spec.specs.Arithmetic.{word};
 ghost use Rattle.claim_spec.specs.Code.{instr_at};
 
-use crate::code::instruction;
 use crate::state::Registers;
+use decompile::instruction;
 use elf_read::Image;
 use rv_instr::{ArithmeticOperation, ImmediateOperation, Instr, Reg};
 use std::alloc::{AllocError, Global};
-use term_core::{Term, Variable};
+use straight_terms::{Term, Variable};
 
 // What a register holds at the entry.
 fn entry_term(register: u8) -> Term
@@ -126,7 +126,12 @@ impl Registers {
 
     // What the word at an address does.
     #[tactic(auto, unfolding(crate::specs::Decision::effect_of))]
-    fn execute_at(&mut self, alloc: Global, image: &Image, address: u32) -> Result<(), AllocError>
+    fn execute_at(
+        &mut self,
+        alloc: Global,
+        image: &Image<'_>,
+        address: u32,
+    ) -> Result<(), AllocError>
         requires { address + 4 ≤ 2 ^ 32 }
         ensures { OnOk result (terms_of self.new ≡ spec.effect_of (instr_at image.now address) (terms_of self.old)) }
     {
@@ -140,7 +145,7 @@ impl Registers {
 // The registers as the straight code of the function returns.
 pub(crate) fn final_registers(
     alloc: Global,
-    image: &Image,
+    image: &Image<'_>,
     entry: u32,
     size: u32,
 ) -> Result<Registers, AllocError>

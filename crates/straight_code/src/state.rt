@@ -2,7 +2,7 @@
 
 ghost use Rattle.std.specs.Prelude.{◌≡◌, vec_len};
 
-use term_core::Term;
+use straight_terms::Term;
 
 // What each of the 32 registers holds.
 #[derive(Drop)]

@@ -1,1 +1,4 @@
+pub mod Memory
+pub mod Values
 pub mod Trees
+pub mod Assignment

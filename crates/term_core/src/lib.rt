@@ -1,18 +1,29 @@
-//! Terms of 32-bit words and tests of them, their values and their normal form.
+//! Terms as trees: their sorts, and what they are worth under an assignment.
 //!
-//! The main type is [`Term`], a tree; a clause speaks of it by `term_of`, the tree without its pointers.
-//! [`normal`] gives exactly the normal form that `term_spec` defines (`specs/Normal.antt`), which is
-//! worth the same as the term under every assignment, and [`normal_test`] does so for tests. What a term
-//! is worth is defined in `specs/Term.antt` of that crate, and [`eval`] computes it.
+//! The main type is [`Term`]; a clause speaks of it by `term_of`, the tree without its pointers.
+//! [`eval`] gives exactly the value that `term_spec` defines (`specs/Value.antt` there), and [`sort`]
+//! exactly the sort (`specs/Sort.antt`), or none where the term is not well sorted. The functions on
+//! operators alone, as [`binary`] and [`sort_of_binary`], serve terms that are kept in another form.
+//! [`laws`] has what holds of every term.
 
 #![tactic(auto)]
 
-mod rules;
+mod assignment;
+pub mod laws;
+mod memory;
+mod sorts;
 mod term;
+mod value;
+mod words;
 
-pub use rules::{normal, normal_test};
-pub use term::{Assignment, Term, Test, eval};
-pub use term_spec::Variable;
+pub use assignment::Assignment;
+pub use memory::Memory;
+pub use sorts::{
+    sort_of_atom, sort_of_binary, sort_of_octonary, sort_of_quaternary, sort_of_ternary,
+    sort_of_unary,
+};
+pub use term::{Term, eval, sort};
+pub use value::{Value, binary, byte_of, octonary, quaternary, ternary, unary};
 
 #[cfg(test)]
 mod tests;

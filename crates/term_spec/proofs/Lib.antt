@@ -1,1 +1,5 @@
-pub mod Values
+pub mod Sorts
+pub mod Words
+pub mod Soundness
+pub mod Variables
+pub mod Same

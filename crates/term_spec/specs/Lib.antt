@@ -1,2 +1,6 @@
 pub mod Term
-pub mod Normal
+pub mod Sort
+pub mod Value
+pub mod Shapes
+pub mod Same
+pub mod Coded

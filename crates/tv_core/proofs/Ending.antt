@@ -1,30 +1,50 @@
 -- The validity theorem, from how a run ends.
-use Rattle.std.proofs.Common.{◌≡◌, ◌≢◌, ◌⊎◌, ℕ, Bool, true, false, List, [], Some, refl, arith, sym, ◌∙◌, subst, inl, inr}
+use Rattle.std.proofs.Common.{◌≡◌, ◌≢◌, ◌⊎◌, ℕ, Bool, true, false, List, [], ◌∷◌, map, Option, Some, None, refl, arith, sym, ◌∙◌, subst, inl, inr}
 use Rattle.std.specs.Prelude.{if◌then◌else◌}
 use Rattle.claim_spec.specs.Verdict.{Verdict, RefusedWords, TooLarge, RefusedElf, RefusedC, RefusedPair, RefusedCode, Judged, Judgement, status_of, report_of, judgements_text, certificate_of}
 use Rattle.tv_base.specs.Writing.{Grows}
-use Rattle.tv_core.specs.Words.{Job, command}
-use Rattle.tv_core.specs.Verdicts.{Judges, elf_refused, no_tokens, c_refused, nothing_listed, code_refused, judged, IsVerdict, elf_large, c_large, within}
-use Rattle.tv_core.specs.Ends.{Told, IsReached, IsOutcome, no_command, commanded, Becomes, LeavesUnder, certificate_name, EndsWith, EndsValid}
+use Rattle.tv_words.specs.Commands.{Command, Prove, Proving, IsCommand}
+use Rattle.tv_core.specs.Verdicts.{Judges, elf_refused, no_tokens, c_refused, too_many, nothing_listed, pair_refused, code_refused, judged, IsVerdict, elf_large, c_large, within}
+use Rattle.tv_core.specs.Ends.{Told, AskFor, IsReached, IsOutcome, no_command, commanded, Becomes, LeavesUnder, certificate_name, EndsWith, EndsValid}
+
+-- what comes of a job, and without one
+pub outcome_of_some : (words : List (List ℕ)) (bytes : Told) (asked : Option Proving) (job : Proving) (verdict : Verdict) → asked ≡ Some job
+    → AskFor words asked → status_of verdict ≢ 2 → IsReached bytes job verdict → IsOutcome words bytes (certificate_name asked) verdict
+outcome_of_some words bytes asked job verdict e command status reached =
+    subst (λ o. IsOutcome words bytes (certificate_name o) verdict) (sym e) (commanded job verdict (subst (AskFor words) e command) status reached)
+
+pub outcome_of_none : (words : List (List ℕ)) (bytes : Told) (asked : Option Proving) → asked ≡ None → AskFor words asked
+    → IsOutcome words bytes (certificate_name asked) RefusedWords
+outcome_of_none words bytes asked e none =
+    subst (λ o. IsOutcome words bytes (certificate_name o) RefusedWords) (sym e) (no_command (subst (AskFor words) e none))
 
 -- the job and what it reached, unless the words are no command
-job_of_outcome : (words : List (List ℕ)) (bytes : Told) (verdict : Verdict) → IsOutcome words bytes verdict
-    → (verdict ≡ RefusedWords) ⊎ ((job : Job) × (command words ≡ Some job) × IsReached bytes job.elf job.source verdict)
-job_of_outcome words bytes verdict (no_command e) = inl refl
-job_of_outcome words bytes verdict (commanded job other e command_given reached) = inr (job, e, reached)
+job_of_outcome : (words : List (List ℕ)) (bytes : Told) (name : List ℕ) (verdict : Verdict) → IsOutcome words bytes name verdict
+    → (verdict ≡ RefusedWords) ⊎ ((job : Proving) × IsCommand words (Prove job) × (name ≡ job.certificate) × IsReached bytes job verdict)
+job_of_outcome words bytes name verdict (no_command e) = inl refl
+job_of_outcome words bytes name verdict (commanded job other command_given status reached) = inr (job, command_given, refl, reached)
 
-one_at_least : (elf c : List ℕ) (verdict : Verdict) (js : List Judgement) → Judges elf c verdict → verdict ≡ Judged js → js ≢ []
-one_at_least elf c verdict js (elf_refused kind offset h) e = λ empty. cc
-one_at_least elf c verdict js (no_tokens image kind offset h k) e = λ empty. cc
-one_at_least elf c verdict js (c_refused image tokens kind offset h k l) e = λ empty. cc
-one_at_least elf c verdict js (nothing_listed image unit h k l m) e = λ empty. cc
-one_at_least elf c verdict js (code_refused image unit name entry size address h k) e = λ empty. cc
-one_at_least elf c verdict js (judged image unit name entry size stack h k l) e = λ empty. cc
+map_of_some : (js : List Judgement) → map (λ j. j.name) js ≢ [] → js ≢ []
+map_of_some [] some e = some refl
+map_of_some (j ∷ js) some e = cc
 
-not_empty : (elf c : List ℕ) (verdict : Verdict) (js : List Judgement) → IsVerdict elf c verdict → verdict ≡ Judged js → js ≢ []
-not_empty elf c verdict js (elf_large h) e = λ empty. cc
-not_empty elf c verdict js (c_large h k) e = λ empty. cc
-not_empty elf c verdict js (within other h k judges) e = one_at_least elf c other js judges e
+one_at_least : (elf c : List ℕ) (functions : Option (List (List ℕ))) (verdict : Verdict) (js : List Judgement) → Judges elf c functions verdict
+    → verdict ≡ Judged js → js ≢ []
+one_at_least elf c functions verdict js (elf_refused fault offset h) e = λ empty. cc
+one_at_least elf c functions verdict js (no_tokens image kind offset h k) e = λ empty. cc
+one_at_least elf c functions verdict js (c_refused image tokens kind offset h k l) e = λ empty. cc
+one_at_least elf c functions verdict js (too_many image unit names h k) e = λ empty. cc
+one_at_least elf c functions verdict js (nothing_listed image unit h) e = λ empty. cc
+one_at_least elf c functions verdict js (pair_refused image unit names kind name h k l m) e = λ empty. cc
+one_at_least elf c functions verdict js (code_refused image unit names kind name address h k) e = λ empty. cc
+one_at_least elf c functions verdict js (judged image unit judgements pairs h) e =
+    let same : judgements ≡ js = cc in subst (λ l. l ≢ []) same (map_of_some judgements pairs.some)
+
+not_empty : (elf c : List ℕ) (functions : Option (List (List ℕ))) (verdict : Verdict) (js : List Judgement) → IsVerdict elf c functions verdict
+    → verdict ≡ Judged js → js ≢ []
+not_empty elf c functions verdict js (elf_large h) e = λ empty. cc
+not_empty elf c functions verdict js (c_large h k) e = λ empty. cc
+not_empty elf c functions verdict js (within other h k judges) e = one_at_least elf c functions other js judges e
 
 -- 0 or 1
 abbrev code_of : Bool → ℕ
@@ -35,38 +55,38 @@ called_valid true e = refl
 called_valid false e = absurd (omega arith)
 
 judged_valid : (words : List (List ℕ)) (bytes : Told) (report_name : List ℕ) (report_before report_now store_before store_now : Told) (js : List Judgement)
-    → (job : Job) → command words ≡ Some job → IsReached bytes job.elf job.source (Judged js) → status_of (Judged js) ≡ 0
+    → (job : Proving) → IsCommand words (Prove job) → IsReached bytes job (Judged js) → status_of (Judged js) ≡ 0
     → Grows report_before report_name (judgements_text js) report_now
-    → Becomes store_before (certificate_name (command words)) (certificate_of js) store_now
+    → Becomes store_before job.certificate (certificate_of js) store_now
     → EndsValid words bytes report_name report_before report_now store_before store_now
 judged_valid words bytes report_name report_before report_now store_before store_now js job job_is reached zero reported stored = record {
   job = job;
   job_is = job_is;
   judgements = js;
   all_called_valid = called_valid _ zero;
-  valid = λ elf c e f. let r = reached elf c e f in (not_empty elf c (Judged js) js r.0 refl, r.1);
+  valid = λ elf c e f. let r = reached elf c e f in (not_empty elf c job.functions (Judged js) js r.0 refl, r.1);
   reported = reported;
-  stored = subst (λ o. Becomes store_before (certificate_name o) (certificate_of js) store_now) job_is stored;
+  stored = stored;
 }
 
 -- status 0 is that of judgements alone
 judgements_in : (verdict : Verdict) → status_of verdict ≡ 0 → (js : List Judgement) × (verdict ≡ Judged js)
 judgements_in RefusedWords zero = absurd (omega arith)
 judgements_in (TooLarge quantity) zero = absurd (omega arith)
-judgements_in (RefusedElf kind offset) zero = absurd (omega arith)
+judgements_in (RefusedElf fault offset) zero = absurd (omega arith)
 judgements_in (RefusedC kind offset) zero = absurd (omega arith)
 judgements_in (RefusedPair kind name) zero = absurd (omega arith)
 judgements_in (RefusedCode kind name address) zero = absurd (omega arith)
 judgements_in (Judged js) zero = (js, refl)
 
-of_judged : (words : List (List ℕ)) (bytes : Told) (report_name : List ℕ) (report_before report_now store_before store_now : Told) (js : List Judgement)
-    → IsOutcome words bytes (Judged js) → status_of (Judged js) ≡ 0 → Grows report_before report_name (judgements_text js) report_now
-    → Becomes store_before (certificate_name (command words)) (certificate_of js) store_now
+of_judged : (words : List (List ℕ)) (bytes : Told) (report_name : List ℕ) (report_before report_now store_before store_now : Told) (name : List ℕ) (js : List Judgement)
+    → IsOutcome words bytes name (Judged js) → status_of (Judged js) ≡ 0 → Grows report_before report_name (judgements_text js) report_now
+    → Becomes store_before name (certificate_of js) store_now
     → EndsValid words bytes report_name report_before report_now store_before store_now
-of_judged words bytes rn rb r sb s js outcome zero reported stored =
-    elim (job_of_outcome words bytes (Judged js) outcome) [
+of_judged words bytes rn rb r sb s name js outcome zero reported stored =
+    elim (job_of_outcome words bytes name (Judged js) outcome) [
       | inl e ↦ cc
-      | inr found ↦ judged_valid words bytes rn rb r sb s js found.0 found.1 found.2 zero reported stored
+      | inr found ↦ judged_valid words bytes rn rb r sb s js found.0 found.1 found.3 zero reported (subst (λ n. Becomes sb n (certificate_of js) s) found.2 stored)
     ]
 
 pub ends_valid : (words : List (List ℕ)) (bytes : Told) (report_name : List ℕ) (report_before report_now store_before store_now : Told) (code : ℕ)
@@ -75,6 +95,6 @@ pub ends_valid : (words : List (List ℕ)) (bytes : Told) (report_name : List �
 ends_valid words bytes rn rb r sb s code ends none =
     let zero : status_of ends.verdict ≡ 0 = sym ends.status_is ∙ none in
     let found = judgements_in ends.verdict zero in
-    of_judged words bytes rn rb r sb s found.0 (subst (IsOutcome words bytes) found.1 ends.outcome) (subst (λ v. status_of v ≡ 0) found.1 zero)
+    of_judged words bytes rn rb r sb s ends.name found.0 (subst (IsOutcome words bytes ends.name) found.1 ends.outcome) (subst (λ v. status_of v ≡ 0) found.1 zero)
     (subst (λ v. Grows rb rn (report_of v) r) found.1 ends.reported)
-    (subst (λ v. LeavesUnder (certificate_name (command words)) v sb s) found.1 ends.stored)
+    (subst (λ v. LeavesUnder ends.name v sb s) found.1 ends.stored)

@@ -1,3 +1,5 @@
-pub mod Judging
-pub mod Reaching
-pub mod Ending
+mod Reaching
+mod Ending
+mod Naming
+mod Sound
+mod Judged

@@ -6,7 +6,7 @@ use Rattle.tv_base.specs.declared.faults.OutsideFault.{OutsideFault}
 use Rattle.tv_base.specs.declared.faults.OutsideFault.TheVariants.{Failed}
 use Rattle.tv_base.specs.Faults.{Rose}
 use Rattle.tv_base.specs.Writing.{Grows, GrowsPartly}
-use Rattle.tv_core.specs.Words.{Job, command}
+use Rattle.tv_words.specs.Commands.{Command, Prove, Proving, IsCommand}
 use Rattle.tv_core.specs.Verdicts.{IsVerdict, IsSound, AreSound}
 
 -- bytes by name, where they are told
@@ -14,15 +14,27 @@ abbrev pub Told : Type 0
 Told = List ℕ → Option (List ℕ)
 
 -- what the two files of a desk come to, where it tells them; and what is called valid there is valid
-abbrev pub IsReached : Told → (elf_name source_name : List ℕ) → Verdict → Type 0
-IsReached bytes elf_name source_name verdict =
-    (elf c : List ℕ) → bytes elf_name ≡ Some elf → bytes source_name ≡ Some c → IsVerdict elf c verdict × IsSound elf c verdict
+abbrev pub IsReached : Told → Proving → Verdict → Type 0
+IsReached bytes job verdict =
+    (elf c : List ℕ) → bytes job.elf ≡ Some elf → bytes job.source ≡ Some c
+    → IsVerdict elf c job.functions verdict × IsSound elf c job.functions verdict
 
--- what the words and the files of a desk come to
-pub data IsOutcome (words : List (List ℕ)) (bytes : Told) : Verdict → Type 0 where
-  no_command : command words ≡ None → IsOutcome words bytes RefusedWords
-  commanded : (job : Job) (verdict : Verdict) → command words ≡ Some job → status_of verdict ≢ 2
-      → IsReached bytes job.elf job.source verdict → IsOutcome words bytes verdict
+-- what the words and the files of a desk come to, and under which name a certificate is written; a run without a
+-- command has the empty name
+pub data IsOutcome (words : List (List ℕ)) (bytes : Told) : (name : List ℕ) → Verdict → Type 0 where
+  no_command : ((command : Command) → IsCommand words command → ⊥) → IsOutcome words bytes [] RefusedWords
+  commanded : (job : Proving) (verdict : Verdict) → IsCommand words (Prove job) → status_of verdict ≢ 2
+      → IsReached bytes job verdict → IsOutcome words bytes job.certificate verdict
+
+-- the words ask for this, or are no command
+abbrev pub AskFor : (words : List (List ℕ)) → Option Proving → Type 0
+AskFor words (Some job) = IsCommand words (Prove job)
+AskFor words None = (command : Command) → IsCommand words command → ⊥
+
+-- the name of the certificate that is asked for; without a command the empty one
+abbrev pub certificate_name : Option Proving → List ℕ
+certificate_name (Some job) = job.certificate
+certificate_name None = []
 
 -- ---- the store
 
@@ -45,11 +57,6 @@ abbrev pub LeavesPartly : (name : List ℕ) → Verdict → (before now : Told) 
 LeavesPartly name (Judged judgements) before now = BecomesPartly before name (certificate_of judgements) now
 LeavesPartly name verdict before now = now ≡ before
 
--- the name of the certificate of a job; none has the empty name
-abbrev pub certificate_name : Option Job → List ℕ
-certificate_name (Some job) = job.certificate
-certificate_name None = []
-
 -- ---- the report
 
 -- the report has grown by a front of its text, and by nothing before the store is done
@@ -69,34 +76,35 @@ pub record IsCausedByEither {T : Type 0} (one_before one_now other_before other_
 -- those of the verdict
 pub record EndsWith (words : List (List ℕ)) (bytes : Told) (status : ℕ) (report_name : List ℕ) (report_before report_now store_before store_now : Told)
     : Type 0 where
+  pub name : List ℕ
   pub verdict : Verdict
-  pub outcome : IsOutcome words bytes verdict
+  pub outcome : IsOutcome words bytes name verdict
   pub status_is : status ≡ status_of verdict
   pub reported : Grows report_before report_name (report_of verdict) report_now
-  pub stored : LeavesUnder (certificate_name (command words)) verdict store_before store_now
+  pub stored : LeavesUnder name verdict store_before store_now
 
 -- at every end the report is a front of its text, which is written when the store is done
 abbrev pub EndsPartly : List (List ℕ) → Told → (report_name : List ℕ) → (report_before report_now store_before store_now : Told) → Type 0
 EndsPartly words bytes report_name report_before report_now store_before store_now =
     (report_now ≡ report_before)
-    ⊎ ((verdict : Verdict) × IsOutcome words bytes verdict
-    × PublishesPartly (certificate_name (command words)) verdict report_name report_before report_now store_before store_now)
+    ⊎ ((name : List ℕ) × (verdict : Verdict) × IsOutcome words bytes name verdict
+    × PublishesPartly name verdict report_name report_before report_now store_before store_now)
 
 -- at every end the store is as before, or holds a front of the certificate under its name
 abbrev pub StoresPartly : List (List ℕ) → Told → (before now : Told) → Type 0
 StoresPartly words bytes before now =
-    (now ≡ before) ⊎ ((verdict : Verdict) × IsOutcome words bytes verdict × LeavesPartly (certificate_name (command words)) verdict before now)
+    (now ≡ before) ⊎ ((name : List ℕ) × (verdict : Verdict) × IsOutcome words bytes name verdict × LeavesPartly name verdict before now)
 
--- The validity theorem, at status 0: the words are a command, at least one function is listed, and of each listed
--- function that is called valid the code does what the C source says, whenever it is called by the convention and the C
+-- The validity theorem, at status 0: the words are a command, at least one function is listed, and of each of these
+-- functions that is called valid the code does what the C source says, whenever it is called by the convention and the C
 -- run breaks no guard; the report is the one that calls all of them valid, and the store has their certificate
 pub record EndsValid (words : List (List ℕ)) (bytes : Told) (report_name : List ℕ) (report_before report_now store_before store_now : Told)
     : Type 0 where
-  pub job : Job
-  pub job_is : command words ≡ Some job
+  pub job : Proving
+  pub job_is : IsCommand words (Prove job)
   pub judgements : List Judgement
   pub all_called_valid : IsTrue (all_valid judgements)
-  pub valid : (elf c : List ℕ) → bytes job.elf ≡ Some elf → bytes job.source ≡ Some c → (judgements ≢ []) × AreSound elf c judgements
+  pub valid : (elf c : List ℕ) → bytes job.elf ≡ Some elf → bytes job.source ≡ Some c → (judgements ≢ []) × AreSound elf c job.functions judgements
   pub reported : Grows report_before report_name (judgements_text judgements) report_now
   pub stored : Becomes store_before job.certificate (certificate_of judgements) store_now
 
@@ -112,4 +120,4 @@ TakesOfTwo bytes elf_name source_name left_before left_now =
 
 abbrev pub TakesLittle : List (List ℕ) → Told → (left_before left_now : Option (List ℕ)) → Type 0
 TakesLittle words bytes left_before left_now =
-    (left_now ≡ left_before) ⊎ ((job : Job) × (command words ≡ Some job) × TakesOfTwo bytes job.elf job.source left_before left_now)
+    (left_now ≡ left_before) ⊎ ((job : Proving) × IsCommand words (Prove job) × TakesOfTwo bytes job.elf job.source left_before left_now)

@@ -1,4 +1,2 @@
-pub mod Words
 pub mod Verdicts
 pub mod Ends
-pub mod Jobs

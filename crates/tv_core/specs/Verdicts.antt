@@ -1,63 +1,117 @@
 -- Which verdict two files come to, and that what it calls valid is valid.
-use Rattle.std.specs.Prelude.{◌≡◌, ◌<◌, ◌≤◌, ℕ, List, [], ◌∷◌, length, map, All, codes, IsTrue, Some, None, ⊤}
-use Rattle.elf_spec.specs.Image.{Image, entry_of, size_at}
+use Rattle.std.specs.Prelude.{◌≡◌, ◌≢◌, ◌<◌, ◌≤◌, ◌++◌, ◌&&◌, not, is_some, ℕ, Bool, List, [], ◌∷◌, length, map, All, codes, IsTrue, Option, Some, None, ⊤}
+use Rattle.elf_spec.specs.Image.{Image, function_named, size_at}
 use Rattle.elf_spec.specs.File.{IsElf, IsRefusedFile}
 use Rattle.elf_spec.specs.declared.ElfKind.{ElfKind}
+use Rattle.elf_spec.specs.declared.Named.TheVariants.{One, Two}
 use Rattle.c_spec.specs.Unit.{Unit, IsC, IsRefusedSource}
 use Rattle.c_spec.specs.declared.SourceKind.{SourceKind}
 use Rattle.c_spec.specs.declared.SourceKind.TheVariants.{Token}
 use Rattle.c_spec.specs.declared.token.TokenFaultKind.{TokenFaultKind}
 use Rattle.c_spec.specs.Lexical.{Placed, AreTokens, IsTokenFault}
-use Rattle.claim_spec.specs.declared.Quantity.TheVariants.{Elf, C}
+use Rattle.claim_spec.specs.declared.Quantity.TheVariants.{Elf, C, Functions}
+use Rattle.claim_spec.specs.declared.PairKind.{PairKind}
 use Rattle.claim_spec.specs.declared.PairKind.TheVariants.{NothingListed}
-use Rattle.claim_spec.specs.declared.CodeKind.TheVariants.{Later}
+use Rattle.claim_spec.specs.declared.CodeKind.{CodeKind}
+use Rattle.claim_spec.specs.declared.CodeKind.TheVariants.{Ambiguous}
 use Rattle.claim_spec.specs.Code.{IsStack}
+use Rattle.claim_spec.specs.Faults.{IsReachFault, ReachesNoFault, IsFirst}
 use Rattle.claim_spec.specs.Claim.{IsValid}
-use Rattle.claim_spec.specs.Verdict.{Verdict, TooLarge, RefusedElf, RefusedC, RefusedPair, RefusedCode, Judged, Judgement, listed, maximum_of}
+use Rattle.claim_spec.specs.Verdict.{Verdict, TooLarge, RefusedElf, RefusedC, RefusedPair, RefusedCode, Judged, Judgement, names_of, pair_fault, first_unpaired, maximum_of}
 use Rattle.straight_code.specs.Straight.{crooked_at}
 use Rattle.straight_code.specs.Decision.{accepts}
 
 abbrev pub HasTokens : List ℕ → Type 0
 HasTokens text = (tokens : List Placed) × AreTokens text tokens
 
--- both files are accepted, and one function is listed: its name, its entry and its size
-pub record Lists (elf c : List ℕ) (image : Image) (unit : Unit) (name : List ℕ) (entry size : ℕ) : Type 0 where
+-- ---- code
+
+-- the code of the function of a name has this fault at this address: its symbols have two values, and it stands at the
+-- second; or it is the first fault of all that the function reaches
+pub data HasCodeFault (image : Image) (name : List ℕ) : CodeKind → (address : ℕ) → Type 0 where
+  ambiguous : (first second : ℕ) → function_named image name ≡ Two first second → HasCodeFault image name Ambiguous second
+  of_reach : (entry : ℕ) (kind : CodeKind) (address : ℕ) → function_named image name ≡ One entry → IsFirst (IsReachFault image entry) kind address
+      → HasCodeFault image name kind address
+
+-- the name is that of the function at an entry, and nothing that it reaches has a fault
+pub record HasSoundCode (image : Image) (name : List ℕ) (entry : ℕ) : Type 0 where
+  pub named : function_named image name ≡ One entry
+  pub sound : ReachesNoFault image entry
+
+abbrev pub IsSoundCode : Image → List ℕ → Type 0
+IsSoundCode image name = (entry : ℕ) × HasSoundCode image name entry
+
+-- the first of these names whose code has a fault, and that fault
+pub record IsFirstCodeFault (image : Image) (names : List (List ℕ)) (kind : CodeKind) (name : List ℕ) (address : ℕ) : Type 0 where
+  pub front : List (List ℕ)
+  pub rest : List (List ℕ)
+  pub split : names ≡ front ++ (name ∷ rest)
+  pub earlier : All (λ other. IsSoundCode image other) front
+  pub fault : HasCodeFault image name kind address
+
+-- the code of the function at an entry is straight, and it is accepted
+abbrev pub is_proved : Image → Unit → (entry size : ℕ) → Bool
+is_proved image unit entry size = not (is_some (crooked_at image entry size)) && accepts image unit entry size
+
+-- what is said of a function with sound code; how much stack it takes is said of a valid one
+pub record IsJudgement (image : Image) (unit : Unit) (judgement : Judgement) : Type 0 where
+  pub entry : ℕ
+  pub size : ℕ
+  pub code : HasSoundCode image judgement.name entry
+  pub sized : size_at image entry ≡ Some size
+  pub decided : judgement.valid ≡ is_proved image unit entry size
+  pub stack : IsTrue judgement.valid → IsStack image entry judgement.stack
+
+-- ---- two files
+
+-- both files are accepted, and these names are to be validated
+pub record Lists (elf c : List ℕ) (functions : Option (List (List ℕ))) (image : Image) (unit : Unit) (names : List (List ℕ)) : Type 0 where
   pub is_elf : IsElf elf image
   pub has_tokens : HasTokens c
   pub is_c : IsC c unit
-  pub listed_is : listed image unit ≡ name ∷ []
-  pub entry_is : entry_of image name ≡ Some entry
-  pub size_is : size_at image entry ≡ Some size
+  pub listed : names ≡ names_of functions image unit
 
--- the verdict on two files within their limits: the first refusal in this order, or a judgement
-pub data Judges (elf c : List ℕ) : Verdict → Type 0 where
-  elf_refused : (kind : ElfKind) (offset : ℕ) → IsRefusedFile elf kind offset → Judges elf c (RefusedElf kind offset)
+-- these are within their limit, at least one, and each has a body and a symbol
+pub record Pairs (elf c : List ℕ) (functions : Option (List (List ℕ))) (image : Image) (unit : Unit) (names : List (List ℕ)) : Type 0 where
+  pub lists : Lists elf c functions image unit names
+  pub within : length names ≤ maximum_of Functions
+  pub some : names ≢ []
+  pub paired : first_unpaired image unit names ≡ None
+
+-- the verdict on two files within their limits: the first refusal in this order, or judgements
+pub data Judges (elf c : List ℕ) (functions : Option (List (List ℕ))) : Verdict → Type 0 where
+  elf_refused : (kind : ElfKind) (offset : ℕ) → IsRefusedFile elf kind offset → Judges elf c functions (RefusedElf kind offset)
   no_tokens : (image : Image) (kind : TokenFaultKind) (offset : ℕ) → IsElf elf image → IsTokenFault c kind offset
-      → Judges elf c (RefusedC (Token kind) offset)
+      → Judges elf c functions (RefusedC (Token kind) offset)
   c_refused : (image : Image) (tokens : List Placed) (kind : SourceKind) (offset : ℕ) → IsElf elf image → AreTokens c tokens
-      → IsRefusedSource c kind offset → Judges elf c (RefusedC kind offset)
-  nothing_listed : (image : Image) (unit : Unit) → IsElf elf image → HasTokens c → IsC c unit → listed image unit ≡ [] → Judges elf c (RefusedPair NothingListed (codes "-"))
-  code_refused : (image : Image) (unit : Unit) (name : List ℕ) (entry size address : ℕ) → Lists elf c image unit name entry size
-      → crooked_at image entry size ≡ Some address → Judges elf c (RefusedCode Later name address)
-  judged : (image : Image) (unit : Unit) (name : List ℕ) (entry size stack : ℕ) → Lists elf c image unit name entry size
-      → crooked_at image entry size ≡ None → IsStack image entry stack
-      → Judges elf c (Judged (record { name = name; valid = accepts image unit entry size; stack = stack } ∷ []))
+      → IsRefusedSource c kind offset → Judges elf c functions (RefusedC kind offset)
+  too_many : (image : Image) (unit : Unit) (names : List (List ℕ)) → Lists elf c functions image unit names
+      → maximum_of Functions < length names → Judges elf c functions (TooLarge Functions)
+  nothing_listed : (image : Image) (unit : Unit) → Lists elf c functions image unit [] → Judges elf c functions (RefusedPair NothingListed (codes "-"))
+  pair_refused : (image : Image) (unit : Unit) (names : List (List ℕ)) (kind : PairKind) (name : List ℕ) → Lists elf c functions image unit names
+      → length names ≤ maximum_of Functions → first_unpaired image unit names ≡ Some name → pair_fault image unit name ≡ Some kind
+      → Judges elf c functions (RefusedPair kind name)
+  code_refused : (image : Image) (unit : Unit) (names : List (List ℕ)) (kind : CodeKind) (name : List ℕ) (address : ℕ) → Pairs elf c functions image unit names
+      → IsFirstCodeFault image names kind name address → Judges elf c functions (RefusedCode kind name address)
+  judged : (image : Image) (unit : Unit) (judgements : List Judgement) → Pairs elf c functions image unit (map (λ j. j.name) judgements)
+      → All (IsJudgement image unit) judgements → Judges elf c functions (Judged judgements)
 
 -- the verdict on two files: the limits come first
-pub data IsVerdict (elf c : List ℕ) : Verdict → Type 0 where
-  elf_large : maximum_of Elf < length elf → IsVerdict elf c (TooLarge Elf)
-  c_large : length elf ≤ maximum_of Elf → maximum_of C < length c → IsVerdict elf c (TooLarge C)
-  within : (verdict : Verdict) → length elf ≤ maximum_of Elf → length c ≤ maximum_of C → Judges elf c verdict → IsVerdict elf c verdict
+pub data IsVerdict (elf c : List ℕ) (functions : Option (List (List ℕ))) : Verdict → Type 0 where
+  elf_large : maximum_of Elf < length elf → IsVerdict elf c functions (TooLarge Elf)
+  c_large : length elf ≤ maximum_of Elf → maximum_of C < length c → IsVerdict elf c functions (TooLarge C)
+  within : (verdict : Verdict) → length elf ≤ maximum_of Elf → length c ≤ maximum_of C → Judges elf c functions verdict
+      → IsVerdict elf c functions verdict
 
--- the listed functions have these judgements, and each that is called valid is valid
-pub record AreSound (elf c : List ℕ) (judgements : List Judgement) : Type 0 where
+-- the functions to validate have these judgements, and each that is called valid is valid
+pub record AreSound (elf c : List ℕ) (functions : Option (List (List ℕ))) (judgements : List Judgement) : Type 0 where
   pub image : Image
   pub unit : Unit
   pub is_elf : IsElf elf image
   pub is_c : IsC c unit
-  pub names : map (λ j. j.name) judgements ≡ listed image unit
+  pub names : map (λ j. j.name) judgements ≡ names_of functions image unit
   pub valid : All (λ j. IsTrue j.valid → IsValid image unit j.name j.stack) judgements
 
-abbrev pub IsSound : (elf c : List ℕ) → Verdict → Type 0
-IsSound elf c (Judged judgements) = AreSound elf c judgements
-IsSound elf c verdict = ⊤
+abbrev pub IsSound : (elf c : List ℕ) (functions : Option (List (List ℕ))) → Verdict → Type 0
+IsSound elf c functions (Judged judgements) = AreSound elf c functions judgements
+IsSound elf c functions verdict = ⊤

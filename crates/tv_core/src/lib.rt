@@ -6,11 +6,12 @@
 //! in `specs/Verdicts.antt`, and what a run leaves in `specs/Ends.antt`.
 #![tactic(auto)]
 
+mod functions;
 mod judge;
+mod listing;
 mod publish;
 mod reach;
 mod running;
-mod words;
 
 pub use running::run;
 

@@ -1,5 +1,6 @@
-ghost use Rattle.std.specs.Prelude.{◌≡◌, ◌⊎◌, ℕ, OnOk, OnErr};
+ghost use Rattle.std.specs.Prelude.{◌≡◌, ◌⊎◌, ℕ, OnOk, IsErrOf};
 ghost use Rattle.claim_spec.specs.Verdict.{certificate_of, report_of};
+ghost use Rattle.tv_base.specs.declared.faults.OutsideFault.TheVariants.{NoMemory};
 ghost use Rattle.tv_base.specs.Faults.{HasCause};
 ghost use Rattle.tv_base.specs.Writing.{Grows, GrowsPartly};
 ghost use Rattle.report_text.specs.Judgements.{judgements_of};
@@ -21,6 +22,7 @@ fn store_certificate<K: Store>(
     ensures part { BecomesPartly (K.held store.old) name.now (certificate_of (judgements_of judgements.now)) (K.held store.new) }
     ensures cause { HasCause (K.faults store.old) (K.faults store.new) result }
     ensures unfailing { OnOk result (K.faults store.new ≡ K.faults store.old) }
+    ensures no_memory { IsErrOf result NoMemory → K.faults store.new ≡ K.faults store.old }
 {
     let text = certificate(alloc, judgements)?;
     store.begin(name)?;
@@ -39,6 +41,7 @@ fn store_verdict<K: Store>(
     ensures part { LeavesPartly name.now (verdict_of verdict.now) (K.held store.old) (K.held store.new) }
     ensures cause { HasCause (K.faults store.old) (K.faults store.new) result }
     ensures unfailing { OnOk result (K.faults store.new ≡ K.faults store.old) }
+    ensures no_memory { IsErrOf result NoMemory → K.faults store.new ≡ K.faults store.old }
 {
     match verdict {
         Verdict::Judged(judgements) => {
@@ -63,6 +66,8 @@ pub(crate) fn publish<R: Sink, K: Store>(
     ensures store_part { LeavesPartly name.now (verdict_of verdict.now) (K.held store.old) (K.held store.new) }
     ensures store_first { (K.faults store.new ≡ K.faults store.old) ⊎ (R.held out.new ≡ R.held out.old) }
     ensures cause { IsCausedByEither (R.faults out.old) (R.faults out.new) (K.faults store.old) (K.faults store.new) result }
+    ensures unfailing { OnOk result ((R.faults out.new ≡ R.faults out.old) × (K.faults store.new ≡ K.faults store.old)) }
+    ensures no_memory { IsErrOf result NoMemory → (R.faults out.new ≡ R.faults out.old) × (K.faults store.new ≡ K.faults store.old) }
 {
     let text = report(alloc, verdict)?;
     store_verdict(alloc, name, verdict, store)?;

@@ -1,23 +1,41 @@
-ghost use Rattle.std.specs.Prelude.{◌≡◌, ◌≢◌, ◌⊎◌, ℕ, List, IfOk, IsErrOf, map, option_map, string_bytes};
-ghost use Rattle.tv_base.specs.declared.faults.OutsideFault.TheVariants.{Failed};
+ghost use Rattle.std.specs.Prelude.{◌≡◌, ◌≢◌, ◌⊎◌, ℕ, List, IfOk, OnOk, OnErr, IsErrOf, map, option_map, string_bytes};
+ghost use Rattle.tv_base.specs.declared.faults.OutsideFault.TheVariants.{Failed, NoMemory};
 ghost use Rattle.tv_base.specs.Faults.{HasCause, Rose};
 ghost use Rattle.report_text.specs.Verdicts.{verdict_of};
-ghost use Rattle.tv_core.specs.Words as spec;
-ghost use Rattle.tv_core.specs.Jobs.{job_of};
-ghost use Rattle.tv_core.specs.Ends.{IsOutcome, EndsWith, EndsPartly, EndsValid, StoresPartly, TakesLittle, certificate_name};
+ghost use Rattle.tv_words.specs.Jobs.{proving_of};
+ghost use Rattle.tv_core.specs.Ends.{AskFor, IsOutcome, EndsWith, EndsPartly, EndsValid, StoresPartly, TakesLittle, certificate_name};
 
 use crate::publish::publish;
 use crate::reach::reach;
-use crate::words::{Job, command};
 use report_text::{Verdict, status};
 use std::alloc::Global;
 use tv_base::{Desk, OutsideFault, Sink, Store};
+use tv_words::{Job, Proving, WordsError, command};
+
+/// What the words ask for, or `None` where they are no command.
+fn asked(alloc: Global, words: &[String]) -> Result<Option<Proving<'_>>, OutsideFault>
+    ensures exact { IfOk result (λ job. AskFor (map string_bytes words.now) (option_map proving_of job)) }
+    ensures memory { OnErr result (IsErrOf result NoMemory) }
+{
+    match command(alloc, words) {
+        Ok(Job::Prove(job)) => Ok(Some(job)),
+        Err(WordsError::Words) => Ok(None),
+        Err(WordsError::NoMemory) => Err(OutsideFault::NoMemory),
+    }
+}
 
 /// What a job comes to, or the words where there is none.
-fn outcome<D: Desk>(alloc: Global, job: &Option<Job>, desk: &mut D) -> Result<Verdict, OutsideFault>
-    ensures exact { IfOk result (λ verdict. (words : List (List ℕ)) → option_map job_of job.now ≡ spec.command words → IsOutcome words (D.bytes desk.old) (verdict_of verdict)) }
-    ensures taken { (words : List (List ℕ)) → option_map job_of job.now ≡ spec.command words → TakesLittle words (D.bytes desk.old) (D.left desk.old) (D.left desk.new) }
+fn outcome<D: Desk>(
+    alloc: Global,
+    job: &Option<Proving<'_>>,
+    desk: &mut D,
+) -> Result<Verdict, OutsideFault>
+    ensures exact { IfOk result (λ verdict. (words : List (List ℕ)) → AskFor words (option_map proving_of job.now)
+        → IsOutcome words (D.bytes desk.old) (certificate_name (option_map proving_of job.now)) (verdict_of verdict)) }
+    ensures taken { (words : List (List ℕ)) → AskFor words (option_map proving_of job.now) → TakesLittle words (D.bytes desk.old) (D.left desk.old) (D.left desk.new) }
     ensures cause { HasCause (D.faults desk.old) (D.faults desk.new) result }
+    ensures unfailing { OnOk result (D.faults desk.new ≡ D.faults desk.old) }
+    ensures no_memory { IsErrOf result NoMemory → D.faults desk.new ≡ D.faults desk.old }
 {
     match job {
         Some(job) => {
@@ -28,9 +46,9 @@ fn outcome<D: Desk>(alloc: Global, job: &Option<Job>, desk: &mut D) -> Result<Ve
     }
 }
 
-/// The name of the certificate of a job; none has the empty name.
-fn name_of<'a>(job: &Option<Job<'a>>) -> &'a str
-    ensures { result.now ≡ certificate_name (option_map job_of job.now) }
+/// The name of the certificate that is asked for; without a command the empty one.
+fn name_of<'a>(job: &Option<Proving<'a>>) -> &'a str
+    ensures { result.now ≡ certificate_name (option_map proving_of job.now) }
 {
     match job {
         Some(job) => job.certificate,
@@ -55,8 +73,12 @@ fn try_run<D: Desk, R: Sink, K: Store>(
     ensures taken { TakesLittle (map string_bytes words.now) (D.bytes desk.old) (D.left desk.old) (D.left desk.new) }
     ensures fault { IsErrOf result Failed → Rose (D.faults desk.old) (D.faults desk.new)
         ⊎ (Rose (R.faults report.old) (R.faults report.new) ⊎ Rose (K.faults certificate.old) (K.faults certificate.new)) }
+    ensures unfailing { OnOk result ((D.faults desk.new ≡ D.faults desk.old)
+        × (R.faults report.new ≡ R.faults report.old) × (K.faults certificate.new ≡ K.faults certificate.old)) }
+    ensures no_memory { IsErrOf result NoMemory → (D.faults desk.new ≡ D.faults desk.old)
+        × (R.faults report.new ≡ R.faults report.old) × (K.faults certificate.new ≡ K.faults certificate.old) }
 {
-    let job = command(words);
+    let job = asked(alloc, words)?;
     let verdict = outcome(alloc, &job, desk)?;
     publish(alloc, name_of(&job), &verdict, report, certificate)?;
     Ok(status(&verdict))
@@ -74,10 +96,11 @@ fn try_run<D: Desk, R: Sink, K: Store>(
 /// | 3 | an input is refused |
 /// | 4 | a read or a write failed |
 /// | 5 | there was no memory |
-/// | 7 | a file is longer than its maximum |
+/// | 7 | a file is longer, or the list has more functions, than the maximum |
 ///
 /// The order of refusals is: the words; reading the executable, then its length; reading the source, then its
-/// length; the executable; the source; the list; the code. Want of memory may come at any growth.
+/// length; the executable; the source; the length of the list; its functions, each in its turn; their code.
+/// Want of memory may come at any growth.
 pub fn run<D: Desk, R: Sink, K: Store>(
     alloc: Global,
     words: &[String],
@@ -100,6 +123,9 @@ pub fn run<D: Desk, R: Sink, K: Store>(
     // A fault is answered only where a count rose.
     ensures fault { result ≡ 4 → Rose (D.faults desk.old) (D.faults desk.new)
         ⊎ (Rose (R.faults report.old) (R.faults report.new) ⊎ Rose (K.faults certificate.old) (K.faults certificate.new)) }
+    // At every other end no count rose: a failure is never answered as something else.
+    ensures counts { result ≢ 4 → (D.faults desk.new ≡ D.faults desk.old)
+        × (R.faults report.new ≡ R.faults report.old) × (K.faults certificate.new ≡ K.faults certificate.old) }
     // Of a file at most one byte more than its maximum is taken.
     ensures taken { TakesLittle (map string_bytes words.now) (D.bytes desk.old) (D.left desk.old) (D.left desk.new) }
 {

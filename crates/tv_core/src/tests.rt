@@ -26,6 +26,8 @@ const SUM: &[u8] = b"unsigned f(unsigned a,unsigned b){return a+b;}";
 
 const COMMAND: &[&str] = &["tv", "prove", "e", "c", "--cert", "o"];
 
+const LISTED: &[&str] = &["tv", "prove", "e", "c", "--cert", "o", "--functions", "f"];
+
 const VALID: &[u8] = b"valid f stack=0\ntotal valid=1 unproved=0\n";
 
 const UNPROVED: &[u8] = b"unproved f\ntotal valid=0 unproved=1\n";
@@ -141,7 +143,7 @@ type Row = (
 
 const REFUSED_WORDS: &[u8] = b"refused words\n";
 
-const ROWS: [Row; 15] = [
+const ROWS: [Row; 21] = [
     (COMMAND, SUM, ADD, 0, VALID, CERTIFICATE),
     (
         COMMAND,
@@ -165,9 +167,9 @@ const ROWS: [Row; 15] = [
         COMMAND,
         SUM,
         &[0x02b5_0533, 0x0000_8067],
-        3,
-        b"refused code Later f at 00010000\n",
-        b"",
+        1,
+        UNPROVED,
+        b"tv-cert 1\nend\n",
     ),
     (
         COMMAND,
@@ -213,32 +215,77 @@ const ROWS: [Row; 15] = [
         UNPROVED,
         b"tv-cert 1\nend\n",
     ),
+    // One less and one more cancel out.
+    (
+        COMMAND,
+        SUM,
+        &[0xfff5_0513, 0x0015_0513, 0x00b5_0533, 0x0000_8067],
+        0,
+        VALID,
+        CERTIFICATE,
+    ),
+    // The stack pointer is changed.
+    (
+        COMMAND,
+        SUM,
+        &[0x00b5_0533, 0xff01_0113, 0x0000_8067],
+        1,
+        UNPROVED,
+        b"tv-cert 1\nend\n",
+    ),
+    // A word has no form; a jump goes to an argument; the return is missing; a call's target is no function.
+    (
+        COMMAND,
+        SUM,
+        &[0x0000_0000, 0x0000_8067],
+        3,
+        b"refused code Undecoded f at 00010000\n",
+        b"",
+    ),
+    (
+        COMMAND,
+        SUM,
+        &[0x0005_0067],
+        3,
+        b"refused code Indirect f at 00010000\n",
+        b"",
+    ),
+    (
+        COMMAND,
+        SUM,
+        &[0x00b5_0533],
+        3,
+        b"refused code Leaves f at 00010000\n",
+        b"",
+    ),
+    (
+        COMMAND,
+        SUM,
+        &[0x0080_00ef, 0x0000_8067],
+        3,
+        b"refused code NoFunction f at 00010000\n",
+        b"",
+    ),
+    (LISTED, SUM, ADD, 0, VALID, CERTIFICATE),
+    (
+        &["tv", "prove", "e", "c", "--cert", "o", "--functions", "f,h"],
+        SUM,
+        ADD,
+        3,
+        b"refused pair NoSource h\n",
+        b"",
+    ),
+    // The executable has no function of the listed name.
+    (
+        &["tv", "prove", "e", "c", "--cert", "o", "--functions", "g"],
+        b"unsigned g(unsigned a,unsigned b){return a+b;}",
+        ADD,
+        3,
+        b"refused pair NoSymbol g\n",
+        b"",
+    ),
     (&["tv"], SUM, ADD, 2, REFUSED_WORDS, b""),
     (&["tv", "prove", "e"], SUM, ADD, 2, REFUSED_WORDS, b""),
-    (
-        &["tv", "prove", "e", "", "--cert", "o"],
-        SUM,
-        ADD,
-        2,
-        REFUSED_WORDS,
-        b"",
-    ),
-    (
-        &["tv", "prove", "e", "c", "--cert", "-o"],
-        SUM,
-        ADD,
-        2,
-        REFUSED_WORDS,
-        b"",
-    ),
-    (
-        &["tv", "prove", "e", "c", "--cert", "o", "p"],
-        SUM,
-        ADD,
-        2,
-        REFUSED_WORDS,
-        b"",
-    ),
     (
         &["tv", "check", "e", "c", "--cert", "o"],
         SUM,
@@ -262,6 +309,99 @@ fn answers_each_pair(rt: HostRuntime) -> Result<(), Fail> {
     Ok(())
 }
 
+/// The executable with a second symbol `f`, whose value is the address of the second word.
+fn of_two_values(alloc: Global) -> Result<Vec<u8>, AllocError> {
+    let mut bytes = Vec::new(alloc);
+    for (place, byte) in ADD_TWO_ARGUMENTS.iter().enumerate() {
+        if place == 124 {
+            bytes.extend_from_slice(&[1, 0, 0, 0, 4, 0, 1, 0, 4, 0, 0, 0, 18, 0, 1, 0])?;
+        }
+        if [32, 188, 224].contains(&place) {
+            bytes.push(byte.wrapping_add(16))?;
+        } else {
+            bytes.push(*byte)?;
+        }
+    }
+    Ok(bytes)
+}
+
+/// The executable with other bytes at these places.
+fn patched(alloc: Global, patches: &[(usize, u8)]) -> Result<Vec<u8>, AllocError> {
+    let mut bytes = Vec::from_slice(alloc, &ADD_TWO_ARGUMENTS)?;
+    for (place, byte) in patches {
+        if *place < bytes.len() {
+            bytes[*place] = *byte;
+        }
+    }
+    Ok(bytes)
+}
+
+// Patches of the executable, and the report: its machine is another; `f` has no bytes; its segment may be written; it
+// begins inside a word, and ends at the end of the segment.
+const PATCHES: [(&[(usize, u8)], &[u8]); 4] = [
+    (&[(18, 8)], b"refused elf Machine at 18\n"),
+    (&[(116, 0)], b"refused code Empty f at 00010000\n"),
+    (&[(76, 7)], b"refused code Writable f at 00010000\n"),
+    (
+        &[(112, 2), (116, 6)],
+        b"refused code Misplaced f at 00010002\n",
+    ),
+];
+
+#[test]
+fn refuses_code_by_its_first_fault(rt: HostRuntime) -> Result<(), Fail> {
+    for (patches, report) in PATCHES {
+        let elf = patched(rt.alloc(), patches)?;
+        let end = run_in_memory(rt.alloc(), COMMAND, elf.as_slice(), SUM, &NONE)?;
+        assert_eq!(rt; end.status, 3);
+        assert_eq!(rt; end.report.as_slice(), report);
+    }
+    let elf = of_two_values(rt.alloc())?;
+    let end = run_in_memory(rt.alloc(), COMMAND, elf.as_slice(), SUM, &NONE)?;
+    assert_eq!(rt;
+        end.report.as_slice(),
+        b"refused code Ambiguous f at 00010004\n".as_slice()
+    );
+    Ok(())
+}
+
+/// So many names, parted by commas.
+fn many_names(alloc: Global, count: usize) -> Result<String, AllocError> {
+    let mut names = String::from_str(alloc, "f")?;
+    for number in 1..count {
+        let name = format!(in alloc; ",f{number}")?;
+        names.push_str(name.as_str())?;
+    }
+    Ok(names)
+}
+
+// How many functions are listed, and how the run ends.
+const LISTS: [(usize, u8, &[u8]); 2] = [
+    (4096, 3, b"refused pair NoSource f1\n"),
+    (4097, 7, b"limit functions 4096\n"),
+];
+
+#[test]
+fn takes_lists_up_to_their_maximum(rt: HostRuntime) -> Result<(), Fail> {
+    for (count, status, report) in LISTS {
+        let names = many_names(rt.alloc(), count)?;
+        let words = [
+            "tv",
+            "prove",
+            "e",
+            "c",
+            "--cert",
+            "o",
+            "--functions",
+            names.as_str(),
+        ];
+        let end = run_in_memory(rt.alloc(), &words, &ADD_TWO_ARGUMENTS, SUM, &NONE)?;
+        assert_eq!(rt; end.status, status);
+        assert_eq!(rt; end.report.as_slice(), report);
+    }
+    Ok(())
+}
+
 /// These bytes, and then as many of this byte as make up the size.
 fn padded(alloc: Global, front: &[u8], byte: u8, size: usize) -> Result<Vec<u8>, AllocError> {
     let mut bytes = Vec::from_slice(alloc, front)?;
@@ -272,8 +412,8 @@ fn padded(alloc: Global, front: &[u8], byte: u8, size: usize) -> Result<Vec<u8>,
 // How many zero bytes the executable has, or none for a true one; how many bytes the source has, by spaces behind it;
 // and how the run ends.
 const SIZES: [(Option<usize>, usize, u8, &[u8]); 5] = [
-    (Some(0), 46, 3, b"refused elf Later at 0\n"),
-    (Some(16_777_216), 46, 3, b"refused elf Later at 0\n"),
+    (Some(0), 46, 3, b"refused elf Short at 0\n"),
+    (Some(16_777_216), 46, 3, b"refused elf Magic at 0\n"),
     (Some(16_777_217), 46, 7, b"limit elf 16777216\n"),
     (None, 4_194_304, 0, VALID),
     (None, 4_194_305, 7, b"limit c 4194304\n"),

@@ -1,5 +1,4 @@
-use Rattle.std.proofs.Common.{◌≡◌, sym, ◌∙◌, rules, None}
-use Rattle.straight_code.specs.Straight.{crooked_at}
+use Rattle.std.proofs.Common.{◌≡◌, sym, ◌∙◌, rules}
 use Rattle.straight_code.specs.Decision.{accepts}
 use Rattle.straight_code.proofs.Stack.{straight_stack}
 use Rattle.straight_code.proofs.Agree.{straight_valid}
@@ -7,11 +6,9 @@ use Rattle.straight_code.proofs.decide.Goals as goal
 
 pub returns-clause-stack : goal.returns-clause-stack
 returns-clause-stack c =
-    let straight : crooked_at c.args.image.now c.args.entry c.args.size ≡ None = search rules in
-    straight_stack c.args.image.now c.args.entry c.args.size c.requires.code c.requires.sized straight
+    straight_stack c.args.image.now c.args.entry c.args.size c.requires.code c.requires.sized c.requires.straight
 
 pub returns-clause-valid : goal.returns-clause-valid
 returns-clause-valid c =
-    let straight : crooked_at c.args.image.now c.args.entry c.args.size ≡ None = search rules in
     let same : c.in_ok-accepted.accepted ≡ accepts c.args.image.now c.args.unit.now c.args.entry c.args.size = search rules in
-    λ yes. straight_valid c.args.image.now c.args.unit.now c.args.entry c.args.size c.requires.named c.requires.sized c.requires.code straight (sym same ∙ yes)
+    λ yes. straight_valid c.args.image.now c.args.unit.now c.args.entry c.args.size c.requires.named c.requires.sized c.requires.code c.requires.straight (sym same ∙ yes)

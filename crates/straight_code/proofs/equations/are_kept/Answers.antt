@@ -1,5 +1,5 @@
 use Rattle.std.proofs.Common.{sym, ◌∙◌, arith}
-use Rattle.term_spec.specs.Normal.{normal_test}
+use Rattle.straight_terms.specs.Normal.{normal_test}
 use Rattle.straight_code.specs.Decision.{is_truth, kept_test}
 use Rattle.straight_code.specs.Terms.{terms_of}
 use Rattle.straight_code.proofs.Loops.{kept_stops}

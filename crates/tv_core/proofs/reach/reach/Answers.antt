@@ -1,6 +1,7 @@
 use Rattle.std.proofs.Common.{◌+◌, ◌≡◌, take, arith, subst}
 use Rattle.std.specs.Prelude.{IfSome}
 use Rattle.report_text.specs.Verdicts.{verdict_of}
+use Rattle.tv_words.specs.Jobs.{proving_of}
 use Rattle.tv_core.specs.Verdicts.{Judges, IsSound}
 use Rattle.tv_core.specs.Ends.{TakesAtMost}
 use Rattle.tv_core.proofs.Reaching.{elf_too_large, c_too_large, files_judged, taken_of_two}
@@ -8,12 +9,12 @@ use Rattle.tv_core.proofs.reach.reach.Goals as goal
 
 pub returns-then-len-gt-ELF_BYTES-clause-reached : goal.returns-then-len-gt-ELF_BYTES-clause-reached
 returns-then-len-gt-ELF_BYTES-clause-reached g c =
-    elf_too_large (g.D.Desk.bytes c.args.desk.now) c.args.job.now.elf.now c.args.job.now.source.now c.in_ok-elf.elf.items
+    elf_too_large (g.D.Desk.bytes c.args.desk.now) (proving_of c.args.job.now) c.in_ok-elf.elf.items
     c.in_ok-elf.ensures.bytes (omega arith)
 
 pub returns-then-len-gt-C_BYTES-clause-reached : goal.returns-then-len-gt-C_BYTES-clause-reached
 returns-then-len-gt-C_BYTES-clause-reached g c =
-    c_too_large (g.D.Desk.bytes c.args.desk.now) c.args.job.now.elf.now c.args.job.now.source.now c.in_ok-elf.elf.items c.in_ok-source.source.items
+    c_too_large (g.D.Desk.bytes c.args.desk.now) (proving_of c.args.job.now) c.in_ok-elf.elf.items c.in_ok-source.source.items
     c.in_ok-elf.ensures.bytes (omega arith)
     (subst (λ b. IfSome (b c.args.job.now.source.now) (λ text. c.in_ok-source.source.items ≡ take (4194304 + 1) text))
     c.in_ok-elf.ensures.same_bytes c.in_ok-source.ensures.bytes)
@@ -28,15 +29,15 @@ returns-in_err-verdict-clause-taken g c =
 
 pub returns-clause-reached : goal.returns-clause-reached
 returns-clause-reached g c =
-    files_judged (g.D.Desk.bytes c.args.desk.now) c.args.job.now.elf.now c.args.job.now.source.now c.in_ok-elf.elf.items c.in_ok-source.source.items
+    files_judged (g.D.Desk.bytes c.args.desk.now) (proving_of c.args.job.now) c.in_ok-elf.elf.items c.in_ok-source.source.items
     (verdict_of c.in_ok-verdict.verdict) c.in_ok-elf.ensures.bytes (omega arith)
     (subst (λ b. IfSome (b c.args.job.now.source.now) (λ text. c.in_ok-source.source.items ≡ take (4194304 + 1) text))
     c.in_ok-elf.ensures.same_bytes c.in_ok-source.ensures.bytes)
     (omega arith)
-    (subst (λ x. Judges c.in_ok-elf.elf.items x (verdict_of c.in_ok-verdict.verdict)) c.as_slice-2.ensures.value
-    (subst (λ x. Judges x c.as_slice-2.result.now (verdict_of c.in_ok-verdict.verdict)) c.as_slice.ensures.value c.in_ok-verdict.ensures.exact))
-    (subst (λ x. IsSound c.in_ok-elf.elf.items x (verdict_of c.in_ok-verdict.verdict)) c.as_slice-2.ensures.value
-    (subst (λ x. IsSound x c.as_slice-2.result.now (verdict_of c.in_ok-verdict.verdict)) c.as_slice.ensures.value c.in_ok-verdict.ensures.sound))
+    (subst (λ x. Judges c.in_ok-elf.elf.items x (proving_of c.args.job.now).functions (verdict_of c.in_ok-verdict.verdict)) c.as_slice-2.ensures.value
+    (subst (λ x. Judges x c.as_slice-2.result.now (proving_of c.args.job.now).functions (verdict_of c.in_ok-verdict.verdict)) c.as_slice.ensures.value c.in_ok-verdict.ensures.exact))
+    (subst (λ x. IsSound c.in_ok-elf.elf.items x (proving_of c.args.job.now).functions (verdict_of c.in_ok-verdict.verdict)) c.as_slice-2.ensures.value
+    (subst (λ x. IsSound x c.as_slice-2.result.now (proving_of c.args.job.now).functions (verdict_of c.in_ok-verdict.verdict)) c.as_slice.ensures.value c.in_ok-verdict.ensures.sound))
 
 pub returns-clause-taken : goal.returns-clause-taken
 returns-clause-taken g c =

@@ -1,5 +1,5 @@
 use Rattle.std.proofs.Common.{◌≡◌, vec_len, map}
-use Rattle.term_core.specs.Trees.{term_of}
+use Rattle.straight_terms.specs.Trees.{term_of}
 use Rattle.straight_code.specs.Decision.{entry_terms}
 use Rattle.straight_code.proofs.state.Registers.entry.Given as goal
 

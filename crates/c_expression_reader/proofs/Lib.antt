@@ -1,0 +1,9 @@
+pub mod Marks
+pub mod Samples
+pub mod Suffixes
+pub mod Begins
+pub mod Casts
+pub mod Unaries
+pub mod Levels
+pub mod Conditionals
+pub mod Expressions

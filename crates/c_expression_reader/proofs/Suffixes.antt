@@ -1,0 +1,235 @@
+-- Postfix expressions are read exactly.
+use Rattle.std.proofs.Common.{◌≡◌, ℕ, suc, ◌+◌, ◌≤◌, arith, Bool, true, false, List, [], ◌∷◌, ◌++◌, Option, Some, None, refl, ap, sym, ◌∙◌, subst, IsTrue, not, ◌&&◌, ◌||◌, ltb-false}
+use Rattle.std.specs.Prelude.{option_map, nat_lt}
+use Rattle.c_spec.specs.declared.token.Punctuator.{Punctuator}
+use Rattle.c_spec.specs.declared.token.Punctuator.TheVariants as punctuator
+use Rattle.c_spec.specs.Lexical.{Placed, Token, Name as name_token, Word, Number as number_token, Character as character_token, Mark}
+use Rattle.c_tree_spec.specs.declared.Access.{Access}
+use Rattle.c_tree_spec.specs.declared.Access.TheVariants.{Dot, Arrow}
+use Rattle.c_tree_spec.specs.Expression as tree
+use Rattle.c_grammar_spec.specs.declared.Role.{Role}
+use Rattle.c_grammar_spec.specs.declared.Role.TheVariants.{Nothing, OperandEnd}
+use Rattle.c_grammar_spec.specs.Leaves.{Leaf, plain, awaited, operates, brackets, mark, named, marks, is_over}
+use Rattle.c_grammar_spec.specs.Expressions.{operators, access_mark, Conditional}
+use Rattle.exact_read.specs.Reading.{Reader, plains, Stops}
+use Rattle.exact_read.specs.Exact.{Exact}
+use Rattle.exact_read.specs.Grammar.{anything, One, Map, Or, first, second}
+use Rattle.exact_read.specs.Folds.{Folded, base, step}
+use Rattle.exact_read.proofs.Parts.{exact-one, exact-map, exact-same, stops_anything, Apart, both}
+use Rattle.exact_read.proofs.Many.{Items}
+use Rattle.exact_read.proofs.Folds.{exact-folded}
+use Rattle.exact_read.proofs.Stop.{exact-stop, exact-enter}
+use Rattle.c_expression_reader.specs.Classes.{is_mark, mark_place, name_at, name_of, access_operator, with_place, is_suffix}
+use Rattle.c_expression_reader.specs.Classes as class
+use Rattle.c_expression_reader.specs.Stops.{ends_postfix, stop_cast, stop_conditional}
+use Rattle.c_expression_reader.specs.Readers.{Readers, before, Suffix, ByIndex, ByMember, with_suffix, count_suffix, read_index, read_member, read_suffix, starts_suffix, read_suffixes}
+use Rattle.c_expression_reader.proofs.Marks.{mark-self, mark-passes, one-mark, mark-one, Closed, exact-closed, Behind, exact-opened, exact-choose}
+use Rattle.c_expression_reader.proofs.Samples.{zero_tree, zero_text, zero_conditional}
+
+-- a name is told by its token
+name-token : (k : Token) (o : ℕ) (n : tree.Name) → name_of k o ≡ Some n → record { token = k; offset = o } ≡ named n
+name-token (name_token spelling) o n e = let same : record { spelling = spelling; place = o } ≡ n = cc in ap named same
+name-token (Word keyword) o n e = absurd (cc)
+name-token (number_token value type) o n e = absurd (cc)
+name-token (character_token value) o n e = absurd (cc)
+name-token (Mark p) o n e = absurd (cc)
+
+pub one-name : (n : tree.Name) (text : List Leaf) → One plain name_at n text → text ≡ plain (named n) ∷ []
+one-name n text o = o.cut ∙ ap (λ t. plain t ∷ []) (name-token o.token.token o.token.offset n o.is)
+
+pub name-one : (n : tree.Name) → One plain name_at n (plain (named n) ∷ [])
+name-one n = record { token = named n; is = refl; cut = refl }
+
+-- so is `.` and `->`
+access-punctuator : (p : Punctuator) (a : Access) → class.access_mark p ≡ Some a → p ≡ access_mark a
+access-punctuator punctuator.Dot a e = let same : Dot ≡ a = cc in ap access_mark same
+access-punctuator punctuator.Arrow a e = let same : Arrow ≡ a = cc in ap access_mark same
+access-punctuator other a e = absurd (cc)
+
+access-token : (k : Token) (o : ℕ) (a : Access) → access_operator k ≡ Some a → record { token = k; offset = o } ≡ mark (access_mark a) o
+access-token (Mark p) o a e = ap (λ q. mark q o) (access-punctuator p a e)
+access-token (name_token spelling) o a e = absurd (cc)
+access-token (Word keyword) o a e = absurd (cc)
+access-token (number_token value type) o a e = absurd (cc)
+access-token (character_token value) o a e = absurd (cc)
+
+-- a class with the place beside it
+pub placed : {A : Type 0} (class : Token → Option A) (t : Placed) (found : A × ℕ) → with_place class t ≡ Some found → (class t.token ≡ Some found.0) × (t.offset ≡ found.1)
+placed {A} class t found e = by_class (class t.token) refl e
+  where
+    by_class : (o : Option A) → class t.token ≡ o → option_map (λ a. (a, t.offset)) o ≡ Some found → (class t.token ≡ Some found.0) × (t.offset ≡ found.1)
+    by_class None f e = absurd (cc)
+    by_class (Some a) f e = let same : (a, t.offset) ≡ found = cc in (f ∙ ap (λ (p : A × ℕ). Some p.0) same, ap (λ (p : A × ℕ). p.1) same)
+
+pub one-access : (place : Placed → Leaf) (found : Access × ℕ) (text : List Leaf) → One place (with_place access_operator) found text → text ≡ place (mark (access_mark found.0) found.1) ∷ []
+one-access place found text o =
+    let p = placed access_operator o.token found o.is in
+    o.cut ∙ ap (λ t. place t ∷ []) (access-token o.token.token o.token.offset found.0 p.0 ∙ ap (λ k. mark (access_mark found.0) k) p.1)
+
+access-self : (a : Access) → access_operator (Mark (access_mark a)) ≡ Some a
+access-self Dot = refl
+access-self Arrow = refl
+
+pub access-one : (place : Placed → Leaf) (a : Access) (k : ℕ) → One place (with_place access_operator) (a, k) (place (mark (access_mark a) k) ∷ [])
+access-one place a k = record { token = mark (access_mark a) k; is = rw (access-self a) refl; cut = refl }
+
+-- what can stand behind a postfix expression
+pub data SuffixText (names : List (List ℕ)) (depth count : ℕ) : Suffix → List Leaf → Type 0 where
+  by_index : (i : tree.Expression) (inside : List Leaf) (place close : ℕ) → Conditional names (suc depth) (suc count) i inside
+      → SuffixText names depth count (ByIndex i place) (brackets (suc depth) (suc count) (mark punctuator.LeftBracket place) ∷ inside ++ awaited OperandEnd (mark punctuator.RightBracket close) ∷ [])
+  by_member : (a : Access) (n : tree.Name) (place : ℕ) → SuffixText names depth count (ByMember a n place) (operates (suc count) (mark (access_mark a) place) ∷ plain (named n) ∷ [])
+
+-- the reader of what stands in brackets here
+abbrev pub Inside : (names : List (List ℕ)) → Readers → (depth count : ℕ) → Type 0
+Inside names inner depth count = (c : ℕ) → suc depth ≤ 128 → suc c ≤ 128 → count ≤ c → Exact marks anything (Conditional names (suc depth) (suc c)) stop_conditional (inner.conditional (suc depth) (suc c))
+
+or-false : (a b : Bool) → (a || b) ≡ false → (a ≡ false) × (b ≡ false)
+or-false true b e = absurd (cc)
+or-false false b e = (refl, e)
+
+-- what a leaf says that is not over
+pub within_brackets : (a b : ℕ) (t : Placed) → is_over (brackets a b t) ≡ false → (a ≤ 128) × (b ≤ 128)
+within_brackets a b t e = let h = or-false (nat_lt 128 a) (nat_lt 128 b) e in (ltb-false 128 a h.0, ltb-false 128 b h.1)
+
+pub within_operates : (b : ℕ) (t : Placed) → is_over (operates b t) ≡ false → b ≤ 128
+within_operates b t e = ltb-false 128 b e
+
+-- an index or a member
+abbrev pub IndexText : (names : List (List ℕ)) → (depth count : ℕ) → Suffix → List Leaf → Type 0
+IndexText names depth count =
+    Behind (One (brackets (suc depth) (suc count)) (mark_place punctuator.LeftBracket))
+    (λ place. Map (λ index. ByIndex index place) (Closed (awaited OperandEnd) punctuator.RightBracket (Conditional names (suc depth) (suc count))))
+
+abbrev pub MemberText : (count : ℕ) → Suffix → List Leaf → Type 0
+MemberText count = Behind (One (operates (suc count)) (with_place access_operator)) (λ access. Map (λ name. ByMember access.0 name access.1) (One plain name_at))
+
+index_suffix : (names : List (List ℕ)) (depth count : ℕ) (s : Suffix) (text : List Leaf) → IndexText names depth count s text → SuffixText names depth count s text
+index_suffix names depth count s text b =
+    let m = b.is_second in
+    let c = m.spells in
+    rw (m.is, b.cut, one-mark punctuator.LeftBracket (brackets (suc depth) (suc count)) b.first b.left b.is_first, c.cut) (by_index m.inner c.inside b.first c.close c.spells)
+
+member_suffix : (names : List (List ℕ)) (depth count : ℕ) (s : Suffix) (text : List Leaf) → MemberText count s text → SuffixText names depth count s text
+member_suffix names depth count s text b =
+    let m = b.is_second in
+    rw (m.is, b.cut, one-access (operates (suc count)) b.first b.left b.is_first, one-name m.inner b.right m.spells) (by_member b.first.0 m.inner b.first.1)
+
+or_suffix : (names : List (List ℕ)) (depth count : ℕ) (s : Suffix) (text : List Leaf) → Or (IndexText names depth count) (MemberText count) s text → SuffixText names depth count s text
+or_suffix names depth count s text (first b) = index_suffix names depth count s text b
+or_suffix names depth count s text (second b) = member_suffix names depth count s text b
+
+suffix_or : (names : List (List ℕ)) (depth count : ℕ) (s : Suffix) (text : List Leaf) → SuffixText names depth count s text → Or (IndexText names depth count) (MemberText count) s text
+suffix_or names depth count s text (by_index i inside place close c) =
+    first (record {
+      first = place;
+      left = brackets (suc depth) (suc count) (mark punctuator.LeftBracket place) ∷ [];
+      right = inside ++ awaited OperandEnd (mark punctuator.RightBracket close) ∷ [];
+      is_first = mark-one punctuator.LeftBracket (brackets (suc depth) (suc count)) place;
+      is_second = record { inner = i; is = refl; spells = record { inside = inside; close = close; spells = c; cut = refl } };
+      cut = refl;
+    })
+suffix_or names depth count s text (by_member a n place) =
+    second (record {
+      first = (a, place);
+      left = operates (suc count) (mark (access_mark a) place) ∷ [];
+      right = plain (named n) ∷ [];
+      is_first = access-one (operates (suc count)) a place;
+      is_second = record { inner = n; is = refl; spells = name-one n };
+      cut = refl;
+    })
+
+access-no_bracket : (k : Token) (a : Access) → access_operator k ≡ Some a → is_mark punctuator.LeftBracket k ≡ false
+access-no_bracket (Mark punctuator.Dot) a e = refl
+access-no_bracket (Mark punctuator.Arrow) a e = refl
+access-no_bracket (Mark other) a e = absurd (cc)
+access-no_bracket (name_token spelling) a e = refl
+access-no_bracket (Word keyword) a e = refl
+access-no_bracket (number_token value type) a e = refl
+access-no_bracket (character_token value) a e = refl
+
+apart_suffix : (names : List (List ℕ)) (depth count : ℕ) → Apart marks (λ t. is_mark punctuator.LeftBracket t.token) (IndexText names depth count) (MemberText count) (λ _. anything)
+apart_suffix names depth count =
+    record {
+      first_begins = λ s text b.
+          (brackets (suc depth) (suc count) b.is_first.token, b.right, b.cut ∙ ap (λ t. t ++ b.right) b.is_first.cut, mark-passes punctuator.LeftBracket b.is_first.token b.first b.is_first.is);
+      second_begins = λ s text rest b stops.
+          let p = placed access_operator b.is_first.token b.first b.is_first.is in
+          let no : is_mark punctuator.LeftBracket b.is_first.token.token ≡ false = access-no_bracket b.is_first.token.token b.first.0 p.0 in
+          subst (λ t. Stops (λ t. not (is_mark punctuator.LeftBracket t.token)) (plains marks t ++ rest)) (sym (b.cut ∙ ap (λ t. t ++ b.right) b.is_first.cut)) (rw no refl);
+    }
+
+exact-index : (names : List (List ℕ)) (inner : Readers) (depth count c : ℕ) → Inside names inner depth count → count ≤ c → Exact marks anything (IndexText names depth c) (λ _. anything) (read_index inner depth c)
+exact-index names inner depth count c inside least =
+    exact-opened (mark_place punctuator.LeftBracket) Nothing (brackets (suc depth) (suc c)) (λ t. refl) (mark punctuator.LeftBracket 0) 0 (mark-self punctuator.LeftBracket 0)
+    (λ place. (ByIndex zero_tree place, zero_text ++ awaited OperandEnd (mark punctuator.RightBracket 0) ∷ [], record { inner = zero_tree; is = refl; spells = record { inside = zero_text; close = 0; spells = zero_conditional names (suc depth) (suc c); cut = refl } }))
+    (λ place t is within. let h = within_brackets (suc depth) (suc c) t within in
+    exact-map (λ index. ByIndex index place) (λ _. anything) (λ index. refl)
+    (exact-closed punctuator.RightBracket OperandEnd (awaited OperandEnd) (λ t. refl) (inside c h.0 h.1 least) (λ x close. refl)))
+
+exact-member : (c : ℕ) → Exact marks anything (MemberText c) (λ _. anything) (read_member c)
+exact-member c =
+    exact-opened (with_place access_operator) Nothing (operates (suc c)) (λ t. refl) (mark punctuator.Dot 0) (Dot, 0) refl
+    (λ access. (ByMember access.0 (record { spelling = []; place = 0 }) access.1, plain (named (record { spelling = []; place = 0 })) ∷ [], record { inner = record { spelling = []; place = 0 }; is = refl; spells = name-one (record { spelling = []; place = 0 }) }))
+    (λ access t is within. exact-map (λ name. ByMember access.0 name access.1) (λ _. anything) (λ name. refl) (exact-one marks anything plain name_at Nothing (λ t. refl) (named (record { spelling = []; place = 0 })) (record { spelling = []; place = 0 }) refl))
+
+exact-suffix : (names : List (List ℕ)) (inner : Readers) (depth count c : ℕ) → Inside names inner depth count → count ≤ c → (entry : Placed → Bool) → Exact marks entry (SuffixText names depth c) (λ _. anything) (read_suffix inner depth c)
+exact-suffix names inner depth count c inside least entry =
+    exact-same entry (SuffixText names depth c) (read_suffix inner depth c) (λ t h. h) (or_suffix names depth c) (suffix_or names depth c) (λ tokens. refl)
+    (exact-choose (is_mark punctuator.LeftBracket) (apart_suffix names depth c)
+    (exact-enter (both entry (λ t. is_mark punctuator.LeftBracket t.token)) (exact-index names inner depth count c inside least))
+    (exact-enter (both entry (λ t. not (is_mark punctuator.LeftBracket t.token))) (exact-member c)))
+
+-- a part with what stands behind it
+abbrev pub Suffixed : (names : List (List ℕ)) → (depth count : ℕ) → (Base : tree.Expression → List Leaf → Type 0) → tree.Expression → List Leaf → Type 0
+Suffixed names depth count Base = Folded with_suffix operators Base (λ c. SuffixText names depth (count + c))
+
+or-true : (a : Bool) → IsTrue (a || true)
+or-true true = refl
+or-true false = refl
+
+stops-or_true : (test : Placed → Bool) (rest : List Placed) → Stops (λ t. test t || true) rest
+stops-or_true test [] = tt
+stops-or_true test (t ∷ rest) = or-true (test t)
+
+access-some : (k : Token) (a : Access) → access_operator k ≡ Some a → is_suffix k ≡ true
+access-some k a e = rw (access-no_bracket k a e, e) refl
+
+suffix_begins : (names : List (List ℕ)) (depth c : ℕ) (s : Suffix) (text : List Leaf) → SuffixText names depth c s text → (u : Leaf) × (more : List Leaf) × (text ≡ u ∷ more) × (is_suffix u.token.token ≡ true)
+suffix_begins names depth c s text (by_index i inside place close h) = (brackets (suc depth) (suc c) (mark punctuator.LeftBracket place), inside ++ awaited OperandEnd (mark punctuator.RightBracket close) ∷ [], refl, refl)
+suffix_begins names depth c s text (by_member a n place) = (operates (suc c) (mark (access_mark a) place), plain (named n) ∷ [], refl, access-some (Mark (access_mark a)) a (access-self a))
+
+suffix_items : (names : List (List ℕ)) (depth count : ℕ) → Items marks starts_suffix (λ _ _. true) (λ c. SuffixText names depth (count + c)) (λ _ _. anything) count_suffix
+suffix_items names depth count =
+    record {
+      begins = λ c s text one. suffix_begins names depth (count + c) s text one;
+      opens_next = λ c s rest stops. stops-or_true (starts_suffix (count_suffix c s)) rest;
+      stops_item = λ c s rest opens. stops_anything rest;
+    }
+
+steps : (x : tree.Expression) (s : Suffix) → operators (with_suffix x s) ≡ count_suffix (operators x) s
+steps x (ByIndex index place) = refl
+steps x (ByMember access member place) = refl
+
+and-true : (a : Bool) → (a && true) ≡ a
+and-true true = refl
+and-true false = refl
+
+suffixed_ends : (names : List (List ℕ)) (depth count : ℕ) (Base : tree.Expression → List Leaf → Type 0) → ((x : tree.Expression) (text : List Leaf) → Base x text → ends_postfix x ≡ true) → (x : tree.Expression) (text : List Leaf) → Suffixed names depth count Base x text → ends_postfix x ≡ true
+suffixed_ends names depth count Base ends x text (base y t one) = ends y t one
+suffixed_ends names depth count Base ends x text (step y (ByIndex index place) left right before one) = refl
+suffixed_ends names depth count Base ends x text (step y (ByMember access member place) left right before one) = refl
+
+pub exact-suffixed : (names : List (List ℕ)) (inner : Readers) (depth count : ℕ) {Base : tree.Expression → List Leaf → Type 0} {read : Reader Placed Role tree.Expression} {entry : Placed → Bool} → Inside names inner depth count → ((x : tree.Expression) (text : List Leaf) → Base x text → ends_postfix x ≡ true) → Exact marks entry Base (λ _. anything) read
+    → Exact marks entry (Suffixed names depth count Base) stop_cast (read_suffixes inner depth count read)
+exact-suffixed names inner depth count {Base} {read} {entry} inside ends is =
+    exact-stop stop_cast same_stop
+    (exact-folded {ends = λ _ _. true}
+    record {
+      steps = steps;
+      joins = λ x text one rest opens. stops_anything rest;
+      leads = λ x rest stops. stops-or_true (starts_suffix (operators x)) rest;
+    }
+    (suffix_items names depth count) is (λ c. exact-suffix names inner depth count (count + c) inside (omega arith) (starts_suffix c)))
+  where
+    same_stop : (x : tree.Expression) (text : List Leaf) → Suffixed names depth count Base x text → (t : Placed) → (true && not (is_suffix t.token)) ≡ stop_cast x t
+    same_stop x text one t = ap not (sym (and-true (is_suffix t.token)) ∙ ap (λ b. is_suffix t.token && b) (sym (suffixed_ends names depth count Base ends x text one)))

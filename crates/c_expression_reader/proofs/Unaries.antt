@@ -1,0 +1,418 @@
+-- Unary and cast expressions are read exactly.
+use Rattle.std.proofs.Common.{◌≡◌, ℕ, suc, ◌+◌, ◌≤◌, arith, Bool, true, false, List, [], ◌∷◌, ◌++◌, Some, None, refl, ap, sym, ◌∙◌, subst, cond, not, ◌&&◌, append_assoc}
+use Rattle.std.specs.Option.{is_some}
+use Rattle.c_spec.specs.declared.token.Keyword.TheVariants.{Sizeof}
+use Rattle.c_spec.specs.declared.token.NumberType.TheVariants.{SignedInt}
+use Rattle.c_spec.specs.declared.token.Punctuator.{Punctuator}
+use Rattle.c_spec.specs.declared.token.Punctuator.TheVariants as punctuator
+use Rattle.c_spec.specs.Lexical.{Placed, Token, Name as name_token, Word, Number as number_token, Character as character_token, Mark}
+use Rattle.c_tree_spec.specs.declared.UnaryOperator.{UnaryOperator}
+use Rattle.c_tree_spec.specs.declared.UnaryOperator.TheVariants.{AddressOf, Dereference, Plus, Minus, Complement, Not}
+use Rattle.c_tree_spec.specs.Expression as tree
+use Rattle.c_grammar_spec.specs.declared.Role.TheVariants.{Nothing, OperandEnd}
+use Rattle.c_grammar_spec.specs.Leaves.{Leaf, plain, awaited, operates, brackets, mark, word, number, marks}
+use Rattle.c_grammar_spec.specs.Expressions.{unary_mark, Unary, postfix, prefixed, sizeof_expression, sizeof_type, Cast, unary, cast, TypeName}
+use Rattle.exact_read.specs.Reading.{plains, Stops}
+use Rattle.exact_read.specs.Exact.{Exact}
+use Rattle.exact_read.specs.Grammar.{anything, One, Map, Or, first, second, read_map}
+use Rattle.exact_read.specs.Folds.{base, step}
+use Rattle.exact_read.proofs.Parts.{exact-one, exact-map, exact-same, stops_anything}
+use Rattle.exact_read.proofs.Stop.{exact-stop, exact-enter}
+use Rattle.c_expression_reader.specs.Budget.{needs}
+use Rattle.c_expression_reader.specs.Exactness.{PlainUnary, AreExact, TypeFacts}
+use Rattle.c_expression_reader.specs.Classes.{is_mark, mark_place, is_sizeof, sizeof_place, atom_at, atom_of, unary_operator, with_place, begins_type, is_suffix}
+use Rattle.c_expression_reader.specs.Classes as class
+use Rattle.c_expression_reader.specs.Stops.{ends_postfix, stop_cast}
+use Rattle.c_expression_reader.specs.Readers.{Readers, choose, read_postfix, read_inside, read_bracketed, read_type, read_sized, read_sizeof, read_prefixed, read_unary, read_converted, read_cast}
+use Rattle.c_expression_reader.proofs.Marks.{mark-self, one-mark, mark-one, Closed, exact-closed, Behind, exact-behind, exact-opened, exact-choice}
+use Rattle.c_expression_reader.proofs.Samples.{zero_tree, zero_text, zero_conditional, zero_cast, zero_unary}
+use Rattle.c_expression_reader.proofs.Suffixes.{Suffixed, Inside, exact-suffixed, placed, within_brackets, within_operates}
+use Rattle.c_expression_reader.proofs.Begins.{NoType, no-append, conditional_no}
+use Rattle.c_expression_reader.proofs.Casts.{Atom, atom_ends_of, InsideText, opening, atom_postfix, bracket_postfix, Split, at_atom, at_bracket, postfix_split}
+
+-- what stands behind `(` at a place, and what stands behind that
+abbrev pub BracketText : (names : List (List ℕ)) → (depth count place : ℕ) → tree.Expression → List Leaf → Type 0
+BracketText names depth count place = Suffixed names depth count (InsideText names depth count place)
+
+-- turns that are left inside
+budget_bracket : (depth count c turns : ℕ) → needs depth count ≤ turns → suc depth ≤ 128 → count ≤ c → needs (suc depth) (suc c) + 3 ≤ turns
+budget_bracket depth count c turns h d l = omega arith
+
+budget_type : (depth count turns : ℕ) → needs depth count ≤ turns → suc depth ≤ 128 → needs (suc depth) 129 + 4 ≤ turns
+budget_type depth count turns h d = omega arith
+
+budget_next : (depth count turns : ℕ) → needs depth count ≤ turns → suc count ≤ 128 → needs depth (suc count) + 8 ≤ turns
+budget_next depth count turns h l = omega arith
+
+inside_by : {names : List (List ℕ)} {stop_type : tree.TypeName → Placed → Bool} {inner : Readers} {turns : ℕ} → AreExact names stop_type inner turns → (depth count : ℕ) → needs depth count ≤ turns → Inside names inner depth count
+inside_by {turns = turns} are depth count h c d l least = are.conditional (suc depth) (suc c) (budget_bracket depth count c turns h d least)
+
+-- what stands in brackets is read exactly
+exact-inside : (names : List (List ℕ)) (inner : Readers) (depth count place : ℕ) → suc depth ≤ 128 → suc count ≤ 128 → Inside names inner depth count → Exact marks anything (InsideText names depth count place) (λ _. anything) (read_inside inner depth count place)
+exact-inside names inner depth count place d l inside =
+    exact-map (λ x. tree.Bracketed x place) (λ _. anything) (λ x. refl)
+    (exact-closed punctuator.RightParenthesis OperandEnd (awaited OperandEnd) (λ t. refl) (inside count d l (omega arith)) (λ x close. refl))
+
+exact-bracket : (names : List (List ℕ)) (inner : Readers) (depth count place : ℕ) → suc depth ≤ 128 → suc count ≤ 128 → Inside names inner depth count → Exact marks anything (BracketText names depth count place) stop_cast (read_bracketed inner depth count place)
+exact-bracket names inner depth count place d l inside =
+    exact-suffixed names inner depth count inside (λ x text m. ap ends_postfix m.is) (exact-inside names inner depth count place d l inside)
+
+atom_ends : (names : List (List ℕ)) (x : tree.Expression) (text : List Leaf) → Atom names x text → ends_postfix x ≡ true
+atom_ends names x text o = atom_ends_of names o.token.token o.token.offset x o.is
+
+exact-postfix : (names : List (List ℕ)) (inner : Readers) (depth count : ℕ) → Inside names inner depth count → Exact marks anything (Suffixed names depth count (Atom names)) stop_cast (read_postfix names inner depth count)
+exact-postfix names inner depth count inside =
+    exact-suffixed names inner depth count inside (atom_ends names) (exact-one marks anything plain (atom_at names) Nothing (λ t. refl) (number 0 SignedInt 0) zero_tree refl)
+
+-- unary operators
+unary-punctuator : (p : Punctuator) (o : UnaryOperator) → class.unary_mark p ≡ Some o → p ≡ unary_mark o
+unary-punctuator punctuator.Ampersand o e = let same : AddressOf ≡ o = cc in ap unary_mark same
+unary-punctuator punctuator.Star o e = let same : Dereference ≡ o = cc in ap unary_mark same
+unary-punctuator punctuator.Plus o e = let same : Plus ≡ o = cc in ap unary_mark same
+unary-punctuator punctuator.Minus o e = let same : Minus ≡ o = cc in ap unary_mark same
+unary-punctuator punctuator.Tilde o e = let same : Complement ≡ o = cc in ap unary_mark same
+unary-punctuator punctuator.Exclamation o e = let same : Not ≡ o = cc in ap unary_mark same
+unary-punctuator other o e = absurd (cc)
+
+unary-token : (k : Token) (place : ℕ) (o : UnaryOperator) → unary_operator k ≡ Some o → record { token = k; offset = place } ≡ mark (unary_mark o) place
+unary-token (Mark p) place o e = ap (λ q. mark q place) (unary-punctuator p o e)
+unary-token (name_token spelling) place o e = absurd (cc)
+unary-token (Word keyword) place o e = absurd (cc)
+unary-token (number_token value type) place o e = absurd (cc)
+unary-token (character_token value) place o e = absurd (cc)
+
+one-unary : (place : Placed → Leaf) (found : UnaryOperator × ℕ) (text : List Leaf) → One place (with_place unary_operator) found text → text ≡ place (mark (unary_mark found.0) found.1) ∷ []
+one-unary place found text o =
+    let p = placed unary_operator o.token found o.is in
+    o.cut ∙ ap (λ t. place t ∷ []) (unary-token o.token.token o.token.offset found.0 p.0 ∙ ap (λ k. mark (unary_mark found.0) k) p.1)
+
+unary-self : (o : UnaryOperator) → unary_operator (Mark (unary_mark o)) ≡ Some o
+unary-self AddressOf = refl
+unary-self Dereference = refl
+unary-self Plus = refl
+unary-self Minus = refl
+unary-self Complement = refl
+unary-self Not = refl
+
+unary-one : (place : Placed → Leaf) (o : UnaryOperator) (k : ℕ) → One place (with_place unary_operator) (o, k) (place (mark (unary_mark o) k) ∷ [])
+unary-one place o k = record { token = mark (unary_mark o) k; is = rw (unary-self o) refl; cut = refl }
+
+unary-no_bracket : (o : UnaryOperator) → is_mark punctuator.LeftParenthesis (Mark (unary_mark o)) ≡ false
+unary-no_bracket AddressOf = refl
+unary-no_bracket Dereference = refl
+unary-no_bracket Plus = refl
+unary-no_bracket Minus = refl
+unary-no_bracket Complement = refl
+unary-no_bracket Not = refl
+
+-- `sizeof`
+sizeof-token : (k : Token) (o place : ℕ) → cond (is_sizeof k) (Some o) None ≡ Some place → record { token = k; offset = o } ≡ word Sizeof place
+sizeof-token (Word Sizeof) o place e = let same : o ≡ place = cc in ap (word Sizeof) same
+sizeof-token (Word other) o place e = absurd (cc)
+sizeof-token (name_token spelling) o place e = absurd (cc)
+sizeof-token (number_token value type) o place e = absurd (cc)
+sizeof-token (character_token value) o place e = absurd (cc)
+sizeof-token (Mark p) o place e = absurd (cc)
+
+one-sizeof : (place : Placed → Leaf) (k : ℕ) (text : List Leaf) → One place sizeof_place k text → text ≡ place (word Sizeof k) ∷ []
+one-sizeof place k text o = o.cut ∙ ap (λ t. place t ∷ []) (sizeof-token o.token.token o.token.offset k o.is)
+
+sizeof-one : (place : Placed → Leaf) (k : ℕ) → One place sizeof_place k (place (word Sizeof k) ∷ [])
+sizeof-one place k = record { token = word Sizeof k; is = refl; cut = refl }
+
+-- the texts of unary expressions that begin with no bracket, as they are read
+abbrev pub OperatorText : (names : List (List ℕ)) → (depth count : ℕ) → tree.Expression → List Leaf → Type 0
+OperatorText names depth count = Behind (One (operates (suc count)) (with_place unary_operator)) (λ o. Map (λ x. tree.Unary o.0 x o.1) (Cast names depth (suc count)))
+
+abbrev pub TypeText : (names : List (List ℕ)) → (depth : ℕ) → tree.TypeName → List Leaf → Type 0
+TypeText names depth = Closed plain punctuator.RightParenthesis (TypeName names (suc depth))
+
+abbrev pub SizedInside : (names : List (List ℕ)) → (depth count place opened : ℕ) → tree.Expression → List Leaf → Type 0
+SizedInside names depth count place opened = Or (Map (λ type. tree.SizeofType type place) (TypeText names depth)) (Map (λ x. tree.Sizeof x place) (BracketText names depth count opened))
+
+abbrev pub SizedText : (names : List (List ℕ)) → (depth count place : ℕ) → tree.Expression → List Leaf → Type 0
+SizedText names depth count place =
+    Or (Behind (One (brackets (suc depth) (suc count)) (mark_place punctuator.LeftParenthesis)) (λ opened. SizedInside names depth count place opened))
+    (Map (λ x. tree.Sizeof x place) (PlainUnary names depth count))
+
+abbrev pub SizeofText : (names : List (List ℕ)) → (depth count : ℕ) → tree.Expression → List Leaf → Type 0
+SizeofText names depth count = Behind (One (operates (suc count)) sizeof_place) (λ place. SizedText names depth (suc count) place)
+
+abbrev pub UnaryText : (names : List (List ℕ)) → (depth count : ℕ) → tree.Expression → List Leaf → Type 0
+UnaryText names depth count = Or (OperatorText names depth count) (Or (SizeofText names depth count) (Suffixed names depth count (Atom names)))
+
+atom-no_bracket : (names : List (List ℕ)) (k : Token) (o : ℕ) (x : tree.Expression) → atom_of names k o ≡ Some x → (is_mark punctuator.LeftParenthesis k ≡ false) × (unary_operator k ≡ None) × (is_sizeof k ≡ false)
+atom-no_bracket names (name_token spelling) o x e = (refl, refl, refl)
+atom-no_bracket names (number_token value type) o x e = (refl, refl, refl)
+atom-no_bracket names (character_token value) o x e = (refl, refl, refl)
+atom-no_bracket names (Word keyword) o x e = absurd (cc)
+atom-no_bracket names (Mark p) o x e = absurd (cc)
+
+-- the first token of an atom with what stands behind it
+record AtomFirst (text : List Leaf) : Type 0 where
+  leaf : Leaf
+  more : List Leaf
+  cut : text ≡ leaf ∷ more
+  no : (is_mark punctuator.LeftParenthesis leaf.token.token ≡ false) × (unary_operator leaf.token.token ≡ None) × (is_sizeof leaf.token.token ≡ false)
+
+atom_first : (names : List (List ℕ)) (depth count : ℕ) (x : tree.Expression) (text : List Leaf) → Suffixed names depth count (Atom names) x text → AtomFirst text
+atom_first names depth count x text (base y t o) = record { leaf = plain o.token; more = []; cut = o.cut; no = atom-no_bracket names o.token.token o.token.offset y o.is }
+atom_first names depth count x text (step y s left right h one) = let f = atom_first names depth count y left h in record { leaf = f.leaf; more = f.more ++ right; cut = ap (λ t. t ++ right) f.cut; no = f.no }
+
+-- unary expressions by their first token
+pub data UnarySplit (names : List (List ℕ)) (depth count : ℕ) (x : tree.Expression) (text : List Leaf) : Type 0 where
+  is_plain : PlainUnary names depth count x text → UnarySplit names depth count x text
+  is_bracket : (place : ℕ) (rest : List Leaf) → text ≡ opening depth count place ∷ rest → BracketText names depth count place x rest → UnarySplit names depth count x text
+
+split_unary : (names : List (List ℕ)) (depth count : ℕ) (x : tree.Expression) (text : List Leaf) → Unary names depth count x text → Split names depth count x text → UnarySplit names depth count x text
+split_unary names depth count x text u (at_atom h) = let f = atom_first names depth count x text h in is_plain (record { spells = u; leaf = f.leaf; more = f.more; cut = f.cut; no = f.no.0 })
+split_unary names depth count x text u (at_bracket place rest cut h) = is_bracket place rest cut h
+
+pub unary_split : (names : List (List ℕ)) (depth count : ℕ) (x : tree.Expression) (text : List Leaf) → Unary names depth count x text → UnarySplit names depth count x text
+unary_split names depth count x text (postfix d c y t h) = split_unary names d c y t (postfix d c y t h) (postfix_split names d c y t h)
+unary_split names depth count x text (prefixed d c o y t place h) = is_plain (record { spells = prefixed d c o y t place h; leaf = _; more = t; cut = refl; no = unary-no_bracket o })
+unary_split names depth count x text (sizeof_expression d c y t place h) = is_plain (record { spells = sizeof_expression d c y t place h; leaf = _; more = t; cut = refl; no = refl })
+unary_split names depth count x text (sizeof_type d c y t place p close h) = is_plain (record { spells = sizeof_type d c y t place p close h; leaf = _; more = _; cut = refl; no = refl })
+
+-- texts as they are read, and as the grammar has them
+bracket_unary : (names : List (List ℕ)) (depth count place : ℕ) (x : tree.Expression) (text : List Leaf) → BracketText names depth count place x text → Unary names depth count x (opening depth count place ∷ text)
+bracket_unary names depth count place x text h = postfix depth count x (opening depth count place ∷ text) (bracket_postfix names depth count place x text h)
+
+sized_inside_unary : (names : List (List ℕ)) (depth count place opened : ℕ) (x : tree.Expression) (text : List Leaf) → SizedInside names depth (suc count) place opened x text → Unary names depth count x (operates (suc count) (word Sizeof place) ∷ brackets (suc depth) (suc (suc count)) (mark punctuator.LeftParenthesis opened) ∷ text)
+sized_inside_unary names depth count place opened x text (first m) = let c = m.spells in rw (m.is, c.cut) (sizeof_type depth count m.inner c.inside place opened c.close c.spells)
+sized_inside_unary names depth count place opened x text (second m) = rw m.is (sizeof_expression depth count m.inner (opening depth (suc count) opened ∷ text) place (bracket_unary names depth (suc count) opened m.inner text m.spells))
+
+sized_unary : (names : List (List ℕ)) (depth count place : ℕ) (x : tree.Expression) (text : List Leaf) → SizedText names depth (suc count) place x text → Unary names depth count x (operates (suc count) (word Sizeof place) ∷ text)
+sized_unary names depth count place x text (first b) =
+    subst (λ t. Unary names depth count x (operates (suc count) (word Sizeof place) ∷ t)) (sym (b.cut ∙ ap (λ t. t ++ b.right) (one-mark punctuator.LeftParenthesis (brackets (suc depth) (suc (suc count))) b.first b.left b.is_first)))
+    (sized_inside_unary names depth count place b.first x b.right b.is_second)
+sized_unary names depth count place x text (second m) = rw m.is (sizeof_expression depth count m.inner text place m.spells.spells)
+
+text_plain : (names : List (List ℕ)) (depth count : ℕ) (x : tree.Expression) (text : List Leaf) → UnaryText names depth count x text → PlainUnary names depth count x text
+text_plain names depth count x text (first b) =
+    let m = b.is_second in
+    let cut : text ≡ operates (suc count) (mark (unary_mark b.first.0) b.first.1) ∷ b.right = b.cut ∙ ap (λ t. t ++ b.right) (one-unary (operates (suc count)) b.first b.left b.is_first) in
+    record {
+      spells = subst (λ t. Unary names depth count x t) (sym cut) (rw m.is (prefixed depth count b.first.0 m.inner b.right b.first.1 m.spells));
+      leaf = operates (suc count) (mark (unary_mark b.first.0) b.first.1);
+      more = b.right;
+      cut = cut;
+      no = unary-no_bracket b.first.0;
+    }
+text_plain names depth count x text (second (first b)) =
+    let cut : text ≡ operates (suc count) (word Sizeof b.first) ∷ b.right = b.cut ∙ ap (λ t. t ++ b.right) (one-sizeof (operates (suc count)) b.first b.left b.is_first) in
+    record {
+      spells = subst (λ t. Unary names depth count x t) (sym cut) (sized_unary names depth count b.first x b.right b.is_second);
+      leaf = operates (suc count) (word Sizeof b.first);
+      more = b.right;
+      cut = cut;
+      no = refl;
+    }
+text_plain names depth count x text (second (second h)) =
+    let f = atom_first names depth count x text h in
+    record { spells = postfix depth count x text (atom_postfix names depth count x text h); leaf = f.leaf; more = f.more; cut = f.cut; no = f.no.0 }
+
+sized_by_split : (names : List (List ℕ)) (depth count place : ℕ) (x : tree.Expression) (text : List Leaf) → UnarySplit names depth count x text → SizedText names depth count place (tree.Sizeof x place) text
+sized_by_split names depth count place x text (is_plain p) = second (record { inner = x; is = refl; spells = p })
+sized_by_split names depth count place x text (is_bracket opened rest cut h) =
+    first (record {
+      first = opened;
+      left = opening depth count opened ∷ [];
+      right = rest;
+      is_first = mark-one punctuator.LeftParenthesis (brackets (suc depth) (suc count)) opened;
+      is_second = second (record { inner = x; is = refl; spells = h });
+      cut = cut;
+    })
+
+head-same : (leaf other : Leaf) (more rest text : List Leaf) → text ≡ leaf ∷ more → text ≡ other ∷ rest → leaf ≡ other
+head-same leaf other more rest text e f = let g : leaf ∷ more ≡ other ∷ rest = sym e ∙ f in cc
+
+plain_split : (names : List (List ℕ)) (depth count : ℕ) (x : tree.Expression) (text : List Leaf) (leaf : Leaf) (more : List Leaf) → text ≡ leaf ∷ more → is_mark punctuator.LeftParenthesis leaf.token.token ≡ false → Split names depth count x text → UnaryText names depth count x text
+plain_split names depth count x text leaf more cut lacks (at_atom h) = second (second h)
+plain_split names depth count x text leaf more cut lacks (at_bracket place rest c h) =
+    absurd (let same : leaf ≡ opening depth count place = head-same leaf (opening depth count place) more rest text cut c in
+    let f : is_mark punctuator.LeftParenthesis leaf.token.token ≡ true = ap (λ (l : Leaf). is_mark punctuator.LeftParenthesis l.token.token) same in cc)
+
+plain_text_of : (names : List (List ℕ)) (depth count : ℕ) (x : tree.Expression) (text : List Leaf) → Unary names depth count x text → (leaf : Leaf) (more : List Leaf) → text ≡ leaf ∷ more → is_mark punctuator.LeftParenthesis leaf.token.token ≡ false → UnaryText names depth count x text
+plain_text_of names depth count x text (postfix d c y t h) leaf more cut lacks = plain_split names d c y t leaf more cut lacks (postfix_split names d c y t h)
+plain_text_of names depth count x text (prefixed d c o y t place h) leaf more cut lacks =
+    first (record { first = (o, place); left = operates (suc c) (mark (unary_mark o) place) ∷ []; right = t; is_first = unary-one (operates (suc c)) o place; is_second = record { inner = y; is = refl; spells = h }; cut = refl })
+plain_text_of names depth count x text (sizeof_expression d c y t place h) leaf more cut lacks =
+    second (first (record { first = place; left = operates (suc c) (word Sizeof place) ∷ []; right = t; is_first = sizeof-one (operates (suc c)) place; is_second = sized_by_split names d (suc c) place y t (unary_split names d (suc c) y t h); cut = refl }))
+plain_text_of names depth count x text (sizeof_type d c y t place p close h) leaf more cut lacks =
+    second (first (record {
+      first = place;
+      left = operates (suc c) (word Sizeof place) ∷ [];
+      right = brackets (suc d) (suc (suc c)) (mark punctuator.LeftParenthesis p) ∷ t ++ plain (mark punctuator.RightParenthesis close) ∷ [];
+      is_first = sizeof-one (operates (suc c)) place;
+      is_second = first (record {
+        first = p;
+        left = brackets (suc d) (suc (suc c)) (mark punctuator.LeftParenthesis p) ∷ [];
+        right = t ++ plain (mark punctuator.RightParenthesis close) ∷ [];
+        is_first = mark-one punctuator.LeftParenthesis (brackets (suc d) (suc (suc c))) p;
+        is_second = first (record { inner = y; is = refl; spells = record { inside = t; close = close; spells = h; cut = refl } });
+        cut = refl;
+      });
+      cut = refl;
+    }))
+
+plain_text : (names : List (List ℕ)) (depth count : ℕ) (x : tree.Expression) (text : List Leaf) → PlainUnary names depth count x text → UnaryText names depth count x text
+plain_text names depth count x text p = plain_text_of names depth count x text p.spells p.leaf p.more p.cut p.no
+
+-- where the texts begin
+zero_plain : (names : List (List ℕ)) (depth count : ℕ) → PlainUnary names depth count zero_tree zero_text
+zero_plain names depth count = record { spells = zero_unary names depth count; leaf = plain (number 0 SignedInt 0); more = []; cut = refl; no = refl }
+
+stops_first : (test : Token → Bool) (text : List Leaf) (leaf : Leaf) (more : List Leaf) (rest : List Placed) → text ≡ leaf ∷ more → test leaf.token.token ≡ false → Stops (λ t. not (test t.token)) (plains marks text ++ rest)
+stops_first test text leaf more rest cut lacks = subst (λ t. Stops (λ t. not (test t.token)) (plains marks t ++ rest)) (sym cut) (rw lacks refl)
+
+bracket_no : (names : List (List ℕ)) (depth count place : ℕ) (x : tree.Expression) (text : List Leaf) → BracketText names depth count place x text → NoType names text
+bracket_no names depth count place x text (base y t m) = let c = m.spells in subst (NoType names) (sym c.cut) (no-append names c.inside _ (conditional_no names (suc depth) (suc count) m.inner c.inside c.spells))
+bracket_no names depth count place x text (step y s left right h one) = no-append names left right (bracket_no names depth count place y left h)
+
+true-not : (b : Bool) → true ≡ not (b && false)
+true-not true = refl
+true-not false = refl
+
+type_begins : (names : List (List ℕ)) (stop_type : tree.TypeName → Placed → Bool) → TypeFacts names stop_type → (depth : ℕ) (type : tree.TypeName) (text : List Leaf) → TypeText names depth type text → (u : Leaf) × (more : List Leaf) × (text ≡ u ∷ more) × (begins_type names u.token.token ≡ true)
+type_begins names stop_type facts depth type text c =
+    let b = facts.begins (suc depth) type c.inside c.spells in
+    (b.0, b.1 ++ plain (mark punctuator.RightParenthesis c.close) ∷ [], c.cut ∙ ap (λ t. t ++ plain (mark punctuator.RightParenthesis c.close) ∷ []) b.2, b.3)
+
+open_first : (depth count : ℕ) {X : Type 0} (S2 : ℕ → X → List Leaf → Type 0) (x : X) (text : List Leaf) → Behind (One (brackets (suc depth) (suc count)) (mark_place punctuator.LeftParenthesis)) S2 x text → (u : Leaf) × (more : List Leaf) × (text ≡ u ∷ more) × (is_mark punctuator.LeftParenthesis u.token.token ≡ true)
+open_first depth count S2 x text b = (opening depth count b.first, b.right, b.cut ∙ ap (λ t. t ++ b.right) (one-mark punctuator.LeftParenthesis (brackets (suc depth) (suc count)) b.first b.left b.is_first), refl)
+
+exact-type : {names : List (List ℕ)} {stop_type : tree.TypeName → Placed → Bool} {inner : Readers} {turns : ℕ} → TypeFacts names stop_type → AreExact names stop_type inner turns → (depth count : ℕ) → needs depth count ≤ turns → suc depth ≤ 128 → Exact marks anything (TypeText names depth) (λ _. anything) (read_type inner depth)
+exact-type {turns = turns} facts are depth count h d =
+    exact-closed punctuator.RightParenthesis Nothing plain (λ t. refl) (are.type_name (suc depth) (budget_type depth count turns h d)) facts.closes
+
+exact-sized_inside : {names : List (List ℕ)} {stop_type : tree.TypeName → Placed → Bool} {inner : Readers} {turns : ℕ} → TypeFacts names stop_type → AreExact names stop_type inner turns → (depth count place opened : ℕ) → needs depth count ≤ turns → suc depth ≤ 128 → suc count ≤ 128
+    → Exact marks anything (SizedInside names depth count place opened) stop_cast (choose (begins_type names) (read_map (λ type. tree.SizeofType type place) (read_type inner depth)) (read_map (λ x. tree.Sizeof x place) (read_bracketed inner depth count opened)))
+exact-sized_inside {names} {stop_type} {inner} {turns} facts are depth count place opened h d l =
+    exact-choice (begins_type names)
+    record {
+      first_begins = λ x text m. type_begins names stop_type facts depth m.inner text m.spells;
+      second_begins = λ x text rest m stops. let n = bracket_no names depth count opened m.inner text m.spells in stops_first (begins_type names) text n.leaf n.more rest n.cut n.no;
+    }
+    (exact-map (λ type. tree.SizeofType type place) stop_cast (λ type. refl) (exact-stop (λ _ t. not (is_suffix t.token && false)) (λ type text m t. true-not (is_suffix t.token)) (exact-type facts are depth count h d)))
+    (exact-map (λ x. tree.Sizeof x place) stop_cast (λ x. refl) (exact-bracket names inner depth count opened d l (inside_by are depth count h)))
+
+exact-sized : {names : List (List ℕ)} {stop_type : tree.TypeName → Placed → Bool} {inner : Readers} {turns : ℕ} → TypeFacts names stop_type → AreExact names stop_type inner turns → (depth count place : ℕ) → needs depth count + 8 ≤ turns → Exact marks anything (SizedText names depth count place) stop_cast (read_sized names inner depth count place)
+exact-sized {names} {stop_type} {inner} {turns} facts are depth count place h =
+    exact-choice (is_mark punctuator.LeftParenthesis)
+    record {
+      first_begins = λ x text b. open_first depth count (SizedInside names depth count place) x text b;
+      second_begins = λ x text rest m stops. stops_first (is_mark punctuator.LeftParenthesis) text m.spells.leaf m.spells.more rest m.spells.cut m.spells.no;
+    }
+    (exact-opened (mark_place punctuator.LeftParenthesis) Nothing (brackets (suc depth) (suc count)) (λ t. refl) (mark punctuator.LeftParenthesis 0) 0 (mark-self punctuator.LeftParenthesis 0)
+    (λ opened. (tree.Sizeof (tree.Bracketed zero_tree opened) place, zero_text ++ awaited OperandEnd (mark punctuator.RightParenthesis 0) ∷ [], second (record { inner = tree.Bracketed zero_tree opened; is = refl; spells = base _ _ (record { inner = zero_tree; is = refl; spells = record { inside = zero_text; close = 0; spells = zero_conditional names (suc depth) (suc count); cut = refl } }) })))
+    (λ opened t is within. let w = within_brackets (suc depth) (suc count) t within in exact-sized_inside facts are depth count place opened (omega arith) w.0 w.1))
+    (exact-map (λ x. tree.Sizeof x place) stop_cast (λ x. refl) (are.unary depth count (omega arith)))
+
+exact-prefixed : {names : List (List ℕ)} {stop_type : tree.TypeName → Placed → Bool} {inner : Readers} {turns : ℕ} → AreExact names stop_type inner turns → (depth count : ℕ) → needs depth count ≤ turns → Exact marks anything (OperatorText names depth count) stop_cast (read_prefixed inner depth count)
+exact-prefixed {names} {stop_type} {inner} {turns} are depth count h =
+    exact-opened (with_place unary_operator) Nothing (operates (suc count)) (λ t. refl) (mark punctuator.Plus 0) (Plus, 0) refl
+    (λ o. (tree.Unary o.0 zero_tree o.1, zero_text, record { inner = zero_tree; is = refl; spells = zero_cast names depth (suc count) }))
+    (λ o t is within. let next = budget_next depth count turns h (within_operates (suc count) t within) in exact-map (λ x. tree.Unary o.0 x o.1) stop_cast (λ x. refl) (are.cast depth (suc count) (omega arith)))
+
+exact-sizeof : {names : List (List ℕ)} {stop_type : tree.TypeName → Placed → Bool} {inner : Readers} {turns : ℕ} → TypeFacts names stop_type → AreExact names stop_type inner turns → (depth count : ℕ) → needs depth count ≤ turns → Exact marks anything (SizeofText names depth count) stop_cast (read_sizeof names inner depth count)
+exact-sizeof {names} {stop_type} {inner} {turns} facts are depth count h =
+    exact-opened sizeof_place Nothing (operates (suc count)) (λ t. refl) (word Sizeof 0) 0 refl
+    (λ place. (tree.Sizeof zero_tree place, zero_text, second (record { inner = zero_tree; is = refl; spells = zero_plain names depth (suc count) })))
+    (λ place t is within. exact-sized facts are depth (suc count) place (budget_next depth count turns h (within_operates (suc count) t within)))
+
+sizeof_second : (names : List (List ℕ)) (depth count : ℕ) (x : tree.Expression) (text : List Leaf) (rest : List Placed) → Or (SizeofText names depth count) (Suffixed names depth count (Atom names)) x text → Stops (λ t. not (is_some (unary_operator t.token))) (plains marks text ++ rest)
+sizeof_second names depth count x text rest (first b) = stops_first (λ k. is_some (unary_operator k)) text (operates (suc count) (word Sizeof b.first)) b.right rest (b.cut ∙ ap (λ t. t ++ b.right) (one-sizeof (operates (suc count)) b.first b.left b.is_first)) refl
+sizeof_second names depth count x text rest (second h) = let f = atom_first names depth count x text h in stops_first (λ k. is_some (unary_operator k)) text f.leaf f.more rest f.cut (ap is_some f.no.1)
+
+pub exact-unary : {names : List (List ℕ)} {stop_type : tree.TypeName → Placed → Bool} {inner : Readers} {turns : ℕ} → TypeFacts names stop_type → AreExact names stop_type inner turns → (depth count : ℕ) → needs depth count ≤ turns → Exact marks anything (PlainUnary names depth count) stop_cast (read_unary names inner depth count)
+exact-unary {names} {stop_type} {inner} {turns} facts are depth count h =
+    exact-same anything (PlainUnary names depth count) (read_unary names inner depth count) (λ t e. e) (text_plain names depth count) (plain_text names depth count) (λ tokens. refl)
+    (exact-choice (λ k. is_some (unary_operator k))
+    record {
+      first_begins = λ x text b. (operates (suc count) (mark (unary_mark b.first.0) b.first.1), b.right, b.cut ∙ ap (λ t. t ++ b.right) (one-unary (operates (suc count)) b.first b.left b.is_first), ap is_some (unary-self b.first.0));
+      second_begins = λ x text rest one stops. sizeof_second names depth count x text rest one;
+    }
+    (exact-prefixed are depth count h)
+    (exact-choice is_sizeof
+    record {
+      first_begins = λ x text b. (operates (suc count) (word Sizeof b.first), b.right, b.cut ∙ ap (λ t. t ++ b.right) (one-sizeof (operates (suc count)) b.first b.left b.is_first), refl);
+      second_begins = λ x text rest one stops. let f = atom_first names depth count x text one in stops_first is_sizeof text f.leaf f.more rest f.cut f.no.2;
+    }
+    (exact-sizeof facts are depth count h) (exact-postfix names inner depth count (inside_by are depth count h))))
+
+-- casts
+abbrev pub ConvertedText : (names : List (List ℕ)) → (depth count place : ℕ) → tree.Expression → List Leaf → Type 0
+ConvertedText names depth count place = Behind (TypeText names depth) (λ type. Map (λ x. tree.Cast type x place) (Cast names depth (suc count)))
+
+abbrev pub CastInside : (names : List (List ℕ)) → (depth count place : ℕ) → tree.Expression → List Leaf → Type 0
+CastInside names depth count place = Or (ConvertedText names depth count place) (BracketText names depth count place)
+
+abbrev pub CastText : (names : List (List ℕ)) → (depth count : ℕ) → tree.Expression → List Leaf → Type 0
+CastText names depth count = Or (Behind (One (brackets (suc depth) (suc count)) (mark_place punctuator.LeftParenthesis)) (λ place. CastInside names depth count place)) (PlainUnary names depth count)
+
+converted_cast : (names : List (List ℕ)) (depth count place : ℕ) (x : tree.Expression) (text : List Leaf) → CastInside names depth count place x text → Cast names depth count x (opening depth count place ∷ text)
+converted_cast names depth count place x text (first b) =
+    let m = b.is_second in
+    let c = b.is_first in
+    let same : text ≡ c.inside ++ plain (mark punctuator.RightParenthesis c.close) ∷ b.right = b.cut ∙ ap (λ t. t ++ b.right) c.cut ∙ append_assoc c.inside (plain (mark punctuator.RightParenthesis c.close) ∷ []) b.right in
+    rw (m.is, same) (cast depth count b.first m.inner c.inside b.right place c.close c.spells m.spells)
+converted_cast names depth count place x text (second h) = unary depth count x (opening depth count place ∷ text) (bracket_unary names depth count place x text h)
+
+text_cast : (names : List (List ℕ)) (depth count : ℕ) (x : tree.Expression) (text : List Leaf) → CastText names depth count x text → Cast names depth count x text
+text_cast names depth count x text (first b) =
+    subst (λ t. Cast names depth count x t) (sym (b.cut ∙ ap (λ t. t ++ b.right) (one-mark punctuator.LeftParenthesis (brackets (suc depth) (suc count)) b.first b.left b.is_first))) (converted_cast names depth count b.first x b.right b.is_second)
+text_cast names depth count x text (second p) = unary depth count x text p.spells
+
+cast_by_split : (names : List (List ℕ)) (depth count : ℕ) (x : tree.Expression) (text : List Leaf) → UnarySplit names depth count x text → CastText names depth count x text
+cast_by_split names depth count x text (is_plain p) = second p
+cast_by_split names depth count x text (is_bracket place rest cut h) =
+    first (record { first = place; left = opening depth count place ∷ []; right = rest; is_first = mark-one punctuator.LeftParenthesis (brackets (suc depth) (suc count)) place; is_second = second h; cut = cut })
+
+cast_text : (names : List (List ℕ)) (depth count : ℕ) (x : tree.Expression) (text : List Leaf) → Cast names depth count x text → CastText names depth count x text
+cast_text names depth count x text (unary d c y t h) = cast_by_split names d c y t (unary_split names d c y t h)
+cast_text names depth count x text (cast d c ty y inside t place close h k) =
+    first (record {
+      first = place;
+      left = opening d c place ∷ [];
+      right = inside ++ plain (mark punctuator.RightParenthesis close) ∷ t;
+      is_first = mark-one punctuator.LeftParenthesis (brackets (suc d) (suc c)) place;
+      is_second = first (record {
+        first = ty;
+        left = inside ++ plain (mark punctuator.RightParenthesis close) ∷ [];
+        right = t;
+        is_first = record { inside = inside; close = close; spells = h; cut = refl };
+        is_second = record { inner = y; is = refl; spells = k };
+        cut = sym (append_assoc inside (plain (mark punctuator.RightParenthesis close) ∷ []) t);
+      });
+      cut = refl;
+    })
+
+exact-cast_inside : {names : List (List ℕ)} {stop_type : tree.TypeName → Placed → Bool} {inner : Readers} {turns : ℕ} → TypeFacts names stop_type → AreExact names stop_type inner turns → (depth count place : ℕ) → needs depth count ≤ turns → suc depth ≤ 128 → suc count ≤ 128
+    → Exact marks anything (CastInside names depth count place) stop_cast (choose (begins_type names) (read_converted inner depth count place) (read_bracketed inner depth count place))
+exact-cast_inside {names} {stop_type} {inner} {turns} facts are depth count place h d l =
+    exact-choice (begins_type names)
+    record {
+      first_begins = λ x text b. let f = type_begins names stop_type facts depth b.first b.left b.is_first in (f.0, f.1 ++ b.right, b.cut ∙ ap (λ t. t ++ b.right) f.2, f.3);
+      second_begins = λ x text rest one stops. let n = bracket_no names depth count place x text one in stops_first (begins_type names) text n.leaf n.more rest n.cut n.no;
+    }
+    (exact-behind (exact-type facts are depth count h d)
+    (λ type left one within. exact-enter anything (exact-map (λ x. tree.Cast type x place) stop_cast (λ x. refl) (are.cast depth (suc count) (let next = budget_next depth count turns h l in omega arith))))
+    record {
+      ends = λ type x left right rest one two stops. stops_anything (plains marks right ++ rest);
+      goes_on = λ type left one. (tree.Cast type zero_tree place, zero_text, record { inner = zero_tree; is = refl; spells = zero_cast names depth (suc count) });
+    })
+    (exact-bracket names inner depth count place d l (inside_by are depth count h))
+
+pub exact-cast : {names : List (List ℕ)} {stop_type : tree.TypeName → Placed → Bool} {inner : Readers} {turns : ℕ} → TypeFacts names stop_type → AreExact names stop_type inner turns → (depth count : ℕ) → needs depth count + 1 ≤ turns → Exact marks anything (Cast names depth count) stop_cast (read_cast names inner depth count)
+exact-cast {names} {stop_type} {inner} {turns} facts are depth count h =
+    exact-same anything (Cast names depth count) (read_cast names inner depth count) (λ t e. e) (text_cast names depth count) (cast_text names depth count) (λ tokens. refl)
+    (exact-choice (is_mark punctuator.LeftParenthesis)
+    record {
+      first_begins = λ x text b. open_first depth count (CastInside names depth count) x text b;
+      second_begins = λ x text rest p stops. stops_first (is_mark punctuator.LeftParenthesis) text p.leaf p.more rest p.cut p.no;
+    }
+    (exact-opened (mark_place punctuator.LeftParenthesis) Nothing (brackets (suc depth) (suc count)) (λ t. refl) (mark punctuator.LeftParenthesis 0) 0 (mark-self punctuator.LeftParenthesis 0)
+    (λ place. (tree.Bracketed zero_tree place, zero_text ++ awaited OperandEnd (mark punctuator.RightParenthesis 0) ∷ [], second (base _ _ (record { inner = zero_tree; is = refl; spells = record { inside = zero_text; close = 0; spells = zero_conditional names (suc depth) (suc count); cut = refl } }))))
+    (λ place t is within. let w = within_brackets (suc depth) (suc count) t within in exact-cast_inside facts are depth count place (omega arith) w.0 w.1))
+    (are.unary depth count h))

@@ -1,0 +1,7 @@
+pub mod Classes
+pub mod Stops
+pub mod Readers
+pub mod Types
+pub mod Turns
+pub mod Budget
+pub mod Exactness

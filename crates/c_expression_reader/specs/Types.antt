@@ -1,0 +1,239 @@
+-- Readers of the types that stand in casts and behind `sizeof`, on lists of tokens (ISO C11, 6.7.2, 6.7.6, 6.7.7).
+use Rattle.std.specs.Prelude.{ℕ, suc, Bool, true, false, if◌then◌else◌, List, [], ◌∷◌, ◌++◌, length, Option, Some, None, option_map, unwrap_or}
+use Rattle.std.specs.Option.{is_some, option_map_or}
+use Rattle.c_spec.specs.declared.token.Keyword.{Keyword}
+use Rattle.c_spec.specs.declared.token.Keyword.TheVariants.{Const, Void, Char, Signed, Unsigned, Short, Int, Long, Struct, Enum}
+use Rattle.c_spec.specs.declared.token.Punctuator.TheVariants as punctuator
+use Rattle.c_spec.specs.Lexical.{Placed, Token, Name as name_token, Word, Number as number_token, Character as character_token, Mark}
+use Rattle.c_tree_spec.specs.declared.IntegerType.TheVariants as integer
+use Rattle.c_tree_spec.specs.Expression as tree
+use Rattle.c_grammar_spec.specs.declared.Role.{Role}
+use Rattle.c_grammar_spec.specs.declared.Role.TheVariants.{Nothing, DeclaredName, OperandEnd}
+use Rattle.c_grammar_spec.specs.Leaves.{plain, awaited, opens}
+use Rattle.c_grammar_spec.specs.Expressions.{is_type_name, integer_type_of, member_end}
+use Rattle.exact_read.specs.Reading.{Reader}
+use Rattle.exact_read.specs.Grammar.{read_then, read_map, read_many, read_nothing}
+use Rattle.c_expression_reader.specs.Classes.{is_mark, mark_place, name_at, begins_type}
+use Rattle.c_expression_reader.specs.Readers.{Readers, token, behind, before, choose}
+
+-- `const`, any number of times: their places
+abbrev pub is_const : Token → Bool
+is_const (Word Const) = true
+is_const other = false
+
+abbrev pub const_place : Placed → Option ℕ
+const_place next = if is_const next.token then Some next.offset else None
+
+abbrev pub read_consts : Reader Placed Role (List ℕ)
+read_consts = read_many (λ (_ : Unit {0}) next. is_const next.token) (λ _. token Nothing plain const_place) (λ _ _. tt {0}) (tt {0})
+
+-- so many `*`
+abbrev pub read_pointer : Reader Placed Role ℕ
+read_pointer = read_map length (read_many (λ (_ : Unit {0}) next. is_mark punctuator.Star next.token) (λ _. before (token Nothing plain (mark_place punctuator.Star)) read_consts) (λ _ _. tt {0}) (tt {0}))
+
+-- a name that is none of a type
+abbrev pub plain_name_of : (names : List (List ℕ)) → Token → (place : ℕ) → Option tree.Name
+plain_name_of names (name_token spelling) place = if is_type_name names spelling then None else Some (record { spelling = spelling; place = place })
+plain_name_of names other place = None
+
+abbrev pub plain_name_at : (names : List (List ℕ)) → Placed → Option tree.Name
+plain_name_at names next = plain_name_of names next.token next.offset
+
+abbrev pub is_plain_name : (names : List (List ℕ)) → Token → Bool
+is_plain_name names next = is_some (plain_name_of names next 0)
+
+-- what a base begins with
+pub data Head : Type 0 where
+  HeadVoid : Head
+  HeadInteger : (keyword : Keyword) → Head
+  HeadName : (name : tree.Name) → Head
+  HeadStruct : Head
+  HeadEnum : Head
+
+abbrev pub head_word : Keyword → Option Head
+head_word Void = Some HeadVoid
+head_word Char = Some (HeadInteger Char)
+head_word Signed = Some (HeadInteger Signed)
+head_word Unsigned = Some (HeadInteger Unsigned)
+head_word Short = Some (HeadInteger Short)
+head_word Int = Some (HeadInteger Int)
+head_word Long = Some (HeadInteger Long)
+head_word Struct = Some HeadStruct
+head_word Enum = Some HeadEnum
+head_word other = None
+
+abbrev pub head_of : (names : List (List ℕ)) → Token → (place : ℕ) → Option Head
+head_of names (Word keyword) place = head_word keyword
+head_of names (name_token spelling) place = if is_type_name names spelling then Some (HeadName (record { spelling = spelling; place = place })) else None
+head_of names (number_token value type) place = None
+head_of names (character_token value) place = None
+head_of names (Mark punctuator) place = None
+
+abbrev pub head_at : (names : List (List ℕ)) → Placed → Option (Head × ℕ)
+head_at names next = option_map (λ head. (head, next.offset)) (head_of names next.token next.offset)
+
+-- further words of an integer type, as long as they name one with those before
+abbrev pub word_of : Token → Option Keyword
+word_of (Word keyword) = Some keyword
+word_of other = None
+
+abbrev pub goes_on : (words : List Keyword) → Token → Bool
+goes_on words next = option_map_or (λ word. is_some (integer_type_of (words ++ word ∷ []))) (word_of next) false
+
+abbrev pub read_words : (words : List Keyword) → Reader Placed Role (List Keyword)
+read_words = read_many (λ words next. goes_on words next.token) (λ words. token Nothing plain (λ next. word_of next.token)) (λ words word. words ++ word ∷ [])
+
+abbrev pub integer_of : (words : List Keyword) → tree.Base
+integer_of words = tree.Integer (unwrap_or (integer_type_of words) integer.Int)
+
+-- a length in brackets
+abbrev pub read_length : Readers → (depth : ℕ) → Reader Placed Role tree.Expression
+read_length inner depth =
+    behind (token Nothing (opens (suc depth)) (mark_place punctuator.LeftBracket))
+    (λ _. before (inner.conditional (suc depth) 0) (token OperandEnd (awaited OperandEnd) (mark_place punctuator.RightBracket)))
+
+abbrev pub expressions_of : List tree.Expression → tree.Expressions
+expressions_of [] = tree.no_expressions
+expressions_of (x ∷ xs) = tree.expressions x (expressions_of xs)
+
+abbrev pub read_lengths : Readers → (depth : ℕ) → Reader Placed Role tree.Expressions
+read_lengths inner depth = read_map expressions_of (read_many (λ (_ : Unit {0}) next. is_mark punctuator.LeftBracket next.token) (λ _. read_length inner depth) (λ _ _. tt {0}) (tt {0}))
+
+-- the lengths of an array, and whether the first is left out
+abbrev pub read_dimensions : Readers → (depth : ℕ) → Reader Placed Role (Bool × tree.Expressions)
+read_dimensions inner depth =
+    choose (is_mark punctuator.LeftBracket)
+    (behind (token Nothing (opens (suc depth)) (mark_place punctuator.LeftBracket))
+    (λ _. choose (is_mark punctuator.RightBracket)
+    (read_map (λ lengths. (true, lengths)) (behind (token Nothing plain (mark_place punctuator.RightBracket)) (λ _. read_lengths inner depth)))
+    (read_map (λ pair. (false, tree.expressions pair.0 pair.1))
+    (read_then (before (inner.conditional (suc depth) 0) (token OperandEnd (awaited OperandEnd) (mark_place punctuator.RightBracket))) (λ _. read_lengths inner depth)))))
+    (read_nothing (false, tree.no_expressions))
+
+abbrev pub read_declarator : (name : Placed → Option tree.Name) → Readers → (depth : ℕ) → Reader Placed Role tree.Declarator
+read_declarator name inner depth =
+    read_map (λ made. tree.Declared made.0 made.1.0 made.1.1.0 made.1.1.1)
+    (read_then read_pointer (λ _. read_then (token DeclaredName (awaited DeclaredName) name) (λ _. read_dimensions inner depth)))
+
+abbrev pub declarators_of : List tree.Declarator → tree.Declarators
+declarators_of [] = tree.no_declarators
+declarators_of (x ∷ xs) = tree.declarators x (declarators_of xs)
+
+-- the last of a declarator and those behind it
+abbrev pub last_of : tree.Declarator → List tree.Declarator → tree.Declarator
+last_of x [] = x
+last_of x (y ∷ ys) = last_of y ys
+
+-- declarators of members with `,` between them, and the `;` behind
+abbrev pub read_member_list : Readers → (depth : ℕ) → Reader Placed Role tree.Declarators
+read_member_list inner depth =
+    read_map (λ pair. tree.declarators pair.0 (declarators_of pair.1.0))
+    (read_then (read_declarator name_at inner depth)
+    (λ first. read_then (read_many (λ (_ : Unit {0}) next. is_mark punctuator.Comma next.token) (λ _. behind (token Nothing plain (mark_place punctuator.Comma)) (λ _. read_declarator name_at inner depth)) (λ _ _. tt {0}) (tt {0}))
+    (λ more. token (member_end (last_of first more)) (awaited (member_end (last_of first more))) (mark_place punctuator.Semicolon))))
+
+abbrev pub members_of : List (tree.Specifiers × tree.Declarators) → tree.Members
+members_of [] = tree.no_members
+members_of (x ∷ xs) = tree.members x.0 x.1 (members_of xs)
+
+-- members in braces
+abbrev pub read_members : (names : List (List ℕ)) → Readers → (depth : ℕ) → Reader Placed Role tree.Members
+read_members names inner depth =
+    behind (token Nothing (opens (suc depth)) (mark_place punctuator.LeftBrace))
+    (λ _. before (read_map members_of (read_many (λ (_ : Unit {0}) next. begins_type names next.token)
+    (λ _. read_then (inner.specifiers (suc depth)) (λ _. read_member_list inner (suc depth))) (λ _ _. tt {0}) (tt {0})))
+    (token Nothing plain (mark_place punctuator.RightBrace)))
+
+abbrev pub read_struct : (names : List (List ℕ)) → Readers → (depth : ℕ) → Reader Placed Role tree.Base
+read_struct names inner depth =
+    choose (is_plain_name names)
+    (behind (token Nothing plain (plain_name_at names)) (λ tag. choose (is_mark punctuator.LeftBrace)
+    (read_map (λ members. tree.Struct (Some tag) members) (read_members names inner depth)) (read_nothing (tree.StructTag tag))))
+    (read_map (λ members. tree.Struct None members) (read_members names inner depth))
+
+-- a constant, and its value where it has one
+abbrev pub read_constant : (names : List (List ℕ)) → Readers → (depth : ℕ) → Reader Placed Role (tree.Name × Option tree.Expression)
+read_constant names inner depth =
+    read_then (token Nothing plain (plain_name_at names)) (λ _. choose (is_mark punctuator.Assign)
+    (read_map Some (behind (token Nothing plain (mark_place punctuator.Assign)) (λ _. inner.conditional depth 0))) (read_nothing None))
+
+-- what is awaited behind a constant
+abbrev pub constant_end : tree.Name × Option tree.Expression → Role
+constant_end constant = option_map_or (λ _. OperandEnd) constant.1 Nothing
+
+-- behind a constant a `,` can stand, and behind that a constant: `after` is what is awaited
+pub data After : Type 0 where
+  AfterConstant : (end : Role) → After
+  AfterComma : After
+
+abbrev pub constants_start : (names : List (List ℕ)) → After → Placed → Bool
+constants_start names (AfterConstant end) next = is_mark punctuator.Comma next.token
+constants_start names AfterComma next = is_some (plain_name_at names next)
+
+abbrev pub next_after : After → Option (tree.Name × Option tree.Expression) → After
+next_after after None = AfterComma
+next_after after (Some constant) = AfterConstant (constant_end constant)
+
+abbrev pub after_role : After → Role
+after_role (AfterConstant end) = end
+after_role AfterComma = Nothing
+
+abbrev pub read_constants_part : (names : List (List ℕ)) → Readers → (depth : ℕ) → After → Reader Placed Role (Option (tree.Name × Option tree.Expression))
+read_constants_part names inner depth (AfterConstant end) = read_map (λ _. None) (token Nothing plain (mark_place punctuator.Comma))
+read_constants_part names inner depth AfterComma = read_map Some (read_constant names inner depth)
+
+abbrev pub context_of : After → List (Option (tree.Name × Option tree.Expression)) → After
+context_of after [] = after
+context_of after (part ∷ parts) = context_of (next_after after part) parts
+
+abbrev pub constant_before : tree.Name × Option tree.Expression → tree.Constants → tree.Constants
+constant_before (name, None) rest = tree.constants name rest
+constant_before (name, Some value) rest = tree.constants_with name value rest
+
+abbrev pub constants_of : List (Option (tree.Name × Option tree.Expression)) → tree.Constants
+constants_of [] = tree.no_constants
+constants_of (None ∷ parts) = constants_of parts
+constants_of (Some constant ∷ parts) = constant_before constant (constants_of parts)
+
+-- constants in braces
+abbrev pub read_constants : (names : List (List ℕ)) → Readers → (depth : ℕ) → Reader Placed Role tree.Constants
+read_constants names inner depth =
+    behind (token Nothing (opens (suc depth)) (mark_place punctuator.LeftBrace))
+    (λ _. read_map (λ pair. constant_before pair.0 (constants_of pair.1.0)) (read_then (read_constant names inner (suc depth))
+    (λ first. read_then (read_many (constants_start names) (read_constants_part names inner (suc depth)) next_after (AfterConstant (constant_end first)))
+    (λ parts. token (after_role (context_of (AfterConstant (constant_end first)) parts)) (awaited (after_role (context_of (AfterConstant (constant_end first)) parts))) (mark_place punctuator.RightBrace)))))
+
+abbrev pub read_enum : (names : List (List ℕ)) → Readers → (depth : ℕ) → Reader Placed Role tree.Base
+read_enum names inner depth =
+    choose (is_plain_name names)
+    (behind (token Nothing plain (plain_name_at names)) (λ tag. choose (is_mark punctuator.LeftBrace)
+    (read_map (λ constants. tree.Enum (Some tag) constants) (read_constants names inner depth)) (read_nothing (tree.EnumTag tag))))
+    (read_map (λ constants. tree.Enum None constants) (read_constants names inner depth))
+
+-- what stands behind the first token of a base
+abbrev pub read_base_rest : (names : List (List ℕ)) → Readers → (depth : ℕ) → Head → Reader Placed Role tree.Base
+read_base_rest names inner depth HeadVoid = read_nothing tree.Void
+read_base_rest names inner depth (HeadInteger keyword) = read_map (λ words. integer_of (keyword ∷ words)) (read_words (keyword ∷ []))
+read_base_rest names inner depth (HeadName name) = read_nothing (tree.TypedefName name)
+read_base_rest names inner depth HeadStruct = read_struct names inner depth
+read_base_rest names inner depth HeadEnum = read_enum names inner depth
+
+abbrev pub read_base : (names : List (List ℕ)) → Readers → (depth : ℕ) → Reader Placed Role ((Head × ℕ) × tree.Base)
+read_base names inner depth = read_then (token Nothing plain (head_at names)) (λ head. read_base_rest names inner depth head.0)
+
+abbrev pub no_storage : tree.Storage
+no_storage = record { is_typedef = false; is_static = false }
+
+-- the first of some places, or another
+abbrev pub first_or : List ℕ → ℕ → ℕ
+first_or [] place = place
+first_or (first ∷ rest) place = first
+
+-- specifiers that stand in no item and in no declaration of locals
+abbrev pub read_specifiers : (names : List (List ℕ)) → Readers → (depth : ℕ) → Reader Placed Role tree.Specifiers
+read_specifiers names inner depth =
+    read_map (λ made. tree.Specified no_storage made.1.0.1 (first_or made.0 made.1.0.0.1))
+    (read_then read_consts (λ _. read_then (read_base names inner depth) (λ _. read_consts)))
+
+abbrev pub read_type_name : (names : List (List ℕ)) → Readers → (depth : ℕ) → Reader Placed Role tree.TypeName
+read_type_name names inner depth = read_map (λ pair. tree.Pointers pair.0 pair.1) (read_then (read_specifiers names inner depth) (λ _. read_pointer))

@@ -1,0 +1,314 @@
+-- Expressions and types: which leaves spell which tree (ISO C11, 6.5 to 6.7.7). `names` are the names of types
+-- that are in force, `depth` is the number of constructs that are open around, and `count` the number of
+-- operators that stand before in the same whole expression. A relation has the name of C11's nonterminal.
+use Rattle.std.specs.Prelude.{◌≡◌, ℕ, suc, ◌+◌, ◌==◌, ◌&&◌, ◌||◌, bytes_eq, Bool, true, false, List, [], ◌∷◌, ◌++◌, map, length, Option, Some, None, option_map, find, filter}
+use Rattle.std.specs.List.{list_any}
+use Rattle.c_spec.specs.declared.token.Keyword.{Keyword}
+use Rattle.c_spec.specs.declared.token.Keyword.TheVariants.{Char, Const, Enum, Extern, Inline, Int, Long, Short, Signed, Sizeof, Static, Struct, Typedef, Unsigned, Void}
+use Rattle.c_spec.specs.declared.token.Punctuator.{Punctuator}
+use Rattle.c_spec.specs.declared.token.Punctuator.TheVariants as punctuator
+use Rattle.c_spec.specs.declared.token.NumberType.{NumberType}
+use Rattle.c_tree_spec.specs.declared.BinaryOperator.{BinaryOperator}
+use Rattle.c_tree_spec.specs.declared.BinaryOperator.TheVariants.{LogicalOr, LogicalAnd, BitOr, BitXor, BitAnd, Equal, NotEqual, Less, Greater, LessOrEqual, GreaterOrEqual, ShiftLeft, ShiftRight, Add, Subtract, Multiply, Divide, Remainder}
+use Rattle.c_tree_spec.specs.declared.UnaryOperator.{UnaryOperator}
+use Rattle.c_tree_spec.specs.declared.UnaryOperator.TheVariants.{AddressOf, Dereference, Plus, Minus, Complement, Not}
+use Rattle.c_tree_spec.specs.declared.Access.{Access}
+use Rattle.c_tree_spec.specs.declared.Access.TheVariants.{Dot, Arrow}
+use Rattle.c_tree_spec.specs.declared.IntegerType.{IntegerType}
+use Rattle.c_tree_spec.specs.declared.IntegerType.TheVariants as integer
+use Rattle.c_tree_spec.specs.Expression as tree
+use Rattle.c_grammar_spec.specs.declared.Role.{Role}
+use Rattle.c_grammar_spec.specs.declared.Role.TheVariants.{Nothing, DeclaredName, MemberEnd, OperandEnd}
+use Rattle.c_grammar_spec.specs.Leaves.{Leaf, plain, awaited, opens, operates, brackets, mark, word, named, number, character, first_place}
+
+-- a name is one of a type
+abbrev pub is_type_name : (names : List (List ℕ)) → (spelling : List ℕ) → Bool
+is_type_name names spelling = list_any (λ name. bytes_eq name spelling) names
+
+-- the tokens of operators
+abbrev pub access_mark : Access → Punctuator
+access_mark Dot = punctuator.Dot
+access_mark Arrow = punctuator.Arrow
+
+abbrev pub unary_mark : UnaryOperator → Punctuator
+unary_mark AddressOf = punctuator.Ampersand
+unary_mark Dereference = punctuator.Star
+unary_mark Plus = punctuator.Plus
+unary_mark Minus = punctuator.Minus
+unary_mark Complement = punctuator.Tilde
+unary_mark Not = punctuator.Exclamation
+
+abbrev pub binary_mark : BinaryOperator → Punctuator
+binary_mark LogicalOr = punctuator.LogicalOr
+binary_mark LogicalAnd = punctuator.LogicalAnd
+binary_mark BitOr = punctuator.Bar
+binary_mark BitXor = punctuator.Caret
+binary_mark BitAnd = punctuator.Ampersand
+binary_mark Equal = punctuator.Equals
+binary_mark NotEqual = punctuator.NotEquals
+binary_mark Less = punctuator.LessThan
+binary_mark Greater = punctuator.GreaterThan
+binary_mark LessOrEqual = punctuator.LessOrEqual
+binary_mark GreaterOrEqual = punctuator.GreaterOrEqual
+binary_mark ShiftLeft = punctuator.ShiftLeft
+binary_mark ShiftRight = punctuator.ShiftRight
+binary_mark Add = punctuator.Plus
+binary_mark Subtract = punctuator.Minus
+binary_mark Multiply = punctuator.Star
+binary_mark Divide = punctuator.Slash
+binary_mark Remainder = punctuator.Percent
+
+-- how tightly an operator binds: the multiplicative ones at 1 (6.5.5) up to `||` at 10 (6.5.14)
+abbrev pub level_of : BinaryOperator → ℕ
+level_of Multiply = 1
+level_of Divide = 1
+level_of Remainder = 1
+level_of Add = 2
+level_of Subtract = 2
+level_of ShiftLeft = 3
+level_of ShiftRight = 3
+level_of Less = 4
+level_of Greater = 4
+level_of LessOrEqual = 4
+level_of GreaterOrEqual = 4
+level_of Equal = 5
+level_of NotEqual = 5
+level_of BitAnd = 6
+level_of BitXor = 7
+level_of BitOr = 8
+level_of LogicalAnd = 9
+level_of LogicalOr = 10
+
+-- How many operators an expression has: its operator tokens, with the brackets `(` and `[`, `?` and `sizeof`.
+-- What stands inside a type is no part of it.
+abbrev pub operators : tree.Expression → ℕ
+operators (tree.Named name) = 0
+operators (tree.Number value type place) = 0
+operators (tree.Character value place) = 0
+operators (tree.Bracketed inner place) = suc (operators inner)
+operators (tree.Index base index place) = operators base + suc (operators index)
+operators (tree.Member base access member place) = suc (operators base)
+operators (tree.Unary operator operand place) = suc (operators operand)
+operators (tree.Sizeof operand place) = suc (operators operand)
+operators (tree.SizeofType type place) = 2
+operators (tree.Cast type operand place) = suc (operators operand)
+operators (tree.Binary operator left right place) = operators left + suc (operators right)
+operators (tree.Conditional test first second place) = operators test + suc (operators first + operators second)
+
+-- where specifiers stand: directly in an item of the unit, directly in a declaration of locals, or elsewhere
+pub data Position : Type 0 where
+  InItem : Position
+  InLocal : Position
+  InPart : Position
+
+-- storage words that are given twice count once
+abbrev pub both : tree.Storage → tree.Storage → tree.Storage
+both one two = record { is_typedef = one.is_typedef || two.is_typedef; is_static = one.is_static || two.is_static }
+
+-- the words before or after a base (6.7.1, 6.7.3, 6.7.4)
+pub data Words : Position → tree.Storage → List Leaf → Type 0 where
+  none : (position : Position) → Words position (record { is_typedef = false; is_static = false }) []
+  const : (position : Position) (storage : tree.Storage) (text : List Leaf) (place : ℕ) → Words position storage text → Words position storage (plain (word Const place) ∷ text)
+  typedef : (storage : tree.Storage) (text : List Leaf) (place : ℕ) → Words InItem storage text → Words InItem (record { is_typedef = true; is_static = storage.is_static }) (plain (word Typedef place) ∷ text)
+  extern : (storage : tree.Storage) (text : List Leaf) (place : ℕ) → Words InItem storage text → Words InItem storage (plain (word Extern place) ∷ text)
+  inline : (storage : tree.Storage) (text : List Leaf) (place : ℕ) → Words InItem storage text → Words InItem storage (plain (word Inline place) ∷ text)
+  static_item : (storage : tree.Storage) (text : List Leaf) (place : ℕ) → Words InItem storage text → Words InItem (record { is_typedef = storage.is_typedef; is_static = true }) (plain (word Static place) ∷ text)
+  static_local : (storage : tree.Storage) (text : List Leaf) (place : ℕ) → Words InLocal storage text → Words InLocal (record { is_typedef = storage.is_typedef; is_static = true }) (plain (word Static place) ∷ text)
+
+-- which words name an integer type (6.7.2)
+abbrev pub combinations : List (List Keyword × IntegerType)
+combinations =
+    (Char ∷ [], integer.Char)
+    ∷ (Signed ∷ Char ∷ [], integer.SignedChar)
+    ∷ (Unsigned ∷ Char ∷ [], integer.UnsignedChar)
+    ∷ (Short ∷ [], integer.Short) ∷ (Signed ∷ Short ∷ [], integer.Short) ∷ (Short ∷ Int ∷ [], integer.Short) ∷ (Signed ∷ Short ∷ Int ∷ [], integer.Short)
+    ∷ (Unsigned ∷ Short ∷ [], integer.UnsignedShort) ∷ (Unsigned ∷ Short ∷ Int ∷ [], integer.UnsignedShort)
+    ∷ (Int ∷ [], integer.Int) ∷ (Signed ∷ [], integer.Int) ∷ (Signed ∷ Int ∷ [], integer.Int)
+    ∷ (Unsigned ∷ [], integer.UnsignedInt) ∷ (Unsigned ∷ Int ∷ [], integer.UnsignedInt)
+    ∷ (Long ∷ [], integer.Long) ∷ (Signed ∷ Long ∷ [], integer.Long) ∷ (Long ∷ Int ∷ [], integer.Long) ∷ (Signed ∷ Long ∷ Int ∷ [], integer.Long)
+    ∷ (Unsigned ∷ Long ∷ [], integer.UnsignedLong) ∷ (Unsigned ∷ Long ∷ Int ∷ [], integer.UnsignedLong)
+    ∷ (Long ∷ Long ∷ [], integer.LongLong) ∷ (Signed ∷ Long ∷ Long ∷ [], integer.LongLong) ∷ (Long ∷ Long ∷ Int ∷ [], integer.LongLong) ∷ (Signed ∷ Long ∷ Long ∷ Int ∷ [], integer.LongLong)
+    ∷ (Unsigned ∷ Long ∷ Long ∷ [], integer.UnsignedLongLong) ∷ (Unsigned ∷ Long ∷ Long ∷ Int ∷ [], integer.UnsignedLongLong)
+    ∷ []
+
+-- how often each of these words stands in a list
+abbrev pub is_char : Keyword → Bool
+is_char Char = true
+is_char other = false
+
+abbrev pub is_signed : Keyword → Bool
+is_signed Signed = true
+is_signed other = false
+
+abbrev pub is_unsigned : Keyword → Bool
+is_unsigned Unsigned = true
+is_unsigned other = false
+
+abbrev pub is_short : Keyword → Bool
+is_short Short = true
+is_short other = false
+
+abbrev pub is_int : Keyword → Bool
+is_int Int = true
+is_int other = false
+
+abbrev pub is_long : Keyword → Bool
+is_long Long = true
+is_long other = false
+
+abbrev pub same_counts : (test : Keyword → Bool) → List Keyword → List Keyword → Bool
+same_counts test one two = length (filter test one) == length (filter test two)
+
+-- the same words in any order
+abbrev pub same_words : List Keyword → List Keyword → Bool
+same_words one two =
+    (length one == length two) && same_counts is_char one two && same_counts is_signed one two && same_counts is_unsigned one two
+    && same_counts is_short one two && same_counts is_int one two && same_counts is_long one two
+
+-- the integer type that words name, in any order
+unfoldable pub integer_type_of : List Keyword → Option IntegerType
+integer_type_of words = option_map (λ entry. entry.1) (find (λ entry. same_words entry.0 words) combinations)
+
+-- `const`, any number of times
+pub data Consts : List Leaf → Type 0 where
+  none : Consts []
+  const : (text : List Leaf) (place : ℕ) → Consts text → Consts (plain (word Const place) ∷ text)
+
+-- so many `*`, each with `const` behind it or without (6.7.6)
+pub data Pointer : (pointers : ℕ) → List Leaf → Type 0 where
+  none : Pointer 0 []
+  star : (pointers place : ℕ) (consts text : List Leaf) → Consts consts → Pointer pointers text → Pointer (suc pointers) (plain (mark punctuator.Star place) ∷ consts ++ text)
+
+-- a tag, or none
+pub data Tag (names : List (List ℕ)) : Option tree.Name → List Leaf → Type 0 where
+  none : Tag names None []
+  tag : (name : tree.Name) → is_type_name names name.spelling ≡ false → Tag names (Some name) (plain (named name) ∷ [])
+
+-- a declared name: one of a member may be one of a type too
+abbrev pub can_declare : (is_member : Bool) → (names : List (List ℕ)) → (spelling : List ℕ) → Bool
+can_declare true names spelling = true
+can_declare false names spelling = not_type (is_type_name names spelling)
+  where
+    not_type : Bool → Bool
+    not_type true = false
+    not_type false = true
+
+-- what is awaited behind a member's declarator: where it is no array its end stands directly behind the name
+abbrev pub member_end : tree.Declarator → Role
+member_end (tree.Declared pointers name true lengths) = Nothing
+member_end (tree.Declared pointers name false tree.no_expressions) = MemberEnd
+member_end (tree.Declared pointers name false (tree.expressions length rest)) = Nothing
+
+mutual
+  -- 6.5.1
+  pub data Primary (names : List (List ℕ)) : (depth count : ℕ) → tree.Expression → List Leaf → Type 0 where
+    name : (depth count : ℕ) (n : tree.Name) → is_type_name names n.spelling ≡ false → Primary names depth count (tree.Named n) (plain (named n) ∷ [])
+    constant : (depth count value : ℕ) (type : NumberType) (place : ℕ) → Primary names depth count (tree.Number value type place) (plain (number value type place) ∷ [])
+    character_constant : (depth count value place : ℕ) → Primary names depth count (tree.Character value place) (plain (character value place) ∷ [])
+    bracketed : (depth count : ℕ) (x : tree.Expression) (inside : List Leaf) (place close : ℕ) → Conditional names (suc depth) (suc count) x inside
+        → Primary names depth count (tree.Bracketed x place) (brackets (suc depth) (suc count) (mark punctuator.LeftParenthesis place) ∷ inside ++ awaited OperandEnd (mark punctuator.RightParenthesis close) ∷ [])
+
+  -- 6.5.2
+  pub data Postfix (names : List (List ℕ)) : (depth count : ℕ) → tree.Expression → List Leaf → Type 0 where
+    primary : (depth count : ℕ) (x : tree.Expression) (text : List Leaf) → Primary names depth count x text → Postfix names depth count x text
+    index : (depth count : ℕ) (base i : tree.Expression) (front inside : List Leaf) (place close : ℕ) → Postfix names depth count base front → Conditional names (suc depth) (suc (count + operators base)) i inside
+        → Postfix names depth count (tree.Index base i place) (front ++ (brackets (suc depth) (suc (count + operators base)) (mark punctuator.LeftBracket place) ∷ inside ++ awaited OperandEnd (mark punctuator.RightBracket close) ∷ []))
+    member : (depth count : ℕ) (base : tree.Expression) (access : Access) (n : tree.Name) (front : List Leaf) (place : ℕ) → Postfix names depth count base front
+        → Postfix names depth count (tree.Member base access n place) (front ++ operates (suc (count + operators base)) (mark (access_mark access) place) ∷ plain (named n) ∷ [])
+
+  -- 6.5.3
+  pub data Unary (names : List (List ℕ)) : (depth count : ℕ) → tree.Expression → List Leaf → Type 0 where
+    postfix : (depth count : ℕ) (x : tree.Expression) (text : List Leaf) → Postfix names depth count x text → Unary names depth count x text
+    prefixed : (depth count : ℕ) (operator : UnaryOperator) (x : tree.Expression) (text : List Leaf) (place : ℕ) → Cast names depth (suc count) x text
+        → Unary names depth count (tree.Unary operator x place) (operates (suc count) (mark (unary_mark operator) place) ∷ text)
+    sizeof_expression : (depth count : ℕ) (x : tree.Expression) (text : List Leaf) (place : ℕ) → Unary names depth (suc count) x text
+        → Unary names depth count (tree.Sizeof x place) (operates (suc count) (word Sizeof place) ∷ text)
+    sizeof_type : (depth count : ℕ) (type : tree.TypeName) (text : List Leaf) (place open_place close : ℕ) → TypeName names (suc depth) type text
+        → Unary names depth count (tree.SizeofType type place) (operates (suc count) (word Sizeof place) ∷ brackets (suc depth) (suc (suc count)) (mark punctuator.LeftParenthesis open_place) ∷ text ++ plain (mark punctuator.RightParenthesis close) ∷ [])
+
+  -- 6.5.4
+  pub data Cast (names : List (List ℕ)) : (depth count : ℕ) → tree.Expression → List Leaf → Type 0 where
+    unary : (depth count : ℕ) (x : tree.Expression) (text : List Leaf) → Unary names depth count x text → Cast names depth count x text
+    cast : (depth count : ℕ) (type : tree.TypeName) (x : tree.Expression) (inside text : List Leaf) (place close : ℕ) → TypeName names (suc depth) type inside → Cast names depth (suc count) x text
+        → Cast names depth count (tree.Cast type x place) (brackets (suc depth) (suc count) (mark punctuator.LeftParenthesis place) ∷ inside ++ plain (mark punctuator.RightParenthesis close) ∷ text)
+
+  -- 6.5.5 to 6.5.14: the operands and operators of the levels up to this one, each level from the left
+  pub data Binary (names : List (List ℕ)) : (level depth count : ℕ) → tree.Expression → List Leaf → Type 0 where
+    operand : (depth count : ℕ) (x : tree.Expression) (text : List Leaf) → Cast names depth count x text → Binary names 0 depth count x text
+    tighter : (level depth count : ℕ) (x : tree.Expression) (text : List Leaf) → Binary names level depth count x text → Binary names (suc level) depth count x text
+    operation : (level depth count : ℕ) (operator : BinaryOperator) (x y : tree.Expression) (left right : List Leaf) (place : ℕ) → level_of operator ≡ suc level
+        → Binary names (suc level) depth count x left → Binary names level depth (suc (count + operators x)) y right
+        → Binary names (suc level) depth count (tree.Binary operator x y place) (left ++ operates (suc (count + operators x)) (mark (binary_mark operator) place) ∷ right)
+
+  -- 6.5.15
+  pub data Conditional (names : List (List ℕ)) : (depth count : ℕ) → tree.Expression → List Leaf → Type 0 where
+    logical_or : (depth count : ℕ) (x : tree.Expression) (text : List Leaf) → Binary names 10 depth count x text → Conditional names depth count x text
+    conditional : (depth count : ℕ) (x y z : tree.Expression) (test first second : List Leaf) (place colon : ℕ) → Binary names 10 depth count x test
+        → Conditional names depth (suc (count + operators x)) y first → Conditional names depth (suc (count + operators x) + operators y) z second
+        → Conditional names depth count (tree.Conditional x y z place) (test ++ (operates (suc (count + operators x)) (mark punctuator.Question place) ∷ first ++ awaited OperandEnd (mark punctuator.Colon colon) ∷ second))
+
+  -- 6.7.7: the type of a cast or of `sizeof`
+  pub data TypeName (names : List (List ℕ)) : (depth : ℕ) → tree.TypeName → List Leaf → Type 0 where
+    type_name : (depth : ℕ) (specifiers : tree.Specifiers) (pointers : ℕ) (left stars : List Leaf) → Specifiers names InPart depth specifiers left → Pointer pointers stars
+        → TypeName names depth (tree.Pointers specifiers pointers) (left ++ stars)
+
+  -- 6.7: one base, and words before and after it
+  pub data Specifiers (names : List (List ℕ)) : Position → (depth : ℕ) → tree.Specifiers → List Leaf → Type 0 where
+    specifiers : (position : Position) (depth : ℕ) (one two : tree.Storage) (base : tree.Base) (before middle after : List Leaf) → Words position one before → Base names depth base middle → Words position two after
+        → Specifiers names position depth (tree.Specified (both one two) base (first_place (before ++ middle))) (before ++ (middle ++ after))
+
+  -- 6.7.2
+  pub data Base (names : List (List ℕ)) : (depth : ℕ) → tree.Base → List Leaf → Type 0 where
+    void : (depth place : ℕ) → Base names depth tree.Void (plain (word Void place) ∷ [])
+    integer_type : (depth : ℕ) (type : IntegerType) (words : List (Keyword × ℕ)) → integer_type_of (map (λ w. w.0) words) ≡ Some type
+        → Base names depth (tree.Integer type) (map (λ w. plain (word w.0 w.1)) words)
+    typedef_name : (depth : ℕ) (n : tree.Name) → is_type_name names n.spelling ≡ true → Base names depth (tree.TypedefName n) (plain (named n) ∷ [])
+    struct_tag : (depth : ℕ) (n : tree.Name) (place : ℕ) → is_type_name names n.spelling ≡ false → Base names depth (tree.StructTag n) (plain (word Struct place) ∷ plain (named n) ∷ [])
+    struct : (depth : ℕ) (tag : Option tree.Name) (members : tree.Members) (name inside : List Leaf) (place open_place close : ℕ) → Tag names tag name → Members names (suc depth) members inside
+        → Base names depth (tree.Struct tag members) (plain (word Struct place) ∷ name ++ (opens (suc depth) (mark punctuator.LeftBrace open_place) ∷ inside ++ plain (mark punctuator.RightBrace close) ∷ []))
+    enum_tag : (depth : ℕ) (n : tree.Name) (place : ℕ) → is_type_name names n.spelling ≡ false → Base names depth (tree.EnumTag n) (plain (word Enum place) ∷ plain (named n) ∷ [])
+    enum : (depth : ℕ) (tag : Option tree.Name) (constants : tree.Constants) (name inside : List Leaf) (end : Role) (place open_place close : ℕ) → Tag names tag name → Constants names (suc depth) constants end inside
+        → Base names depth (tree.Enum tag constants) (plain (word Enum place) ∷ name ++ (opens (suc depth) (mark punctuator.LeftBrace open_place) ∷ inside ++ awaited end (mark punctuator.RightBrace close) ∷ []))
+
+  -- 6.7.2.1: declarations of members
+  pub data Members (names : List (List ℕ)) : (depth : ℕ) → tree.Members → List Leaf → Type 0 where
+    no_members : (depth : ℕ) → Members names depth tree.no_members []
+    members : (depth : ℕ) (specifiers : tree.Specifiers) (declarators : tree.Declarators) (rest : tree.Members) (left middle right : List Leaf) → Specifiers names InPart depth specifiers left → MemberDeclarators names depth declarators middle → Members names depth rest right
+        → Members names depth (tree.members specifiers declarators rest) (left ++ (middle ++ right))
+
+  -- declarators of members with `,` between them, and the `;` behind
+  pub data MemberDeclarators (names : List (List ℕ)) : (depth : ℕ) → tree.Declarators → List Leaf → Type 0 where
+    last_member : (depth : ℕ) (declarator : tree.Declarator) (text : List Leaf) (end : ℕ) → Declarator names true depth declarator text
+        → MemberDeclarators names depth (tree.declarators declarator tree.no_declarators) (text ++ awaited (member_end declarator) (mark punctuator.Semicolon end) ∷ [])
+    more_members : (depth : ℕ) (declarator : tree.Declarator) (rest : tree.Declarators) (text right : List Leaf) (comma : ℕ) → Declarator names true depth declarator text → MemberDeclarators names depth rest right
+        → MemberDeclarators names depth (tree.declarators declarator rest) (text ++ plain (mark punctuator.Comma comma) ∷ right)
+
+  -- 6.7.6: a name and its type, which is no function's
+  pub data Declarator (names : List (List ℕ)) : (is_member : Bool) → (depth : ℕ) → tree.Declarator → List Leaf → Type 0 where
+    declarator : (is_member : Bool) (depth pointers : ℕ) (n : tree.Name) (is_open : Bool) (lengths : tree.Expressions) (stars dimensions : List Leaf) → can_declare is_member names n.spelling ≡ true → Pointer pointers stars → Dimensions names depth is_open lengths dimensions
+        → Declarator names is_member depth (tree.Declared pointers n is_open lengths) (stars ++ awaited DeclaredName (named n) ∷ dimensions)
+
+  -- the lengths of an array: none, or each in brackets, of which the first may be left out
+  pub data Dimensions (names : List (List ℕ)) : (depth : ℕ) → (is_open : Bool) → tree.Expressions → List Leaf → Type 0 where
+    given : (depth : ℕ) (lengths : tree.Expressions) (text : List Leaf) → Lengths names depth lengths text → Dimensions names depth false lengths text
+    left_out : (depth : ℕ) (lengths : tree.Expressions) (text : List Leaf) (place close : ℕ) → Lengths names depth lengths text
+        → Dimensions names depth true lengths (opens (suc depth) (mark punctuator.LeftBracket place) ∷ plain (mark punctuator.RightBracket close) ∷ text)
+
+  -- a length is a whole expression
+  pub data Lengths (names : List (List ℕ)) : (depth : ℕ) → tree.Expressions → List Leaf → Type 0 where
+    no_lengths : (depth : ℕ) → Lengths names depth tree.no_expressions []
+    some_length : (depth : ℕ) (x : tree.Expression) (rest : tree.Expressions) (inside right : List Leaf) (place close : ℕ) → Conditional names (suc depth) 0 x inside → Lengths names depth rest right
+        → Lengths names depth (tree.expressions x rest) (opens (suc depth) (mark punctuator.LeftBracket place) ∷ inside ++ awaited OperandEnd (mark punctuator.RightBracket close) ∷ right)
+
+  -- 6.7.2.2: constants with `,` between them and behind the last or not, and what is awaited behind them
+  pub data Constants (names : List (List ℕ)) : (depth : ℕ) → tree.Constants → (end : Role) → List Leaf → Type 0 where
+    last : (depth : ℕ) (n : tree.Name) → is_type_name names n.spelling ≡ false → Constants names depth (tree.constants n tree.no_constants) Nothing (plain (named n) ∷ [])
+    last_comma : (depth : ℕ) (n : tree.Name) (comma : ℕ) → is_type_name names n.spelling ≡ false → Constants names depth (tree.constants n tree.no_constants) Nothing (plain (named n) ∷ plain (mark punctuator.Comma comma) ∷ [])
+    more : (depth : ℕ) (n : tree.Name) (rest : tree.Constants) (end : Role) (right : List Leaf) (comma : ℕ) → is_type_name names n.spelling ≡ false → Constants names depth rest end right
+        → Constants names depth (tree.constants n rest) end (plain (named n) ∷ plain (mark punctuator.Comma comma) ∷ right)
+    last_with : (depth : ℕ) (n : tree.Name) (x : tree.Expression) (value : List Leaf) (place : ℕ) → is_type_name names n.spelling ≡ false → Conditional names depth 0 x value
+        → Constants names depth (tree.constants_with n x tree.no_constants) OperandEnd (plain (named n) ∷ plain (mark punctuator.Assign place) ∷ value)
+    last_with_comma : (depth : ℕ) (n : tree.Name) (x : tree.Expression) (value : List Leaf) (place comma : ℕ) → is_type_name names n.spelling ≡ false → Conditional names depth 0 x value
+        → Constants names depth (tree.constants_with n x tree.no_constants) Nothing (plain (named n) ∷ plain (mark punctuator.Assign place) ∷ value ++ plain (mark punctuator.Comma comma) ∷ [])
+    more_with : (depth : ℕ) (n : tree.Name) (x : tree.Expression) (rest : tree.Constants) (end : Role) (value right : List Leaf) (place comma : ℕ) → is_type_name names n.spelling ≡ false → Conditional names depth 0 x value → Constants names depth rest end right
+        → Constants names depth (tree.constants_with n x rest) end (plain (named n) ∷ plain (mark punctuator.Assign place) ∷ value ++ plain (mark punctuator.Comma comma) ∷ right)

@@ -1,0 +1,6 @@
+pub mod Leaves
+pub mod Expressions
+pub mod Statements
+pub mod Units
+pub mod Faults
+pub mod Source

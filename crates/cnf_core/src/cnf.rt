@@ -1,0 +1,87 @@
+ghost use Rattle.std.specs.Prelude.{◌≡◌, ◌==◌, ◌+◌, ◌-◌, ◌^◌, ◌<◌, ◌++◌, ◌∷◌, [], length, slice_get, true, IfSome, OnOk, OnErr};
+ghost use Rattle.std.specs.List.{list_all};
+ghost use Rattle.std.specs.Option.{option_map};
+ghost use Rattle.clause_spec.specs.Clause as spec;
+
+use crate::ClauseList;
+use clause_spec::Literal;
+use std::alloc::{AllocError, Global};
+use std::marker::Model;
+
+/// Clauses over the variables from 1 to [`Cnf::variables`]. Clauses are numbered from 1.
+#[derive(Drop)]
+pub struct Cnf {
+    variables: usize,
+    clauses: ClauseList,
+}
+
+impl Model for Cnf {
+    ghost use Rattle.std.specs.Prelude.{◌≡◌, true};
+    ghost use Rattle.clause_spec.specs.Clause.{Cnf as cnf, are_of};
+
+    ghost Value = { cnf };
+
+    ghost view = { λ c. record { variables = c.variables; clauses = c.clauses.clauses } };
+
+    ghost invariant = { λ c. are_of c.variables c.clauses.clauses ≡ true };
+}
+
+impl Cnf {
+    /// No clauses, over so many variables.
+    pub fn new(alloc: Global, variables: usize) -> Self
+        ensures { result ≡ record { variables = variables; clauses = [] } }
+    {
+        Cnf {
+            variables,
+            clauses: ClauseList::new(alloc),
+        }
+    }
+
+    /// How many variables there are.
+    pub fn variables(&self) -> usize
+        ensures { result ≡ self.now.variables }
+    {
+        self.variables
+    }
+
+    /// How many clauses there are.
+    pub fn len(&self) -> usize
+        ensures { result ≡ length self.now.clauses }
+    {
+        self.clauses.len()
+    }
+
+    /// Whether there are no clauses.
+    pub fn is_empty(&self) -> bool
+        ensures { result ≡ (length self.now.clauses == 0) }
+    {
+        self.clauses.is_empty()
+    }
+
+    /// The clause at a place, counted from 0.
+    pub fn clause(&self, place: usize) -> Option<&[Literal]>
+        ensures found { option_map (λ clause. clause.now) result ≡ slice_get self.now.clauses place }
+        ensures named { IfSome result (λ clause. list_all (spec.is_of self.now.variables) clause.now ≡ true) }
+    {
+        self.clauses.get(place)
+    }
+
+    /// One more variable, which has the number of the answer.
+    pub fn add_variable(&mut self) -> usize
+        requires { self.old.variables < 2 ^ 64 - 1 }
+        ensures number { result ≡ self.old.variables + 1 }
+        ensures added { self.new ≡ record self.old { variables = self.old.variables + 1 } }
+    {
+        self.variables += 1;
+        self.variables
+    }
+
+    /// Adds a clause behind the others. After a refusal the clauses are as before.
+    pub fn push(&mut self, clause: &[Literal]) -> Result<(), AllocError>
+        requires { list_all (spec.is_of self.old.variables) clause.now ≡ true }
+        ensures added { OnOk result (self.new ≡ record self.old { clauses = self.old.clauses ++ clause.now ∷ [] }) }
+        ensures refused { OnErr result (self.new ≡ self.old) }
+    {
+        self.clauses.push(clause)
+    }
+}

@@ -1,0 +1,108 @@
+ghost use Rattle.std.specs.Prelude.{◌≡◌, ◌==◌, ◌+◌, ◌≤◌, ◌++◌, ◌∷◌, [], length, slice_get, slice_range, None, Some, IfSome, IfNone, IsOk, OnOk, OnErr};
+ghost use Rattle.std.specs.Option.{option_map};
+ghost use Rattle.cnf_core.specs.Laid.{start_of};
+
+use clause_spec::Literal;
+use std::alloc::{AllocError, Global};
+use std::marker::Model;
+
+/// Clauses one after the other. Their literals lie in one list, with an index of where each clause ends.
+#[derive(Drop)]
+pub struct ClauseList {
+    literals: Vec<Literal>,
+    ends: Vec<usize>,
+}
+
+impl Model for ClauseList {
+    ghost use Rattle.std.specs.Prelude.{◌-◌, length, min, vec_capacity, vec_len};
+    ghost use Rattle.cnf_core.specs.Listed.{Listed};
+
+    ghost Value = { Listed };
+
+    ghost use Rattle.cnf_core.specs.Laid.{clauses_in, AreEnds};
+
+    ghost view = { λ c. record {
+      clauses = clauses_in c.literals.items c.ends.items;
+      spare = min (vec_capacity c.literals - vec_len c.literals) (vec_capacity c.ends - vec_len c.ends);
+    } };
+
+    ghost invariant = { λ c. AreEnds 0 (length c.literals.items) c.ends.items };
+}
+
+impl ClauseList {
+    /// No clauses.
+    pub fn new(alloc: Global) -> Self
+        ensures { result.clauses ≡ [] }
+    {
+        ClauseList {
+            literals: Vec::new(alloc),
+            ends: Vec::new(alloc),
+        }
+    }
+
+    /// How many clauses there are.
+    pub fn len(&self) -> usize
+        ensures { result ≡ length self.now.clauses }
+    {
+        self.ends.len()
+    }
+
+    /// Whether there are no clauses.
+    pub fn is_empty(&self) -> bool
+        ensures { result ≡ (length self.now.clauses == 0) }
+    {
+        self.ends.is_empty()
+    }
+
+    /// The clause at a place, counted from 0.
+    pub fn get(&self, place: usize) -> Option<&[Literal]>
+        ensures { option_map (λ clause. clause.now) result ≡ slice_get self.now.clauses place }
+    {
+        let (start, end) = bounds_of(self.ends.as_slice(), place)?;
+        Some(part_of(self.literals.as_slice(), start, end))
+    }
+
+    /// Makes room: clauses that have with one for each so many literals are then added without taking memory.
+    pub fn reserve(&mut self, room: usize) -> Result<(), AllocError>
+        ensures room { OnOk result (room ≤ self.new.spare) }
+        ensures same { self.new.clauses ≡ self.old.clauses }
+    {
+        self.literals.reserve(room)?;
+        self.ends.reserve(room)?;
+        Ok(())
+    }
+
+    /// Adds a clause behind the others. After a refusal the clauses are as before.
+    pub fn push(&mut self, clause: &[Literal]) -> Result<(), AllocError>
+        ensures added { OnOk result (self.new.clauses ≡ self.old.clauses ++ clause.now ∷ []) }
+        ensures refused { OnErr result (self.new.clauses ≡ self.old.clauses) }
+        ensures fits { length clause.now + 1 ≤ self.old.spare → IsOk result }
+        ensures spare { OnOk result (self.old.spare ≤ self.new.spare + (length clause.now + 1)) }
+    {
+        self.ends.reserve(1)?;
+        self.literals.extend_from_slice(clause)?;
+        self.ends.push(self.literals.len())?;
+        Ok(())
+    }
+}
+
+/// Where the clause at a place begins and ends, by the ends of all clauses.
+fn bounds_of(ends: &[usize], place: usize) -> Option<(usize, usize)>
+    ensures there { IfSome result (λ bounds. (bounds.0 ≡ start_of 0 ends.now place) × (slice_get ends.now place ≡ Some bounds.1)) }
+    ensures nowhere { IfNone result (slice_get ends.now place ≡ None) }
+{
+    let end = *ends.get(place)?;
+    if place == 0 {
+        return Some((0, end));
+    }
+    Some((ends[place - 1], end))
+}
+
+/// The literals from a place on, up to another.
+fn part_of(literals: &[Literal], start: usize, end: usize) -> &[Literal]
+    requires rising { start ≤ end }
+    requires inside { end ≤ length literals.now }
+    ensures { result.now ≡ slice_range literals.now start end }
+{
+    &literals[start..end]
+}

@@ -1,0 +1,213 @@
+//! How deep the stack of a function goes.
+
+ghost use Rattle.std.specs.Prelude.{◌≡◌, ◌↔◌, ◌+◌, ◌<◌, ◌≤◌, ◌^◌, ◌++◌, ◌∷◌, [], length, map, take, sum_by, nat_eq, All, Contains, IfOk, IfErr, OnOk, IsSome, IfSome, Some};
+ghost use Rattle.indexmap.specs.IndexMap.{get};
+ghost use Rattle.elf_spec.specs.Image.{size_at};
+ghost use Rattle.claim_spec.specs.Code.{opening_of};
+ghost use Rattle.decompile.specs.Growth.{Grows, IsPlace, AreReached};
+ghost use Rattle.decompile.specs.Found.{IsCyclic, IsDepth, IsReachError};
+ghost use Rattle.claim_spec.specs.Faults.{ReachesNoFault};
+ghost use Rattle.decompile.specs.Stacks.{AreCalls, IsDeepest, IsTotal, IsEntered, opening_at};
+
+use crate::faults::CodeError;
+use crate::flows::instruction;
+use crate::functions::visit;
+use crate::range::range_fault;
+use crate::survey::found_entries;
+use crate::walk::{add, reached};
+use elf_read::Image;
+use indexmap::{IndexMap, IndexSet};
+use rv_instr::{ImmediateOperation, Instr, Reg};
+use std::alloc::{AllocError, Global};
+
+/// What is to be done with a function.
+#[derive(Clone, Copy)]
+pub(crate) enum Task {
+    /// To look at what it calls.
+    Enter(u32),
+    /// To add up its stack, once those that it calls are done.
+    Leave(u32),
+}
+
+/// By how much an ADDI lowers the stack pointer.
+fn lowered(rd: Reg, source: Reg, imm: i32) -> u64
+    ensures { result ≡ opening_of (Some (Instr.Immediate ImmediateOperation.Add rd source imm)) }
+{
+    if rd.number() == 2 && source.number() == 2 && imm < 0 {
+        u64::from(imm.unsigned_abs())
+    } else {
+        0
+    }
+}
+
+/// By how much an instruction lowers the stack pointer, if it is `addi x2, x2, imm`.
+fn lowering(form: &Instr) -> u64
+    ensures { result ≡ opening_of (Some form.now) }
+{
+    match *form {
+        Instr::Immediate {
+            operation: ImmediateOperation::Add,
+            rd,
+            source,
+            imm,
+        } => lowered(rd, source, imm),
+        _ => 0,
+    }
+}
+
+/// The same of the instruction at an address.
+fn opening(image: &Image<'_>, address: u32) -> u64
+    requires { address + 4 ≤ 2 ^ 32 }
+    ensures { result ≡ opening_at image.now address }
+{
+    match instruction(image, address) {
+        Some(form) => lowering(&form),
+        None => 0,
+    }
+}
+
+/// The sum, if it has 64 bits. The functions that are reached share no bytes, so that all their stacks
+/// together have fewer.
+fn added(first: u64, second: u64) -> Result<u64, AllocError>
+    ensures { IfOk result (λ sum. sum ≡ first + second) }
+{
+    match first.checked_add(second) {
+        Some(sum) => Ok(sum),
+        None => Err(AllocError),
+    }
+}
+
+/// By how much the instructions at some addresses lower the stack pointer.
+fn openings(image: &Image<'_>, addresses: &[u32]) -> Result<u64, AllocError>
+    requires { All (λ address. address + 4 ≤ 2 ^ 32) addresses.now }
+    ensures { IfOk result (λ sum. sum ≡ sum_by (opening_at image.now) addresses.now) }
+{
+    let mut sum = 0;
+    for address in addresses {
+        sum = added(sum, opening(image, *address))?;
+    }
+    Ok(sum)
+}
+
+/// The addresses that are reached directly in a function, ascending; none where it has no code.
+fn places(
+    alloc: Global,
+    image: &Image<'_>,
+    entry: u32,
+    size: u32,
+) -> Result<IndexSet<u32>, AllocError>
+    ensures { IfOk result (λ places. AreReached image.now entry size places.keys) }
+{
+    match range_fault(image, entry, size) {
+        Some(_) => Ok(IndexSet::new(alloc)),
+        None => {
+            let places = reached(alloc, image, entry, size)?;
+            Ok(places)
+        }
+    }
+}
+
+/// The entries that a function calls.
+fn calls(alloc: Global, image: &Image<'_>, entry: u32) -> Result<IndexSet<u32>, AllocError>
+    requires { IsSome (size_at image.now entry) }
+    ensures { IfOk result (λ calls. AreCalls image.now entry calls.keys) }
+{
+    let mut calls = IndexSet::new(alloc);
+    visit(alloc, &mut calls, image, entry)?;
+    Ok(calls)
+}
+
+/// The greatest known stack of some entries; 0 where there are none.
+fn deepest(known: &IndexMap<u32, u64>, entries: &[u32]) -> u64
+    ensures { IsDeepest (get nat_eq known.now) entries.now result }
+{
+    let mut deepest = 0;
+    for entry in entries {
+        deepest = deepest.max(known.get(entry).copied().unwrap_or(0));
+    }
+    deepest
+}
+
+/// The stack of a function, where those of what it calls are known.
+fn total(
+    alloc: Global,
+    image: &Image<'_>,
+    known: &IndexMap<u32, u64>,
+    entry: u32,
+) -> Result<u64, AllocError>
+    requires { IsSome (size_at image.now entry) }
+    ensures { IfOk result (λ total. IsTotal image.now entry (get nat_eq known.now) total) }
+{
+    let size = image.size_at(entry).unwrap();
+    let places = places(alloc, image, entry, size)?;
+    let own = openings(image, places.as_slice())?;
+    let calls = calls(alloc, image, entry)?;
+    let total = added(own, deepest(known, calls.as_slice()))?;
+    Ok(total)
+}
+
+/// Adds to the tasks that a function be left, and on top that those be entered that it calls.
+fn enter(
+    alloc: Global,
+    image: &Image<'_>,
+    tasks: &mut Vec<Task>,
+    entry: u32,
+) -> Result<(), AllocError>
+    requires { IsSome (size_at image.now entry) }
+    ensures { OnOk result (IsEntered image.now entry tasks.old.items tasks.new.items) }
+{
+    let calls = calls(alloc, image, entry)?;
+    tasks.push(Task::Leave(entry))?;
+    for target in calls.as_slice() {
+        tasks.push(Task::Enter(*target))?;
+    }
+    Ok(())
+}
+
+/// The stack of a function where no fault is reached; `None` where a cycle of calls is reached. Each function
+/// is entered once, and left when all that it calls are left: one that is entered and not yet left is on the
+/// way from the first to the one at hand.
+fn depth(alloc: Global, image: &Image<'_>, entry: u32) -> Result<Option<u64>, AllocError>
+    requires sized { IsSome (size_at image.now entry) }
+    requires sound { ReachesNoFault image.now entry }
+    ensures { IfOk result (IsDepth image.now entry) }
+{
+    let mut known = IndexMap::new(alloc);
+    let mut entered = IndexSet::new(alloc);
+    let mut tasks = Vec::new(alloc);
+    tasks.push(Task::Enter(entry))?;
+    while let Some(task) = tasks.pop() {
+        match task {
+            Task::Leave(other) => {
+                let total = total(alloc, image, &known, other)?;
+                known.insert(other, total)?;
+            }
+            Task::Enter(other) => {
+                if known.contains_key(&other) {
+                    continue;
+                }
+                if entered.contains(&other) {
+                    return Ok(None);
+                }
+                let _count = entered.len();
+                add(&mut entered, other)?;
+                enter(alloc, image, &mut tasks, other)?;
+            }
+        }
+    }
+    Ok(known.get(&entry).copied())
+}
+
+/// How many bytes of stack the function at an entry takes, with all that it calls; `None` where a cycle of calls
+/// is reached. The fault is the first of all that is reached, as [`crate::reach`] answers it.
+pub fn stack(alloc: Global, image: &Image<'_>, entry: u32) -> Result<Option<u64>, CodeError>
+    requires { IsSome (size_at image.now entry) }
+    ensures found { IfOk result (IsDepth image.now entry) }
+    ensures acyclic { IfOk result (λ depth. IfSome depth (λ _. IsCyclic image.now entry → ⊥)) }
+    ensures sound { OnOk result (ReachesNoFault image.now entry) }
+    ensures fault { IfErr result (IsReachError image.now entry) }
+{
+    let _entries = found_entries(alloc, image, entry)?;
+    let depth = depth(alloc, image, entry)?;
+    Ok(depth)
+}

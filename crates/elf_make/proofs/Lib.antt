@@ -1,0 +1,6 @@
+mod Steps
+mod Read
+mod Places
+mod Programs
+mod Entries
+mod Written

@@ -1,0 +1,54 @@
+-- Which parts can be written, and what was written.
+use Rattle.std.specs.Prelude.{◌≡◌, ◌+◌, ◌^◌, ◌%◌, ◌<◌, ◌≤◌, ℕ, List, length, map, All, AllPairs, Contains}
+use Rattle.elf_spec.specs.Image.{Image, Segment, Symbol}
+use Rattle.elf_spec.specs.File.{IsElf, u32_at}
+use Rattle.elf_read.specs.Values.{segment_of, symbol_of}
+use Rattle.elf_make.specs.declared.parts.Parts.{Parts}
+use Rattle.elf_make.specs.Layout.{sections_at}
+
+-- the image that the parts are of
+abbrev pub image_of_parts : Parts → Image
+image_of_parts parts = record { segments = map segment_of parts.segments.now; symbols = map symbol_of parts.symbols.now }
+
+-- an address of the memory of a segment
+pub record IsInMemory (segment : Segment) (address : ℕ) : Type 0 where
+  pub from : segment.vaddr ≤ address
+  pub below : address < segment.vaddr + segment.memsz
+
+-- the memories of two segments share no address
+pub record AreApart (one other : Segment) : Type 0 where
+  pub apart : (address : ℕ) → IsInMemory one address → IsInMemory other address → ⊥
+
+-- the segment has no more bytes than memory, and its memory lies below 2^32
+pub record IsPlaced (segment : Segment) : Type 0 where
+  pub sizes : length segment.bytes ≤ segment.memsz
+  pub in_space : segment.vaddr + segment.memsz ≤ 2 ^ 32
+
+-- the name has no 0 byte, and the type has four bits
+pub record IsNamed (symbol : Symbol) : Type 0 where
+  pub no_zero : Contains symbol.name 0 → ⊥
+  pub kind : symbol.kind < 16
+
+-- the numbers of a segment and of a symbol have four bytes
+pub record IsSegmentOfWords (segment : Segment) : Type 0 where
+  pub vaddr : segment.vaddr < 2 ^ 32
+  pub memsz : segment.memsz < 2 ^ 32
+  pub flags : segment.flags < 2 ^ 32
+
+pub record IsSymbolOfWords (symbol : Symbol) : Type 0 where
+  pub value : symbol.value < 2 ^ 32
+  pub size : symbol.size < 2 ^ 32
+
+-- the parts break no rule of executables, and the file is short enough for its offsets
+pub record CanBeWritten (image : Image) (flags : ℕ) : Type 0 where
+  pub plain : flags % 16 ≡ 0
+  pub placed : All IsPlaced image.segments
+  pub apart : AllPairs AreApart image.segments
+  pub named : All IsNamed image.symbols
+  pub few : length image.segments < 65535
+  pub short : sections_at image + 120 < 2 ^ 32
+
+-- the file is an executable with this image and these flags (e_flags)
+pub record IsWritten (file : List ℕ) (image : Image) (flags : ℕ) : Type 0 where
+  pub is_elf : IsElf file image
+  pub flags_are : u32_at file 36 ≡ flags

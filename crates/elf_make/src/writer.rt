@@ -1,0 +1,75 @@
+//! Writing an executable.
+
+ghost use Rattle.std.specs.Prelude.{◌≡◌, ◌^◌, ◌<◌, IfOk, length, map};
+ghost use Rattle.elf_read.specs.Values.{segment_of, symbol_of};
+ghost use Rattle.elf_make.specs.Layout as layout;
+ghost use Rattle.elf_make.specs.Parts.{image_of_parts, CanBeWritten, IsWritten};
+
+use crate::Parts;
+use crate::pieces::{
+    put_contents, put_entries, put_header, put_names, put_programs, put_sections, put_zeros,
+};
+use elf_read::{Segment, Symbol};
+use std::alloc::{AllocError, Global};
+
+/// Writes an executable of these parts. Only memory can be wanting.
+#[tactic(auto, unfolding(crate::specs::Layout::file_of))]
+pub fn write(alloc: Global, parts: &Parts) -> Result<Vec<u8>, AllocError>
+    requires { CanBeWritten (image_of_parts parts.now) parts.now.flags }
+    ensures layout { IfOk result (λ file. file.items ≡ layout.file_of (image_of_parts parts.now) parts.now.flags) }
+    ensures written { IfOk result (λ file. IsWritten file.items (image_of_parts parts.now) parts.now.flags) }
+{
+    let contents = 52 + 32 * parts.segments.len();
+    let table = contents + contents_length(parts.segments);
+    let table_size = 16 + 16 * parts.symbols.len();
+    let strings = table + table_size;
+    let strings_size = 1 + names_length(parts.symbols);
+    let end = strings + strings_size;
+    let padding = 3 - (end + 3) % 4;
+    let mut out = Vec::new(alloc);
+    put_header(
+        &mut out,
+        parts.segments.len() as u16,
+        (end + padding) as u32,
+        parts.flags,
+    )?;
+    put_programs(&mut out, contents as u32, parts.segments)?;
+    put_contents(&mut out, parts.segments)?;
+    put_zeros(&mut out, 16)?;
+    put_entries(&mut out, 1, parts.symbols)?;
+    put_zeros(&mut out, 1)?;
+    put_names(&mut out, parts.symbols)?;
+    put_zeros(&mut out, padding)?;
+    put_sections(
+        &mut out,
+        table as u32,
+        table_size as u32,
+        strings as u32,
+        strings_size as u32,
+    )?;
+    Ok(out)
+}
+
+/// How many bytes the segments have in the file.
+fn contents_length(segments: &[Segment]) -> usize
+    requires { length (layout.contents (map segment_of segments.now)) < 2 ^ 32 }
+    ensures { result ≡ length (layout.contents (map segment_of segments.now)) }
+{
+    let mut total = 0;
+    for segment in segments {
+        total += segment.bytes.len();
+    }
+    total
+}
+
+/// How many bytes the names have in the file, each with its 0 byte.
+fn names_length(symbols: &[Symbol]) -> usize
+    requires { length (layout.names (map symbol_of symbols.now)) < 2 ^ 32 }
+    ensures { result ≡ length (layout.names (map symbol_of symbols.now)) }
+{
+    let mut total = 0;
+    for symbol in symbols {
+        total += symbol.name.len() + 1;
+    }
+    total
+}

@@ -1,0 +1,16 @@
+mod Tables
+mod Rising
+mod Loads
+mod ZeroPlaces
+mod Defined
+mod Order
+mod Accepted
+mod Halves
+mod Inserted
+mod FixedBytes
+mod FixedOrder
+mod ExtentSteps
+mod RunsOf
+mod Chained
+mod ChainSteps
+mod SizeSteps

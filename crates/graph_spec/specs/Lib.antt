@@ -1,0 +1,3 @@
+pub mod Graph
+pub mod Run
+pub mod Sorts

@@ -1,0 +1,15 @@
+-- States in which each variable has a value of its sort.
+use Rattle.std.specs.Prelude.{List, [], ◌∷◌, ⊤}
+use Rattle.term_spec.specs.Value.{IsAssignment}
+use Rattle.graph_spec.specs.Graph.{AreBindings}
+use Rattle.graph_spec.specs.Run.{Waiting, State, Running, Returned, Failed}
+
+-- of the functions that wait too, whose outputs are bindings
+abbrev pub AreWaiting : List Waiting → Type 0
+AreWaiting [] = ⊤
+AreWaiting (f ∷ below) = IsAssignment f.values × AreBindings f.outputs × AreWaiting below
+
+abbrev pub IsState : State → Type 0
+IsState (Running g n values below) = IsAssignment values × AreWaiting below
+IsState (Returned values) = IsAssignment values
+IsState Failed = ⊤

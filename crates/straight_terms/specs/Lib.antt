@@ -1,0 +1,3 @@
+pub mod Term
+pub mod Normal
+pub mod Trees

@@ -1,0 +1,90 @@
+ghost use Rattle.std.specs.Prelude.{◌≡◌, ◌<◌, ◌≤◌, [], length, map, IfOk};
+ghost use Rattle.term_spec.specs.Value.{value};
+ghost use Rattle.term_core.specs.Values.{value_of};
+ghost use Rattle.term_core.specs.Assignment.{assignment_of};
+ghost use Rattle.term_bank.specs.Nodes.{IsNode, build, Holds, Extends, AreDistinct};
+
+use crate::evaluation::evaluate;
+use crate::node::TermNode;
+use indexmap::IndexSet;
+use std::alloc::{AllocError, Global};
+use std::marker::Model;
+use term_core::{Assignment, Value};
+
+/// A place of a term in a bank.
+pub type TermId = usize;
+
+/// Terms, each once: a contract sees the list of their trees.
+#[derive(Drop)]
+pub struct Bank {
+    nodes: IndexSet<TermNode>,
+}
+
+impl Model for Bank {
+    ghost use Rattle.std.specs.Prelude.{List, []};
+    ghost use Rattle.std.specs.Coded.{coded_list};
+    ghost use Rattle.term_spec.specs.Term.{Term};
+    ghost use Rattle.term_spec.specs.Coded.{term_code};
+
+    ghost Value = { List Term };
+
+    ghost coded = { coded_list term_code };
+
+    ghost use Rattle.term_bank.specs.Trees.{grown, AreNodes};
+
+    ghost view = { λ b. grown [] b.nodes.keys };
+
+    ghost invariant = { λ b. AreNodes 0 b.nodes.keys };
+}
+
+impl Bank {
+    /// No term yet.
+    pub fn new(alloc: Global) -> Bank
+        ensures { result ≡ [] }
+    {
+        Bank {
+            nodes: IndexSet::new(alloc),
+        }
+    }
+
+    /// How many terms there are.
+    pub fn len(&self) -> usize
+        ensures { result ≡ length self.now }
+    {
+        self.nodes.len()
+    }
+
+    /// The place of the node's term, which is added where it isn't there.
+    pub fn add(&mut self, node: TermNode) -> Result<TermId, AllocError>
+        requires { IsNode (length self.old) node }
+        ensures id { IfOk result (λ i. Holds self.new i (build self.old node)) }
+        ensures within { IfOk result (λ i. i < length self.new) }
+        ensures extends { Extends self.old self.new }
+        ensures longer { length self.old ≤ length self.new }
+        ensures distinct { AreDistinct self.new }
+    {
+        let (id, _) = self.nodes.insert_full(node)?;
+        Ok(id)
+    }
+
+    /// The node at a place.
+    pub fn node(&self, id: TermId) -> TermNode
+        requires { id < length self.now }
+        ensures children { IsNode id result }
+        ensures tree { Holds self.now id (build self.now result) }
+    {
+        self.nodes[id]
+    }
+
+    /// What each term is worth, in the order of the places.
+    pub fn eval_all(&self, alloc: Global, assignment: &Assignment) -> Result<Vec<Value>, AllocError>
+        ensures { IfOk result (λ values. map value_of values.items ≡ map (value (assignment_of assignment.now)) self.now) }
+    {
+        let mut values = Vec::new(alloc);
+        for i in 0..self.len() {
+            let value = evaluate(alloc, self.node(i), &values, assignment)?;
+            values.push(value)?;
+        }
+        Ok(values)
+    }
+}

@@ -1,0 +1,4 @@
+pub mod Parts
+pub mod Bits
+pub mod Bytes
+pub mod Listed

@@ -1,0 +1,6 @@
+use Rattle.report_text.specs.Judgements.{judgements_of}
+use Rattle.tv_core.proofs.Judged.{AreJudged}
+use Rattle.tv_core.proofs.functions.judge_paired.Given as goal
+
+abbrev pub invariant-names : goal.invariant-names
+invariant-names l = AreJudged l.image l.unit l.names l.name-index (judgements_of l.judgements.items)

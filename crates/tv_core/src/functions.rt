@@ -1,0 +1,224 @@
+ghost use Rattle.std.specs.Prelude.{◌≡◌, ◌≢◌, ℕ, List, Option, Some, None, IsSome, IfSome, IfNone, IfOk, IfErr, IsTrue, OnErr, IsErrOf};
+ghost use Rattle.elf_spec.specs.Image.{function_named, size_at};
+ghost use Rattle.elf_spec.specs.declared.Named.TheVariants.{Absent};
+ghost use Rattle.claim_spec.specs.Claim.{IsValid};
+ghost use Rattle.claim_spec.specs.Code.{IsStack};
+ghost use Rattle.claim_spec.specs.Faults.{IsFirst, IsReachFault, ReachesNoFault};
+ghost use Rattle.claim_spec.specs.Verdict as claim;
+ghost use Rattle.tv_base.specs.declared.faults.OutsideFault.TheVariants.{NoMemory};
+ghost use Rattle.report_text.specs.Judgements.{judgement_of};
+ghost use Rattle.report_text.specs.Verdicts.{verdict_of};
+ghost use Rattle.claim_spec.specs.declared.PairKind.{PairKind as pair_kind};
+ghost use Rattle.tv_core.specs.Verdicts as spec;
+ghost use Rattle.tv_core.specs.Verdicts.{Lists, Pairs, Judges, IsSound, HasCodeFault, HasSoundCode, IsJudgement};
+
+use crate::listing::{first_unpaired, pair_fault};
+use claim_spec::{CodeKind, PairKind, Quantity};
+use decompile::{CodeError, CodeFault, reach};
+use elf_read::Image;
+use elf_spec::Named;
+use report_text::{Judgement, Verdict};
+use std::alloc::{AllocError, Global};
+use straight_code::{crooked_word, decide};
+use thin_source::Unit;
+use tv_base::OutsideFault;
+use tv_base::limits::FUNCTIONS;
+use tv_bytes::Bytes;
+
+/// The first fault of what the function at an entry reaches.
+fn reach_fault(
+    alloc: Global,
+    image: &Image<'_>,
+    entry: u32,
+) -> Result<Option<CodeFault>, AllocError>
+    requires { IsSome (size_at image.now entry) }
+    ensures sound { IfOk result (λ found. IfNone found (ReachesNoFault image.now entry)) }
+    ensures fault { IfOk result (λ found. IfSome found (λ fault. IsFirst (IsReachFault image.now entry) fault.kind fault.address)) }
+{
+    let error = match reach(alloc, image, entry) {
+        Ok(_) => return Ok(None),
+        Err(error) => error,
+    };
+    match error {
+        CodeError::Fault(fault) => Ok(Some(fault)),
+        CodeError::NoMemory => Err(AllocError),
+    }
+}
+
+/// Where the function of a name begins, or the first fault of what it reaches.
+fn find_code(
+    alloc: Global,
+    image: &Image<'_>,
+    name: &[u8],
+) -> Result<Result<u32, CodeFault>, AllocError>
+    requires { function_named image.now name.now ≢ Absent }
+    ensures ok { IfOk result (λ found. IfOk found (λ entry. HasSoundCode image.now name.now entry)) }
+    ensures fault { IfOk result (λ found. IfErr found (λ fault. HasCodeFault image.now name.now fault.kind fault.address)) }
+{
+    let entry = match image.function(name) {
+        Named::One(entry) => entry,
+        Named::Two(_, address) => {
+            return Ok(Err(CodeFault {
+                kind: CodeKind::Ambiguous,
+                address,
+            }));
+        }
+        Named::Absent => unreachable!(),
+    };
+    match reach_fault(alloc, image, entry)? {
+        Some(fault) => Ok(Err(fault)),
+        None => Ok(Ok(entry)),
+    }
+}
+
+/// Whether the code of a function is straight, and is accepted. The function is the one of the source.
+fn is_proved(
+    alloc: Global,
+    image: &Image<'_>,
+    unit: &Unit,
+    entry: u32,
+    size: u32,
+) -> Result<bool, AllocError>
+    requires sound { HasSoundCode image.now unit.now.name entry }
+    requires sized { size_at image.now entry ≡ Some size }
+    ensures decided { IfOk result (λ valid. valid ≡ spec.is_proved image.now unit.now entry size) }
+    ensures stack { IfOk result (λ valid. IsTrue valid → IsStack image.now entry 0) }
+    ensures sound { IfOk result (λ valid. IsTrue valid → IsValid image.now unit.now unit.now.name 0) }
+{
+    if crooked_word(image, entry, size).is_some() {
+        return Ok(false);
+    }
+    let valid = decide(alloc, image, unit, entry, size)?;
+    Ok(valid)
+}
+
+/// The judgement on a function with sound code, which is the one of the source.
+fn judge_function(
+    alloc: Global,
+    image: &Image<'_>,
+    unit: &Unit,
+    entry: u32,
+) -> Result<Judgement, AllocError>
+    requires { HasSoundCode image.now unit.now.name entry }
+    ensures judged { IfOk result (λ judgement. IsJudgement image.now unit.now (judgement_of judgement)) }
+    ensures named { IfOk result (λ judgement. judgement.name ≡ unit.now.name) }
+    ensures sound { IfOk result (λ judgement. IsTrue judgement.valid → IsValid image.now unit.now judgement.name judgement.stack) }
+{
+    let size = image.size_at(entry).unwrap();
+    let valid = is_proved(alloc, image, unit, entry, size)?;
+    let name = Bytes::copied(alloc, unit.name())?;
+    Ok(Judgement {
+        name,
+        valid,
+        stack: 0,
+    })
+}
+
+/// A verdict that refuses a pair.
+fn refused_pair(alloc: Global, kind: PairKind, name: &[u8]) -> Result<Verdict, OutsideFault>
+    ensures ok { IfOk result (λ verdict. verdict_of verdict ≡ claim.RefusedPair kind name.now) }
+    ensures memory { OnErr result (IsErrOf result NoMemory) }
+{
+    let name = Bytes::copied(alloc, name)?;
+    Ok(Verdict::RefusedPair { kind, name })
+}
+
+/// A verdict that refuses code.
+fn refused_code(alloc: Global, name: &[u8], fault: &CodeFault) -> Result<Verdict, OutsideFault>
+    ensures ok { IfOk result (λ verdict. verdict_of verdict ≡ claim.RefusedCode fault.now.kind name.now fault.now.address) }
+    ensures memory { OnErr result (IsErrOf result NoMemory) }
+{
+    let name = Bytes::copied(alloc, name)?;
+    Ok(Verdict::RefusedCode {
+        kind: fault.kind,
+        name,
+        address: fault.address,
+    })
+}
+
+/// The judgement on a name with a body and a symbol, or the fault of its code.
+fn judge_name(
+    alloc: Global,
+    image: &Image<'_>,
+    unit: &Unit,
+    name: &[u8],
+) -> Result<Result<Judgement, CodeFault>, AllocError>
+    requires { claim.pair_fault image.now unit.now name.now ≡ None }
+    ensures judged { IfOk result (λ found. IfOk found (λ judgement. IsJudgement image.now unit.now (judgement_of judgement))) }
+    ensures named { IfOk result (λ found. IfOk found (λ judgement. judgement.name ≡ name.now)) }
+    ensures sound { IfOk result (λ found. IfOk found (λ judgement. IsTrue judgement.valid → IsValid image.now unit.now judgement.name judgement.stack)) }
+    ensures fault { IfOk result (λ found. IfErr found (λ fault. HasCodeFault image.now name.now fault.kind fault.address)) }
+{
+    match find_code(alloc, image, name)? {
+        Ok(entry) => {
+            let judgement = judge_function(alloc, image, unit, entry)?;
+            Ok(Ok(judgement))
+        }
+        Err(fault) => Ok(Err(fault)),
+    }
+}
+
+/// The verdict on names that each have a body and a symbol.
+fn judge_paired(
+    alloc: Global,
+    image: &Image<'_>,
+    unit: &Unit,
+    names: &[Bytes],
+) -> Result<Verdict, OutsideFault>
+    requires { claim.first_unpaired image.now unit.now names.now ≡ None }
+    ensures exact { IfOk result (λ verdict. (elf c : List ℕ) (functions : Option (List (List ℕ))) → Pairs elf c functions image.now unit.now names.now
+        → Judges elf c functions (verdict_of verdict)) }
+    ensures sound { IfOk result (λ verdict. (elf c : List ℕ) (functions : Option (List (List ℕ))) → Lists elf c functions image.now unit.now names.now
+        → IsSound elf c functions (verdict_of verdict)) }
+    ensures memory { OnErr result (IsErrOf result NoMemory) }
+{
+    let mut judgements = Vec::new(alloc);
+    'names: for name in names {
+        let name = name.as_slice();
+        match judge_name(alloc, image, unit, name)? {
+            Ok(judgement) => judgements.push(judgement)?,
+            Err(fault) => return refused_code(alloc, name, &fault),
+        }
+    }
+    Ok(Verdict::Judged(judgements))
+}
+
+/// The verdict on a name that can't be validated.
+fn refused_unpaired(
+    alloc: Global,
+    image: &Image<'_>,
+    unit: &Unit,
+    name: &[u8],
+) -> Result<Verdict, OutsideFault>
+    requires { IsSome (claim.pair_fault image.now unit.now name.now) }
+    ensures ok { IfOk result (λ verdict. (kind : pair_kind) × (verdict_of verdict ≡ claim.RefusedPair kind name.now) × (claim.pair_fault image.now unit.now name.now ≡ Some kind)) }
+    ensures memory { OnErr result (IsErrOf result NoMemory) }
+{
+    let kind = pair_fault(image, unit, name).unwrap();
+    refused_pair(alloc, kind, name)
+}
+
+/// The verdict on an image, a unit and the names to validate.
+pub(crate) fn judge_names(
+    alloc: Global,
+    image: &Image<'_>,
+    unit: &Unit,
+    names: &[Bytes],
+) -> Result<Verdict, OutsideFault>
+    ensures exact { IfOk result (λ verdict. (elf c : List ℕ) (functions : Option (List (List ℕ))) → Lists elf c functions image.now unit.now names.now
+        → Judges elf c functions (verdict_of verdict)) }
+    ensures sound { IfOk result (λ verdict. (elf c : List ℕ) (functions : Option (List (List ℕ))) → Lists elf c functions image.now unit.now names.now
+        → IsSound elf c functions (verdict_of verdict)) }
+    ensures memory { OnErr result (IsErrOf result NoMemory) }
+{
+    if names.is_empty() {
+        return refused_pair(alloc, PairKind::NothingListed, b"-");
+    }
+    if names.len() > FUNCTIONS {
+        return Ok(Verdict::TooLarge(Quantity::Functions));
+    }
+    match first_unpaired(image, unit, names) {
+        Some(name) => refused_unpaired(alloc, image, unit, name.as_slice()),
+        None => judge_paired(alloc, image, unit, names),
+    }
+}

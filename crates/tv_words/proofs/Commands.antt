@@ -1,0 +1,78 @@
+-- That words are one command at most, and what a parse says of the subcommand that it met.
+use Rattle.std.proofs.Common.{◌≡◌, ◌≢◌, ◌∙◌, true, List, [], ◌∷◌, Option, Some, None, refl, sym, ap, ap₂, subst, inl, inr, codes, unwrap_or, option_map, Result, Ok, Err, IfErr, IsErrAnd}
+use Rattle.clap.specs.Walk.{Row, Text}
+use Rattle.clap.specs.Simple.{is_simple}
+use Rattle.clap.specs.Faults.{is_simple_and_free}
+use Rattle.clap.specs.Kinds.{Kinds, HasKind}
+use Rattle.clap.specs.Values.{kind_of}
+use Rattle.clap.specs.declared.error.Error.{Error}
+use Rattle.clap.specs.declared.error.kind.ErrorKind.TheVariants.{OutOfMemory}
+use Rattle.tv_words.specs.declared.WordsError.{WordsError}
+use Rattle.tv_words.specs.declared.WordsError.TheVariants.{Words, NoMemory}
+use Rattle.tv_words.specs.Commands as spec
+use Rattle.tv_words.specs.Commands.{AreListed, Gives, IsCommand, IsProving, program, is_prove}
+use Rattle.tv_words.proofs.Lists.{parts_of_list}
+
+pub program_is_plain : is_simple_and_free program ≡ true
+unfolding program
+program_is_plain = refl
+
+pub program_is_simple : is_simple program ≡ true
+unfolding program
+program_is_simple = refl
+
+-- an error with no kind to have comes of memory
+pub no_memory : (kinds : Kinds) (error : Error) → HasKind kinds error → kinds ≡ [] → kind_of error ≡ OutOfMemory
+no_memory [] error (inl memory) e = memory
+no_memory [] error (inr none) e = absurd none
+no_memory (kind ∷ kinds) error h e = cc
+
+un_some : {A : Type 0} (x y : A) → Some x ≡ Some y → x ≡ y
+un_some x y e = ap (λ o. unwrap_or o x) e
+
+-- ---- words are one command at most
+
+same_lists : (text : Option Text) (a b : Option (List Text)) → AreListed text a → AreListed text b → a ≡ b
+same_lists None None None x y = refl
+same_lists None None (Some b) x y = absurd y
+same_lists None (Some a) b x y = absurd x
+same_lists (Some text) None b x y = absurd x
+same_lists (Some text) (Some a) None x y = absurd y
+same_lists (Some text) (Some a) (Some b) x y = ap (λ (names : List Text). Some names) (sym (parts_of_list text a x) ∙ parts_of_list text b y)
+
+same_proving : (given : List Row) (a b : spec.Proving) → IsProving given a → IsProving given b → a ≡ b
+same_proving given a b x y =
+    let elf = un_some a.elf b.elf (sym x.elf_is ∙ y.elf_is) in
+    let source = un_some a.source b.source (sym x.source_is ∙ y.source_is) in
+    let certificate = un_some a.certificate b.certificate (sym x.certificate_is ∙ y.certificate_is) in
+    let functions = same_lists _ a.functions b.functions x.functions_are y.functions_are in
+    λ i. record { elf = elf i; source = source i; certificate = certificate i; functions = functions i }
+
+pub same_command : (words : List Text) (a b : spec.Command) → IsCommand words a → IsCommand words b → a ≡ b
+same_command words a b (is_prove given job gives proving) (is_prove given2 job2 gives2 proving2) =
+    let found = un_some (codes "prove", given) (codes "prove", given2) (sym gives.found ∙ gives2.found) in
+    let rows : given ≡ given2 = ap (λ p. p.1) found in
+    ap (λ (j : spec.Proving). spec.Prove j) (same_proving given job job2 proving (subst (λ (r : List Row). IsProving r job2) (sym rows) proving2))
+
+-- ---- the subcommand that was met, by its name and by its rows
+
+module _ {X : Type 0} (f : X → Text) (g : X → Text × List Row) (tied : (x : X) → (g x).0 ≡ f x) where
+  pub row_of_name : (o : Option X) (name : Text) (rows : List Row) → option_map f o ≡ Some name → option_map (λ p. p.1) (option_map g o) ≡ Some rows → option_map g o ≡ Some (name, rows)
+  row_of_name None name rows n r = cc
+  row_of_name (Some x) name rows n r =
+      let first : (g x).0 ≡ name = tied x ∙ un_some _ _ n in
+      let second : (g x).1 ≡ rows = un_some _ _ r in
+      ap₂ (λ (a : Text) (b : List Row). Some (a, b)) first second
+
+  pub name_of_row : (o : Option X) (name : Text) (rows : List Row) → option_map g o ≡ Some (name, rows) → option_map f o ≡ Some name
+  name_of_row None name rows r = cc
+  name_of_row (Some x) name rows r = ap (λ (n : Text). Some n) (sym (tied x) ∙ ap (λ p. p.0) (un_some _ _ r))
+
+pub verb_of : (words : List Text) (command : spec.Command) → IsCommand words command → (given : List Row) × Gives words (codes "prove") given
+verb_of words command (is_prove given job gives proving) = (given, gives)
+
+-- the error that a refusal becomes: one of memory where the words are taken
+pub refused_by_memory : {T : Type 0} (r : Result T WordsError) (error : Error) (taken : Type 0)
+    → IsErrAnd r (λ e. (kind_of error ≡ OutOfMemory → e ≡ NoMemory) × (kind_of error ≢ OutOfMemory → e ≡ Words)) → (taken → kind_of error ≡ OutOfMemory) → IfErr r (λ e. taken → e ≡ NoMemory)
+refused_by_memory (Ok x) error taken h memory = tt
+refused_by_memory (Err e) error taken h memory = λ is. h.0 (memory is)

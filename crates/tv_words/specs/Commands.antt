@@ -1,0 +1,66 @@
+-- Which words are a command, and what it is to do: `prove ELF C --cert OUT [--functions NAME,..]`.
+use Rattle.std.specs.Prelude.{◌≡◌, Bool, true, false, List, [], codes, Option, Some, None, ⊤}
+use Rattle.clap.specs.Walk.{Row, Rule, Text, first_of}
+use Rattle.clap.specs.Simple.{App, Shape, app_of, new_app, new_rule, on_top, subcommand_of, with_rule, with_subcommand}
+use Rattle.clap.specs.Faults.{fault_of}
+use Rattle.clap.specs.declared.builder.action.ArgAction.TheVariants.{Set}
+use Rattle.clap.specs.declared.builder.command.Command.{Command as ClapCommand}
+use Rattle.clap.specs.declared.builder.command.Command.TheViews.{out-Command}
+use Rattle.tv_words.specs.Names.{IsList}
+
+-- ---- what `clap` is to read
+
+-- a file that is named by its place
+abbrev pub file : Text → Rule
+file id = record (new_rule id) { required = true; action = Some Set }
+
+-- a value that is named by an option
+abbrev pub option : Text → Bool → Rule
+option name required = record (new_rule name) { long = Some name; required = required; action = Some Set }
+
+abbrev pub prove : App
+prove = with_rule (with_rule (with_rule (with_rule (new_app (codes "prove")) (file (codes "elf"))) (file (codes "source"))) (option (codes "cert") true)) (option (codes "functions") false)
+
+-- the program's name, and its subcommand, which has to be there
+unfoldable pub program : App
+program = with_subcommand (on_top (λ (s : Shape). record s { subcommand_required = true }) (new_app (codes "tv"))) prove.top
+
+-- a command that `clap` sees as this one, with no argument that holds for its subcommands too
+abbrev pub IsCommandOf : ClapCommand → App → Type 0
+IsCommandOf command app = (app_of command ≡ app) × ((out-Command command).has_globals ≡ false)
+
+-- ---- what is to be done
+
+-- the files and the functions of `prove`: two files to read, one to write, and the list if there is one
+pub record Proving : Type 0 where
+  pub elf : Text
+  pub source : Text
+  pub certificate : Text
+  pub functions : Option (List Text)
+
+pub data Command : Type 0 where
+  Prove : (job : Proving) → Command
+
+-- a list that is given is one of names
+abbrev pub AreListed : Option Text → Option (List Text) → Type 0
+AreListed None None = ⊤
+AreListed None (Some names) = ⊥
+AreListed (Some text) None = ⊥
+AreListed (Some text) (Some names) = IsList text names
+
+-- the values that were given to the arguments of `prove`
+pub record IsProving (given : List Row) (job : Proving) : Type 0 where
+  pub elf_is : first_of (codes "elf") given ≡ Some job.elf
+  pub source_is : first_of (codes "source") given ≡ Some job.source
+  pub certificate_is : first_of (codes "cert") given ≡ Some job.certificate
+  pub functions_are : AreListed (first_of (codes "functions") given) job.functions
+
+-- `clap` finds no fault in the words, of which the first is the program's name, and they give these values
+-- to a subcommand
+pub record Gives (words : List Text) (verb : Text) (given : List Row) : Type 0 where
+  pub taken : fault_of program words ≡ []
+  pub found : subcommand_of program words ≡ Some (verb, given)
+
+-- the words are this command
+pub data IsCommand (words : List Text) : Command → Type 0 where
+  is_prove : (given : List Row) (job : Proving) → Gives words (codes "prove") given → IsProving given job → IsCommand words (Prove job)

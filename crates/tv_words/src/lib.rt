@@ -1,0 +1,141 @@
+//! Reads the command line into what the program is to do.
+//!
+//! The main type is [`Job`], and [`command`] has the crate's contract: it answers a job exactly where the words
+//! are a command, and the job's fields are the words'. What a command is says `specs/Commands.antt`: `clap`'s
+//! own account of which words the program's command takes, and the grammar of the list of names.
+#![tactic(auto)]
+
+mod list;
+mod program;
+
+ghost use Rattle.std.specs.Prelude.{◌≡◌, ◌≢◌, IfOk, IfErr, List, ℕ, Option, map, option_map, string_bytes};
+ghost use Rattle.clap.specs.Walk.{first_of, rows_of};
+ghost use Rattle.clap.specs.Matches.{found_of};
+ghost use Rattle.clap.specs.Values.{kind_of};
+ghost use Rattle.clap.specs.declared.error.kind.ErrorKind.TheVariants.{OutOfMemory};
+ghost use Rattle.tv_words.specs.Commands as spec;
+ghost use Rattle.tv_words.specs.Jobs.{job_of, names_of, proving_of};
+ghost use Rattle.tv_words.specs.declared.WordsError.TheVariants.{Words, NoMemory};
+
+use clap::ArgMatches;
+use clap::error::ErrorKind;
+use list::names_in;
+use program::parsed;
+use std::alloc::{AllocError, AllocFailed, Global};
+use thiserror::Error;
+
+/// What the program is to do.
+#[derive(Debug, Drop)]
+pub enum Job<'a> {
+    /// To look for a proof of some functions, and to write the certificate of those that have one.
+    Prove(Proving<'a>),
+}
+
+/// The files and the functions of `prove`.
+#[derive(Debug, Drop)]
+pub struct Proving<'a> {
+    /// The name of the executable.
+    pub elf: &'a str,
+    /// The name of the C source.
+    pub source: &'a str,
+    /// The name of the certificate that is written.
+    pub certificate: &'a str,
+    /// The names of the functions in the order given, or `None` where the words list none.
+    pub functions: Option<Vec<&'a str>>,
+}
+
+/// Why there is no job.
+#[derive(Clone, Copy, Debug, PartialEq, Eq, Error)]
+pub enum WordsError {
+    /// The words are no command; a call for help is none either.
+    #[error("the words are no command")]
+    Words,
+    /// There was no memory.
+    #[error("no memory")]
+    NoMemory,
+}
+
+impl From<AllocError> for WordsError {
+    ghost from_gives = { λ _ error. error ≡ NoMemory };
+
+    fn from(_: AllocError) -> Self {
+        WordsError::NoMemory
+    }
+}
+
+impl From<clap::Error> for WordsError {
+    ghost from_gives = { λ refused error. (kind_of refused ≡ OutOfMemory → error ≡ NoMemory) × (kind_of refused ≢ OutOfMemory → error ≡ Words) };
+
+    fn from(refused: clap::Error) -> Self {
+        match refused.kind() {
+            ErrorKind::OutOfMemory => WordsError::NoMemory,
+            _ => WordsError::Words,
+        }
+    }
+}
+
+/// The job that the words ask for. The first word is the program's own name, and isn't looked at.
+pub fn command(alloc: Global, words: &[String]) -> Result<Job<'_>, WordsError>
+    ensures found { IfOk result (λ job. spec.IsCommand (map string_bytes words.now) (job_of job)) }
+    ensures fields { IfOk result (λ job. (other : spec.Command) → spec.IsCommand (map string_bytes words.now) other → other ≡ job_of job) }
+    ensures only { IfErr result (λ error. (other : spec.Command) → spec.IsCommand (map string_bytes words.now) other → error ≡ NoMemory) }
+{
+    let matches = parsed(alloc, words)?;
+    let Some(found) = matches.subcommand_matches("prove") else {
+        return Err(WordsError::Words);
+    };
+    let job = prove_job(alloc, found)?;
+    Ok(Job::Prove(job))
+}
+
+/// The job of `prove`, from what was found behind that word.
+fn prove_job<'a>(alloc: Global, found: &ArgMatches<'a>) -> Result<Proving<'a>, WordsError>
+    ensures found { IfOk result (λ job. spec.IsProving (rows_of (found_of found.now)) (proving_of job)) }
+    ensures only { IfErr result (λ error. (other : spec.Proving) → spec.IsProving (rows_of (found_of found.now)) other → error ≡ NoMemory) }
+{
+    let elf = needed(found, "elf")?;
+    let source = needed(found, "source")?;
+    let certificate = needed(found, "cert")?;
+    let functions = listed(alloc, given(found, "functions"))?;
+    Ok(Proving {
+        elf,
+        source,
+        certificate,
+        functions,
+    })
+}
+
+/// The value of an argument, if it has one.
+fn given<'a>(found: &ArgMatches<'a>, id: &str) -> Option<&'a str>
+    ensures { option_map (λ text. text.now) result ≡ first_of id.now (rows_of (found_of found.now)) }
+{
+    found.get_str(id)
+}
+
+/// The value of an argument that is required, so that it has one.
+fn needed<'a>(found: &ArgMatches<'a>, id: &str) -> Result<&'a str, WordsError>
+    ensures found { IfOk result (λ text. first_of id.now (rows_of (found_of found.now)) ≡ Some text.now) }
+    ensures missing { IfErr result (λ error. first_of id.now (rows_of (found_of found.now)) ≡ None) }
+{
+    match given(found, id) {
+        Some(text) => Ok(text),
+        None => Err(WordsError::Words),
+    }
+}
+
+/// The names of a list that was given, if one was.
+fn listed<'a>(alloc: Global, text: Option<&'a str>) -> Result<Option<Vec<&'a str>>, WordsError>
+    ensures found { IfOk result (λ names. spec.AreListed (option_map (λ text. text.now) text.entry) (option_map names_of names)) }
+    ensures only { IfErr result (λ error. (names : Option (List (List ℕ))) → spec.AreListed (option_map (λ text. text.now) text.entry) names → error ≡ NoMemory) }
+{
+    match text {
+        Some(text) => {
+            let names = names_in(alloc, text)?;
+            Ok(Some(names))
+        }
+        None => Ok(None),
+    }
+}
+
+#[cfg(test)]
+mod tests;

@@ -1,0 +1,64 @@
+//! The program's command, as `clap` is to read it.
+
+ghost use Rattle.std.specs.Prelude.{◌≡◌, IfOk, IfErr, [], false, map, string_bytes};
+ghost use Rattle.clap.specs.Walk.{rule_of};
+ghost use Rattle.clap.specs.Simple.{app_of, subcommand_of, subcommand_rows_of};
+ghost use Rattle.clap.specs.Faults.{fault_of};
+ghost use Rattle.tv_words.specs.declared.WordsError.TheVariants.{NoMemory};
+ghost use Rattle.tv_words.specs.Commands as spec;
+
+use crate::WordsError;
+use clap::{Arg, ArgAction, ArgMatches, Command};
+use std::alloc::{AllocError, Global};
+
+/// A file that is named by its place.
+fn file<'a>(alloc: Global, id: &'a str) -> Arg<'a>
+    ensures rule { rule_of result ≡ spec.file id.entry.now }
+    ensures local { result.global ≡ false }
+{
+    Arg::new(alloc, id).required(true).action(ArgAction::Set)
+}
+
+/// A value that is named by an option.
+fn option<'a>(alloc: Global, name: &'a str, required: bool) -> Arg<'a>
+    ensures rule { rule_of result ≡ spec.option name.entry.now required }
+    ensures local { result.global ≡ false }
+{
+    Arg::new(alloc, name)
+        .long(name)
+        .required(required)
+        .action(ArgAction::Set)
+}
+
+/// The subcommand `prove ELF C --cert OUT [--functions NAME,..]`.
+fn prove<'a>(alloc: Global) -> Result<Command<'a>, AllocError>
+    ensures { IfOk result (λ prove. spec.IsCommandOf prove spec.prove) }
+{
+    let command = Command::new(alloc, "prove")
+        .arg(file(alloc, "elf"))?
+        .arg(file(alloc, "source"))?
+        .arg(option(alloc, "cert", true))?
+        .arg(option(alloc, "functions", false))?;
+    Ok(command)
+}
+
+/// The program, which asks for one subcommand.
+#[tactic(auto, unfolding(crate::specs::Commands::program))]
+fn program<'a>(alloc: Global) -> Result<Command<'a>, AllocError>
+    ensures { IfOk result (λ program. app_of program ≡ spec.program) }
+{
+    let command = Command::new(alloc, "tv")
+        .subcommand_required(true)
+        .subcommand(prove(alloc)?)?;
+    Ok(command)
+}
+
+/// What the words give, where the program takes them.
+pub(crate) fn parsed<'a>(alloc: Global, words: &'a [String]) -> Result<ArgMatches<'a>, WordsError>
+    ensures taken { IfOk result (λ matches. fault_of spec.program (map string_bytes words.entry.now) ≡ []) }
+    ensures found { IfOk result (λ matches. subcommand_rows_of matches ≡ subcommand_of spec.program (map string_bytes words.entry.now)) }
+    ensures only { IfErr result (λ error. fault_of spec.program (map string_bytes words.entry.now) ≡ [] → error ≡ NoMemory) }
+{
+    let matches = program(alloc)?.try_get_matches_from(words)?;
+    Ok(matches)
+}
