@@ -16,8 +16,9 @@ import sys
 import tempfile
 from pathlib import Path
 
-ROOT = Path(__file__).resolve().parent.parent
-CRATES = ["rv_instr", "rv_spec", "elf_spec", "c_spec", "c_meaning_spec", "claim_spec", "rv_decode", "elf_read", "decompile"]
+from probe import ask
+
+CRATES = ["elf_read", "decompile"]
 
 SOURCE = """
 typedef unsigned u32; typedef unsigned char u8;
@@ -107,24 +108,9 @@ fn main(rt: HostRuntime) -> anyhow::Result<()> {
 
 
 def probe(files):
-    """What the crate answers for each function of each file; it is run unproved, in a scratch repository."""
-    with tempfile.TemporaryDirectory() as folder:
-        room = Path(folder)
-        for name in CRATES:
-            shutil.copytree(ROOT / "crates" / name, room / "crates" / name, ignore=shutil.ignore_patterns("out"))
-        (room / "crates/probe/src").mkdir(parents=True)
-        (room / "crates/probe/src/main.rt").write_text(PROBE)
-        lines = [line for line in (ROOT / "crates.txt").read_text().splitlines() if line.split(":")[0] in CRATES]
-        (room / "crates.txt").write_text("\n".join(lines + ["probe: anyhow elf_read decompile"]) + "\n")
-        (room / "HANDLES").write_text("Handles allowed: none.\n")
-        subprocess.run(["git", "init", "-q", "."], cwd=room, check=True)
-        data = [word for file in files for word in ("--data", f"{file.name}={file}")]
-        ran = subprocess.run(["rt", "try", "--seconds", "600", *data, "--", *[file.name for file in files]],
-                             cwd=room / "crates/probe", capture_output=True, text=True)
-    if "run=ended status=0" not in ran.stdout + ran.stderr:
-        sys.exit(f"the probe did not run: {ran.stdout[-2000:]}{ran.stderr[-2000:]}")
+    """What the crates answer for each function of each file."""
     answers = {}
-    for line in ran.stdout.splitlines():
+    for line in ask(PROBE, CRATES, files=files):
         if not line.startswith("= "):
             continue
         kind, _, rest = line[2:].partition(" ")

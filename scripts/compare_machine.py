@@ -12,21 +12,15 @@ programs of 40 instructions on random registers and compares registers and memor
 import collections
 import random
 import re
-import shutil
 import struct
 import subprocess
 import sys
 import tempfile
 from pathlib import Path
 
-ROOT = Path(__file__).resolve().parent.parent
-CRATES = {
-    "rv_instr": "",
-    "rv_spec": "rv_instr",
-    "rv_decode": "rv_instr",
-    "rv_asm": "rv_instr",
-    "rv_machine": "rv_instr rv_spec rv_decode",
-}
+from probe import ask
+
+CRATES = ["rv_instr", "rv_decode", "rv_asm", "rv_machine"]
 
 # Reads lines: a word, or `run`, the values of x1 to x31 and a program's words. Prints the word, what
 # its form is encoded as and the form (nothing where it has none); or how the run ended, pc, the
@@ -99,23 +93,9 @@ fn main(rt: HostRuntime) -> anyhow::Result<()> {
 """
 
 
-def probe(lines, room):
-    """The lines that the probe prints; it is run unproved, in a scratch repository."""
-    for name in CRATES:
-        shutil.copytree(ROOT / "crates" / name, room / "crates" / name, ignore=shutil.ignore_patterns("out"))
-    (room / "crates/probe/src").mkdir(parents=True)
-    (room / "crates/probe/src/main.rt").write_text(PROBE)
-    listed = CRATES | {"probe": "anyhow rv_instr rv_decode rv_asm rv_machine"}
-    (room / "crates.txt").write_text("".join(f"{name}: {deps}\n" for name, deps in listed.items()))
-    (room / "HANDLES").write_text("Handles allowed: none.\n")
-    subprocess.run(["git", "init", "-q", "."], cwd=room, check=True)
-    ran = subprocess.run(
-        ["rt", "try", "--seconds", "600"],
-        cwd=room / "crates/probe", input="\n".join(lines) + "\n", capture_output=True, text=True,
-    )
-    if "run=ended status=0" not in ran.stdout + ran.stderr:
-        sys.exit(f"the probe did not run: {ran.stdout[-400:]}{ran.stderr[-400:]}")
-    return [line.strip() for line in ran.stdout.splitlines()]
+def probe(lines):
+    """What the crates answer to these lines."""
+    return [line.strip() for line in ask(PROBE, CRATES, "\n".join(lines) + "\n")]
 
 
 # ---- words
@@ -183,20 +163,19 @@ def disassembled(words, room):
         ["riscv64-unknown-elf-objdump", "-D", "-M", "no-aliases,numeric", "-j", ".text", "words.o"],
         cwd=room, check=True, capture_output=True, text=True,
     ).stdout
-    printed = collections.defaultdict(list)
+    shown = collections.defaultdict(list)
     for line in text.splitlines():
         found = re.match(r"\s*([0-9a-f]+):\s+([0-9a-f]{8})\s+(\S+)\s*(.*)", line)
         if found:
-            printed[int(found[2], 16)].append((int(found[1], 16), found[3], re.sub(r"<.*>|#.*", "", found[4]).strip()))
-    return printed
+            shown[int(found[2], 16)].append((int(found[1], 16), found[3], re.sub(r"<.*>|#.*", "", found[4]).strip()))
+    return shown
 
 
 def compare_words():
     words = boundary_words()
     with tempfile.TemporaryDirectory() as folder:
-        room = Path(folder)
-        printed = disassembled(words, room)
-        lines = probe([f"{w:08x}" for w in words], room)
+        shown = disassembled(words, Path(folder))
+    lines = probe([f"{w:08x}" for w in words])
     ours = {int(line[:8], 16): line for line in lines if re.match(r"[0-9a-f]{8} [0-9a-f]{8} ", line)}
     other, unlike, not_back = 0, [], 0
     for word in words:
@@ -204,7 +183,7 @@ def compare_words():
         form = line[18:] if line else "None"
         not_back += line is not None and int(line[9:17], 16) != word
         form = "Fence" if form.startswith("Fence") else form
-        wanted = {form_of(*row) for row in printed.get(word, [(0, "", "")])}
+        wanted = {form_of(*row) for row in shown.get(word, [(0, "", "")])}
         if form not in wanted:
             # the fields that are reserved in a FENCE are kept here, and objdump prints no form then
             if form == "Fence" and wanted == {"None"}:
@@ -299,12 +278,11 @@ def compare_programs(count=400, seed=11):
         registers[8] = 0x40800
         wanted.append(emulated(words, registers))
         lines.append(" ".join(["run"] + [f"{value:x}" for value in registers[1:]] + [f"{word:08x}" for word in words]))
-    with tempfile.TemporaryDirectory() as folder:
-        printed = [line for line in probe(lines, Path(folder)) if re.match("Stopped|Trapped|More", line)]
-    unlike = [i for i in range(count) if i >= len(printed) or printed[i] != wanted[i]]
+    ended = [line for line in probe(lines) if re.match("Stopped|Trapped|More", line)]
+    unlike = [i for i in range(count) if i >= len(ended) or ended[i] != wanted[i]]
     print(f"{count} programs; differ: {len(unlike)}")
     for i in unlike[:5]:
-        print(lines[i], wanted[i], printed[i] if i < len(printed) else "nothing", sep="\n")
+        print(lines[i], wanted[i], ended[i] if i < len(ended) else "nothing", sep="\n")
     return bool(unlike)
 
 

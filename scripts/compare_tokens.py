@@ -16,8 +16,9 @@ import sys
 import tempfile
 from pathlib import Path
 
-ROOT = Path(__file__).resolve().parent.parent
-CRATES = {"c_spec": "", "c_token": "c_spec"}
+from probe import ask
+
+CRATES = ["c_token"]
 
 # Reads lines of hexadecimal bytes, each a text, and prints for each its fault, or its tokens: behind `!`
 # all of them, else their count and a sum over the bytes in which they would be printed.
@@ -77,24 +78,9 @@ fn main(rt: HostRuntime) -> anyhow::Result<()> {
 
 
 def probe(texts, mark="!"):
-    """What the crate answers for each text; it is run unproved, in a scratch repository."""
-    with tempfile.TemporaryDirectory() as folder:
-        room = Path(folder)
-        for name in CRATES:
-            shutil.copytree(ROOT / "crates" / name, room / "crates" / name, ignore=shutil.ignore_patterns("out"))
-        (room / "crates/probe/src").mkdir(parents=True)
-        (room / "crates/probe/src/main.rt").write_text(PROBE)
-        listed = CRATES | {"probe": "anyhow c_token"}
-        (room / "crates.txt").write_text("".join(f"{name}: {deps}\n" for name, deps in listed.items()))
-        (room / "HANDLES").write_text("Handles allowed: none.\n")
-        subprocess.run(["git", "init", "-q", "."], cwd=room, check=True)
-        ran = subprocess.run(
-            ["rt", "try", "--seconds", "600"],
-            cwd=room / "crates/probe", input="".join(mark + text.hex() + "\n" for text in texts), capture_output=True, text=True,
-        )
-    if "run=ended status=0" not in ran.stdout + ran.stderr:
-        sys.exit(f"the probe did not run: {ran.stdout[-2000:]}{ran.stderr[-2000:]}")
-    answers = [line[1:].strip() for line in ran.stdout.splitlines() if line.startswith("=")]
+    """What the crate answers for each text."""
+    lines = ask(PROBE, CRATES, "".join(mark + text.hex() + "\n" for text in texts))
+    answers = [line[1:].strip() for line in lines if line.startswith("=")]
     if len(answers) != len(texts):
         sys.exit(f"{len(texts)} texts and {len(answers)} answers")
     return answers

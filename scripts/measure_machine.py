@@ -9,20 +9,15 @@ row is a run: instructions, bytes stored at distinct addresses, seconds, instruc
 peak of memory.
 """
 
-import shutil
 import subprocess
 import sys
 import tempfile
 import time
 from pathlib import Path
 
-ROOT = Path(__file__).resolve().parent.parent
-CRATES = {
-    "rv_instr": "",
-    "rv_spec": "rv_instr",
-    "rv_decode": "rv_instr",
-    "rv_machine": "rv_instr rv_spec rv_decode",
-}
+from probe import built
+
+CRATES = ["rv_instr", "rv_machine"]
 
 # Its arguments, after its name, are the words of a program in hexadecimal numbers. Runs it from 00010000 to its end, and
 # prints how the run ended, pc and x10.
@@ -62,23 +57,6 @@ fn main(rt: HostRuntime) -> anyhow::Result<()> {
     Ok(())
 }
 """
-
-
-def built(room):
-    """The program that runs the words of its arguments, proved and compiled in a scratch repository."""
-    for name in CRATES:
-        shutil.copytree(ROOT / "crates" / name, room / "crates" / name)
-    (room / "crates/probe/src").mkdir(parents=True)
-    (room / "crates/probe/src/main.rt").write_text(PROBE)
-    listed = CRATES | {"probe": "anyhow rv_instr rv_machine"}
-    (room / "crates.txt").write_text("".join(f"{name}: {deps}\n" for name, deps in listed.items()))
-    (room / "HANDLES").write_text("Handles allowed: none.\n")
-    subprocess.run(["git", "init", "-q", "."], cwd=room, check=True)
-    ran = subprocess.run(["rt", "run"], cwd=room / "crates/probe", capture_output=True, text=True)
-    program = room / "crates/probe/out/probe"
-    if ran.returncode or not program.exists():
-        sys.exit(f"the program is not built: {ran.stdout[-2000:]}{ran.stderr[-2000:]}")
-    return program
 
 
 def upper(rd, value):
@@ -144,7 +122,7 @@ def measure(program, words):
 
 def main():
     with tempfile.TemporaryDirectory() as folder:
-        program = built(Path(folder))
+        program = built(Path(folder), PROBE, CRATES)
         print("| Run | Instructions | Bytes stored | Seconds | Instructions a second | Peak MiB |\n|---|---|---|---|---|---|")
         for name, (words, count), stored in ROWS:
             seconds, peak = measure(program, words)

@@ -218,7 +218,7 @@ fn answers_the_first_fault(rt: HostRuntime) -> Result<(), Fail> {
 
 #[test]
 fn looks_at_all_that_is_reached(rt: HostRuntime) -> Result<(), Fail> {
-    let rows: [(Program, Option<CodeError>, Option<Option<u64>>); 5] = [
+    let rows: [(Program, Option<CodeError>, Option<Option<u64>>); 6] = [
         // f calls g, whose range lies in that of f
         (
             Program {
@@ -226,6 +226,21 @@ fn looks_at_all_that_is_reached(rt: HostRuntime) -> Result<(), Fail> {
                 functions: &[(F, 12), (F + 8, 4)],
             },
             fault(CodeKind::Overlap, F + 8),
+            None,
+        ),
+        // f calls g and h, and h begins inside g: neither meets f
+        (
+            Program {
+                words: &[
+                    0x00c0_00ef,
+                    0x00c0_00ef,
+                    0x0000_8067,
+                    0x0000_0013,
+                    0x0000_8067,
+                ],
+                functions: &[(F, 12), (F + 12, 8), (F + 16, 4)],
+            },
+            fault(CodeKind::Overlap, F + 16),
             None,
         ),
         // f calls g, g calls h, and h is no instruction

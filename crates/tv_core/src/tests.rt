@@ -309,14 +309,22 @@ fn answers_each_pair(rt: HostRuntime) -> Result<(), Fail> {
     Ok(())
 }
 
-/// The executable with a second symbol `f`, whose value is the address of the second word.
-fn of_two_values(alloc: Global) -> Result<Vec<u8>, AllocError> {
+/// The executable with other words of code, another size of `f`, and a second symbol behind it.
+fn of_two_symbols(
+    alloc: Global,
+    code: &[u32],
+    size: u8,
+    second: &[u8; 16],
+) -> Result<Vec<u8>, AllocError> {
+    let table = code.len() % 64 * 4 + 84;
     let mut bytes = Vec::new(alloc);
-    for (place, byte) in ADD_TWO_ARGUMENTS.iter().enumerate() {
-        if place == 124 {
-            bytes.extend_from_slice(&[1, 0, 0, 0, 4, 0, 1, 0, 4, 0, 0, 0, 18, 0, 1, 0])?;
+    for (place, byte) in executable(alloc, code)?.iter().enumerate() {
+        if place == table + 32 {
+            bytes.extend_from_slice(second)?;
         }
-        if [32, 188, 224].contains(&place) {
+        if place == table + 24 {
+            bytes.push(size)?;
+        } else if [32, table + 96, table + 132].contains(&place) {
             bytes.push(byte.wrapping_add(16))?;
         } else {
             bytes.push(*byte)?;
@@ -356,12 +364,43 @@ fn refuses_code_by_its_first_fault(rt: HostRuntime) -> Result<(), Fail> {
         assert_eq!(rt; end.status, 3);
         assert_eq!(rt; end.report.as_slice(), report);
     }
-    let elf = of_two_values(rt.alloc())?;
-    let end = run_in_memory(rt.alloc(), COMMAND, elf.as_slice(), SUM, &NONE)?;
-    assert_eq!(rt;
-        end.report.as_slice(),
-        b"refused code Ambiguous f at 00010004\n".as_slice()
-    );
+    Ok(())
+}
+
+// A symbol `f` of the second word, and nameless ones of the second and of the third.
+const AGAIN: [u8; 16] = [1, 0, 0, 0, 4, 0, 1, 0, 4, 0, 0, 0, 18, 0, 1, 0];
+const SECOND: [u8; 16] = [0, 0, 0, 0, 4, 0, 1, 0, 4, 0, 0, 0, 18, 0, 1, 0];
+const THIRD: [u8; 16] = [0, 0, 0, 0, 8, 0, 1, 0, 4, 0, 0, 0, 18, 0, 1, 0];
+
+// Words of code, the first two of which are `f`, the second symbol, and the report: `f` has two values, also where
+// its code is at fault; it calls its own second word, which is a function too; what it calls is no instruction.
+const SYMBOLS: [(&[u32], &[u8; 16], &[u8]); 4] = [
+    (ADD, &AGAIN, b"refused code Ambiguous f at 00010004\n"),
+    (
+        &[0, 0x0000_8067],
+        &AGAIN,
+        b"refused code Ambiguous f at 00010004\n",
+    ),
+    (
+        &[0x0040_00ef, 0x0000_8067],
+        &SECOND,
+        b"refused code Overlap f at 00010004\n",
+    ),
+    (
+        &[0x0080_00ef, 0x0000_8067, 0],
+        &THIRD,
+        b"refused code Undecoded f at 00010008\n",
+    ),
+];
+
+#[test]
+fn blames_the_listed_function(rt: HostRuntime) -> Result<(), Fail> {
+    for (code, second, report) in SYMBOLS {
+        let elf = of_two_symbols(rt.alloc(), code, 8, second)?;
+        let end = run_in_memory(rt.alloc(), COMMAND, elf.as_slice(), SUM, &NONE)?;
+        assert_eq!(rt; end.status, 3);
+        assert_eq!(rt; end.report.as_slice(), report);
+    }
     Ok(())
 }
 
