@@ -413,20 +413,14 @@ fn truth_of_two(
 #[test]
 fn truth_values(rt: HostRuntime) -> Result<(), Fail> {
     for (a, b, both, either) in TRUTHS {
-        let and = truth_of_two(rt.alloc(), BinaryOperator::And, truth(a), truth(b))?;
-        assert_eq!(rt; and, Some(both));
-        let or = truth_of_two(rt.alloc(), BinaryOperator::Or, truth(a), truth(b))?;
-        assert_eq!(rt; or, Some(either));
-        let equal = truth_of_two(rt.alloc(), BinaryOperator::Equal, truth(a), truth(b))?;
-        assert_eq!(rt; equal, Some(a == b));
-    }
-    for (a, b, equal, less) in COMPARISONS {
-        let (first, second) = (constant(Width::W32, a), constant(Width::W32, b));
-        let found = truth_of_two(rt.alloc(), BinaryOperator::Equal, first, second)?;
-        assert_eq!(rt; found, Some(equal));
-        let (first, second) = (constant(Width::W32, a), constant(Width::W32, b));
-        let found = truth_of_two(rt.alloc(), BinaryOperator::Less, first, second)?;
-        assert_eq!(rt; found, Some(less));
+        for (operator, expected) in [
+            (BinaryOperator::And, both),
+            (BinaryOperator::Or, either),
+            (BinaryOperator::Equal, a == b),
+        ] {
+            let found = truth_of_two(rt.alloc(), operator, truth(a), truth(b))?;
+            assert_eq!(rt; found, Some(expected));
+        }
     }
     let not = Term::unary(rt.alloc(), UnaryOperator::Not, truth(false))?;
     let value = eval(rt.alloc(), &not, &Assignment::new(rt.alloc()))?;
@@ -434,7 +428,43 @@ fn truth_values(rt: HostRuntime) -> Result<(), Fail> {
     Ok(())
 }
 
-// The byte of a memory, told as a term, at an address.
+#[test]
+fn words_compared(rt: HostRuntime) -> Result<(), Fail> {
+    for (a, b, equal, less) in COMPARISONS {
+        for (operator, expected) in [(BinaryOperator::Equal, equal), (BinaryOperator::Less, less)] {
+            let (first, second) = (constant(Width::W32, a), constant(Width::W32, b));
+            let found = truth_of_two(rt.alloc(), operator, first, second)?;
+            assert_eq!(rt; found, Some(expected));
+        }
+    }
+    Ok(())
+}
+
+/// The first memory.
+fn plain() -> Term {
+    Term::Leaf(Atom::Open(memory(0)))
+}
+
+/// The first memory, with the second laid over it from 16 to 32.
+fn laid_over(alloc: Global) -> Result<Term, AllocError> {
+    let second = Term::Leaf(Atom::Open(memory(1)));
+    let (low, high) = (constant(Width::W32, 16), constant(Width::W32, 32));
+    Term::quaternary(alloc, QuaternaryOperator::Over, plain(), second, low, high)
+}
+
+/// The first memory with 0x55 stored at 16.
+fn stored(alloc: Global) -> Result<Term, AllocError> {
+    let (address, byte) = (constant(Width::W32, 16), constant(Width::W8, 0x55));
+    Term::ternary(alloc, TernaryOperator::Store, plain(), address, byte)
+}
+
+/// The first memory where false holds, else the one stored to.
+fn chosen(alloc: Global) -> Result<Term, AllocError> {
+    let other = stored(alloc)?;
+    Term::ternary(alloc, TernaryOperator::Choose, truth(false), plain(), other)
+}
+
+/// The byte of a memory, told as a term, at an address.
 fn byte_at(alloc: Global, memory: Term, address: u64) -> Result<Option<(Width, u64)>, AllocError> {
     let address = constant(Width::W32, address);
     let term = Term::binary(alloc, BinaryOperator::Load, memory, address)?;
@@ -444,89 +474,72 @@ fn byte_at(alloc: Global, memory: Term, address: u64) -> Result<Option<(Width, u
 
 #[test]
 fn memories_at_their_edges(rt: HostRuntime) -> Result<(), Fail> {
-    let alloc = rt.alloc();
-    let first = Term::Leaf(Atom::Open(memory(0)));
-    let second = Term::Leaf(Atom::Open(memory(1)));
-    let (low, high) = (constant(Width::W32, 16), constant(Width::W32, 32));
-    let (one, other) = (first.copy(alloc)?, second.copy(alloc)?);
-    let over = Term::quaternary(alloc, QuaternaryOperator::Over, one, other, low, high)?;
-    let (address, byte) = (constant(Width::W32, 16), constant(Width::W8, 0x55));
-    let one = first.copy(alloc)?;
-    let stored = Term::ternary(alloc, TernaryOperator::Store, one, address, byte)?;
-    for (address, plain, laid_over, changed) in BYTES {
-        let found = byte_at(alloc, first.copy(alloc)?, address)?;
-        assert_eq!(rt; found, Some((Width::W8, plain)));
-        let found = byte_at(alloc, over.copy(alloc)?, address)?;
-        assert_eq!(rt; found, Some((Width::W8, laid_over)));
-        let found = byte_at(alloc, stored.copy(alloc)?, address)?;
+    for (address, first, over, changed) in BYTES {
+        let found = byte_at(rt.alloc(), plain(), address)?;
+        assert_eq!(rt; found, Some((Width::W8, first)));
+        let found = byte_at(rt.alloc(), laid_over(rt.alloc())?, address)?;
+        assert_eq!(rt; found, Some((Width::W8, over)));
+        let found = byte_at(rt.alloc(), stored(rt.alloc())?, address)?;
         assert_eq!(rt; found, Some((Width::W8, changed)));
-        let (one, other) = (first.copy(alloc)?, stored.copy(alloc)?);
-        let chosen = Term::ternary(alloc, TernaryOperator::Choose, truth(false), one, other)?;
-        let found = byte_at(alloc, chosen, address)?;
+        let found = byte_at(rt.alloc(), chosen(rt.alloc())?, address)?;
         assert_eq!(rt; found, Some((Width::W8, changed)));
     }
     Ok(())
+}
+
+/// The word that the first bytes make, two, four or eight of them.
+fn joined(alloc: Global, bytes: [u64; 8], count: usize) -> Result<Option<(Width, u64)>, AllocError> {
+    let [a, b, c, d, e, f, g, h] = bytes.map(|number| constant(Width::W8, number));
+    let term = match count {
+        2 => Term::binary(alloc, BinaryOperator::Join, a, b)?,
+        4 => Term::quaternary(alloc, QuaternaryOperator::Join, a, b, c, d)?,
+        _ => Term::octonary(alloc, a, b, c, d, e, f, g, h)?,
+    };
+    let value = eval(alloc, &term.copy(alloc)?, &Assignment::new(alloc))?;
+    Ok(word(&value))
 }
 
 #[test]
 fn bytes_are_joined_lowest_first(rt: HostRuntime) -> Result<(), Fail> {
-    let alloc = rt.alloc();
-    let nothing = Assignment::new(alloc);
-    let byte = |number| constant(Width::W8, number);
-    let two = Term::binary(alloc, BinaryOperator::Join, byte(0x34), byte(0x12))?;
-    assert_eq!(rt;
-        word(&eval(alloc, &two, &nothing)?),
-        Some((Width::W16, 0x1234))
-    );
-    let (a, b, c, d) = (byte(0x78), byte(0x56), byte(0x34), byte(0x12));
-    let four = Term::quaternary(alloc, QuaternaryOperator::Join, a, b, c, d)?;
-    assert_eq!(rt;
-        word(&eval(alloc, &four, &nothing)?),
-        Some((Width::W32, 0x1234_5678))
-    );
-    let (a, b, c, d) = (byte(0xf0), byte(0xde), byte(0xbc), byte(0x9a));
-    let (e, f, g, h) = (byte(0x78), byte(0x56), byte(0x34), byte(0x12));
-    let eight = Term::octonary(alloc, a, b, c, d, e, f, g, h)?;
-    let eight = eight.copy(alloc)?;
-    let value = eval(alloc, &eight, &nothing)?;
-    assert_eq!(rt; word(&value), Some((Width::W64, 0x1234_5678_9abc_def0)));
-    assert_eq!(rt; sort(&eight), Some(Sort::Word(Width::W64)));
+    let bytes = [0xf0, 0xde, 0xbc, 0x9a, 0x78, 0x56, 0x34, 0x12];
+    for (count, width, number) in [
+        (2, Width::W16, 0xdef0),
+        (4, Width::W32, 0x9abc_def0),
+        (8, Width::W64, 0x1234_5678_9abc_def0),
+    ] {
+        assert_eq!(rt; joined(rt.alloc(), bytes, count)?, Some((width, number)));
+    }
     Ok(())
 }
 
-// An operator at two words of two widths is not well sorted, and worth false.
+// operators at words that they do not take
+const ILL_CHANGED: [(UnaryOperator, Width); 4] = [
+    (UnaryOperator::Byte(4), Width::W32),
+    (UnaryOperator::ZeroExtend(Width::W8), Width::W16),
+    (UnaryOperator::Low(Width::W64), Width::W32),
+    (UnaryOperator::Not, Width::W8),
+];
+
 #[test]
 fn terms_that_are_not_well_sorted(rt: HostRuntime) -> Result<(), Fail> {
-    let alloc = rt.alloc();
-    let (a, b) = (constant(Width::W8, 1), constant(Width::W16, 1));
-    let sum = Term::binary(alloc, BinaryOperator::Word(WordOperator::Add), a, b)?;
-    let past = Term::unary(alloc, UnaryOperator::Byte(4), constant(Width::W32, 0))?;
-    let narrower = Term::unary(
-        alloc,
-        UnaryOperator::ZeroExtend(Width::W8),
-        constant(Width::W16, 0),
-    )?;
-    let wider = Term::unary(
-        alloc,
-        UnaryOperator::Low(Width::W64),
-        constant(Width::W32, 0),
-    )?;
-    let (one, other) = (
-        Term::Leaf(Atom::Open(memory(0))),
-        Term::Leaf(Atom::Open(memory(1))),
-    );
-    let memories = Term::binary(alloc, BinaryOperator::Equal, one, other)?;
-    for term in [
-        &sum,
-        &past,
-        &narrower,
-        &wider,
-        &memories,
-        &constant(Width::W8, 256),
-    ] {
-        assert_eq!(rt; sort(term), None, "{term:?}");
+    assert_eq!(rt; sort(&constant(Width::W8, 256)), None);
+    for (operator, width) in ILL_CHANGED {
+        let term = Term::unary(rt.alloc(), operator, constant(width, 0))?;
+        assert_eq!(rt; sort(&term), None, "{term:?}");
     }
-    let value = eval(alloc, &sum, &Assignment::new(alloc))?;
+    let second = Term::Leaf(Atom::Open(memory(1)));
+    let memories = Term::binary(rt.alloc(), BinaryOperator::Equal, plain(), second)?;
+    assert_eq!(rt; sort(&memories), None);
+    Ok(())
+}
+
+// The sum of words of two widths is not well sorted, and worth false.
+#[test]
+fn a_sum_of_two_widths_is_false(rt: HostRuntime) -> Result<(), Fail> {
+    let (a, b) = (constant(Width::W8, 1), constant(Width::W16, 1));
+    let sum = Term::binary(rt.alloc(), BinaryOperator::Word(WordOperator::Add), a, b)?;
+    assert_eq!(rt; sort(&sum), None);
+    let value = eval(rt.alloc(), &sum, &Assignment::new(rt.alloc()))?;
     assert_eq!(rt; known(&value), Some(false));
     Ok(())
 }
