@@ -63,11 +63,14 @@ fn executable(alloc: Global, program: &Program) -> Result<Vec<u8>, AllocError> {
     Ok(bytes)
 }
 
-/// What the calls answer of the first function.
-#[derive(Drop)]
+/// What the calls answer of a function.
+#[derive(Clone, Copy, Debug, PartialEq)]
 struct Answers {
-    code: Result<Vec<(u32, u32)>, CodeError>,
-    reach: Result<Vec<u32>, CodeError>,
+    /// The fault of its own code.
+    own: Option<CodeError>,
+    /// The fault of all that it reaches.
+    all: Option<CodeError>,
+    /// Its stack.
     stack: Result<Option<u64>, CodeError>,
 }
 
@@ -76,42 +79,60 @@ fn ask(alloc: Global, image: &Image<'_>, entry: u32) -> Option<Answers> {
         return None;
     }
     Some(Answers {
-        code: code(alloc, image, entry),
-        reach: reach(alloc, image, entry),
+        own: code(alloc, image, entry).err(),
+        all: reach(alloc, image, entry).err(),
         stack: stack(alloc, image, entry),
     })
+}
+
+/// What the calls answer of the first function of a program.
+fn ask_first(alloc: Global, program: &Program) -> Result<Option<Answers>, Fail> {
+    let file = executable(alloc, program)?;
+    let image = match read(alloc, file.as_slice()) {
+        Ok(image) => image,
+        Err(error) => return Err(error.into()),
+    };
+    match program.functions.first() {
+        Some((entry, _)) => Ok(ask(alloc, &image, *entry)),
+        None => Ok(None),
+    }
 }
 
 fn fault(kind: CodeKind, address: u32) -> Option<CodeError> {
     Some(CodeError::Fault(CodeFault { kind, address }))
 }
 
+// f: addi sp,sp,-16; sw ra,12(sp); addi a0,a0,-1; bne a0,x0,-4; jal ra,+12; addi sp,sp,16; ret.
+// g: addi sp,sp,-32; ret; and a word that is not reached.
+const CALL_LOOP_AND_FRAME: Program = Program {
+    words: &[
+        0xff01_0113,
+        0x0011_2623,
+        0xfff5_0513,
+        0xfe05_1ee3,
+        0x00c0_00ef,
+        0x0101_0113,
+        0x0000_8067,
+        0xfe01_0113,
+        0x0000_8067,
+        0xffff_ffff,
+    ],
+    functions: &[(F, 28), (F + 28, 12)],
+};
+
+/// Whether these words of code and these entries are what is found of the function at the beginning.
+fn finds(image: &Image<'_>, alloc: Global, words: &[(u32, u32)], entries: &[u32]) -> bool {
+    image.size_at(F).is_some()
+        && code(alloc, image, F).is_ok_and(|found| found.as_slice() == words)
+        && reach(alloc, image, F).is_ok_and(|found| found.as_slice() == entries)
+}
+
 #[test]
 fn lists_a_call_a_loop_and_a_frame(rt: HostRuntime) -> Result<(), Fail> {
-    // f: addi sp,sp,-16; sw ra,12(sp); addi a0,a0,-1; bne a0,x0,-4; jal ra,+12; addi sp,sp,16; ret.
-    // g: addi sp,sp,-32; ret; and a word that is not reached.
-    let program = Program {
-        words: &[
-            0xff01_0113,
-            0x0011_2623,
-            0xfff5_0513,
-            0xfe05_1ee3,
-            0x00c0_00ef,
-            0x0101_0113,
-            0x0000_8067,
-            0xfe01_0113,
-            0x0000_8067,
-            0xffff_ffff,
-        ],
-        functions: &[(F, 28), (F + 28, 12)],
-    };
-    let file = executable(rt.alloc(), &program)?;
+    let file = executable(rt.alloc(), &CALL_LOOP_AND_FRAME)?;
     let image = match read(rt.alloc(), file.as_slice()) {
         Ok(image) => image,
         Err(error) => return Err(error.into()),
-    };
-    let Some(found) = ask(rt.alloc(), &image, F) else {
-        return Ok(());
     };
     let listed: &[(u32, u32)] = &[
         (F, 0xff01_0113),
@@ -122,15 +143,14 @@ fn lists_a_call_a_loop_and_a_frame(rt: HostRuntime) -> Result<(), Fail> {
         (F + 20, 0x0101_0113),
         (F + 24, 0x0000_8067),
     ];
-    match &found.code {
-        Ok(words) => assert!(&rt; words.as_slice() == listed),
-        Err(error) => return Err((*error).into()),
-    }
-    match &found.reach {
-        Ok(entries) => assert!(&rt; entries.as_slice() == [F, F + 28].as_slice()),
-        Err(error) => return Err((*error).into()),
-    }
-    assert_eq!(&rt; found.stack, Ok(Some(48)));
+    assert!(&rt; finds(&image, rt.alloc(), listed, &[F, F + 28]));
+    Ok(())
+}
+
+#[test]
+fn adds_up_the_stack_of_what_is_called(rt: HostRuntime) -> Result<(), Fail> {
+    let found = ask_first(rt.alloc(), &CALL_LOOP_AND_FRAME)?;
+    assert_eq!(&rt; found.map(|a| a.stack), Some(Ok(Some(48))));
     Ok(())
 }
 
@@ -200,18 +220,11 @@ fn answers_the_first_fault(rt: HostRuntime) -> Result<(), Fail> {
         alone(&[0x0000_8067, 0], &[(F + 2, 4)], CodeKind::Misplaced, F + 2),
     ];
     for (program, own) in rows {
-        let file = executable(rt.alloc(), &program)?;
-        let image = match read(rt.alloc(), file.as_slice()) {
-            Ok(image) => image,
-            Err(error) => return Err(error.into()),
-        };
-        for (entry, _) in program.functions.iter().take(1) {
-            if let Some(found) = ask(rt.alloc(), &image, *entry) {
-                assert_eq!(&rt; found.code.err(), own);
-                assert_eq!(&rt; found.reach.err(), own);
-                assert_eq!(&rt; found.stack.err(), own);
-            }
-        }
+        let found = ask_first(rt.alloc(), &program)?;
+        assert_eq!(&rt;
+            found.map(|a| (a.own, a.all, a.stack.err())),
+            Some((own, own, own))
+        );
     }
     Ok(())
 }
@@ -281,16 +294,11 @@ fn looks_at_all_that_is_reached(rt: HostRuntime) -> Result<(), Fail> {
         ),
     ];
     for (program, all, depth) in rows {
-        let file = executable(rt.alloc(), &program)?;
-        let image = match read(rt.alloc(), file.as_slice()) {
-            Ok(image) => image,
-            Err(error) => return Err(error.into()),
-        };
-        if let Some(found) = ask(rt.alloc(), &image, F) {
-            assert!(&rt; found.code.is_ok());
-            assert_eq!(&rt; found.reach.err(), all);
-            assert_eq!(&rt; found.stack.ok(), depth);
-        }
+        let found = ask_first(rt.alloc(), &program)?;
+        assert_eq!(&rt;
+            found.map(|a| (a.own, a.all, a.stack.ok())),
+            Some((None, all, depth))
+        );
     }
     Ok(())
 }

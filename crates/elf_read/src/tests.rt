@@ -1,7 +1,8 @@
 //! Files and what is read off them. The bytes and the answers are worked by hand from the System V ABI.
 
-use crate::{ElfError, ElfFault, Extent, Named, read};
+use crate::{ElfError, ElfFault, Extent, Image, Named, read};
 use elf_spec::ElfKind;
+use std::alloc::Global;
 use std::test::Fail;
 
 /// The executable of one function `f`, whose two words add its arguments and return.
@@ -19,43 +20,6 @@ const ADD_TWO_ARGUMENTS: [u8; 248] = [
 
 fn refusal(kind: ElfKind, offset: usize) -> Option<ElfError> {
     Some(ElfError::Fault(ElfFault { kind, offset }))
-}
-
-#[test]
-fn reads_one_function(rt: HostRuntime) -> Result<(), Fail> {
-    let image = match read(rt.alloc(), &ADD_TWO_ARGUMENTS) {
-        Ok(image) => image,
-        Err(error) => return Err(error.into()),
-    };
-    assert_eq!(rt;
-        image.segment(0).map(|s| (s.vaddr, s.memsz, s.flags)),
-        Some((65536, 8, 5))
-    );
-    assert!(rt; image.segment(1).is_none());
-    assert_eq!(rt;
-        image.symbol(0).map(|s| (s.value, s.size, s.kind)),
-        Some((65536, 8, 2))
-    );
-    assert!(rt; image.symbol(1).is_none());
-    assert_eq!(rt; image.function(b"f"), Named::One(65536));
-    assert_eq!(rt; image.function(b"g"), Named::Absent);
-    assert_eq!(rt; image.object(b"f"), Named::Absent);
-    assert_eq!(rt; image.size_at(65536), Some(8));
-    assert_eq!(rt; image.size_at(65540), None);
-    assert_eq!(rt; image.fixed_byte(65535), None);
-    assert_eq!(rt; image.fixed_byte(65536), Some(0x33));
-    assert_eq!(rt; image.fixed_byte(65543), Some(0));
-    assert_eq!(rt; image.fixed_byte(65544), None);
-    assert_eq!(rt;
-        image.run(0),
-        Some(Extent {
-            first: 65536,
-            last: 65543
-        })
-    );
-    assert_eq!(rt; image.run(1), None);
-    assert_eq!(rt; image.global_pointer(), None);
-    Ok(())
 }
 
 /// A file that is cut: the header first, then the tables.
@@ -144,45 +108,121 @@ const SEVERAL: [u8; 508] = [
     0, 0, 0, 0, 0, 0, 0, 102, 1, 0, 0, 30, 0, 0, 0, 0, 0, 0, 0, 0, 0, 0, 0, 1, 0, 0, 0, 0, 0, 0, 0,
 ];
 
+/// A file as it is read.
+fn image_of<'a>(alloc: Global, file: &'a [u8]) -> Result<Image<'a>, Fail> {
+    match read(alloc, file) {
+        Ok(image) => Ok(image),
+        Err(error) => Err(error.into()),
+    }
+}
+
+// A file, a place, the segment there: its address, its size in memory, its flags and its bytes in the file; and the
+// symbol there: its value, its size and its kind.
+type Entry = (
+    &'static [u8],
+    usize,
+    Option<(u32, u32, u32, usize)>,
+    Option<(u32, u32, u8)>,
+);
+
+const ENTRIES: [Entry; 6] = [
+    (
+        &ADD_TWO_ARGUMENTS,
+        0,
+        Some((0x10000, 8, 5, 8)),
+        Some((0x10000, 8, 2)),
+    ),
+    (&ADD_TWO_ARGUMENTS, 1, None, None),
+    (&SEVERAL, 0, Some((0x20000, 8, 4, 4)), Some((0x10000, 4, 2))),
+    (
+        &SEVERAL,
+        3,
+        Some((0x30000, 16, 6, 2)),
+        Some((0x10004, 4, 2)),
+    ),
+    (&SEVERAL, 4, Some((0x40000, 0, 4, 0)), Some((0x30800, 0, 0))),
+    (&SEVERAL, 6, None, None),
+];
+
 #[test]
-fn reads_several_segments(rt: HostRuntime) -> Result<(), Fail> {
-    let image = match read(rt.alloc(), &SEVERAL) {
-        Ok(image) => image,
-        Err(error) => return Err(error.into()),
-    };
-    assert_eq!(rt;
-        image.segment(4).map(|s| (s.vaddr, s.bytes.len())),
-        Some((0x40000, 0))
-    );
-    assert!(rt; image.segment(5).is_none());
-    assert_eq!(rt; image.symbol(3).map(|s| s.value), Some(0x10004));
-    assert!(rt; image.symbol(6).is_none());
-    assert_eq!(rt; image.function(b"f"), Named::Two(0x10000, 0x10004));
-    assert_eq!(rt; image.function(b"u"), Named::Absent);
-    assert_eq!(rt; image.function(b""), Named::One(0x10008));
-    assert_eq!(rt; image.object(b"g"), Named::One(0x20000));
-    assert_eq!(rt; image.size_at(0x10000), Some(8));
-    assert_eq!(rt; image.size_at(0x10008), Some(0));
-    assert_eq!(rt; image.size_at(0x999), None);
-    assert_eq!(rt; image.global_pointer(), Some(0x30800));
-    assert_eq!(rt;
-        image.run(0),
-        Some(Extent {
-            first: 0x10000,
-            last: 0x1000b
-        })
-    );
-    assert_eq!(rt;
-        image.run(1),
-        Some(Extent {
-            first: 0x20000,
-            last: 0x20003
-        })
-    );
-    assert_eq!(rt; image.run(2), None);
-    assert_eq!(rt; image.fixed_byte(0x1000b), Some(8));
-    assert_eq!(rt; image.fixed_byte(0x20004), None);
-    assert_eq!(rt; image.fixed_byte(0x30000), None);
+fn finds_segments_and_symbols(rt: HostRuntime) -> Result<(), Fail> {
+    for (file, place, segment, symbol) in ENTRIES {
+        let image = image_of(rt.alloc(), file)?;
+        let found = image.segment(place);
+        assert_eq!(rt;
+            found.map(|s| (s.vaddr, s.memsz, s.flags, s.bytes.len())),
+            segment
+        );
+        let found = image.symbol(place);
+        assert_eq!(rt; found.map(|s| (s.value, s.size, s.kind)), symbol);
+    }
+    Ok(())
+}
+
+// A file, a name, and the function and the object of this name.
+const NAMES: [(&[u8], &[u8], Named, Named); 6] = [
+    (&ADD_TWO_ARGUMENTS, b"f", Named::One(0x10000), Named::Absent),
+    (&ADD_TWO_ARGUMENTS, b"g", Named::Absent, Named::Absent),
+    (&SEVERAL, b"f", Named::Two(0x10000, 0x10004), Named::Absent),
+    (&SEVERAL, b"u", Named::Absent, Named::Absent),
+    (&SEVERAL, b"", Named::One(0x10008), Named::Absent),
+    (&SEVERAL, b"g", Named::Absent, Named::One(0x20000)),
+];
+
+#[test]
+fn finds_names(rt: HostRuntime) -> Result<(), Fail> {
+    for (file, name, function, object) in NAMES {
+        let image = image_of(rt.alloc(), file)?;
+        assert_eq!(rt;
+            (image.function(name), image.object(name)),
+            (function, object)
+        );
+    }
+    Ok(())
+}
+
+// A file, an address, the size of the function there, and the fixed byte.
+const ADDRESSES: [(&[u8], u32, Option<u32>, Option<u8>); 10] = [
+    (&ADD_TWO_ARGUMENTS, 0xffff, None, None),
+    (&ADD_TWO_ARGUMENTS, 0x10000, Some(8), Some(0x33)),
+    (&ADD_TWO_ARGUMENTS, 0x10007, None, Some(0)),
+    (&ADD_TWO_ARGUMENTS, 0x10008, None, None),
+    (&SEVERAL, 0x999, None, None),
+    (&SEVERAL, 0x10000, Some(8), Some(0x33)),
+    (&SEVERAL, 0x10008, Some(0), Some(5)),
+    (&SEVERAL, 0x1000b, None, Some(8)),
+    (&SEVERAL, 0x20004, None, None),
+    (&SEVERAL, 0x30000, None, None),
+];
+
+#[test]
+fn finds_what_stands_at_an_address(rt: HostRuntime) -> Result<(), Fail> {
+    for (file, address, size, byte) in ADDRESSES {
+        let image = image_of(rt.alloc(), file)?;
+        assert_eq!(rt;
+            (image.size_at(address), image.fixed_byte(address)),
+            (size, byte)
+        );
+    }
+    Ok(())
+}
+
+// A file, a place, the first and the last address of the run there, and the global pointer.
+const RUNS: [(&[u8], usize, Option<(u32, u32)>, Option<u32>); 5] = [
+    (&ADD_TWO_ARGUMENTS, 0, Some((0x10000, 0x10007)), None),
+    (&ADD_TWO_ARGUMENTS, 1, None, None),
+    (&SEVERAL, 0, Some((0x10000, 0x1000b)), Some(0x30800)),
+    (&SEVERAL, 1, Some((0x20000, 0x20003)), Some(0x30800)),
+    (&SEVERAL, 2, None, Some(0x30800)),
+];
+
+#[test]
+fn finds_runs_and_the_global_pointer(rt: HostRuntime) -> Result<(), Fail> {
+    for (file, place, run, pointer) in RUNS {
+        let image = image_of(rt.alloc(), file)?;
+        let run = run.map(|(first, last)| Extent { first, last });
+        assert_eq!(rt; (image.run(place), image.global_pointer()), (run, pointer));
+    }
     Ok(())
 }
 

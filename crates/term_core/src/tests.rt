@@ -488,7 +488,11 @@ fn memories_at_their_edges(rt: HostRuntime) -> Result<(), Fail> {
 }
 
 /// The word that the first bytes make, two, four or eight of them.
-fn joined(alloc: Global, bytes: [u64; 8], count: usize) -> Result<Option<(Width, u64)>, AllocError> {
+fn joined(
+    alloc: Global,
+    bytes: [u64; 8],
+    count: usize,
+) -> Result<Option<(Width, u64)>, AllocError> {
     let [a, b, c, d, e, f, g, h] = bytes.map(|number| constant(Width::W8, number));
     let term = match count {
         2 => Term::binary(alloc, BinaryOperator::Join, a, b)?,

@@ -101,7 +101,7 @@ const NONE: Mishaps<'static> = Mishaps {
 };
 
 /// How a run ended.
-#[derive(Drop)]
+#[derive(Debug, Drop)]
 struct Ending {
     status: u8,
     report: Vec<u8>,
@@ -129,6 +129,14 @@ fn run_in_memory(
         certificate: Vec::from_slice(alloc, store.text())?,
         faults: [desk.faults(), report.faults(), store.faults()],
     })
+}
+
+/// Whether a run ended with this status, report, certificate and these counts of faults.
+fn is_end(end: &Ending, status: u8, report: &[u8], certificate: &[u8], faults: [u64; 3]) -> bool {
+    end.status == status
+        && end.report.as_slice() == report
+        && end.certificate.as_slice() == certificate
+        && end.faults == faults
 }
 
 // Words, a source, code, and how the run ends: its status, its report and its certificate.
@@ -301,10 +309,10 @@ fn answers_each_pair(rt: HostRuntime) -> Result<(), Fail> {
     for (words, source, code, status, report, certificate) in ROWS {
         let elf = executable(rt.alloc(), code)?;
         let end = run_in_memory(rt.alloc(), words, elf.as_slice(), source, &NONE)?;
-        assert_eq!(rt; end.status, status);
-        assert_eq!(rt; end.report.as_slice(), report);
-        assert_eq!(rt; end.certificate.as_slice(), certificate);
-        assert_eq!(rt; end.faults, [0, 0, 0]);
+        assert!(rt;
+            is_end(&end, status, report, certificate, [0, 0, 0]),
+            "{end:?}"
+        );
     }
     Ok(())
 }
@@ -361,15 +369,16 @@ fn refuses_code_by_its_first_fault(rt: HostRuntime) -> Result<(), Fail> {
     for (patches, report) in PATCHES {
         let elf = patched(rt.alloc(), patches)?;
         let end = run_in_memory(rt.alloc(), COMMAND, elf.as_slice(), SUM, &NONE)?;
-        assert_eq!(rt; end.status, 3);
-        assert_eq!(rt; end.report.as_slice(), report);
+        assert!(rt; is_end(&end, 3, report, b"", [0, 0, 0]), "{end:?}");
     }
     Ok(())
 }
 
 // A symbol `f` of the second word, and nameless ones of the second and of the third.
 const AGAIN: [u8; 16] = [1, 0, 0, 0, 4, 0, 1, 0, 4, 0, 0, 0, 18, 0, 1, 0];
+
 const SECOND: [u8; 16] = [0, 0, 0, 0, 4, 0, 1, 0, 4, 0, 0, 0, 18, 0, 1, 0];
+
 const THIRD: [u8; 16] = [0, 0, 0, 0, 8, 0, 1, 0, 4, 0, 0, 0, 18, 0, 1, 0];
 
 // Words of code, the first two of which are `f`, the second symbol, and the report: `f` has two values, also where
@@ -398,8 +407,7 @@ fn blames_the_listed_function(rt: HostRuntime) -> Result<(), Fail> {
     for (code, second, report) in SYMBOLS {
         let elf = of_two_symbols(rt.alloc(), code, 8, second)?;
         let end = run_in_memory(rt.alloc(), COMMAND, elf.as_slice(), SUM, &NONE)?;
-        assert_eq!(rt; end.status, 3);
-        assert_eq!(rt; end.report.as_slice(), report);
+        assert!(rt; is_end(&end, 3, report, b"", [0, 0, 0]), "{end:?}");
     }
     Ok(())
 }
@@ -435,8 +443,10 @@ fn takes_lists_up_to_their_maximum(rt: HostRuntime) -> Result<(), Fail> {
             names.as_str(),
         ];
         let end = run_in_memory(rt.alloc(), &words, &ADD_TWO_ARGUMENTS, SUM, &NONE)?;
-        assert_eq!(rt; end.status, status);
-        assert_eq!(rt; end.report.as_slice(), report);
+        assert!(rt;
+            end.status == status && end.report.as_slice() == report,
+            "{end:?}"
+        );
     }
     Ok(())
 }
@@ -473,8 +483,10 @@ fn takes_files_up_to_their_maxima(rt: HostRuntime) -> Result<(), Fail> {
             source.as_slice(),
             &NONE,
         )?;
-        assert_eq!(rt; end.status, status);
-        assert_eq!(rt; end.report.as_slice(), report);
+        assert!(rt;
+            end.status == status && end.report.as_slice() == report,
+            "{end:?}"
+        );
     }
     Ok(())
 }
@@ -510,10 +522,7 @@ const CUT_OFF: [(Mishaps<'static>, &[u8], &[u8], [u64; 3]); 2] = [
 fn ends_at_the_call_that_fails(rt: HostRuntime) -> Result<(), Fail> {
     for (mishaps, report, certificate, faults) in CUT_OFF {
         let end = run_in_memory(rt.alloc(), COMMAND, &ADD_TWO_ARGUMENTS, SUM, &mishaps)?;
-        assert_eq!(rt; end.status, 4);
-        assert_eq!(rt; end.report.as_slice(), report);
-        assert_eq!(rt; end.certificate.as_slice(), certificate);
-        assert_eq!(rt; end.faults, faults);
+        assert!(rt; is_end(&end, 4, report, certificate, faults), "{end:?}");
     }
     Ok(())
 }
@@ -563,8 +572,8 @@ fn each_call_fails_in_turn(rt: HostRuntime) -> Result<(), Fail> {
     for number in 1..=MOST_CALLS {
         for mishaps in failing_on_each(&[number]) {
             let end = run_in_memory(rt.alloc(), COMMAND, &ADD_TWO_ARGUMENTS, SUM, &mishaps)?;
-            assert!(rt; ends_well(&end), "call {number}");
-            assert!(rt; number < MOST_CALLS || end.status == 0);
+            let ended = ends_well(&end) && (number < MOST_CALLS || end.status == 0);
+            assert!(rt; ended, "call {number}: {end:?}");
         }
     }
     Ok(())
