@@ -1,0 +1,6 @@
+mod Marked
+mod Told
+mod Places
+mod More
+mod Walks
+mod Keeping

@@ -1,0 +1,4 @@
+pub mod Signs
+pub mod Logged
+pub mod Kept
+pub mod Answers

@@ -1,0 +1,140 @@
+ghost use Rattle.std.specs.Prelude.{◌≡◌, ◌+◌, ◌-◌, ◌≤◌, ◌++◌, ◌∷◌, ◌↔◌, ℕ, [], length, slice_get, false, Some, Err, IfOk, OnOk, OnErr, IsOk, IsTrue};
+ghost use Rattle.clause_spec.specs.Clause.{Valuation, are_met};
+ghost use Rattle.clause_spec.specs.Step.{outcome, Follows, Refused};
+ghost use Rattle.clause_spec.specs.declared.StepFaultKind.{StepFaultKind};
+ghost use Rattle.clause_check.specs.Logged.{clauses_of};
+ghost use Rattle.clause_check.specs.declared.hints.StepFault.{StepFault};
+
+use crate::hints::{StepFault, follows};
+use crate::marks::Marks;
+use clause_spec::Literal;
+use cnf_core::{ClauseList, Cnf};
+use std::alloc::{AllocError, Global};
+use std::marker::Model;
+use thiserror::Error;
+
+/// Why a step is not added.
+#[derive(Clone, Copy, Debug, PartialEq, Eq, Error)]
+pub enum StepError {
+    /// It doesn't follow.
+    #[error(transparent)]
+    Fault(StepFault),
+    /// There was no memory.
+    #[error("no memory")]
+    NoMemory,
+}
+
+impl From<AllocError> for StepError {
+    ghost use Rattle.clause_check.specs.declared.log.StepError.TheVariants.{NoMemory};
+
+    ghost from_gives = { λ _ error. error ≡ NoMemory };
+
+    fn from(_: AllocError) -> Self {
+        StepError::NoMemory
+    }
+}
+
+impl From<StepFault> for StepError {
+    ghost use Rattle.clause_check.specs.declared.log.StepError.TheVariants.{Fault};
+
+    ghost from_gives = { λ fault error. error ≡ Fault fault };
+
+    fn from(fault: StepFault) -> Self {
+        StepError::Fault(fault)
+    }
+}
+
+/// Clauses, and the steps that were added to them, each of which follows from what stood before it.
+#[derive(Drop)]
+pub struct Log {
+    given: usize,
+    clauses: ClauseList,
+    marks: Marks,
+}
+
+impl Model for Log {
+    ghost use Rattle.std.specs.Prelude.{length, take, drop};
+    ghost use Rattle.clause_check.specs.Logged.{Logged};
+    ghost use Rattle.clause_check.specs.Kept.{IsKept};
+
+    ghost Value = { Logged };
+
+    ghost view = { λ log. record {
+      cnf = record { variables = length log.marks; clauses = take log.given log.clauses.clauses };
+      added = drop log.given log.clauses.clauses;
+      spare = log.clauses.spare;
+    } };
+
+    ghost invariant = { λ log. IsKept (length log.marks) log.given log.clauses.clauses };
+}
+
+impl Log {
+    /// No steps yet. Makes the room for the variables' values.
+    pub fn new(alloc: Global, cnf: &Cnf) -> Result<Log, AllocError>
+        ensures cnf { IfOk result (λ log. log.cnf ≡ cnf.now) }
+        ensures added { IfOk result (λ log. log.added ≡ []) }
+    {
+        let mut clauses = ClauseList::new(alloc);
+        for place in 0..cnf.len() {
+            let clause = cnf.clause(place).unwrap();
+            clauses.push(clause)?;
+        }
+        Ok(Log {
+            given: cnf.len(),
+            clauses,
+            marks: Marks::new(alloc, cnf.variables())?,
+        })
+    }
+
+    /// Makes room: steps that have with one for each so many literals are then added without taking memory.
+    pub fn reserve(&mut self, room: usize) -> Result<(), AllocError>
+        ensures room { OnOk result (room ≤ self.new.spare) }
+        ensures cnf { self.new.cnf ≡ self.old.cnf }
+        ensures added { self.new.added ≡ self.old.added }
+    {
+        self.clauses.reserve(room)
+    }
+
+    /// Adds a step with these literals, if it follows by these hints; they are numbers of clauses, counted from
+    /// 1, the steps behind the clauses. Work is linear in the literals, in the hints, and in the literals of their clauses.
+    pub fn step(&mut self, literals: &[Literal], hints: &[usize]) -> Result<(), StepError>
+        ensures follows { OnOk result (outcome self.old.cnf.variables (clauses_of self.old) literals.now hints.now ≡ Follows) }
+        ensures fault { (hint : ℕ) (kind : StepFaultKind) →
+            (result ≡ Err (StepError.Fault (record { hint = hint; kind = kind })))
+            ↔ (outcome self.old.cnf.variables (clauses_of self.old) literals.now hints.now ≡ Refused hint kind) }
+        ensures cnf { self.new.cnf ≡ self.old.cnf }
+        ensures added { OnOk result (self.new.added ≡ self.old.added ++ literals.now ∷ []) }
+        ensures refused { OnErr result (self.new.added ≡ self.old.added) }
+        ensures as_before { (fault : StepFault) → result ≡ Err (StepError.Fault fault) → self.new ≡ self.old }
+
+        // A step that follows takes no memory where there is room for it.
+        ensures fits { length literals.now + 1 ≤ self.old.spare
+            → outcome self.old.cnf.variables (clauses_of self.old) literals.now hints.now ≡ Follows → IsOk result }
+        ensures spare { OnOk result (self.old.spare ≤ self.new.spare + (length literals.now + 1)) }
+    {
+        follows(&self.clauses, &mut self.marks, literals, hints)?;
+        self.clauses.push(literals)?;
+        Ok(())
+    }
+
+    /// Whether there are steps and the last has no literal.
+    pub fn is_closed(&self) -> bool
+        ensures last { IsTrue result ↔ (slice_get self.now.added (length self.now.added - 1) ≡ Some []) }
+        ensures unmet { IsTrue result → (values : Valuation) → are_met values self.now.cnf.clauses ≡ false }
+    {
+        let Some(last) = self.clauses.len().checked_sub(1) else {
+            return false;
+        };
+        last >= self.given && is_empty(&self.clauses, last)
+    }
+}
+
+/// Whether the clause at a place has no literal.
+fn is_empty(clauses: &ClauseList, place: usize) -> bool
+    ensures { IsTrue result ↔ (slice_get clauses.now.clauses place ≡ Some []) }
+{
+    match clauses.get(place) {
+        Some(clause) => clause.is_empty(),
+        None => false,
+    }
+}
