@@ -11,7 +11,7 @@ use Rattle.exact_read.specs.Folds.{base, step}
 use Rattle.c_expression_reader.specs.Classes.{atom_at, atom_of}
 use Rattle.c_expression_reader.specs.Stops.{ends_postfix}
 use Rattle.c_expression_reader.specs.Readers.{Suffix, ByIndex, ByMember, with_suffix}
-use Rattle.c_expression_reader.proofs.Marks.{Closed}
+use Rattle.c_expression_reader.specs.Exactness.{Closed}
 use Rattle.c_expression_reader.proofs.Suffixes.{SuffixText, by_index, by_member, Suffixed}
 
 -- atoms

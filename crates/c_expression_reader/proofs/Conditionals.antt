@@ -14,7 +14,8 @@ use Rattle.exact_read.proofs.Stop.{exact-stop, exact-enter}
 use Rattle.c_expression_reader.specs.Classes.{is_mark, mark_place}
 use Rattle.c_expression_reader.specs.Stops.{stop_binary, stop_conditional}
 use Rattle.c_expression_reader.specs.Readers.{Readers, token, behind, before, read_choice, read_conditional, choose}
-use Rattle.c_expression_reader.proofs.Marks.{mark-self, one-mark, mark-one, Closed, exact-closed, Behind, exact-behind, exact-opened, exact-choose}
+use Rattle.c_expression_reader.specs.Exactness.{Closed}
+use Rattle.c_expression_reader.proofs.Marks.{mark-self, one-mark, mark-one, exact-closed, Behind, exact-behind, exact-opened, exact-choose}
 use Rattle.c_expression_reader.proofs.Samples.{zero_tree, zero_text, zero_conditional}
 use Rattle.c_expression_reader.proofs.Suffixes.{within_operates}
 use Rattle.c_expression_reader.proofs.Levels.{Operands, exact-binary}

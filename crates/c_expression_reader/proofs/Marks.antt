@@ -14,6 +14,7 @@ use Rattle.exact_read.proofs.Then.{Joins, exact-then, exact-then_within}
 use Rattle.exact_read.proofs.Stop.{exact-enter}
 use Rattle.c_expression_reader.specs.Classes.{is_mark, mark_place}
 use Rattle.c_expression_reader.specs.Readers.{token, behind, before, choose}
+use Rattle.c_expression_reader.specs.Exactness.{Closed}
 
 pub mark-self : (p : Punctuator) (place : ℕ) → mark_place p (mark p place) ≡ Some place
 mark-self p place = rw (true_same the_type p p refl) refl
@@ -60,12 +61,6 @@ pub exact-mark : (entry : Placed → Bool) (p : Punctuator) (role : Role) (place
 exact-mark entry p role place keeps = exact-one marks entry place (mark_place p) role keeps (mark p 0) 0 (mark-self p 0)
 
 -- a part, and a punctuator behind it
-pub record Closed {X : Type 0} (place : Placed → Leaf) (p : Punctuator) (S : X → List Leaf → Type 0) (x : X) (text : List Leaf) : Type 0 where
-  pub inside : List Leaf
-  pub close : ℕ
-  pub spells : S x inside
-  pub cut : text ≡ inside ++ place (mark p close) ∷ []
-
 pub exact-closed : {X : Type 0} {entry : Placed → Bool} {S : X → List Leaf → Type 0} {stop : X → Placed → Bool} {read : Reader Placed Role X} (p : Punctuator) (role : Role) (place : Placed → Leaf) → Keeps place → Exact marks entry S stop read → ((x : X) (close : ℕ) → IsTrue (stop x (mark p close)))
     → Exact marks entry (Closed place p S) (λ _. anything) (before read (token role place (mark_place p)))
 exact-closed {X} {entry} {S} {stop} {read} p role place keeps is ends =

@@ -23,7 +23,8 @@ use Rattle.c_expression_reader.specs.Classes.{is_mark, mark_place, name_at, name
 use Rattle.c_expression_reader.specs.Classes as class
 use Rattle.c_expression_reader.specs.Stops.{ends_postfix, stop_cast, stop_conditional}
 use Rattle.c_expression_reader.specs.Readers.{Readers, before, Suffix, ByIndex, ByMember, with_suffix, count_suffix, read_index, read_member, read_suffix, starts_suffix, read_suffixes}
-use Rattle.c_expression_reader.proofs.Marks.{mark-self, mark-passes, one-mark, mark-one, Closed, exact-closed, Behind, exact-opened, exact-choose}
+use Rattle.c_expression_reader.specs.Exactness.{Closed}
+use Rattle.c_expression_reader.proofs.Marks.{mark-self, mark-passes, one-mark, mark-one, exact-closed, Behind, exact-opened, exact-choose}
 use Rattle.c_expression_reader.proofs.Samples.{zero_tree, zero_text, zero_conditional}
 
 -- a name is told by its token

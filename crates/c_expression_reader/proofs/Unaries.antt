@@ -19,12 +19,12 @@ use Rattle.exact_read.specs.Folds.{base, step}
 use Rattle.exact_read.proofs.Parts.{exact-one, exact-map, exact-same, stops_anything}
 use Rattle.exact_read.proofs.Stop.{exact-stop, exact-enter}
 use Rattle.c_expression_reader.specs.Budget.{needs}
-use Rattle.c_expression_reader.specs.Exactness.{PlainUnary, AreExact, TypeFacts}
+use Rattle.c_expression_reader.specs.Exactness.{PlainUnary, Closed, AreExact, TypeFacts}
 use Rattle.c_expression_reader.specs.Classes.{is_mark, mark_place, is_sizeof, sizeof_place, atom_at, atom_of, unary_operator, with_place, begins_type, is_suffix}
 use Rattle.c_expression_reader.specs.Classes as class
 use Rattle.c_expression_reader.specs.Stops.{ends_postfix, stop_cast}
 use Rattle.c_expression_reader.specs.Readers.{Readers, choose, read_postfix, read_inside, read_bracketed, read_type, read_sized, read_sizeof, read_prefixed, read_unary, read_converted, read_cast}
-use Rattle.c_expression_reader.proofs.Marks.{mark-self, one-mark, mark-one, Closed, exact-closed, Behind, exact-behind, exact-opened, exact-choice}
+use Rattle.c_expression_reader.proofs.Marks.{mark-self, one-mark, mark-one, exact-closed, Behind, exact-behind, exact-opened, exact-choice}
 use Rattle.c_expression_reader.proofs.Samples.{zero_tree, zero_text, zero_conditional, zero_cast, zero_unary}
 use Rattle.c_expression_reader.proofs.Suffixes.{Suffixed, Inside, exact-suffixed, placed, within_brackets, within_operates}
 use Rattle.c_expression_reader.proofs.Begins.{NoType, no-append, conditional_no}
@@ -44,7 +44,7 @@ budget_type depth count turns h d = omega arith
 budget_next : (depth count turns : ℕ) → needs depth count ≤ turns → suc count ≤ 128 → needs depth (suc count) + 8 ≤ turns
 budget_next depth count turns h l = omega arith
 
-inside_by : {names : List (List ℕ)} {stop_type : tree.TypeName → Placed → Bool} {inner : Readers} {turns : ℕ} → AreExact names stop_type inner turns → (depth count : ℕ) → needs depth count ≤ turns → Inside names inner depth count
+inside_by : {names : List (List ℕ)} {inner : Readers} {turns : ℕ} → AreExact names inner turns → (depth count : ℕ) → needs depth count ≤ turns → Inside names inner depth count
 inside_by {turns = turns} are depth count h c d l least = are.conditional (suc depth) (suc c) (budget_bracket depth count c turns h d least)
 
 -- what stands in brackets is read exactly
@@ -274,31 +274,30 @@ true-not : (b : Bool) → true ≡ not (b && false)
 true-not true = refl
 true-not false = refl
 
-type_begins : (names : List (List ℕ)) (stop_type : tree.TypeName → Placed → Bool) → TypeFacts names stop_type → (depth : ℕ) (type : tree.TypeName) (text : List Leaf) → TypeText names depth type text → (u : Leaf) × (more : List Leaf) × (text ≡ u ∷ more) × (begins_type names u.token.token ≡ true)
-type_begins names stop_type facts depth type text c =
+type_begins : (names : List (List ℕ)) → TypeFacts names → (depth : ℕ) (type : tree.TypeName) (text : List Leaf) → TypeText names depth type text → (u : Leaf) × (more : List Leaf) × (text ≡ u ∷ more) × (begins_type names u.token.token ≡ true)
+type_begins names facts depth type text c =
     let b = facts.begins (suc depth) type c.inside c.spells in
     (b.0, b.1 ++ plain (mark punctuator.RightParenthesis c.close) ∷ [], c.cut ∙ ap (λ t. t ++ plain (mark punctuator.RightParenthesis c.close) ∷ []) b.2, b.3)
 
 open_first : (depth count : ℕ) {X : Type 0} (S2 : ℕ → X → List Leaf → Type 0) (x : X) (text : List Leaf) → Behind (One (brackets (suc depth) (suc count)) (mark_place punctuator.LeftParenthesis)) S2 x text → (u : Leaf) × (more : List Leaf) × (text ≡ u ∷ more) × (is_mark punctuator.LeftParenthesis u.token.token ≡ true)
 open_first depth count S2 x text b = (opening depth count b.first, b.right, b.cut ∙ ap (λ t. t ++ b.right) (one-mark punctuator.LeftParenthesis (brackets (suc depth) (suc count)) b.first b.left b.is_first), refl)
 
-exact-type : {names : List (List ℕ)} {stop_type : tree.TypeName → Placed → Bool} {inner : Readers} {turns : ℕ} → TypeFacts names stop_type → AreExact names stop_type inner turns → (depth count : ℕ) → needs depth count ≤ turns → suc depth ≤ 128 → Exact marks anything (TypeText names depth) (λ _. anything) (read_type inner depth)
-exact-type {turns = turns} facts are depth count h d =
-    exact-closed punctuator.RightParenthesis Nothing plain (λ t. refl) (are.type_name (suc depth) (budget_type depth count turns h d)) facts.closes
+exact-type : {names : List (List ℕ)} {inner : Readers} {turns : ℕ} → AreExact names inner turns → (depth count : ℕ) → needs depth count ≤ turns → suc depth ≤ 128 → Exact marks anything (TypeText names depth) (λ _. anything) (read_type inner depth)
+exact-type {turns = turns} are depth count h d = are.type_name (suc depth) (budget_type depth count turns h d)
 
-exact-sized_inside : {names : List (List ℕ)} {stop_type : tree.TypeName → Placed → Bool} {inner : Readers} {turns : ℕ} → TypeFacts names stop_type → AreExact names stop_type inner turns → (depth count place opened : ℕ) → needs depth count ≤ turns → suc depth ≤ 128 → suc count ≤ 128
+exact-sized_inside : {names : List (List ℕ)} {inner : Readers} {turns : ℕ} → TypeFacts names → AreExact names inner turns → (depth count place opened : ℕ) → needs depth count ≤ turns → suc depth ≤ 128 → suc count ≤ 128
     → Exact marks anything (SizedInside names depth count place opened) stop_cast (choose (begins_type names) (read_map (λ type. tree.SizeofType type place) (read_type inner depth)) (read_map (λ x. tree.Sizeof x place) (read_bracketed inner depth count opened)))
-exact-sized_inside {names} {stop_type} {inner} {turns} facts are depth count place opened h d l =
+exact-sized_inside {names} {inner} {turns} facts are depth count place opened h d l =
     exact-choice (begins_type names)
     record {
-      first_begins = λ x text m. type_begins names stop_type facts depth m.inner text m.spells;
+      first_begins = λ x text m. type_begins names facts depth m.inner text m.spells;
       second_begins = λ x text rest m stops. let n = bracket_no names depth count opened m.inner text m.spells in stops_first (begins_type names) text n.leaf n.more rest n.cut n.no;
     }
-    (exact-map (λ type. tree.SizeofType type place) stop_cast (λ type. refl) (exact-stop (λ _ t. not (is_suffix t.token && false)) (λ type text m t. true-not (is_suffix t.token)) (exact-type facts are depth count h d)))
+    (exact-map (λ type. tree.SizeofType type place) stop_cast (λ type. refl) (exact-stop (λ _ t. not (is_suffix t.token && false)) (λ type text m t. true-not (is_suffix t.token)) (exact-type are depth count h d)))
     (exact-map (λ x. tree.Sizeof x place) stop_cast (λ x. refl) (exact-bracket names inner depth count opened d l (inside_by are depth count h)))
 
-exact-sized : {names : List (List ℕ)} {stop_type : tree.TypeName → Placed → Bool} {inner : Readers} {turns : ℕ} → TypeFacts names stop_type → AreExact names stop_type inner turns → (depth count place : ℕ) → needs depth count + 8 ≤ turns → Exact marks anything (SizedText names depth count place) stop_cast (read_sized names inner depth count place)
-exact-sized {names} {stop_type} {inner} {turns} facts are depth count place h =
+exact-sized : {names : List (List ℕ)} {inner : Readers} {turns : ℕ} → TypeFacts names → AreExact names inner turns → (depth count place : ℕ) → needs depth count + 8 ≤ turns → Exact marks anything (SizedText names depth count place) stop_cast (read_sized names inner depth count place)
+exact-sized {names} {inner} {turns} facts are depth count place h =
     exact-choice (is_mark punctuator.LeftParenthesis)
     record {
       first_begins = λ x text b. open_first depth count (SizedInside names depth count place) x text b;
@@ -309,14 +308,14 @@ exact-sized {names} {stop_type} {inner} {turns} facts are depth count place h =
     (λ opened t is within. let w = within_brackets (suc depth) (suc count) t within in exact-sized_inside facts are depth count place opened (omega arith) w.0 w.1))
     (exact-map (λ x. tree.Sizeof x place) stop_cast (λ x. refl) (are.unary depth count (omega arith)))
 
-exact-prefixed : {names : List (List ℕ)} {stop_type : tree.TypeName → Placed → Bool} {inner : Readers} {turns : ℕ} → AreExact names stop_type inner turns → (depth count : ℕ) → needs depth count ≤ turns → Exact marks anything (OperatorText names depth count) stop_cast (read_prefixed inner depth count)
-exact-prefixed {names} {stop_type} {inner} {turns} are depth count h =
+exact-prefixed : {names : List (List ℕ)} {inner : Readers} {turns : ℕ} → AreExact names inner turns → (depth count : ℕ) → needs depth count ≤ turns → Exact marks anything (OperatorText names depth count) stop_cast (read_prefixed inner depth count)
+exact-prefixed {names} {inner} {turns} are depth count h =
     exact-opened (with_place unary_operator) Nothing (operates (suc count)) (λ t. refl) (mark punctuator.Plus 0) (Plus, 0) refl
     (λ o. (tree.Unary o.0 zero_tree o.1, zero_text, record { inner = zero_tree; is = refl; spells = zero_cast names depth (suc count) }))
     (λ o t is within. let next = budget_next depth count turns h (within_operates (suc count) t within) in exact-map (λ x. tree.Unary o.0 x o.1) stop_cast (λ x. refl) (are.cast depth (suc count) (omega arith)))
 
-exact-sizeof : {names : List (List ℕ)} {stop_type : tree.TypeName → Placed → Bool} {inner : Readers} {turns : ℕ} → TypeFacts names stop_type → AreExact names stop_type inner turns → (depth count : ℕ) → needs depth count ≤ turns → Exact marks anything (SizeofText names depth count) stop_cast (read_sizeof names inner depth count)
-exact-sizeof {names} {stop_type} {inner} {turns} facts are depth count h =
+exact-sizeof : {names : List (List ℕ)} {inner : Readers} {turns : ℕ} → TypeFacts names → AreExact names inner turns → (depth count : ℕ) → needs depth count ≤ turns → Exact marks anything (SizeofText names depth count) stop_cast (read_sizeof names inner depth count)
+exact-sizeof {names} {inner} {turns} facts are depth count h =
     exact-opened sizeof_place Nothing (operates (suc count)) (λ t. refl) (word Sizeof 0) 0 refl
     (λ place. (tree.Sizeof zero_tree place, zero_text, second (record { inner = zero_tree; is = refl; spells = zero_plain names depth (suc count) })))
     (λ place t is within. exact-sized facts are depth (suc count) place (budget_next depth count turns h (within_operates (suc count) t within)))
@@ -325,8 +324,8 @@ sizeof_second : (names : List (List ℕ)) (depth count : ℕ) (x : tree.Expressi
 sizeof_second names depth count x text rest (first b) = stops_first (λ k. is_some (unary_operator k)) text (operates (suc count) (word Sizeof b.first)) b.right rest (b.cut ∙ ap (λ t. t ++ b.right) (one-sizeof (operates (suc count)) b.first b.left b.is_first)) refl
 sizeof_second names depth count x text rest (second h) = let f = atom_first names depth count x text h in stops_first (λ k. is_some (unary_operator k)) text f.leaf f.more rest f.cut (ap is_some f.no.1)
 
-pub exact-unary : {names : List (List ℕ)} {stop_type : tree.TypeName → Placed → Bool} {inner : Readers} {turns : ℕ} → TypeFacts names stop_type → AreExact names stop_type inner turns → (depth count : ℕ) → needs depth count ≤ turns → Exact marks anything (PlainUnary names depth count) stop_cast (read_unary names inner depth count)
-exact-unary {names} {stop_type} {inner} {turns} facts are depth count h =
+pub exact-unary : {names : List (List ℕ)} {inner : Readers} {turns : ℕ} → TypeFacts names → AreExact names inner turns → (depth count : ℕ) → needs depth count ≤ turns → Exact marks anything (PlainUnary names depth count) stop_cast (read_unary names inner depth count)
+exact-unary {names} {inner} {turns} facts are depth count h =
     exact-same anything (PlainUnary names depth count) (read_unary names inner depth count) (λ t e. e) (text_plain names depth count) (plain_text names depth count) (λ tokens. refl)
     (exact-choice (λ k. is_some (unary_operator k))
     record {
@@ -388,15 +387,15 @@ cast_text names depth count x text (cast d c ty y inside t place close h k) =
       cut = refl;
     })
 
-exact-cast_inside : {names : List (List ℕ)} {stop_type : tree.TypeName → Placed → Bool} {inner : Readers} {turns : ℕ} → TypeFacts names stop_type → AreExact names stop_type inner turns → (depth count place : ℕ) → needs depth count ≤ turns → suc depth ≤ 128 → suc count ≤ 128
+exact-cast_inside : {names : List (List ℕ)} {inner : Readers} {turns : ℕ} → TypeFacts names → AreExact names inner turns → (depth count place : ℕ) → needs depth count ≤ turns → suc depth ≤ 128 → suc count ≤ 128
     → Exact marks anything (CastInside names depth count place) stop_cast (choose (begins_type names) (read_converted inner depth count place) (read_bracketed inner depth count place))
-exact-cast_inside {names} {stop_type} {inner} {turns} facts are depth count place h d l =
+exact-cast_inside {names} {inner} {turns} facts are depth count place h d l =
     exact-choice (begins_type names)
     record {
-      first_begins = λ x text b. let f = type_begins names stop_type facts depth b.first b.left b.is_first in (f.0, f.1 ++ b.right, b.cut ∙ ap (λ t. t ++ b.right) f.2, f.3);
+      first_begins = λ x text b. let f = type_begins names facts depth b.first b.left b.is_first in (f.0, f.1 ++ b.right, b.cut ∙ ap (λ t. t ++ b.right) f.2, f.3);
       second_begins = λ x text rest one stops. let n = bracket_no names depth count place x text one in stops_first (begins_type names) text n.leaf n.more rest n.cut n.no;
     }
-    (exact-behind (exact-type facts are depth count h d)
+    (exact-behind (exact-type are depth count h d)
     (λ type left one within. exact-enter anything (exact-map (λ x. tree.Cast type x place) stop_cast (λ x. refl) (are.cast depth (suc count) (let next = budget_next depth count turns h l in omega arith))))
     record {
       ends = λ type x left right rest one two stops. stops_anything (plains marks right ++ rest);
@@ -404,8 +403,8 @@ exact-cast_inside {names} {stop_type} {inner} {turns} facts are depth count plac
     })
     (exact-bracket names inner depth count place d l (inside_by are depth count h))
 
-pub exact-cast : {names : List (List ℕ)} {stop_type : tree.TypeName → Placed → Bool} {inner : Readers} {turns : ℕ} → TypeFacts names stop_type → AreExact names stop_type inner turns → (depth count : ℕ) → needs depth count + 1 ≤ turns → Exact marks anything (Cast names depth count) stop_cast (read_cast names inner depth count)
-exact-cast {names} {stop_type} {inner} {turns} facts are depth count h =
+pub exact-cast : {names : List (List ℕ)} {inner : Readers} {turns : ℕ} → TypeFacts names → AreExact names inner turns → (depth count : ℕ) → needs depth count + 1 ≤ turns → Exact marks anything (Cast names depth count) stop_cast (read_cast names inner depth count)
+exact-cast {names} {inner} {turns} facts are depth count h =
     exact-same anything (Cast names depth count) (read_cast names inner depth count) (λ t e. e) (text_cast names depth count) (cast_text names depth count) (λ tokens. refl)
     (exact-choice (is_mark punctuator.LeftParenthesis)
     record {

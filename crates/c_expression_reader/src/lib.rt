@@ -8,7 +8,7 @@
 
 ghost use Rattle.c_expression_reader.specs.Exactness.{ExpressionsExact};
 
-/// The law of expressions: as far as types in casts are read exactly, so is each conditional expression.
+/// The law of expressions: where what stands inside is read exactly, so are cast, unary and conditional expressions.
 pub fn expressions_are_exact()
     ensures { ExpressionsExact }
 {}

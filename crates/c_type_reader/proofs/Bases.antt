@@ -1,0 +1,436 @@
+-- Bases of specifiers are read exactly, with where they end.
+use Rattle.std.proofs.Common.{◌≡◌, ℕ, suc, ◌≤◌, Bool, true, false, List, [], ◌∷◌, ◌++◌, Option, Some, None, Ok, Err, refl, ap, sym, ◌∙◌, subst, not, append_assoc, append-nil, cond}
+use Rattle.std.specs.Prelude.{map, option_map, unwrap_or}
+use Rattle.std.specs.Option.{is_some}
+use Rattle.c_spec.specs.declared.token.Keyword.{Keyword}
+use Rattle.c_spec.specs.declared.token.Keyword.TheVariants.{Char, Signed, Unsigned, Short, Int, Long, Void, Struct, Enum}
+use Rattle.c_spec.specs.declared.token.Punctuator.TheVariants as punctuator
+use Rattle.c_spec.specs.Lexical.{Placed, Token, Name as name_token, Word, Number as number_token, Character as character_token, Mark}
+use Rattle.c_tree_spec.specs.declared.IntegerType.{IntegerType}
+use Rattle.c_tree_spec.specs.declared.IntegerType.TheVariants as integer
+use Rattle.c_tree_spec.specs.Expression as tree
+use Rattle.c_grammar_spec.specs.declared.Role.{Role}
+use Rattle.c_grammar_spec.specs.declared.Role.TheVariants.{Nothing}
+use Rattle.c_grammar_spec.specs.Leaves.{Leaf, plain, opens, awaited, mark, word, named, marks}
+use Rattle.c_grammar_spec.specs.Expressions as grammar
+use Rattle.exact_read.specs.Reading.{Outcome, Reader, plains, Stops}
+use Rattle.exact_read.specs.Exact.{Exact}
+use Rattle.exact_read.specs.Grammar.{bind, anything, One, Map, Then, Or, first, second, Nothing as Empty, nothing, read_map, read_nothing}
+use Rattle.exact_read.proofs.Parts.{exact-one, exact-map, exact-nothing, stops_anything, both}
+use Rattle.exact_read.proofs.Then.{exact-then}
+use Rattle.exact_read.proofs.Stop.{exact-stop, exact-enter}
+use Rattle.c_expression_reader.specs.Classes.{is_mark, mark_place}
+use Rattle.c_expression_reader.specs.Exactness.{Closed}
+use Rattle.c_expression_reader.specs.Readers.{Readers, token, behind, choose, next_is}
+use Rattle.c_expression_reader.specs.Types.{Head, HeadVoid, HeadInteger, HeadName, HeadStruct, HeadEnum, head_word, head_of, head_at, plain_name_at, is_plain_name, read_words, integer_of, read_members, read_constants, read_base_rest, read_base}
+use Rattle.c_expression_reader.proofs.Marks.{mark-self, one-mark, mark-one, mark-passes, Behind, exact-opened, exact-choose, exact-choice}
+use Rattle.c_type_reader.specs.Endings.{Ending, WordsAround, BraceToo, WordsToo, goes_on_with, keywords_of, base_ending, BaseEnd}
+use Rattle.c_type_reader.specs.Rich.{Ended, rich_struct, rich_enum, rich_base_rest, rich_base}
+use Rattle.c_type_reader.proofs.IntegerWords.{six, first_words}
+use Rattle.c_type_reader.proofs.Fresh.{fresh, fresh_is}
+use Rattle.c_type_reader.proofs.Words.{WordsAre, none, some, exact-words}
+use Rattle.c_type_reader.proofs.Dimensions.{Whole}
+use Rattle.c_type_reader.proofs.Declarators.{plain-self, plain-passes}
+use Rattle.c_type_reader.proofs.TypeFirsts.{six_begins, first_six}
+use Rattle.c_type_reader.proofs.Members.{Inside, BracesText, exact-members}
+use Rattle.c_type_reader.proofs.Constants.{plain_leaf, leaf_plain, Enumeration, ConstantsText, exact-constants}
+
+abbrev pub stop_ended : Ended → Placed → Bool
+stop_ended pair t = not (goes_on_with pair.1 t.token)
+
+-- a tag and braces, a tag alone, or braces alone
+abbrev TaggedText : {Body : Type 0} → (names : List (List ℕ)) → (S : Body → List Leaf → Type 0) → (full : Option tree.Name → Body → Ended) → (short : tree.Name → Ended) → Ended → List Leaf → Type 0
+TaggedText names S full short =
+    Or (Behind (One plain (plain_name_at names)) (λ tag. Or (Map (full (Some tag)) S) (Empty (short tag)))) (Map (full None) S)
+
+-- what is asked of braces
+record Braced {Body : Type 0} (S : Body → List Leaf → Type 0) (full : Option tree.Name → Body → Ended) (short : tree.Name → Ended) : Type 0 where
+  begins : (x : Body) (text : List Leaf) → S x text → (u : Leaf) × (more : List Leaf) × (text ≡ u ∷ more) × (is_mark punctuator.LeftBrace u.token.token ≡ true)
+  full_ends : (tag : Option tree.Name) (x : Body) → (full tag x).1 ≡ WordsAround
+  short_ends : (tag : tree.Name) → (short tag).1 ≡ BraceToo
+
+brace_no_name : (names : List (List ℕ)) (k : Token) → is_mark punctuator.LeftBrace k ≡ true → is_plain_name names k ≡ false
+brace_no_name names (Mark p) e = refl
+brace_no_name names (name_token spelling) e = absurd (cc)
+brace_no_name names (Word w) e = absurd (cc)
+brace_no_name names (number_token value type) e = absurd (cc)
+brace_no_name names (character_token value) e = absurd (cc)
+
+exact-tagged : {Body : Type 0} {S : Body → List Leaf → Type 0} {full : Option tree.Name → Body → Ended} {short : tree.Name → Ended} {read : Reader Placed Role Body} (names : List (List ℕ)) → Braced S full short → Exact marks anything S (λ _. anything) read
+    → Exact marks anything (TaggedText names S full short) stop_ended
+    (choose (is_plain_name names) (behind (token Nothing plain (plain_name_at names)) (λ tag. choose (is_mark punctuator.LeftBrace) (read_map (full (Some tag)) read) (read_nothing (short tag)))) (read_map (full None) read))
+exact-tagged {Body} {S} {full} {short} {read} names braced is =
+    exact-choice (is_plain_name names)
+    record {
+      first_begins = λ x text b. let h = plain_leaf names b.first b.left b.is_first in (plain (named b.first), b.right, b.cut ∙ ap (λ l. l ++ b.right) h.0, plain-passes names b.first h.1);
+      second_begins = λ x text rest m stops. let b = braced.begins m.inner text m.spells in subst (λ t. Stops (λ t. not (is_plain_name names t.token)) (plains marks t ++ rest)) (sym b.2) (rw (brace_no_name names b.0.token.token b.3) refl);
+    }
+    (exact-opened (plain_name_at names) Nothing plain (λ t. refl) (named (fresh names)) (fresh names) (plain-self names (fresh names) (fresh_is names))
+    (λ tag. (short tag, [], second nothing))
+    (λ tag t e within. exact-choose (is_mark punctuator.LeftBrace)
+    record {
+      first_begins = λ x text m. braced.begins m.inner text m.spells;
+      second_begins = λ x text rest one stops. short_second tag x text rest one stops;
+    }
+    (exact-enter (both anything (λ t. is_mark punctuator.LeftBrace t.token)) (full_is (Some tag)))
+    (exact-stop stop_ended (λ x text one t. short_same tag x text t one) (exact-nothing (both anything (λ t. not (is_mark punctuator.LeftBrace t.token))) (short tag)))))
+    (full_is None)
+  where
+    short_same : (tag : tree.Name) (x : Ended) (text : List Leaf) (t : Placed) → Empty (short tag) x text → not (is_mark punctuator.LeftBrace t.token) ≡ stop_ended x t
+    short_same tag x text t nothing = ap (λ (e : Ending). not (goes_on_with e t.token)) (sym (braced.short_ends tag))
+
+    short_second : (tag : tree.Name) (x : Ended) (text : List Leaf) (rest : List Placed) → Empty (short tag) x text → Stops (stop_ended x) rest → Stops (λ t. not (is_mark punctuator.LeftBrace t.token)) (plains marks text ++ rest)
+    short_second tag x text rest nothing stops = subst (λ (e : Ending). Stops (λ t. not (goes_on_with e t.token)) rest) (braced.short_ends tag) stops
+
+    full_is : (tag : Option tree.Name) → Exact marks anything (Map (full tag) S) stop_ended (read_map (full tag) read)
+    full_is tag = exact-map (full tag) stop_ended (λ x. ap {B = Placed → Bool} (λ (e : Ending) (t : Placed). not (goes_on_with e t.token)) (braced.full_ends tag x)) is
+
+-- `struct` and `enum`
+abbrev full_struct : Option tree.Name → tree.Members → Ended
+full_struct tag body = (tree.Struct tag body, WordsAround)
+
+abbrev short_struct : tree.Name → Ended
+short_struct tag = (tree.StructTag tag, BraceToo)
+
+abbrev full_enum : Option tree.Name → tree.Constants → Ended
+full_enum tag body = (tree.Enum tag body, WordsAround)
+
+abbrev short_enum : tree.Name → Ended
+short_enum tag = (tree.EnumTag tag, BraceToo)
+
+abbrev StructText : (names : List (List ℕ)) → (depth : ℕ) → Ended → List Leaf → Type 0
+StructText names depth = TaggedText names (BracesText names depth) full_struct short_struct
+
+abbrev EnumText : (names : List (List ℕ)) → (depth : ℕ) → Ended → List Leaf → Type 0
+EnumText names depth = TaggedText names (ConstantsText names depth) full_enum short_enum
+
+brace_first : {X : Type 0} (depth : ℕ) (S2 : ℕ → X → List Leaf → Type 0) (x : X) (text : List Leaf) (b : Behind (One (opens (suc depth)) (mark_place punctuator.LeftBrace)) S2 x text) → text ≡ opens (suc depth) (mark punctuator.LeftBrace b.first) ∷ b.right
+brace_first depth S2 x text b = b.cut ∙ ap (λ l. l ++ b.right) (one-mark punctuator.LeftBrace (opens (suc depth)) b.first b.left b.is_first)
+
+exact-struct : (names : List (List ℕ)) (inner : Readers) (depth : ℕ) → (suc depth ≤ 128 → Whole names inner (suc depth)) → Inside names inner depth → Exact marks anything (StructText names depth) stop_ended (rich_struct names inner depth)
+exact-struct names inner depth whole inside =
+    exact-tagged {full = full_struct} {short = short_struct} names
+    record {
+      begins = λ x text b. (opens (suc depth) (mark punctuator.LeftBrace b.first), b.right, brace_first depth (λ _. Closed plain punctuator.RightBrace (grammar.Members names (suc depth))) x text b, mark-passes punctuator.LeftBrace (mark punctuator.LeftBrace b.first) b.first (mark-self punctuator.LeftBrace b.first));
+      full_ends = λ tag x. refl;
+      short_ends = λ tag. refl;
+    }
+    (exact-members names inner depth whole inside)
+
+exact-enum : (names : List (List ℕ)) (inner : Readers) (depth : ℕ) → Whole names inner depth → Exact marks anything (EnumText names depth) stop_ended (rich_enum names inner depth)
+exact-enum names inner depth whole =
+    exact-tagged {full = full_enum} {short = short_enum} names
+    record {
+      begins = λ x text b. (opens (suc depth) (mark punctuator.LeftBrace b.first), b.right, brace_first depth (λ _. Enumeration names (suc depth)) x text b, mark-passes punctuator.LeftBrace (mark punctuator.LeftBrace b.first) b.first (mark-self punctuator.LeftBrace b.first));
+      full_ends = λ tag x. refl;
+      short_ends = λ tag. refl;
+    }
+    (exact-constants names inner depth whole)
+
+-- what stands behind the first token of a base
+abbrev RestText : (names : List (List ℕ)) → (depth : ℕ) → Head → Ended → List Leaf → Type 0
+RestText names depth HeadVoid = Empty (tree.Void, WordsAround)
+RestText names depth (HeadInteger keyword) = Map (λ words. (integer_of (keyword ∷ words), WordsToo (keyword ∷ words))) (WordsAre (keyword ∷ []))
+RestText names depth (HeadName name) = Empty (tree.TypedefName name, WordsAround)
+RestText names depth HeadStruct = StructText names depth
+RestText names depth HeadEnum = EnumText names depth
+
+exact-around : (x : Ended) → x.1 ≡ WordsAround → Exact {K = Role} marks anything (Empty x) stop_ended (read_nothing x)
+exact-around x e = exact-stop stop_ended (λ y text one t. same y text t one) (exact-nothing anything x)
+  where
+    same : (y : Ended) (text : List Leaf) (t : Placed) → Empty x y text → true ≡ stop_ended y t
+    same y text t nothing = ap (λ (k : Ending). not (goes_on_with k t.token)) (sym e)
+
+exact-rest : (names : List (List ℕ)) (inner : Readers) (depth : ℕ) → (suc depth ≤ 128 → Whole names inner (suc depth)) → Whole names inner depth → Inside names inner depth → (head : Head) → Exact marks anything (RestText names depth head) stop_ended (rich_base_rest names inner depth head)
+exact-rest names inner depth deeper whole inside HeadVoid = exact-around (tree.Void, WordsAround) refl
+exact-rest names inner depth deeper whole inside (HeadInteger keyword) = exact-map (λ words. (integer_of (keyword ∷ words), WordsToo (keyword ∷ words))) stop_ended (λ words. refl) (exact-words (keyword ∷ []))
+exact-rest names inner depth deeper whole inside (HeadName name) = exact-around (tree.TypedefName name, WordsAround) refl
+exact-rest names inner depth deeper whole inside HeadStruct = exact-struct names inner depth deeper inside
+exact-rest names inner depth deeper whole inside HeadEnum = exact-enum names inner depth whole
+
+abbrev pub BaseText : (names : List (List ℕ)) → (depth : ℕ) → (Head × ℕ) × Ended → List Leaf → Type 0
+BaseText names depth = Then (One plain (head_at names)) (λ head. RestText names depth head.0)
+
+rest_some : (names : List (List ℕ)) (depth : ℕ) (head : Head) → (x : Ended) × (text : List Leaf) × RestText names depth head x text
+rest_some names depth HeadVoid = (_, [], nothing)
+rest_some names depth (HeadInteger keyword) = (_, [], record { inner = []; is = refl; spells = none (keyword ∷ []) })
+rest_some names depth (HeadName name) = (_, [], nothing)
+rest_some names depth HeadStruct = ((tree.Struct None tree.no_members, WordsAround), _, second (record { inner = tree.no_members; is = refl; spells = record { first = 0; left = opens (suc depth) (mark punctuator.LeftBrace 0) ∷ []; right = plain (mark punctuator.RightBrace 0) ∷ []; is_first = mark-one punctuator.LeftBrace (opens (suc depth)) 0; is_second = record { inside = []; close = 0; spells = grammar.no_members (suc depth); cut = refl }; cut = refl } }))
+rest_some names depth HeadEnum = ((tree.Enum None (tree.constants (fresh names) tree.no_constants), WordsAround), _, second (record { inner = tree.constants (fresh names) tree.no_constants; is = refl; spells = record { first = 0; left = opens (suc depth) (mark punctuator.LeftBrace 0) ∷ []; right = plain (named (fresh names)) ∷ awaited Nothing (mark punctuator.RightBrace 0) ∷ []; is_first = mark-one punctuator.LeftBrace (opens (suc depth)) 0; is_second = record { end = Nothing; inside = plain (named (fresh names)) ∷ []; close = 0; spells = grammar.last (suc depth) (fresh names) (fresh_is names); cut = refl }; cut = refl } }))
+
+pub exact-base : (names : List (List ℕ)) (inner : Readers) (depth : ℕ) → (entry : Placed → Bool) → (suc depth ≤ 128 → Whole names inner (suc depth)) → Whole names inner depth → Inside names inner depth
+    → Exact marks entry (BaseText names depth) (λ made. stop_ended made.1) (rich_base names inner depth)
+exact-base names inner depth entry deeper whole inside =
+    exact-then (exact-one marks entry plain (head_at names) Nothing (λ t. refl) (word Void 0) (HeadVoid, 0) refl) (λ head. exact-rest names inner depth deeper whole inside head.0)
+    record {
+      ends = λ head y left right rest one two stops. stops_anything (plains marks right ++ rest);
+      goes_on = λ head left one. rest_some names depth head.0;
+    }
+
+-- the token that a head is
+abbrev pub head_leaf : Head → ℕ → Placed
+head_leaf HeadVoid place = word Void place
+head_leaf (HeadInteger keyword) place = word keyword place
+head_leaf (HeadName name) place = named name
+head_leaf HeadStruct place = word Struct place
+head_leaf HeadEnum place = word Enum place
+
+abbrev HeadIs : (names : List (List ℕ)) → Head → ℕ → Type 0
+HeadIs names HeadVoid place = Unit {0}
+HeadIs names (HeadInteger keyword) place = six keyword ≡ true
+HeadIs names (HeadName name) place = (grammar.is_type_name names name.spelling ≡ true) × (name.place ≡ place)
+HeadIs names HeadStruct place = Unit {0}
+HeadIs names HeadEnum place = Unit {0}
+
+head_word_is : (names : List (List ℕ)) (w : Keyword) (o : ℕ) (h : Head × ℕ) → option_map (λ (head : Head). (head, o)) (head_word w) ≡ Some h → (word w o ≡ head_leaf h.0 h.1) × (HeadIs names h.0 h.1) × (o ≡ h.1)
+head_word_is names Void o h e = let same : (HeadVoid, o) ≡ h = cc in subst (λ (g : Head × ℕ). (word Void o ≡ head_leaf g.0 g.1) × (HeadIs names g.0 g.1) × (o ≡ g.1)) same (refl, tt, refl)
+head_word_is names Char o h e = let same : (HeadInteger Char, o) ≡ h = cc in subst (λ (g : Head × ℕ). (word Char o ≡ head_leaf g.0 g.1) × (HeadIs names g.0 g.1) × (o ≡ g.1)) same (refl, refl, refl)
+head_word_is names Signed o h e = let same : (HeadInteger Signed, o) ≡ h = cc in subst (λ (g : Head × ℕ). (word Signed o ≡ head_leaf g.0 g.1) × (HeadIs names g.0 g.1) × (o ≡ g.1)) same (refl, refl, refl)
+head_word_is names Unsigned o h e = let same : (HeadInteger Unsigned, o) ≡ h = cc in subst (λ (g : Head × ℕ). (word Unsigned o ≡ head_leaf g.0 g.1) × (HeadIs names g.0 g.1) × (o ≡ g.1)) same (refl, refl, refl)
+head_word_is names Short o h e = let same : (HeadInteger Short, o) ≡ h = cc in subst (λ (g : Head × ℕ). (word Short o ≡ head_leaf g.0 g.1) × (HeadIs names g.0 g.1) × (o ≡ g.1)) same (refl, refl, refl)
+head_word_is names Int o h e = let same : (HeadInteger Int, o) ≡ h = cc in subst (λ (g : Head × ℕ). (word Int o ≡ head_leaf g.0 g.1) × (HeadIs names g.0 g.1) × (o ≡ g.1)) same (refl, refl, refl)
+head_word_is names Long o h e = let same : (HeadInteger Long, o) ≡ h = cc in subst (λ (g : Head × ℕ). (word Long o ≡ head_leaf g.0 g.1) × (HeadIs names g.0 g.1) × (o ≡ g.1)) same (refl, refl, refl)
+head_word_is names Struct o h e = let same : (HeadStruct, o) ≡ h = cc in subst (λ (g : Head × ℕ). (word Struct o ≡ head_leaf g.0 g.1) × (HeadIs names g.0 g.1) × (o ≡ g.1)) same (refl, tt, refl)
+head_word_is names Enum o h e = let same : (HeadEnum, o) ≡ h = cc in subst (λ (g : Head × ℕ). (word Enum o ≡ head_leaf g.0 g.1) × (HeadIs names g.0 g.1) × (o ≡ g.1)) same (refl, tt, refl)
+head_word_is names other o h e = absurd (cc)
+
+head_token : (names : List (List ℕ)) (k : Token) (o : ℕ) (h : Head × ℕ) → option_map (λ (head : Head). (head, o)) (head_of names k o) ≡ Some h → (record { token = k; offset = o } ≡ head_leaf h.0 h.1) × (HeadIs names h.0 h.1) × (o ≡ h.1)
+head_token names (Word w) o h e = head_word_is names w o h e
+head_token names (name_token spelling) o h e = by_name (grammar.is_type_name names spelling) refl e
+  where
+    by_name : (b : Bool) → grammar.is_type_name names spelling ≡ b → option_map (λ (head : Head). (head, o)) (cond b (Some (HeadName (record { spelling = spelling; place = o }))) None) ≡ Some h → (record { token = name_token spelling; offset = o } ≡ head_leaf h.0 h.1) × (HeadIs names h.0 h.1) × (o ≡ h.1)
+    by_name true f e = let same : (HeadName (record { spelling = spelling; place = o }), o) ≡ h = cc in subst (λ (g : Head × ℕ). (record { token = name_token spelling; offset = o } ≡ head_leaf g.0 g.1) × (HeadIs names g.0 g.1) × (o ≡ g.1)) same (refl, (f, refl), refl)
+    by_name false f e = absurd (cc)
+head_token names (number_token value type) o h e = absurd (cc)
+head_token names (character_token value) o h e = absurd (cc)
+head_token names (Mark p) o h e = absurd (cc)
+
+pub one-head : (names : List (List ℕ)) (h : Head × ℕ) (text : List Leaf) → One plain (head_at names) h text → (text ≡ plain (head_leaf h.0 h.1) ∷ []) × (HeadIs names h.0 h.1) × ((head_leaf h.0 h.1).offset ≡ h.1)
+one-head names h text o =
+    let f = head_token names o.token.token o.token.offset h o.is in
+    (o.cut ∙ ap (λ t. plain t ∷ []) f.0, f.1, sym (ap (λ (t : Placed). t.offset) f.0) ∙ f.2)
+
+-- the words of an integer type, with their places
+words_places : (words more : List Keyword) (text : List Leaf) → WordsAre words more text → (pairs : List (Keyword × ℕ)) × ((map (λ (w : Keyword × ℕ). w.0) pairs ≡ more) × (text ≡ map (λ (w : Keyword × ℕ). plain (word w.0 w.1)) pairs))
+words_places words more text (none ws) = ([], (refl, refl))
+words_places words more text (some ws w xs place t e are) = let r = words_places (ws ++ w ∷ []) xs t are in ((w, place) ∷ r.0, (ap (λ l. w ∷ l) r.1.0, ap (λ l. plain (word w place) ∷ l) r.1.1))
+
+words_type : (words more : List Keyword) (text : List Leaf) → is_some (grammar.integer_type_of words) ≡ true → WordsAre words more text → is_some (grammar.integer_type_of (words ++ more)) ≡ true
+words_type words more text h (none ws) = subst (λ l. is_some (grammar.integer_type_of l) ≡ true) (sym (append-nil ws)) h
+words_type words more text h (some ws w xs place t e are) = subst (λ l. is_some (grammar.integer_type_of l) ≡ true) (append_assoc ws (w ∷ []) xs) (words_type (ws ++ w ∷ []) xs t e are)
+
+words_keywords : (words more : List Keyword) (text : List Leaf) → WordsAre words more text → keywords_of text ≡ more
+words_keywords words more text (none ws) = refl
+words_keywords words more text (some ws w xs place t e are) = ap (λ l. w ∷ l) (words_keywords (ws ++ w ∷ []) xs t are)
+
+words_from : (lead : Keyword) (words : List Keyword) (pairs : List (Keyword × ℕ)) → is_some (grammar.integer_type_of (lead ∷ (words ++ map (λ (w : Keyword × ℕ). w.0) pairs))) ≡ true → WordsAre (lead ∷ words) (map (λ (w : Keyword × ℕ). w.0) pairs) (map (λ (w : Keyword × ℕ). plain (word w.0 w.1)) pairs)
+words_from lead words [] h = none (lead ∷ words)
+words_from lead words (w ∷ pairs) h =
+    let rest = map (λ (w : Keyword × ℕ). w.0) pairs in
+    let longer : is_some (grammar.integer_type_of (lead ∷ ((words ++ w.0 ∷ []) ++ rest))) ≡ true = subst (λ l. is_some (grammar.integer_type_of (lead ∷ l)) ≡ true) (sym (append_assoc words (w.0 ∷ []) rest)) h in
+    some (lead ∷ words) w.0 rest w.1 (map (λ (w : Keyword × ℕ). plain (word w.0 w.1)) pairs) (first_words lead (words ++ w.0 ∷ []) rest longer) (words_from lead (words ++ w.0 ∷ []) pairs longer)
+
+some_is : {A : Type 0} (o : Option A) (d : A) → is_some o ≡ true → o ≡ Some (unwrap_or o d)
+some_is None d e = absurd (cc)
+some_is (Some a) d e = refl
+
+-- one of the six alone names a type
+six_type : (word : Keyword) → six word ≡ true → is_some (grammar.integer_type_of (word ∷ [])) ≡ true
+unfolding grammar.integer_type_of
+six_type Char e = refl
+six_type Signed e = refl
+six_type Unsigned e = refl
+six_type Short e = refl
+six_type Int e = refl
+six_type Long e = refl
+six_type other e = absurd (cc)
+
+-- bases as the grammar has them
+integer_base : (names : List (List ℕ)) (depth : ℕ) (keyword : Keyword) (place : ℕ) (words : List Keyword) (text : List Leaf) → six keyword ≡ true → WordsAre (keyword ∷ []) words text
+    → BaseEnd names depth (integer_of (keyword ∷ words)) (WordsToo (keyword ∷ words)) (plain (word keyword place) ∷ text)
+integer_base names depth keyword place words text e are =
+    let p = words_places (keyword ∷ []) words text are in
+    let all : is_some (grammar.integer_type_of (keyword ∷ words)) ≡ true = words_type (keyword ∷ []) words text (six_type keyword e) are in
+    let type : grammar.integer_type_of (keyword ∷ map (λ (w : Keyword × ℕ). w.0) p.0) ≡ Some (unwrap_or (grammar.integer_type_of (keyword ∷ words)) integer.Int) =
+    ap (λ l. grammar.integer_type_of (keyword ∷ l)) p.1.0 ∙ some_is (grammar.integer_type_of (keyword ∷ words)) integer.Int all in
+    record {
+      spells = subst (λ l. grammar.Base names depth (integer_of (keyword ∷ words)) (plain (word keyword place) ∷ l)) (sym p.1.1) (grammar.integer_type depth (unwrap_or (grammar.integer_type_of (keyword ∷ words)) integer.Int) ((keyword, place) ∷ p.0) type);
+      is = ap (λ l. WordsToo (keyword ∷ l)) (sym (words_keywords (keyword ∷ []) words text are));
+    }
+
+tag_leaf : (names : List (List ℕ)) (depth : ℕ) (tag : tree.Name) → grammar.is_type_name names tag.spelling ≡ false → grammar.Tag names (Some tag) (plain (named tag) ∷ [])
+tag_leaf names depth tag e = grammar.tag tag e
+
+struct_base : (names : List (List ℕ)) (depth place : ℕ) (x : Ended) (text : List Leaf) → StructText names depth x text → BaseEnd names depth x.0 x.1 (plain (word Struct place) ∷ text)
+struct_base names depth place x text (first b) =
+    let h = plain_leaf names b.first b.left b.is_first in
+    subst (λ t. BaseEnd names depth x.0 x.1 (plain (word Struct place) ∷ t)) (sym (b.cut ∙ ap (λ l. l ++ b.right) h.0)) (by_way b.first h.1 x b.right b.is_second)
+  where
+    by_way : (tag : tree.Name) → grammar.is_type_name names tag.spelling ≡ false → (x : Ended) (right : List Leaf) → Or (Map (full_struct (Some tag)) (BracesText names depth)) (Empty (short_struct tag)) x right → BaseEnd names depth x.0 x.1 (plain (word Struct place) ∷ (plain (named tag) ∷ right))
+    by_way tag e x right (first m) =
+        let c = m.spells.is_second in
+        let cut : right ≡ opens (suc depth) (mark punctuator.LeftBrace m.spells.first) ∷ c.inside ++ plain (mark punctuator.RightBrace c.close) ∷ [] = brace_first depth (λ _. Closed plain punctuator.RightBrace (grammar.Members names (suc depth))) m.inner right m.spells ∙ ap (λ l. opens (suc depth) (mark punctuator.LeftBrace m.spells.first) ∷ l) c.cut in
+        rw (m.is, cut) (record { spells = grammar.struct depth (Some tag) m.inner (plain (named tag) ∷ []) c.inside place m.spells.first c.close (grammar.tag tag e) c.spells; is = refl })
+    by_way tag e x right (second nothing) = record { spells = grammar.struct_tag depth tag place e; is = refl }
+struct_base names depth place x text (second m) =
+    let c = m.spells.is_second in
+    let cut : text ≡ opens (suc depth) (mark punctuator.LeftBrace m.spells.first) ∷ c.inside ++ plain (mark punctuator.RightBrace c.close) ∷ [] = brace_first depth (λ _. Closed plain punctuator.RightBrace (grammar.Members names (suc depth))) m.inner text m.spells ∙ ap (λ l. opens (suc depth) (mark punctuator.LeftBrace m.spells.first) ∷ l) c.cut in
+    rw (m.is, cut) (record { spells = grammar.struct depth None m.inner [] c.inside place m.spells.first c.close grammar.none c.spells; is = refl })
+
+enum_base : (names : List (List ℕ)) (depth place : ℕ) (x : Ended) (text : List Leaf) → EnumText names depth x text → BaseEnd names depth x.0 x.1 (plain (word Enum place) ∷ text)
+enum_base names depth place x text (first b) =
+    let h = plain_leaf names b.first b.left b.is_first in
+    subst (λ t. BaseEnd names depth x.0 x.1 (plain (word Enum place) ∷ t)) (sym (b.cut ∙ ap (λ l. l ++ b.right) h.0)) (by_way b.first h.1 x b.right b.is_second)
+  where
+    by_way : (tag : tree.Name) → grammar.is_type_name names tag.spelling ≡ false → (x : Ended) (right : List Leaf) → Or (Map (full_enum (Some tag)) (ConstantsText names depth)) (Empty (short_enum tag)) x right → BaseEnd names depth x.0 x.1 (plain (word Enum place) ∷ (plain (named tag) ∷ right))
+    by_way tag e x right (first m) =
+        let c = m.spells.is_second in
+        let cut : right ≡ opens (suc depth) (mark punctuator.LeftBrace m.spells.first) ∷ c.inside ++ awaited c.end (mark punctuator.RightBrace c.close) ∷ [] = brace_first depth (λ _. Enumeration names (suc depth)) m.inner right m.spells ∙ ap (λ l. opens (suc depth) (mark punctuator.LeftBrace m.spells.first) ∷ l) c.cut in
+        rw (m.is, cut) (record { spells = grammar.enum depth (Some tag) m.inner (plain (named tag) ∷ []) c.inside c.end place m.spells.first c.close (grammar.tag tag e) c.spells; is = refl })
+    by_way tag e x right (second nothing) = record { spells = grammar.enum_tag depth tag place e; is = refl }
+enum_base names depth place x text (second m) =
+    let c = m.spells.is_second in
+    let cut : text ≡ opens (suc depth) (mark punctuator.LeftBrace m.spells.first) ∷ c.inside ++ awaited c.end (mark punctuator.RightBrace c.close) ∷ [] = brace_first depth (λ _. Enumeration names (suc depth)) m.inner text m.spells ∙ ap (λ l. opens (suc depth) (mark punctuator.LeftBrace m.spells.first) ∷ l) c.cut in
+    rw (m.is, cut) (record { spells = grammar.enum depth None m.inner [] c.inside c.end place m.spells.first c.close grammar.none c.spells; is = refl })
+
+rest_base : (names : List (List ℕ)) (depth : ℕ) (head : Head) (place : ℕ) (x : Ended) (text : List Leaf) → HeadIs names head place → RestText names depth head x text → BaseEnd names depth x.0 x.1 (plain (head_leaf head place) ∷ text)
+rest_base names depth HeadVoid place x text h nothing = record { spells = grammar.void depth place; is = refl }
+rest_base names depth (HeadInteger keyword) place x text h m = subst (λ (y : Ended). BaseEnd names depth y.0 y.1 (plain (word keyword place) ∷ text)) (sym m.is) (integer_base names depth keyword place m.inner text h m.spells)
+rest_base names depth (HeadName name) place x text h nothing = record { spells = grammar.typedef_name depth name h.0; is = refl }
+rest_base names depth HeadStruct place x text h s = struct_base names depth place x text s
+rest_base names depth HeadEnum place x text h s = enum_base names depth place x text s
+
+-- a base that begins at a place
+pub record BaseAt (names : List (List ℕ)) (depth place : ℕ) (x : Ended) (text : List Leaf) : Type 0 where
+  pub end : BaseEnd names depth x.0 x.1 text
+  pub leaf : Leaf
+  pub more : List Leaf
+  pub cut : text ≡ leaf ∷ more
+  pub there : leaf.token.offset ≡ place
+
+pub text_base : (names : List (List ℕ)) (depth : ℕ) (made : (Head × ℕ) × Ended) (text : List Leaf) → BaseText names depth made text → BaseAt names depth made.0.1 made.1 text
+text_base names depth made text t =
+    let h = one-head names made.0 t.left t.first in
+    let cut : text ≡ plain (head_leaf made.0.0 made.0.1) ∷ t.right = t.cut ∙ ap (λ l. l ++ t.right) h.0 in
+    record {
+      end = subst (λ l. BaseEnd names depth made.1.0 made.1.1 l) (sym cut) (rest_base names depth made.0.0 made.0.1 made.1 t.right h.1 t.second);
+      leaf = plain (head_leaf made.0.0 made.0.1);
+      more = t.right;
+      cut = cut;
+      there = h.2;
+    }
+
+-- and back
+pub record BaseRead (names : List (List ℕ)) (depth : ℕ) (base : tree.Base) (text : List Leaf) : Type 0 where
+  pub head : Head × ℕ
+  pub spells : BaseText names depth (head, (base, base_ending base text)) text
+
+keywords_pairs : (pairs : List (Keyword × ℕ)) → keywords_of (map (λ (w : Keyword × ℕ). plain (word w.0 w.1)) pairs) ≡ map (λ (w : Keyword × ℕ). w.0) pairs
+keywords_pairs [] = refl
+keywords_pairs (w ∷ pairs) = ap (λ l. w.0 ∷ l) (keywords_pairs pairs)
+
+none_named : (type : IntegerType) → grammar.integer_type_of [] ≡ Some type → ⊥
+unfolding grammar.integer_type_of
+none_named type e = cc
+
+read_integer : (names : List (List ℕ)) (depth : ℕ) (type : IntegerType) (words : List (Keyword × ℕ)) → grammar.integer_type_of (map (λ (w : Keyword × ℕ). w.0) words) ≡ Some type → BaseRead names depth (tree.Integer type) (map (λ (w : Keyword × ℕ). plain (word w.0 w.1)) words)
+read_integer names depth type [] e = absurd (none_named type e)
+read_integer names depth type (w ∷ words) e =
+    let rest = map (λ (w : Keyword × ℕ). w.0) words in
+    let some_type : is_some (grammar.integer_type_of (w.0 ∷ rest)) ≡ true = ap is_some e in
+    let begins = (six_begins w.0 (first_six w.0 rest some_type)).1 in
+    record {
+      head = (HeadInteger w.0, w.1);
+      spells = record {
+        left = plain (word w.0 w.1) ∷ [];
+        right = map (λ (w : Keyword × ℕ). plain (word w.0 w.1)) words;
+        cut = refl;
+        first = record { token = word w.0 w.1; is = ap (option_map (λ (head : Head). (head, w.1))) begins; cut = refl };
+        second = record {
+          inner = rest;
+          is = same_ended (sym (ap (λ o. unwrap_or o integer.Int) e)) (ap (λ l. w.0 ∷ l) (keywords_pairs words));
+          spells = words_from w.0 [] words some_type;
+        };
+      };
+    }
+  where
+    same_ended : {a b : IntegerType} {k l : List Keyword} → a ≡ b → k ≡ l → ◌≡◌ {A = Ended} (tree.Integer a, WordsToo k) (tree.Integer b, WordsToo l)
+    same_ended p q = rw (p, q) refl
+
+head_one : (names : List (List ℕ)) (h : Head × ℕ) (t : Placed) → head_at names t ≡ Some h → One plain (head_at names) h (plain t ∷ [])
+head_one names h t e = record { token = t; is = e; cut = refl }
+
+braces_text : (names : List (List ℕ)) (depth open_place close : ℕ) (ms : tree.Members) (inside : List Leaf) → grammar.Members names (suc depth) ms inside → BracesText names depth ms (opens (suc depth) (mark punctuator.LeftBrace open_place) ∷ inside ++ plain (mark punctuator.RightBrace close) ∷ [])
+braces_text names depth open_place close ms inside k =
+    record { first = open_place; left = opens (suc depth) (mark punctuator.LeftBrace open_place) ∷ []; right = inside ++ plain (mark punctuator.RightBrace close) ∷ []; is_first = mark-one punctuator.LeftBrace (opens (suc depth)) open_place; is_second = record { inside = inside; close = close; spells = k; cut = refl }; cut = refl }
+
+enumeration_braces : (names : List (List ℕ)) (depth open_place close : ℕ) (cs : tree.Constants) (end : Role) (inside : List Leaf) → grammar.Constants names (suc depth) cs end inside → ConstantsText names depth cs (opens (suc depth) (mark punctuator.LeftBrace open_place) ∷ inside ++ awaited end (mark punctuator.RightBrace close) ∷ [])
+enumeration_braces names depth open_place close cs end inside k =
+    record { first = open_place; left = opens (suc depth) (mark punctuator.LeftBrace open_place) ∷ []; right = inside ++ awaited end (mark punctuator.RightBrace close) ∷ []; is_first = mark-one punctuator.LeftBrace (opens (suc depth)) open_place; is_second = record { end = end; inside = inside; close = close; spells = k; cut = refl }; cut = refl }
+
+tagged : {Body : Type 0} (S : Body → List Leaf → Type 0) (full : Option tree.Name → Body → Ended) (short : tree.Name → Ended) (names : List (List ℕ)) (tag : Option tree.Name) (name : List Leaf) (body : Body) (text : List Leaf) → grammar.Tag names tag name → S body text → TaggedText names S full short (full tag body) (name ++ text)
+tagged S full short names tag name body text grammar.none k = second (record { inner = body; is = refl; spells = k })
+tagged S full short names tag name body text (grammar.tag n e) k = first (record { first = n; left = plain (named n) ∷ []; right = text; is_first = leaf_plain names n e; is_second = first (record { inner = body; is = refl; spells = k }); cut = refl })
+
+tag_alone : {Body : Type 0} (S : Body → List Leaf → Type 0) (full : Option tree.Name → Body → Ended) (short : tree.Name → Ended) (names : List (List ℕ)) (n : tree.Name) → grammar.is_type_name names n.spelling ≡ false → TaggedText names S full short (short n) (plain (named n) ∷ [])
+tag_alone S full short names n e = first (record { first = n; left = plain (named n) ∷ []; right = []; is_first = leaf_plain names n e; is_second = second nothing; cut = refl })
+
+pub base_text : (names : List (List ℕ)) (depth : ℕ) (base : tree.Base) (text : List Leaf) → grammar.Base names depth base text → BaseRead names depth base text
+base_text names depth base text (grammar.void d place) = record { head = (HeadVoid, place); spells = record { left = plain (word Void place) ∷ []; right = []; cut = refl; first = head_one names (HeadVoid, place) (word Void place) refl; second = nothing } }
+base_text names depth base text (grammar.integer_type d type words e) = read_integer names d type words e
+base_text names depth base text (grammar.typedef_name d n e) = record { head = (HeadName n, n.place); spells = record { left = plain (named n) ∷ []; right = []; cut = refl; first = head_one names (HeadName n, n.place) (named n) (rw e refl); second = nothing } }
+base_text names depth base text (grammar.struct_tag d n place e) =
+    record { head = (HeadStruct, place); spells = record { left = plain (word Struct place) ∷ []; right = plain (named n) ∷ []; cut = refl; first = head_one names (HeadStruct, place) (word Struct place) refl; second = tag_alone (BracesText names d) full_struct short_struct names n e } }
+base_text names depth base text (grammar.struct d tag ms name inside place open_place close h k) =
+    record { head = (HeadStruct, place); spells = record { left = plain (word Struct place) ∷ []; right = name ++ (opens (suc d) (mark punctuator.LeftBrace open_place) ∷ inside ++ plain (mark punctuator.RightBrace close) ∷ []); cut = refl; first = head_one names (HeadStruct, place) (word Struct place) refl; second = tagged (BracesText names d) full_struct short_struct names tag name ms _ h (braces_text names d open_place close ms inside k) } }
+base_text names depth base text (grammar.enum_tag d n place e) =
+    record { head = (HeadEnum, place); spells = record { left = plain (word Enum place) ∷ []; right = plain (named n) ∷ []; cut = refl; first = head_one names (HeadEnum, place) (word Enum place) refl; second = tag_alone (ConstantsText names d) full_enum short_enum names n e } }
+base_text names depth base text (grammar.enum d tag cs name inside end place open_place close h k) =
+    record { head = (HeadEnum, place); spells = record { left = plain (word Enum place) ∷ []; right = name ++ (opens (suc d) (mark punctuator.LeftBrace open_place) ∷ inside ++ awaited end (mark punctuator.RightBrace close) ∷ []); cut = refl; first = head_one names (HeadEnum, place) (word Enum place) refl; second = tagged (ConstantsText names d) full_enum short_enum names tag name cs _ h (enumeration_braces names d open_place close cs end inside k) } }
+
+-- the readers give the same
+map_map : {X Y Z : Type 0} (f : X → Y) (g : Y → Z) (o : Outcome Placed Role X) → bind o (λ x rest. Ok (g (f x), rest)) ≡ bind {X = Y} {Y = Z} (bind o (λ x rest. Ok (f x, rest))) (λ y rest. Ok (g y, rest))
+map_map f g (Ok (x, rest)) = refl
+map_map f g (Err fault) = refl
+
+base_of : Ended → tree.Base
+base_of x = x.0
+
+tagged_same : {Body : Type 0} (names : List (List ℕ)) (full : Option tree.Name → Body → Ended) (short : tree.Name → Ended) (read : Reader Placed Role Body) (tokens : List Placed)
+    → choose (is_plain_name names) (behind (token Nothing plain (plain_name_at names)) (λ tag. choose (is_mark punctuator.LeftBrace) (read_map (λ b. (full (Some tag) b).0) read) (read_nothing (short tag).0))) (read_map (λ b. (full None b).0) read) tokens
+    ≡ read_map (λ (x : Ended). x.0) (choose (is_plain_name names) (behind (token Nothing plain (plain_name_at names)) (λ tag. choose (is_mark punctuator.LeftBrace) (read_map (full (Some tag)) read) (read_nothing (short tag)))) (read_map (full None) read)) tokens
+tagged_same {Body} names full short read tokens = by_name (next_is (is_plain_name names) tokens)
+  where
+    by_brace : (tag : tree.Name) (rest : List Placed) (b : Bool) → cond b (bind (read rest) (λ x r. Ok ((full (Some tag) x).0, r))) (Ok ((short tag).0, rest)) ≡ bind {X = Ended} {Y = tree.Base} (cond b (bind (read rest) (λ x r. Ok (full (Some tag) x, r))) (Ok (short tag, rest))) (λ x r. Ok (x.0, r))
+    by_brace tag rest true = map_map (full (Some tag)) (λ (x : Ended). x.0) (read rest)
+    by_brace tag rest false = refl
+
+    by_tag : (o : Outcome Placed Role tree.Name) → bind o (λ tag rest. cond (next_is (is_mark punctuator.LeftBrace) rest) (bind (read rest) (λ x r. Ok ((full (Some tag) x).0, r))) (Ok ((short tag).0, rest))) ≡ bind {X = Ended} {Y = tree.Base} (bind o (λ tag rest. cond (next_is (is_mark punctuator.LeftBrace) rest) (bind (read rest) (λ x r. Ok (full (Some tag) x, r))) (Ok (short tag, rest)))) (λ x r. Ok (x.0, r))
+    by_tag (Ok (tag, rest)) = by_brace tag rest (next_is (is_mark punctuator.LeftBrace) rest)
+    by_tag (Err fault) = refl
+
+    by_name : (b : Bool) → cond b (behind (token Nothing plain (plain_name_at names)) (λ tag. choose (is_mark punctuator.LeftBrace) (read_map (λ x. (full (Some tag) x).0) read) (read_nothing (short tag).0)) tokens) (bind (read tokens) (λ x r. Ok ((full None x).0, r)))
+        ≡ bind {X = Ended} {Y = tree.Base} (cond b (behind (token Nothing plain (plain_name_at names)) (λ tag. choose (is_mark punctuator.LeftBrace) (read_map (full (Some tag)) read) (read_nothing (short tag))) tokens) (bind (read tokens) (λ x r. Ok (full None x, r)))) (λ x r. Ok (x.0, r))
+    by_name true = by_tag (token Nothing plain (plain_name_at names) tokens)
+    by_name false = map_map (full None) (λ (x : Ended). x.0) (read tokens)
+
+rest_same : (names : List (List ℕ)) (inner : Readers) (depth : ℕ) (head : Head) (tokens : List Placed) → read_base_rest names inner depth head tokens ≡ read_map (λ (x : Ended). x.0) (rich_base_rest names inner depth head) tokens
+rest_same names inner depth HeadVoid tokens = refl
+rest_same names inner depth (HeadInteger keyword) tokens = map_map (λ words. (integer_of (keyword ∷ words), WordsToo (keyword ∷ words))) (λ (x : Ended). x.0) (read_words (keyword ∷ []) tokens)
+rest_same names inner depth (HeadName name) tokens = refl
+rest_same names inner depth HeadStruct tokens = tagged_same names full_struct short_struct (read_members names inner depth) tokens
+rest_same names inner depth HeadEnum tokens = tagged_same names full_enum short_enum (read_constants names inner depth) tokens
+
+abbrev pub without_end : (Head × ℕ) × Ended → (Head × ℕ) × tree.Base
+without_end made = (made.0, made.1.0)
+
+pub base_same : (names : List (List ℕ)) (inner : Readers) (depth : ℕ) (tokens : List Placed) → read_base names inner depth tokens ≡ read_map without_end (rich_base names inner depth) tokens
+base_same names inner depth tokens = by_head (token Nothing plain (head_at names) tokens)
+  where
+    by_rest : (head : Head × ℕ) (o : Outcome Placed Role Ended) → bind (bind {Y = tree.Base} o (λ x r. Ok (x.0, r))) (λ y after. Ok ((head, y), after)) ≡ bind {X = (Head × ℕ) × Ended} {Y = (Head × ℕ) × tree.Base} (bind o (λ y after. Ok ((head, y), after))) (λ made r. Ok (without_end made, r))
+    by_rest head (Ok (x, rest)) = refl
+    by_rest head (Err fault) = refl
+
+    by_head : (o : Outcome Placed Role (Head × ℕ)) → bind o (λ head rest. bind (read_base_rest names inner depth head.0 rest) (λ y after. Ok ((head, y), after))) ≡ bind {X = (Head × ℕ) × Ended} {Y = (Head × ℕ) × tree.Base} (bind o (λ head rest. bind (rich_base_rest names inner depth head.0 rest) (λ y after. Ok ((head, y), after)))) (λ made r. Ok (without_end made, r))
+    by_head (Ok (head, rest)) = ap (λ (o : Outcome Placed Role tree.Base). bind o (λ y after. Ok ((head, y), after))) (rest_same names inner depth head.0 rest) ∙ by_rest head (rich_base_rest names inner depth head.0 rest)
+    by_head (Err fault) = refl

@@ -1,0 +1,17 @@
+-- The worked samples, computed.
+use Rattle.std.proofs.Common.{refl}
+use Rattle.c_grammar_spec.specs.Expressions.{integer_type_of}
+use Rattle.c_expression_reader.specs.Turns.{readers}
+use Rattle.c_type_reader.specs.Samples.{ReadsCast, RefusesWord, RefusesDepth}
+
+pub reads_cast : ReadsCast
+unfolding readers integer_type_of
+reads_cast = refl
+
+pub refuses_word : RefusesWord
+unfolding readers integer_type_of
+refuses_word = refl
+
+pub refuses_depth : RefusesDepth
+unfolding readers integer_type_of
+refuses_depth = refl

@@ -1,0 +1,41 @@
+-- The readers of specifiers with where they end beside their value.
+use Rattle.std.specs.Prelude.{ℕ, List, [], ◌∷◌, Some, None}
+use Rattle.c_spec.specs.declared.token.Punctuator.TheVariants as punctuator
+use Rattle.c_spec.specs.Lexical.{Placed}
+use Rattle.c_tree_spec.specs.Expression as tree
+use Rattle.c_grammar_spec.specs.declared.Role.{Role}
+use Rattle.c_grammar_spec.specs.declared.Role.TheVariants.{Nothing}
+use Rattle.c_grammar_spec.specs.Leaves.{plain}
+use Rattle.exact_read.specs.Reading.{Reader}
+use Rattle.exact_read.specs.Grammar.{read_then, read_map, read_nothing}
+use Rattle.c_expression_reader.specs.Classes.{is_mark}
+use Rattle.c_expression_reader.specs.Readers.{Readers, token, behind, choose}
+use Rattle.c_expression_reader.specs.Types.{Head, HeadVoid, HeadInteger, HeadName, HeadStruct, HeadEnum, head_at, plain_name_at, is_plain_name, read_words, integer_of, read_members, read_constants}
+use Rattle.c_type_reader.specs.Endings.{Ending, WordsAround, BraceToo, WordsToo}
+
+abbrev pub Ended : Type 0
+Ended = tree.Base × Ending
+
+abbrev pub rich_struct : (names : List (List ℕ)) → Readers → (depth : ℕ) → Reader Placed Role Ended
+rich_struct names inner depth =
+    choose (is_plain_name names)
+    (behind (token Nothing plain (plain_name_at names)) (λ tag. choose (is_mark punctuator.LeftBrace)
+    (read_map (λ members. (tree.Struct (Some tag) members, WordsAround)) (read_members names inner depth)) (read_nothing (tree.StructTag tag, BraceToo))))
+    (read_map (λ members. (tree.Struct None members, WordsAround)) (read_members names inner depth))
+
+abbrev pub rich_enum : (names : List (List ℕ)) → Readers → (depth : ℕ) → Reader Placed Role Ended
+rich_enum names inner depth =
+    choose (is_plain_name names)
+    (behind (token Nothing plain (plain_name_at names)) (λ tag. choose (is_mark punctuator.LeftBrace)
+    (read_map (λ constants. (tree.Enum (Some tag) constants, WordsAround)) (read_constants names inner depth)) (read_nothing (tree.EnumTag tag, BraceToo))))
+    (read_map (λ constants. (tree.Enum None constants, WordsAround)) (read_constants names inner depth))
+
+abbrev pub rich_base_rest : (names : List (List ℕ)) → Readers → (depth : ℕ) → Head → Reader Placed Role Ended
+rich_base_rest names inner depth HeadVoid = read_nothing (tree.Void, WordsAround)
+rich_base_rest names inner depth (HeadInteger keyword) = read_map (λ words. (integer_of (keyword ∷ words), WordsToo (keyword ∷ words))) (read_words (keyword ∷ []))
+rich_base_rest names inner depth (HeadName name) = read_nothing (tree.TypedefName name, WordsAround)
+rich_base_rest names inner depth HeadStruct = rich_struct names inner depth
+rich_base_rest names inner depth HeadEnum = rich_enum names inner depth
+
+abbrev pub rich_base : (names : List (List ℕ)) → Readers → (depth : ℕ) → Reader Placed Role ((Head × ℕ) × Ended)
+rich_base names inner depth = read_then (token Nothing plain (head_at names)) (λ head. rich_base_rest names inner depth head.0)

@@ -1,0 +1,36 @@
+-- Worked samples: what readers give on a few tokens.
+use Rattle.std.specs.Prelude.{◌≡◌, false, List, [], ◌∷◌, Ok, Err}
+use Rattle.c_spec.specs.declared.token.Keyword.TheVariants.{Int, Long, Const}
+use Rattle.c_spec.specs.declared.token.NumberType.TheVariants.{SignedInt}
+use Rattle.c_spec.specs.declared.token.Punctuator.TheVariants as punctuator
+use Rattle.c_spec.specs.Lexical.{Placed}
+use Rattle.c_tree_spec.specs.declared.IntegerType.TheVariants as integer
+use Rattle.c_tree_spec.specs.Expression as tree
+use Rattle.c_grammar_spec.specs.declared.Role.TheVariants.{Nothing}
+use Rattle.c_grammar_spec.specs.Leaves.{mark, word, number}
+use Rattle.exact_read.specs.Reading.{Deep, Wrong}
+use Rattle.c_expression_reader.specs.Turns.{readers}
+
+-- `(int const *)0`
+abbrev pub cast_tokens : List Placed
+cast_tokens = mark punctuator.LeftParenthesis 0 ∷ word Int 1 ∷ word Const 5 ∷ mark punctuator.Star 11 ∷ mark punctuator.RightParenthesis 12 ∷ number 0 SignedInt 13 ∷ []
+
+abbrev pub cast_tree : tree.Expression
+cast_tree = tree.Cast (tree.Pointers (tree.Specified (record { is_typedef = false; is_static = false }) (tree.Integer integer.Int) 1) 1) (tree.Number 0 SignedInt 13) 0
+
+abbrev pub ReadsCast : Type 0
+ReadsCast = (readers [] 9).conditional 0 0 cast_tokens ≡ Ok (cast_tree, [])
+
+-- `(int const long)0`
+abbrev pub word_tokens : List Placed
+word_tokens = mark punctuator.LeftParenthesis 0 ∷ word Int 1 ∷ word Const 5 ∷ word Long 11 ∷ mark punctuator.RightParenthesis 15 ∷ number 0 SignedInt 16 ∷ []
+
+abbrev pub RefusesWord : Type 0
+RefusesWord = (readers [] 9).conditional 0 0 word_tokens ≡ Err (Wrong Nothing, word Long 11 ∷ mark punctuator.RightParenthesis 15 ∷ number 0 SignedInt 16 ∷ [])
+
+-- `(int)0`
+abbrev pub depth_tokens : List Placed
+depth_tokens = mark punctuator.LeftParenthesis 0 ∷ word Int 1 ∷ mark punctuator.RightParenthesis 4 ∷ number 0 SignedInt 5 ∷ []
+
+abbrev pub RefusesDepth : Type 0
+RefusesDepth = (readers [] 9).conditional 128 0 depth_tokens ≡ Err (Deep, depth_tokens)

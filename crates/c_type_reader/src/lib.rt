@@ -1,0 +1,31 @@
+//! How types are read from a list of tokens, and that expressions and types are read exactly.
+//!
+//! The readers are those of `c_expression_reader`. Where specifiers end hangs on their words and not on their
+//! tree (`specs/Endings.antt`), so they are exact with a second value beside their tree that says it
+//! (`ExactBeside` of `specs/Beside.antt`), and a type is exact with the bracket behind it. `specs/Exactness.antt`
+//! says what holds of all readers, whatever names of types are in force, however much is open and however many
+//! operators stand before.
+#![tactic(auto)]
+
+ghost use Rattle.c_type_reader.specs.Exactness.{ExpressionsExact};
+ghost use Rattle.c_type_reader.specs.Samples.{ReadsCast, RefusesWord, RefusesDepth};
+
+/// The law of expressions and types: each is read exactly.
+pub fn expressions_are_exact()
+    ensures { ExpressionsExact }
+{}
+
+/// A worked sample: `(int const *)0` is a cast of 0.
+pub fn reads_cast()
+    ensures { ReadsCast }
+{}
+
+/// A worked sample: in `(int const long)0` the word `long` is wrong, since `const` ends the words of the type.
+pub fn refuses_word()
+    ensures { RefusesWord }
+{}
+
+/// A worked sample: with 128 constructs open around it, the `(` of `(int)0` is one too deep.
+pub fn refuses_depth()
+    ensures { RefusesDepth }
+{}
