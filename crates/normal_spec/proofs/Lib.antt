@@ -1,0 +1,11 @@
+pub mod Numbers
+pub mod Same
+pub mod Keeps
+pub mod Truths
+pub mod Words
+pub mod Equals
+pub mod Bytes
+pub mod Cuts
+pub mod Loads
+pub mod Whole
+pub mod Computes

@@ -1,0 +1,5 @@
+pub mod Same
+pub mod Fixed
+pub mod Seen
+pub mod Normal
+pub mod Examples
