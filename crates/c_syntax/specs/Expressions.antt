@@ -1,0 +1,84 @@
+-- The tree of an expression, a type and their parts without the program's pointers.
+use Rattle.std.specs.Prelude.{List, [], ◌∷◌, Option, Some, None, option_map, map}
+use Rattle.c_tree_spec.specs.Expression as tree
+use Rattle.c_syntax.specs.declared.expression.Base.{Base, Base-F, fold-Base}
+use Rattle.c_syntax.specs.declared.expression.Base.TheOpen as open_tree
+use Rattle.c_syntax.specs.declared.expression.Expression.{Expression, Expression-F, fold-Expression}
+use Rattle.c_syntax.specs.declared.expression.Constant.{Constant, Constant-F, fold-Constant}
+use Rattle.c_syntax.specs.declared.expression.Declarator.{Declarator, Declarator-F, fold-Declarator}
+use Rattle.c_syntax.specs.declared.expression.Member.{Member, Member-F, fold-Member}
+use Rattle.c_syntax.specs.declared.expression.Specifiers.{Specifiers, Specifiers-F, fold-Specifiers}
+use Rattle.c_syntax.specs.declared.expression.TypeName.{TypeName, TypeName-F, fold-TypeName}
+use Rattle.c_syntax.specs.Names.{name_of, storage_of}
+
+-- lists of the program, and of the tree
+abbrev pub expressions_of : List tree.Expression → tree.Expressions
+expressions_of [] = tree.no_expressions
+expressions_of (x ∷ xs) = tree.expressions x (expressions_of xs)
+
+abbrev pub declarators_of : List tree.Declarator → tree.Declarators
+declarators_of [] = tree.no_declarators
+declarators_of (x ∷ xs) = tree.declarators x (declarators_of xs)
+
+abbrev pub members_of : List (tree.Specifiers × tree.Declarators) → tree.Members
+members_of [] = tree.no_members
+members_of (x ∷ xs) = tree.members x.0 x.1 (members_of xs)
+
+abbrev pub constant_before : tree.Name × Option tree.Expression → tree.Constants → tree.Constants
+constant_before (name, None) rest = tree.constants name rest
+constant_before (name, Some value) rest = tree.constants_with name value rest
+
+abbrev pub constants_of : List (tree.Name × Option tree.Expression) → tree.Constants
+constants_of [] = tree.no_constants
+constants_of (x ∷ xs) = constant_before x (constants_of xs)
+
+-- one level, with what stands inside already seen as its tree
+abbrev pub base_step : Base-F tree.Base tree.Expression (tree.Name × Option tree.Expression) tree.Declarator (tree.Specifiers × tree.Declarators) tree.Specifiers tree.TypeName → tree.Base
+base_step open_tree.Void = tree.Void
+base_step (open_tree.Integer type) = tree.Integer type
+base_step (open_tree.TypedefName name) = tree.TypedefName (name_of name)
+base_step (open_tree.StructTag tag) = tree.StructTag (name_of tag)
+base_step (open_tree.Struct tag members) = tree.Struct (option_map name_of tag) (members_of members.items)
+base_step (open_tree.EnumTag tag) = tree.EnumTag (name_of tag)
+base_step (open_tree.Enum tag constants) = tree.Enum (option_map name_of tag) (constants_of constants.items)
+
+abbrev pub expression_step : Expression-F tree.Base tree.Expression (tree.Name × Option tree.Expression) tree.Declarator (tree.Specifiers × tree.Declarators) tree.Specifiers tree.TypeName → tree.Expression
+expression_step (open_tree.Named name) = tree.Named (name_of name)
+expression_step (open_tree.Number value type place) = tree.Number value type place
+expression_step (open_tree.Character value place) = tree.Character value place
+expression_step (open_tree.Bracketed inner place) = tree.Bracketed inner.value place
+expression_step (open_tree.Index base index place) = tree.Index base.value index.value place
+expression_step (open_tree.Member base access member place) = tree.Member base.value access (name_of member) place
+expression_step (open_tree.Unary operator operand place) = tree.Unary operator operand.value place
+expression_step (open_tree.Sizeof operand place) = tree.Sizeof operand.value place
+expression_step (open_tree.SizeofType type place) = tree.SizeofType type.value place
+expression_step (open_tree.Cast type operand place) = tree.Cast type.value operand.value place
+expression_step (open_tree.Binary operator left right place) = tree.Binary operator left.value right.value place
+expression_step (open_tree.Conditional test first second place) = tree.Conditional test.value first.value second.value place
+
+abbrev pub constant_step : Constant-F tree.Base tree.Expression (tree.Name × Option tree.Expression) tree.Declarator (tree.Specifiers × tree.Declarators) tree.Specifiers tree.TypeName → tree.Name × Option tree.Expression
+constant_step constant = (name_of constant.name, constant.value)
+
+abbrev pub declarator_step : Declarator-F tree.Base tree.Expression (tree.Name × Option tree.Expression) tree.Declarator (tree.Specifiers × tree.Declarators) tree.Specifiers tree.TypeName → tree.Declarator
+declarator_step declarator = tree.Declared declarator.pointers (name_of declarator.name) declarator.is_open (expressions_of declarator.lengths.items)
+
+abbrev pub member_step : Member-F tree.Base tree.Expression (tree.Name × Option tree.Expression) tree.Declarator (tree.Specifiers × tree.Declarators) tree.Specifiers tree.TypeName → tree.Specifiers × tree.Declarators
+member_step member = (member.specifiers, declarators_of member.declarators.items)
+
+abbrev pub specifiers_step : Specifiers-F tree.Base tree.Expression (tree.Name × Option tree.Expression) tree.Declarator (tree.Specifiers × tree.Declarators) tree.Specifiers tree.TypeName → tree.Specifiers
+specifiers_step specifiers = tree.Specified (storage_of specifiers.storage) specifiers.base specifiers.place
+
+abbrev pub type_name_step : TypeName-F tree.Base tree.Expression (tree.Name × Option tree.Expression) tree.Declarator (tree.Specifiers × tree.Declarators) tree.Specifiers tree.TypeName → tree.TypeName
+type_name_step type = tree.Pointers type.specifiers type.pointers
+
+unfoldable pub expression_of : Expression → tree.Expression
+expression_of = fold-Expression tree.Base tree.Expression (tree.Name × Option tree.Expression) tree.Declarator (tree.Specifiers × tree.Declarators) tree.Specifiers tree.TypeName base_step expression_step constant_step declarator_step member_step specifiers_step type_name_step
+
+unfoldable pub type_name_of : TypeName → tree.TypeName
+type_name_of = fold-TypeName tree.Base tree.Expression (tree.Name × Option tree.Expression) tree.Declarator (tree.Specifiers × tree.Declarators) tree.Specifiers tree.TypeName base_step expression_step constant_step declarator_step member_step specifiers_step type_name_step
+
+unfoldable pub specifiers_of : Specifiers → tree.Specifiers
+specifiers_of = fold-Specifiers tree.Base tree.Expression (tree.Name × Option tree.Expression) tree.Declarator (tree.Specifiers × tree.Declarators) tree.Specifiers tree.TypeName base_step expression_step constant_step declarator_step member_step specifiers_step type_name_step
+
+unfoldable pub declarator_of : Declarator → tree.Declarator
+declarator_of = fold-Declarator tree.Base tree.Expression (tree.Name × Option tree.Expression) tree.Declarator (tree.Specifiers × tree.Declarators) tree.Specifiers tree.TypeName base_step expression_step constant_step declarator_step member_step specifiers_step type_name_step

@@ -1,0 +1,37 @@
+//! Calls, and the expression statements (6.5.2.2, 6.5.16, 6.8.3).
+
+use crate::expression::{Expression, Name};
+use c_tree_spec::{BinaryOperator, StepOperator};
+
+/// `callee(arguments)`
+#[derive(Drop)]
+pub struct Call<'a> {
+    /// The function's name.
+    pub callee: Name<'a>,
+    /// The arguments in order.
+    pub arguments: Vec<Expression<'a>>,
+}
+
+/// What is assigned or returned.
+#[derive(Drop)]
+pub enum Value<'a> {
+    /// The result of a call.
+    Called(Call<'a>),
+    /// An expression.
+    Computed(Expression<'a>),
+}
+
+/// An expression statement without its semicolon, or a piece of a `for`.
+#[derive(Drop)]
+pub enum Simple<'a> {
+    /// `target = value`, and the place of the operator.
+    Assign(Expression<'a>, Value<'a>, usize),
+    /// `target op= value`, and the place of the operator.
+    AssignBy(BinaryOperator, Expression<'a>, Expression<'a>, usize),
+    /// `target++`, `target--`, and the place of the operator.
+    StepAfter(StepOperator, Expression<'a>, usize),
+    /// `++target`, `--target`, and the place of the operator.
+    StepBefore(StepOperator, Expression<'a>, usize),
+    /// A value that is dropped.
+    Evaluate(Value<'a>),
+}
