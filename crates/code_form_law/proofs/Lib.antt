@@ -1,0 +1,4 @@
+pub mod Words
+pub mod Values
+pub mod Forms
+pub mod Access

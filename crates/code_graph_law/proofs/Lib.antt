@@ -1,0 +1,13 @@
+pub mod Reached
+pub mod Fetched
+pub mod Bound
+pub mod Covered
+pub mod Stored
+pub mod Fields
+pub mod Falling
+pub mod Turning
+pub mod Nodes
+pub mod Steps
+pub mod Moving
+pub mod Leading
+pub mod Running

@@ -1,0 +1,4 @@
+pub mod State
+pub mod Forms
+pub mod Blocks
+pub mod CodeGraph
