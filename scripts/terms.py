@@ -328,10 +328,9 @@ class Clauses:
         past = self.fold(self.either, count[k:])
         return [self.choice(past, fill, bit) if op == "sar" else self.both(-past, bit) for bit in x]
 
-    def divided(self, x, y):
-        """The quotient and the remainder, which share their variables."""
-        key = (tuple(x), tuple(y))
-        if key not in self.quotients:
+    def divided(self, terms, x, y):
+        """The quotient and the remainder of two terms, which share their variables."""
+        if terms not in self.quotients:
             width = len(x)
             q, r = self.new(width), self.new(width)
             wide = lambda bits: bits + [-1] * width
@@ -341,8 +340,8 @@ class Clauses:
             self.clauses += [[-n, e1], [-n, e2]]
             for a, b, c in zip(q, r, x):
                 self.clauses += [[n, a], [n, -b, c], [n, b, -c]]
-            self.quotients[key] = q, r
-        return self.quotients[key]
+            self.quotients[terms] = q, r
+        return self.quotients[terms]
 
     def of(self, t):
         """The literals of a term, lowest first, one of a truth value; none of a memory."""
@@ -390,7 +389,7 @@ class Clauses:
         if op in ("shl", "shr", "sar"):
             return self.shift(op, x, y)
         if op in ("udiv", "urem"):
-            return self.divided(x, y)[op == "urem"]
+            return self.divided(t[1:], x, y)[op == "urem"]
         if op == "zext":
             return x + [-1] * (width - len(x))
         if op == "sext":
