@@ -1,0 +1,11 @@
+pub mod Chosen
+pub mod Lists
+pub mod Trees
+pub mod Calls
+pub mod Values
+pub mod Simples
+pub mod Around
+pub mod ListFrom
+pub mod Locals
+pub mod All
+pub mod Worked

@@ -1,0 +1,150 @@
+-- Lists of parts that say what is awaited behind them are read exactly.
+use Rattle.std.proofs.Common.{◌≡◌, ℕ, Bool, List, [], ◌∷◌, ◌++◌, refl, ap, sym, ◌∙◌, subst, append_assoc, append-nil}
+use Rattle.c_spec.specs.declared.token.Punctuator.{Punctuator}
+use Rattle.c_spec.specs.declared.token.Punctuator.TheVariants as punctuator
+use Rattle.c_spec.specs.Lexical.{Placed}
+use Rattle.c_grammar_spec.specs.declared.Role.{Role}
+use Rattle.c_grammar_spec.specs.Leaves.{Leaf, awaited, mark, marks}
+use Rattle.exact_read.specs.Reading.{Reader}
+use Rattle.exact_read.specs.Exact.{Exact}
+use Rattle.exact_read.specs.Grammar.{anything, One, Map, Then, none, some}
+use Rattle.exact_read.proofs.Parts.{exact-map, exact-same}
+use Rattle.exact_read.proofs.Then.{exact-then}
+use Rattle.c_expression_reader.specs.Classes.{mark_place}
+use Rattle.c_expression_reader.proofs.Marks.{one-mark, mark-one, Behind}
+use Rattle.c_declaration_reader.specs.Declarations.{last_of, read_list_from}
+use Rattle.c_declaration_reader.proofs.Lists.{Before, Lists, MoreText, EndText, exact-end, end_stops, end_some}
+
+abbrev pub no_step : {X : Type 0} → Unit {0} → X → Unit {0}
+no_step e x = tt {0}
+
+abbrev pub put_end : {X : Type 0} → (end : X → Role) → Unit {0} → X → Placed → Leaf
+put_end end e x = awaited (end x)
+
+abbrev pub same_part : {X : Type 0} → (S : X → List Leaf → Type 0) → Unit {0} → X → List Leaf → Type 0
+same_part S e = S
+
+abbrev pub OthersText : {X : Type 0} → (S : X → List Leaf → Type 0) → (end : X → Role) → Before (Unit {0}) X → List X → List Leaf → Type 0
+OthersText S end = MoreText no_step (put_end end) (same_part S)
+
+-- parts with `,` between them, as each asks, and what is awaited behind the last
+pub data Listed {X : Type 0} (S : X → List Leaf → Type 0) (end : X → Role) : X → List X → Role → List Leaf → Type 0 where
+  last : (x : X) (text : List Leaf) → S x text → Listed S end x [] (end x) text
+  more : (x y : X) (ys : List X) (role : Role) (text right : List Leaf) (comma : ℕ) → S x text → Listed S end y ys role right → Listed S end x (y ∷ ys) role (text ++ awaited (end x) (mark punctuator.Comma comma) ∷ right)
+
+-- a first part, which may be said in another way, others, and a token behind them
+pub record ListText {X : Type 0} (First S : X → List Leaf → Type 0) (end : X → Role) (close : Punctuator) (list : List X) (text : List Leaf) : Type 0 where
+  pub head : X
+  pub rest : List X
+  pub left : List Leaf
+  pub right : List Leaf
+  pub place : ℕ
+  pub is : list ≡ head ∷ rest
+  pub is_head : First head left
+  pub are_rest : OthersText S end (tt {0}, head) rest right
+  pub cut : text ≡ left ++ (right ++ awaited (end (last_of head rest)) (mark close place) ∷ [])
+
+abbrev put_last : {X : Type 0} → (end : X → Role) → Before (Unit {0}) X → List X → Placed → Leaf
+put_last end d xs = awaited (end (last_of d.1 xs))
+
+abbrev Raw : {X : Type 0} → (First S : X → List Leaf → Type 0) → (end : X → Role) → (close : Punctuator) → X × (List X × ℕ) → List Leaf → Type 0
+Raw First S end close = Then First (λ x. EndText no_step (put_end end) (same_part S) close (put_last end) (tt {0}, x))
+
+abbrev made_list : {X : Type 0} → X × (List X × ℕ) → List X
+made_list made = made.0 ∷ made.1.0
+
+raw_list : {X : Type 0} (First S : X → List Leaf → Type 0) (end : X → Role) (close : Punctuator) (list : List X) (text : List Leaf) → Map made_list (Raw First S end close) list text → ListText First S end close list text
+raw_list First S end close list text m =
+    let t = m.spells in
+    let u = t.second in
+    record { head = m.inner.0; rest = m.inner.1.0; left = t.left; right = u.left; place = m.inner.1.1; is = m.is; is_head = t.first; are_rest = u.first; cut = t.cut ∙ ap (λ l. t.left ++ l) (u.cut ∙ ap (λ l. u.left ++ l) (one-mark close (put_last end (tt, m.inner.0) m.inner.1.0) m.inner.1.1 u.right u.second)) }
+
+list_raw : {X : Type 0} (First S : X → List Leaf → Type 0) (end : X → Role) (close : Punctuator) (list : List X) (text : List Leaf) → ListText First S end close list text → Map made_list (Raw First S end close) list text
+list_raw First S end close list text r =
+    let last = awaited (end (last_of r.head r.rest)) (mark close r.place) ∷ [] in
+    record { inner = (r.head, (r.rest, r.place)); is = r.is; spells = record { left = r.left; right = r.right ++ last; cut = r.cut; first = r.is_head; second = record { left = r.right; right = last; cut = refl; first = r.are_rest; second = mark-one close (put_last end (tt, r.head) r.rest) r.place } } }
+
+pub exact-list_from : {X : Type 0} {entry : Placed → Bool} {First S : X → List Leaf → Type 0} {stop : X → Placed → Bool} {close : Punctuator} {one item : Reader Placed Role X} (end : X → Role) → Lists (same_part S) stop close → Exact marks entry First stop one → Exact marks anything S stop item
+    → Exact marks entry (ListText First S end close) (λ _. anything) (read_list_from end close one item)
+exact-list_from {X} {entry} {First} {S} {stop} {close} {one} {item} end lists one_is item_is =
+    exact-same entry (ListText First S end close) (read_list_from end close one item) (λ t h. h) (raw_list First S end close) (list_raw First S end close) (λ tokens. refl)
+    (exact-map made_list (λ _. anything) (λ x. refl)
+    (exact-then one_is
+    (λ x. exact-end lists no_step (λ _ y. end y) (λ role. role) (λ role. awaited role) (λ _. item) (λ _ y. end y) (λ c t. refl) (λ e y z. refl) (λ e y. item_is) (λ d xs. end (last_of d.1 xs)) (put_last end) (λ d xs t. refl) (tt, x))
+    record {
+      ends = λ x pair left right rest h two stops. end_stops lists no_step (put_end end) (λ e y t. refl) (put_last end) (λ d xs t. refl) (tt, x) pair right rest two;
+      goes_on = λ x left h. end_some no_step (put_end end) (same_part S) close (put_last end) (tt, x);
+    }))
+
+-- others behind a first part are a list
+abbrev BehindFirst : {X : Type 0} → (S : X → List Leaf → Type 0) → (end : X → Role) → Before (Unit {0}) X → List X → List Leaf → Type 0
+BehindFirst S end d xs text = (left : List Leaf) → S d.1 left → Listed S end d.1 xs (end (last_of d.1 xs)) (left ++ text)
+
+others_none : {X : Type 0} (S : X → List Leaf → Type 0) (end : X → Role) (d : Before (Unit {0}) X) → BehindFirst S end d [] []
+others_none S end d left h = subst (λ l. Listed S end d.1 [] (end d.1) l) (sym (append-nil left)) (last d.1 left h)
+
+others_some : {X : Type 0} (S : X → List Leaf → Type 0) (end : X → Role) (d : Before (Unit {0}) X) (y : X) (ys : List X) (one two : List Leaf) → Behind (One (put_end end d.0 d.1) (mark_place punctuator.Comma)) (λ _. S) y one → BehindFirst S end (tt, y) ys two → BehindFirst S end d (y ∷ ys) (one ++ two)
+others_some S end d y ys one two b again left h =
+    let cut : one ++ two ≡ awaited (end d.1) (mark punctuator.Comma b.first) ∷ (b.right ++ two) = ap (λ l. l ++ two) (b.cut ∙ ap (λ l. l ++ b.right) (one-mark punctuator.Comma (awaited (end d.1)) b.first b.left b.is_first)) in
+    subst (λ l. Listed S end d.1 (y ∷ ys) (end (last_of y ys)) (left ++ l)) (sym cut) (more d.1 y ys (end (last_of y ys)) left (b.right ++ two) b.first h (again b.right b.is_second))
+
+others_behind : {X : Type 0} (S : X → List Leaf → Type 0) (end : X → Role) (d : Before (Unit {0}) X) (xs : List X) (text : List Leaf) → OthersText S end d xs text → BehindFirst S end d xs text
+others_behind S end d xs text (none k) = others_none S end k
+others_behind S end d xs text (some k y ys one two b rest) = others_some S end k y ys one two b (others_behind S end (tt, y) ys two rest)
+
+pub listed : {X : Type 0} (S : X → List Leaf → Type 0) (end : X → Role) (x : X) (xs : List X) (left right : List Leaf) → S x left → OthersText S end (tt {0}, x) xs right → Listed S end x xs (end (last_of x xs)) (left ++ right)
+listed S end x xs left right h m = others_behind S end (tt, x) xs right m left h
+
+-- and back
+pub record ListSplit {X : Type 0} (S : X → List Leaf → Type 0) (end : X → Role) (x : X) (xs : List X) (role : Role) (text : List Leaf) : Type 0 where
+  pub left : List Leaf
+  pub right : List Leaf
+  pub is_head : S x left
+  pub are_rest : OthersText S end (tt {0}, x) xs right
+  pub role_is : role ≡ end (last_of x xs)
+  pub cut : text ≡ left ++ right
+
+pub list_split : {X : Type 0} (S : X → List Leaf → Type 0) (end : X → Role) (x : X) (xs : List X) (role : Role) (text : List Leaf) → Listed S end x xs role text → ListSplit S end x xs role text
+list_split S end x xs role text (last y t h) = record { left = t; right = []; is_head = h; are_rest = none (tt, y); role_is = refl; cut = sym (append-nil t) }
+list_split S end x xs role text (more y z zs r t right comma h k) =
+    let s = list_split S end z zs r right k in
+    record {
+      left = t;
+      right = (awaited (end y) (mark punctuator.Comma comma) ∷ s.left) ++ s.right;
+      is_head = h;
+      are_rest = some (tt, y) z zs (awaited (end y) (mark punctuator.Comma comma) ∷ s.left) s.right
+          (record { first = comma; left = awaited (end y) (mark punctuator.Comma comma) ∷ []; right = s.left; is_first = mark-one punctuator.Comma (awaited (end y)) comma; is_second = s.is_head; cut = refl })
+          s.are_rest;
+      role_is = s.role_is;
+      cut = ap (λ l. t ++ awaited (end y) (mark punctuator.Comma comma) ∷ l) s.cut;
+    }
+
+-- a list whose first part is one as the others, with the token behind it
+pub record Listing {X : Type 0} (S : X → List Leaf → Type 0) (end : X → Role) (close : Punctuator) (list : List X) (text : List Leaf) : Type 0 where
+  pub head : X
+  pub rest : List X
+  pub role : Role
+  pub inside : List Leaf
+  pub place : ℕ
+  pub is : list ≡ head ∷ rest
+  pub spells : Listed S end head rest role inside
+  pub cut : text ≡ inside ++ awaited role (mark close place) ∷ []
+
+pub text_listing : {X : Type 0} (S : X → List Leaf → Type 0) (end : X → Role) (close : Punctuator) (list : List X) (text : List Leaf) → ListText S S end close list text → Listing S end close list text
+text_listing S end close list text r =
+    record { head = r.head; rest = r.rest; role = end (last_of r.head r.rest); inside = r.left ++ r.right; place = r.place; is = r.is; spells = listed S end r.head r.rest r.left r.right r.is_head r.are_rest; cut = r.cut ∙ sym (append_assoc r.left r.right (awaited (end (last_of r.head r.rest)) (mark close r.place) ∷ [])) }
+
+pub listing_text : {X : Type 0} (S : X → List Leaf → Type 0) (end : X → Role) (close : Punctuator) (list : List X) (text : List Leaf) → Listing S end close list text → ListText S S end close list text
+listing_text S end close list text l =
+    let s = list_split S end l.head l.rest l.role l.inside l.spells in
+    record {
+      head = l.head;
+      rest = l.rest;
+      left = s.left;
+      right = s.right;
+      place = l.place;
+      is = l.is;
+      is_head = s.is_head;
+      are_rest = s.are_rest;
+      cut = l.cut ∙ ap (λ (r : Role). l.inside ++ awaited r (mark close l.place) ∷ []) s.role_is ∙ ap (λ t. t ++ awaited (end (last_of l.head l.rest)) (mark close l.place) ∷ []) s.cut ∙ append_assoc s.left s.right (awaited (end (last_of l.head l.rest)) (mark close l.place) ∷ []);
+    }

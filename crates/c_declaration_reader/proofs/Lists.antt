@@ -1,0 +1,132 @@
+-- Parts with `,` between them and a token behind the last are read exactly, where a part hangs on those before.
+use Rattle.std.proofs.Common.{◌≡◌, ℕ, Bool, true, false, List, [], ◌∷◌, ◌++◌, refl, ap, sym, ◌∙◌, subst, IsTrue, not, ◌&&◌, ◌||◌}
+use Rattle.c_spec.specs.declared.token.Punctuator.{Punctuator}
+use Rattle.c_spec.specs.declared.token.Punctuator.TheVariants as punctuator
+use Rattle.c_spec.specs.Lexical.{Placed, Mark}
+use Rattle.c_grammar_spec.specs.declared.Role.{Role}
+use Rattle.c_grammar_spec.specs.Leaves.{Leaf, mark, marks}
+use Rattle.exact_read.specs.Reading.{Reader, plains, Stops}
+use Rattle.exact_read.specs.Exact.{Exact}
+use Rattle.exact_read.specs.Grammar.{anything, One, Then, Many, none, some, context_after, stop_many, read_then, read_many}
+use Rattle.exact_read.proofs.Parts.{exact-same}
+use Rattle.exact_read.proofs.Then.{exact-then}
+use Rattle.exact_read.proofs.Many.{Items, exact-many}
+use Rattle.exact_read.proofs.Stop.{exact-enter}
+use Rattle.c_expression_reader.specs.Classes.{is_mark, mark_place}
+use Rattle.c_expression_reader.specs.Readers.{token, behind}
+use Rattle.c_expression_reader.proofs.Marks.{Keeps, mark-self, mark-is, one-mark, mark-one, mark-passes, exact-mark, Behind, exact-opened}
+use Rattle.c_type_reader.proofs.Entered.{many-context_same}
+use Rattle.c_type_reader.proofs.Tokens.{or_right}
+
+-- a state, and the part before
+abbrev pub Before : (E X : Type 0) → Type 0
+Before E X = E × X
+
+abbrev pub next_before : {E X : Type 0} → (step : E → X → E) → Before E X → X → Before E X
+next_before step d x = (step d.0 x, x)
+
+-- a `,` as the part before asks, and a part
+abbrev pub CommaText : {E X : Type 0} → (put : E → X → Placed → Leaf) → (S : E → X → List Leaf → Type 0) → Before E X → X → List Leaf → Type 0
+CommaText put S d = Behind (One (put d.0 d.1) (mark_place punctuator.Comma)) (λ _. S d.0)
+
+abbrev pub MoreText : {E X : Type 0} → (step : E → X → E) → (put : E → X → Placed → Leaf) → (S : E → X → List Leaf → Type 0) → Before E X → List X → List Leaf → Type 0
+MoreText step put S = Many (next_before step) (CommaText put S)
+
+abbrev pub EndText : {E X : Type 0} → (step : E → X → E) → (put : E → X → Placed → Leaf) → (S : E → X → List Leaf → Type 0) → (close : Punctuator) → (put_close : Before E X → List X → Placed → Leaf) → Before E X → List X × ℕ → List Leaf → Type 0
+EndText step put S close put_close d = Then (MoreText step put S d) (λ xs. One (put_close d xs) (mark_place close))
+
+-- what is asked of the parts
+pub record Lists {E X : Type 0} (S : E → X → List Leaf → Type 0) (stop : X → Placed → Bool) (close : Punctuator) : Type 0 where
+  pub at_comma : (x : X) (place : ℕ) → IsTrue (stop x (mark punctuator.Comma place))
+  pub at_close : (x : X) (place : ℕ) → IsTrue (stop x (mark close place))
+  pub apart : is_mark punctuator.Comma (Mark close) ≡ false
+  pub some : (e : E) → (x : X) × (text : List Leaf) × S e x text
+
+comma-token : (t : Placed) → is_mark punctuator.Comma t.token ≡ true → t ≡ mark punctuator.Comma t.offset
+comma-token t e = mark-is punctuator.Comma t t.offset (rw e refl)
+
+comma_items : {E X : Type 0} {S : E → X → List Leaf → Type 0} {stop : X → Placed → Bool} {close : Punctuator} → Lists S stop close → (step : E → X → E) (put : E → X → Placed → Leaf) → ((e : E) (x : X) → Keeps (put e x))
+    → Items marks (λ (_ : Before E X) t. is_mark punctuator.Comma t.token) (λ d. stop d.1) (CommaText put S) (λ _ x. stop x) (next_before step)
+comma_items {E} {X} {S} {stop} {close} lists step put keeps =
+    record {
+      begins = λ d x text b. (put d.0 d.1 b.is_first.token, b.right, b.cut ∙ ap (λ t. t ++ b.right) b.is_first.cut, ap (λ (t : Placed). is_mark punctuator.Comma t.token) (keeps d.0 d.1 b.is_first.token) ∙ mark-passes punctuator.Comma b.is_first.token b.first b.is_first.is);
+      opens_next = λ d x rest stops. opened x rest stops;
+      stops_item = λ d x rest stops. ended x rest stops;
+    }
+  where
+    opened : (x : X) (rest : List Placed) → Stops (stop x) rest → Stops (λ t. is_mark punctuator.Comma t.token || stop x t) rest
+    opened x [] h = tt
+    opened x (t ∷ rest) h = or_right (is_mark punctuator.Comma t.token) (stop x t) h
+
+    by_test : (x : X) (t : Placed) (b : Bool) → is_mark punctuator.Comma t.token ≡ b → IsTrue (b || stop x t) → IsTrue (stop x t)
+    by_test x t true e h = subst (λ (s : Placed). IsTrue (stop x s)) (sym (comma-token t e)) (lists.at_comma x t.offset)
+    by_test x t false e h = h
+
+    ended : (x : X) (rest : List Placed) → Stops (λ t. is_mark punctuator.Comma t.token || stop x t) rest → Stops (stop x) rest
+    ended x [] h = tt
+    ended x (t ∷ rest) h = by_test x t (is_mark punctuator.Comma t.token) refl h
+
+-- how the parts behind the first are read
+abbrev pub read_end : {C X : Type 0} → (role : C → Role) → (put : C → Placed → Leaf) → (item : C → Reader Placed Role X) → (next : C → X → C) → (close : Punctuator) → (close_role : List X → Role) → (put_close : List X → Placed → Leaf) → C → Reader Placed Role (List X × ℕ)
+read_end role put item next close close_role put_close c =
+    read_then (read_many (λ (_ : _) t. is_mark punctuator.Comma t.token) (λ c. behind (token (role c) (put c) (mark_place punctuator.Comma)) (λ _. item c)) next c) (λ xs. token (close_role xs) (put_close xs) (mark_place close))
+
+and_true : (a b : Bool) → IsTrue a → b ≡ false → IsTrue (a && not b)
+and_true true b h e = rw e refl
+and_true false b h e = absurd (cc)
+
+pub exact-end : {E X C : Type 0} {S : E → X → List Leaf → Type 0} {stop : X → Placed → Bool} {close : Punctuator} → Lists S stop close → (step : E → X → E) (of : E → X → C) (role : C → Role) (put : C → Placed → Leaf) (item : C → Reader Placed Role X) (next : C → X → C)
+    → ((c : C) → Keeps (put c)) → ((e : E) (y x : X) → of (step e x) x ≡ next (of e y) x) → ((e : E) (y : X) → Exact marks anything (S e) stop (item (of e y)))
+    → (close_role : Before E X → List X → Role) (put_close : Before E X → List X → Placed → Leaf) → ((d : Before E X) (xs : List X) → Keeps (put_close d xs)) → (d : Before E X)
+    → Exact marks (stop d.1) (EndText step (λ e x. put (of e x)) S close put_close d) (λ _. anything) (read_end role put item next close (close_role d) (put_close d) (of d.0 d.1))
+exact-end {E} {X} {C} {S} {stop} {close} lists step of role put item next keeps same item_is close_role put_close keeps_close d =
+    exact-then more_is (λ xs. exact-mark (stop_many (λ (_ : Before E X) t. is_mark punctuator.Comma t.token) (λ d. stop d.1) (next_before step) d xs) close (close_role d xs) (put_close d xs) (keeps_close d xs))
+    record {
+      ends = λ xs place left right rest one two stops. at_end xs place right rest two;
+      goes_on = λ xs left one. (0, put_close d xs (mark close 0) ∷ [], mark-one close (put_close d xs) 0);
+    }
+  where
+    commas : Items marks (λ (_ : Before E X) t. is_mark punctuator.Comma t.token) (λ d. stop d.1) (CommaText (λ e x. put (of e x)) S) (λ _ x. stop x) (next_before step)
+    commas = comma_items lists step (λ e x. put (of e x)) (λ e x. keeps (of e x))
+
+    comma_is : (d : Before E X) → Exact marks anything (CommaText (λ e x. put (of e x)) S d) stop (behind (token (role (of d.0 d.1)) (put (of d.0 d.1)) (mark_place punctuator.Comma)) (λ _. item (of d.0 d.1)))
+    comma_is d =
+        exact-opened (mark_place punctuator.Comma) (role (of d.0 d.1)) (put (of d.0 d.1)) (keeps (of d.0 d.1)) (mark punctuator.Comma 0) 0 (mark-self punctuator.Comma 0) (λ x. lists.some d.0) (λ x t e within. item_is d.0 d.1)
+
+    more_is : Exact marks (stop d.1) (MoreText step (λ e x. put (of e x)) S d) (stop_many (λ (_ : Before E X) t. is_mark punctuator.Comma t.token) (λ d. stop d.1) (next_before step) d)
+        (read_many (λ (_ : C) t. is_mark punctuator.Comma t.token) (λ c. behind (token (role c) (put c) (mark_place punctuator.Comma)) (λ _. item c)) next (of d.0 d.1))
+    more_is =
+        exact-same (stop d.1) (MoreText step (λ e x. put (of e x)) S d) (read_many (λ (_ : C) t. is_mark punctuator.Comma t.token) (λ c. behind (token (role c) (put c) (mark_place punctuator.Comma)) (λ _. item c)) next (of d.0 d.1))
+        (λ t h. or_right (is_mark punctuator.Comma t.token) (stop d.1 t) h) (λ xs text h. h) (λ xs text h. h)
+        (many-context_same (λ (_ : C) t. is_mark punctuator.Comma t.token) (λ c. behind (token (role c) (put c) (mark_place punctuator.Comma)) (λ _. item c)) next (λ (d : Before E X). of d.0 d.1) (next_before step) (λ d x. same d.0 d.1 x) d)
+        (exact-many commas (λ d. exact-enter (λ t. is_mark punctuator.Comma t.token) (comma_is d)) d)
+
+    at_end : (xs : List X) (place : ℕ) (right : List Leaf) (rest : List Placed) → One (put_close d xs) (mark_place close) place right → Stops (stop_many (λ (_ : Before E X) t. is_mark punctuator.Comma t.token) (λ d. stop d.1) (next_before step) d xs) (plains marks right ++ rest)
+    at_end xs place right rest one =
+        let last = context_after (next_before step) d xs in
+        let cut : plains marks right ++ rest ≡ mark close place ∷ rest = ap (λ r. plains marks r ++ rest) (one-mark close (put_close d xs) place right one) ∙ ap (λ t. t ∷ rest) (keeps_close d xs (mark close place)) in
+        subst (Stops (stop_many (λ (_ : Before E X) t. is_mark punctuator.Comma t.token) (λ d. stop d.1) (next_before step) d xs)) (sym cut) (and_true (stop last.1 (mark close place)) (is_mark punctuator.Comma (Mark close)) (lists.at_close last.1 place) lists.apart)
+
+-- a part stops where the parts behind it begin
+pub end_stops : {E X : Type 0} {S : E → X → List Leaf → Type 0} {stop : X → Placed → Bool} {close : Punctuator} → Lists S stop close → (step : E → X → E) (put : E → X → Placed → Leaf) → ((e : E) (x : X) → Keeps (put e x)) → (put_close : Before E X → List X → Placed → Leaf) → ((d : Before E X) (xs : List X) → Keeps (put_close d xs))
+    → (d : Before E X) (pair : List X × ℕ) (right : List Leaf) (rest : List Placed) → EndText step put S close put_close d pair right → Stops (stop d.1) (plains marks right ++ rest)
+end_stops {E} {X} {S} {stop} {close} lists step put keeps put_close keeps_close d pair right rest t =
+    subst (λ r. Stops (stop d.1) (plains marks r ++ rest)) (sym t.cut) (by_more pair.0 t.left t.first)
+  where
+    close_first : List Placed → Stops (stop d.1) (plains marks t.right ++ rest)
+    close_first _ =
+        let cut : plains marks t.right ++ rest ≡ mark close pair.1 ∷ rest = ap (λ r. plains marks r ++ rest) (one-mark close (put_close d pair.0) pair.1 t.right t.second) ∙ ap (λ p. p ∷ rest) (keeps_close d pair.0 (mark close pair.1)) in
+        subst (Stops (stop d.1)) (sym cut) (lists.at_close d.1 pair.1)
+
+    by_more : (xs : List X) (left : List Leaf) → MoreText step put S d xs left → Stops (stop d.1) (plains marks (left ++ t.right) ++ rest)
+    by_more xs left m = by_many d xs left m refl
+      where
+        by_many : (c : Before E X) (xs : List X) (left : List Leaf) → MoreText step put S c xs left → c ≡ d → Stops (stop d.1) (plains marks (left ++ t.right) ++ rest)
+        by_many c xs left (none _) e = close_first rest
+        by_many c xs left (some k x ys one two b more) e =
+            let cut : one ≡ put k.0 k.1 (mark punctuator.Comma b.first) ∷ b.right = b.cut ∙ ap (λ l. l ++ b.right) (one-mark punctuator.Comma (put k.0 k.1) b.first b.left b.is_first) in
+            subst (λ l. Stops (stop d.1) (plains marks ((l ++ two) ++ t.right) ++ rest)) (sym cut) (subst (λ (p : Placed). IsTrue (stop d.1 p)) (sym (keeps k.0 k.1 (mark punctuator.Comma b.first))) (lists.at_comma d.1 b.first))
+
+-- behind each first part the parts behind it can end at once
+pub end_some : {E X : Type 0} (step : E → X → E) (put : E → X → Placed → Leaf) (S : E → X → List Leaf → Type 0) (close : Punctuator) (put_close : Before E X → List X → Placed → Leaf) (d : Before E X) → (pair : List X × ℕ) × (text : List Leaf) × EndText step put S close put_close d pair text
+end_some step put S close put_close d = (([], 0), put_close d [] (mark close 0) ∷ [], record { left = []; right = put_close d [] (mark close 0) ∷ []; cut = refl; first = none d; second = mark-one close (put_close d []) 0 })
