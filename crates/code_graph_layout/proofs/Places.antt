@@ -1,0 +1,95 @@
+-- Where the nodes of each instruction stand in the layout.
+use Rattle.std.proofs.Common.{◌≡◌, ◌∙◌, ◌⊎◌, inl, inr, ℕ, zero, suc, ◌+◌, ◌-◌, ◌<◌, ◌≤◌, refl, sym, ap, subst, arith, List, [], ◌∷◌, ◌++◌, length}
+use Rattle.std.specs.Prelude.{slice_get, Contains}
+use Rattle.std.proofs.lemmas.Bool.{cases_lt}
+use Rattle.std.proofs.lemmas.List.{append_assoc, length-append}
+use Rattle.graph_spec.specs.Graph.{Node}
+use Rattle.code_graph_spec.specs.Blocks.{Frame}
+use Rattle.code_graph_layout.specs.Layout.{Item, block, blocks, AreNumbered}
+
+-- ---- places of lists
+
+pub get_front : (xs ys : List Node) (j : ℕ) → j < length xs → slice_get (xs ++ ys) j ≡ slice_get xs j
+get_front [] ys j below = absurd (omega arith)
+get_front (x ∷ xs) ys zero below = refl
+get_front (x ∷ xs) ys (suc j) below = get_front xs ys j (omega arith)
+
+pub get_behind : (xs ys : List Node) (j : ℕ) → slice_get (xs ++ ys) (length xs + j) ≡ slice_get ys j
+get_behind [] ys j = ap (slice_get ys) {y = j} (omega arith)
+get_behind (x ∷ xs) ys j = ap (slice_get (x ∷ xs ++ ys)) {x = suc (length xs) + j} {y = suc (length xs + j)} (omega arith) ∙ get_behind xs ys j
+
+-- ---- the number at which an item's nodes stand
+
+-- the item is among them, and its nodes stand at m where those of the first stand at n
+pub data Stands (f : Frame) : (n : ℕ) → List Item → Item → (m : ℕ) → Type 0 where
+  at_once : (n : ℕ) (item : Item) (rest : List Item) → Stands f n (item ∷ rest) item n
+  behind : (n m : ℕ) (x item : Item) (rest : List Item) → Stands f (n + length (block f x)) rest item m → Stands f n (x ∷ rest) item m
+
+pub stands_from : (f : Frame) (n m : ℕ) (items : List Item) (item : Item) → Stands f n items item m → n ≤ m
+stands_from f n m items item (at_once _ _ rest) = omega arith
+stands_from f n m items item (behind _ _ x _ rest s) = omega (arith, stands_from f (n + length (block f x)) m rest item s)
+
+pub stands_numbered : (f : Frame) (first : ℕ → ℕ) (n m : ℕ) (items : List Item) (item : Item) → AreNumbered f first n items → Stands f n items item m → first item.address ≡ m
+unfolding AreNumbered
+stands_numbered f first n m items item are (at_once _ _ rest) = are.0
+stands_numbered f first n m items item are (behind _ _ x _ rest s) = stands_numbered f first (n + length (block f x)) m rest item are.1 s
+
+pub stands_among : (f : Frame) (n : ℕ) (items : List Item) (item : Item) → Contains items item → (m : ℕ) × Stands f n items item m
+stands_among f n [] item (k, below, is) = absurd (omega arith)
+stands_among f n (x ∷ rest) item (zero, below, is) = (n, subst (λ y. Stands f n (y ∷ rest) item n) (sym is) (at_once n item rest))
+stands_among f n (x ∷ rest) item (suc k, below, is) =
+    let found = stands_among f (n + length (block f x)) rest item (k, omega arith, is) in
+    (found.0, behind n found.0 x item rest found.1)
+
+pub among_stands : (f : Frame) (n m : ℕ) (items : List Item) (item : Item) → Stands f n items item m → Contains items item
+among_stands f n m items item (at_once _ _ rest) = (0, omega arith, refl)
+among_stands f n m items item (behind _ _ x _ rest s) =
+    let found = among_stands f (n + length (block f x)) m rest item s in
+    (suc found.0, omega (arith, found.1), found.2)
+
+-- ---- its nodes
+
+pub node_in : (f : Frame) (before : List Node) (n m : ℕ) (items : List Item) (item : Item) (j : ℕ) → length before ≡ n → Stands f n items item m → j < length (block f item)
+    → slice_get (before ++ blocks f items) (m + j) ≡ slice_get (block f item) j
+node_in f before n m items item j count (at_once _ _ rest) below =
+    ap (slice_get (before ++ (block f item ++ blocks f rest))) {x = n + j} {y = length before + j} (omega arith)
+    ∙ get_behind before (block f item ++ blocks f rest) j ∙ get_front (block f item) (blocks f rest) j below
+node_in f before n m items item j count (behind _ _ x _ rest s) below =
+    ap (λ xs. slice_get xs (m + j)) (sym (append_assoc before (block f x) (blocks f rest)))
+    ∙ node_in f (before ++ block f x) (n + length (block f x)) m rest item j (omega (arith, length-append before (block f x))) s below
+
+-- each number is that of a node of one item
+pub item_of : (f : Frame) (n : ℕ) (items : List Item) (k : ℕ) → n ≤ k → k < n + length (blocks f items)
+    → (item : Item) × (m : ℕ) × (j : ℕ) × Stands f n items item m × (j < length (block f item)) × (k ≡ m + j)
+item_of f n [] k from below = absurd (omega arith)
+item_of f n (x ∷ rest) k from below = elim (cases_lt k (n + length (block f x))) [
+  | inl inside ↦ (x, n, k - n, at_once n x rest, omega arith, omega arith)
+  | inr past ↦
+      let found = item_of f (n + length (block f x)) rest k past (omega (arith, length-append (block f x) (blocks f rest))) in
+      (found.0, found.1, found.2, behind n found.1 x found.0 rest found.3, found.4, found.5)
+]
+
+-- an item is the first, or among the rest
+first_or_rest : (f : Frame) (n l : ℕ) (items : List Item) (other : Item) → Stands f n items other l → (x : Item) (rest : List Item) → items ≡ x ∷ rest
+    → ((x ≡ other) × (l ≡ n)) ⊎ Stands f (n + length (block f x)) rest other l
+first_or_rest f n l items other (at_once _ _ rest0) x rest e = inl (cc, refl)
+first_or_rest f n l items other (behind _ _ y _ rest0 s) x rest e =
+    let same : y ≡ x = cc in
+    let others : rest0 ≡ rest = cc in
+    inr (subst (λ (xs : List Item). Stands f (n + length (block f x)) xs other l) others (subst (λ (z : Item). Stands f (n + length (block f z)) rest0 other l) same s))
+
+-- two items whose nodes share a number are one
+pub one_item : (f : Frame) (n m l : ℕ) (items : List Item) (item other : Item) (j k : ℕ) → Stands f n items item m → Stands f n items other l
+    → j < length (block f item) → k < length (block f other) → m + j ≡ l + k → (item ≡ other) × (j ≡ k)
+one_item f n m l items item other j k (at_once _ _ rest) t below within same = elim (first_or_rest f n l (item ∷ rest) other t item rest refl) [
+  | inl one ↦ (one.0, omega (arith, one.1))
+  | inr later ↦ absurd (omega (arith, stands_from f (n + length (block f item)) l rest other later))
+]
+one_item f n m l items item other j k (behind _ _ x _ rest s) t below within same = by (first_or_rest f n l (x ∷ rest) other t x rest refl)
+    (λ later. one_item f (n + length (block f x)) m l rest item other j k s later below within same)
+  where
+    by : ((x ≡ other) × (l ≡ n)) ⊎ Stands f (n + length (block f x)) rest other l → (Stands f (n + length (block f x)) rest other l → (item ≡ other) × (j ≡ k)) → (item ≡ other) × (j ≡ k)
+    by (inl one) again =
+        let long : length (block f x) ≡ length (block f other) = ap (λ (z : Item). length (block f z)) one.0 in
+        absurd (omega (arith, stands_from f (n + length (block f x)) m rest item s, long, one.1))
+    by (inr later) again = again later
