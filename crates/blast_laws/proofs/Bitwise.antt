@@ -91,13 +91,13 @@ digit_below : (b : Bool) → digit b < 2 ^ 1
 digit_below true = omega arith
 digit_below false = omega arith
 
-and_digit : (a b : Bool) → bit_and (digit a) (digit b) ≡ digit (a && b)
+pub and_digit : (a b : Bool) → bit_and (digit a) (digit b) ≡ digit (a && b)
 and_digit true true = refl
 and_digit true false = refl
 and_digit false true = refl
 and_digit false false = refl
 
-or_digit : (a b : Bool) → bit_or (digit a) (digit b) ≡ digit (a || b)
+pub or_digit : (a b : Bool) → bit_or (digit a) (digit b) ≡ digit (a || b)
 or_digit true true = refl
 or_digit true false = refl
 or_digit false true = refl

@@ -5,15 +5,18 @@ use Rattle.std.proofs.Math.Nat.{mod-eq_of_lt, mod-lt, add-mul-div_left, mul-le-m
 use Rattle.std.proofs.lemmas.Nat.{pow-add, pow_pos, shr-shr, mul-mod_first, mul-lt}
 use Rattle.std.proofs.lemmas.List.{length-replicate, length-append, length-take-le, length-drop}
 use Rattle.clause_spec.specs.declared.Literal.{Literal}
-use Rattle.clause_spec.specs.Clause.{Valuation, holds}
+use Rattle.clause_spec.specs.Clause.{Valuation, holds, negation}
 use Rattle.term_spec.specs.declared.WordOperator.TheVariants as word
 use Rattle.term_spec.specs.Value.{low_bits, ones_if, is_negative, shifted_with_sign, operation}
-use Rattle.blast_spec.specs.Circuits.{Bits, none, zeros, sign_of, moved_up, moved_down, shift_bits, shift_signed_bits}
+use Rattle.blast_spec.specs.Gates.{Build, last_of}
+use Rattle.blast_spec.specs.Circuits.{Bits, none, zeros, and_gate, mux_gate, each, sign_of, moved_up, moved_down, shift_stages, shift_bits, shift_signed_bits}
 use Rattle.blast_laws.specs.Meaning.{digit, number_of, AllStand}
 use Rattle.blast_laws.proofs.Adders.{below_width, digit_small, doubled}
 use Rattle.blast_laws.proofs.Widths.{number-append, number-take, number-drop, number-zeros, number-replicate, holds-none}
+use Rattle.blast_laws.proofs.Gates.{stand_parts}
+use Rattle.blast_laws.proofs.Bitwise.{each_length}
 use Rattle.blast_laws.proofs.Rows.{row_of}
-use Rattle.blast_laws.proofs.Stages.{Moves, shift_stands, signed_shift_stands}
+use Rattle.blast_laws.proofs.Stages.{Moves, Law, stages_stand, shift_stands, signed_shift_stands}
 
 -- ---- up
 
@@ -188,7 +191,7 @@ shift_right_stands values width k xs counts last truth power long all =
     plain : (n : ℕ) → n + 0 ≡ n
     plain n = omega arith
 
-signed_width : (values : Valuation) (xs : Bits) (width : ℕ) → 0 < width → length xs ≡ width → holds values (sign_of xs) ≡ is_negative width (number_of values xs)
+pub signed_width : (values : Valuation) (xs : Bits) (width : ℕ) → 0 < width → length xs ≡ width → holds values (sign_of xs) ≡ is_negative width (number_of values xs)
 signed_width values [] width some long = absurd (omega (arith, some, long))
 signed_width values (x ∷ xs) width some long = sign_stands values x xs ∙ ap (λ k. is_negative k (number_of values (x ∷ xs))) long
 
@@ -225,3 +228,38 @@ shift_signed_stands values width k xs counts last truth power long all =
     ∙ where_signed width (number_of values counts) (number_of values xs) (holds values (sign_of xs)) (nat_lt (number_of values counts) width)
     (number_of values (replicate width (sign_of xs))) (subst (λ n. number_of values xs < 2 ^ n) long (below_width values xs)) (signed_width values xs width some long)
     refl (number-replicate values width (sign_of xs))
+
+-- ---- lengths
+
+each_of_stages : (values : Valuation) (move : ℕ → Bits → Bits) (on : ℕ → ℕ → ℕ) (width k : ℕ) (gate : Literal → Literal → Build Literal) → Moves values move on width
+    → values 1 ≡ true → width ≡ 2 ^ k → (xs counts : Bits) (last : ℕ) → length xs ≡ width
+    → AllStand values last (shift_stages move 1 counts xs last).gates
+    → length (each (gate (shift_stages move 1 counts xs last).out.1) (shift_stages move 1 counts xs last).out.0 (last_of last (shift_stages move 1 counts xs last).gates)).out ≡ width
+unfolding Law
+each_of_stages values move on width k gate moves truth power xs counts last long all =
+    let stages = shift_stages move 1 counts xs last in
+    let once : 1 * 2 ^ k ≡ 2 ^ k = omega arith in
+    let law = stages_stand values move on width moves truth counts 1 k xs last (power ∙ sym once) (omega arith) long all in
+    each_length (gate stages.out.1) stages.out.0 (last_of last stages.gates) ∙ law.long
+
+pub shift_left_length : (values : Valuation) (width k : ℕ) (xs counts : Bits) (last : ℕ) → values 1 ≡ true → width ≡ 2 ^ k → length xs ≡ width
+    → AllStand values last (shift_bits moved_up xs counts last).gates → length (shift_bits moved_up xs counts last).out ≡ width
+shift_left_length values width k xs counts last truth power long all =
+    let stages = shift_stages moved_up 1 counts xs last in
+    let parts = stand_parts values last stages.gates (each (λ x. and_gate (negation stages.out.1) x) stages.out.0 (last_of last stages.gates)).gates all in
+    each_of_stages values moved_up (on_up width) width k (λ past x. and_gate (negation past) x) (moves_up values width truth) truth power xs counts last long parts.0
+
+pub shift_right_length : (values : Valuation) (width k : ℕ) (xs counts : Bits) (last : ℕ) → values 1 ≡ true → width ≡ 2 ^ k → length xs ≡ width
+    → AllStand values last (shift_bits (moved_down none) xs counts last).gates → length (shift_bits (moved_down none) xs counts last).out ≡ width
+shift_right_length values width k xs counts last truth power long all =
+    let stages = shift_stages (moved_down none) 1 counts xs last in
+    let parts = stand_parts values last stages.gates (each (λ x. and_gate (negation stages.out.1) x) stages.out.0 (last_of last stages.gates)).gates all in
+    each_of_stages values (moved_down none) (on_down (holds values none) width) width k (λ past x. and_gate (negation past) x) (moves_down values none width) truth power xs counts last long parts.0
+
+pub shift_signed_length : (values : Valuation) (width k : ℕ) (xs counts : Bits) (last : ℕ) → values 1 ≡ true → width ≡ 2 ^ k → length xs ≡ width
+    → AllStand values last (shift_signed_bits xs counts last).gates → length (shift_signed_bits xs counts last).out ≡ width
+shift_signed_length values width k xs counts last truth power long all =
+    let stages = shift_stages (moved_down (sign_of xs)) 1 counts xs last in
+    let parts = stand_parts values last stages.gates (each (λ x. mux_gate stages.out.1 (sign_of xs) x) stages.out.0 (last_of last stages.gates)).gates all in
+    each_of_stages values (moved_down (sign_of xs)) (on_down (holds values (sign_of xs)) width) width k (λ past x. mux_gate past (sign_of xs) x)
+    (moves_down values (sign_of xs) width) truth power xs counts last long parts.0

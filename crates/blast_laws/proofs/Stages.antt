@@ -97,7 +97,7 @@ next_number false p n count width moved stay more on e f g =
     let total : 2 * p * count ≡ p * (0 + 2 * count) = omega arith in
     e ∙ ap (λ k. on k stay) total
 
-pub Law : Valuation → (ℕ → Bits → Bits) → (ℕ → ℕ → ℕ) → (width : ℕ) → Bits → Type 0
+unfoldable pub Law : Valuation → (ℕ → Bits → Bits) → (ℕ → ℕ → ℕ) → (width : ℕ) → Bits → Type 0
 Law values move on width counts =
     (places k : ℕ) (xs : Bits) (last : ℕ) → width ≡ places * 2 ^ k → 0 < places → length xs ≡ width
     → AllStand values last (shift_stages move places counts xs last).gates

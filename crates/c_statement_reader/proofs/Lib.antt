@@ -1,0 +1,10 @@
+pub mod Keywords
+pub mod Firsts
+pub mod Parts
+pub mod Simpler
+pub mod Compounds
+pub mod Switches
+pub mod Loops
+pub mod Rooms
+pub mod All
+pub mod Worked

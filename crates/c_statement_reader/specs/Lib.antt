@@ -1,0 +1,4 @@
+pub mod Statements
+pub mod Ends
+pub mod Exactness
+pub mod Samples
