@@ -125,7 +125,7 @@ by_divisor false q r x y ones e without with =
     ((with refl).0 ∙ ap (λ b. if b then ones else x / y) (sym e), (with refl).1 ∙ ap (λ b. if b then x else x % y) (sym e))
 
 -- in twice the width nothing is cut off
-whole_numbers : (values : Valuation) (qs rs xs ys : Bits) (first second : ℕ) → values 1 ≡ true
+pub whole_numbers : (values : Valuation) (qs rs xs ys : Bits) (first second : ℕ) → values 1 ≡ true
     → length qs ≡ length xs → length rs ≡ length xs → length ys ≡ length xs
     → AllStand values first (product_bits (twice_as_wide qs) (twice_as_wide ys) first).gates
     → AllStand values second (sum_bits (product_bits (twice_as_wide qs) (twice_as_wide ys) first).out (twice_as_wide rs) none second).gates

@@ -1,5 +1,5 @@
 -- The lengths of an array are read exactly.
-use Rattle.std.proofs.Common.{◌≡◌, ℕ, suc, ◌≤◌, Bool, true, false, List, [], ◌∷◌, ◌++◌, refl, ap, sym, ◌∙◌, subst, not, ◌||◌, append_assoc, ltb-false}
+use Rattle.std.proofs.Common.{◌≡◌, ℕ, suc, ◌≤◌, Bool, true, false, List, [], ◌∷◌, ◌++◌, refl, ap, sym, ◌∙◌, subst, IsTrue, not, ◌&&◌, ◌||◌, append_assoc, ltb-false}
 use Rattle.std.specs.Prelude.{nat_lt}
 use Rattle.c_spec.specs.declared.token.Punctuator.TheVariants as punctuator
 use Rattle.c_spec.specs.Lexical.{Placed}
@@ -13,7 +13,7 @@ use Rattle.exact_read.specs.Grammar.{anything, One, Map, Then, Or, first, second
 use Rattle.exact_read.proofs.Parts.{exact-map, exact-same, exact-nothing, stops_anything, both}
 use Rattle.exact_read.proofs.Then.{exact-then}
 use Rattle.exact_read.proofs.Many.{Items, exact-many}
-use Rattle.exact_read.proofs.Stop.{exact-enter}
+use Rattle.exact_read.proofs.Stop.{exact-stop, exact-enter}
 use Rattle.c_expression_reader.specs.Classes.{is_mark, mark_place}
 use Rattle.c_expression_reader.specs.Stops.{stop_conditional}
 use Rattle.c_expression_reader.specs.Exactness.{Closed}
@@ -198,20 +198,38 @@ exact-given names inner depth whole small =
       goes_on = λ x left one. (tree.no_expressions, [], grammar.no_lengths depth);
     })
 
-pub exact-dimensions : (names : List (List ℕ)) (inner : Readers) (depth : ℕ) → Whole names inner depth → Exact marks anything (λ (pair : Bool × tree.Expressions) text. grammar.Dimensions names depth pair.0 pair.1 text) (λ _ t. not (is_mark punctuator.LeftBracket t.token)) (read_dimensions inner depth)
-exact-dimensions names inner depth whole =
-    exact-same anything (DimensionsOf names depth) (read_dimensions inner depth) (λ t h. h) (text_dimensions names depth) (λ pair text h. dimensions_text names depth pair.0 pair.1 text h) (λ tokens. refl)
+-- where nothing is read, what was asked before
+abbrev pub stop_dimensions : (entry : Placed → Bool) → Bool × tree.Expressions → Placed → Bool
+stop_dimensions entry (true, lengths) t = not (is_mark punctuator.LeftBracket t.token)
+stop_dimensions entry (false, tree.no_expressions) t = entry t && not (is_mark punctuator.LeftBracket t.token)
+stop_dimensions entry (false, tree.expressions x rest) t = not (is_mark punctuator.LeftBracket t.token)
+
+none_same : (entry : Placed → Bool) (x : Bool × tree.Expressions) (text : List Leaf) (t : Placed) → Empty (false, tree.no_expressions) x text → both entry (λ t. not (is_mark punctuator.LeftBracket t.token)) t ≡ stop_dimensions entry x t
+none_same entry x text t nothing = refl
+
+and_right : (a b : Bool) → IsTrue (a && b) → IsTrue b
+and_right true b h = h
+and_right false b h = absurd (cc)
+
+none_begins : (entry : Placed → Bool) (x : Bool × tree.Expressions) (text : List Leaf) (rest : List Placed) → Empty (false, tree.no_expressions) x text → Stops (stop_dimensions entry x) rest → Stops (λ t. not (is_mark punctuator.LeftBracket t.token)) (plains marks text ++ rest)
+none_begins entry x text [] nothing stops = tt
+none_begins entry x text (t ∷ rest) nothing stops = and_right (entry t) (not (is_mark punctuator.LeftBracket t.token)) stops
+
+some_same : (names : List (List ℕ)) (depth : ℕ) (entry : Placed → Bool) (x : Bool × tree.Expressions) (text : List Leaf) (t : Placed) → Or (OpenText names depth) (GivenText names depth) x text → not (is_mark punctuator.LeftBracket t.token) ≡ stop_dimensions entry x t
+some_same names depth entry x text t (first m) = ap (λ (p : Bool × tree.Expressions). stop_dimensions entry p t) (sym m.is)
+some_same names depth entry x text t (second m) = ap (λ (p : Bool × tree.Expressions). stop_dimensions entry p t) (sym m.is)
+
+pub exact-dimensions_from : (names : List (List ℕ)) (inner : Readers) (depth : ℕ) (entry : Placed → Bool) → Whole names inner depth → Exact marks entry (λ (pair : Bool × tree.Expressions) text. grammar.Dimensions names depth pair.0 pair.1 text) (stop_dimensions entry) (read_dimensions inner depth)
+exact-dimensions_from names inner depth entry whole =
+    exact-same entry (DimensionsOf names depth) (read_dimensions inner depth) (λ t h. h) (text_dimensions names depth) (λ pair text h. dimensions_text names depth pair.0 pair.1 text h) (λ tokens. refl)
     (exact-choose (is_mark punctuator.LeftBracket)
     record {
-      first_begins = λ x text b. (opens (suc depth) (mark punctuator.LeftBracket b.first), b.right, b.cut ∙ ap (λ t. t ++ b.right) (one-mark punctuator.LeftBracket (opens (suc depth)) b.first b.left b.is_first), mark-passes punctuator.LeftBracket (mark punctuator.LeftBracket b.first) b.first (mark-self punctuator.LeftBracket b.first));
-      second_begins = λ x text rest one stops. none_begins x text rest one stops;
+      first_begins = λ x text b. (opens (suc depth) (mark punctuator.LeftBracket b.first), b.right, b.cut ∙ ap (λ l. l ++ b.right) (one-mark punctuator.LeftBracket (opens (suc depth)) b.first b.left b.is_first), mark-passes punctuator.LeftBracket (mark punctuator.LeftBracket b.first) b.first (mark-self punctuator.LeftBracket b.first));
+      second_begins = λ x text rest one stops. none_begins entry x text rest one stops;
     }
-    (exact-enter (both anything (λ t. is_mark punctuator.LeftBracket t.token)) some_exact)
-    (exact-nothing (both anything (λ t. not (is_mark punctuator.LeftBracket t.token))) (false, tree.no_expressions)))
+    (exact-enter (both entry (λ t. is_mark punctuator.LeftBracket t.token)) (exact-stop (stop_dimensions entry) (λ x text b t. some_same names depth entry x b.right t b.is_second) some_exact))
+    (exact-stop (stop_dimensions entry) (λ x text one t. none_same entry x text t one) (exact-nothing (both entry (λ t. not (is_mark punctuator.LeftBracket t.token))) (false, tree.no_expressions))))
   where
-    none_begins : (x : Bool × tree.Expressions) (text : List Leaf) (rest : List Placed) → Empty (false, tree.no_expressions) x text → Stops (λ t. not (is_mark punctuator.LeftBracket t.token)) rest → Stops (λ t. not (is_mark punctuator.LeftBracket t.token)) (plains marks text ++ rest)
-    none_begins x text rest nothing stops = stops
-
     value_first : (x : Bool × tree.Expressions) (text : List Leaf) (rest : List Placed) → GivenText names depth x text → Stops (λ t. not (is_mark punctuator.RightBracket t.token)) (plains marks text ++ rest)
     value_first x text rest m =
         let v = m.spells.first in
@@ -233,3 +251,12 @@ exact-dimensions names inner depth whole =
         }
         (exact-open names inner depth whole)
         (exact-given names inner depth whole (within_opens (suc depth) t within)))
+
+pub exact-dimensions : (names : List (List ℕ)) (inner : Readers) (depth : ℕ) → Whole names inner depth → Exact marks anything (λ (pair : Bool × tree.Expressions) text. grammar.Dimensions names depth pair.0 pair.1 text) (λ _ t. not (is_mark punctuator.LeftBracket t.token)) (read_dimensions inner depth)
+exact-dimensions names inner depth whole =
+    exact-stop (λ _ t. not (is_mark punctuator.LeftBracket t.token)) (λ x text h t. same x t) (exact-dimensions_from names inner depth anything whole)
+  where
+    same : (x : Bool × tree.Expressions) (t : Placed) → stop_dimensions anything x t ≡ not (is_mark punctuator.LeftBracket t.token)
+    same (true, lengths) t = refl
+    same (false, tree.no_expressions) t = refl
+    same (false, tree.expressions y rest) t = refl

@@ -51,7 +51,7 @@ low_digit n = by_rest (n % 2) (omega arith)
     by_rest (suc zero) h = refl
     by_rest (suc (suc r)) h = absurd (omega (arith, h))
 
-one_more : (n count rest : ℕ) → rest ≡ n / 2 % 2 ^ count → digit (n % 2 == 1) + 2 * rest ≡ n % 2 ^ suc count
+pub one_more : (n count rest : ℕ) → rest ≡ n / 2 % 2 ^ count → digit (n % 2 == 1) + 2 * rest ≡ n % 2 ^ suc count
 one_more n count rest e =
     let small : n % 2 ≤ 1 = omega arith in
     let whole : n % 2 + 2 * (n / 2) ≡ n = omega arith in

@@ -1,0 +1,211 @@
+-- Parameters that begin with `void` are read exactly behind it.
+use Rattle.std.proofs.Common.{◌≡◌, ℕ, zero, suc, Bool, true, false, List, [], ◌∷◌, ◌++◌, Option, Some, None, Ok, Err, refl, ap, sym, ◌∙◌, subst, not, ◌&&◌, append_assoc}
+use Rattle.std.specs.Prelude.{map}
+use Rattle.std.specs.Option.{is_some}
+use Rattle.c_spec.specs.declared.token.Keyword.{Keyword}
+use Rattle.c_spec.specs.declared.token.Keyword.TheVariants.{Const, Void, Char, Signed, Unsigned, Short, Int, Long}
+use Rattle.c_spec.specs.declared.token.Punctuator.TheVariants as punctuator
+use Rattle.c_spec.specs.Lexical.{Placed, Word}
+use Rattle.c_tree_spec.specs.declared.IntegerType.{IntegerType}
+use Rattle.c_tree_spec.specs.Expression as tree
+use Rattle.c_tree_spec.specs.Unit as unit
+use Rattle.c_grammar_spec.specs.declared.Role.{Role}
+use Rattle.c_grammar_spec.specs.Leaves.{Leaf, plain, mark, word, marks}
+use Rattle.c_grammar_spec.specs.Expressions as part
+use Rattle.c_grammar_spec.specs.Units as grammar
+use Rattle.exact_read.specs.Reading.{Outcome, Reader}
+use Rattle.exact_read.specs.Exact.{Exact}
+use Rattle.exact_read.specs.Grammar.{bind, anything, Map, Then, read_then, read_map}
+use Rattle.exact_read.proofs.Parts.{exact-map, exact-same}
+use Rattle.exact_read.proofs.Then.{exact-then}
+use Rattle.exact_read.proofs.Stop.{exact-stop}
+use Rattle.c_expression_reader.specs.Classes.{is_mark}
+use Rattle.c_expression_reader.specs.Readers.{Readers}
+use Rattle.c_expression_reader.specs.Types.{is_const, no_storage, read_consts}
+use Rattle.c_type_reader.specs.Endings.{Ending, WordsAround, ending}
+use Rattle.c_type_reader.specs.Exactness.{AllExact}
+use Rattle.c_type_reader.proofs.IntegerWords.{six}
+use Rattle.c_type_reader.proofs.Tokens.{leaves_of, unless_read}
+use Rattle.c_type_reader.proofs.Pointers.{stop_pointer, exact-consts}
+use Rattle.c_type_reader.proofs.TypeFirsts.{first_six}
+use Rattle.c_global_reader.specs.Parameters.{ParameterRest, read_parameter_rest, parameter_of, void_at, read_void_parameter, is_void}
+use Rattle.c_global_reader.proofs.Parameters.{stop_rest, RestText, Opens, rest_stops, exact-rest, Ended, rest_of, stop_parameter, ParameterText}
+
+-- what stands behind the `void`
+pub record VoidText (names : List (List ℕ)) (depth place : ℕ) (pair : Ended) (text : List Leaf) : Type 0 where
+  pub consts : List ℕ
+  pub right : List Leaf
+  pub is : pair.0.specifiers ≡ void_at place
+  pub is_end : pair.1 ≡ WordsAround
+  pub is_rest : RestText names depth (rest_of pair.0) right
+  pub cut : text ≡ leaves_of (word Const) consts ++ right
+
+-- `const` around
+const_words : (xs : List ℕ) → part.Words part.InPart no_storage (leaves_of (word Const) xs)
+const_words [] = part.none part.InPart
+const_words (x ∷ xs) = part.const part.InPart no_storage (leaves_of (word Const) xs) x (const_words xs)
+
+words_const : (position : part.Position) (s : tree.Storage) (text : List Leaf) → part.Words position s text → position ≡ part.InPart → (xs : List ℕ) × ((text ≡ leaves_of (word Const) xs) × (s ≡ no_storage))
+words_const position s text (part.none p) e = ([], (refl, refl))
+words_const position s text (part.const p q t place h) e = let r = words_const p q t h e in (place ∷ r.0, (ap (λ l. plain (word Const place) ∷ l) r.1.0, r.1.1))
+words_const position s text (part.typedef q t place h) e = absurd (cc)
+words_const position s text (part.extern q t place h) e = absurd (cc)
+words_const position s text (part.inline q t place h) e = absurd (cc)
+words_const position s text (part.static_item q t place h) e = absurd (cc)
+words_const position s text (part.static_local q t place h) e = absurd (cc)
+
+void_ending : (place : ℕ) (xs : List ℕ) → WordsAround ≡ ending tree.Void (plain (word Void place) ∷ []) (leaves_of (word Const) xs)
+void_ending place [] = refl
+void_ending place (x ∷ xs) = refl
+
+pub void_parameter : (names : List (List ℕ)) (depth place : ℕ) (pair : Ended) (text : List Leaf) → VoidText names depth place pair text → ParameterText names depth pair (plain (word Void place) ∷ text)
+void_parameter names depth place pair text v =
+    record {
+      left = plain (word Void place) ∷ leaves_of (word Const) v.consts;
+      right = v.right;
+      are_specifiers = record { one = no_storage; two = no_storage; base = tree.Void; before = []; middle = plain (word Void place) ∷ []; after = leaves_of (word Const) v.consts; words_before = part.none part.InPart; is_base = part.void depth place; words_after = const_words v.consts; is = v.is; cut = refl; is_end = v.is_end ∙ void_ending place v.consts };
+      is_rest = v.is_rest;
+      cut = ap (λ l. plain (word Void place) ∷ l) v.cut;
+    }
+
+-- and back, where a parameter begins with `void`
+abbrev pub first_void : List Leaf → Bool
+first_void [] = false
+first_void (leaf ∷ text) = is_void leaf.token.token
+
+six_void : (w : Keyword) → six w ≡ true → is_void (Word w) ≡ false
+six_void Char e = refl
+six_void Signed e = refl
+six_void Unsigned e = refl
+six_void Short e = refl
+six_void Int e = refl
+six_void Long e = refl
+six_void other e = absurd (cc)
+
+integer_no_void : (type : IntegerType) (words : List (Keyword × ℕ)) (more : List Leaf) → part.integer_type_of (map (λ (w : Keyword × ℕ). w.0) words) ≡ Some type → first_void (map (λ (w : Keyword × ℕ). plain (word w.0 w.1)) words ++ more) ≡ true → ⊥
+unfolding part.integer_type_of
+integer_no_void type [] more e f = cc
+integer_no_void type (w ∷ words) more e f = let h : false ≡ true = sym (six_void w.0 (first_six w.0 (map (λ (w : Keyword × ℕ). w.0) words) (ap is_some e))) ∙ f in cc
+
+void_base : (names : List (List ℕ)) (depth : ℕ) (base : tree.Base) (middle more : List Leaf) → part.Base names depth base middle → first_void (middle ++ more) ≡ true → (place : ℕ) × ((base ≡ tree.Void) × (middle ≡ plain (word Void place) ∷ []))
+void_base names depth base middle more (part.void d place) e = (place, (refl, refl))
+void_base names depth base middle more (part.integer_type d type words h) e = absurd (integer_no_void type words more h e)
+void_base names depth base middle more (part.typedef_name d n h) e = absurd (cc)
+void_base names depth base middle more (part.struct_tag d n place h) e = absurd (cc)
+void_base names depth base middle more (part.struct d tag ms name inside place open_place close h k) e = absurd (cc)
+void_base names depth base middle more (part.enum_tag d n place h) e = absurd (cc)
+void_base names depth base middle more (part.enum d tag cs name inside end place open_place close h k) e = absurd (cc)
+
+void_before : (xs : List ℕ) (more : List Leaf) → first_void (leaves_of (word Const) xs ++ more) ≡ true → xs ≡ []
+void_before [] more e = refl
+void_before (x ∷ xs) more e = absurd (cc)
+
+pub record VoidBack (names : List (List ℕ)) (depth : ℕ) (pair : Ended) (text : List Leaf) : Type 0 where
+  pub place : ℕ
+  pub right : List Leaf
+  pub spells : VoidText names depth place pair right
+  pub cut : text ≡ plain (word Void place) ∷ right
+
+pub parameter_void : (names : List (List ℕ)) (depth : ℕ) (pair : Ended) (text : List Leaf) → ParameterText names depth pair text → first_void text ≡ true → VoidBack names depth pair text
+parameter_void names depth pair text p e =
+    let s = p.are_specifiers in
+    let b = words_const part.InPart s.one s.before s.words_before refl in
+    let a = words_const part.InPart s.two s.after s.words_after refl in
+    let whole : text ≡ leaves_of (word Const) b.0 ++ ((s.middle ++ s.after) ++ p.right) = p.cut ∙ ap (λ l. l ++ p.right) (s.cut ∙ ap (λ l. l ++ (s.middle ++ s.after)) b.1.0) ∙ append_assoc (leaves_of (word Const) b.0) (s.middle ++ s.after) p.right in
+    let nothing_before : b.0 ≡ [] = void_before b.0 ((s.middle ++ s.after) ++ p.right) (ap first_void (sym whole) ∙ e) in
+    let cut : text ≡ s.middle ++ (s.after ++ p.right) = whole ∙ ap (λ (xs : List ℕ). leaves_of (word Const) xs ++ ((s.middle ++ s.after) ++ p.right)) nothing_before ∙ append_assoc s.middle s.after p.right in
+    let v = void_base names depth s.base s.middle (s.after ++ p.right) s.is_base (ap first_void (sym cut) ∙ e) in
+    let before_none : s.before ≡ [] = b.1.0 ∙ ap (leaves_of (word Const)) nothing_before in
+    record {
+      place = v.0;
+      right = s.after ++ p.right;
+      spells = record {
+        consts = a.0;
+        right = p.right;
+        is = s.is ∙ same_specified b.1.1 a.1.1 v.1.0 before_none v.1.1;
+        is_end = s.is_end ∙ same_ending v.0 a.0 v.1.0 v.1.1 a.1.0;
+        is_rest = p.is_rest;
+        cut = ap (λ l. l ++ p.right) a.1.0;
+      };
+      cut = cut ∙ ap (λ l. l ++ (s.after ++ p.right)) v.1.1;
+    }
+  where
+    same_specified : {one two : tree.Storage} {base : tree.Base} {before middle : List Leaf} {place : ℕ} → one ≡ no_storage → two ≡ no_storage → base ≡ tree.Void → before ≡ [] → middle ≡ plain (word Void place) ∷ [] → tree.Specified (part.both one two) base (Rattle.c_grammar_spec.specs.Leaves.first_place (before ++ middle)) ≡ void_at place
+    same_specified a b c d f = rw (a, b, c, d, f) refl
+
+    same_ending : {base : tree.Base} {middle after : List Leaf} (place : ℕ) (xs : List ℕ) → base ≡ tree.Void → middle ≡ plain (word Void place) ∷ [] → after ≡ leaves_of (word Const) xs → ending base middle after ≡ WordsAround
+    same_ending place xs a b c = rw (a, b, c) (sym (void_ending place xs))
+
+-- they are read exactly
+abbrev entry_after : List ℕ → Placed → Bool
+entry_after xs t = unless_read xs anything t && not (is_const t.token)
+
+entry_opens : (xs : List ℕ) → Opens (entry_after xs)
+entry_opens [] = record { at_star = λ p. refl; at_name = λ n. refl; at_bracket = λ p. refl }
+entry_opens (x ∷ xs) = record { at_star = λ p. refl; at_name = λ n. refl; at_bracket = λ p. refl }
+
+and_true : (b : Bool) → (true && b) ≡ (b && true)
+and_true true = refl
+and_true false = refl
+
+entry_same : (xs : List ℕ) (t : Placed) → entry_after xs t ≡ (not (is_const t.token) && not false)
+entry_same [] t = and_true (not (is_const t.token))
+entry_same (x ∷ xs) t = and_true (not (is_const t.token))
+
+rest_same : (names : List (List ℕ)) (one two : Placed → Bool) (r : ParameterRest) (t : Placed) → one t ≡ two t → stop_rest names one r t ≡ stop_rest names two r t
+rest_same names one two (n, (name, d)) t e = by_dimensions d (by_name name (by_pointer n e))
+  where
+    by_pointer : (n : ℕ) → one t ≡ two t → stop_pointer one n t ≡ stop_pointer two n t
+    by_pointer zero e = ap (λ b. b && not (is_mark punctuator.Star t.token)) e
+    by_pointer (suc m) e = refl
+
+    by_name : (name : Option tree.Name) → stop_pointer one n t ≡ stop_pointer two n t → stop_rest names one (n, (name, (false, tree.no_expressions))) t ≡ stop_rest names two (n, (name, (false, tree.no_expressions))) t
+    by_name None e = ap (λ b. (b && not (Rattle.c_expression_reader.specs.Types.is_plain_name names t.token)) && not (is_mark punctuator.LeftBracket t.token)) e
+    by_name (Some m) e = refl
+
+    by_dimensions : (d : Bool × tree.Expressions) → stop_rest names one (n, (name, (false, tree.no_expressions))) t ≡ stop_rest names two (n, (name, (false, tree.no_expressions))) t → stop_rest names one (n, (name, d)) t ≡ stop_rest names two (n, (name, d)) t
+    by_dimensions (true, lengths) e = refl
+    by_dimensions (false, tree.no_expressions) e = e
+    by_dimensions (false, tree.expressions x rest) e = refl
+
+abbrev made_void : (place : ℕ) → List ℕ × ParameterRest → Ended
+made_void place made = (parameter_of (void_at place) made.1, WordsAround)
+
+abbrev RawVoid : (names : List (List ℕ)) → (depth : ℕ) → List ℕ × ParameterRest → List Leaf → Type 0
+RawVoid names depth = Then (λ (xs : List ℕ) text. text ≡ leaves_of (word Const) xs) (λ _. RestText names depth)
+
+text_void : (names : List (List ℕ)) (depth place : ℕ) (pair : Ended) (text : List Leaf) → Map (made_void place) (RawVoid names depth) pair text → VoidText names depth place pair text
+text_void names depth place pair text m =
+    let t = m.spells in
+    subst (λ (p : Ended). VoidText names depth place p text) (sym m.is) (record { consts = m.inner.0; right = t.right; is = refl; is_end = refl; is_rest = t.second; cut = t.cut ∙ ap (λ l. l ++ t.right) t.first })
+
+void_text : (names : List (List ℕ)) (depth place : ℕ) (pair : Ended) (text : List Leaf) → VoidText names depth place pair text → Map (made_void place) (RawVoid names depth) pair text
+void_text names depth place pair text v =
+    record { inner = (v.consts, rest_of pair.0); is = same v.is v.is_end; spells = record { left = leaves_of (word Const) v.consts; right = v.right; cut = v.cut; first = refl; second = v.is_rest } }
+  where
+    same : pair.0.specifiers ≡ void_at place → pair.1 ≡ WordsAround → ◌≡◌ {A = Ended} pair (parameter_of (void_at place) (rest_of pair.0), WordsAround)
+    same a b = by_parts a b
+      where
+        by_parts : {s : tree.Specifiers} {e : Ending} → s ≡ void_at place → e ≡ WordsAround → ◌≡◌ {A = Ended} (parameter_of s (rest_of pair.0), e) (parameter_of (void_at place) (rest_of pair.0), WordsAround)
+        by_parts p q = rw (p, q) refl
+
+abbrev pub rich_void : (names : List (List ℕ)) → Readers → (depth place : ℕ) → Reader Placed Role Ended
+rich_void names inner depth place = read_map (made_void place) (read_then read_consts (λ _. read_parameter_rest names inner depth))
+
+pub exact-void : (names : List (List ℕ)) (inner : Readers) → AllExact names inner → (depth place : ℕ) → Exact marks anything (VoidText names depth place) (stop_parameter names) (rich_void names inner depth place)
+exact-void names inner all depth place =
+    exact-same anything (VoidText names depth place) (rich_void names inner depth place) (λ t h. h) (text_void names depth place) (void_text names depth place) (λ tokens. refl)
+    (exact-map (made_void place) (stop_parameter names) (λ made. refl)
+    (exact-stop (λ (made : List ℕ × ParameterRest) t. stop_rest names (λ t. not (is_const t.token) && not false) made.1 t) (λ made text h t. rest_same names (entry_after made.0) (λ t. not (is_const t.token) && not false) made.1 t (entry_same made.0 t))
+    (exact-then {stop2 = λ xs r. stop_rest names (entry_after xs) r} (exact-consts anything) (λ xs. exact-rest names inner all depth (entry_after xs) (entry_opens xs))
+    record {
+      ends = λ xs r left right rest one two stops. rest_stops names depth (entry_after xs) (entry_opens xs) r right rest two stops;
+      goes_on = λ xs left one. ((0, (None, (false, tree.no_expressions))), [], record { left = []; right = []; cut = refl; first = part.none; second = record { left = []; right = []; cut = refl; first = grammar.none; second = part.given depth tree.no_expressions [] (part.no_lengths depth) } });
+    })))
+
+pub void_same : (names : List (List ℕ)) (inner : Readers) (depth place : ℕ) (tokens : List Placed) → read_void_parameter names inner depth place tokens ≡ read_map (λ (pair : Ended). pair.0) (rich_void names inner depth place) tokens
+void_same names inner depth place tokens = by_made (read_then read_consts (λ _. read_parameter_rest names inner depth) tokens)
+  where
+    by_made : (o : Outcome Placed Role (List ℕ × ParameterRest)) → bind {Y = unit.Parameter} o (λ made r. Ok (parameter_of (void_at place) made.1, r)) ≡ bind {Y = unit.Parameter} (bind {Y = Ended} o (λ made r. Ok (made_void place made, r))) (λ pair r. Ok (pair.0, r))
+    by_made (Ok (made, rest)) = refl
+    by_made (Err fault) = refl

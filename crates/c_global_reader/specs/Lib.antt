@@ -1,0 +1,4 @@
+pub mod Parameters
+pub mod Texts
+pub mod Exactness
+pub mod Samples

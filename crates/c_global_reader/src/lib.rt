@@ -1,0 +1,34 @@
+//! How parameters and the declarators of items are read from a list of tokens, and that this is exactly their
+//! grammar.
+//!
+//! `specs/Parameters.antt` has the readers. `void` alone is no parameter, so what begins with `void` is read apart.
+//! `specs/Exactness.antt` says what holds, whatever names of types are in force.
+#![tactic(auto)]
+
+ghost use Rattle.c_global_reader.specs.Exactness.{GlobalsExact};
+ghost use Rattle.c_global_reader.specs.Samples.{LeavesFunction, ReadsConst, ReadsVoid, RefusesPointer};
+
+/// The law of parameters and of declarators in items: each is read exactly.
+pub fn globals_are_exact()
+    ensures { GlobalsExact }
+{}
+
+/// A worked sample: `(void)` has no parameter.
+pub fn reads_void()
+    ensures { ReadsVoid }
+{}
+
+/// A worked sample: `(void const)` has one.
+pub fn reads_const()
+    ensures { ReadsConst }
+{}
+
+/// A worked sample: in `(void (` the second bracket is wrong, where a name was awaited.
+pub fn refuses_pointer()
+    ensures { RefusesPointer }
+{}
+
+/// A worked sample: a typedef's declarator is no function's.
+pub fn leaves_function()
+    ensures { LeavesFunction }
+{}

@@ -1,0 +1,4 @@
+pub mod Bare
+pub mod Divisions
+pub mod Complete
+pub mod Models
