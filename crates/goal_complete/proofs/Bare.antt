@@ -1,6 +1,6 @@
 -- Circuits but divisions make no claims.
-use Rattle.std.proofs.Common.{◌≡◌, ◌+◌, ◌-◌, ◌*◌, ℕ, zero, suc, Bool, true, false, List, [], ◌∷◌, ◌++◌, length, map, take, drop, replicate, refl}
-use Rattle.std.specs.Prelude.{nat_lt, not, if◌then◌else◌}
+use Rattle.std.proofs.Common.{◌+◌, ◌-◌, ◌*◌, ℕ, zero, suc, Bool, true, false, List, [], ◌∷◌, ◌++◌, length, map, take}
+use Rattle.std.specs.Prelude.{nat_lt, if◌then◌else◌}
 use Rattle.clause_spec.specs.declared.Literal.{Literal}
 use Rattle.clause_spec.specs.Clause.{Valuation, negation}
 use Rattle.term_spec.specs.declared.Atom.{Atom}
@@ -18,12 +18,12 @@ use Rattle.term_spec.specs.declared.QuaternaryOperator.TheVariants as quaternary
 use Rattle.term_spec.specs.Term.{Term}
 use Rattle.term_spec.specs.Value.{Assignment}
 use Rattle.blast_spec.specs.Gates.{Gate, Truth, Bit, And, Xor, Mux, Majority, Claim, next, last_of, literal_of, Build, give, ◌>>=◌}
-use Rattle.blast_spec.specs.Circuits.{Bits, one, none, zeros, and_gate, or_gate, xor_gate, mux_gate, each, each_two, fold_gates, and_all, or_all, choose_bits, equal_bits, sum_bits, difference_bits, carry_bit, less_bit, and_each, add_rows, product_bits, moved_up, moved_down, shift_stages, shift_bits, sign_of, shift_signed_bits, new_bits}
+use Rattle.blast_spec.specs.Circuits.{Bits, one, none, zeros, and_gate, or_gate, xor_gate, mux_gate, each, each_two, fold_gates, and_all, or_all, choose_bits, equal_bits, sum_bits, carry_bit, less_bit, and_each, add_rows, product_bits, moved_up, moved_down, shift_stages, shift_bits, sign_of, shift_signed_bits, new_bits}
 use Rattle.blast_spec.specs.Goal.{atom_bits, unary_bits, word_bits, binary_bits, ternary_bits, quaternary_bits}
 use Rattle.blast_laws.specs.Meaning.{AllStand}
 use Rattle.goal_laws.specs.Reads.{Reads}
-use Rattle.goal_models.specs.Settled.{Settles, AllSettle}
-use Rattle.goal_complete.specs.Claims.{IsNoClaim, NoClaims}
+use Rattle.goal_models.specs.Settled.{AllSettle}
+use Rattle.goal_complete.specs.Claims.{NoClaims}
 
 pub bare-append : (gates more : List Gate) → NoClaims gates → NoClaims more → NoClaims (gates ++ more)
 bare-append [] more h k = k

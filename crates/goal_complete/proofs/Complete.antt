@@ -1,5 +1,5 @@
 -- Terms settle with all their clauses.
-use Rattle.std.proofs.Common.{◌≡◌, ◌<◌, ◌+◌, ◌%◌, ◌/◌, ◌^◌, ℕ, zero, suc, Bool, true, false, List, [], ◌∷◌, ◌++◌, length, Option, Some, None, refl, ap, sym, ◌∙◌, subst, arith}
+use Rattle.std.proofs.Common.{◌≡◌, ◌%◌, ◌/◌, ◌^◌, ℕ, Bool, true, false, List, [], ◌∷◌, ◌++◌, length, Option, Some, None, refl, ap, sym, ◌∙◌, arith}
 use Rattle.std.specs.Prelude.{◌&&◌, if◌then◌else◌}
 use Rattle.std.proofs.lemmas.Bool.{and_parts}
 use Rattle.std.proofs.Math.Nat.{mod-eq_of_lt}
@@ -8,28 +8,24 @@ use Rattle.term_spec.specs.declared.Width.{Width}
 use Rattle.term_spec.specs.declared.Width.TheVariants.{W8, W64}
 use Rattle.term_spec.specs.declared.Sort.{Sort}
 use Rattle.term_spec.specs.declared.Sort.TheVariants as sort
-use Rattle.term_spec.specs.declared.Atom.{Atom}
-use Rattle.term_spec.specs.declared.UnaryOperator.{UnaryOperator}
 use Rattle.term_spec.specs.declared.WordOperator.{WordOperator}
 use Rattle.term_spec.specs.declared.WordOperator.TheVariants as word
 use Rattle.term_spec.specs.declared.BinaryOperator.{BinaryOperator}
 use Rattle.term_spec.specs.declared.BinaryOperator.TheVariants as binary
-use Rattle.term_spec.specs.declared.TernaryOperator.{TernaryOperator}
-use Rattle.term_spec.specs.declared.QuaternaryOperator.{QuaternaryOperator}
 use Rattle.term_spec.specs.Term.{Term, Leaf, Unary, Binary, Ternary, Quaternary, Octonary, divide, remainder}
-use Rattle.term_spec.specs.Sort.{bits, same_sort, is_word, is_byte, all_bytes, sort_if, sort_of, sort_of_unary, sort_of_binary, sort_of_ternary, sort_of_quaternary}
-use Rattle.term_spec.specs.Value.{Value, Number, IsOfSort, Assignment, IsAssignment, operation, on_two_words, value, binary_value}
+use Rattle.term_spec.specs.Sort.{bits, same_sort, is_word, is_byte, all_bytes, sort_of, sort_of_unary, sort_of_binary, sort_of_ternary, sort_of_quaternary}
+use Rattle.term_spec.specs.Value.{Number, Assignment, IsAssignment, operation, on_two_words, value, binary_value}
 use Rattle.term_spec.proofs.Sorts.{same_sort-true, sort_if-some, with_one-some, with_two-some, with_three-some, with_four-some}
 use Rattle.term_spec.proofs.Soundness.{value-sort, on_two_words-same}
 use Rattle.term_spec.proofs.Words.{operation-below}
-use Rattle.blast_spec.specs.Gates.{Gate, Build, last_of, give, ◌>>=◌}
+use Rattle.blast_spec.specs.Gates.{Build, last_of, give, ◌>>=◌}
 use Rattle.blast_spec.specs.Circuits.{Bits, new_bits, division}
-use Rattle.blast_spec.specs.Goal.{Table, is_there, bits_in, enter, once, atom_bits, unary_bits, binary_bits, ternary_bits, quaternary_bits, divided, with_binary, visit}
+use Rattle.blast_spec.specs.Goal.{Table, is_there, bits_in, enter, atom_bits, unary_bits, binary_bits, ternary_bits, quaternary_bits, divided, with_binary, visit}
 use Rattle.blast_laws.specs.Meaning.{number_of, AllStand}
 use Rattle.goal_laws.specs.Shows.{Shows, AllShow}
 use Rattle.goal_laws.proofs.Leaves.{new_length}
 use Rattle.goal_laws.proofs.Operators.{at_words}
-use Rattle.goal_laws.proofs.Tables.{Obeys, Visited, shown_there}
+use Rattle.goal_laws.proofs.Tables.{Visited, shown_there}
 use Rattle.goal_laws.proofs.Visits.{Takes, all_taken}
 use Rattle.goal_models.specs.Settled.{AllSettle}
 use Rattle.goal_complete.specs.Claims.{NoClaims}

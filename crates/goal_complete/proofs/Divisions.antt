@@ -1,5 +1,5 @@
 -- The quotient and the remainder meet the claims of a division.
-use Rattle.std.proofs.Common.{◌≡◌, ◌<◌, ◌≤◌, ◌+◌, ◌-◌, ◌*◌, ◌/◌, ◌%◌, ◌^◌, ℕ, zero, suc, Bool, true, false, List, [], ◌∷◌, ◌++◌, length, refl, ap, sym, ◌∙◌, subst, arith}
+use Rattle.std.proofs.Common.{◌≡◌, ◌<◌, ◌+◌, ◌-◌, ◌*◌, ◌/◌, ◌%◌, ◌^◌, ℕ, zero, suc, Bool, true, false, List, [], ◌∷◌, ◌++◌, length, refl, ap, sym, ◌∙◌, subst, arith}
 use Rattle.std.specs.Prelude.{◌==◌, ◌||◌, not, nat_lt, if◌then◌else◌}
 use Rattle.std.proofs.Math.Nat.{mod-one, mod-lt, div-add-mod, pow-suc}
 use Rattle.std.proofs.lemmas.Nat.{shr-shr, pow_pos}
@@ -8,12 +8,12 @@ use Rattle.clause_spec.specs.Clause.{Clause, Valuation, holds, is_met, negation}
 use Rattle.term_spec.specs.declared.Width.{Width}
 use Rattle.term_spec.specs.declared.WordOperator.TheVariants as word
 use Rattle.term_spec.specs.Term.{Term}
-use Rattle.term_spec.specs.Value.{Value, Number, Assignment, value, operation}
-use Rattle.blast_spec.specs.Gates.{Gate, Claim, last_of, claims}
+use Rattle.term_spec.specs.Value.{Number, Assignment, value, operation}
+use Rattle.blast_spec.specs.Gates.{last_of, claims}
 use Rattle.blast_spec.specs.Circuits.{Bits, none, twice_as_wide, or_all, product_bits, sum_bits, equal_bits, less_bit, new_bits, without_divisor, division}
 use Rattle.blast_laws.specs.Meaning.{digit, number_of, AllStand}
 use Rattle.blast_laws.proofs.Gates.{holds-negation}
-use Rattle.blast_laws.proofs.Adders.{below_width, digit_small, less_stands}
+use Rattle.blast_laws.proofs.Adders.{less_stands}
 use Rattle.blast_laws.proofs.Bitwise.{or_all_stands, some_digit, equal_stands}
 use Rattle.blast_laws.proofs.Widths.{number-twice, length-twice}
 use Rattle.blast_laws.proofs.Division.{whole_numbers}

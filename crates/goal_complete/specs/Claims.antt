@@ -1,6 +1,6 @@
 -- Gates without claims.
 use Rattle.std.specs.Prelude.{List, [], ◌∷◌}
-use Rattle.blast_spec.specs.Gates.{Gate, Truth, Bit, And, Xor, Mux, Majority, Claim}
+use Rattle.blast_spec.specs.Gates.{Gate, Claim}
 
 abbrev pub IsNoClaim : Gate → Type 0
 IsNoClaim (Claim clause) = ⊥
