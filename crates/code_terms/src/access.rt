@@ -1,0 +1,177 @@
+//! Loads and stores, and the tests before them.
+
+ghost use Rattle.std.specs.Prelude.{◌≡◌, IfOk};
+ghost use Rattle.term_core.specs.Trees.{term_of};
+ghost use Rattle.term_spec.specs.Term as tree;
+ghost use Rattle.term_spec.specs.Shapes as shapes;
+ghost use Rattle.term_spec.specs.declared.Width.TheVariants.{W32};
+ghost use Rattle.code_graph_spec.specs.State as state;
+ghost use Rattle.code_graph_spec.specs.Forms as forms;
+ghost use Rattle.code_terms.specs.Between.{avoids_between};
+
+use crate::basic::{memory, number, on_words, open};
+use crate::products::byte;
+use rv_instr::{LoadKind, StoreKind};
+use std::alloc::{AllocError, Global};
+use term_core::Term;
+use term_spec::{
+    BinaryOperator, QuaternaryOperator, TernaryOperator, UnaryOperator, Width, WordOperator,
+};
+
+/// The address so many bytes past another.
+fn past(alloc: Global, a: &Term, count: u32) -> Result<Term, AllocError>
+    ensures { IfOk result (λ t. term_of t ≡ shapes.past (term_of a.now) count) }
+{
+    let copy = a.copy(alloc)?;
+    on_words(alloc, WordOperator::Add, copy, number(count))
+}
+
+/// The byte of the binary's memory at an address.
+fn load(alloc: Global, a: Term) -> Result<Term, AllocError>
+    ensures { IfOk result (λ t. term_of t ≡ tree.load (tree.open_term state.memory) (term_of a)) }
+{
+    Term::binary(alloc, BinaryOperator::Load, open(memory()), a)
+}
+
+/// The byte at an address.
+fn first_byte(alloc: Global, a: &Term) -> Result<Term, AllocError>
+    ensures { IfOk result (λ t. term_of t ≡ tree.load (tree.open_term state.memory) (term_of a.now)) }
+{
+    let copy = a.copy(alloc)?;
+    load(alloc, copy)
+}
+
+/// The byte so many bytes past an address.
+fn further_byte(alloc: Global, a: &Term, count: u32) -> Result<Term, AllocError>
+    ensures { IfOk result (λ t. term_of t ≡ tree.load (tree.open_term state.memory) (shapes.past (term_of a.now) count)) }
+{
+    let place = past(alloc, a, count)?;
+    load(alloc, place)
+}
+
+fn load_half(alloc: Global, a: &Term) -> Result<Term, AllocError>
+    ensures { IfOk result (λ t. term_of t ≡ shapes.load_half (tree.open_term state.memory) (term_of a.now)) }
+{
+    let first = first_byte(alloc, a)?;
+    let second = further_byte(alloc, a, 1)?;
+    Term::binary(alloc, BinaryOperator::Join, first, second)
+}
+
+fn load_word(alloc: Global, a: &Term) -> Result<Term, AllocError>
+    ensures { IfOk result (λ t. term_of t ≡ shapes.load_word (tree.open_term state.memory) (term_of a.now)) }
+{
+    let first = first_byte(alloc, a)?;
+    let second = further_byte(alloc, a, 1)?;
+    let third = further_byte(alloc, a, 2)?;
+    let fourth = further_byte(alloc, a, 3)?;
+    Term::quaternary(
+        alloc,
+        QuaternaryOperator::Join,
+        first,
+        second,
+        third,
+        fourth,
+    )
+}
+
+/// What a load puts into its register.
+#[tactic(auto, unfolding(code_graph_spec::specs::Forms::loaded))]
+pub fn loaded(alloc: Global, kind: LoadKind, a: &Term) -> Result<Term, AllocError>
+    ensures { IfOk result (λ t. term_of t ≡ forms.loaded kind (term_of a.now)) }
+{
+    match kind {
+        LoadKind::Byte => {
+            let byte = first_byte(alloc, a)?;
+            Term::unary(alloc, UnaryOperator::SignExtend(Width::W32), byte)
+        }
+        LoadKind::Half => {
+            let half = load_half(alloc, a)?;
+            Term::unary(alloc, UnaryOperator::SignExtend(Width::W32), half)
+        }
+        LoadKind::Word => load_word(alloc, a),
+        LoadKind::ByteUnsigned => {
+            let byte = first_byte(alloc, a)?;
+            Term::unary(alloc, UnaryOperator::ZeroExtend(Width::W32), byte)
+        }
+        LoadKind::HalfUnsigned => {
+            let half = load_half(alloc, a)?;
+            Term::unary(alloc, UnaryOperator::ZeroExtend(Width::W32), half)
+        }
+    }
+}
+
+/// A memory with the byte at an address changed to one of a word.
+fn store(alloc: Global, m: Term, a: Term, place: u8, x: &Term) -> Result<Term, AllocError>
+    ensures { IfOk result (λ t. term_of t ≡ tree.store (term_of m) (term_of a) (tree.byte place (term_of x.now))) }
+{
+    let value = byte(alloc, place, x)?;
+    Term::ternary(alloc, TernaryOperator::Store, m, a, value)
+}
+
+fn store_byte(alloc: Global, a: &Term, x: &Term) -> Result<Term, AllocError>
+    ensures { IfOk result (λ t. term_of t ≡ shapes.store_byte (tree.open_term state.memory) (term_of a.now) (term_of x.now)) }
+{
+    let copy = a.copy(alloc)?;
+    store(alloc, open(memory()), copy, 0, x)
+}
+
+fn store_half(alloc: Global, a: &Term, x: &Term) -> Result<Term, AllocError>
+    ensures { IfOk result (λ t. term_of t ≡ shapes.store_half (tree.open_term state.memory) (term_of a.now) (term_of x.now)) }
+{
+    let first = store_byte(alloc, a, x)?;
+    let place = past(alloc, a, 1)?;
+    store(alloc, first, place, 1, x)
+}
+
+fn store_word(alloc: Global, a: &Term, x: &Term) -> Result<Term, AllocError>
+    ensures { IfOk result (λ t. term_of t ≡ shapes.store_word (tree.open_term state.memory) (term_of a.now) (term_of x.now)) }
+{
+    let half = store_half(alloc, a, x)?;
+    let third = past(alloc, a, 2)?;
+    let three = store(alloc, half, third, 2, x)?;
+    let fourth = past(alloc, a, 3)?;
+    store(alloc, three, fourth, 3, x)
+}
+
+/// The memory after a store.
+#[tactic(auto, unfolding(code_graph_spec::specs::Forms::stored))]
+pub fn stored(alloc: Global, kind: StoreKind, a: &Term, x: &Term) -> Result<Term, AllocError>
+    ensures { IfOk result (λ t. term_of t ≡ forms.stored kind (term_of a.now) (term_of x.now)) }
+{
+    match kind {
+        StoreKind::Byte => store_byte(alloc, a, x),
+        StoreKind::Half => store_half(alloc, a, x),
+        StoreKind::Word => store_word(alloc, a, x),
+    }
+}
+
+/// The address is a multiple of a power of 2, of which 1 is taken here.
+pub fn is_multiple(alloc: Global, mask: u32, a: &Term) -> Result<Term, AllocError>
+    ensures { IfOk result (λ t. term_of t ≡ forms.is_multiple mask (term_of a.now)) }
+{
+    let copy = a.copy(alloc)?;
+    let low = on_words(alloc, WordOperator::And, copy, number(mask))?;
+    Term::binary(alloc, BinaryOperator::Equal, low, number(0))
+}
+
+/// The last byte that a store writes.
+pub fn last_written(alloc: Global, kind: StoreKind, a: &Term) -> Result<Term, AllocError>
+    ensures { IfOk result (λ t. term_of t ≡ forms.last_written kind (term_of a.now)) }
+{
+    match kind {
+        StoreKind::Byte => a.copy(alloc),
+        StoreKind::Half => past(alloc, a, 1),
+        StoreKind::Word => past(alloc, a, 3),
+    }
+}
+
+/// The bytes from an address to another meet none of a run of fixed bytes, of which these are the first and the last.
+pub fn avoids(alloc: Global, a: &Term, e: &Term, first: u32, last: u32) -> Result<Term, AllocError>
+    ensures { IfOk result (λ t. term_of t ≡ avoids_between (term_of a.now) (term_of e.now) first last) }
+{
+    let begin = a.copy(alloc)?;
+    let before = Term::binary(alloc, BinaryOperator::Less, number(last), begin)?;
+    let end = e.copy(alloc)?;
+    let behind = Term::binary(alloc, BinaryOperator::Less, end, number(first))?;
+    Term::binary(alloc, BinaryOperator::Or, before, behind)
+}

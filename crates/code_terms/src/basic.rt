@@ -1,0 +1,109 @@
+//! Variables, operands and the least terms.
+
+ghost use Rattle.std.specs.Prelude.{◌≡◌, IfOk};
+ghost use Rattle.term_core.specs.Trees.{term_of};
+ghost use Rattle.term_spec.specs.Term as tree;
+ghost use Rattle.code_graph_spec.specs.State as state;
+ghost use Rattle.code_graph_spec.specs.Forms as forms;
+
+use rv_instr::Reg;
+use std::alloc::{AllocError, Global};
+use term_core::Term;
+use term_spec::{Atom, BinaryOperator, Family, Sort, Variable, Width, WordOperator};
+
+/// A machine register, as a variable.
+pub fn register(r: Reg) -> Variable
+    ensures { result ≡ state.register r }
+{
+    Variable {
+        family: Family::Register,
+        index: usize::from(r.number()),
+        instance: 0,
+        sort: Sort::Word(Width::W32),
+    }
+}
+
+/// What a machine register was when the function began, as a variable.
+pub fn entry_register(r: Reg) -> Variable
+    ensures { result ≡ state.entry_register r }
+{
+    Variable {
+        family: Family::Entry,
+        index: usize::from(r.number()),
+        instance: 0,
+        sort: Sort::Word(Width::W32),
+    }
+}
+
+/// The memory of the binary, as a variable.
+pub fn memory() -> Variable
+    ensures { result ≡ state.memory }
+{
+    Variable {
+        family: Family::BinaryMemory,
+        index: 0,
+        instance: 0,
+        sort: Sort::Memory,
+    }
+}
+
+/// A variable as a term.
+pub(crate) fn open(variable: Variable) -> Term
+    ensures { term_of result ≡ tree.open_term variable }
+{
+    Term::Leaf(Atom::Open(variable))
+}
+
+/// A word of 32 bits as a term.
+pub fn number(n: u32) -> Term
+    ensures { term_of result ≡ forms.number n }
+{
+    Term::Leaf(Atom::Constant(Width::W32, u64::from(n)))
+}
+
+/// A register as an operand: x0 is the number 0.
+pub fn operand(r: Reg) -> Term
+    ensures { term_of result ≡ forms.operand r }
+{
+    if r.number() == 0 {
+        number(0)
+    } else {
+        open(register(r))
+    }
+}
+
+/// An operation on two words.
+pub(crate) fn on_words(
+    alloc: Global,
+    operator: WordOperator,
+    x: Term,
+    y: Term,
+) -> Result<Term, AllocError>
+    ensures { IfOk result (λ t. term_of t ≡ tree.on_words operator (term_of x) (term_of y)) }
+{
+    Term::binary(alloc, BinaryOperator::Word(operator), x, y)
+}
+
+/// The address x[base] + offset.
+pub fn address(alloc: Global, base: Reg, offset: i32) -> Result<Term, AllocError>
+    ensures { IfOk result (λ t. term_of t ≡ forms.address base offset) }
+{
+    on_words(
+        alloc,
+        WordOperator::Add,
+        operand(base),
+        number(offset.cast_unsigned()),
+    )
+}
+
+/// That x1 is as it was when the function began.
+pub fn returns_home(alloc: Global) -> Result<Term, AllocError>
+    ensures { IfOk result (λ t. term_of t ≡ forms.returns_home) }
+{
+    Term::binary(
+        alloc,
+        BinaryOperator::Equal,
+        open(register(Reg::new(1))),
+        open(entry_register(Reg::new(1))),
+    )
+}

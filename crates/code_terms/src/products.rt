@@ -1,0 +1,72 @@
+//! High words of products.
+
+ghost use Rattle.std.specs.Prelude.{◌≡◌, IfOk};
+ghost use Rattle.term_core.specs.Trees.{term_of};
+ghost use Rattle.term_spec.specs.Term as tree;
+ghost use Rattle.term_spec.specs.Shapes as shapes;
+
+use crate::basic::on_words;
+use std::alloc::{AllocError, Global};
+use term_core::Term;
+use term_spec::{QuaternaryOperator, UnaryOperator, Width, WordOperator};
+
+/// One byte of a word.
+pub(crate) fn byte(alloc: Global, place: u8, x: &Term) -> Result<Term, AllocError>
+    ensures { IfOk result (λ t. term_of t ≡ tree.byte place (term_of x.now)) }
+{
+    let copy = x.copy(alloc)?;
+    Term::unary(alloc, UnaryOperator::Byte(place), copy)
+}
+
+/// Bytes 4 to 7 of a word of 64 bits.
+fn high_half(alloc: Global, x: &Term) -> Result<Term, AllocError>
+    ensures { IfOk result (λ t. term_of t ≡ shapes.high_half (term_of x.now)) }
+{
+    let a = byte(alloc, 4, x)?;
+    let b = byte(alloc, 5, x)?;
+    let c = byte(alloc, 6, x)?;
+    let d = byte(alloc, 7, x)?;
+    Term::quaternary(alloc, QuaternaryOperator::Join, a, b, c, d)
+}
+
+/// The high word of the product of two words that are widened to 64 bits first.
+fn high_product_of(
+    alloc: Global,
+    first: UnaryOperator,
+    second: UnaryOperator,
+    x: Term,
+    y: Term,
+) -> Result<Term, AllocError>
+    ensures { IfOk result (λ t. term_of t ≡ shapes.high_half (tree.multiply (tree.Unary first (term_of x)) (tree.Unary second (term_of y)))) }
+{
+    let left = Term::unary(alloc, first, x)?;
+    let right = Term::unary(alloc, second, y)?;
+    let product = on_words(alloc, WordOperator::Multiply, left, right)?;
+    high_half(alloc, &product)
+}
+
+const ZERO: UnaryOperator = UnaryOperator::ZeroExtend(Width::W64);
+
+const SIGN: UnaryOperator = UnaryOperator::SignExtend(Width::W64);
+
+pub(crate) fn high_product(alloc: Global, x: Term, y: Term) -> Result<Term, AllocError>
+    ensures { IfOk result (λ t. term_of t ≡ shapes.high_product (term_of x) (term_of y)) }
+{
+    high_product_of(alloc, ZERO, ZERO, x, y)
+}
+
+pub(crate) fn high_product_signed(alloc: Global, x: Term, y: Term) -> Result<Term, AllocError>
+    ensures { IfOk result (λ t. term_of t ≡ shapes.high_product_signed (term_of x) (term_of y)) }
+{
+    high_product_of(alloc, SIGN, SIGN, x, y)
+}
+
+pub(crate) fn high_product_signed_unsigned(
+    alloc: Global,
+    x: Term,
+    y: Term,
+) -> Result<Term, AllocError>
+    ensures { IfOk result (λ t. term_of t ≡ shapes.high_product_signed_unsigned (term_of x) (term_of y)) }
+{
+    high_product_of(alloc, SIGN, ZERO, x, y)
+}
