@@ -1,0 +1,4 @@
+pub mod Initializers
+pub mod Units
+pub mod Exactness
+pub mod Samples
