@@ -70,7 +70,7 @@ module _ (runs : List Run) where
   octonary_normal a b c d i j k l na nb nc nd ni nj nk nl =
       join_normal runs W64 (a ∷ b ∷ c ∷ d ∷ i ∷ j ∷ k ∷ l ∷ []) (Octonary a b c d i j k l) (na, (nb, (nc, (nd, (ni, (nj, (nk, (nl, tt)))))))) (λ e. (na, nb, nc, nd, ni, nj, nk, nl, e))
 
-  is_normal : (t : Term) → IsNormal runs (normal runs t)
+  pub is_normal : (t : Term) → IsNormal runs (normal runs t)
   unfolding normal IsNormal
   is_normal (Leaf leaf) = tt
   is_normal (Unary operator a) = unary_normal operator _ (is_normal a)

@@ -1,0 +1,4 @@
+pub mod Sorts
+pub mod Rule
+pub mod Visits
+pub mod Whole
