@@ -1,0 +1,7 @@
+pub mod Lists
+pub mod Loads
+pub mod Readable
+pub mod Forms
+pub mod Alike
+pub mod Ties
+pub mod Whole

@@ -1,0 +1,5 @@
+use Rattle.flat_spec.proofs.Whole.{equally}
+use Rattle.flat_spec.proofs.laws.flat_terms_are_equally_valid.Goals as goal
+
+pub returns : goal.returns
+returns c = equally
