@@ -1,0 +1,418 @@
+-- Unary and cast expressions keep roles.
+use Rattle.std.proofs.Common.{◌≡◌, ℕ, suc, ◌+◌, ◌≤◌, arith, Bool, true, false, List, [], ◌∷◌, ◌++◌, Some, None, refl, ap, sym, ◌∙◌, subst, cond, not, ◌&&◌, append_assoc}
+use Rattle.std.specs.Option.{is_some}
+use Rattle.c_spec.specs.declared.token.Keyword.TheVariants.{Sizeof}
+use Rattle.c_spec.specs.declared.token.NumberType.TheVariants.{SignedInt}
+use Rattle.c_spec.specs.declared.token.Punctuator.{Punctuator}
+use Rattle.c_spec.specs.declared.token.Punctuator.TheVariants as punctuator
+use Rattle.c_spec.specs.Lexical.{Placed, Token, Name as name_token, Word, Number as number_token, Character as character_token, Mark}
+use Rattle.c_tree_spec.specs.declared.UnaryOperator.{UnaryOperator}
+use Rattle.c_tree_spec.specs.declared.UnaryOperator.TheVariants.{AddressOf, Dereference, Plus, Minus, Complement, Not}
+use Rattle.c_tree_spec.specs.Expression as tree
+use Rattle.c_grammar_spec.specs.declared.Role.TheVariants.{Nothing, OperandEnd}
+use Rattle.c_grammar_spec.specs.Leaves.{Leaf, plain, awaited, operates, brackets, mark, word, number, marks}
+use Rattle.c_grammar_spec.specs.Expressions.{unary_mark, Unary, postfix, prefixed, sizeof_expression, sizeof_type, Cast, unary, cast, TypeName}
+use Rattle.exact_read.specs.Reading.{plains, Stops}
+use Rattle.exact_read.specs.Grammar.{anything, One, Map, Or, first, second, read_map}
+use Rattle.exact_read.specs.Folds.{base, step}
+use Rattle.c_expression_reader.specs.Budget.{needs}
+use Rattle.c_expression_reader.specs.Exactness.{PlainUnary, TypeFacts}
+use Rattle.c_expression_roles.specs.Exactness.{AreFirm, TypeRoles}
+use Rattle.c_expression_reader.specs.Classes.{is_mark, mark_place, is_sizeof, sizeof_place, atom_at, atom_of, unary_operator, with_place, begins_type, is_suffix}
+use Rattle.c_expression_reader.specs.Classes as class
+use Rattle.c_expression_reader.specs.Stops.{ends_postfix, stop_cast}
+use Rattle.c_expression_reader.specs.Readers.{Readers, choose, read_postfix, read_inside, read_bracketed, read_type, read_sized, read_sizeof, read_prefixed, read_unary, read_converted, read_cast}
+use Rattle.c_expression_reader.proofs.Samples.{zero_tree, zero_text, zero_conditional, zero_cast, zero_unary}
+use Rattle.c_expression_reader.proofs.Suffixes.{Suffixed, placed, within_brackets, within_operates}
+use Rattle.c_expression_reader.proofs.Begins.{NoType, no-append, conditional_no}
+use Rattle.c_expression_reader.proofs.Casts.{Atom, atom_ends_of, InsideText, opening, atom_postfix, bracket_postfix, Split, at_atom, at_bracket, postfix_split}
+use Rattle.c_expression_reader.proofs.Unaries.{BracketText, OperatorText, TypeText, SizedInside, SizedText, SizeofText, UnaryText, UnarySplit, unary_split, CastInside, CastText, is_plain, is_bracket}
+use Rattle.exact_read.proofs.Parts.{stops_anything}
+use Rattle.role_read.proofs.Basics.{roled-same, roled-stop, roled-enter}
+use Rattle.role_read.proofs.Begins.{Begins, Silent}
+use Rattle.c_expression_reader.proofs.Marks.{mark-self, one-mark, mark-one, Behind}
+use Rattle.c_expression_roles.specs.Firm.{roles, Firm}
+use Rattle.c_expression_roles.proofs.Suffixes.{Inside, roled-suffixed}
+use Rattle.c_expression_roles.proofs.Firm.{firm-map, firm-one}
+use Rattle.c_expression_roles.proofs.Marks.{mark-some, roled-closed, roled-behind, roled-opened, roled-choice, behind_begins, behind_silent, map_begins, map_silent, placed-some, first_begins, closed_begins, first_silent, closed_silent}
+
+-- turns that are left inside
+budget_bracket : (depth count c turns : ℕ) → needs depth count ≤ turns → suc depth ≤ 128 → count ≤ c → needs (suc depth) (suc c) + 3 ≤ turns
+budget_bracket depth count c turns h d l = omega arith
+
+budget_type : (depth count turns : ℕ) → needs depth count ≤ turns → suc depth ≤ 128 → needs (suc depth) 129 + 4 ≤ turns
+budget_type depth count turns h d = omega arith
+
+budget_next : (depth count turns : ℕ) → needs depth count ≤ turns → suc count ≤ 128 → needs depth (suc count) + 8 ≤ turns
+budget_next depth count turns h l = omega arith
+
+inside_by : {names : List (List ℕ)} {inner : Readers} {turns : ℕ} → AreFirm names inner turns → (depth count : ℕ) → needs depth count ≤ turns → Inside names inner depth count
+inside_by {turns = turns} are depth count h c d l least = are.conditional (suc depth) (suc c) (budget_bracket depth count c turns h d least)
+
+-- what stands in brackets is read exactly
+roled-inside : (names : List (List ℕ)) (inner : Readers) (depth count place : ℕ) → suc depth ≤ 128 → suc count ≤ 128 → Inside names inner depth count → Firm anything (InsideText names depth count place) (λ _. anything) (read_inside inner depth count place)
+roled-inside names inner depth count place d l inside =
+    firm-map (λ x. tree.Bracketed x place) (λ _. anything) (λ x. refl)
+    (roled-closed punctuator.RightParenthesis OperandEnd (awaited OperandEnd) (λ t. refl) (λ t. refl) (inside count d l (omega arith)) (λ x close. refl))
+
+roled-bracket : (names : List (List ℕ)) (inner : Readers) (depth count place : ℕ) → suc depth ≤ 128 → suc count ≤ 128 → Inside names inner depth count → Firm anything (BracketText names depth count place) stop_cast (read_bracketed inner depth count place)
+roled-bracket names inner depth count place d l inside =
+    roled-suffixed names inner depth count inside (λ x text m. ap ends_postfix m.is) (roled-inside names inner depth count place d l inside)
+
+atom_ends : (names : List (List ℕ)) (x : tree.Expression) (text : List Leaf) → Atom names x text → ends_postfix x ≡ true
+atom_ends names x text o = atom_ends_of names o.token.token o.token.offset x o.is
+
+roled-postfix : (names : List (List ℕ)) (inner : Readers) (depth count : ℕ) → Inside names inner depth count → Firm anything (Suffixed names depth count (Atom names)) stop_cast (read_postfix names inner depth count)
+roled-postfix names inner depth count inside =
+    roled-suffixed names inner depth count inside (atom_ends names) (firm-one anything plain (atom_at names) Nothing (λ t. refl) (λ t. refl) (number 0 SignedInt 0) zero_tree refl)
+
+-- unary operators
+unary-punctuator : (p : Punctuator) (o : UnaryOperator) → class.unary_mark p ≡ Some o → p ≡ unary_mark o
+unary-punctuator punctuator.Ampersand o e = let same : AddressOf ≡ o = cc in ap unary_mark same
+unary-punctuator punctuator.Star o e = let same : Dereference ≡ o = cc in ap unary_mark same
+unary-punctuator punctuator.Plus o e = let same : Plus ≡ o = cc in ap unary_mark same
+unary-punctuator punctuator.Minus o e = let same : Minus ≡ o = cc in ap unary_mark same
+unary-punctuator punctuator.Tilde o e = let same : Complement ≡ o = cc in ap unary_mark same
+unary-punctuator punctuator.Exclamation o e = let same : Not ≡ o = cc in ap unary_mark same
+unary-punctuator other o e = absurd (cc)
+
+unary-token : (k : Token) (place : ℕ) (o : UnaryOperator) → unary_operator k ≡ Some o → record { token = k; offset = place } ≡ mark (unary_mark o) place
+unary-token (Mark p) place o e = ap (λ q. mark q place) (unary-punctuator p o e)
+unary-token (name_token spelling) place o e = absurd (cc)
+unary-token (Word keyword) place o e = absurd (cc)
+unary-token (number_token value type) place o e = absurd (cc)
+unary-token (character_token value) place o e = absurd (cc)
+
+one-unary : (place : Placed → Leaf) (found : UnaryOperator × ℕ) (text : List Leaf) → One place (with_place unary_operator) found text → text ≡ place (mark (unary_mark found.0) found.1) ∷ []
+one-unary place found text o =
+    let p = placed unary_operator o.token found o.is in
+    o.cut ∙ ap (λ t. place t ∷ []) (unary-token o.token.token o.token.offset found.0 p.0 ∙ ap (λ k. mark (unary_mark found.0) k) p.1)
+
+unary-self : (o : UnaryOperator) → unary_operator (Mark (unary_mark o)) ≡ Some o
+unary-self AddressOf = refl
+unary-self Dereference = refl
+unary-self Plus = refl
+unary-self Minus = refl
+unary-self Complement = refl
+unary-self Not = refl
+
+unary-one : (place : Placed → Leaf) (o : UnaryOperator) (k : ℕ) → One place (with_place unary_operator) (o, k) (place (mark (unary_mark o) k) ∷ [])
+unary-one place o k = record { token = mark (unary_mark o) k; is = rw (unary-self o) refl; cut = refl }
+
+unary-no_bracket : (o : UnaryOperator) → is_mark punctuator.LeftParenthesis (Mark (unary_mark o)) ≡ false
+unary-no_bracket AddressOf = refl
+unary-no_bracket Dereference = refl
+unary-no_bracket Plus = refl
+unary-no_bracket Minus = refl
+unary-no_bracket Complement = refl
+unary-no_bracket Not = refl
+
+-- `sizeof`
+sizeof-token : (k : Token) (o place : ℕ) → cond (is_sizeof k) (Some o) None ≡ Some place → record { token = k; offset = o } ≡ word Sizeof place
+sizeof-token (Word Sizeof) o place e = let same : o ≡ place = cc in ap (word Sizeof) same
+sizeof-token (Word other) o place e = absurd (cc)
+sizeof-token (name_token spelling) o place e = absurd (cc)
+sizeof-token (number_token value type) o place e = absurd (cc)
+sizeof-token (character_token value) o place e = absurd (cc)
+sizeof-token (Mark p) o place e = absurd (cc)
+
+one-sizeof : (place : Placed → Leaf) (k : ℕ) (text : List Leaf) → One place sizeof_place k text → text ≡ place (word Sizeof k) ∷ []
+one-sizeof place k text o = o.cut ∙ ap (λ t. place t ∷ []) (sizeof-token o.token.token o.token.offset k o.is)
+
+sizeof-one : (place : Placed → Leaf) (k : ℕ) → One place sizeof_place k (place (word Sizeof k) ∷ [])
+sizeof-one place k = record { token = word Sizeof k; is = refl; cut = refl }
+
+atom-no_bracket : (names : List (List ℕ)) (k : Token) (o : ℕ) (x : tree.Expression) → atom_of names k o ≡ Some x → (is_mark punctuator.LeftParenthesis k ≡ false) × (unary_operator k ≡ None) × (is_sizeof k ≡ false)
+atom-no_bracket names (name_token spelling) o x e = (refl, refl, refl)
+atom-no_bracket names (number_token value type) o x e = (refl, refl, refl)
+atom-no_bracket names (character_token value) o x e = (refl, refl, refl)
+atom-no_bracket names (Word keyword) o x e = absurd (cc)
+atom-no_bracket names (Mark p) o x e = absurd (cc)
+
+-- the first token of an atom with what stands behind it
+record AtomFirst (text : List Leaf) : Type 0 where
+  leaf : Leaf
+  more : List Leaf
+  cut : text ≡ leaf ∷ more
+  no : (is_mark punctuator.LeftParenthesis leaf.token.token ≡ false) × (unary_operator leaf.token.token ≡ None) × (is_sizeof leaf.token.token ≡ false)
+
+atom_first : (names : List (List ℕ)) (depth count : ℕ) (x : tree.Expression) (text : List Leaf) → Suffixed names depth count (Atom names) x text → AtomFirst text
+atom_first names depth count x text (base y t o) = record { leaf = plain o.token; more = []; cut = o.cut; no = atom-no_bracket names o.token.token o.token.offset y o.is }
+atom_first names depth count x text (step y s left right h one) = let f = atom_first names depth count y left h in record { leaf = f.leaf; more = f.more ++ right; cut = ap (λ t. t ++ right) f.cut; no = f.no }
+
+-- texts as they are read, and as the grammar has them
+bracket_unary : (names : List (List ℕ)) (depth count place : ℕ) (x : tree.Expression) (text : List Leaf) → BracketText names depth count place x text → Unary names depth count x (opening depth count place ∷ text)
+bracket_unary names depth count place x text h = postfix depth count x (opening depth count place ∷ text) (bracket_postfix names depth count place x text h)
+
+sized_inside_unary : (names : List (List ℕ)) (depth count place opened : ℕ) (x : tree.Expression) (text : List Leaf) → SizedInside names depth (suc count) place opened x text → Unary names depth count x (operates (suc count) (word Sizeof place) ∷ brackets (suc depth) (suc (suc count)) (mark punctuator.LeftParenthesis opened) ∷ text)
+sized_inside_unary names depth count place opened x text (first m) = let c = m.spells in rw (m.is, c.cut) (sizeof_type depth count m.inner c.inside place opened c.close c.spells)
+sized_inside_unary names depth count place opened x text (second m) = rw m.is (sizeof_expression depth count m.inner (opening depth (suc count) opened ∷ text) place (bracket_unary names depth (suc count) opened m.inner text m.spells))
+
+sized_unary : (names : List (List ℕ)) (depth count place : ℕ) (x : tree.Expression) (text : List Leaf) → SizedText names depth (suc count) place x text → Unary names depth count x (operates (suc count) (word Sizeof place) ∷ text)
+sized_unary names depth count place x text (first b) =
+    subst (λ t. Unary names depth count x (operates (suc count) (word Sizeof place) ∷ t)) (sym (b.cut ∙ ap (λ t. t ++ b.right) (one-mark punctuator.LeftParenthesis (brackets (suc depth) (suc (suc count))) b.first b.left b.is_first)))
+    (sized_inside_unary names depth count place b.first x b.right b.is_second)
+sized_unary names depth count place x text (second m) = rw m.is (sizeof_expression depth count m.inner text place m.spells.spells)
+
+text_plain : (names : List (List ℕ)) (depth count : ℕ) (x : tree.Expression) (text : List Leaf) → UnaryText names depth count x text → PlainUnary names depth count x text
+text_plain names depth count x text (first b) =
+    let m = b.is_second in
+    let cut : text ≡ operates (suc count) (mark (unary_mark b.first.0) b.first.1) ∷ b.right = b.cut ∙ ap (λ t. t ++ b.right) (one-unary (operates (suc count)) b.first b.left b.is_first) in
+    record {
+      spells = subst (λ t. Unary names depth count x t) (sym cut) (rw m.is (prefixed depth count b.first.0 m.inner b.right b.first.1 m.spells));
+      leaf = operates (suc count) (mark (unary_mark b.first.0) b.first.1);
+      more = b.right;
+      cut = cut;
+      no = unary-no_bracket b.first.0;
+    }
+text_plain names depth count x text (second (first b)) =
+    let cut : text ≡ operates (suc count) (word Sizeof b.first) ∷ b.right = b.cut ∙ ap (λ t. t ++ b.right) (one-sizeof (operates (suc count)) b.first b.left b.is_first) in
+    record {
+      spells = subst (λ t. Unary names depth count x t) (sym cut) (sized_unary names depth count b.first x b.right b.is_second);
+      leaf = operates (suc count) (word Sizeof b.first);
+      more = b.right;
+      cut = cut;
+      no = refl;
+    }
+text_plain names depth count x text (second (second h)) =
+    let f = atom_first names depth count x text h in
+    record { spells = postfix depth count x text (atom_postfix names depth count x text h); leaf = f.leaf; more = f.more; cut = f.cut; no = f.no.0 }
+
+sized_by_split : (names : List (List ℕ)) (depth count place : ℕ) (x : tree.Expression) (text : List Leaf) → UnarySplit names depth count x text → SizedText names depth count place (tree.Sizeof x place) text
+sized_by_split names depth count place x text (is_plain p) = second (record { inner = x; is = refl; spells = p })
+sized_by_split names depth count place x text (is_bracket opened rest cut h) =
+    first (record {
+      first = opened;
+      left = opening depth count opened ∷ [];
+      right = rest;
+      is_first = mark-one punctuator.LeftParenthesis (brackets (suc depth) (suc count)) opened;
+      is_second = second (record { inner = x; is = refl; spells = h });
+      cut = cut;
+    })
+
+head-same : (leaf other : Leaf) (more rest text : List Leaf) → text ≡ leaf ∷ more → text ≡ other ∷ rest → leaf ≡ other
+head-same leaf other more rest text e f = let g : leaf ∷ more ≡ other ∷ rest = sym e ∙ f in cc
+
+plain_split : (names : List (List ℕ)) (depth count : ℕ) (x : tree.Expression) (text : List Leaf) (leaf : Leaf) (more : List Leaf) → text ≡ leaf ∷ more → is_mark punctuator.LeftParenthesis leaf.token.token ≡ false → Split names depth count x text → UnaryText names depth count x text
+plain_split names depth count x text leaf more cut lacks (at_atom h) = second (second h)
+plain_split names depth count x text leaf more cut lacks (at_bracket place rest c h) =
+    absurd (let same : leaf ≡ opening depth count place = head-same leaf (opening depth count place) more rest text cut c in
+    let f : is_mark punctuator.LeftParenthesis leaf.token.token ≡ true = ap (λ (l : Leaf). is_mark punctuator.LeftParenthesis l.token.token) same in cc)
+
+plain_text_of : (names : List (List ℕ)) (depth count : ℕ) (x : tree.Expression) (text : List Leaf) → Unary names depth count x text → (leaf : Leaf) (more : List Leaf) → text ≡ leaf ∷ more → is_mark punctuator.LeftParenthesis leaf.token.token ≡ false → UnaryText names depth count x text
+plain_text_of names depth count x text (postfix d c y t h) leaf more cut lacks = plain_split names d c y t leaf more cut lacks (postfix_split names d c y t h)
+plain_text_of names depth count x text (prefixed d c o y t place h) leaf more cut lacks =
+    first (record { first = (o, place); left = operates (suc c) (mark (unary_mark o) place) ∷ []; right = t; is_first = unary-one (operates (suc c)) o place; is_second = record { inner = y; is = refl; spells = h }; cut = refl })
+plain_text_of names depth count x text (sizeof_expression d c y t place h) leaf more cut lacks =
+    second (first (record { first = place; left = operates (suc c) (word Sizeof place) ∷ []; right = t; is_first = sizeof-one (operates (suc c)) place; is_second = sized_by_split names d (suc c) place y t (unary_split names d (suc c) y t h); cut = refl }))
+plain_text_of names depth count x text (sizeof_type d c y t place p close h) leaf more cut lacks =
+    second (first (record {
+      first = place;
+      left = operates (suc c) (word Sizeof place) ∷ [];
+      right = brackets (suc d) (suc (suc c)) (mark punctuator.LeftParenthesis p) ∷ t ++ plain (mark punctuator.RightParenthesis close) ∷ [];
+      is_first = sizeof-one (operates (suc c)) place;
+      is_second = first (record {
+        first = p;
+        left = brackets (suc d) (suc (suc c)) (mark punctuator.LeftParenthesis p) ∷ [];
+        right = t ++ plain (mark punctuator.RightParenthesis close) ∷ [];
+        is_first = mark-one punctuator.LeftParenthesis (brackets (suc d) (suc (suc c))) p;
+        is_second = first (record { inner = y; is = refl; spells = record { inside = t; close = close; spells = h; cut = refl } });
+        cut = refl;
+      });
+      cut = refl;
+    }))
+
+plain_text : (names : List (List ℕ)) (depth count : ℕ) (x : tree.Expression) (text : List Leaf) → PlainUnary names depth count x text → UnaryText names depth count x text
+plain_text names depth count x text p = plain_text_of names depth count x text p.spells p.leaf p.more p.cut p.no
+
+-- where the texts begin
+zero_plain : (names : List (List ℕ)) (depth count : ℕ) → PlainUnary names depth count zero_tree zero_text
+zero_plain names depth count = record { spells = zero_unary names depth count; leaf = plain (number 0 SignedInt 0); more = []; cut = refl; no = refl }
+
+stops_first : (test : Token → Bool) (text : List Leaf) (leaf : Leaf) (more : List Leaf) (rest : List Placed) → text ≡ leaf ∷ more → test leaf.token.token ≡ false → Stops (λ t. not (test t.token)) (plains marks text ++ rest)
+stops_first test text leaf more rest cut lacks = subst (λ t. Stops (λ t. not (test t.token)) (plains marks t ++ rest)) (sym cut) (rw lacks refl)
+
+bracket_no : (names : List (List ℕ)) (depth count place : ℕ) (x : tree.Expression) (text : List Leaf) → BracketText names depth count place x text → NoType names text
+bracket_no names depth count place x text (base y t m) = let c = m.spells in subst (NoType names) (sym c.cut) (no-append names c.inside _ (conditional_no names (suc depth) (suc count) m.inner c.inside c.spells))
+bracket_no names depth count place x text (step y s left right h one) = no-append names left right (bracket_no names depth count place y left h)
+
+true-not : (b : Bool) → true ≡ not (b && false)
+true-not true = refl
+true-not false = refl
+
+type_begins : (names : List (List ℕ)) → TypeFacts names → (depth : ℕ) (type : tree.TypeName) (text : List Leaf) → TypeText names depth type text → (u : Leaf) × (more : List Leaf) × (text ≡ u ∷ more) × (begins_type names u.token.token ≡ true)
+type_begins names facts depth type text c =
+    let b = facts.begins (suc depth) type c.inside c.spells in
+    (b.0, b.1 ++ plain (mark punctuator.RightParenthesis c.close) ∷ [], c.cut ∙ ap (λ t. t ++ plain (mark punctuator.RightParenthesis c.close) ∷ []) b.2, b.3)
+
+open_first : (depth count : ℕ) {X : Type 0} (S2 : ℕ → X → List Leaf → Type 0) (x : X) (text : List Leaf) → Behind (One (brackets (suc depth) (suc count)) (mark_place punctuator.LeftParenthesis)) S2 x text → (u : Leaf) × (more : List Leaf) × (text ≡ u ∷ more) × (is_mark punctuator.LeftParenthesis u.token.token ≡ true)
+open_first depth count S2 x text b = (opening depth count b.first, b.right, b.cut ∙ ap (λ t. t ++ b.right) (one-mark punctuator.LeftParenthesis (brackets (suc depth) (suc count)) b.first b.left b.is_first), refl)
+
+roled-type : {names : List (List ℕ)} {inner : Readers} {turns : ℕ} → AreFirm names inner turns → (depth count : ℕ) → needs depth count ≤ turns → suc depth ≤ 128 → Firm anything (TypeText names depth) (λ _. anything) (read_type inner depth)
+roled-type {turns = turns} are depth count h d = are.type_name (suc depth) (budget_type depth count turns h d)
+
+begin_type : (names : List (List ℕ)) → TypeRoles names → (depth : ℕ) (t : Placed) → begins_type names t.token ≡ true → Begins marks (TypeText names depth) t
+begin_type names types depth t e =
+    let b = types.begins (suc depth) t e in
+    closed_begins plain punctuator.RightParenthesis t (record { value = b.type; first = b.first; more = b.more; spells = b.spells; is = b.is })
+
+type_some : (names : List (List ℕ)) → TypeFacts names → (depth : ℕ) (type : tree.TypeName) → TypeName names depth type [] → ⊥
+type_some names facts depth type h = let b = facts.begins depth type [] h in let e : [] ≡ b.0 ∷ b.1 = b.2 in cc
+
+type_silent : (names : List (List ℕ)) → TypeFacts names → TypeRoles names → (depth : ℕ) → Silent marks roles (TypeText names depth)
+type_silent names facts types depth = closed_silent plain punctuator.RightParenthesis (type_some names facts (suc depth)) (types.silent (suc depth))
+
+-- what stands behind the brackets and operators that begin an expression
+some_sized : (names : List (List ℕ)) (depth count place opened : ℕ) → (x : tree.Expression) × (right : List Leaf) × SizedInside names depth count place opened x right
+some_sized names depth count place opened =
+    (tree.Sizeof (tree.Bracketed zero_tree opened) place, zero_text ++ awaited OperandEnd (mark punctuator.RightParenthesis 0) ∷ [], second (record { inner = tree.Bracketed zero_tree opened; is = refl; spells = base _ _ (record { inner = zero_tree; is = refl; spells = record { inside = zero_text; close = 0; spells = zero_conditional names (suc depth) (suc count); cut = refl } }) }))
+
+some_prefixed : (names : List (List ℕ)) (depth count : ℕ) (o : UnaryOperator × ℕ) → (x : tree.Expression) × (right : List Leaf) × Map (λ x. tree.Unary o.0 x o.1) (Cast names depth (suc count)) x right
+some_prefixed names depth count o = (tree.Unary o.0 zero_tree o.1, zero_text, record { inner = zero_tree; is = refl; spells = zero_cast names depth (suc count) })
+
+some_sizeof : (names : List (List ℕ)) (depth count place : ℕ) → (x : tree.Expression) × (right : List Leaf) × SizedText names depth (suc count) place x right
+some_sizeof names depth count place = (tree.Sizeof zero_tree place, zero_text, second (record { inner = zero_tree; is = refl; spells = zero_plain names depth (suc count) }))
+
+some_converted : (names : List (List ℕ)) (depth count place : ℕ) (type : tree.TypeName) → (x : tree.Expression) × (right : List Leaf) × Map (λ x. tree.Cast type x place) (Cast names depth (suc count)) x right
+some_converted names depth count place type = (tree.Cast type zero_tree place, zero_text, record { inner = zero_tree; is = refl; spells = zero_cast names depth (suc count) })
+
+some_cast : (names : List (List ℕ)) (depth count place : ℕ) → (x : tree.Expression) × (right : List Leaf) × CastInside names depth count place x right
+some_cast names depth count place =
+    (tree.Bracketed zero_tree place, zero_text ++ awaited OperandEnd (mark punctuator.RightParenthesis 0) ∷ [], second (base _ _ (record { inner = zero_tree; is = refl; spells = record { inside = zero_text; close = 0; spells = zero_conditional names (suc depth) (suc count); cut = refl } })))
+
+sizeof-some : (k : Token) (o : ℕ) → is_sizeof k ≡ true → cond (is_sizeof k) (Some o) None ≡ Some o
+sizeof-some k o e = rw e refl
+
+roled-sized_inside : {names : List (List ℕ)} {inner : Readers} {turns : ℕ} → TypeFacts names → TypeRoles names → AreFirm names inner turns → (depth count place opened : ℕ) → needs depth count ≤ turns → suc depth ≤ 128 → suc count ≤ 128
+    → Firm anything (SizedInside names depth count place opened) stop_cast (choose (begins_type names) (read_map (λ type. tree.SizeofType type place) (read_type inner depth)) (read_map (λ x. tree.Sizeof x place) (read_bracketed inner depth count opened)))
+roled-sized_inside {names} {inner} {turns} facts types are depth count place opened h d l =
+    roled-choice (begins_type names)
+    record {
+      first_begins = λ x text m. type_begins names facts depth m.inner text m.spells;
+      second_begins = λ x text rest m stops. let n = bracket_no names depth count opened m.inner text m.spells in stops_first (begins_type names) text n.leaf n.more rest n.cut n.no;
+    }
+    (λ t e. map_begins (λ type. tree.SizeofType type place) t (begin_type names types depth t e)) (map_silent (λ type. tree.SizeofType type place) (type_silent names facts types depth))
+    (firm-map (λ type. tree.SizeofType type place) stop_cast (λ type. refl) (roled-stop (λ _ t. not (is_suffix t.token && false)) (λ type text m t. true-not (is_suffix t.token)) (roled-type are depth count h d)))
+    (firm-map (λ x. tree.Sizeof x place) stop_cast (λ x. refl) (roled-bracket names inner depth count opened d l (inside_by are depth count h)))
+
+roled-sized : {names : List (List ℕ)} {inner : Readers} {turns : ℕ} → TypeFacts names → TypeRoles names → AreFirm names inner turns → (depth count place : ℕ) → needs depth count + 8 ≤ turns → Firm anything (SizedText names depth count place) stop_cast (read_sized names inner depth count place)
+roled-sized {names} {inner} {turns} facts types are depth count place h =
+    roled-choice (is_mark punctuator.LeftParenthesis)
+    record {
+      first_begins = λ x text b. open_first depth count (SizedInside names depth count place) x text b;
+      second_begins = λ x text rest m stops. stops_first (is_mark punctuator.LeftParenthesis) text m.spells.leaf m.spells.more rest m.spells.cut m.spells.no;
+    }
+    (λ t e. behind_begins (mark_place punctuator.LeftParenthesis) (brackets (suc depth) (suc count)) (λ t. refl) t t.offset (mark-some punctuator.LeftParenthesis t e) (some_sized names depth count place t.offset))
+    (behind_silent (mark_place punctuator.LeftParenthesis) (brackets (suc depth) (suc count)) (λ t. refl))
+    (roled-opened (mark_place punctuator.LeftParenthesis) Nothing (brackets (suc depth) (suc count)) (λ t. refl) (λ t. refl) (mark punctuator.LeftParenthesis 0) 0 (mark-self punctuator.LeftParenthesis 0)
+    (some_sized names depth count place)
+    (λ opened t is within. let w = within_brackets (suc depth) (suc count) t within in roled-sized_inside facts types are depth count place opened (omega arith) w.0 w.1))
+    (firm-map (λ x. tree.Sizeof x place) stop_cast (λ x. refl) (are.unary depth count (omega arith)))
+
+roled-prefixed : {names : List (List ℕ)} {inner : Readers} {turns : ℕ} → AreFirm names inner turns → (depth count : ℕ) → needs depth count ≤ turns → Firm anything (OperatorText names depth count) stop_cast (read_prefixed inner depth count)
+roled-prefixed {names} {inner} {turns} are depth count h =
+    roled-opened (with_place unary_operator) Nothing (operates (suc count)) (λ t. refl) (λ t. refl) (mark punctuator.Plus 0) (Plus, 0) refl
+    (some_prefixed names depth count)
+    (λ o t is within. let next = budget_next depth count turns h (within_operates (suc count) t within) in firm-map (λ x. tree.Unary o.0 x o.1) stop_cast (λ x. refl) (are.cast depth (suc count) (omega arith)))
+
+roled-sizeof : {names : List (List ℕ)} {inner : Readers} {turns : ℕ} → TypeFacts names → TypeRoles names → AreFirm names inner turns → (depth count : ℕ) → needs depth count ≤ turns → Firm anything (SizeofText names depth count) stop_cast (read_sizeof names inner depth count)
+roled-sizeof {names} {inner} {turns} facts types are depth count h =
+    roled-opened sizeof_place Nothing (operates (suc count)) (λ t. refl) (λ t. refl) (word Sizeof 0) 0 refl
+    (some_sizeof names depth count)
+    (λ place t is within. roled-sized facts types are depth (suc count) place (budget_next depth count turns h (within_operates (suc count) t within)))
+
+sizeof_second : (names : List (List ℕ)) (depth count : ℕ) (x : tree.Expression) (text : List Leaf) (rest : List Placed) → Or (SizeofText names depth count) (Suffixed names depth count (Atom names)) x text → Stops (λ t. not (is_some (unary_operator t.token))) (plains marks text ++ rest)
+sizeof_second names depth count x text rest (first b) = stops_first (λ k. is_some (unary_operator k)) text (operates (suc count) (word Sizeof b.first)) b.right rest (b.cut ∙ ap (λ t. t ++ b.right) (one-sizeof (operates (suc count)) b.first b.left b.is_first)) refl
+sizeof_second names depth count x text rest (second h) = let f = atom_first names depth count x text h in stops_first (λ k. is_some (unary_operator k)) text f.leaf f.more rest f.cut (ap is_some f.no.1)
+
+pub roled-unary : {names : List (List ℕ)} {inner : Readers} {turns : ℕ} → TypeFacts names → TypeRoles names → AreFirm names inner turns → (depth count : ℕ) → needs depth count ≤ turns → Firm anything (PlainUnary names depth count) stop_cast (read_unary names inner depth count)
+roled-unary {names} {inner} {turns} facts types are depth count h =
+    roled-same anything (PlainUnary names depth count) (read_unary names inner depth count) (λ t e. e) (text_plain names depth count) (plain_text names depth count) (λ tokens. refl)
+    (roled-choice (λ k. is_some (unary_operator k))
+    record {
+      first_begins = λ x text b. (operates (suc count) (mark (unary_mark b.first.0) b.first.1), b.right, b.cut ∙ ap (λ t. t ++ b.right) (one-unary (operates (suc count)) b.first b.left b.is_first), ap is_some (unary-self b.first.0));
+      second_begins = λ x text rest one stops. sizeof_second names depth count x text rest one;
+    }
+    (λ t e. let o = placed-some unary_operator t e in behind_begins (with_place unary_operator) (operates (suc count)) (λ t. refl) t o.0 o.1 (some_prefixed names depth count o.0))
+    (behind_silent (with_place unary_operator) (operates (suc count)) (λ t. refl))
+    (roled-prefixed are depth count h)
+    (roled-choice is_sizeof
+    record {
+      first_begins = λ x text b. (operates (suc count) (word Sizeof b.first), b.right, b.cut ∙ ap (λ t. t ++ b.right) (one-sizeof (operates (suc count)) b.first b.left b.is_first), refl);
+      second_begins = λ x text rest one stops. let f = atom_first names depth count x text one in stops_first is_sizeof text f.leaf f.more rest f.cut f.no.2;
+    }
+    (λ t e. behind_begins sizeof_place (operates (suc count)) (λ t. refl) t t.offset (sizeof-some t.token t.offset e) (some_sizeof names depth count t.offset))
+    (behind_silent sizeof_place (operates (suc count)) (λ t. refl))
+    (roled-sizeof facts types are depth count h) (roled-postfix names inner depth count (inside_by are depth count h))))
+
+converted_cast : (names : List (List ℕ)) (depth count place : ℕ) (x : tree.Expression) (text : List Leaf) → CastInside names depth count place x text → Cast names depth count x (opening depth count place ∷ text)
+converted_cast names depth count place x text (first b) =
+    let m = b.is_second in
+    let c = b.is_first in
+    let same : text ≡ c.inside ++ plain (mark punctuator.RightParenthesis c.close) ∷ b.right = b.cut ∙ ap (λ t. t ++ b.right) c.cut ∙ append_assoc c.inside (plain (mark punctuator.RightParenthesis c.close) ∷ []) b.right in
+    rw (m.is, same) (cast depth count b.first m.inner c.inside b.right place c.close c.spells m.spells)
+converted_cast names depth count place x text (second h) = unary depth count x (opening depth count place ∷ text) (bracket_unary names depth count place x text h)
+
+text_cast : (names : List (List ℕ)) (depth count : ℕ) (x : tree.Expression) (text : List Leaf) → CastText names depth count x text → Cast names depth count x text
+text_cast names depth count x text (first b) =
+    subst (λ t. Cast names depth count x t) (sym (b.cut ∙ ap (λ t. t ++ b.right) (one-mark punctuator.LeftParenthesis (brackets (suc depth) (suc count)) b.first b.left b.is_first))) (converted_cast names depth count b.first x b.right b.is_second)
+text_cast names depth count x text (second p) = unary depth count x text p.spells
+
+cast_by_split : (names : List (List ℕ)) (depth count : ℕ) (x : tree.Expression) (text : List Leaf) → UnarySplit names depth count x text → CastText names depth count x text
+cast_by_split names depth count x text (is_plain p) = second p
+cast_by_split names depth count x text (is_bracket place rest cut h) =
+    first (record { first = place; left = opening depth count place ∷ []; right = rest; is_first = mark-one punctuator.LeftParenthesis (brackets (suc depth) (suc count)) place; is_second = second h; cut = cut })
+
+cast_text : (names : List (List ℕ)) (depth count : ℕ) (x : tree.Expression) (text : List Leaf) → Cast names depth count x text → CastText names depth count x text
+cast_text names depth count x text (unary d c y t h) = cast_by_split names d c y t (unary_split names d c y t h)
+cast_text names depth count x text (cast d c ty y inside t place close h k) =
+    first (record {
+      first = place;
+      left = opening d c place ∷ [];
+      right = inside ++ plain (mark punctuator.RightParenthesis close) ∷ t;
+      is_first = mark-one punctuator.LeftParenthesis (brackets (suc d) (suc c)) place;
+      is_second = first (record {
+        first = ty;
+        left = inside ++ plain (mark punctuator.RightParenthesis close) ∷ [];
+        right = t;
+        is_first = record { inside = inside; close = close; spells = h; cut = refl };
+        is_second = record { inner = y; is = refl; spells = k };
+        cut = sym (append_assoc inside (plain (mark punctuator.RightParenthesis close) ∷ []) t);
+      });
+      cut = refl;
+    })
+
+roled-cast_inside : {names : List (List ℕ)} {inner : Readers} {turns : ℕ} → TypeFacts names → TypeRoles names → AreFirm names inner turns → (depth count place : ℕ) → needs depth count ≤ turns → suc depth ≤ 128 → suc count ≤ 128
+    → Firm anything (CastInside names depth count place) stop_cast (choose (begins_type names) (read_converted inner depth count place) (read_bracketed inner depth count place))
+roled-cast_inside {names} {inner} {turns} facts types are depth count place h d l =
+    roled-choice (begins_type names)
+    record {
+      first_begins = λ x text b. let f = type_begins names facts depth b.first b.left b.is_first in (f.0, f.1 ++ b.right, b.cut ∙ ap (λ t. t ++ b.right) f.2, f.3);
+      second_begins = λ x text rest one stops. let n = bracket_no names depth count place x text one in stops_first (begins_type names) text n.leaf n.more rest n.cut n.no;
+    }
+    (λ t e. first_begins t (begin_type names types depth t e) (some_converted names depth count place)) (first_silent (λ type c. no_closed type c) (type_silent names facts types depth))
+    (roled-behind (roled-type are depth count h d)
+    (λ type left one within. roled-enter anything (firm-map (λ x. tree.Cast type x place) stop_cast (λ x. refl) (are.cast depth (suc count) (let next = budget_next depth count turns h l in omega arith))))
+    record {
+      ends = λ type x left right rest one two stops. stops_anything (plains marks right ++ rest);
+      goes_on = λ type left one. some_converted names depth count place type;
+    })
+    (roled-bracket names inner depth count place d l (inside_by are depth count h))
+  where
+    no_closed : (type : tree.TypeName) → TypeText names depth type [] → ⊥
+    no_closed type c = let b = type_begins names facts depth type [] c in let e : [] ≡ b.0 ∷ b.1 = b.2 in cc
+
+pub roled-cast : {names : List (List ℕ)} {inner : Readers} {turns : ℕ} → TypeFacts names → TypeRoles names → AreFirm names inner turns → (depth count : ℕ) → needs depth count + 1 ≤ turns → Firm anything (Cast names depth count) stop_cast (read_cast names inner depth count)
+roled-cast {names} {inner} {turns} facts types are depth count h =
+    roled-same anything (Cast names depth count) (read_cast names inner depth count) (λ t e. e) (text_cast names depth count) (cast_text names depth count) (λ tokens. refl)
+    (roled-choice (is_mark punctuator.LeftParenthesis)
+    record {
+      first_begins = λ x text b. open_first depth count (CastInside names depth count) x text b;
+      second_begins = λ x text rest p stops. stops_first (is_mark punctuator.LeftParenthesis) text p.leaf p.more rest p.cut p.no;
+    }
+    (λ t e. behind_begins (mark_place punctuator.LeftParenthesis) (brackets (suc depth) (suc count)) (λ t. refl) t t.offset (mark-some punctuator.LeftParenthesis t e) (some_cast names depth count t.offset))
+    (behind_silent (mark_place punctuator.LeftParenthesis) (brackets (suc depth) (suc count)) (λ t. refl))
+    (roled-opened (mark_place punctuator.LeftParenthesis) Nothing (brackets (suc depth) (suc count)) (λ t. refl) (λ t. refl) (mark punctuator.LeftParenthesis 0) 0 (mark-self punctuator.LeftParenthesis 0)
+    (some_cast names depth count)
+    (λ place t is within. let w = within_brackets (suc depth) (suc count) t within in roled-cast_inside facts types are depth count place (omega arith) w.0 w.1))
+    (are.unary depth count h))

@@ -1,0 +1,46 @@
+-- What it means that readers of expressions keep roles, as far as what stands inside does.
+use Rattle.std.specs.Prelude.{◌≡◌, ℕ, suc, ◌+◌, ◌≤◌, true, List, ◌∷◌}
+use Rattle.c_spec.specs.declared.token.Punctuator.TheVariants as punctuator
+use Rattle.c_spec.specs.Lexical.{Placed}
+use Rattle.c_tree_spec.specs.Expression as tree
+use Rattle.c_grammar_spec.specs.declared.Role.TheVariants.{Nothing}
+use Rattle.c_grammar_spec.specs.Leaves.{Leaf, plain}
+use Rattle.c_grammar_spec.specs.Expressions.{Cast, Conditional, TypeName}
+use Rattle.exact_read.specs.Grammar.{anything}
+use Rattle.c_expression_reader.specs.Budget.{needs}
+use Rattle.c_expression_reader.specs.Classes.{mark_place, begins_type}
+use Rattle.c_expression_reader.specs.Stops.{stop_cast, stop_conditional}
+use Rattle.c_expression_reader.specs.Readers.{Readers, token, before}
+use Rattle.c_expression_reader.specs.Turns.{around}
+use Rattle.c_expression_reader.specs.Exactness.{PlainUnary, Closed, TypeFacts}
+use Rattle.c_expression_roles.specs.Firm.{Firm}
+
+-- what is asked of the readers inside; a type is said with its bracket
+pub record AreFirm (names : List (List ℕ)) (inner : Readers) (turns : ℕ) : Type 0 where
+  pub cast : (depth count : ℕ) → needs depth count + 2 ≤ turns → Firm anything (Cast names depth count) stop_cast (inner.cast depth count)
+  pub unary : (depth count : ℕ) → needs depth count + 1 ≤ turns → Firm anything (PlainUnary names depth count) stop_cast (inner.unary depth count)
+  pub conditional : (depth count : ℕ) → needs depth count + 3 ≤ turns → Firm anything (Conditional names depth count) stop_conditional (inner.conditional depth count)
+  pub type_name : (depth : ℕ) → needs depth 129 + 4 ≤ turns → Firm anything (Closed plain punctuator.RightParenthesis (TypeName names depth)) (λ _. anything) (before (inner.type_name depth) (token Nothing plain (mark_place punctuator.RightParenthesis)))
+
+-- the token begins a type
+pub record BeginsTypeName (names : List (List ℕ)) (depth : ℕ) (token : Placed) : Type 0 where
+  pub type : tree.TypeName
+  pub first : Leaf
+  pub more : List Leaf
+  pub spells : TypeName names depth type (first ∷ more)
+  pub is : first.token ≡ token
+
+-- what is asked of types: a token that can begin one does, and what begins one tells nothing
+pub record TypeRoles (names : List (List ℕ)) : Type 0 where
+  pub begins : (depth : ℕ) (token : Placed) → begins_type names token.token ≡ true → BeginsTypeName names depth token
+  pub silent : (depth : ℕ) (type : tree.TypeName) (first : Leaf) (more : List Leaf) → TypeName names depth type (first ∷ more) → first.role ≡ Nothing
+
+-- the same of the readers of expressions alone
+pub record ExpressionsFirm (names : List (List ℕ)) (inner : Readers) (turns : ℕ) : Type 0 where
+  pub cast : (depth count : ℕ) → needs depth count + 2 ≤ turns → Firm anything (Cast names depth count) stop_cast (inner.cast depth count)
+  pub unary : (depth count : ℕ) → needs depth count + 1 ≤ turns → Firm anything (PlainUnary names depth count) stop_cast (inner.unary depth count)
+  pub conditional : (depth count : ℕ) → needs depth count + 3 ≤ turns → Firm anything (Conditional names depth count) stop_conditional (inner.conditional depth count)
+
+-- whatever names of types are in force: where the readers inside keep roles, those around them do so too
+abbrev pub ExpressionsTell : Type 0
+ExpressionsTell = (names : List (List ℕ)) → TypeFacts names → TypeRoles names → (inner : Readers) (turns : ℕ) → AreFirm names inner turns → ExpressionsFirm names (around names inner) (suc turns)

@@ -1,0 +1,155 @@
+-- Specifiers keep roles, with where they end.
+use Rattle.std.proofs.Common.{◌≡◌, ℕ, suc, ◌≤◌, Bool, true, false, List, [], ◌∷◌, ◌++◌, Option, Some, None, refl, ap, sym, ◌∙◌, subst, IsTrue, not, ◌&&◌}
+use Rattle.std.specs.Prelude.{option_map}
+use Rattle.c_spec.specs.declared.token.Keyword.TheVariants.{Void}
+use Rattle.c_spec.specs.Lexical.{Placed, Token}
+use Rattle.c_tree_spec.specs.Expression as tree
+use Rattle.c_grammar_spec.specs.Leaves.{Leaf, plain, word, marks, first_place}
+use Rattle.c_grammar_spec.specs.Expressions as grammar
+use Rattle.exact_read.specs.Reading.{plains, Stops}
+use Rattle.exact_read.specs.Grammar.{anything, Map, Then, nothing}
+use Rattle.c_expression_reader.specs.Readers.{Readers}
+use Rattle.c_expression_reader.specs.Types.{Head, HeadVoid, head_of}
+use Rattle.c_type_reader.specs.Endings.{Ending, WordsAround, goes_on_with, base_ending, ending, SpecifiersEnd, stop_specifiers}
+use Rattle.c_type_reader.specs.Rich.{Ended}
+use Rattle.c_type_reader.specs.Specified.{first_at, ending_behind, rich_specified}
+use Rattle.c_type_reader.proofs.Tokens.{leaves_of, unless_read}
+use Rattle.c_type_reader.proofs.Bases.{stop_ended, BaseText, text_base, base_text}
+use Rattle.c_type_reader.proofs.Specifiers.{Around}
+use Rattle.role_read.proofs.Basics.{roled-same, roled-stop}
+use Rattle.role_read.proofs.Then.{roled-then}
+use Rattle.c_expression_roles.specs.Firm.{Firm}
+use Rattle.c_expression_roles.proofs.Firm.{firm-map}
+use Rattle.c_declarator_roles.specs.Exactness.{Whole}
+use Rattle.c_declarator_roles.proofs.Plain.{roled-tokens}
+use Rattle.std.specs.Option.{is_some}
+use Rattle.c_type_roles.proofs.Members.{Inside}
+use Rattle.c_type_roles.proofs.Bases.{roled-base}
+
+abbrev Made : (X : Type 0) → Type 0
+Made X = List X × (((Head × ℕ) × Ended) × List X)
+
+abbrev SpecifiedText : {X : Type 0} → (spell : X → Placed) → (names : List (List ℕ)) → (depth : ℕ) → Made X → List Leaf → Type 0
+SpecifiedText {X} spell names depth = Then (λ (xs : List X) text. text ≡ leaves_of spell xs) (λ _. Then (BaseText names depth) (λ _ (xs : List X) text. text ≡ leaves_of spell xs))
+
+abbrev made_specifiers : {X : Type 0} → (spell : X → Placed) → (storage : List X → tree.Storage) → Made X → tree.Specifiers × Ending
+made_specifiers spell storage made = (tree.Specified (grammar.both (storage made.0) (storage made.1.1)) made.1.0.1.0 (first_at spell made.0 made.1.0.0.1), ending_behind made.1.1 made.1.0.1.1)
+
+-- as the grammar has them
+first_same : {X : Type 0} (spell : X → Placed) (xs : List X) (leaf : Leaf) (more : List Leaf) (place : ℕ) → leaf.token.offset ≡ place → first_place (leaves_of spell xs ++ leaf ∷ more) ≡ first_at spell xs place
+first_same spell [] leaf more place e = e
+first_same spell (x ∷ xs) leaf more place e = refl
+
+behind_same : {X : Type 0} (spell : X → Placed) (base : tree.Base) (middle : List Leaf) (xs : List X) (e : Ending) → e ≡ base_ending base middle → ending_behind xs e ≡ ending base middle (leaves_of spell xs)
+behind_same spell base middle [] e same = same
+behind_same spell base middle (x ∷ xs) e same = refl
+
+text_specifiers : {X : Type 0} {position : grammar.Position} {class : Placed → Option X} {test : Token → Bool} {spell : X → Placed} {storage : List X → tree.Storage} → Around position class test spell storage → (names : List (List ℕ)) (depth : ℕ) (pair : tree.Specifiers × Ending) (text : List Leaf)
+    → Map (made_specifiers spell storage) (SpecifiedText spell names depth) pair text → SpecifiersEnd names position depth pair.0 pair.1 text
+text_specifiers {X} {position} {class} {test} {spell} {storage} around names depth pair text m =
+    let t = m.spells in
+    let u = t.second in
+    let made = m.inner in
+    let b = text_base names depth made.1.0 u.left u.first in
+    let place : first_place (t.left ++ u.left) ≡ first_at spell made.0 made.1.0.0.1 =
+    ap first_place (ap (λ l. l ++ u.left) t.first ∙ ap (λ l. leaves_of spell made.0 ++ l) b.cut) ∙ first_same spell made.0 b.leaf b.more made.1.0.0.1 b.there in
+    subst (λ (p : tree.Specifiers × Ending). SpecifiersEnd names position depth p.0 p.1 text) (sym m.is)
+    (record {
+      one = storage made.0;
+      two = storage made.1.1;
+      base = made.1.0.1.0;
+      before = t.left;
+      middle = u.left;
+      after = u.right;
+      words_before = subst (grammar.Words position (storage made.0)) (sym t.first) (around.to_words made.0);
+      is_base = b.end.spells;
+      words_after = subst (grammar.Words position (storage made.1.1)) (sym u.second) (around.to_words made.1.1);
+      is = ap (λ p. tree.Specified (grammar.both (storage made.0) (storage made.1.1)) made.1.0.1.0 p) (sym place);
+      cut = t.cut ∙ ap (λ l. t.left ++ l) u.cut;
+      is_end = behind_same spell made.1.0.1.0 u.left made.1.1 made.1.0.1.1 b.end.is ∙ ap (λ l. ending made.1.0.1.0 u.left l) (sym u.second);
+    })
+
+specifiers_text : {X : Type 0} {position : grammar.Position} {class : Placed → Option X} {test : Token → Bool} {spell : X → Placed} {storage : List X → tree.Storage} → Around position class test spell storage → (names : List (List ℕ)) (depth : ℕ) (pair : tree.Specifiers × Ending) (text : List Leaf)
+    → SpecifiersEnd names position depth pair.0 pair.1 text → Map (made_specifiers spell storage) (SpecifiedText spell names depth) pair text
+specifiers_text {X} {position} {class} {test} {spell} {storage} around names depth pair text h =
+    let f = around.from_words h.one h.before h.words_before in
+    let g = around.from_words h.two h.after h.words_after in
+    let b = base_text names depth h.base h.middle h.is_base in
+    let at = text_base names depth (b.head, (h.base, base_ending h.base h.middle)) h.middle b.spells in
+    let place : first_place (h.before ++ h.middle) ≡ first_at spell f.0 b.head.1 =
+    ap first_place (ap (λ l. l ++ h.middle) f.1.0 ∙ ap (λ l. leaves_of spell f.0 ++ l) at.cut) ∙ first_same spell f.0 at.leaf at.more b.head.1 at.there in
+    record {
+      inner = (f.0, ((b.head, (h.base, base_ending h.base h.middle)), g.0));
+      is = pair_same (h.is ∙ same_specified f.1.1 g.1.1 place) (h.is_end ∙ ap (λ l. ending h.base h.middle l) g.1.0 ∙ sym (behind_same spell h.base h.middle g.0 (base_ending h.base h.middle) refl));
+      spells = record { left = h.before; right = h.middle ++ h.after; cut = h.cut; first = f.1.0; second = record { left = h.middle; right = h.after; cut = refl; first = b.spells; second = g.1.0 } };
+    }
+  where
+    same_specified : {a b c d : tree.Storage} {base : tree.Base} {p q : ℕ} → a ≡ c → b ≡ d → p ≡ q → tree.Specified (grammar.both a b) base p ≡ tree.Specified (grammar.both c d) base q
+    same_specified x y z = rw (x, y, z) refl
+
+    pair_same : {a b : tree.Specifiers} {e f : Ending} → a ≡ b → e ≡ f → ◌≡◌ {A = tree.Specifiers × Ending} (a, e) (b, f)
+    pair_same p q = rw (p, q) refl
+
+-- they are read exactly
+and-true-left : (a b : Bool) → a ≡ true → IsTrue b → IsTrue (a && b)
+and-true-left true b e h = h
+and-true-left false b e h = absurd (cc)
+
+and-first : (a b : Bool) → IsTrue (a && b) → IsTrue a
+and-first true b h = refl
+and-first false b h = absurd (cc)
+
+and-swapped : (a b : Bool) → (a && b) ≡ (b && a)
+and-swapped true true = refl
+and-swapped true false = refl
+and-swapped false true = refl
+and-swapped false false = refl
+
+unless_true : {X : Type 0} (xs : List X) (t : Placed) → unless_read xs anything t ≡ true
+unless_true [] t = refl
+unless_true (x ∷ xs) t = refl
+
+raw_stop : {X : Type 0} (test : Token → Bool) (e : Ending) (xs : List X) (t : Placed) → (unless_read xs (λ t. not (goes_on_with e t.token)) t && not (test t.token)) ≡ (not (test t.token) && not (goes_on_with (ending_behind xs e) t.token))
+raw_stop test e [] t = and-swapped (not (goes_on_with e t.token)) (not (test t.token))
+raw_stop test e (x ∷ xs) t = and-swapped true (not (test t.token))
+
+pub roled-specified : {X : Type 0} {position : grammar.Position} {class : Placed → Option X} {test : Token → Bool} {spell : X → Placed} {storage : List X → tree.Storage} → Around position class test spell storage → ((t : Placed) → test t.token ≡ true → is_some (class t) ≡ true) → (names : List (List ℕ)) (inner : Readers) (depth : ℕ)
+    → (suc depth ≤ 128 → Whole names inner (suc depth)) → Whole names inner depth → Inside names inner depth
+    → Firm anything (λ (pair : tree.Specifiers × Ending). SpecifiersEnd names position depth pair.0 pair.1) (λ (pair : tree.Specifiers × Ending). stop_specifiers test pair.0 pair.1) (rich_specified class test spell storage names inner depth)
+roled-specified {X} {position} {class} {test} {spell} {storage} around found names inner depth deeper whole inside =
+    roled-same anything (λ (pair : tree.Specifiers × Ending). SpecifiersEnd names position depth pair.0 pair.1) (rich_specified class test spell storage names inner depth) (λ t h. h) (text_specifiers around names depth) (specifiers_text around names depth) (λ tokens. refl)
+    (firm-map (made_specifiers spell storage) (λ (pair : tree.Specifiers × Ending). stop_specifiers test pair.0 pair.1) (λ made. refl)
+    (roled-stop (λ (made : Made X) t. not (test t.token) && not (goes_on_with (ending_behind made.1.1 made.1.0.1.1) t.token)) (λ made text one t. raw_stop test made.1.0.1.1 made.1.1 t)
+    (roled-then (roled-tokens around.kind found anything)
+    (λ xs. roled-then (roled-base names inner depth (λ t. unless_read xs anything t && not (test t.token)) deeper whole inside) (λ made. roled-tokens around.kind found (stop_ended made.1))
+    record {
+      ends = λ made ys left right rest one two stops. base_ends made.1 ys right rest two stops;
+      goes_on = λ made left one. ([], [], refl);
+    })
+    record {
+      ends = λ xs y left right rest one two stops. around_ends xs y.0 two.left two.right right rest two.cut two.first;
+      goes_on = λ xs left one. ((((HeadVoid, 0), (tree.Void, WordsAround)), []), plain (word Void 0) ∷ [], record { left = plain (word Void 0) ∷ []; right = []; cut = refl; first = record { left = plain (word Void 0) ∷ []; right = []; cut = refl; first = record { token = word Void 0; is = refl; cut = refl }; second = nothing }; second = refl });
+    })))
+  where
+    base_ends : (x : Ended) (ys : List X) (right : List Leaf) (rest : List Placed) → right ≡ leaves_of spell ys → Stops (λ t. unless_read ys (stop_ended x) t && not (test t.token)) rest → Stops (stop_ended x) (plains marks right ++ rest)
+    base_ends x ys right rest cut stops = subst (λ r. Stops (stop_ended x) (plains marks r ++ rest)) (sym cut) (by_words ys rest stops)
+      where
+        by_words : (ys : List X) (rest : List Placed) → Stops (λ t. unless_read ys (stop_ended x) t && not (test t.token)) rest → Stops (stop_ended x) (plains marks (leaves_of spell ys) ++ rest)
+        by_words [] [] stops = tt
+        by_words [] (t ∷ rest) stops = and-first (stop_ended x t) (not (test t.token)) stops
+        by_words (y ∷ ys) rest stops = rw (around.ends_base y x.1) refl
+
+    head_some : (names : List (List ℕ)) (k : Token) (o : ℕ) (h : Head × ℕ) → option_map (λ (head : Head). (head, o)) (head_of names k o) ≡ Some h → (head : Head) × (head_of names k o ≡ Some head)
+    head_some names k o h e = by_head (head_of names k o) refl e
+      where
+        by_head : (f : Option Head) → head_of names k o ≡ f → option_map (λ (head : Head). (head, o)) f ≡ Some h → (head : Head) × (head_of names k o ≡ Some head)
+        by_head None g e = absurd (cc)
+        by_head (Some head) g e = (head, g)
+
+    around_ends : (xs : List X) (made : (Head × ℕ) × Ended) (left more right : List Leaf) (rest : List Placed) → right ≡ left ++ more → BaseText names depth made left → Stops (λ t. unless_read xs anything t && not (test t.token)) (plains marks right ++ rest)
+    around_ends xs made left more right rest cut b =
+        let o = b.first in
+        let h = head_some names o.token.token o.token.offset made.0 o.is in
+        let no : test o.token.token ≡ false = around.no_head names o.token.token o.token.offset h.0 h.1 in
+        subst (λ r. Stops (λ t. unless_read xs anything t && not (test t.token)) (plains marks r ++ rest)) (sym (cut ∙ ap (λ l. l ++ more) (b.cut ∙ ap (λ l. l ++ b.right) o.cut)))
+        (and-true-left (unless_read xs anything o.token) (not (test o.token.token)) (unless_true xs o.token) (rw no refl))

@@ -1,0 +1,177 @@
+-- Types with the bracket behind them keep roles.
+use Rattle.std.proofs.Common.{◌≡◌, ℕ, zero, suc, ◌≤◌, Bool, true, false, List, [], ◌∷◌, ◌++◌, Some, Ok, Err, refl, ap, ◌∙◌, IsTrue, not, ◌&&◌}
+use Rattle.c_spec.specs.declared.token.Keyword.TheVariants.{Const}
+use Rattle.c_spec.specs.declared.token.Punctuator.TheVariants as punctuator
+use Rattle.c_spec.specs.Lexical.{Placed, Token, Name as name_token, Word, Number as number_token, Character as character_token, Mark}
+use Rattle.c_tree_spec.specs.Expression as tree
+use Rattle.c_grammar_spec.specs.declared.Role.{Role}
+use Rattle.c_grammar_spec.specs.declared.Role.TheVariants.{Nothing}
+use Rattle.c_grammar_spec.specs.Leaves.{Leaf, plain, mark, word, marks}
+use Rattle.c_grammar_spec.specs.Expressions as grammar
+use Rattle.exact_read.specs.Reading.{Outcome, plains, Stops}
+use Rattle.exact_read.specs.Grammar.{bind, anything, Map, Then, read_then, read_map}
+use Rattle.c_expression_reader.specs.Classes.{is_mark, mark_place}
+use Rattle.c_expression_reader.specs.Exactness.{Closed}
+use Rattle.c_expression_reader.specs.Readers.{Readers, token, before}
+use Rattle.c_expression_reader.specs.Types.{Head, head_of, is_const, const_place, no_storage, first_or, read_consts, read_base, read_pointer, read_specifiers, read_type_name}
+use Rattle.c_type_reader.specs.Endings.{Ending, WordsAround, BraceToo, WordsToo, goes_on_with, SpecifiersEnd, stop_specifiers}
+use Rattle.c_type_reader.specs.Specified.{first_at, read_specified, rich_specified}
+use Rattle.c_type_reader.proofs.Tokens.{leaves_of}
+use Rattle.c_type_reader.proofs.Pointers.{const_class, stop_pointer}
+use Rattle.c_type_reader.proofs.Members.{specified, with_end}
+use Rattle.c_type_reader.proofs.Specifiers.{Around, specified_same}
+use Rattle.c_type_reader.proofs.TypeNames.{word_ends}
+use Rattle.role_read.proofs.Basics.{roled-same}
+use Rattle.role_read.proofs.Then.{roled-then}
+use Rattle.c_expression_roles.specs.Firm.{Firm}
+use Rattle.c_expression_roles.proofs.Firm.{firm-map}
+use Rattle.c_expression_roles.proofs.Marks.{roled-closed}
+use Rattle.c_declarator_roles.specs.Beside.{FirmBeside}
+use Rattle.c_declarator_roles.specs.Exactness.{Whole}
+use Rattle.c_declarator_roles.proofs.Plain.{roled-pointer, const_found}
+use Rattle.c_type_roles.proofs.Members.{Inside}
+use Rattle.c_type_roles.proofs.Specifiers.{roled-specified}
+
+-- `const` around a base
+parts_of : (position : grammar.Position) (s : tree.Storage) (text : List Leaf) → grammar.Words position s text → position ≡ grammar.InPart → (xs : List ℕ) × ((text ≡ leaves_of (word Const) xs) × (s ≡ no_storage))
+parts_of position s text (grammar.none p) e = ([], (refl, refl))
+parts_of position s text (grammar.const p q t place h) e = let r = parts_of p q t h e in (place ∷ r.0, (ap (λ l. plain (word Const place) ∷ l) r.1.0, r.1.1))
+parts_of position s text (grammar.typedef q t place h) e = absurd (cc)
+parts_of position s text (grammar.extern q t place h) e = absurd (cc)
+parts_of position s text (grammar.inline q t place h) e = absurd (cc)
+parts_of position s text (grammar.static_item q t place h) e = absurd (cc)
+parts_of position s text (grammar.static_local q t place h) e = absurd (cc)
+
+const_words : (xs : List ℕ) → grammar.Words grammar.InPart no_storage (leaves_of (word Const) xs)
+const_words [] = grammar.none grammar.InPart
+const_words (x ∷ xs) = grammar.const grammar.InPart no_storage (leaves_of (word Const) xs) x (const_words xs)
+
+const_head : (names : List (List ℕ)) (k : Token) (o : ℕ) (h : Head) → head_of names k o ≡ Some h → is_const k ≡ false
+const_head names (Word Const) o h e = absurd (cc)
+const_head names (Word other) o h e = refl
+const_head names (name_token spelling) o h e = refl
+const_head names (number_token value type) o h e = refl
+const_head names (character_token value) o h e = refl
+const_head names (Mark p) o h e = refl
+
+around_part : Around grammar.InPart const_place is_const (word Const) (λ _. no_storage)
+around_part =
+    record {
+      kind = const_class;
+      to_words = const_words;
+      from_words = λ s text h. parts_of grammar.InPart s text h refl;
+      ends_base = λ x e. word_ends Const refl e;
+      no_head = const_head;
+    }
+
+map_pointwise : {X Y : Type 0} (f g : X → Y) → ((x : X) → f x ≡ g x) → (o : Outcome Placed Role X) → bind o (λ x r. Ok (f x, r)) ≡ bind {Y = Y} o (λ x r. Ok (g x, r))
+map_pointwise f g same (Ok (x, rest)) = ap (λ y. Ok (y, rest)) (same x)
+map_pointwise f g same (Err fault) = refl
+
+specifiers_same : (names : List (List ℕ)) (inner : Readers) (depth : ℕ) (tokens : List Placed) → read_specifiers names inner depth tokens ≡ read_specified const_place is_const (word Const) (λ _. no_storage) names inner depth tokens
+specifiers_same names inner depth tokens = map_pointwise first second same (read_then read_consts (λ _. read_then (read_base names inner depth) (λ _. read_consts)) tokens)
+  where
+    first : List ℕ × (((Head × ℕ) × tree.Base) × List ℕ) → tree.Specifiers
+    first made = tree.Specified no_storage made.1.0.1 (first_or made.0 made.1.0.0.1)
+
+    second : List ℕ × (((Head × ℕ) × tree.Base) × List ℕ) → tree.Specifiers
+    second made = tree.Specified (grammar.both no_storage no_storage) made.1.0.1 (first_at (word Const) made.0 made.1.0.0.1)
+
+    by_words : (xs : List ℕ) (place : ℕ) (base : tree.Base) → tree.Specified no_storage base (first_or xs place) ≡ tree.Specified (grammar.both no_storage no_storage) base (first_at (word Const) xs place)
+    by_words [] place base = refl
+    by_words (x ∷ xs) place base = refl
+
+    same : (made : List ℕ × (((Head × ℕ) × tree.Base) × List ℕ)) → first made ≡ second made
+    same made = by_words made.0 made.1.0.0.1 made.1.0.1
+
+pub roled-specifiers : (names : List (List ℕ)) (inner : Readers) (depth : ℕ) → (suc depth ≤ 128 → Whole names inner (suc depth)) → Whole names inner depth → Inside names inner depth
+    → FirmBeside anything (SpecifiersEnd names grammar.InPart depth) (stop_specifiers is_const) (read_specifiers names inner depth)
+roled-specifiers names inner depth deeper whole inside =
+    record {
+      both = rich_specified const_place is_const (word Const) (λ _. no_storage) names inner depth;
+      is = roled-specified around_part const_found names inner depth deeper whole inside;
+      same = λ tokens. specifiers_same names inner depth tokens ∙ specified_same const_place is_const (word Const) (λ _. no_storage) names inner depth tokens;
+    }
+
+-- a type and its bracket
+abbrev Typed : Type 0
+Typed = (tree.Specifiers × Ending) × ℕ
+
+abbrev TypedText : (names : List (List ℕ)) → (depth : ℕ) → Typed → List Leaf → Type 0
+TypedText names depth = Then (λ (pair : tree.Specifiers × Ending). SpecifiersEnd names grammar.InPart depth pair.0 pair.1) (λ _. grammar.Pointer)
+
+abbrev type_of : Typed → tree.TypeName
+type_of typed = tree.Pointers typed.0.0 typed.1
+
+text_type : (names : List (List ℕ)) (depth : ℕ) (type : tree.TypeName) (text : List Leaf) → Map type_of (Closed plain punctuator.RightParenthesis (TypedText names depth)) type text → Closed plain punctuator.RightParenthesis (grammar.TypeName names depth) type text
+text_type names depth type text m =
+    let c = m.spells in
+    let t = c.spells in
+    record { inside = c.inside; close = c.close; cut = c.cut; spells = rw (m.is, t.cut) (grammar.type_name depth m.inner.0.0 m.inner.1 t.left t.right (specified names grammar.InPart depth m.inner.0.0 m.inner.0.1 t.left t.first) t.second) }
+
+typed_by : (names : List (List ℕ)) (depth : ℕ) (type : tree.TypeName) (inside : List Leaf) → grammar.TypeName names depth type inside → (typed : Typed) × ((type ≡ type_of typed) × TypedText names depth typed inside)
+typed_by names depth type inside (grammar.type_name d s n left stars h k) =
+    let w = with_end names grammar.InPart d s left h in
+    (((s, w.end), n), (refl, record { left = left; right = stars; cut = refl; first = w.spells; second = k }))
+
+type_text : (names : List (List ℕ)) (depth : ℕ) (type : tree.TypeName) (text : List Leaf) → Closed plain punctuator.RightParenthesis (grammar.TypeName names depth) type text → Map type_of (Closed plain punctuator.RightParenthesis (TypedText names depth)) type text
+type_text names depth type text c =
+    let r = typed_by names depth type c.inside c.spells in
+    record { inner = r.0; is = r.1.0; spells = record { inside = c.inside; close = c.close; cut = c.cut; spells = r.1.1 } }
+
+type_closes : (typed : Typed) (close : ℕ) → IsTrue (stop_pointer (stop_specifiers is_const typed.0.0 typed.0.1) typed.1 (mark punctuator.RightParenthesis close))
+type_closes ((s, WordsAround), zero) close = refl
+type_closes ((s, BraceToo), zero) close = refl
+type_closes ((s, WordsToo words), zero) close = refl
+type_closes ((s, e), suc n) close = refl
+
+pub roled-type_name : (names : List (List ℕ)) (inner : Readers) (depth : ℕ) → (suc depth ≤ 128 → Whole names inner (suc depth)) → Whole names inner depth → Inside names inner depth
+    → Firm anything (Closed plain punctuator.RightParenthesis (grammar.TypeName names depth)) (λ _. anything) (before (read_type_name names inner depth) (token Nothing plain (mark_place punctuator.RightParenthesis)))
+roled-type_name names inner depth deeper whole inside =
+    roled-same anything (Closed plain punctuator.RightParenthesis (grammar.TypeName names depth)) (before (read_type_name names inner depth) (token Nothing plain (mark_place punctuator.RightParenthesis))) (λ t h. h) (text_type names depth) (type_text names depth) same
+    (firm-map type_of (λ _. anything) (λ x. refl)
+    (roled-closed {stop = λ (typed : Typed). stop_pointer (stop_specifiers is_const typed.0.0 typed.0.1) typed.1} punctuator.RightParenthesis Nothing plain (λ t. refl) (λ t. refl)
+    (roled-then spec.is (λ pair. roled-pointer (stop_specifiers is_const pair.0 pair.1))
+    record {
+      ends = λ pair n left right rest one two stops. pointer_ends pair.1 n right rest two stops;
+      goes_on = λ pair left one. (0, [], grammar.none);
+    })
+    type_closes))
+  where
+    spec : FirmBeside anything (SpecifiersEnd names grammar.InPart depth) (stop_specifiers is_const) (read_specifiers names inner depth)
+    spec = roled-specifiers names inner depth deeper whole inside
+
+    and-first : (a b : Bool) → IsTrue (a && b) → IsTrue a
+    and-first true b h = refl
+    and-first false b h = absurd (cc)
+
+    star_ends : (e : Ending) → IsTrue (not (is_const (Mark punctuator.Star)) && not (goes_on_with e (Mark punctuator.Star)))
+    star_ends WordsAround = refl
+    star_ends BraceToo = refl
+    star_ends (WordsToo words) = refl
+
+    pointer_ends : (e : Ending) (n : ℕ) (right : List Leaf) (rest : List Placed) → grammar.Pointer n right → Stops (stop_pointer (λ t. not (is_const t.token) && not (goes_on_with e t.token)) n) rest → Stops (λ t. not (is_const t.token) && not (goes_on_with e t.token)) (plains marks right ++ rest)
+    pointer_ends e n right [] grammar.none stops = tt
+    pointer_ends e n right (t ∷ rest) grammar.none stops = and-first (not (is_const t.token) && not (goes_on_with e t.token)) (not (is_mark punctuator.Star t.token)) stops
+    pointer_ends e n right rest (grammar.star m place consts text h k) stops = star_ends e
+
+    by_close : (p : tree.Specifiers × Ending) (n : ℕ) (o : Outcome Placed Role ℕ) → bind {Y = tree.TypeName} o (λ _ after. Ok (tree.Pointers p.0 n, after)) ≡ bind {X = Typed} (bind o (λ _ after. Ok ((p, n), after))) (λ typed r. Ok (type_of typed, r))
+    by_close p n (Ok (place, rest)) = refl
+    by_close p n (Err fault) = refl
+
+    by_pointer : (p : tree.Specifiers × Ending) (o : Outcome Placed Role ℕ)
+        → bind {Y = tree.TypeName} (bind {X = tree.Specifiers × ℕ} (bind o (λ n after. Ok ((p.0, n), after))) (λ pair r. Ok (tree.Pointers pair.0 pair.1, r))) (λ type rest. bind (token Nothing plain (mark_place punctuator.RightParenthesis) rest) (λ _ after. Ok (type, after)))
+        ≡ bind {X = Typed} (bind {X = Typed} {Y = Typed} (bind o (λ n after. Ok ((p, n), after))) (λ typed rest. bind (token Nothing plain (mark_place punctuator.RightParenthesis) rest) (λ _ after. Ok (typed, after)))) (λ typed r. Ok (type_of typed, r))
+    by_pointer p (Ok (n, rest)) = by_close p n (token Nothing plain (mark_place punctuator.RightParenthesis) rest)
+    by_pointer p (Err fault) = refl
+
+    by_specifiers : (o : Outcome Placed Role (tree.Specifiers × Ending))
+        → bind {Y = tree.TypeName} (bind {X = tree.Specifiers × ℕ} (bind {X = tree.Specifiers} (bind o (λ (p : tree.Specifiers × Ending) r. Ok (p.0, r))) (λ s rest. bind (read_pointer rest) (λ n after. Ok ((s, n), after)))) (λ pair r. Ok (tree.Pointers pair.0 pair.1, r))) (λ type rest. bind (token Nothing plain (mark_place punctuator.RightParenthesis) rest) (λ _ after. Ok (type, after)))
+        ≡ bind {X = Typed} (bind {X = Typed} {Y = Typed} (bind o (λ p rest. bind (read_pointer rest) (λ n after. Ok ((p, n), after)))) (λ typed rest. bind (token Nothing plain (mark_place punctuator.RightParenthesis) rest) (λ _ after. Ok (typed, after)))) (λ typed r. Ok (type_of typed, r))
+    by_specifiers (Ok (p, rest)) = by_pointer p (read_pointer rest)
+    by_specifiers (Err fault) = refl
+
+    same : (tokens : List Placed) → before (read_type_name names inner depth) (token Nothing plain (mark_place punctuator.RightParenthesis)) tokens ≡ read_map type_of (before (read_then spec.both (λ _. read_pointer)) (token Nothing plain (mark_place punctuator.RightParenthesis))) tokens
+    same tokens =
+        ap (λ (o : Outcome Placed Role tree.Specifiers). bind {Y = tree.TypeName} (bind {X = tree.Specifiers × ℕ} (bind o (λ s rest. bind (read_pointer rest) (λ n after. Ok ((s, n), after)))) (λ pair r. Ok (tree.Pointers pair.0 pair.1, r))) (λ type rest. bind (token Nothing plain (mark_place punctuator.RightParenthesis) rest) (λ _ after. Ok (type, after)))) (spec.same tokens)
+        ∙ by_specifiers (spec.both tokens)

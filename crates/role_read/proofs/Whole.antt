@@ -1,0 +1,120 @@
+-- Whole inputs: what is asked where one is wrong, and that a fault is unique.
+use Rattle.std.proofs.Common.{◌≡◌, inl, inr, Bool, true, false, List, [], ◌∷◌, ◌++◌, Result, Ok, Err, refl, ap, sym, ◌∙◌, subst, append-nil, append_assoc}
+use Rattle.std.proofs.lemmas.List.{append_cancel_right}
+use Rattle.exact_read.specs.Reading.{Fault, Wrong, Outcome, Reader, Marks, plains, Within}
+use Rattle.exact_read.specs.Exact.{IsDeep}
+use Rattle.exact_read.specs.Whole.{IsWrongAt}
+use Rattle.exact_read.specs.Grammar.{anything, at_end, read_whole}
+use Rattle.exact_read.proofs.Basics.{plains-append, ok, err, err_parts}
+use Rattle.exact_read.proofs.Parts.{stops_anything}
+use Rattle.role_read.specs.Roles.{Roles, Asked, IsAsked, Roled, silent}
+use Rattle.role_read.proofs.Lists.{Cut, inside, beyond, cut_of, plain_cut, within_left, within_right}
+use Rattle.role_read.proofs.Fronts.{Alike}
+
+-- how a whole input is called wrong
+data WholeWrong {T K X : Type 0} (kind : K) (read : Reader T K X) (tokens : List T) (wrong : K) (rest : List T) : Type 0 where
+  behind : (x : X) → read tokens ≡ ok x rest → wrong ≡ kind → WholeWrong kind read tokens wrong rest
+  in_part : read tokens ≡ err {X = X} (Wrong wrong) rest → WholeWrong kind read tokens wrong rest
+
+whole_wrong : {T K X : Type 0} (kind : K) (read : Reader T K X) (tokens : List T) (wrong : K) (rest : List T) → read_whole kind read tokens ≡ Err (Wrong wrong, rest) → WholeWrong kind read tokens wrong rest
+whole_wrong {T} {K} {X} kind read tokens wrong rest e = by_outcome (read tokens) refl e
+  where
+    fault : Fault K × List T → Result X (Fault K × List T)
+    fault pair = Err pair
+
+    by_outcome : (o : Outcome T K X) → read tokens ≡ o → at_end kind o ≡ Err (Wrong wrong, rest) → WholeWrong kind read tokens wrong rest
+    by_outcome (Ok (x, [])) f e = absurd (cc)
+    by_outcome (Ok (x, token ∷ more)) f e =
+        let p = err_parts {X = X} (err_of e) in
+        let k : Wrong kind ≡ Wrong wrong = p.0 in
+        behind x (f ∙ ap (λ r. ok x r) p.1) (cc)
+      where
+        err_of : at_end {X = X} kind (ok x (token ∷ more)) ≡ Err (Wrong wrong, rest) → err {X = X} (Wrong kind) (token ∷ more) ≡ err {X = X} (Wrong wrong) rest
+        err_of e = let a : Fault K × List T = (Wrong kind, token ∷ more) in let b : Fault K × List T = (Wrong wrong, rest) in let p : a ≡ b = cc in ap (λ (q : Fault K × List T). Err q) p
+    by_outcome (Err (fault, more)) f e = in_part (f ∙ err_same e)
+      where
+        err_same : at_end {X = X} kind (err {X = X} fault more) ≡ Err (Wrong wrong, rest) → err {X = X} fault more ≡ err {X = X} (Wrong wrong) rest
+        err_same e = let a : Fault K × List T = (fault, more) in let b : Fault K × List T = (Wrong wrong, rest) in let p : a ≡ b = cc in ap (λ (q : Fault K × List T). Err q) p
+
+-- the kind that a reader of whole inputs calls a wrong token by is what is awaited there
+pub whole_asks : {T U K X : Type 0} {marks : Marks T U} {roles : Roles U K} {S : X → List U → Type 0} {stop : X → T → Bool} {Loose : Type 0} {read : Reader T K X} → Roled marks roles anything S stop (silent roles) Loose read
+    → (tokens : List T) (kind : K) (rest : List T) → read_whole roles.none read tokens ≡ Err (Wrong kind, rest) → IsAsked marks roles S tokens kind rest
+whole_asks {T} {U} {K} {X} {marks} {roles} {S} {stop} {Loose} {read} is tokens kind rest e = by_wrong (whole_wrong roles.none read tokens kind rest e)
+  where
+    by_wrong : WholeWrong roles.none read tokens kind rest → IsAsked marks roles S tokens kind rest
+    by_wrong (behind x f k) =
+        let t = is.exact.takes tokens x rest (stops_anything tokens) f in
+        record {
+          front = t.text;
+          cut = t.cut;
+          within = t.within;
+          value = x;
+          more = [];
+          spells = subst (S x) (sym (append-nil t.text)) t.spells;
+          asked = record {
+            agreed = λ u n. elim (is.tells x t.text u t.spells t.within (stops_anything (plains marks t.text)) n) [ inl h ↦ inr h | inr h ↦ inr h ];
+            asked = inl k;
+          };
+        }
+    by_wrong (in_part f) = is.asks tokens kind rest (stops_anything tokens) f
+
+-- the same, for the tokens before
+pub whole_asked : {T U K X : Type 0} {marks : Marks T U} {roles : Roles U K} {S : X → List U → Type 0} {stop : X → T → Bool} {Loose : Type 0} {read : Reader T K X} → Roled marks roles anything S stop (silent roles) Loose read
+    → (front : List T) (kind : K) (rest : List T) → read_whole roles.none read (front ++ rest) ≡ Err (Wrong kind, rest) → Asked marks roles S front kind
+whole_asked {marks = marks} {roles = roles} {S = S} is front kind rest e =
+    let a = whole_asks is (front ++ rest) kind rest e in
+    subst (λ f. Asked marks roles S f kind) (sym (append_cancel_right front (plains marks a.front) rest a.cut)) a.asked
+
+-- where a token is wrong, and where too much is open: one place
+pub wrong_once : {T U X : Type 0} {marks : Marks T U} {S : X → List U → Type 0} (tokens one two : List T) → IsWrongAt marks S tokens one → IsWrongAt marks S tokens two → one ≡ two
+wrong_once {T} {U} {X} {marks} {S} tokens one two a b = by_cut (cut_of (plains marks a.front) one (plains marks b.front) two (sym a.cut ∙ b.cut))
+  where
+    -- the tokens of a text before `rest` go on with it no further
+    stands : (front : List U) (rest : List T) → tokens ≡ plains marks front ++ rest → (x : X) (long more : List U) → S x (long ++ more) → (t : T) (middle : List T) → plains marks long ≡ plains marks front ++ t ∷ middle → (old : List T) → rest ≡ t ∷ old
+        → ((value : X) (text : List U) (token : T) (old new : List T) → S value text → rest ≡ token ∷ old → plains marks text ≡ plains marks front ++ token ∷ new → ⊥) → ⊥
+    stands front rest cut x long more spells t middle longer old here none =
+        none x (long ++ more) t old (middle ++ plains marks more) spells here (plains-append marks long more ∙ ap (λ l. l ++ plains marks more) longer ∙ append_assoc (plains marks front) (t ∷ middle) (plains marks more))
+
+    by_cut : Cut (plains marks a.front) one (plains marks b.front) two → one ≡ two
+    by_cut (inside [] c d) = d
+    by_cut (inside (t ∷ middle) c d) = absurd (stands a.front one a.cut b.value b.front b.more b.spells t middle c (middle ++ two) d a.none.at_token)
+    by_cut (beyond t middle c d) = absurd (stands b.front two b.cut a.value a.front a.more a.spells t middle c (middle ++ one) d b.none.at_token)
+
+-- a leaf at which too much is open stands in no front that is within
+over_within : {T U : Type 0} (marks : Marks T U) (front : List U) (last : U) → marks.over last ≡ true → Within marks (front ++ last ∷ []) → ⊥
+over_within marks front last over w = let h : marks.over last ≡ false = (within_right marks front (last ∷ []) w).0 in let e : true ≡ false = sym over ∙ h in cc
+
+-- where a text that is within goes on behind a token, too much is not open there
+past_deep : {T U X : Type 0} {marks : Marks T U} (S : X → List U → Type 0) → Alike marks anything S → (x y : X) (front more deep after : List U) (last : U) (t : T) (middle : List T) → S x (front ++ more) → S y (deep ++ last ∷ after) → Within marks front → marks.over last ≡ true → plains marks front ≡ plains marks deep ++ t ∷ middle → t ≡ marks.plain last → ⊥
+past_deep {marks = marks} S alike x y front more deep after last t middle one two within over longer same =
+    let whole : plains marks front ≡ plains marks (deep ++ last ∷ []) ++ middle =
+    longer ∙ ap (λ h. plains marks deep ++ h ∷ middle) same ∙ sym (append_assoc (plains marks deep) (marks.plain last ∷ []) middle) ∙ ap (λ l. l ++ middle) (sym (plains-append marks deep (last ∷ []))) in
+    let p = plain_cut marks front (plains marks (deep ++ last ∷ [])) middle whole in
+    over_within marks deep last over
+    (alike x y p.first (p.second ++ more) (deep ++ last ∷ []) after
+    (subst (S x) (ap (λ l. l ++ more) p.cut ∙ append_assoc p.first p.second more) one)
+    (subst (S y) (sym (append_assoc deep (last ∷ []) after)) two)
+    p.is_left (within_left marks p.first p.second (subst (Within marks) p.cut within)) (stops_anything (plains marks p.first)))
+
+pub deep_or_wrong : {T U X : Type 0} {marks : Marks T U} {S : X → List U → Type 0} → Alike marks anything S → (tokens one two : List T) → IsWrongAt marks S tokens one → IsDeep marks S tokens two → ⊥
+deep_or_wrong {T} {U} {X} {marks} {S} alike tokens one two a d = by_cut (cut_of (plains marks a.front) one (plains marks d.front) two (sym a.cut ∙ d.cut))
+  where
+    whole : plains marks (d.front ++ d.last ∷ d.more) ≡ plains marks d.front ++ marks.plain d.last ∷ plains marks d.more
+    whole = plains-append marks d.front (d.last ∷ d.more)
+
+    by_cut : Cut (plains marks a.front) one (plains marks d.front) two → ⊥
+    by_cut (inside [] e f) = a.none.at_token d.value (d.front ++ d.last ∷ d.more) (marks.plain d.last) d.behind (plains marks d.more) d.spells (f ∙ d.here) (whole ∙ ap (λ l. l ++ marks.plain d.last ∷ plains marks d.more) (e ∙ append-nil (plains marks a.front)))
+    by_cut (inside (t ∷ middle) e f) =
+        a.none.at_token d.value (d.front ++ d.last ∷ d.more) t (middle ++ two) (middle ++ marks.plain d.last ∷ plains marks d.more) d.spells f
+        (whole ∙ ap (λ l. l ++ marks.plain d.last ∷ plains marks d.more) e ∙ append_assoc (plains marks a.front) (t ∷ middle) (marks.plain d.last ∷ plains marks d.more))
+    by_cut (beyond t middle e f) = past_deep S alike a.value d.value a.front a.more d.front d.more d.last t middle a.spells d.spells a.within d.over e (let h : t ∷ (middle ++ one) ≡ marks.plain d.last ∷ d.behind = sym f ∙ d.here in cc)
+
+pub deep_once : {T U X : Type 0} {marks : Marks T U} {S : X → List U → Type 0} → Alike marks anything S → (tokens one two : List T) → IsDeep marks S tokens one → IsDeep marks S tokens two → one ≡ two
+deep_once {T} {U} {X} {marks} {S} alike tokens one two a b = by_cut (cut_of (plains marks a.front) one (plains marks b.front) two (sym a.cut ∙ b.cut))
+  where
+    by_cut : Cut (plains marks a.front) one (plains marks b.front) two → one ≡ two
+    by_cut (inside [] e f) = f
+    by_cut (inside (t ∷ middle) e f) =
+        absurd (past_deep S alike b.value a.value b.front (b.last ∷ b.more) a.front a.more a.last t middle b.spells a.spells b.within a.over e (let h : t ∷ (middle ++ two) ≡ marks.plain a.last ∷ a.behind = sym f ∙ a.here in cc))
+    by_cut (beyond t middle e f) =
+        absurd (past_deep S alike a.value b.value a.front (a.last ∷ a.more) b.front b.more b.last t middle a.spells b.spells a.within b.over e (let h : t ∷ (middle ++ one) ≡ marks.plain b.last ∷ b.behind = sym f ∙ b.here in cc))

@@ -1,0 +1,53 @@
+-- What is awaited behind some tokens, and readers that tell it.
+use Rattle.std.specs.Prelude.{◌≡◌, ◌⊎◌, Bool, List, ◌∷◌, ◌++◌, Err}
+use Rattle.exact_read.specs.Reading.{Wrong, Reader, Marks, plains, Within, Stops}
+use Rattle.exact_read.specs.Exact.{Exact}
+
+-- the role of a token as it is placed, and the role that tells nothing
+pub record Roles (U K : Type 0) : Type 0 where
+  pub role : U → K
+  pub none : K
+
+-- behind the tokens `front` some text goes on with this
+pub record Next {T U X : Type 0} (marks : Marks T U) (S : X → List U → Type 0) (front : List T) (u : U) : Type 0 where
+  pub value : X
+  pub before : List U
+  pub more : List U
+  pub spells : S value (before ++ u ∷ more)
+  pub same : plains marks before ≡ front
+
+-- it has this role, or tells nothing
+abbrev pub Told : {U K : Type 0} → Roles U K → (u : U) → (kind : K) → Type 0
+Told roles u kind = (roles.role u ≡ kind) ⊎ (roles.role u ≡ roles.none)
+
+-- behind the tokens `front` this is awaited: whatever can stand there says so or tells nothing, and something says so
+pub record Asked {T U K X : Type 0} (marks : Marks T U) (roles : Roles U K) (S : X → List U → Type 0) (front : List T) (kind : K) : Type 0 where
+  pub agreed : (u : U) → Next marks S front u → Told roles u kind
+  pub asked : (kind ≡ roles.none) ⊎ ((u : U) × Next marks S front u × (roles.role u ≡ kind))
+
+-- a token is wrong, and its kind is what is awaited behind those before it
+pub record IsAsked {T U K X : Type 0} (marks : Marks T U) (roles : Roles U K) (S : X → List U → Type 0) (before : List T) (kind : K) (rest : List T) : Type 0 where
+  pub front : List U
+  pub cut : before ≡ plains marks front ++ rest
+  pub within : Within marks front
+  pub value : X
+  pub more : List U
+  pub spells : S value (front ++ more)
+  pub asked : Asked marks roles S (plains marks front) kind
+
+-- The reader is exact, and keeps roles. `ending` is what is told at the end of a value: by what can go on with a
+-- whole text of it. `Loose` says whether a token directly behind a whole text may be called wrong: it is ⊥ for most.
+pub record Roled {T U K X : Type 0} (marks : Marks T U) (roles : Roles U K) (entry : T → Bool) (S : X → List U → Type 0) (stop : X → T → Bool) (ending : X → K) (Loose : Type 0) (read : Reader T K X) : Type 0 where
+  pub exact : Exact marks entry S stop read
+  -- the kind of a wrong token is what is awaited there
+  pub asks : (before : List T) (kind : K) (rest : List T) → Stops entry before → read before ≡ Err (Wrong kind, rest) → IsAsked marks roles S before kind rest
+  -- what goes on inside a whole text tells the ending of its value, or nothing
+  pub tells : (value : X) (text : List U) (u : U) → S value text → Within marks text → Stops entry (plains marks text) → Next marks S (plains marks text) u → Told roles u (ending value)
+  -- directly behind a whole text no token is called wrong, or the reader is loose and nothing is awaited that tells more
+  pub firm : (value : X) (text : List U) (kind : K) (rest : List T) → S value text → Within marks text → Stops entry (plains marks text ++ rest) → read (plains marks text ++ rest) ≡ Err (Wrong kind, rest) → Loose × (kind ≡ roles.none)
+  -- where two texts begin with the same tokens, and in one too much is open at none of them, so it is in the other
+  pub alike : (x y : X) (one behind two after : List U) → S x (one ++ behind) → S y (two ++ after) → plains marks one ≡ plains marks two → Within marks one → Stops entry (plains marks one) → Within marks two
+
+-- nothing is told at the end of any value
+abbrev pub silent : {U K X : Type 0} → Roles U K → X → K
+silent roles value = roles.none
