@@ -1,0 +1,26 @@
+-- Values, expression statements and declarations of locals keep roles.
+use Rattle.std.proofs.Common.{ℕ, List}
+use Rattle.c_expression_reader.specs.Budget.{enough}
+use Rattle.c_expression_reader.specs.Readers.{Readers}
+use Rattle.c_expression_reader.specs.Turns.{readers}
+use Rattle.c_type_roles.specs.Exactness.{AllFirm}
+use Rattle.c_type_roles.proofs.Turned.{all-roled}
+use Rattle.c_declaration_roles.specs.Exactness.{DeclarationsFirm}
+use Rattle.c_declaration_roles.proofs.Values.{roled-value}
+use Rattle.c_declaration_roles.proofs.Simples.{roled-any_unary, roled-simple}
+use Rattle.c_declaration_roles.proofs.Around.{roled-local_specifiers, roled-item_specifiers}
+use Rattle.c_declaration_roles.proofs.Locals.{roled-locals}
+
+declarations_by : (names : List (List ℕ)) (inner : Readers) → AllFirm names inner → DeclarationsFirm names inner
+declarations_by names inner all =
+    record {
+      unary = roled-any_unary names inner all;
+      value = roled-value names inner all;
+      simple = roled-simple names inner all;
+      local_specifiers = roled-local_specifiers names inner all;
+      item_specifiers = roled-item_specifiers names inner all;
+      locals = roled-locals names inner all;
+    }
+
+pub declarations-roled : (names : List (List ℕ)) → DeclarationsFirm names (readers names enough)
+declarations-roled names = declarations_by names (readers names enough) (all-roled names)

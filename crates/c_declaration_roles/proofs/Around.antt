@@ -1,0 +1,179 @@
+-- Specifiers directly in a declaration of locals, and directly in an item, keep roles.
+use Rattle.std.proofs.Common.{true, ◌≡◌, ℕ, suc, false, List, [], ◌∷◌, Option, Some, None, refl, ap, ◌∙◌}
+use Rattle.std.specs.Prelude.{option_map}
+use Rattle.std.specs.Option.{is_some}
+use Rattle.c_spec.specs.declared.token.Keyword.{Keyword}
+use Rattle.c_spec.specs.declared.token.Keyword.TheVariants.{Const, Typedef, Extern, Static, Inline}
+use Rattle.c_spec.specs.Lexical.{Placed, Token, Name as name_token, Word, Number as number_token, Character as character_token, Mark}
+use Rattle.c_tree_spec.specs.Expression as tree
+use Rattle.c_grammar_spec.specs.Leaves.{Leaf, plain, word}
+use Rattle.c_grammar_spec.specs.Expressions as grammar
+use Rattle.exact_read.specs.Grammar.{anything}
+use Rattle.c_expression_reader.specs.Readers.{Readers}
+use Rattle.c_expression_reader.specs.Types.{Head, head_word, head_of}
+use Rattle.c_type_reader.specs.Endings.{SpecifiersEnd, stop_specifiers}
+use Rattle.c_type_reader.specs.Specified.{rich_specified}
+use Rattle.c_type_reader.proofs.IntegerWords.{six}
+use Rattle.c_type_reader.proofs.Tokens.{TokenClass, leaves_of}
+use Rattle.c_type_reader.proofs.TypeNames.{word_ends}
+use Rattle.c_type_reader.proofs.Specifiers.{Around, specified_same}
+use Rattle.c_declaration_reader.specs.Around.{LocalWord, LocalConst, LocalStatic, local_word, local_keyword, with_local, ItemWord, ItemConst, ItemTypedef, ItemExtern, ItemStatic, ItemInline, item_word, item_keyword, with_item, word_of, is_word, word_at, spell_word, storage_of, read_local_specifiers, read_item_specifiers}
+use Rattle.c_expression_roles.proofs.Marks.{some_value}
+use Rattle.c_declarator_roles.specs.Beside.{FirmBeside}
+use Rattle.c_type_roles.specs.Exactness.{AllFirm}
+use Rattle.c_type_roles.proofs.Specifiers.{roled-specified}
+
+-- a kind of words
+record Words {W : Type 0} (position : grammar.Position) (of : Keyword → Option W) (keyword : W → Keyword) (with : W → tree.Storage → tree.Storage) : Type 0 where
+  back : (k : Keyword) (w : W) → of k ≡ Some w → k ≡ keyword w
+  self : (w : W) → of (keyword w) ≡ Some w
+  sample : W
+  add : (w : W) (storage : tree.Storage) (text : List Leaf) (place : ℕ) → grammar.Words position storage text → grammar.Words position (with w storage) (plain (word (keyword w) place) ∷ text)
+  from : (s : tree.Storage) (text : List Leaf) → grammar.Words position s text → (xs : List (W × ℕ)) × ((text ≡ leaves_of (spell_word keyword) xs) × (s ≡ storage_of with xs))
+  other : (w : W) → six (keyword w) ≡ false
+  no_head : (k : Keyword) (h : Head) → head_word k ≡ Some h → of k ≡ None
+
+word_token : {W : Type 0} {position : grammar.Position} {of : Keyword → Option W} {keyword : W → Keyword} {with : W → tree.Storage → tree.Storage} → Words position of keyword with → (k : Token) (o : ℕ) (x : W × ℕ) → option_map (λ w. (w, o)) (word_of of k) ≡ Some x → record { token = k; offset = o } ≡ spell_word keyword x
+word_token {W} {position} {of} {keyword} words (Word w) o x e = by_word (of w) refl e
+  where
+    by_word : (f : Option W) → of w ≡ f → option_map (λ v. (v, o)) f ≡ Some x → word w o ≡ spell_word keyword x
+    by_word None g e = absurd (cc)
+    by_word (Some v) g e = let same : (v, o) ≡ x = cc in ap (λ q. word q o) (words.back w v g) ∙ ap (λ (p : W × ℕ). word (keyword p.0) p.1) same
+word_token words (name_token spelling) o x e = absurd (cc)
+word_token words (number_token value type) o x e = absurd (cc)
+word_token words (character_token value) o x e = absurd (cc)
+word_token words (Mark p) o x e = absurd (cc)
+
+words_class : {W : Type 0} {position : grammar.Position} {of : Keyword → Option W} {keyword : W → Keyword} {with : W → tree.Storage → tree.Storage} → Words position of keyword with → TokenClass (word_at of) (λ t. is_word of t.token) (spell_word keyword)
+words_class words =
+    record {
+      back = λ t x e. word_token words t.token t.offset x e;
+      self = λ x. ap (option_map (λ w. (w, x.1))) (words.self x.0);
+      passes = λ x. ap is_some (words.self x.0);
+      sample = (words.sample, 0);
+    }
+
+to_words : {W : Type 0} {position : grammar.Position} {of : Keyword → Option W} {keyword : W → Keyword} {with : W → tree.Storage → tree.Storage} → Words position of keyword with → (xs : List (W × ℕ)) → grammar.Words position (storage_of with xs) (leaves_of (spell_word keyword) xs)
+to_words {position = position} words [] = grammar.none position
+to_words {keyword = keyword} {with = with} words (x ∷ xs) = words.add x.0 (storage_of with xs) (leaves_of (spell_word keyword) xs) x.1 (to_words words xs)
+
+no_head : {W : Type 0} {position : grammar.Position} {of : Keyword → Option W} {keyword : W → Keyword} {with : W → tree.Storage → tree.Storage} → Words position of keyword with → (names : List (List ℕ)) (k : Token) (o : ℕ) (h : Head) → head_of names k o ≡ Some h → is_word of k ≡ false
+no_head words names (Word w) o h e = ap is_some (words.no_head w h e)
+no_head words names (name_token spelling) o h e = refl
+no_head words names (number_token value type) o h e = refl
+no_head words names (character_token value) o h e = refl
+no_head words names (Mark p) o h e = refl
+
+around : {W : Type 0} {position : grammar.Position} {of : Keyword → Option W} {keyword : W → Keyword} {with : W → tree.Storage → tree.Storage} → Words position of keyword with → Around position (word_at of) (is_word of) (spell_word keyword) (storage_of with)
+around words =
+    record {
+      kind = words_class words;
+      to_words = to_words words;
+      from_words = words.from;
+      ends_base = λ x e. word_ends _ (words.other x.0) e;
+      no_head = no_head words;
+    }
+
+-- those of locals
+local_back : (k : Keyword) (w : LocalWord) → local_word k ≡ Some w → k ≡ local_keyword w
+local_back Const w e = let same : LocalConst ≡ w = cc in ap local_keyword same
+local_back Static w e = let same : LocalStatic ≡ w = cc in ap local_keyword same
+local_back other w e = absurd (cc)
+
+local_self : (w : LocalWord) → local_word (local_keyword w) ≡ Some w
+local_self LocalConst = refl
+local_self LocalStatic = refl
+
+local_add : (w : LocalWord) (storage : tree.Storage) (text : List Leaf) (place : ℕ) → grammar.Words grammar.InLocal storage text → grammar.Words grammar.InLocal (with_local w storage) (plain (word (local_keyword w) place) ∷ text)
+local_add LocalConst storage text place h = grammar.const grammar.InLocal storage text place h
+local_add LocalStatic storage text place h = grammar.static_local storage text place h
+
+local_from : (position : grammar.Position) (s : tree.Storage) (text : List Leaf) → grammar.Words position s text → position ≡ grammar.InLocal → (xs : List (LocalWord × ℕ)) × ((text ≡ leaves_of (spell_word local_keyword) xs) × (s ≡ storage_of with_local xs))
+local_from position s text (grammar.none p) e = ([], (refl, refl))
+local_from position s text (grammar.const p q t place h) e = let r = local_from p q t h e in ((LocalConst, place) ∷ r.0, (ap (λ l. plain (word Const place) ∷ l) r.1.0, r.1.1))
+local_from position s text (grammar.static_local q t place h) e = let r = local_from grammar.InLocal q t h e in ((LocalStatic, place) ∷ r.0, (ap (λ l. plain (word Static place) ∷ l) r.1.0, ap (with_local LocalStatic) r.1.1))
+local_from position s text (grammar.typedef q t place h) e = absurd (cc)
+local_from position s text (grammar.extern q t place h) e = absurd (cc)
+local_from position s text (grammar.inline q t place h) e = absurd (cc)
+local_from position s text (grammar.static_item q t place h) e = absurd (cc)
+
+local_other : (w : LocalWord) → six (local_keyword w) ≡ false
+local_other LocalConst = refl
+local_other LocalStatic = refl
+
+local_no_head : (k : Keyword) (h : Head) → head_word k ≡ Some h → local_word k ≡ None
+local_no_head Const h e = absurd (cc)
+local_no_head Static h e = absurd (cc)
+local_no_head other h e = refl
+
+-- those of items
+item_back : (k : Keyword) (w : ItemWord) → item_word k ≡ Some w → k ≡ item_keyword w
+item_back Const w e = let same : ItemConst ≡ w = cc in ap item_keyword same
+item_back Typedef w e = let same : ItemTypedef ≡ w = cc in ap item_keyword same
+item_back Extern w e = let same : ItemExtern ≡ w = cc in ap item_keyword same
+item_back Static w e = let same : ItemStatic ≡ w = cc in ap item_keyword same
+item_back Inline w e = let same : ItemInline ≡ w = cc in ap item_keyword same
+item_back other w e = absurd (cc)
+
+item_self : (w : ItemWord) → item_word (item_keyword w) ≡ Some w
+item_self ItemConst = refl
+item_self ItemTypedef = refl
+item_self ItemExtern = refl
+item_self ItemStatic = refl
+item_self ItemInline = refl
+
+item_add : (w : ItemWord) (storage : tree.Storage) (text : List Leaf) (place : ℕ) → grammar.Words grammar.InItem storage text → grammar.Words grammar.InItem (with_item w storage) (plain (word (item_keyword w) place) ∷ text)
+item_add ItemConst storage text place h = grammar.const grammar.InItem storage text place h
+item_add ItemTypedef storage text place h = grammar.typedef storage text place h
+item_add ItemExtern storage text place h = grammar.extern storage text place h
+item_add ItemStatic storage text place h = grammar.static_item storage text place h
+item_add ItemInline storage text place h = grammar.inline storage text place h
+
+item_from : (position : grammar.Position) (s : tree.Storage) (text : List Leaf) → grammar.Words position s text → position ≡ grammar.InItem → (xs : List (ItemWord × ℕ)) × ((text ≡ leaves_of (spell_word item_keyword) xs) × (s ≡ storage_of with_item xs))
+item_from position s text (grammar.none p) e = ([], (refl, refl))
+item_from position s text (grammar.const p q t place h) e = let r = item_from p q t h e in ((ItemConst, place) ∷ r.0, (ap (λ l. plain (word Const place) ∷ l) r.1.0, r.1.1))
+item_from position s text (grammar.typedef q t place h) e = let r = item_from grammar.InItem q t h e in ((ItemTypedef, place) ∷ r.0, (ap (λ l. plain (word Typedef place) ∷ l) r.1.0, ap (with_item ItemTypedef) r.1.1))
+item_from position s text (grammar.extern q t place h) e = let r = item_from grammar.InItem q t h e in ((ItemExtern, place) ∷ r.0, (ap (λ l. plain (word Extern place) ∷ l) r.1.0, r.1.1))
+item_from position s text (grammar.inline q t place h) e = let r = item_from grammar.InItem q t h e in ((ItemInline, place) ∷ r.0, (ap (λ l. plain (word Inline place) ∷ l) r.1.0, r.1.1))
+item_from position s text (grammar.static_item q t place h) e = let r = item_from grammar.InItem q t h e in ((ItemStatic, place) ∷ r.0, (ap (λ l. plain (word Static place) ∷ l) r.1.0, ap (with_item ItemStatic) r.1.1))
+item_from position s text (grammar.static_local q t place h) e = absurd (cc)
+
+item_other : (w : ItemWord) → six (item_keyword w) ≡ false
+item_other ItemConst = refl
+item_other ItemTypedef = refl
+item_other ItemExtern = refl
+item_other ItemStatic = refl
+item_other ItemInline = refl
+
+item_no_head : (k : Keyword) (h : Head) → head_word k ≡ Some h → item_word k ≡ None
+item_no_head Const h e = absurd (cc)
+item_no_head Typedef h e = absurd (cc)
+item_no_head Extern h e = absurd (cc)
+item_no_head Static h e = absurd (cc)
+item_no_head Inline h e = absurd (cc)
+item_no_head other h e = refl
+
+local_words : Words grammar.InLocal local_word local_keyword with_local
+local_words = record { back = local_back; self = local_self; sample = LocalConst; add = local_add; from = λ s text h. local_from grammar.InLocal s text h refl; other = local_other; no_head = local_no_head }
+
+item_words : Words grammar.InItem item_word item_keyword with_item
+item_words = record { back = item_back; self = item_self; sample = ItemConst; add = item_add; from = λ s text h. item_from grammar.InItem s text h refl; other = item_other; no_head = item_no_head }
+
+word_found : {W : Type 0} (of : Keyword → Option W) (t : Placed) → is_word of t.token ≡ true → is_some (word_at of t) ≡ true
+word_found of t e = let w = some_value (word_of of t.token) e in ap is_some (ap (option_map (λ v. (v, t.offset))) w.1)
+
+pub roled-local_specifiers : (names : List (List ℕ)) (inner : Readers) → AllFirm names inner → (depth : ℕ) → FirmBeside anything (SpecifiersEnd names grammar.InLocal depth) (stop_specifiers (is_word local_word)) (read_local_specifiers names inner depth)
+roled-local_specifiers names inner all depth =
+    record {
+      both = rich_specified (word_at local_word) (is_word local_word) (spell_word local_keyword) (storage_of with_local) names inner depth;
+      is = roled-specified (around local_words) (word_found local_word) names inner depth (λ d e. all.conditional (suc (suc depth)) 0) (λ d. all.conditional (suc depth) 0) (λ d. all.specifiers (suc depth));
+      same = specified_same (word_at local_word) (is_word local_word) (spell_word local_keyword) (storage_of with_local) names inner depth;
+    }
+
+pub roled-item_specifiers : (names : List (List ℕ)) (inner : Readers) → AllFirm names inner → (depth : ℕ) → FirmBeside anything (SpecifiersEnd names grammar.InItem depth) (stop_specifiers (is_word item_word)) (read_item_specifiers names inner depth)
+roled-item_specifiers names inner all depth =
+    record {
+      both = rich_specified (word_at item_word) (is_word item_word) (spell_word item_keyword) (storage_of with_item) names inner depth;
+      is = roled-specified (around item_words) (word_found item_word) names inner depth (λ d e. all.conditional (suc (suc depth)) 0) (λ d. all.conditional (suc depth) 0) (λ d. all.specifiers (suc depth));
+      same = specified_same (word_at item_word) (is_word item_word) (spell_word item_keyword) (storage_of with_item) names inner depth;
+    }
