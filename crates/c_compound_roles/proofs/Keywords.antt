@@ -1,0 +1,67 @@
+-- Keywords keep roles.
+use Rattle.std.proofs.Common.{◌≡◌, Bool, true, List, [], ◌∷◌, Some, refl, ap, ◌∙◌}
+use Rattle.c_spec.specs.declared.token.Keyword.{Keyword}
+use Rattle.c_spec.specs.Lexical.{Placed}
+use Rattle.c_grammar_spec.specs.declared.Role.{Role}
+use Rattle.c_grammar_spec.specs.Leaves.{Leaf, word, marks}
+use Rattle.exact_read.specs.Grammar.{anything, One}
+use Rattle.c_expression_reader.specs.Readers.{token}
+use Rattle.c_statement_reader.specs.Statements.{is_keyword, keyword_place}
+use Rattle.c_statement_reader.proofs.Keywords.{keyword-self}
+use Rattle.role_read.specs.Roles.{Roled, Next, IsAsked}
+use Rattle.std.proofs.Common.{true, inl, inr, arith, length, length-append, List, [], ◌∷◌, ◌++◌, Ok, Err, Some, refl, ap, sym, ◌∙◌, subst, IsTrue}
+use Rattle.exact_read.specs.Reading.{Wrong, Outcome, Reader, plains}
+use Rattle.exact_read.specs.Grammar.{bind, Map, Then}
+use Rattle.exact_read.proofs.Basics.{err}
+use Rattle.exact_read.proofs.Then.{Joins}
+use Rattle.c_type_reader.proofs.Tokens.{Kept}
+use Rattle.c_expression_reader.specs.Readers.{before}
+use Rattle.c_grammar_spec.specs.declared.Role.TheVariants.{Nothing}
+use Rattle.role_read.proofs.Basics.{roled-same}
+use Rattle.role_read.proofs.Begins.{Silent, silent_next}
+use Rattle.role_read.proofs.Then.{roled-then}
+use Rattle.c_expression_reader.proofs.Marks.{Keeps}
+use Rattle.c_expression_roles.specs.Firm.{roles, Firm}
+use Rattle.c_expression_roles.proofs.Firm.{firm-map, firm-one}
+use Rattle.c_expression_roles.proofs.Marks.{Says}
+
+pub roled-keyword : (entry : Placed → Bool) (w : Keyword) (role : Role) (place : Placed → Leaf) → Keeps place → Says place role → Firm entry (One place (keyword_place w)) (λ _. anything) (token role place (keyword_place w))
+roled-keyword entry w role place keeps says = firm-one entry place (keyword_place w) role keeps says (word w 0) 0 (keyword-self w 0)
+
+pub keyword-some : (w : Keyword) (t : Placed) → is_keyword w t.token ≡ true → keyword_place w t ≡ Some t.offset
+keyword-some w t e = rw e refl
+
+-- a part, and another behind it that is read and left
+pub roled-kept : {X Y : Type 0} {entry : Placed → Bool} {S1 : X → List Leaf → Type 0} {stop1 : X → Placed → Bool} {first : Reader Placed Role X} {S2 : Y → List Leaf → Type 0} {stop : X → Placed → Bool} {second : Reader Placed Role Y}
+    → Firm entry S1 stop1 first → ((x : X) → Firm (stop1 x) S2 (λ _. stop x) second) → Joins marks S1 stop1 (λ _. S2) (λ x _. stop x)
+    → Firm entry (Kept S1 S2) stop (before first second)
+roled-kept {X} {Y} {entry} {S1} {stop1} {first} {S2} {stop} {second} one two joins =
+    roled-same entry (Kept S1 S2) (before first second) (λ t h. h) to from (λ tokens. same_read (first tokens))
+    (firm-map (λ (pair : X × Y). pair.0) stop (λ pair. refl) (roled-then one (λ x. two x) joins))
+  where
+    same_second : (x : X) (o : Outcome Placed Role Y) → bind o (λ _ after. Ok (x, after)) ≡ bind {X = X × Y} (bind o (λ y after. Ok ((x, y), after))) (λ pair after. Ok (pair.0, after))
+    same_second x (Ok found) = refl
+    same_second x (Err fault) = refl
+
+    same_read : (o : Outcome Placed Role X) → bind o (λ x rest. bind (second rest) (λ _ after. Ok (x, after))) ≡ bind {X = X × Y} (bind o (λ x rest. bind (second rest) (λ y after. Ok ((x, y), after)))) (λ pair after. Ok (pair.0, after))
+    same_read (Ok (x, rest)) = same_second x (second rest)
+    same_read (Err fault) = refl
+
+    to : (x : X) (text : List Leaf) → Map (λ (pair : X × Y). pair.0) (Then S1 (λ _. S2)) x text → Kept S1 S2 x text
+    to x text m = let t = m.spells in
+        record { second = m.inner.1; left = t.left; right = t.right; is_first = subst (λ (z : X). S1 z t.left) (sym m.is) t.first; is_second = t.second; cut = t.cut }
+
+    from : (x : X) (text : List Leaf) → Kept S1 S2 x text → Map (λ (pair : X × Y). pair.0) (Then S1 (λ _. S2)) x text
+    from x text k = record { inner = (x, k.second); is = refl; spells = record { left = k.left; right = k.right; cut = k.cut; first = k.is_first; second = k.is_second } }
+
+nothing_read : (front rest : List Placed) → rest ≡ front ++ rest → front ≡ []
+nothing_read [] rest e = refl
+nothing_read (t ∷ front) rest e = absurd (omega (arith, ap length e, length-append front rest))
+
+-- where nothing that begins a part tells anything, its first token is called wrong by nothing that tells more
+pub silent_wrong : {X : Type 0} {entry : Placed → Bool} {S : X → List Leaf → Type 0} {stop : X → Placed → Bool} {ending : X → Role} {Loose : Type 0} {read : Reader Placed Role X} → Roled marks roles entry S stop ending Loose read → Silent marks roles S
+    → (t : Placed) (more : List Placed) (kind : Role) → IsTrue (entry t) → read (t ∷ more) ≡ err {X = X} (Wrong kind) (t ∷ more) → kind ≡ Nothing
+silent_wrong {X} {entry} {S} is silent t more kind enters e = by_asked (is.asks (t ∷ more) kind (t ∷ more) enters e)
+  where
+    by_asked : IsAsked marks roles S (t ∷ more) kind (t ∷ more) → kind ≡ Nothing
+    by_asked a = elim a.asked.asked [ inl h ↦ h | inr m ↦ sym m.2 ∙ silent_next silent m.0 (subst (λ f. Next marks S f m.0) (nothing_read (plains marks a.front) (t ∷ more) a.cut) m.1) ]
