@@ -1,0 +1,247 @@
+-- `for` and `switch` keep roles, where the statements inside are.
+use Rattle.std.proofs.Common.{◌≡◌, ℕ, suc, arith, Bool, true, false, List, [], ◌∷◌, ◌++◌, Option, Some, None, refl, ap, sym, ◌∙◌, subst, not, ◌||◌}
+use Rattle.c_spec.specs.declared.token.Keyword.TheVariants.{For, Switch}
+use denote.Enum.Bare.{sameb, same_true}
+use Rattle.std.specs.Option.{is_some}
+use Rattle.c_spec.specs.declared.token.Punctuator.{Punctuator}
+use Rattle.c_spec.specs.declared.token.Punctuator.TheVariants as punctuator
+use Rattle.c_spec.specs.contracts.token.Punctuator.{the_type}
+use Rattle.c_spec.specs.Lexical.{Placed, Token, Name as name_token, Word, Number as number_token, Character as character_token, Mark}
+use Rattle.c_tree_spec.specs.Expression as tree
+use Rattle.c_tree_spec.specs.Unit as unit
+use Rattle.c_grammar_spec.specs.declared.Role.TheVariants.{Nothing, OperandEnd}
+use Rattle.c_grammar_spec.specs.Leaves.{Leaf, plain, awaited, opens, mark, word, marks}
+use Rattle.c_grammar_spec.specs.Expressions.{Conditional}
+use Rattle.c_grammar_spec.specs.Statements as grammar
+use Rattle.exact_read.specs.Reading.{plains, Stops}
+use Rattle.exact_read.specs.Grammar.{anything, One, Map, Then, Or, first, second}
+use Rattle.c_expression_reader.specs.Classes.{is_mark, mark_place}
+use Rattle.c_expression_reader.specs.Exactness.{Closed}
+use Rattle.c_expression_reader.specs.Readers.{Readers}
+use Rattle.c_expression_reader.proofs.Samples.{zero_tree}
+use Rattle.c_type_reader.specs.Firsts.{begins_by_mark, begins_expression}
+use Rattle.c_type_reader.proofs.Firsts.{conditional_first, begins-not, first_not_mark}
+use Rattle.c_type_reader.proofs.Dimensions.{within_opens}
+use Rattle.c_declaration_reader.specs.Values.{step_mark, step_operator}
+use Rattle.c_declaration_reader.specs.Declarations.{begins_locals}
+use Rattle.c_declaration_reader.specs.Texts.{LocalsText}
+use Rattle.c_statement_reader.specs.Statements.{keyword_place, Statements, read_for_start, read_for_test, read_for_step, read_for, read_switch}
+use Rattle.c_statement_reader.specs.Ends.{stop_statement}
+use Rattle.c_statement_reader.proofs.Keywords.{keyword-self}
+use Rattle.c_statement_reader.proofs.Firsts.{StatementFirst, simple_first, statement_no_locals, locals_first}
+use Rattle.c_statement_reader.proofs.Simpler.{Ended, simple_stops_semicolon, simple_stops_bracket, zero_test}
+use Rattle.c_statement_reader.proofs.Compounds.{empty_statement}
+use Rattle.c_statement_reader.proofs.Loops.{begins_simple, SimpleFirst, begun_longer, simple_begins, ForText, SwitchText}
+use Rattle.exact_read.proofs.Parts.{stops_anything}
+use Rattle.role_read.proofs.Basics.{roled-same}
+use Rattle.role_read.proofs.Then.{roled-then}
+use Rattle.c_expression_reader.proofs.Marks.{mark-self, one-mark, mark-one, Behind}
+use Rattle.c_expression_roles.specs.Firm.{Firm}
+use Rattle.c_expression_roles.proofs.Firm.{firm-map}
+use Rattle.c_expression_roles.proofs.Marks.{roled-mark, roled-closed, roled-behind, roled-opened, roled-choice, map_begins, map_silent}
+use Rattle.c_type_roles.specs.Exactness.{AllFirm}
+use Rattle.c_declaration_roles.proofs.Simples.{roled-simple}
+use Rattle.c_declaration_roles.proofs.Locals.{roled-locals}
+use Rattle.c_compound_roles.proofs.Silent.{locals_silent}
+use Rattle.c_compound_roles.proofs.Locals.{begin_locals}
+use Rattle.c_compound_roles.proofs.Simpler.{roled-test, roled-ended, mark_begins, mark_silent}
+use Rattle.c_compound_roles.proofs.Compounds.{Deeper}
+use Rattle.c_compound_roles.proofs.Switches.{roled-groups}
+
+-- how a `for` begins
+abbrev EmptyStart : unit.ForStart → List Leaf → Type 0
+EmptyStart = Map (λ (_ : ℕ). unit.StartsEmpty) (One plain (mark_place punctuator.Semicolon))
+
+abbrev LocalsStart : (names : List (List ℕ)) → (depth : ℕ) → unit.ForStart → List Leaf → Type 0
+LocalsStart names depth = Map (λ locals. unit.StartsLocals locals) (LocalsText names depth)
+
+abbrev SimpleStart : (names : List (List ℕ)) → (depth : ℕ) → unit.ForStart → List Leaf → Type 0
+SimpleStart names depth = Map (λ s. unit.StartsSimple s) (Ended grammar.simple_end punctuator.Semicolon (grammar.Simple names depth))
+
+abbrev StartText : (names : List (List ℕ)) → (depth : ℕ) → unit.ForStart → List Leaf → Type 0
+StartText names depth = Or EmptyStart (Or (LocalsStart names depth) (SimpleStart names depth))
+
+text_start : (names : List (List ℕ)) (depth : ℕ) (s : unit.ForStart) (text : List Leaf) → StartText names depth s text → grammar.ForStart names depth s text
+text_start names depth s text (first m) = rw (m.is, one-mark punctuator.Semicolon plain m.inner text m.spells) (grammar.empty depth m.inner)
+text_start names depth s text (second (first m)) = let l = m.spells in rw (m.is, l.cut) (grammar.locals depth m.inner l.role l.inside l.place l.spells)
+text_start names depth s text (second (second m)) = let e = m.spells in rw (m.is, e.cut) (grammar.simple depth m.inner e.inside e.place e.spells)
+
+start_text : (names : List (List ℕ)) (depth : ℕ) (s : unit.ForStart) (text : List Leaf) → grammar.ForStart names depth s text → StartText names depth s text
+start_text names depth s text (grammar.empty d end) = first (record { inner = end; is = refl; spells = mark-one punctuator.Semicolon plain end })
+start_text names depth s text (grammar.locals d list after t end h) = second (first (record { inner = list; is = refl; spells = record { role = after; inside = t; place = end; spells = h; cut = refl } }))
+start_text names depth s text (grammar.simple d x t end h) = second (second (record { inner = x; is = refl; spells = record { inside = t; place = end; spells = h; cut = refl } }))
+
+ended_first : (names : List (List ℕ)) (depth : ℕ) {close : Punctuator} (s : unit.Simple) (text : List Leaf) → Ended grammar.simple_end close (grammar.Simple names depth) s text → StatementFirst names text
+ended_first names depth s text e = let f = simple_first names depth s e.inside _ e.spells in record { leaf = f.leaf; more = f.more; cut = e.cut ∙ f.cut; yes = f.yes }
+
+locals_no_semicolon : (names : List (List ℕ)) (k : Token) → begins_locals names k ≡ true → is_mark punctuator.Semicolon k ≡ false
+locals_no_semicolon names (Mark p) e = absurd (cc)
+locals_no_semicolon names (Word w) e = refl
+locals_no_semicolon names (name_token spelling) e = refl
+locals_no_semicolon names (number_token value type) e = refl
+locals_no_semicolon names (character_token value) e = refl
+
+step_not : (q : Punctuator) → is_some (step_mark q) ≡ false → (k : Token) → is_some (step_operator k) ≡ true → is_mark q k ≡ false
+step_not q never (Mark p) e = by_test (sameb the_type p q) refl
+  where
+    by_test : (b : Bool) → sameb the_type p q ≡ b → sameb the_type p q ≡ false
+    by_test true f = absurd (let g : false ≡ true = sym never ∙ ap (λ r. is_some (step_mark r)) (sym (same_true the_type tt p q f)) ∙ e in cc)
+    by_test false f = f
+step_not q never (name_token spelling) e = refl
+step_not q never (Word w) e = refl
+step_not q never (number_token value type) e = refl
+step_not q never (character_token value) e = refl
+
+simple_not : (names : List (List ℕ)) (q : Punctuator) → begins_by_mark q ≡ false → is_some (step_mark q) ≡ false → (k : Token) → begins_simple names k ≡ true → is_mark q k ≡ false
+simple_not names q a b k e = by_test (begins_expression names k) refl e
+  where
+    by_test : (c : Bool) → begins_expression names k ≡ c → (c || is_some (step_operator k)) ≡ true → is_mark q k ≡ false
+    by_test true f e = begins-not names q a k f
+    by_test false f e = step_not q b k e
+
+simple_no_mark : (names : List (List ℕ)) (q : Punctuator) → begins_by_mark q ≡ false → is_some (step_mark q) ≡ false → (text : List Leaf) (rest : List Placed) → SimpleFirst names text → Stops (λ t. not (is_mark q t.token)) (plains marks text ++ rest)
+simple_no_mark names q a b text rest f = subst (λ l. Stops (λ t. not (is_mark q t.token)) (plains marks l ++ rest)) (sym f.cut) (rw (simple_not names q a b f.leaf.token.token f.yes) refl)
+
+ended_begins : (names : List (List ℕ)) (depth : ℕ) (close : Punctuator) (s : unit.Simple) (text : List Leaf) → Ended grammar.simple_end close (grammar.Simple names depth) s text → SimpleFirst names text
+ended_begins names depth close s text e = subst (SimpleFirst names) (sym e.cut) (begun_longer names e.inside _ (simple_begins names depth s e.inside e.spells))
+
+roled-for_start : (names : List (List ℕ)) (inner : Readers) → AllFirm names inner → (depth : ℕ) → Firm anything (grammar.ForStart names depth) (λ _. anything) (read_for_start names inner depth)
+roled-for_start names inner all depth =
+    roled-same anything (grammar.ForStart names depth) (read_for_start names inner depth) (λ t h. h) (text_start names depth) (start_text names depth) (λ tokens. refl)
+    (roled-choice (is_mark punctuator.Semicolon)
+    record {
+      first_begins = λ s text m. (plain (mark punctuator.Semicolon m.inner), [], one-mark punctuator.Semicolon plain m.inner text m.spells, refl);
+      second_begins = λ s text rest o stops. others s text rest o;
+    }
+    (λ t e. map_begins (λ (_ : ℕ). unit.StartsEmpty) t (mark_begins punctuator.Semicolon t e)) (map_silent (λ (_ : ℕ). unit.StartsEmpty) (mark_silent punctuator.Semicolon))
+    (firm-map (λ (_ : ℕ). unit.StartsEmpty) (λ _. anything) (λ x. refl) (roled-mark anything punctuator.Semicolon Nothing plain (λ t. refl) (λ t. refl)))
+    (roled-choice (begins_locals names)
+    record {
+      first_begins = λ s text m. let f = locals_first names depth m.inner text m.spells in (f.leaf, f.more, f.cut, f.yes);
+      second_begins = λ s text rest m stops. let f = ended_first names depth m.inner text m.spells in subst (λ l. Stops (λ t. not (begins_locals names t.token)) (plains marks l ++ rest)) (sym f.cut) (rw (statement_no_locals names f.leaf.token.token f.yes) refl);
+    }
+    (λ t e. map_begins (λ locals. unit.StartsLocals locals) t (begin_locals names depth t e)) (map_silent (λ locals. unit.StartsLocals locals) (locals_silent names depth))
+    (firm-map (λ locals. unit.StartsLocals locals) (λ _. anything) (λ x. refl) (roled-locals names inner all depth))
+    (roled-ended grammar.simple_end punctuator.Semicolon (λ s. unit.StartsSimple s) (λ _. anything) (λ s. refl) (roled-simple names inner all depth) simple_stops_semicolon)))
+  where
+    others : (s : unit.ForStart) (text : List Leaf) (rest : List Placed) → Or (LocalsStart names depth) (SimpleStart names depth) s text → Stops (λ t. not (is_mark punctuator.Semicolon t.token)) (plains marks text ++ rest)
+    others s text rest (first m) = let f = locals_first names depth m.inner text m.spells in subst (λ l. Stops (λ t. not (is_mark punctuator.Semicolon t.token)) (plains marks l ++ rest)) (sym f.cut) (rw (locals_no_semicolon names f.leaf.token.token f.yes) refl)
+    others s text rest (second m) = simple_no_mark names punctuator.Semicolon refl refl text rest (ended_begins names depth punctuator.Semicolon m.inner text m.spells)
+
+-- its test
+abbrev NoTest : Option tree.Expression → List Leaf → Type 0
+NoTest = Map (λ (_ : ℕ). None) (One plain (mark_place punctuator.Semicolon))
+
+abbrev SomeTest : (names : List (List ℕ)) → (depth : ℕ) → Option tree.Expression → List Leaf → Type 0
+SomeTest names depth = Map (λ x. Some x) (Closed (awaited OperandEnd) punctuator.Semicolon (Conditional names depth 0))
+
+text_for_test : (names : List (List ℕ)) (depth : ℕ) (x : Option tree.Expression) (text : List Leaf) → Or NoTest (SomeTest names depth) x text → grammar.ForTest names depth x text
+text_for_test names depth x text (first m) = rw (m.is, one-mark punctuator.Semicolon plain m.inner text m.spells) (grammar.empty depth m.inner)
+text_for_test names depth x text (second m) = let c = m.spells in rw (m.is, c.cut) (grammar.test depth m.inner c.inside c.close c.spells)
+
+for_test_text : (names : List (List ℕ)) (depth : ℕ) (x : Option tree.Expression) (text : List Leaf) → grammar.ForTest names depth x text → Or NoTest (SomeTest names depth) x text
+for_test_text names depth x text (grammar.empty d end) = first (record { inner = end; is = refl; spells = mark-one punctuator.Semicolon plain end })
+for_test_text names depth x text (grammar.test d y t end h) = second (record { inner = y; is = refl; spells = record { inside = t; close = end; spells = h; cut = refl } })
+
+roled-for_test : (names : List (List ℕ)) (inner : Readers) → AllFirm names inner → (depth : ℕ) → Firm anything (grammar.ForTest names depth) (λ _. anything) (read_for_test inner depth)
+roled-for_test names inner all depth =
+    roled-same anything (grammar.ForTest names depth) (read_for_test inner depth) (λ t h. h) (text_for_test names depth) (for_test_text names depth) (λ tokens. refl)
+    (roled-choice (is_mark punctuator.Semicolon)
+    record {
+      first_begins = λ s text m. (plain (mark punctuator.Semicolon m.inner), [], one-mark punctuator.Semicolon plain m.inner text m.spells, refl);
+      second_begins = λ s text rest m stops. let c = m.spells in let f = conditional_first names depth 0 m.inner c.inside c.spells in first_not_mark names punctuator.Semicolon refl text rest (record { leaf = f.leaf; more = f.more ++ awaited OperandEnd (mark punctuator.Semicolon c.close) ∷ []; cut = c.cut ∙ ap (λ l. l ++ awaited OperandEnd (mark punctuator.Semicolon c.close) ∷ []) f.cut; yes = f.yes });
+    }
+    (λ t e. map_begins (λ (_ : ℕ). None) t (mark_begins punctuator.Semicolon t e)) (map_silent (λ (_ : ℕ). None) (mark_silent punctuator.Semicolon))
+    (firm-map (λ (_ : ℕ). None) (λ _. anything) (λ x. refl) (roled-mark anything punctuator.Semicolon Nothing plain (λ t. refl) (λ t. refl)))
+    (firm-map (λ x. Some x) (λ _. anything) (λ x. refl) (roled-closed punctuator.Semicolon OperandEnd (awaited OperandEnd) (λ t. refl) (λ t. refl) (all.conditional depth 0) (λ x close. refl))))
+
+-- its step
+abbrev NoStep : Option unit.Simple → List Leaf → Type 0
+NoStep = Map (λ (_ : ℕ). None) (One plain (mark_place punctuator.RightParenthesis))
+
+abbrev SomeStep : (names : List (List ℕ)) → (depth : ℕ) → Option unit.Simple → List Leaf → Type 0
+SomeStep names depth = Map (λ s. Some s) (Ended grammar.simple_end punctuator.RightParenthesis (grammar.Simple names depth))
+
+text_for_step : (names : List (List ℕ)) (depth : ℕ) (x : Option unit.Simple) (text : List Leaf) → Or NoStep (SomeStep names depth) x text → grammar.ForStep names depth x text
+text_for_step names depth x text (first m) = rw (m.is, one-mark punctuator.RightParenthesis plain m.inner text m.spells) (grammar.empty depth m.inner)
+text_for_step names depth x text (second m) = let e = m.spells in rw (m.is, e.cut) (grammar.step depth m.inner e.inside e.place e.spells)
+
+for_step_text : (names : List (List ℕ)) (depth : ℕ) (x : Option unit.Simple) (text : List Leaf) → grammar.ForStep names depth x text → Or NoStep (SomeStep names depth) x text
+for_step_text names depth x text (grammar.empty d close) = first (record { inner = close; is = refl; spells = mark-one punctuator.RightParenthesis plain close })
+for_step_text names depth x text (grammar.step d s t close h) = second (record { inner = s; is = refl; spells = record { inside = t; place = close; spells = h; cut = refl } })
+
+roled-for_step : (names : List (List ℕ)) (inner : Readers) → AllFirm names inner → (depth : ℕ) → Firm anything (grammar.ForStep names depth) (λ _. anything) (read_for_step inner depth)
+roled-for_step names inner all depth =
+    roled-same anything (grammar.ForStep names depth) (read_for_step inner depth) (λ t h. h) (text_for_step names depth) (for_step_text names depth) (λ tokens. refl)
+    (roled-choice (is_mark punctuator.RightParenthesis)
+    record {
+      first_begins = λ s text m. (plain (mark punctuator.RightParenthesis m.inner), [], one-mark punctuator.RightParenthesis plain m.inner text m.spells, refl);
+      second_begins = λ s text rest m stops. simple_no_mark names punctuator.RightParenthesis refl refl text rest (ended_begins names depth punctuator.RightParenthesis m.inner text m.spells);
+    }
+    (λ t e. map_begins (λ (_ : ℕ). None) t (mark_begins punctuator.RightParenthesis t e)) (map_silent (λ (_ : ℕ). None) (mark_silent punctuator.RightParenthesis))
+    (firm-map (λ (_ : ℕ). None) (λ _. anything) (λ x. refl) (roled-mark anything punctuator.RightParenthesis Nothing plain (λ t. refl) (λ t. refl)))
+    (roled-ended grammar.simple_end punctuator.RightParenthesis (λ s. Some s) (λ _. anything) (λ s. refl) (roled-simple names inner all depth) simple_stops_bracket))
+
+-- `for`
+abbrev MadeFor : Type 0
+MadeFor = unit.ForStart × (Option tree.Expression × (Option unit.Simple × unit.Statement))
+
+abbrev made_for : (place : ℕ) → MadeFor → unit.Statement
+made_for place made = unit.For made.0 made.1.0 made.1.1.0 made.1.1.1 place
+
+abbrev PiecesText : (names : List (List ℕ)) → (depth : ℕ) → MadeFor → List Leaf → Type 0
+PiecesText names depth = Then (grammar.ForStart names (suc (suc depth))) (λ _. Then (grammar.ForTest names (suc (suc depth))) (λ _. Then (grammar.ForStep names (suc (suc depth))) (λ _. grammar.Statement names (suc depth))))
+
+body_some : (names : List (List ℕ)) (depth : ℕ) → (s : unit.Statement) × (text : List Leaf) × grammar.Statement names depth s text
+body_some names depth = (unit.Empty 0, plain (mark punctuator.Semicolon 0) ∷ [], empty_statement names depth)
+
+step_some : (names : List (List ℕ)) (depth : ℕ) → (x : Option unit.Simple × unit.Statement) × (text : List Leaf) × Then (grammar.ForStep names (suc (suc depth))) (λ _. grammar.Statement names (suc depth)) x text
+step_some names depth = ((None, unit.Empty 0), plain (mark punctuator.RightParenthesis 0) ∷ plain (mark punctuator.Semicolon 0) ∷ [], record { left = plain (mark punctuator.RightParenthesis 0) ∷ []; right = plain (mark punctuator.Semicolon 0) ∷ []; cut = refl; first = grammar.empty (suc (suc depth)) 0; second = empty_statement names (suc depth) })
+
+test_some : (names : List (List ℕ)) (depth : ℕ) → (x : Option tree.Expression × (Option unit.Simple × unit.Statement)) × (text : List Leaf) × Then (grammar.ForTest names (suc (suc depth))) (λ _. Then (grammar.ForStep names (suc (suc depth))) (λ _. grammar.Statement names (suc depth))) x text
+test_some names depth = let s = step_some names depth in ((None, s.0), plain (mark punctuator.Semicolon 0) ∷ s.1, record { left = plain (mark punctuator.Semicolon 0) ∷ []; right = s.1; cut = refl; first = grammar.empty (suc (suc depth)) 0; second = s.2 })
+
+pieces_some : (names : List (List ℕ)) (depth : ℕ) → (x : MadeFor) × (text : List Leaf) × PiecesText names depth x text
+pieces_some names depth = let t = test_some names depth in ((unit.StartsEmpty, t.0), plain (mark punctuator.Semicolon 0) ∷ t.1, record { left = plain (mark punctuator.Semicolon 0) ∷ []; right = t.1; cut = refl; first = grammar.empty (suc (suc depth)) 0; second = t.2 })
+
+pub some_for : (names : List (List ℕ)) (depth place : ℕ) → (s : unit.Statement) × (right : List Leaf) × Behind (One (opens (suc (suc depth))) (mark_place punctuator.LeftParenthesis)) (λ _. Map (made_for place) (PiecesText names depth)) s right
+some_for names depth place = let p = pieces_some names depth in (made_for place p.0, opens (suc (suc depth)) (mark punctuator.LeftParenthesis 0) ∷ p.1, record { first = 0; left = opens (suc (suc depth)) (mark punctuator.LeftParenthesis 0) ∷ []; right = p.1; is_first = mark-one punctuator.LeftParenthesis (opens (suc (suc depth))) 0; is_second = record { inner = p.0; is = refl; spells = p.2 }; cut = refl })
+
+pub roled-for : (names : List (List ℕ)) (inner : Readers) → AllFirm names inner → (statements : Statements) (depth : ℕ) → Deeper names statements depth → Firm anything (ForText names depth) stop_statement (read_for names inner statements depth)
+roled-for names inner all statements depth deeper =
+    roled-opened (keyword_place For) Nothing (opens (suc depth)) (λ t. refl) (λ t. refl) (word For 0) 0 (keyword-self For 0)
+    (some_for names depth)
+    (λ place t e within. roled-opened (mark_place punctuator.LeftParenthesis) Nothing (opens (suc (suc depth))) (λ t. refl) (λ t. refl) (mark punctuator.LeftParenthesis 0) 0 (mark-self punctuator.LeftParenthesis 0)
+    (λ k. let p = pieces_some names depth in (made_for place p.0, p.1, record { inner = p.0; is = refl; spells = p.2 }))
+    (λ k t2 e2 within2. firm-map (made_for place) stop_statement (λ made. refl)
+    (roled-then {stop2 = λ _ y. stop_statement y.1.1} (roled-for_start names inner all (suc (suc depth)))
+    (λ _. roled-then {stop2 = λ _ y. stop_statement y.1} (roled-for_test names inner all (suc (suc depth)))
+    (λ _. roled-then {stop2 = λ _ y. stop_statement y} (roled-for_step names inner all (suc (suc depth)))
+    (λ _. deeper (suc depth) (omega arith) (within_opens (suc depth) t within))
+    record { ends = λ x y left right rest one two stops. stops_anything (plains marks right ++ rest); goes_on = λ x left one. body_some names (suc depth) })
+    record { ends = λ x y left right rest one two stops. stops_anything (plains marks right ++ rest); goes_on = λ x left one. step_some names depth })
+    record { ends = λ x y left right rest one two stops. stops_anything (plains marks right ++ rest); goes_on = λ x left one. test_some names depth })))
+
+-- `switch`
+abbrev GroupsText : (names : List (List ℕ)) → (depth place : ℕ) → tree.Expression → unit.Statement → List Leaf → Type 0
+GroupsText names depth place x = Behind (One (opens (suc (suc depth))) (mark_place punctuator.LeftBrace)) (λ _. Map (λ groups. unit.Switch x groups place) (Closed plain punctuator.RightBrace (grammar.Groups names (suc (suc depth)))))
+
+groups_some : (names : List (List ℕ)) (depth place : ℕ) (x : tree.Expression) → (s : unit.Statement) × (text : List Leaf) × GroupsText names depth place x s text
+groups_some names depth place x =
+    (unit.Switch x unit.no_groups place, opens (suc (suc depth)) (mark punctuator.LeftBrace 0) ∷ plain (mark punctuator.RightBrace 0) ∷ [], record { first = 0; left = opens (suc (suc depth)) (mark punctuator.LeftBrace 0) ∷ []; right = plain (mark punctuator.RightBrace 0) ∷ []; is_first = mark-one punctuator.LeftBrace (opens (suc (suc depth))) 0; is_second = record { inner = unit.no_groups; is = refl; spells = record { inside = []; close = 0; spells = grammar.no_groups (suc (suc depth)); cut = refl } }; cut = refl })
+
+pub some_switch : (names : List (List ℕ)) (depth place : ℕ) → (s : unit.Statement) × (right : List Leaf) × Behind (grammar.Test names (suc depth)) (λ x. GroupsText names depth place x) s right
+some_switch names depth place = let z = zero_test names (suc depth) in let g = groups_some names depth place zero_tree in (g.0, z.0 ++ g.1, record { first = zero_tree; left = z.0; right = g.1; is_first = z.1; is_second = g.2; cut = refl })
+
+pub roled-switch : (names : List (List ℕ)) (inner : Readers) → AllFirm names inner → (statements : Statements) (depth : ℕ) → Deeper names statements depth → Firm anything (SwitchText names depth) stop_statement (read_switch names inner statements depth)
+roled-switch names inner all statements depth deeper =
+    roled-opened (keyword_place Switch) Nothing (opens (suc depth)) (λ t. refl) (λ t. refl) (word Switch 0) 0 (keyword-self Switch 0)
+    (some_switch names depth)
+    (λ place t e within. roled-behind (roled-test names inner all (suc depth))
+    (λ x left h w. roled-opened (mark_place punctuator.LeftBrace) Nothing (opens (suc (suc depth))) (λ t. refl) (λ t. refl) (mark punctuator.LeftBrace 0) 0 (mark-self punctuator.LeftBrace 0)
+    (λ k. (unit.Switch x unit.no_groups place, plain (mark punctuator.RightBrace 0) ∷ [], record { inner = unit.no_groups; is = refl; spells = record { inside = []; close = 0; spells = grammar.no_groups (suc (suc depth)); cut = refl } }))
+    (λ k t2 e2 within2. firm-map (λ groups. unit.Switch x groups place) stop_statement (λ groups. refl) (roled-groups names inner all statements (suc (suc depth)) (deeper (suc (suc depth)) (omega arith) (within_opens (suc (suc depth)) t2 within2)))))
+    record {
+      ends = λ x s left right rest one two stops. stops_anything (plains marks right ++ rest);
+      goes_on = λ x left one. groups_some names depth place x;
+    })
