@@ -2,8 +2,10 @@
 """Compares normal forms and clauses with a second writing of their rules, and these with values and a SAT solver.
 
     scripts/compare_terms.py rules      the second writing alone: values before and after, clauses by minisat
+    scripts/compare_terms.py normal     the normal forms that `term_norm` makes, with those worked by hand in
+                                        `forms.txt` and with those of the second writing
 
-It stands outside the gate; `rules` needs minisat (Debian: minisat) on the path.
+It stands outside the gate; `rules` needs minisat (Debian: minisat) on the path, and `normal` needs `rt`.
 """
 
 import random
@@ -12,9 +14,10 @@ import sys
 import tempfile
 from pathlib import Path
 
-from terms import SAME_WIDTH, clauses, normal, sort, text, truth, value
+from probe import ask
+from terms import NUMBERED, SAME_WIDTH, arguments, clauses, normal, sort, text, truth, value
 
-FIXED = {address: address * 37 % 256 for address in range(16, 24)}
+FIXED = {address: address * 37 % 256 for address in range(16, 24)} | {100: 7, 101: 8, 102: 2, 200: 9}
 WIDTHS = (8, 16, 32, 64)
 
 
@@ -131,6 +134,236 @@ def compare_rules(terms=20000, operators=600):
     return wrong
 
 
+NORMAL_CRATES = ["term_spec", "term_bank", "term_norm"]
+
+PROBE = r"""//! Reads lines of two texts of terms, and says whether the second is the normal form of the first.
+#![tactic(auto)]
+
+use std::alloc::AllocError;
+use std::io::{BufRead, BufReader};
+use term_bank::{Bank, TermId, TermNode};
+use term_norm::{Run, normal};
+use term_spec::{
+    Atom, BinaryOperator, Family, QuaternaryOperator, Sort, TernaryOperator, UnaryOperator,
+    Variable, Width, WordOperator,
+};
+
+fn width(text: &str) -> Width {
+    match text {
+        "8" => Width::W8,
+        "16" => Width::W16,
+        "32" => Width::W32,
+        _ => Width::W64,
+    }
+}
+
+fn number(text: &str) -> u64 {
+    let mut n: u64 = 0;
+    for b in text.bytes() {
+        n = n.wrapping_mul(10).wrapping_add(u64::from(b.wrapping_sub(b'0')));
+    }
+    n
+}
+
+fn open(family: Family, index: usize, sort: Sort) -> Atom {
+    Atom::Open(Variable {
+        family,
+        index,
+        instance: 0,
+        sort,
+    })
+}
+
+fn atom(name: &str, rest: &str) -> Atom {
+    match name {
+        "true" => Atom::Truth(true),
+        "false" => Atom::Truth(false),
+        "m0" => open(Family::SourceMemory, 0, Sort::Memory),
+        "m1" => open(Family::SourceMemory, 1, Sort::Memory),
+        "z0" => open(Family::BinaryMemory, 0, Sort::Memory),
+        "z1" => open(Family::ZoneMemory, 0, Sort::Memory),
+        "p" => open(Family::IsSet, 0, Sort::Truth),
+        "q" => open(Family::IsSet, 1, Sort::Truth),
+        "a" => open(Family::Register, 0, Sort::Word(width(rest))),
+        "b" => open(Family::Register, 1, Sort::Word(width(rest))),
+        _ => Atom::Constant(width(name), number(rest)),
+    }
+}
+
+fn unary(name: &str, rest: &str) -> Option<UnaryOperator> {
+    match name {
+        "not" => Some(UnaryOperator::Not),
+        "bnot" => Some(UnaryOperator::Complement),
+        "zext" => Some(UnaryOperator::ZeroExtend(width(rest))),
+        "sext" => Some(UnaryOperator::SignExtend(width(rest))),
+        "low" => Some(UnaryOperator::Low(width(rest))),
+        "byte" => Some(UnaryOperator::Byte(number(rest) as u8)),
+        _ => None,
+    }
+}
+
+fn on_words(name: &str) -> Option<WordOperator> {
+    match name {
+        "add" => Some(WordOperator::Add),
+        "sub" => Some(WordOperator::Subtract),
+        "mul" => Some(WordOperator::Multiply),
+        "band" => Some(WordOperator::And),
+        "bor" => Some(WordOperator::Or),
+        "bxor" => Some(WordOperator::Xor),
+        "shl" => Some(WordOperator::ShiftLeft),
+        "shr" => Some(WordOperator::ShiftRight),
+        "sar" => Some(WordOperator::ShiftRightSigned),
+        "udiv" => Some(WordOperator::Divide),
+        "urem" => Some(WordOperator::Remainder),
+        _ => None,
+    }
+}
+
+fn binary(name: &str) -> Option<BinaryOperator> {
+    match name {
+        "and" => Some(BinaryOperator::And),
+        "or" => Some(BinaryOperator::Or),
+        "eq" => Some(BinaryOperator::Equal),
+        "ult" => Some(BinaryOperator::Less),
+        "load8" => Some(BinaryOperator::Load),
+        "join2" => Some(BinaryOperator::Join),
+        _ => Some(BinaryOperator::Word(on_words(name)?)),
+    }
+}
+
+fn next(read: &mut Vec<TermId>) -> TermId {
+    read.pop().unwrap_or(0)
+}
+
+fn node(read: &mut Vec<TermId>, word: &str) -> TermNode {
+    let (name, rest) = word.split_once(':').unwrap_or((word, ""));
+    if let Some(operator) = unary(name, rest) {
+        return TermNode::Unary(operator, next(read));
+    }
+    if let Some(operator) = binary(name) {
+        let (a, b) = (next(read), next(read));
+        return TermNode::Binary(operator, a, b);
+    }
+    let (a, b, c) = match name {
+        "ite" | "store8" | "over" | "join4" | "join8" => (next(read), next(read), next(read)),
+        _ => return TermNode::Leaf(atom(name, rest)),
+    };
+    match name {
+        "ite" => return TermNode::Ternary(TernaryOperator::Choose, a, b, c),
+        "store8" => return TermNode::Ternary(TernaryOperator::Store, a, b, c),
+        _ => {}
+    }
+    let d = next(read);
+    match name {
+        "over" => TermNode::Quaternary(QuaternaryOperator::Over, a, b, c, d),
+        "join4" => TermNode::Quaternary(QuaternaryOperator::Join, a, b, c, d),
+        _ => {
+            let (e, f, g, h) = (next(read), next(read), next(read), next(read));
+            TermNode::Octonary(a, b, c, d, e, f, g, h)
+        }
+    }
+}
+
+fn term(bank: &mut Bank, read: &mut Vec<TermId>, text: &str) -> Result<TermId, AllocError> {
+    for word in text.split(' ') {
+        let made = node(read, word);
+        let id = bank.add(made)?;
+        read.push(id)?;
+    }
+    Ok(next(read))
+}
+
+fn main(rt: HostRuntime) -> anyhow::Result<()> {
+    let mut bank = Bank::new(rt.alloc());
+    let mut read = Vec::new(rt.alloc());
+    let runs = [
+        RUNS
+    ];
+    for line in BufReader::new(rt.alloc(), rt.reader())?.lines(rt.alloc()) {
+        let line = line?;
+        let (first, second) = line.as_str().split_once('|').unwrap_or(("", ""));
+        let given = term(&mut bank, &mut read, first)?;
+        let form = term(&mut bank, &mut read, second)?;
+        let made = normal(rt.alloc(), &mut bank, given, &runs)?;
+        println!(rt; "={}", made == form)?;
+    }
+    Ok(())
+}
+"""
+
+
+def backwards(t):
+    """The words of a term from the last on, each operator before its arguments."""
+    head = t[0] + str(len(t) - 1) * (t[0] == "join")
+    if t[0] in NUMBERED:
+        head = f"{t[0]}:{t[1]}"
+    if t[0] == "word":
+        head = f"{t[1]}:{t[2]}"
+    if t[0] == "var":
+        head = t[1] if t[2] in ("bool", "memory") else f"{t[1][0]}:{t[2]}"
+    words = []
+    for part in reversed(arguments(t)):
+        words += backwards(part)
+    return words + [head]
+
+
+# the fixed bytes; the last run is behind the first
+RUNS = [(16, [FIXED[address] for address in range(16, 24)]), (100, [7, 8]), (200, [9]), (101, [1, 2])]
+
+# what the names of `forms.txt` are in the program
+NAMES = {"x": "a:32", "y": "b:32", "w": "a:64", "a": "a:8", "b": "b:8", "m": "m0", "n": "z0", "z": "z1"}
+
+
+def by_hand(row):
+    """The words of a term of `forms.txt` from the last on; a word without its width has 32 bits."""
+    words = reversed(row.replace("(", "").replace(")", "").split())
+    return " ".join(f"32:{word}" if word.isdigit() else NAMES.get(word, word) for word in words)
+
+
+def chain(maker, depth):
+    """A load from a memory of many stores, choices and overlays at near addresses."""
+    address = lambda: maker.random.choice([maker.word(32), ("var", "a32", 32), ("add", ("var", "a32", 32), maker.word(32))])
+    memory = maker.leaf("memory")
+    for _ in range(depth):
+        kind = maker.random.random()
+        if kind < 0.8:
+            memory = ("store8", memory, address(), maker.leaf(8))
+        elif kind < 0.9:
+            memory = ("over", memory, maker.leaf("memory"), address(), address())
+        else:
+            memory = ("ite", maker.leaf("bool"), memory, maker.leaf("memory"))
+    return ("load8", memory, address())
+
+
+def compare_normal(terms=20000, chains=2000):
+    maker = Maker(7)
+    made = [maker.term(maker.random.choice(["bool", "memory", 8, 16, 32, 64]), maker.random.randrange(1, 6)) for _ in range(terms)]
+    made += [chain(maker, maker.random.randrange(1, 30)) for _ in range(chains)]
+    forms = [normal(term, FIXED) for term in made]
+    runs = "".join(f"Run {{ start: {start}, bytes: &{bytes} }}, " for start, bytes in RUNS)
+    worked = [row.split(" = ") for row in Path(__file__).with_name("forms.txt").read_text().splitlines()]
+    texts = [" ".join(backwards(term)) + "|" + " ".join(backwards(form)) for term, form in zip(made, forms)]
+    lines = [by_hand(term) + "|" + by_hand(form) for term, form in worked] + texts
+    program = PROBE.replace("RUNS", runs)
+    answers = [line for line in ask(program, NORMAL_CRATES, "\n".join(lines) + "\n") if line.startswith("=")]
+    if len(answers) != len(lines):
+        sys.exit(f"{len(lines)} terms and {len(answers)} answers")
+    wrong = len(answers) - answers.count("=true")
+    asked = [tuple(row) for row in worked] + [(text(term), text(form)) for term, form in zip(made, forms)]
+    for (term, form), answer in zip(asked, answers):
+        if answer != "=true":
+            print("WRONG", term, "is not", form)
+    values = 0
+    for term, form in zip(made, forms):
+        assignment = maker.assignment()
+        if sort(term) != "memory" and value(term, assignment) != value(form, assignment):
+            values += 1
+            print("WRONG", text(term), "is worth other than", text(form))
+    kinds = sum(term == form for term, form in zip(made, forms))
+    print(f"{len(worked)} terms worked by hand; {len(made)} terms, {kinds} in normal form; another normal form: {wrong}; another value: {values}")
+    return wrong + values
+
+
 def subterms(t):
     yield t
     for part in t[1:]:
@@ -139,7 +372,7 @@ def subterms(t):
 
 
 if __name__ == "__main__":
-    jobs = {"rules": compare_rules}
+    jobs = {"rules": compare_rules, "normal": compare_normal}
     if len(sys.argv) != 2 or sys.argv[1] not in jobs:
         sys.exit(__doc__)
     sys.exit(bool(jobs[sys.argv[1]]()))

@@ -248,3 +248,8 @@ within_added trees id t h = slice_get_within trees id t h
 
 pub length-Extends : (old new : List Term) → Extends old new → length old ≤ length new
 length-Extends old new e = omega (arith, ap length e.1, length-append old e.0)
+
+-- at most one more tree
+pub one_added : (test : Bool) (old new : List TermNode) (trees : List Term) (node : TermNode) → grown [] old ≡ trees → new ≡ cond test old (old ++ node ∷ []) → length (grown [] new) ≤ length trees + 1
+one_added true old new trees node view e = omega (arith, ap length view, length-grown [] old, length-grown [] new, ap length e)
+one_added false old new trees node view e = omega (arith, ap length view, length-grown [] old, length-grown [] new, ap length e, length-append old (node ∷ []))

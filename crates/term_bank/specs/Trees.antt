@@ -2,7 +2,7 @@
 use Rattle.std.specs.Prelude.{ℕ, ◌+◌, List, [], ◌∷◌, ◌++◌}
 use Rattle.term_spec.specs.Term.{Term}
 use Rattle.term_bank.specs.declared.node.TermNode.{TermNode}
-use Rattle.term_bank.specs.Nodes.{IsNode, build}
+use Rattle.term_bank.specs.Nodes.{IsNode, build, AreDistinct}
 
 -- the trees so far, and those of the nodes that follow
 abbrev pub grown : List Term → List TermNode → List Term
@@ -13,3 +13,8 @@ grown trees (node ∷ rest) = grown (trees ++ build trees node ∷ []) rest
 abbrev pub AreNodes : ℕ → List TermNode → Type 0
 AreNodes n [] = Unit {0}
 AreNodes n (node ∷ rest) = IsNode n node × AreNodes (n + 1) rest
+
+-- the arguments of each node come before it, and no tree stands twice
+pub record AreShared (nodes : List TermNode) : Type 0 where
+  pub ordered : AreNodes 0 nodes
+  pub distinct : AreDistinct (grown [] nodes)

@@ -1,4 +1,4 @@
-ghost use Rattle.std.specs.Prelude.{◌≡◌, ◌<◌, ◌≤◌, [], length, map, IfOk};
+ghost use Rattle.std.specs.Prelude.{◌≡◌, ◌+◌, ◌<◌, ◌≤◌, [], length, map, IfOk};
 ghost use Rattle.term_spec.specs.Value.{value};
 ghost use Rattle.term_core.specs.Values.{value_of};
 ghost use Rattle.term_core.specs.Assignment.{assignment_of};
@@ -30,11 +30,11 @@ impl Model for Bank {
 
     ghost coded = { coded_list term_code };
 
-    ghost use Rattle.term_bank.specs.Trees.{grown, AreNodes};
+    ghost use Rattle.term_bank.specs.Trees.{grown, AreShared};
 
     ghost view = { λ b. grown [] b.nodes.keys };
 
-    ghost invariant = { λ b. AreNodes 0 b.nodes.keys };
+    ghost invariant = { λ b. AreShared b.nodes.keys };
 }
 
 impl Bank {
@@ -54,6 +54,13 @@ impl Bank {
         self.nodes.len()
     }
 
+    /// Equal trees have one place: two terms are the same exactly where their places are.
+    pub fn are_distinct(&self)
+        ensures { AreDistinct self.now }
+    {
+        let _ = &self.nodes;
+    }
+
     /// The place of the node's term, which is added where it isn't there.
     pub fn add(&mut self, node: TermNode) -> Result<TermId, AllocError>
         requires { IsNode (length self.old) node }
@@ -61,6 +68,7 @@ impl Bank {
         ensures within { IfOk result (λ i. i < length self.new) }
         ensures extends { Extends self.old self.new }
         ensures longer { length self.old ≤ length self.new }
+        ensures one { length self.new ≤ length self.old + 1 }
         ensures distinct { AreDistinct self.new }
     {
         let (id, _) = self.nodes.insert_full(node)?;

@@ -8,7 +8,7 @@ pub index-requires : goal.index-requires
 index-requires c = omega (arith, length-grown [] c.self.inside.nodes.keys, ap length c.self.view_is)
 
 stands : (c : goal.After-result-1) → StandsAt (grown [] c.self.inside.nodes.keys) c.args.id c.index.result.now
-stands c = node_stands [] c.self.inside.nodes.keys c.args.id c.args.id c.index.result.now c.self.invariant c.index.ensures (omega arith)
+stands c = node_stands [] c.self.inside.nodes.keys c.args.id c.args.id c.index.result.now c.self.invariant.ordered c.index.ensures (omega arith)
 
 pub returns-clause-children : goal.returns-clause-children
 returns-clause-children c = (stands c).before

@@ -1,0 +1,10 @@
+pub mod Turns
+pub mod Steps
+pub mod Suffixes
+pub mod Operations
+pub mod Lists
+pub mod Declarators
+pub mod Constants
+pub mod Operands
+pub mod Levels
+pub mod TypeParts

@@ -1,0 +1,5 @@
+pub mod Builds
+pub mod Runs
+pub mod Keeps
+pub mod Visits
+pub mod Closed

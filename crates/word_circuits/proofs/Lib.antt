@@ -1,0 +1,5 @@
+pub mod Gives
+mod Steps
+mod Stages
+mod Calls
+mod Copied

@@ -1,0 +1,8 @@
+use Rattle.std.proofs.Common.{drop}
+use Rattle.blast_spec.specs.Circuits.{without_divisor}
+use Rattle.word_circuits.proofs.Stages.{Claims}
+use Rattle.word_circuits.proofs.gates.Gates.claim_without_divisor.Given as goal
+
+abbrev pub invariant-loop-place : goal.invariant-loop-place
+invariant-loop-place l =
+    Claims (without_divisor l.some l.q l.r l.x) l.fn.self l.self (without_divisor l.some (drop l.place l.q) (drop l.place l.r) (drop l.place l.x))

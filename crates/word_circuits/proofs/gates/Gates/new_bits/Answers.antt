@@ -1,0 +1,14 @@
+use Rattle.std.proofs.Common.{arith}
+use Rattle.word_circuits.proofs.Stages.{new_start, new_at, new_end}
+use Rattle.word_circuits.proofs.gates.Gates.new_bits.Goals as goal
+
+pub returns : goal.returns
+returns c = λ term place. new_end term place c.args.count c.loop.counter c.loop.out.items (omega arith) (c.loop.invariant term place)
+
+pub loop-init : goal.loop-init
+loop-init c = λ term place. new_start term place c.args.count c.args.self.now c.new-out.result.items c.new-out.ensures.items
+
+pub loop-preserved : goal.loop-preserved
+loop-preserved c =
+    λ term place. new_at term place c.args.count c.loop.counter c.in_ok-bit.bit c.loop.out.items c.push.new.self.items (omega arith) c.in_ok-push.ensures.items
+    c.in_ok-bit.ensures.new c.in_ok-bit.ensures.added (c.loop.invariant term place)

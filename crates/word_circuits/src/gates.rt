@@ -1,0 +1,166 @@
+ghost use Rattle.std.specs.Prelude.{◌≡◌, ◌+◌, ◌++◌, ◌∷◌, [], true, IfOk, OnOk};
+ghost use Rattle.clause_spec.specs.Clause.{are_of};
+ghost use Rattle.blast_spec.specs.Gates as build;
+ghost use Rattle.blast_spec.specs.Circuits as circuits;
+ghost use Rattle.word_circuits.specs.Gives.{no_clauses, Gives};
+
+use crate::words::negation;
+use clause_spec::Literal;
+use cnf_core::{ClauseList, Cnf};
+use std::alloc::{AllocError, Global};
+use std::marker::Model;
+
+/// Gates over numbered variables, each made behind the others.
+///
+/// After an `Err` of one of its calls it is fit only to be dropped.
+#[derive(Drop)]
+pub struct Gates {
+    variables: usize,
+    clauses: ClauseList,
+}
+
+impl Model for Gates {
+    ghost use Rattle.clause_spec.specs.Clause.{Cnf as cnf};
+
+    ghost Value = { cnf };
+
+    ghost view = { λ g. record { variables = g.variables; clauses = g.clauses.clauses } };
+}
+
+impl Gates {
+    /// No gates.
+    pub fn new(alloc: Global) -> Gates
+        ensures { result ≡ no_clauses }
+    {
+        Gates {
+            variables: 0,
+            clauses: ClauseList::new(alloc),
+        }
+    }
+
+    /// The number of the last variable, or 0 where there is none.
+    pub fn last(&self) -> usize
+        ensures { result ≡ self.now.variables }
+    {
+        self.variables
+    }
+
+    /// The clause at a place, counted from 0.
+    #[cfg(test)]
+    pub(crate) fn clause(&self, place: usize) -> Option<&[Literal]> {
+        self.clauses.get(place)
+    }
+
+    /// The clauses of all gates, copied. They may name only variables that were made.
+    pub fn into_cnf(self, alloc: Global) -> Result<Cnf, AllocError>
+        requires { are_of self.variables self.clauses ≡ true }
+        ensures { IfOk result (λ cnf. cnf ≡ self) }
+    {
+        let mut cnf = Cnf::new(alloc, self.variables);
+        for place in 0..self.clauses.len() {
+            let clause = self.clauses.get(place).unwrap();
+            cnf.push(clause)?;
+        }
+        Ok(cnf)
+    }
+
+    /// The literal of a new variable. That there are no more numbers counts as want of memory.
+    pub(crate) fn fresh(&mut self) -> Result<Literal, AllocError>
+        ensures new { IfOk result (λ o. o ≡ build.literal_of (self.old.variables + 1)) }
+        ensures added { OnOk result (self.new ≡ record self.old { variables = self.old.variables + 1 }) }
+    {
+        if self.variables == usize::MAX {
+            return Err(AllocError);
+        }
+        self.variables += 1;
+        Ok(Literal {
+            variable: self.variables,
+            is_negated: false,
+        })
+    }
+
+    /// Adds a clause behind the others.
+    pub(crate) fn push(&mut self, clause: &[Literal]) -> Result<(), AllocError>
+        ensures { OnOk result (self.new ≡ record self.old { clauses = self.old.clauses ++ clause.now ∷ [] }) }
+    {
+        self.clauses.push(clause)
+    }
+
+    /// A clause that is to be met.
+    pub fn claim(&mut self, clause: &[Literal]) -> Result<(), AllocError>
+        ensures { OnOk result (Gives (build.claim (clause.now ∷ [])) self.old tt self.new) }
+    {
+        self.push(clause)
+    }
+
+    /// A literal that holds.
+    pub fn truth(&mut self) -> Result<Literal, AllocError>
+        ensures { IfOk result (λ o. Gives (build.make build.Truth) self.old o self.new) }
+    {
+        let o = self.fresh()?;
+        self.push(&[o])?;
+        Ok(o)
+    }
+
+    /// Both.
+    pub fn and_gate(&mut self, a: Literal, b: Literal) -> Result<Literal, AllocError>
+        ensures { IfOk result (λ o. Gives (circuits.and_gate a b) self.old o self.new) }
+    {
+        let o = self.fresh()?;
+        self.push(&[negation(o), a])?;
+        self.push(&[negation(o), b])?;
+        self.push(&[o, negation(a), negation(b)])?;
+        Ok(o)
+    }
+
+    /// One of them at least.
+    pub fn or_gate(&mut self, a: Literal, b: Literal) -> Result<Literal, AllocError>
+        ensures { IfOk result (λ o. Gives (circuits.or_gate a b) self.old o self.new) }
+    {
+        let neither = self.and_gate(negation(a), negation(b))?;
+        Ok(negation(neither))
+    }
+
+    /// One of them alone.
+    pub fn xor_gate(&mut self, a: Literal, b: Literal) -> Result<Literal, AllocError>
+        ensures { IfOk result (λ o. Gives (circuits.xor_gate a b) self.old o self.new) }
+    {
+        let o = self.fresh()?;
+        self.push(&[negation(o), a, b])?;
+        self.push(&[negation(o), negation(a), negation(b)])?;
+        self.push(&[o, negation(a), b])?;
+        self.push(&[o, a, negation(b)])?;
+        Ok(o)
+    }
+
+    /// The second where the first holds, else the third.
+    pub fn mux_gate(&mut self, c: Literal, a: Literal, b: Literal) -> Result<Literal, AllocError>
+        ensures { IfOk result (λ o. Gives (circuits.mux_gate c a b) self.old o self.new) }
+    {
+        let o = self.fresh()?;
+        self.push(&[negation(c), negation(a), o])?;
+        self.push(&[negation(c), a, negation(o)])?;
+        self.push(&[c, negation(b), o])?;
+        self.push(&[c, b, negation(o)])?;
+        Ok(o)
+    }
+
+    /// Two of the three at least.
+    pub fn majority_gate(
+        &mut self,
+        a: Literal,
+        b: Literal,
+        c: Literal,
+    ) -> Result<Literal, AllocError>
+        ensures { IfOk result (λ o. Gives (circuits.majority_gate a b c) self.old o self.new) }
+    {
+        let o = self.fresh()?;
+        self.push(&[negation(a), negation(b), o])?;
+        self.push(&[negation(a), negation(c), o])?;
+        self.push(&[negation(b), negation(c), o])?;
+        self.push(&[a, b, negation(o)])?;
+        self.push(&[a, c, negation(o)])?;
+        self.push(&[b, c, negation(o)])?;
+        Ok(o)
+    }
+}

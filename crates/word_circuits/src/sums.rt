@@ -1,0 +1,74 @@
+ghost use Rattle.std.specs.Prelude.{IfOk};
+ghost use Rattle.blast_spec.specs.Circuits as circuits;
+ghost use Rattle.word_circuits.specs.Gives.{Gives};
+
+use crate::Gates;
+use crate::words::{negation, negations, one};
+use clause_spec::Literal;
+use std::alloc::{AllocError, Global};
+
+impl Gates {
+    /// The sum of two words and a carry, by the ripple-carry adder.
+    pub fn sum_bits(
+        &mut self,
+        alloc: Global,
+        xs: &[Literal],
+        ys: &[Literal],
+        carry: Literal,
+    ) -> Result<Vec<Literal>, AllocError>
+        ensures { IfOk result (λ out. Gives (circuits.sum_bits xs.now ys.now carry) self.old out.items self.new) }
+    {
+        let mut out = Vec::new(alloc);
+        let mut carried = carry;
+        for place in 0..xs.len().min(ys.len()) {
+            let half = self.xor_gate(xs[place], ys[place])?;
+            let bit = self.xor_gate(half, carried)?;
+            carried = self.majority_gate(xs[place], ys[place], carried)?;
+            out.push(bit)?;
+        }
+        Ok(out)
+    }
+
+    /// The difference of two words.
+    pub fn difference_bits(
+        &mut self,
+        alloc: Global,
+        xs: &[Literal],
+        ys: &[Literal],
+    ) -> Result<Vec<Literal>, AllocError>
+        ensures { IfOk result (λ out. Gives (circuits.difference_bits xs.now ys.now) self.old out.items self.new) }
+    {
+        let complement = negations(alloc, ys)?;
+        self.sum_bits(alloc, xs, &complement, one())
+    }
+
+    /// The last carry of the sum of two words and a carry.
+    fn carry_bit(
+        &mut self,
+        xs: &[Literal],
+        ys: &[Literal],
+        carry: Literal,
+    ) -> Result<Literal, AllocError>
+        ensures { IfOk result (λ o. Gives (circuits.carry_bit xs.now ys.now carry) self.old o self.new) }
+    {
+        let mut last = carry;
+        for place in 0..xs.len().min(ys.len()) {
+            last = self.majority_gate(xs[place], ys[place], last)?;
+        }
+        Ok(last)
+    }
+
+    /// Whether the first word is less than the second, both unsigned.
+    pub fn less_bit(
+        &mut self,
+        alloc: Global,
+        xs: &[Literal],
+        ys: &[Literal],
+    ) -> Result<Literal, AllocError>
+        ensures { IfOk result (λ o. Gives (circuits.less_bit xs.now ys.now) self.old o self.new) }
+    {
+        let complement = negations(alloc, ys)?;
+        let carry = self.carry_bit(xs, &complement, one())?;
+        Ok(negation(carry))
+    }
+}
