@@ -1,0 +1,210 @@
+-- Globals with what they begin with keep roles, the names of types in force carried from each to the next.
+use Rattle.std.proofs.Common.{inl, inr, ◌≡◌, ℕ, arith, Bool, true, false, List, [], ◌∷◌, ◌++◌, Option, Some, None, refl, ap, sym, ◌∙◌, subst, IsTrue, not, ◌&&◌, append_assoc, append-nil}
+use Rattle.c_spec.specs.declared.token.Punctuator.{Punctuator}
+use Rattle.c_spec.specs.declared.token.Punctuator.TheVariants as punctuator
+use Rattle.c_spec.specs.Lexical.{Placed, Mark}
+use Rattle.c_tree_spec.specs.Expression as tree
+use Rattle.c_tree_spec.specs.Unit as unit
+use Rattle.c_grammar_spec.specs.declared.Role.TheVariants.{Nothing, DeclaredName}
+use Rattle.c_grammar_spec.specs.Leaves.{Leaf, plain, awaited, mark, named, marks}
+use Rattle.c_grammar_spec.specs.Expressions as part
+use Rattle.c_grammar_spec.specs.Units as grammar
+use Rattle.c_grammar_spec.specs.Units.{names_after, is_typedef}
+use Rattle.exact_read.specs.Reading.{plains, Stops}
+use Rattle.exact_read.specs.Grammar.{anything, One, Map, first, second, Nothing as Empty, nothing, none, some}
+use Rattle.c_expression_reader.specs.Classes.{is_mark, mark_place}
+use Rattle.c_expression_reader.proofs.Samples.{zero_tree, zero_text, zero_conditional}
+use Rattle.c_type_reader.proofs.Fresh.{fresh, fresh_is}
+use Rattle.c_declaration_reader.proofs.Lists.{Before, Lists, MoreText, end_stops, end_some}
+use Rattle.c_global_reader.specs.Texts.{stop_global}
+use Rattle.c_unit_reader.specs.Initializers.{end_of_initial}
+use Rattle.c_unit_reader.specs.Units.{room, expressions, Initial, end_of_global, read_initial_behind, read_initial_declarator, State, state_after, next_state, state_behind, Read, globals_of, read_globals}
+use Rattle.c_unit_reader.proofs.Lists.{stop_last, InitialIs, computed, initializer}
+use Rattle.c_unit_reader.proofs.Globals.{BehindText, stop_initial, global_at, InitialOf, GlobalsText}
+use Rattle.exact_read.proofs.Parts.{both}
+use Rattle.role_read.proofs.Basics.{roled-stop, roled-enter}
+use Rattle.c_expression_reader.proofs.Marks.{mark-self, one-mark, Behind}
+use Rattle.c_expression_roles.specs.Firm.{Firm}
+use Rattle.c_expression_roles.proofs.Firm.{firm-map, firm-nothing}
+use Rattle.c_expression_roles.proofs.Marks.{mark-some, roled-behind, roled-opened, roled-choose, behind_begins, behind_silent}
+use Rattle.exact_read.specs.Grammar.{context_after}
+use Rattle.c_declaration_reader.proofs.Lists.{next_before}
+use Rattle.c_unit_roles.proofs.Braces.{roled-initial}
+use Rattle.c_global_roles.proofs.Globals.{roled-global}
+use Rattle.c_declaration_roles.proofs.Lists.{roled-end}
+use Rattle.c_type_roles.proofs.Turned.{all-roled}
+
+-- what stands behind the declarator of a global
+abbrev SetText : (names : List (List ℕ)) → (is_typedef : Bool) → unit.Global → Initial → List Leaf → Type 0
+SetText names is_typedef g = Behind (One plain (mark_place punctuator.Assign)) (λ _. Map (λ last. (g, Some last)) (InitialIs (names_after is_typedef g names) 0))
+
+abbrev stop_set : (stop : Placed → Bool) → Option (Option tree.Expression) → Placed → Bool
+stop_set stop None t = stop t && not (is_mark punctuator.Assign t.token)
+stop_set stop (Some last) t = stop_last last t
+
+and-right : (a b : Bool) → IsTrue (a && b) → IsTrue b
+and-right true b h = h
+and-right false b h = absurd (cc)
+
+and-left : (a b : Bool) → IsTrue (a && b) → IsTrue a
+and-left true b h = refl
+and-left false b h = absurd (cc)
+
+unset_same : (is_typedef : Bool) (g : unit.Global) (i : Initial) (text : List Leaf) (t : Placed) → Empty (g, None) i text → both (stop_global is_typedef g) (λ t. not (is_mark punctuator.Assign t.token)) t ≡ stop_initial is_typedef i t
+unset_same is_typedef g i text t nothing = refl
+
+unset_second : (is_typedef : Bool) (g : unit.Global) (i : Initial) (text : List Leaf) (rest : List Placed) → Empty (g, None) i text → Stops (stop_initial is_typedef i) rest → Stops (λ t. not (is_mark punctuator.Assign t.token)) (plains marks text ++ rest)
+unset_second is_typedef g i text [] nothing stops = tt
+unset_second is_typedef g i text (t ∷ rest) nothing stops = and-right (stop_global is_typedef g t) (not (is_mark punctuator.Assign t.token)) stops
+
+set_first : (names : List (List ℕ)) (is_typedef : Bool) (g : unit.Global) (i : Initial) (text : List Leaf) (b : SetText names is_typedef g i text) → text ≡ plain (mark punctuator.Assign b.first) ∷ b.right
+set_first names is_typedef g i text b = b.cut ∙ ap (λ l. l ++ b.right) (one-mark punctuator.Assign plain b.first b.left b.is_first)
+
+some_set : (names : List (List ℕ)) (is_typedef : Bool) (g : unit.Global) → (i : Initial) × (right : List Leaf) × Map (λ last. (g, Some last)) (InitialIs (names_after is_typedef g names) 0) i right
+some_set names is_typedef g = ((g, Some (Some zero_tree)), zero_text, record { inner = Some zero_tree; is = refl; spells = computed zero_tree zero_text (zero_conditional (names_after is_typedef g names) 0 0) })
+
+pub roled-initial_behind : (names : List (List ℕ)) (is_typedef : Bool) (g : unit.Global) → Firm (stop_global is_typedef g) (BehindText names is_typedef g) (stop_initial is_typedef) (read_initial_behind names is_typedef g)
+roled-initial_behind names is_typedef g =
+    let after = names_after is_typedef g names in
+    roled-choose (is_mark punctuator.Assign)
+    record {
+      first_begins = λ i text b. (plain (mark punctuator.Assign b.first), b.right, set_first names is_typedef g i text b, refl);
+      second_begins = λ i text rest one stops. unset_second is_typedef g i text rest one stops;
+    }
+    (λ t e. behind_begins (mark_place punctuator.Assign) plain (λ t. refl) t t.offset (mark-some punctuator.Assign t e) (some_set names is_typedef g))
+    (behind_silent (mark_place punctuator.Assign) plain (λ t. refl))
+    (roled-enter (both (stop_global is_typedef g) (λ t. is_mark punctuator.Assign t.token)) (roled-opened (mark_place punctuator.Assign) Nothing plain (λ t. refl) (λ t. refl) (mark punctuator.Assign 0) 0 (mark-self punctuator.Assign 0)
+    (λ x. ((g, Some (Some zero_tree)), zero_text, record { inner = Some zero_tree; is = refl; spells = computed zero_tree zero_text (zero_conditional after 0 0) }))
+    (λ x t e within. firm-map (λ last. (g, Some last)) (stop_initial is_typedef) (λ last. refl) (roled-initial after (expressions after) (all-roled after) room 0 (omega arith) (omega arith)))))
+    (roled-stop (stop_initial is_typedef) (λ i text one t. unset_same is_typedef g i text t one) (firm-nothing (both (stop_global is_typedef g) (λ t. not (is_mark punctuator.Assign t.token))) (g, None)))
+
+behind_ends : (names : List (List ℕ)) (is_typedef : Bool) (g : unit.Global) (i : Initial) (text : List Leaf) (rest : List Placed) → BehindText names is_typedef g i text → Stops (stop_initial is_typedef i) rest → Stops (stop_global is_typedef g) (plains marks text ++ rest)
+behind_ends names is_typedef g i text rest (first b) stops = subst (λ l. Stops (stop_global is_typedef g) (plains marks l ++ rest)) (sym (set_first names is_typedef g i text b)) (global_at punctuator.Assign refl refl is_typedef g b.first)
+behind_ends names is_typedef g i text [] (second nothing) stops = tt
+behind_ends names is_typedef g i text (t ∷ rest) (second nothing) stops = and-left (stop_global is_typedef g t) (not (is_mark punctuator.Assign t.token)) stops
+
+pub roled-initial_declarator : (names : List (List ℕ)) (is_typedef : Bool) → Firm anything (InitialOf names is_typedef) (stop_initial is_typedef) (read_initial_declarator names is_typedef)
+roled-initial_declarator names is_typedef =
+    roled-behind (roled-global names (expressions names) (all-roled names) is_typedef) (λ g left h w. roled-initial_behind names is_typedef g)
+    record {
+      ends = λ g i left right rest one two stops. behind_ends names is_typedef g i right rest two stops;
+      goes_on = λ g left one. ((g, None), [], second nothing);
+    }
+
+declared : (names : List (List ℕ)) (is_typedef : Bool) (i : Initial) (text : List Leaf) → InitialOf names is_typedef i text → grammar.InitialDeclarator names is_typedef i.0 (end_of_global i.1) text
+declared names is_typedef i text b = subst (λ l. grammar.InitialDeclarator names is_typedef i.0 (end_of_global i.1) l) (sym b.cut) (by_way i b.first b.left b.right b.is_first b.is_second)
+  where
+    by_way : (i : Initial) (g : unit.Global) (left right : List Leaf) → grammar.GlobalDeclarator names is_typedef g left → BehindText names is_typedef g i right → grammar.InitialDeclarator names is_typedef i.0 (end_of_global i.1) (left ++ right)
+    by_way i g left right h (first s) =
+        let m = s.is_second in
+        subst (λ l. grammar.InitialDeclarator names is_typedef i.0 (end_of_global i.1) (left ++ l)) (sym (set_first names is_typedef g i right s))
+        (subst (λ (v : Initial). grammar.InitialDeclarator names is_typedef v.0 (end_of_global v.1) (left ++ plain (mark punctuator.Assign s.first) ∷ s.right)) (sym m.is)
+        (grammar.set is_typedef g (end_of_initial m.inner) left s.right s.first h (initializer (names_after is_typedef g names) 0 m.inner s.right m.spells)))
+    by_way i g left right h (second nothing) = subst (λ l. grammar.InitialDeclarator names is_typedef g Nothing l) (sym (append-nil left)) (grammar.unset is_typedef g left h)
+
+-- globals behind a first: the state is the names in force, and what is awaited
+abbrev step : (is_typedef : Bool) → List (List ℕ) → Initial → List (List ℕ)
+step is_typedef names i = names_after is_typedef i.0 names
+
+abbrev of : List (List ℕ) → Initial → State
+of names i = (names, end_of_global i.1)
+
+abbrev put : List (List ℕ) → Initial → Placed → Leaf
+put names i = awaited (end_of_global i.1)
+
+abbrev OneOf : (is_typedef : Bool) → List (List ℕ) → Initial → List Leaf → Type 0
+OneOf is_typedef names = InitialOf names is_typedef
+
+abbrev put_close : (is_typedef : Bool) → Before (List (List ℕ)) Initial → List Initial → Placed → Leaf
+put_close is_typedef d xs = awaited (state_behind is_typedef (of d.0 d.1) xs).1
+
+abbrev MoreOf : (is_typedef : Bool) → Before (List (List ℕ)) Initial → List Initial → List Leaf → Type 0
+MoreOf is_typedef = MoreText (step is_typedef) put (OneOf is_typedef)
+
+sample : (names : List (List ℕ)) (is_typedef : Bool) → InitialOf names is_typedef (unit.Object (tree.Declared 0 (fresh names) false tree.no_expressions), None) (awaited DeclaredName (named (fresh names)) ∷ [])
+sample names is_typedef =
+    let d = tree.Declared 0 (fresh names) false tree.no_expressions in
+    let t = awaited DeclaredName (named (fresh names)) ∷ [] in
+    record {
+      first = unit.Object d;
+      left = t;
+      right = [];
+      is_first = grammar.object is_typedef d t (part.declarator false 0 0 (fresh names) false tree.no_expressions [] [] (rw (fresh_is names) refl) part.none (part.given 0 tree.no_expressions [] (part.no_lengths 0)));
+      is_second = second nothing;
+      cut = refl;
+    }
+
+-- any test that passes at a `,` and at a `;`
+lists_by : (is_typedef : Bool) (stop : Initial → Placed → Bool) → ((i : Initial) (place : ℕ) → IsTrue (stop i (mark punctuator.Comma place))) → ((i : Initial) (place : ℕ) → IsTrue (stop i (mark punctuator.Semicolon place))) → Lists (OneOf is_typedef) stop punctuator.Semicolon
+lists_by is_typedef stop at_comma at_close = record { at_comma = at_comma; at_close = at_close; apart = refl; some = λ names. (_, _, sample names is_typedef) }
+
+initial_at : (p : Punctuator) → is_mark punctuator.LeftParenthesis (Mark p) ≡ false → is_mark punctuator.LeftBracket (Mark p) ≡ false → is_mark punctuator.Assign (Mark p) ≡ false → ((last : Option tree.Expression) (place : ℕ) → IsTrue (stop_last last (mark p place))) → (is_typedef : Bool) (i : Initial) (place : ℕ) → IsTrue (stop_initial is_typedef i (mark p place))
+initial_at p e f no_assign ends is_typedef i place = by_value i.1
+  where
+    and_true : (a b : Bool) → IsTrue a → b ≡ false → IsTrue (a && not b)
+    and_true true b h e = rw e refl
+    and_true false b h e = absurd (cc)
+
+    by_value : (v : Option (Option tree.Expression)) → IsTrue (stop_set (stop_global is_typedef i.0) v (mark p place))
+    by_value None = and_true (stop_global is_typedef i.0 (mark p place)) (is_mark punctuator.Assign (Mark p)) (global_at p e f is_typedef i.0 place) no_assign
+    by_value (Some last) = ends last place
+
+comma_last : (last : Option tree.Expression) (place : ℕ) → IsTrue (stop_last last (mark punctuator.Comma place))
+comma_last None place = refl
+comma_last (Some x) place = refl
+
+close_last : (last : Option tree.Expression) (place : ℕ) → IsTrue (stop_last last (mark punctuator.Semicolon place))
+close_last None place = refl
+close_last (Some x) place = refl
+
+lists : (is_typedef : Bool) → Lists (OneOf is_typedef) (stop_initial is_typedef) punctuator.Semicolon
+lists is_typedef = lists_by is_typedef (stop_initial is_typedef) (λ i place. initial_at punctuator.Comma refl refl refl comma_last is_typedef i place) (λ i place. initial_at punctuator.Semicolon refl refl refl close_last is_typedef i place)
+
+-- what stands behind specifiers and a first declarator
+abbrev made_declaration : (names : List (List ℕ)) → tree.Specifiers → Initial → List Initial → Read
+made_declaration names s head more = (unit.Declaration s (head.0 ∷ globals_of more), (state_behind (is_typedef s) (state_after (is_typedef s) names head) more).0)
+
+abbrev behind_first : (names : List (List ℕ)) → (is_typedef : Bool) → Initial → Before (List (List ℕ)) Initial
+behind_first names is_typedef head = (names_after is_typedef head.0 names, head)
+
+-- what is awaited behind the last
+last_same : (is_typedef : Bool) (d : Before (List (List ℕ)) Initial) (xs : List Initial) → end_of_global (context_after (next_before (step is_typedef)) d xs).1.1 ≡ (state_behind is_typedef (of d.0 d.1) xs).1
+last_same is_typedef d [] = refl
+last_same is_typedef d (x ∷ xs) = last_same is_typedef (step is_typedef d.0 x, x) xs
+
+pub roled-globals : (names : List (List ℕ)) (s : tree.Specifiers) (g : unit.Global) → Firm (stop_global (is_typedef s) g) (GlobalsText names s g) (λ _. anything) (read_globals names s g)
+roled-globals names s g =
+    let c = is_typedef s in
+    roled-behind (roled-initial_behind names c g)
+    (λ head left h w. firm-map (made_declaration names s head) (λ _. anything) (λ x. refl) (firm-map (λ (made : List Initial × ℕ). made.0) (λ _. anything) (λ x. refl)
+    (roled-end (lists c) (step c) of (λ now. now.1) (λ now. awaited now.1) (λ now. read_initial_declarator now.0 c) (next_state c) (λ now t. refl) (λ now t. refl) (λ e y x. refl) (λ e y. roled-initial_declarator e c)
+    (λ d xs. (state_behind c (of d.0 d.1) xs).1) (put_close c) (λ d xs t. refl) (λ d xs t. refl) (λ e x. inl refl) (λ d xs. inr (last_same c d xs)) (behind_first names c head))))
+    record {
+      ends = λ head read left right rest one two stops. let m = two.spells in end_stops (lists c) (step c) put (λ e x t. refl) (put_close c) (λ d xs t. refl) (behind_first names c head) m.inner right rest m.spells;
+      goes_on = λ head left one. let e = end_some (step c) put (OneOf c) punctuator.Semicolon (put_close c) (behind_first names c head) in (made_declaration names s head e.0.0, e.1, record { inner = e.0.0; is = refl; spells = record { inner = e.0; is = refl; spells = e.2 } });
+    }
+
+-- as the grammar has them
+abbrev Made : (is_typedef : Bool) → Before (List (List ℕ)) Initial → List Initial → List Leaf → Type 0
+Made is_typedef d xs text =
+    (names : List (List ℕ)) (left : List Leaf) (close : ℕ) → d.0 ≡ names_after is_typedef d.1.0 names → InitialOf names is_typedef d.1 left
+    → grammar.Globals names is_typedef (d.1.0 ∷ globals_of xs) (state_behind is_typedef (of d.0 d.1) xs).0 (left ++ (text ++ put_close is_typedef d xs (mark punctuator.Semicolon close) ∷ []))
+
+made_none : (is_typedef : Bool) (d : Before (List (List ℕ)) Initial) → Made is_typedef d [] []
+made_none is_typedef d names left close e h =
+    subst (λ (after : List (List ℕ)). grammar.Globals names is_typedef (d.1.0 ∷ []) after (left ++ put_close is_typedef d [] (mark punctuator.Semicolon close) ∷ [])) (sym e)
+    (grammar.last names is_typedef d.1.0 (end_of_global d.1.1) left close (declared names is_typedef d.1 left h))
+
+made_some : (is_typedef : Bool) (d : Before (List (List ℕ)) Initial) (y : Initial) (ys : List Initial) (one two : List Leaf) → Behind (One (put d.0 d.1) (mark_place punctuator.Comma)) (λ _. InitialOf d.0 is_typedef) y one → Made is_typedef (names_after is_typedef y.0 d.0, y) ys two → Made is_typedef d (y ∷ ys) (one ++ two)
+made_some is_typedef d y ys one two b again names left close e h =
+    let after = (state_behind is_typedef (of d.0 d.1) (y ∷ ys)).0 in
+    let end = put_close is_typedef d (y ∷ ys) (mark punctuator.Semicolon close) ∷ [] in
+    let cut : (one ++ two) ++ end ≡ put d.0 d.1 (mark punctuator.Comma b.first) ∷ (b.right ++ (two ++ end)) =
+    append_assoc one two end ∙ ap (λ l. l ++ (two ++ end)) (b.cut ∙ ap (λ l. l ++ b.right) (one-mark punctuator.Comma (put d.0 d.1) b.first b.left b.is_first)) in
+    subst (λ l. grammar.Globals names is_typedef (d.1.0 ∷ y.0 ∷ globals_of ys) after (left ++ l)) (sym cut)
+    (grammar.more names is_typedef d.1.0 (y.0 ∷ globals_of ys) after (end_of_global d.1.1) left (b.right ++ (two ++ end)) b.first (declared names is_typedef d.1 left h)
+    (subst (λ (n : List (List ℕ)). grammar.Globals n is_typedef (y.0 ∷ globals_of ys) after (b.right ++ (two ++ end))) e (again d.0 b.right close refl b.is_second)))
+
+made : (is_typedef : Bool) (d : Before (List (List ℕ)) Initial) (xs : List Initial) (text : List Leaf) → MoreOf is_typedef d xs text → Made is_typedef d xs text
+made is_typedef d xs text (none k) = made_none is_typedef k
+made is_typedef d xs text (some k y ys one two b rest) = made_some is_typedef k y ys one two b (made is_typedef (names_after is_typedef y.0 k.0, y) ys two rest)

@@ -1,0 +1,66 @@
+-- Trees at places of a bank that grows.
+use Rattle.std.proofs.Common.{◌≡◌, ℕ, ◌+◌, ◌<◌, ◌≤◌, false, List, [], ◌∷◌, ◌++◌, length, map, get_or, Some, refl, sym, ap, ◌∙◌, subst, arith, append_assoc, append-nil, length-append}
+use Rattle.std.proofs.lemmas.Option.{slice_get_within, get_or_from_slice_get, slice_get-get_or}
+use Rattle.term_spec.specs.declared.Atom.TheVariants as atom
+use Rattle.term_spec.specs.declared.Variable.{Variable}
+use Rattle.term_spec.specs.Term as tree
+use Rattle.term_spec.specs.Term.{Term}
+use Rattle.term_bank.specs.declared.node.TermNode.{TermNode}
+use Rattle.term_bank.specs.Nodes.{IsNode, tree_at, build, Holds, Extends}
+use Rattle.term_bank.proofs.Growth.{tree_at-front, build-front}
+use Rattle.flat_spec.specs.Flat.{FlatLoad}
+use Rattle.mem_terms.specs.declared.places.LoadPlaces.{LoadPlaces}
+use Rattle.mem_terms.specs.Places.{IsTreeAt, load_at, IsWithin, AreWithin}
+
+-- ---- longer lists
+
+pub extends_itself : (trees : List Term) → Extends trees trees
+extends_itself trees = ([], sym (append-nil trees))
+
+pub extends_then : (a b c : List Term) → Extends a b → Extends b c → Extends a c
+extends_then a b c p q = (p.0 ++ q.0, q.1 ∙ ap (λ l. l ++ q.0) p.1 ∙ append_assoc a p.0 q.0)
+
+pub longer : (a b : List Term) → Extends a b → length a ≤ length b
+longer a b e = omega (arith, ap length e.1, length-append a e.0)
+
+pub within_longer : (a b : List Term) (i : ℕ) → Extends a b → i < length a → i < length b
+within_longer a b i e h = omega (arith, longer a b e)
+
+pub kept_tree : (a b : List Term) (i : ℕ) → Extends a b → i < length a → tree_at b i ≡ tree_at a i
+kept_tree a b i e h = ap (λ l. tree_at l i) e.1 ∙ tree_at-front a e.0 i h
+
+pub kept_build : (a b : List Term) (node : TermNode) → Extends a b → IsNode (length a) node → build b node ≡ build a node
+kept_build a b node e h = ap (λ l. build l node) e.1 ∙ build-front a e.0 node h
+
+-- ---- trees at places
+
+pub holds_tree : (trees : List Term) (i : ℕ) (t : Term) → Holds trees i t → IsTreeAt trees i t
+holds_tree trees i t h = record { within = slice_get_within trees i t h; tree = get_or_from_slice_get trees i t (tree.Leaf (atom.Truth false)) h }
+
+pub tree_holds : (trees : List Term) (i : ℕ) (t : Term) → IsTreeAt trees i t → Holds trees i t
+tree_holds trees i t h = slice_get-get_or trees i (tree.Leaf (atom.Truth false)) h.within ∙ ap Some h.tree
+
+pub tree_later : (a b : List Term) (i : ℕ) (t : Term) → Extends a b → IsTreeAt a i t → IsTreeAt b i t
+tree_later a b i t e h = record { within = within_longer a b i e h.within; tree = kept_tree a b i e h.within ∙ h.tree }
+
+pub tree_as : (trees : List Term) (i : ℕ) (s t : Term) → s ≡ t → IsTreeAt trees i s → IsTreeAt trees i t
+tree_as trees i s t e h = record { within = h.within; tree = h.tree ∙ e }
+
+-- ---- loads by their places
+
+made : (v : Variable) (a b c d : Term) → a ≡ b → c ≡ d → (let f : FlatLoad = record { memory = v; address = a; byte = c } in f) ≡ record { memory = v; address = b; byte = d }
+made v a b c d p q = cc
+
+pub load_later : (a b : List Term) (l : LoadPlaces) → Extends a b → IsWithin (length a) l → load_at b l ≡ load_at a l
+load_later a b l e h = made l.memory (tree_at b l.address) (tree_at a l.address) (tree_at b l.byte) (tree_at a l.byte) (kept_tree a b l.address e h.0) (kept_tree a b l.byte e h.1)
+
+pub loads_later : (a b : List Term) (loads : List LoadPlaces) → Extends a b → AreWithin (length a) loads → map (load_at b) loads ≡ map (load_at a) loads
+loads_later a b [] e h = refl
+loads_later a b (l ∷ loads) e h = let first = load_later a b l e h.0 in let rest = loads_later a b loads e h.1 in cc
+
+pub within_later : (a b : List Term) (l : LoadPlaces) → Extends a b → IsWithin (length a) l → IsWithin (length b) l
+within_later a b l e h = (within_longer a b l.address e h.0, within_longer a b l.byte e h.1)
+
+pub all_within_later : (a b : List Term) (loads : List LoadPlaces) → Extends a b → AreWithin (length a) loads → AreWithin (length b) loads
+all_within_later a b [] e h = tt
+all_within_later a b (l ∷ loads) e h = (within_later a b l e h.0, all_within_later a b loads e h.1)

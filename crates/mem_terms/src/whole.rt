@@ -1,0 +1,30 @@
+// The flat term of a term.
+
+ghost use Rattle.std.specs.Prelude.{◌<◌, length, IfOk};
+ghost use Rattle.term_bank.specs.Nodes.{tree_at, Extends};
+ghost use Rattle.mem_terms.specs.Places.{IsFlatOf};
+
+use crate::build::{implied, truth};
+use crate::places::Flat;
+use crate::ties::consistent;
+use crate::walk::Walk;
+use std::alloc::{AllocError, Global};
+use term_bank::{Bank, TermId};
+
+/// The flat term of a term, in the same bank: each load of a memory variable is a byte of its own. Where memory is
+/// wanting, the bank may have some terms more.
+pub fn flat(alloc: Global, bank: &mut Bank, goal: TermId) -> Result<Flat, AllocError>
+    requires { goal < length bank.old }
+    ensures flat { IfOk result (λ flat. IsFlatOf bank.new flat (tree_at bank.old goal)) }
+    ensures extends { Extends bank.old bank.new }
+{
+    // equal trees have one place from here on
+    let _truth = truth(bank)?;
+    let mut walk = Walk::new(alloc, bank, goal)?;
+    walk.run(bank)?;
+    let without = walk.place(goal);
+    let loads = walk.into_loads();
+    let all = consistent(alloc, bank, &loads)?;
+    let term = implied(bank, all, without)?;
+    Ok(Flat { term, loads })
+}

@@ -1,0 +1,10 @@
+use Rattle.std.proofs.Common.{refl, ap, ◌∙◌}
+use Rattle.term_spec.specs.Value.{quaternary_value}
+use Rattle.normal_spec.specs.Seen.{constant_of}
+use Rattle.normal_rules.proofs.constants.value_of_four.Goals as goal
+
+pub returns-clause-tree : goal.returns-clause-tree
+unfolding quaternary_value
+returns-clause-tree c =
+    c.constant_of-value.ensures
+    ∙ ap constant_of (c.in_ok-word.ensures ∙ rw (c.known-first.ensures, c.known-second.ensures, c.known-third.ensures, c.known-fourth.ensures) refl)

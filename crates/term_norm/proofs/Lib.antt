@@ -1,0 +1,5 @@
+pub mod Growth
+pub mod Parts
+pub mod Steps
+pub mod Taken
+pub mod Waits

@@ -1,0 +1,108 @@
+// The normal form of the terms of a bank.
+
+ghost use Rattle.std.specs.Prelude.{◌≡◌, ◌<◌, length, IfOk, IfErr};
+ghost use Rattle.normal_spec.specs.Normal as spec;
+ghost use Rattle.term_bank.specs.Nodes.{tree_at, Holds, Extends};
+ghost use Rattle.term_norm.specs.Runs.{runs_of, form_with};
+ghost use Rattle.term_norm.specs.Walk.{form_at, IsStop, AreForms};
+
+use crate::loads::load;
+use crate::runs::Run;
+use crate::walk::{Stop, Walk};
+use normal_rules::{
+    normal_and, normal_equal, normal_join_two, normal_less, normal_octonary, normal_or,
+    normal_quaternary, normal_ternary, normal_unary, normal_word,
+};
+use std::alloc::{AllocError, Global};
+use term_bank::{Bank, TermId, TermNode};
+use term_spec::BinaryOperator;
+
+// An operator with two arguments in normal form.
+#[tactic(auto, unfolding(normal_spec::specs::Normal::normal_binary))]
+fn binary(
+    alloc: Global,
+    bank: &mut Bank,
+    runs: &[Run<'_>],
+    operator: BinaryOperator,
+    x: TermId,
+    y: TermId,
+) -> Result<TermId, AllocError>
+    requires first { x < length bank.old }
+    requires second { y < length bank.old }
+    ensures form { IfOk result (λ i. Holds bank.new i (spec.normal_binary (runs_of runs.now) operator (tree_at bank.old x) (tree_at bank.old y))) }
+    ensures extends { Extends bank.old bank.new }
+{
+    match operator {
+        BinaryOperator::And => normal_and(bank, x, y),
+        BinaryOperator::Or => normal_or(bank, x, y),
+        BinaryOperator::Equal => normal_equal(bank, x, y),
+        BinaryOperator::Less => normal_less(bank, x, y),
+        BinaryOperator::Word(operator) => normal_word(bank, operator, x, y),
+        BinaryOperator::Load => load(alloc, bank, runs, x, y),
+        BinaryOperator::Join => normal_join_two(bank, x, y),
+    }
+}
+
+// The form of the term at hand, by those of its arguments; or which of these is wanted first.
+fn form_at_hand(
+    alloc: Global,
+    bank: &mut Bank,
+    runs: &[Run<'_>],
+    walk: &Walk,
+) -> Result<TermId, Stop>
+    requires within { walk.now.at < length bank.old }
+    requires forms { AreForms (form_with runs.now) bank.old walk.now }
+    ensures form { IfOk result (λ i. Holds bank.new i (form_with runs.now (tree_at bank.old walk.now.at))) }
+    ensures wanted { IfErr result (IsStop (form_at walk.now) walk.now.at) }
+    ensures extends { Extends bank.old bank.new }
+{
+    match bank.node(walk.at) {
+        TermNode::Leaf(_) => Ok(walk.at),
+        TermNode::Unary(operator, a) => {
+            let x = walk.form(a)?;
+            Ok(normal_unary(bank, operator, x)?)
+        }
+        TermNode::Binary(operator, a, b) => {
+            let x = walk.form(a)?;
+            let y = walk.form(b)?;
+            Ok(binary(alloc, bank, runs, operator, x, y)?)
+        }
+        TermNode::Ternary(operator, a, b, c) => {
+            let x = walk.form(a)?;
+            let y = walk.form(b)?;
+            let z = walk.form(c)?;
+            Ok(normal_ternary(bank, operator, x, y, z)?)
+        }
+        TermNode::Quaternary(operator, a, b, c, d) => {
+            let (x, y, z, w) = walk.four_forms(a, b, c, d)?;
+            Ok(normal_quaternary(bank, operator, x, y, z, w)?)
+        }
+        TermNode::Octonary(a, b, c, d, e, f, g, h) => {
+            let (s, t, u, v) = walk.four_forms(a, b, c, d)?;
+            let (w, x, y, z) = walk.four_forms(e, f, g, h)?;
+            Ok(normal_octonary(bank, s, t, u, v, w, x, y, z)?)
+        }
+    }
+}
+
+/// The place of the normal form of a term, where `runs` are the bytes that each memory of the source holds.
+/// The bank grows, also where memory is wanting.
+pub fn normal(
+    alloc: Global,
+    bank: &mut Bank,
+    term: TermId,
+    runs: &[Run<'_>],
+) -> Result<TermId, AllocError>
+    requires { term < length bank.old }
+    ensures form { IfOk result (λ i. Holds bank.new i (spec.normal (runs_of runs.now) (tree_at bank.old term))) }
+    ensures within { IfOk result (λ i. i < length bank.new) }
+    ensures extends { Extends bank.old bank.new }
+{
+    let mut walk = Walk::new(alloc, term);
+    loop {
+        let outcome = form_at_hand(alloc, bank, runs, &walk);
+        if let Some(form) = walk.take(outcome)? {
+            return Ok(form);
+        }
+    }
+}

@@ -1,0 +1,19 @@
+//! The normal form of the terms of a bank.
+//!
+//! [`normal`] gives the place of exactly the tree that `normal_spec` defines (`specs/Normal.antt` there), where
+//! `runs` are the bytes that every memory of the source holds. Each term is brought into normal form once,
+//! after its arguments, however often it stands in others, and a load goes through each memory once; the work
+//! is not bounded by how deep a term is.
+
+#![tactic(auto)]
+
+mod forms;
+mod loads;
+mod runs;
+mod walk;
+
+pub use forms::normal;
+pub use runs::Run;
+
+#[cfg(test)]
+mod tests;

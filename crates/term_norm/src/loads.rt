@@ -1,0 +1,169 @@
+// The load of a byte from a memory in normal form.
+
+ghost use Rattle.std.specs.Prelude.{◌≡◌, ◌<◌, length, None, if◌then◌else◌, ◌&&◌, IfOk, IfErr};
+ghost use Rattle.normal_spec.specs.Normal as spec;
+ghost use Rattle.normal_spec.specs.Seen as seen;
+ghost use Rattle.normal_spec.specs.Fixed as fixed;
+ghost use Rattle.term_bank.specs.Nodes.{tree_at, Holds, Extends};
+ghost use Rattle.term_norm.specs.Runs.{runs_of, load_from};
+ghost use Rattle.term_norm.specs.Walk.{form_at, IsStop, AreForms};
+
+use crate::runs::{Run, fixed_byte};
+use crate::walk::{Stop, Walk};
+use normal_rules::{
+    constant_byte, is_constant, is_source_memory, normal_and, normal_choose, normal_equal,
+    normal_less, normal_not, number_of,
+};
+use std::alloc::{AllocError, Global};
+use term_bank::{Bank, TermId, TermNode};
+use term_spec::{BinaryOperator, QuaternaryOperator, TernaryOperator};
+
+// Whether it is a memory of the source that is read at a known address.
+fn is_known_place(bank: &Bank, m: TermId, d: TermId) -> bool
+    requires memory { m < length bank.now }
+    requires address { d < length bank.now }
+    ensures { result ≡ (seen.is_source_memory (tree_at bank.now m) && seen.is_constant (tree_at bank.now d)) }
+{
+    is_source_memory(bank, m) && is_constant(bank, d)
+}
+
+// The byte that is fixed there, where it is a known place.
+fn known_byte(bank: &Bank, runs: &[Run<'_>], m: TermId, d: TermId) -> Option<u8>
+    requires memory { m < length bank.now }
+    requires address { d < length bank.now }
+    ensures { result ≡ (if seen.is_source_memory (tree_at bank.now m) && seen.is_constant (tree_at bank.now d) then fixed.fixed_byte (runs_of runs.now) (seen.number_of (tree_at bank.now d)) else None) }
+{
+    if is_known_place(bank, m, d) {
+        fixed_byte(runs, number_of(bank, d))
+    } else {
+        None
+    }
+}
+
+// The load of a memory that isn't taken apart.
+fn load_of_variable(
+    bank: &mut Bank,
+    runs: &[Run<'_>],
+    m: TermId,
+    d: TermId,
+) -> Result<TermId, AllocError>
+    requires memory { m < length bank.old }
+    requires address { d < length bank.old }
+    ensures form { IfOk result (λ i. Holds bank.new i (spec.load_of_variable (runs_of runs.now) (tree_at bank.old m) (tree_at bank.old d))) }
+    ensures extends { Extends bank.old bank.new }
+{
+    match known_byte(bank, runs, m, d) {
+        Some(byte) => constant_byte(bank, byte),
+        None => bank.add(TermNode::Binary(BinaryOperator::Load, m, d)),
+    }
+}
+
+// The load of a store: the byte `b` that was stored where `d` is its address `a`, else the byte below it.
+fn load_of_store(
+    bank: &mut Bank,
+    d: TermId,
+    a: TermId,
+    b: TermId,
+    below: TermId,
+) -> Result<TermId, AllocError>
+    requires address { d < length bank.old }
+    requires place { a < length bank.old }
+    requires stored { b < length bank.old }
+    requires rest { below < length bank.old }
+    ensures form { IfOk result (λ i. Holds bank.new i (spec.normal_choose (spec.normal_equal (tree_at bank.old d) (tree_at bank.old a)) (tree_at bank.old b) (tree_at bank.old below))) }
+    ensures extends { Extends bank.old bank.new }
+{
+    let test = normal_equal(bank, d, a)?;
+    normal_choose(bank, test, b, below)
+}
+
+// Whether `d` is from `low` on and below `high`.
+fn is_between(bank: &mut Bank, d: TermId, low: TermId, high: TermId) -> Result<TermId, AllocError>
+    requires address { d < length bank.old }
+    requires first { low < length bank.old }
+    requires end { high < length bank.old }
+    ensures form { IfOk result (λ i. Holds bank.new i (spec.normal_and (spec.normal_not (spec.normal_less (tree_at bank.old d) (tree_at bank.old low))) (spec.normal_less (tree_at bank.old d) (tree_at bank.old high)))) }
+    ensures extends { Extends bank.old bank.new }
+{
+    let is_before = normal_less(bank, d, low)?;
+    let is_from = normal_not(bank, is_before)?;
+    let is_below = normal_less(bank, d, high)?;
+    normal_and(bank, is_from, is_below)
+}
+
+// The load of an overlay: the byte of the upper memory between the bounds, else that of the lower.
+fn load_of_overlay(
+    bank: &mut Bank,
+    d: TermId,
+    low: TermId,
+    high: TermId,
+    upper: TermId,
+    lower: TermId,
+) -> Result<TermId, AllocError>
+    requires address { d < length bank.old }
+    requires first { low < length bank.old }
+    requires end { high < length bank.old }
+    requires inside { upper < length bank.old }
+    requires outside { lower < length bank.old }
+    ensures form { IfOk result (λ i. Holds bank.new i (spec.normal_choose (spec.normal_and (spec.normal_not (spec.normal_less (tree_at bank.old d) (tree_at bank.old low))) (spec.normal_less (tree_at bank.old d) (tree_at bank.old high))) (tree_at bank.old upper) (tree_at bank.old lower))) }
+    ensures extends { Extends bank.old bank.new }
+{
+    let test = is_between(bank, d, low, high)?;
+    normal_choose(bank, test, upper, lower)
+}
+
+// The load of the memory at hand, by those of its memories; or which of these is wanted first.
+fn load_at_hand(bank: &mut Bank, runs: &[Run<'_>], walk: &Walk, d: TermId) -> Result<TermId, Stop>
+    requires memory { walk.now.at < length bank.old }
+    requires address { d < length bank.old }
+    requires loads { AreForms (load_from runs.now (tree_at bank.old d)) bank.old walk.now }
+    ensures form { IfOk result (λ i. Holds bank.new i (load_from runs.now (tree_at bank.old d) (tree_at bank.old walk.now.at))) }
+    ensures wanted { IfErr result (IsStop (form_at walk.now) walk.now.at) }
+    ensures extends { Extends bank.old bank.new }
+{
+    match bank.node(walk.at) {
+        TermNode::Ternary(operator, a, b, c) => match operator {
+            TernaryOperator::Store => {
+                let below = walk.form(a)?;
+                Ok(load_of_store(bank, d, b, c, below)?)
+            }
+            TernaryOperator::Choose => {
+                let x = walk.form(b)?;
+                let y = walk.form(c)?;
+                Ok(normal_choose(bank, a, x, y)?)
+            }
+        },
+        TermNode::Quaternary(operator, m, z, low, high) => match operator {
+            QuaternaryOperator::Over => {
+                let lower = walk.form(m)?;
+                let upper = walk.form(z)?;
+                Ok(load_of_overlay(bank, d, low, high, upper, lower)?)
+            }
+            QuaternaryOperator::Join => Ok(load_of_variable(bank, runs, walk.at, d)?),
+        },
+        _ => Ok(load_of_variable(bank, runs, walk.at, d)?),
+    }
+}
+
+/// The normal form of a load from a memory in normal form at an address in normal form.
+pub fn load(
+    alloc: Global,
+    bank: &mut Bank,
+    runs: &[Run<'_>],
+    m: TermId,
+    d: TermId,
+) -> Result<TermId, AllocError>
+    requires memory { m < length bank.old }
+    requires address { d < length bank.old }
+    ensures form { IfOk result (λ i. Holds bank.new i (load_from runs.now (tree_at bank.old d) (tree_at bank.old m))) }
+    ensures within { IfOk result (λ i. i < length bank.new) }
+    ensures extends { Extends bank.old bank.new }
+{
+    let mut walk = Walk::new(alloc, m);
+    loop {
+        let outcome = load_at_hand(bank, runs, &walk, d);
+        if let Some(form) = walk.take(outcome)? {
+            return Ok(form);
+        }
+    }
+}
