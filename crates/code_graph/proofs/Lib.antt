@@ -1,0 +1,11 @@
+mod Sizes
+mod Blanks
+mod Rising
+mod Extents
+mod Numbered
+mod Decoded
+mod Asked
+mod Parts
+mod Added
+mod Searched
+mod Whole

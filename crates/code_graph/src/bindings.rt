@@ -1,0 +1,219 @@
+//! What instructions bind that go on to the next one, and what a called function starts with.
+
+ghost use Rattle.std.specs.Prelude.{◌≡◌, ◌*◌, ◌%◌, ◌^◌, ◌∷◌, [], ◌++◌, ◌<◌, map, All, IfOk, OnOk};
+ghost use Rattle.rv_spec.specs.Arithmetic.{of_immediate as of_immediate_is, of_shift as of_shift_is};
+ghost use Rattle.term_core.specs.Trees.{term_of};
+ghost use Rattle.graph_core.specs.Graphs.{binding_of, bindings_of};
+ghost use Rattle.code_graph_spec.specs.State.{memory as memory_is};
+ghost use Rattle.code_graph_spec.specs.Forms as spec;
+ghost use Rattle.code_graph_spec.specs.Blocks.{call_inputs as call_inputs_are, entry_binding as entry_binding_is};
+
+use code_terms::{
+    address, computed, entry_register, loaded, memory, number, operand, register, stored,
+};
+use graph_core::Binding;
+use rv_instr::{
+    ArithmeticOperation, ImmediateOperation, Instr, LoadKind, Reg, ShiftOperation, StoreKind,
+};
+use std::alloc::{AllocError, Global};
+use term_core::Term;
+use term_spec::Atom;
+
+/// Binds a register, unless it is x0, which nothing writes.
+fn put(alloc: Global, rd: Reg, term: Term) -> Result<Vec<Binding>, AllocError>
+    ensures { IfOk result (λ bindings. bindings_of bindings ≡ spec.put rd (term_of term)) }
+{
+    let mut bindings = Vec::new(alloc);
+    if rd.number() != 0 {
+        bindings.push(Binding {
+            variable: register(rd),
+            term,
+        })?;
+    }
+    Ok(bindings)
+}
+
+/// The operation of one with an immediate.
+fn of_immediate(operation: ImmediateOperation) -> ArithmeticOperation
+    ensures { result ≡ of_immediate_is operation }
+{
+    match operation {
+        ImmediateOperation::Add => ArithmeticOperation::Add,
+        ImmediateOperation::SetLess => ArithmeticOperation::SetLess,
+        ImmediateOperation::SetLessUnsigned => ArithmeticOperation::SetLessUnsigned,
+        ImmediateOperation::Xor => ArithmeticOperation::Xor,
+        ImmediateOperation::Or => ArithmeticOperation::Or,
+        ImmediateOperation::And => ArithmeticOperation::And,
+    }
+}
+
+/// The operation of a shift by an amount that stands in the word.
+fn of_shift(operation: ShiftOperation) -> ArithmeticOperation
+    ensures { result ≡ of_shift_is operation }
+{
+    match operation {
+        ShiftOperation::Left => ArithmeticOperation::ShiftLeft,
+        ShiftOperation::RightLogical => ArithmeticOperation::ShiftRightLogical,
+        ShiftOperation::RightArithmetic => ArithmeticOperation::ShiftRightArithmetic,
+    }
+}
+
+/// What an operation of two operands binds.
+fn computes(
+    alloc: Global,
+    operation: ArithmeticOperation,
+    rd: Reg,
+    x: Term,
+    y: Term,
+) -> Result<Vec<Binding>, AllocError>
+    ensures { IfOk result (λ bindings. bindings_of bindings ≡ spec.put rd (spec.computed operation (term_of x) (term_of y))) }
+{
+    let term = computed(alloc, operation, x, y)?;
+    put(alloc, rd, term)
+}
+
+/// What a load binds.
+fn loads(
+    alloc: Global,
+    kind: LoadKind,
+    rd: Reg,
+    base: Reg,
+    offset: i32,
+) -> Result<Vec<Binding>, AllocError>
+    ensures { IfOk result (λ bindings. bindings_of bindings ≡ spec.put rd (spec.loaded kind (spec.address base offset))) }
+{
+    let a = address(alloc, base, offset)?;
+    let term = loaded(alloc, kind, &a)?;
+    put(alloc, rd, term)
+}
+
+/// What a store binds: the memory.
+fn stores(
+    alloc: Global,
+    kind: StoreKind,
+    base: Reg,
+    source: Reg,
+    offset: i32,
+) -> Result<Vec<Binding>, AllocError>
+    ensures { IfOk result (λ bindings. bindings_of bindings ≡ record { variable = memory_is; term = spec.stored kind (spec.address base offset) (spec.operand source) } ∷ []) }
+{
+    let a = address(alloc, base, offset)?;
+    let term = stored(alloc, kind, &a, &operand(source))?;
+    let mut bindings = Vec::new(alloc);
+    bindings.push(Binding {
+        variable: memory(),
+        term,
+    })?;
+    Ok(bindings)
+}
+
+/// The upper 20 bits of a word.
+fn upper(imm: u32) -> u32
+    ensures { result ≡ (imm * 2 ^ 12) % 2 ^ 32 }
+{
+    imm.wrapping_mul(0x1000)
+}
+
+/// What an instruction at an address binds that goes on to the next one.
+#[tactic(auto, unfolding(code_graph_spec::specs::Forms::effects))]
+pub(crate) fn effects(alloc: Global, place: u32, form: &Instr) -> Result<Vec<Binding>, AllocError>
+    ensures { IfOk result (λ bindings. bindings_of bindings ≡ spec.effects place form.now) }
+{
+    match *form {
+        Instr::Lui { rd, imm } => put(alloc, rd, number(upper(imm))),
+        Instr::Auipc { rd, imm } => put(alloc, rd, number(place.wrapping_add(upper(imm)))),
+        Instr::Load {
+            kind,
+            rd,
+            base,
+            offset,
+        } => loads(alloc, kind, rd, base, offset),
+        Instr::Store {
+            kind,
+            base,
+            source,
+            offset,
+        } => stores(alloc, kind, base, source, offset),
+        Instr::Immediate {
+            operation,
+            rd,
+            source,
+            imm,
+        } => computes(
+            alloc,
+            of_immediate(operation),
+            rd,
+            operand(source),
+            number(imm.cast_unsigned()),
+        ),
+        Instr::Shift {
+            operation,
+            rd,
+            source,
+            amount,
+        } => computes(
+            alloc,
+            of_shift(operation),
+            rd,
+            operand(source),
+            number(u32::from(amount)),
+        ),
+        Instr::Arithmetic {
+            operation,
+            rd,
+            left,
+            right,
+        } => computes(alloc, operation, rd, operand(left), operand(right)),
+        Instr::Jal { .. }
+        | Instr::Jalr { .. }
+        | Instr::Branch { .. }
+        | Instr::Fence { .. }
+        | Instr::Ecall
+        | Instr::Ebreak => Ok(Vec::new(alloc)),
+    }
+}
+
+/// The registers but x0 and x1.
+const OTHER_REGISTERS: [u8; 30] = [
+    2, 3, 4, 5, 6, 7, 8, 9, 10, 11, 12, 13, 14, 15, 16, 17, 18, 19, 20, 21, 22, 23, 24, 25, 26, 27,
+    28, 29, 30, 31,
+];
+
+/// A called function's entry register, which has what the register has.
+fn entry_binding(r: Reg) -> Binding
+    ensures { binding_of result ≡ entry_binding_is r }
+{
+    Binding {
+        variable: entry_register(r),
+        term: Term::Leaf(Atom::Open(register(r))),
+    }
+}
+
+/// Adds what the registers of these numbers give to a called function.
+fn enter(bindings: &mut Vec<Binding>, numbers: &[u8]) -> Result<(), AllocError>
+    requires { All (λ r. r < 32) numbers.now }
+    ensures { OnOk result (bindings_of bindings.new ≡ bindings_of bindings.old ++ map entry_binding_is numbers.now) }
+{
+    for r in numbers {
+        bindings.push(entry_binding(Reg::new(*r)))?;
+    }
+    Ok(())
+}
+
+/// What a called function starts with, where this is the address behind the call.
+#[tactic(auto, unfolding(code_graph_spec::specs::Blocks::call_inputs))]
+pub(crate) fn call_inputs(alloc: Global, back: u32) -> Result<Vec<Binding>, AllocError>
+    ensures { IfOk result (λ inputs. bindings_of inputs ≡ call_inputs_are back) }
+{
+    let mut inputs = Vec::new(alloc);
+    inputs.push(Binding {
+        variable: register(Reg::new(1)),
+        term: number(back),
+    })?;
+    inputs.push(Binding {
+        variable: entry_register(Reg::new(1)),
+        term: number(back),
+    })?;
+    enter(&mut inputs, &OTHER_REGISTERS)?;
+    Ok(inputs)
+}

@@ -1,0 +1,223 @@
+//! The nodes of an instruction.
+
+ghost use Rattle.std.specs.Prelude.{◌≡◌, ◌==◌, ◌∷◌, [], map, if◌then◌else◌, IfOk, OnOk, None};
+ghost use Rattle.claim_spec.specs.Code.{Flow, flow_of, Falls, Branches, Jumps, Calls, Leads, Returns, Stops};
+ghost use Rattle.term_core.specs.Trees.{term_of};
+ghost use Rattle.graph_spec.specs.Graph.{Basic, with_nodes};
+ghost use Rattle.graph_core.specs.Graphs.{graph_of, node_of};
+ghost use Rattle.code_graph_spec.specs.Forms.{branch_test as branch_test_is};
+ghost use Rattle.code_graph_layout.specs.Layout.{block};
+ghost use Rattle.code_graph.specs.Items.{item_of, item_with, is_return_flow};
+ghost use Rattle.code_graph.specs.Frames.{frame_of, Stays, asks};
+
+use crate::accesses::access_tests;
+use crate::bindings::{call_inputs, effects};
+use crate::function::Function;
+use crate::items::Item;
+use crate::numbers::plus;
+use code_terms::{branch_test, returns_home};
+use graph_core::{Graph, Node};
+use graph_spec::Next;
+use rv_instr::{Instr, Reg};
+use std::alloc::{AllocError, Global};
+use term_core::Term;
+
+/// Adds a node that binds nothing.
+fn add_plain(alloc: Global, graph: &mut Graph, next: Next) -> Result<(), AllocError>
+    ensures { OnOk result (graph_of graph.new ≡ with_nodes (graph_of graph.old) (Basic [] next ∷ [])) }
+{
+    let bindings = Vec::new(alloc);
+    graph.add(Node::Basic { bindings, next })?;
+    Ok(())
+}
+
+/// Whether an instruction is a return: `jalr x0, 0(x1)`.
+fn is_return(form: &Instr) -> bool
+    ensures { result ≡ is_return_flow (flow_of None 0 form.now) }
+{
+    match *form {
+        Instr::Jalr { rd, base, offset } => {
+            rd.number() == 0 && base.number() == 1 && offset == 0
+        }
+        _ => false,
+    }
+}
+
+impl Function<'_> {
+    /// Adds the tests of an instruction, each of which goes on to the node behind it; where one doesn't hold the run
+    /// fails.
+    fn add_tests(&self, graph: &mut Graph, address: u32, tests: Vec<Term>) -> Result<(), AllocError>
+        ensures { OnOk result (graph_of graph.new ≡ with_nodes (graph_of graph.old) (asks (frame_of self.now) address 0 (map term_of tests.items))) }
+    {
+        let mut index: usize = 0;
+        for test in tests {
+            index = plus(index, 1)?;
+            let next = self.node(address, index)?;
+            graph.add(Node::Cond {
+                test,
+                on_true: Next::At(next),
+                on_false: Next::Err,
+            })?;
+        }
+        Ok(())
+    }
+
+    /// Adds an instruction that goes on to the next one: its tests, and what it binds.
+    fn add_step(&self, alloc: Global, graph: &mut Graph, item: &Item) -> Result<(), AllocError>
+        ensures { OnOk result (graph_of graph.new ≡ with_nodes (graph_of graph.old) (block (frame_of self.now) (item_with item.now Falls))) }
+    {
+        let tests = access_tests(alloc, self.runs, &item.form)?;
+        self.add_tests(graph, item.address, tests)?;
+        let bindings = effects(alloc, item.address, &item.form)?;
+        let next = self.onward(item.address);
+        graph.add(Node::Basic { bindings, next })?;
+        Ok(())
+    }
+
+    /// Adds a branch, whose test this is.
+    fn add_branch(
+        &self,
+        graph: &mut Graph,
+        item: &Item,
+        test: Term,
+        target: u32,
+    ) -> Result<(), AllocError>
+        requires { term_of test ≡ branch_test_is item.now.form }
+        ensures { OnOk result (graph_of graph.new ≡ with_nodes (graph_of graph.old) (block (frame_of self.now) (item_with item.now (Branches target)))) }
+    {
+        let on_true = self.toward(target);
+        let on_false = self.onward(item.address);
+        graph.add(Node::Cond {
+            test,
+            on_true,
+            on_false,
+        })?;
+        Ok(())
+    }
+
+    /// Adds a call, and its landing node, which goes on at the instruction behind it.
+    fn add_call(
+        &self,
+        alloc: Global,
+        graph: &mut Graph,
+        item: &Item,
+        target: u32,
+    ) -> Result<(), AllocError>
+        ensures { OnOk result (graph_of graph.new ≡ with_nodes (graph_of graph.old) (block (frame_of self.now) (item_with item.now (Calls target)))) }
+    {
+        if target.is_multiple_of(4) {
+            let callee = self.graph_number(target);
+            let inputs = call_inputs(alloc, item.address.wrapping_add(4))?;
+            let landing = self.node(item.address, 1)?;
+            graph.add(Node::Call {
+                callee,
+                inputs,
+                outputs: Vec::new(alloc),
+                landing,
+            })?;
+            add_plain(alloc, graph, self.onward(item.address))?;
+            return Ok(());
+        }
+        add_plain(alloc, graph, Next::Err)?;
+        Ok(())
+    }
+
+    /// Adds a JAL: a jump, a call, or one that is an error.
+    fn add_jump(
+        &self,
+        alloc: Global,
+        graph: &mut Graph,
+        item: &Item,
+        rd: Reg,
+        target: u32,
+    ) -> Result<(), AllocError>
+        requires { Stays (frame_of self.now) (if rd == 0 then Jumps target else if rd == 1 then Calls target else Leads target) }
+        ensures { OnOk result (graph_of graph.new ≡ with_nodes (graph_of graph.old) (block (frame_of self.now) (item_with item.now (if rd == 0 then Jumps target else if rd == 1 then Calls target else Leads target)))) }
+    {
+        match rd.number() {
+            0 => {
+                add_plain(alloc, graph, self.toward(target))?;
+                Ok(())
+            }
+            1 => {
+                self.add_call(alloc, graph, item, target)?;
+                Ok(())
+            }
+            _ => {
+                add_plain(alloc, graph, Next::Err)?;
+                Ok(())
+            }
+        }
+    }
+
+    /// Adds an instruction that returns, or one that is an error.
+    fn add_return(
+        &self,
+        alloc: Global,
+        graph: &mut Graph,
+        item: &Item,
+        returns: bool,
+    ) -> Result<(), AllocError>
+        ensures { OnOk result (graph_of graph.new ≡ with_nodes (graph_of graph.old) (block (frame_of self.now) (item_with item.now (if returns then Returns else Stops)))) }
+    {
+        if returns {
+            let test = returns_home(alloc)?;
+            graph.add(Node::Cond {
+                test,
+                on_true: Next::Ret,
+                on_false: Next::Err,
+            })?;
+            return Ok(());
+        }
+        add_plain(alloc, graph, Next::Err)?;
+        Ok(())
+    }
+
+    /// Adds the nodes of an instruction, and the landing node behind a call.
+    #[tactic(auto, unfolding(code_graph_spec::specs::Forms::branch_test))]
+    pub(crate) fn add_block(
+        &self,
+        alloc: Global,
+        graph: &mut Graph,
+        item: &Item,
+    ) -> Result<(), AllocError>
+        requires { Stays (frame_of self.now) (item_of item.now).flow }
+        ensures { OnOk result (graph_of graph.new ≡ with_nodes (graph_of graph.old) (block (frame_of self.now) (item_of item.now))) }
+    {
+        match item.form {
+            Instr::Jal { rd, offset } => {
+                self.add_jump(alloc, graph, item, rd, item.target(offset))?;
+                Ok(())
+            }
+            Instr::Jalr { .. } => {
+                self.add_return(alloc, graph, item, is_return(&item.form))?;
+                Ok(())
+            }
+            Instr::Branch {
+                test,
+                left,
+                right,
+                offset,
+            } => {
+                let test = branch_test(alloc, test, left, right)?;
+                self.add_branch(graph, item, test, item.target(offset))?;
+                Ok(())
+            }
+            Instr::Ecall | Instr::Ebreak => {
+                self.add_return(alloc, graph, item, false)?;
+                Ok(())
+            }
+            Instr::Lui { .. }
+            | Instr::Auipc { .. }
+            | Instr::Load { .. }
+            | Instr::Store { .. }
+            | Instr::Immediate { .. }
+            | Instr::Shift { .. }
+            | Instr::Arithmetic { .. }
+            | Instr::Fence { .. } => {
+                self.add_step(alloc, graph, item)?;
+                Ok(())
+            }
+        }
+    }
+}
