@@ -1,0 +1,9 @@
+pub mod Finished
+pub mod Moved
+pub mod Due
+pub mod Turned
+pub mod Entered
+pub mod Loading
+pub mod Ties
+pub mod Walking
+pub mod Whole

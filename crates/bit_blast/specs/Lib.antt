@@ -1,0 +1,5 @@
+pub mod Places
+pub mod Tasks
+pub mod Turns
+pub mod Entries
+pub mod Loads

@@ -1,0 +1,33 @@
+-- Loads by the places of their terms.
+use Rattle.std.specs.Prelude.{◌<◌, ◌==◌, ℕ, not, List, [], ◌∷◌, length, filter, Option, Some, None}
+use Rattle.term_spec.specs.declared.BinaryOperator.TheVariants as binary
+use Rattle.term_bank.specs.declared.node.TermNode.{TermNode}
+use Rattle.term_bank.specs.declared.node.TermNode.TheVariants.{Binary}
+use Rattle.term_bank.specs.Nodes.{tree_at}
+use Rattle.blast_spec.specs.Goal.{Table, Load}
+use Rattle.term_table.specs.Terms.{terms_in}
+use Rattle.term_bits.specs.Places.{bits_at}
+use Rattle.bit_blast.specs.declared.loads.LoadPlace.{LoadPlace}
+
+abbrev pub load_at : Table → LoadPlace → Load
+load_at table load = record { memory = tree_at (terms_in table) load.memory; address = bits_at table load.address; byte = bits_at table load.byte }
+
+abbrev pub IsWithin : Table → LoadPlace → Type 0
+IsWithin table load = (load.memory < length table) × (load.address < length table) × (load.byte < length table)
+
+abbrev pub AreWithin : Table → List LoadPlace → Type 0
+AreWithin table [] = Unit {0}
+AreWithin table (load ∷ loads) = IsWithin table load × AreWithin table loads
+
+-- in the order of their first loads
+abbrev pub with_memory : ℕ → List ℕ → List ℕ
+with_memory memory memories = memory ∷ filter (λ other. not (other == memory)) memories
+
+abbrev pub memories_of : List LoadPlace → List ℕ
+memories_of [] = []
+memories_of (load ∷ loads) = with_memory load.memory (memories_of loads)
+
+-- the load that a node at a place is
+abbrev pub load_of : ℕ → TermNode → Option LoadPlace
+load_of place (Binary binary.Load memory address) = Some (record { memory = memory; address = address; byte = place })
+load_of place node = None

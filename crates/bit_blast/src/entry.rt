@@ -1,0 +1,120 @@
+// The entry of a term whose arguments are there.
+
+ghost use Rattle.std.specs.Prelude.{◌≡◌, ◌<◌, ◌+◌, ◌++◌, length, false, IfOk};
+ghost use Rattle.term_spec.specs.Term.{divide, remainder};
+ghost use Rattle.term_bank.specs.Nodes.{IsNode, build, tree_at, Holds};
+ghost use Rattle.blast_spec.specs.Goal.{is_there, divided, once};
+ghost use Rattle.visit_steps.specs.Steps.{finish, IsClosed};
+ghost use Rattle.word_circuits.specs.Gives.{Gives};
+ghost use Rattle.term_table.specs.Terms.{terms_in};
+ghost use Rattle.bit_blast.specs.Entries as spec;
+
+use std::alloc::{AllocError, Global};
+use term_bank::TermNode;
+use term_bits::own_bits;
+use term_spec::{BinaryOperator, WordOperator};
+use term_table::TermTable;
+use word_circuits::Gates;
+
+const DIVIDE: BinaryOperator = BinaryOperator::Word(WordOperator::Divide);
+
+const REMAINDER: BinaryOperator = BinaryOperator::Word(WordOperator::Remainder);
+
+/// Which of the two results of a division a term is.
+#[derive(Clone, Copy)]
+pub(crate) enum Division {
+    /// a quotient
+    Quotient(usize, usize),
+    /// a remainder
+    Remainder(usize, usize),
+    /// neither
+    Neither,
+}
+
+fn division_of(node: TermNode) -> Division
+    ensures { result ≡ spec.division_of node }
+{
+    match node {
+        TermNode::Binary(BinaryOperator::Word(WordOperator::Divide), x, y) => {
+            Division::Quotient(x, y)
+        }
+        TermNode::Binary(BinaryOperator::Word(WordOperator::Remainder), x, y) => {
+            Division::Remainder(x, y)
+        }
+        _ => Division::Neither,
+    }
+}
+
+/// Enters the quotient and the remainder of two terms, which share their gates, and gives their places.
+fn enter_division(
+    alloc: Global,
+    gates: &mut Gates,
+    table: &mut TermTable,
+    x: usize,
+    y: usize,
+) -> Result<(usize, usize), AllocError>
+    requires dividend { x < length table.old }
+    requires divisor { y < length table.old }
+    requires no_quotient { is_there (divide (tree_at (terms_in table.old) x) (tree_at (terms_in table.old) y)) table.old ≡ false }
+    requires no_remainder { is_there (remainder (tree_at (terms_in table.old) x) (tree_at (terms_in table.old) y)) table.old ≡ false }
+    ensures place { IfOk result (λ places. places.0 ≡ length table.old) }
+    ensures rest { IfOk result (λ places. places.1 ≡ length table.old + 1) }
+    ensures gives { IfOk result (λ places. Gives (divided (tree_at (terms_in table.old) x) (tree_at (terms_in table.old) y) table.old) gates.old table.new gates.new) }
+{
+    let count = table.bits(x).len();
+    let q = gates.new_bits(alloc, count)?;
+    let r = gates.new_bits(alloc, count)?;
+    gates.division(alloc, &q, &r, table.bits(x), table.bits(y))?;
+    let place = table.enter(TermNode::Binary(DIVIDE, x, y), q)?;
+    let rest = table.enter(TermNode::Binary(REMAINDER, x, y), r)?;
+    Ok((place, rest))
+}
+
+/// Enters a node's term, with the remainder beside a quotient and the other way round, and gives its place.
+fn enter(
+    alloc: Global,
+    gates: &mut Gates,
+    table: &mut TermTable,
+    node: TermNode,
+) -> Result<usize, AllocError>
+    requires arguments { IsNode (length table.old) node }
+    requires absent { is_there (build (terms_in table.old) node) table.old ≡ false }
+    requires closed { IsClosed table.old }
+    ensures place { IfOk result (λ place. Holds (terms_in table.new) place (build (terms_in table.old) node)) }
+    ensures gives { IfOk result (λ place. Gives (finish (build (terms_in table.old) node) table.old) gates.old table.new gates.new) }
+{
+    match division_of(node) {
+        Division::Quotient(x, y) => {
+            let places = enter_division(alloc, gates, table, x, y)?;
+            Ok(places.0)
+        }
+        Division::Remainder(x, y) => {
+            let places = enter_division(alloc, gates, table, x, y)?;
+            Ok(places.1)
+        }
+        Division::Neither => {
+            let bits = own_bits(alloc, gates, node, table)?;
+            let place = table.enter(node, bits)?;
+            Ok(place)
+        }
+    }
+}
+
+/// The place of a node's term, which is entered where it isn't there.
+pub(crate) fn place_for(
+    alloc: Global,
+    gates: &mut Gates,
+    table: &mut TermTable,
+    node: TermNode,
+) -> Result<usize, AllocError>
+    requires arguments { IsNode (length table.old) node }
+    requires closed { IsClosed table.old }
+    ensures place { IfOk result (λ place. Holds (terms_in table.new) place (build (terms_in table.old) node)) }
+    ensures gives { IfOk result (λ place. Gives (once (build (terms_in table.old) node) table.old (finish (build (terms_in table.old) node) table.old)) gates.old table.new gates.new) }
+{
+    if let Some(place) = table.find(node) {
+        return Ok(place);
+    }
+    let place = enter(alloc, gates, table, node)?;
+    Ok(place)
+}

@@ -1,0 +1,183 @@
+// Loads of one memory at equal addresses are equal.
+
+ghost use Rattle.std.specs.Prelude.{◌≡◌, ◌==◌, ◌++◌, ◌∷◌, [], not, map, filter, IfOk, OnOk};
+ghost use Rattle.std.specs.Option.{option_to_list};
+ghost use Rattle.blast_spec.specs.Gates.{claim};
+ghost use Rattle.blast_spec.specs.Goal as goal;
+ghost use Rattle.word_circuits.specs.Gives.{Gives};
+ghost use Rattle.term_table.specs.Terms.{terms_in};
+ghost use Rattle.bit_blast.specs.Loads as spec;
+
+use clause_spec::Literal;
+use std::alloc::{AllocError, Global};
+use term_bank::TermNode;
+use term_spec::BinaryOperator;
+use term_table::TermTable;
+use word_circuits::{Gates, negation};
+
+/// The places of a load and of its memory and address.
+#[derive(Clone, Copy)]
+pub(crate) struct LoadPlace {
+    pub(crate) memory: usize,
+    pub(crate) address: usize,
+    pub(crate) byte: usize,
+}
+
+/// The load that the node at a place is.
+fn load_of(byte: usize, node: TermNode) -> Option<LoadPlace>
+    ensures { result ≡ spec.load_of byte node }
+{
+    match node {
+        TermNode::Binary(BinaryOperator::Load, memory, address) => Some(LoadPlace {
+            memory,
+            address,
+            byte,
+        }),
+        _ => None,
+    }
+}
+
+fn push_some(loads: &mut Vec<LoadPlace>, load: Option<LoadPlace>) -> Result<(), AllocError>
+    ensures { OnOk result (loads.new.items ≡ loads.old.items ++ option_to_list load) }
+{
+    if let Some(load) = load {
+        loads.push(load)?;
+    }
+    Ok(())
+}
+
+/// The loads among the terms of a table, in their order.
+pub(crate) fn loads_of(alloc: Global, table: &TermTable) -> Result<Vec<LoadPlace>, AllocError>
+    ensures loads { IfOk result (λ loads. map (spec.load_at table.now) loads.items ≡ goal.loads_of table.now table.now) }
+    ensures within { IfOk result (λ loads. spec.AreWithin table.now loads.items) }
+{
+    table.is_distinct();
+    let mut loads = Vec::new(alloc);
+    'terms: for place in 0..table.len() {
+        let node = table.node(place);
+        push_some(&mut loads, load_of(place, node))?;
+    }
+    Ok(loads)
+}
+
+/// Where the literal holds the two words are equal.
+fn claim_equal(
+    gates: &mut Gates,
+    same: Literal,
+    x: &[Literal],
+    y: &[Literal],
+) -> Result<(), AllocError>
+    ensures { OnOk result (Gives (claim (goal.equal_where same x.now y.now)) gates.old tt gates.new) }
+{
+    match (x.split_first(), y.split_first()) {
+        (Some((a, xs)), Some((b, ys))) => {
+            gates.claim(&[negation(same), negation(*a), *b])?;
+            gates.claim(&[negation(same), *a, negation(*b)])?;
+            claim_equal(gates, same, xs, ys)?;
+            Ok(())
+        }
+        _ => Ok(()),
+    }
+}
+
+/// Ties a load to later ones of its memory.
+fn tie(
+    alloc: Global,
+    gates: &mut Gates,
+    table: &TermTable,
+    load: LoadPlace,
+    later: &[LoadPlace],
+) -> Result<(), AllocError>
+    requires first { spec.IsWithin table.now load }
+    requires others { spec.AreWithin table.now later.now }
+    ensures { OnOk result (Gives (goal.tie (spec.load_at table.now load) (map (spec.load_at table.now) later.now)) gates.old tt gates.new) }
+{
+    'ties: for other in later {
+        let same = gates.equal_bits(alloc, table.bits(load.address), table.bits(other.address))?;
+        claim_equal(gates, same, table.bits(load.byte), table.bits(other.byte))?;
+    }
+    Ok(())
+}
+
+/// Ties each of some loads of one memory to the later ones.
+fn tie_all(
+    alloc: Global,
+    gates: &mut Gates,
+    table: &TermTable,
+    loads: &[LoadPlace],
+) -> Result<(), AllocError>
+    requires { spec.AreWithin table.now loads.now }
+    ensures { OnOk result (Gives (goal.tie_all (map (spec.load_at table.now) loads.now)) gates.old tt gates.new) }
+{
+    'ties: for place in 0..loads.len() {
+        tie(alloc, gates, table, loads[place], &loads[place + 1..])?;
+    }
+    Ok(())
+}
+
+fn push_other(memories: &mut Vec<usize>, memory: usize, other: usize) -> Result<(), AllocError>
+    ensures { OnOk result (memories.new.items ≡ memories.old.items ++ filter (λ o. not (o == memory)) (other ∷ [])) }
+{
+    if other != memory {
+        memories.push(other)?;
+    }
+    Ok(())
+}
+
+/// A memory in front of the others.
+fn with_memory(alloc: Global, memory: usize, memories: &[usize]) -> Result<Vec<usize>, AllocError>
+    ensures { IfOk result (λ all. all.items ≡ spec.with_memory memory memories.now) }
+{
+    let mut all = Vec::new(alloc);
+    all.push(memory)?;
+    'others: for other in memories {
+        push_other(&mut all, memory, *other)?;
+    }
+    Ok(all)
+}
+
+/// The memories of some loads, in the order of their first loads.
+fn memories_of(alloc: Global, loads: &[LoadPlace]) -> Result<Vec<usize>, AllocError>
+    ensures { IfOk result (λ memories. memories.items ≡ spec.memories_of loads.now) }
+{
+    let mut memories = Vec::new(alloc);
+    let mut place = loads.len();
+    'backwards: while place > 0 {
+        place -= 1;
+        memories = with_memory(alloc, loads[place].memory, &memories)?;
+    }
+    Ok(memories)
+}
+
+/// The loads of one memory.
+pub(crate) fn loads_from(
+    alloc: Global,
+    loads: &[LoadPlace],
+    memory: usize,
+) -> Result<Vec<LoadPlace>, AllocError>
+    ensures { IfOk result (λ found. found.items ≡ filter (λ load. load.memory == memory) loads.now) }
+{
+    loads
+        .iter()
+        .filter(|load| load.memory == memory)
+        .copied()
+        .collect(alloc)
+}
+
+/// Ties the loads among the terms of a table, memory by memory.
+pub(crate) fn tie_memories(
+    alloc: Global,
+    gates: &mut Gates,
+    table: &TermTable,
+) -> Result<(), AllocError>
+    ensures { let loads = goal.loads_of table.now table.now in OnOk result (Gives (goal.tie_memories (goal.memories_of loads) loads) gates.old tt gates.new) }
+{
+    table.is_distinct();
+    let loads = loads_of(alloc, table)?;
+    let memories = memories_of(alloc, &loads)?;
+    'memories: for memory in &memories {
+        let own = loads_from(alloc, &loads, *memory)?;
+        tie_all(alloc, gates, table, &own)?;
+    }
+    Ok(())
+}
