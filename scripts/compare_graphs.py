@@ -27,9 +27,12 @@ CRATES = ["rv_instr", "rv_machine", "elf_read", "decompile", "term_spec", "term_
 PROBE = r"""//! Prints graphs, and runs the machine.
 #![tactic(auto)]
 
+mod numbers;
+
 use elf_read::{Image, read};
 use graph_core::{Binding, Node};
 use graph_spec::Next;
+use numbers::hexadecimal;
 use rv_instr::Reg;
 use rv_machine::{Machine, Memory, run};
 use std::alloc::{AllocError, Global};
@@ -38,19 +41,6 @@ use std::fs;
 use std::io::{BufRead, BufReader};
 use term_core::Term;
 use term_spec::{Atom, BinaryOperator, Family, Variable};
-
-fn number(text: &str) -> u32 {
-    let mut n: u32 = 0;
-    for b in text.bytes() {
-        let digit = match b {
-            b'0'..=b'9' => b - b'0',
-            b'a'..=b'f' => b - b'a' + 10,
-            _ => 0,
-        };
-        n = n.wrapping_mul(16).wrapping_add(u32::from(digit));
-    }
-    n
-}
 
 fn put(out: &mut String, text: Result<String, AllocError>) -> Result<(), AllocError> {
     let text = text?;
@@ -211,7 +201,7 @@ fn main(rt: HostRuntime) -> anyhow::Result<()> {
         let Some(first) = words.next() else { continue; };
         let mut numbers: Vec<u32> = Vec::new(rt.alloc());
         for word in words {
-            numbers.push(number(word))?;
+            numbers.push(hexadecimal(word))?;
         }
         let n = numbers.as_slice();
         let file = fs::read(&rt, names.as_slice()[n[0] as usize + 1].as_str())?;

@@ -28,24 +28,14 @@ CRATES = ["rv_instr", "rv_decode", "rv_asm", "rv_machine"]
 PROBE = r"""//! Prints what the crates make of lines of hexadecimal numbers.
 #![tactic(auto)]
 
+mod numbers;
+
+use numbers::hexadecimal;
 use rv_asm::{encode, fits};
 use rv_decode::decode;
 use rv_instr::Reg;
 use rv_machine::{Machine, Memory, run};
 use std::io::{BufRead, BufReader};
-
-fn number(text: &str) -> u32 {
-    let mut n: u32 = 0;
-    for b in text.bytes() {
-        let digit = match b {
-            b'0'..=b'9' => b - b'0',
-            b'a'..=b'f' => b - b'a' + 10,
-            _ => 0,
-        };
-        n = n.wrapping_mul(16).wrapping_add(u32::from(digit));
-    }
-    n
-}
 
 fn main(rt: HostRuntime) -> anyhow::Result<()> {
     for line in BufReader::new(rt.alloc(), rt.reader())?.lines(rt.alloc()) {
@@ -53,7 +43,7 @@ fn main(rt: HostRuntime) -> anyhow::Result<()> {
         let mut words = line.as_str().split_whitespace();
         let Some(first) = words.next() else { continue; };
         if first != "run" {
-            let word = number(first);
+            let word = hexadecimal(first);
             if let Some(form) = decode(word) {
                 let back = if fits(&form) { encode(&form) } else { 0 };
                 println!(rt; "{word:08x} {back:08x} {form:?}")?;
@@ -62,12 +52,12 @@ fn main(rt: HostRuntime) -> anyhow::Result<()> {
         }
         let mut registers: [u32; 32] = [0; 32];
         for i in 1usize..32 {
-            registers[i] = number(words.next().unwrap_or("0"));
+            registers[i] = hexadecimal(words.next().unwrap_or("0"));
         }
         let mut memory = Memory::new(rt.alloc());
         let mut at: u32 = 0x10000;
         for word in words {
-            for byte in number(word).to_le_bytes() {
+            for byte in hexadecimal(word).to_le_bytes() {
                 memory.put(at, byte)?;
                 at = at.wrapping_add(1);
             }

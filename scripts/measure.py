@@ -4,8 +4,8 @@
     scripts/measure.py [PROGRAM]      the program, or what `./tv` has built
 
 It runs a large executable and a large source at 1/16, 1/4 and the whole of their maxima, so that the growth
-shows; long functions and chains of calls, whose code is listed and found to be no straight code; and chains of
-doublings, whose terms grow with every step.
+shows; long functions and chains of calls, whose code is listed and found to be no straight code; and long straight
+code and chains of doublings, whose terms are large.
 """
 
 import os
@@ -80,9 +80,9 @@ def main():
     for count in (500, 1000, 2000, 4000):
         words = [PUSH, CALL_NEXT, POP, RETURN] * (count - 1) + [PUSH, NOP, POP, RETURN]
         measure(f"{count} functions that call each other in a chain", executable(words, size=16), SUM)
-    for words in (1000, 2000, 4000):
+    for words in (1000, 4000, 16384, 65536):
         measure(f"straight code of {words} words, one register", executable([0x00158593] * (words - 1) + [RETURN]), SUM)
-    for count in (8, 12, 16, 18, 20, 22):
+    for count in (20, 64, 1000, 65535):
         measure(f"{count} doublings", executable([DOUBLE] * count + [RETURN]), SUM)
 
 

@@ -9,13 +9,7 @@ at addresses x + 1, x + 2 and so on, and so many times the sum of two equal sums
 a run: loads, doublings, terms before and after, seconds, and the peak of memory.
 """
 
-import subprocess
-import sys
-import tempfile
-import time
-from pathlib import Path
-
-from probe import built
+from probe import measure, timed
 
 CRATES = ["term_spec", "term_core", "term_bank", "flat_spec", "mem_terms"]
 
@@ -25,23 +19,14 @@ PROBE = r"""//! Makes a flat term: its arguments are loads and doublings.
 ghost use Rattle.std.specs.Prelude.{◌<◌, length, IfOk};
 ghost use Rattle.term_bank.specs.Nodes.{Extends};
 
+mod numbers;
+
 use mem_terms::flat;
+use numbers::argument;
 use std::alloc::{AllocError, Global};
 use std::env;
 use term_bank::{Bank, TermId, TermNode};
 use term_spec::{Atom, BinaryOperator, Family, Sort, Variable, Width, WordOperator};
-
-fn number(text: &str) -> usize {
-    let mut n: usize = 0;
-    for b in text.bytes() {
-        let digit = match b {
-            b'0'..=b'9' => b - b'0',
-            _ => 0,
-        };
-        n = n.wrapping_mul(10).wrapping_add(usize::from(digit));
-    }
-    n
-}
 
 fn open(family: Family, sort: Sort) -> TermNode {
     TermNode::Leaf(Atom::Open(Variable { family, index: 0, instance: 0, sort }))
@@ -89,13 +74,6 @@ fn made(alloc: Global, count: usize, doublings: usize) -> Result<(usize, usize),
     Ok((before, bank.len()))
 }
 
-fn argument(words: &[String], place: usize) -> usize {
-    match words.get(place) {
-        Some(word) => number(word.as_str()),
-        None => 0,
-    }
-}
-
 fn main(rt: HostRuntime) -> anyhow::Result<()> {
     let words: Vec<String> = env::args(&rt)?.collect(rt.alloc())?;
     let count = argument(words.as_slice(), 1);
@@ -110,26 +88,12 @@ fn main(rt: HostRuntime) -> anyhow::Result<()> {
 ROWS = [(1, 0), (10, 0), (100, 0), (1000, 0), (2, 1000), (2, 100000)]
 
 
-def measure(program, words):
-    """The terms before and after, the seconds of a run, and its peak of memory in MiB."""
-    command = ["time", "-f", "%M", str(program)] + [str(word) for word in words]
-    begin = time.monotonic()
-    ran = subprocess.run(command, capture_output=True, text=True)
-    seconds = time.monotonic() - begin
-    if ran.returncode:
-        sys.exit(f"the run failed: status {ran.returncode}, {ran.stdout}{ran.stderr}")
-    before, after = ran.stdout.split()
-    return before, after, seconds, int(ran.stderr.split()[-1]) / 1024
-
-
-def main():
-    with tempfile.TemporaryDirectory() as folder:
-        program = built(Path(folder), PROBE, CRATES)
-        print("| Loads | Doublings | Terms before | Terms after | Seconds | Peak MiB |\n|---|---|---|---|---|---|")
-        for row in ROWS:
-            before, after, seconds, peak = measure(program, row)
-            print(f"| {row[0]} | {row[1]} | {before} | {after} | {seconds:.2f} | {peak:.1f} |", flush=True)
+def rows(program):
+    for loads, doublings in ROWS:
+        printed, seconds, peak = timed(program, (loads, doublings))
+        before, after = printed.split()
+        yield loads, doublings, before, after, f"{seconds:.2f}", f"{peak:.1f}"
 
 
 if __name__ == "__main__":
-    main()
+    measure(PROBE, CRATES, ["Loads", "Doublings", "Terms before", "Terms after", "Seconds", "Peak MiB"], rows)

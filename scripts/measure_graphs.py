@@ -11,13 +11,8 @@ with a function of one instruction.
 """
 
 import struct
-import subprocess
-import sys
-import tempfile
-import time
-from pathlib import Path
 
-from probe import built
+from probe import measure, timed
 
 CRATES = ["elf_read", "graph_core", "code_graph"]
 
@@ -70,29 +65,15 @@ def executable(words, runs):
     return header + headers + contents + symbols + b"\0f\0\0" + sections
 
 
-def measure(program, folder, words, runs):
-    """How many nodes the graph has, the seconds and the peak of memory in MiB."""
-    (folder / "file").write_bytes(executable(words, runs))
-    # The kernel counts to a process the memory of what it was before it became the program: of `time`, not of Python.
-    command = ["time", "-f", "%M", str(program), str(folder / "file")]
-    begin = time.monotonic()
-    ran = subprocess.run(command, capture_output=True, text=True)
-    seconds = time.monotonic() - begin
-    if ran.returncode or not ran.stdout.strip().isdigit():
-        sys.exit(f"the run failed: status {ran.returncode}, {ran.stdout}{ran.stderr}")
-    return int(ran.stdout), seconds, int(ran.stderr) / 1024
-
-
-def main():
-    with tempfile.TemporaryDirectory() as folder:
-        program = built(Path(folder), PROBE, CRATES)
-        print("| Runs of fixed bytes | Instructions | Nodes | Seconds | Peak MiB |\n|---|---|---|---|---|")
-        for runs in (1, 20):
-            for count in (1, 1000, 10000, 65536):
-                words = ([ADD, LOAD, STORE, XOR] * (count // 4 + 1))[: count - 1] + [RETURN]
-                nodes, seconds, peak = measure(program, Path(folder), words, runs)
-                print(f"| {runs} | {count} | {nodes} | {seconds:.2f} | {peak:.1f} |", flush=True)
+def rows(program):
+    file = program.with_name("file")
+    for runs in (1, 20):
+        for count in (1, 1000, 10000, 65536):
+            words = ([ADD, LOAD, STORE, XOR] * (count // 4 + 1))[: count - 1] + [RETURN]
+            file.write_bytes(executable(words, runs))
+            printed, seconds, peak = timed(program, [file])
+            yield runs, count, int(printed), f"{seconds:.2f}", f"{peak:.1f}"
 
 
 if __name__ == "__main__":
-    main()
+    measure(PROBE, CRATES, ["Runs of fixed bytes", "Instructions", "Nodes", "Seconds", "Peak MiB"], rows)

@@ -9,13 +9,7 @@ clauses, each of which is a hint. Each row is a run: steps, hints a step, litera
 literals a second, and the peak of memory.
 """
 
-import subprocess
-import sys
-import tempfile
-import time
-from pathlib import Path
-
-from probe import built
+from probe import measure, timed
 
 CRATES = ["clause_spec", "cnf_core", "clause_check"]
 
@@ -26,22 +20,13 @@ ghost use Rattle.std.specs.Prelude.{◌≡◌, true};
 ghost use Rattle.std.specs.List.{list_all};
 ghost use Rattle.clause_spec.specs.Clause.{is_of};
 
+mod numbers;
+
 use clause_check::{Literal, Log, StepError};
 use cnf_core::Cnf;
+use numbers::argument;
 use std::alloc::{AllocError, Global};
 use std::env;
-
-fn number(text: &str) -> usize {
-    let mut n: usize = 0;
-    for b in text.bytes() {
-        let digit = match b {
-            b'0'..=b'9' => b - b'0',
-            _ => 0,
-        };
-        n = n.wrapping_mul(10).wrapping_add(usize::from(digit));
-    }
-    n
-}
 
 fn literal(variable: usize, is_negated: bool) -> Literal {
     Literal {
@@ -114,13 +99,6 @@ fn checked(alloc: Global, steps: usize, hints: usize, wide: usize) -> Result<(),
     repeat(&mut log, literals.as_slice(), names.as_slice(), steps)
 }
 
-fn argument(words: &[String], place: usize) -> usize {
-    match words.get(place) {
-        Some(word) => number(word.as_str()),
-        None => 0,
-    }
-}
-
 fn main(rt: HostRuntime) -> anyhow::Result<()> {
     let words: Vec<String> = env::args(&rt)?.collect(rt.alloc())?;
     let steps = argument(words.as_slice(), 1);
@@ -136,26 +114,12 @@ fn main(rt: HostRuntime) -> anyhow::Result<()> {
 ROWS = [(1, 1, 0), (1000, 1000, 0), (1000, 1000, 8), (100000, 10, 0), (100000, 10, 8), (1000000, 1, 0)]
 
 
-def measure(program, words):
-    """The seconds of a run, and its peak of memory in MiB."""
-    command = ["time", "-f", "%M", str(program)] + [str(word) for word in words]
-    begin = time.monotonic()
-    ran = subprocess.run(command, capture_output=True, text=True)
-    seconds = time.monotonic() - begin
-    if ran.returncode:
-        sys.exit(f"the run failed: status {ran.returncode}, {ran.stdout}{ran.stderr}")
-    return seconds, int(ran.stderr.split()[-1]) / 1024
-
-
-def main():
-    with tempfile.TemporaryDirectory() as folder:
-        program = built(Path(folder), PROBE, CRATES)
-        print("| Steps | Hints a step | Literals a hint | Seconds | Hints a second | Literals a second | Peak MiB |\n|---|---|---|---|---|---|---|")
-        for steps, hints, more in ROWS:
-            seconds, peak = measure(program, (steps, hints, more))
-            rate = steps * hints / seconds
-            print(f"| {steps} | {hints} | {more + 2} | {seconds:.2f} | {rate:.0f} | {rate * (more + 2):.0f} | {peak:.1f} |", flush=True)
+def rows(program):
+    for steps, hints, more in ROWS:
+        _, seconds, peak = timed(program, (steps, hints, more))
+        rate = steps * hints / seconds
+        yield steps, hints, more + 2, f"{seconds:.2f}", f"{rate:.0f}", f"{rate * (more + 2):.0f}", f"{peak:.1f}"
 
 
 if __name__ == "__main__":
-    main()
+    measure(PROBE, CRATES, ["Steps", "Hints a step", "Literals a hint", "Seconds", "Hints a second", "Literals a second", "Peak MiB"], rows)

@@ -9,13 +9,9 @@ row is a run: instructions, bytes stored at distinct addresses, seconds, instruc
 peak of memory.
 """
 
-import subprocess
 import sys
-import tempfile
-import time
-from pathlib import Path
 
-from probe import built
+from probe import measure, timed
 
 CRATES = ["rv_instr", "rv_machine"]
 
@@ -24,29 +20,19 @@ CRATES = ["rv_instr", "rv_machine"]
 PROBE = r"""//! Runs a program whose words are the arguments.
 #![tactic(auto)]
 
+mod numbers;
+
+use numbers::hexadecimal;
 use rv_instr::Reg;
 use rv_machine::{Machine, Memory, run};
 use std::env;
-
-fn number(text: &str) -> u32 {
-    let mut n: u32 = 0;
-    for b in text.bytes() {
-        let digit = match b {
-            b'0'..=b'9' => b - b'0',
-            b'a'..=b'f' => b - b'a' + 10,
-            _ => 0,
-        };
-        n = n.wrapping_mul(16).wrapping_add(u32::from(digit));
-    }
-    n
-}
 
 fn main(rt: HostRuntime) -> anyhow::Result<()> {
     let words: Vec<String> = env::args(&rt)?.collect(rt.alloc())?;
     let mut memory = Memory::new(rt.alloc());
     let mut at: u32 = 0x10000;
     for word in words.as_slice().iter().skip(1) {
-        for byte in number(word.as_str()).to_le_bytes() {
+        for byte in hexadecimal(word.as_str()).to_le_bytes() {
             memory.put(at, byte)?;
             at = at.wrapping_add(1);
         }
@@ -108,26 +94,13 @@ ROWS = [
 ]
 
 
-def measure(program, words):
-    """The seconds of a run that stops at its end, and its peak of memory in MiB."""
-    # The kernel counts to a process the memory of what it was before it became the program: of `time`, not of Python.
-    command = ["time", "-f", "%M", str(program)] + [f"{word:08x}" for word in words]
-    begin = time.monotonic()
-    ran = subprocess.run(command, capture_output=True, text=True)
-    seconds = time.monotonic() - begin
-    if ran.returncode or not ran.stdout.startswith("Stopped"):
-        sys.exit(f"the run failed: status {ran.returncode}, {ran.stdout}{ran.stderr}")
-    return seconds, int(ran.stderr) / 1024
-
-
-def main():
-    with tempfile.TemporaryDirectory() as folder:
-        program = built(Path(folder), PROBE, CRATES)
-        print("| Run | Instructions | Bytes stored | Seconds | Instructions a second | Peak MiB |\n|---|---|---|---|---|---|")
-        for name, (words, count), stored in ROWS:
-            seconds, peak = measure(program, words)
-            print(f"| {name} | {count} | {stored} | {seconds:.2f} | {count / seconds:.0f} | {peak:.1f} |", flush=True)
+def rows(program):
+    for name, (words, count), stored in ROWS:
+        printed, seconds, peak = timed(program, [f"{word:08x}" for word in words])
+        if not printed.startswith("Stopped"):
+            sys.exit(f"the run has not come to its end: {printed}")
+        yield name, count, stored, f"{seconds:.2f}", f"{count / seconds:.0f}", f"{peak:.1f}"
 
 
 if __name__ == "__main__":
-    main()
+    measure(PROBE, CRATES, ["Run", "Instructions", "Bytes stored", "Seconds", "Instructions a second", "Peak MiB"], rows)

@@ -10,19 +10,16 @@ variables, and brings it into normal form. Each row is a run: the terms of the c
 before and after, seconds, and the peak of memory.
 """
 
-import subprocess
-import sys
-import tempfile
-import time
-from pathlib import Path
-
-from probe import built
+from probe import measure, timed
 
 CRATES = ["term_spec", "term_bank", "term_norm"]
 
 PROBE = r"""//! Brings a term into normal form: its arguments are which addresses, how many stores, how many loads.
 #![tactic(auto)]
 
+mod numbers;
+
+use numbers::argument;
 use std::alloc::{AllocError, Global};
 use std::env;
 use term_bank::{Bank, TermId, TermNode};
@@ -31,18 +28,6 @@ use term_spec::{
     Atom, BinaryOperator, Family, Sort, TernaryOperator, UnaryOperator, Variable, Width,
     WordOperator,
 };
-
-fn number(text: &str) -> usize {
-    let mut n: usize = 0;
-    for b in text.bytes() {
-        let digit = match b {
-            b'0'..=b'9' => b - b'0',
-            _ => 0,
-        };
-        n = n.wrapping_mul(10).wrapping_add(usize::from(digit));
-    }
-    n
-}
 
 fn open(bank: &mut Bank, family: Family, index: usize, sort: Sort) -> Result<TermId, AllocError> {
     bank.add(TermNode::Leaf(Atom::Open(Variable {
@@ -136,13 +121,6 @@ fn form(alloc: Global, bank: &mut Bank, term: TermId) -> Result<TermId, AllocErr
     }
 }
 
-fn argument(words: &[String], place: usize) -> usize {
-    match words.get(place) {
-        Some(word) => number(word.as_str()),
-        None => 0,
-    }
-}
-
 fn main(rt: HostRuntime) -> anyhow::Result<()> {
     let words: Vec<String> = env::args(&rt)?.collect(rt.alloc())?;
     let kind = argument(words.as_slice(), 1);
@@ -174,26 +152,12 @@ ROWS = [
 ]
 
 
-def measure(program, words):
-    """The counts that a run prints, its seconds, and its peak of memory in MiB."""
-    command = ["time", "-f", "%M", str(program)] + [str(word) for word in words]
-    begin = time.monotonic()
-    ran = subprocess.run(command, capture_output=True, text=True)
-    seconds = time.monotonic() - begin
-    if ran.returncode:
-        sys.exit(f"the run failed: status {ran.returncode}, {ran.stdout}{ran.stderr}")
-    before, after = ran.stdout.split()
-    return before, after, seconds, int(ran.stderr.split()[-1]) / 1024
-
-
-def main():
-    with tempfile.TemporaryDirectory() as folder:
-        program = built(Path(folder), PROBE, CRATES)
-        print("| Term | Chain | Loads | Terms before | Terms after | Seconds | Peak MiB |\n|---|---|---|---|---|---|---|")
-        for name, kind, chain, loads in ROWS:
-            before, after, seconds, peak = measure(program, (kind, chain, loads))
-            print(f"| {name} | {chain} | {loads} | {before} | {after} | {seconds:.2f} | {peak:.1f} |", flush=True)
+def rows(program):
+    for name, kind, chain, loads in ROWS:
+        printed, seconds, peak = timed(program, (kind, chain, loads))
+        before, after = printed.split()
+        yield name, chain, loads, before, after, f"{seconds:.2f}", f"{peak:.1f}"
 
 
 if __name__ == "__main__":
-    main()
+    measure(PROBE, CRATES, ["Term", "Chain", "Loads", "Terms before", "Terms after", "Seconds", "Peak MiB"], rows)

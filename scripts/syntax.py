@@ -188,7 +188,7 @@ class Chart:
         if token in LEFT_OUT:
             return "LeftOut." + LEFT_OUT[token]
         awaits = lambda name: any(d < len(s) and s[d] == name for _, s, d, _ in self.sets[-1])
-        if token == "(" and awaits("dname"):
+        if token == "(" and (awaits("dname") or awaits("mname")):
             return "LeftOut.FunctionPointer"
         if token == ":" and self.ended("mname"):
             return "LeftOut.BitField"

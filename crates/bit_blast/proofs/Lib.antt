@@ -7,3 +7,9 @@ pub mod Loading
 pub mod Ties
 pub mod Walking
 pub mod Whole
+pub mod Numbers
+pub mod Restored
+pub mod Lengths
+pub mod Written
+pub mod Valued
+pub mod Falsified

@@ -3,3 +3,4 @@ pub mod Tasks
 pub mod Turns
 pub mod Entries
 pub mod Loads
+pub mod Backs

@@ -1,8 +1,10 @@
 -- Loads by the places of their terms.
 use Rattle.std.specs.Prelude.{◌<◌, ◌==◌, ℕ, not, List, [], ◌∷◌, length, filter, Option, Some, None}
+use Rattle.term_spec.specs.declared.Variable.{Variable}
+use Rattle.term_spec.specs.declared.Atom.TheVariants as atom
 use Rattle.term_spec.specs.declared.BinaryOperator.TheVariants as binary
 use Rattle.term_bank.specs.declared.node.TermNode.{TermNode}
-use Rattle.term_bank.specs.declared.node.TermNode.TheVariants.{Binary}
+use Rattle.term_bank.specs.declared.node.TermNode.TheVariants.{Leaf, Binary}
 use Rattle.term_bank.specs.Nodes.{tree_at}
 use Rattle.blast_spec.specs.Goal.{Table, Load}
 use Rattle.term_table.specs.Terms.{terms_in}
@@ -31,3 +33,8 @@ memories_of (load ∷ loads) = with_memory load.memory (memories_of loads)
 abbrev pub load_of : ℕ → TermNode → Option LoadPlace
 load_of place (Binary binary.Load memory address) = Some (record { memory = memory; address = address; byte = place })
 load_of place node = None
+
+-- the variable that a node is
+abbrev pub variable_of : TermNode → Option Variable
+variable_of (Leaf (atom.Open variable)) = Some variable
+variable_of node = None

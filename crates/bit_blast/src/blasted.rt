@@ -16,7 +16,7 @@ use word_circuits::{Gates, negation};
 /// The clauses of a goal, with its terms and their bits.
 #[derive(Drop)]
 pub struct Blasted {
-    /// the clauses: something meets them exactly if the goal can be false
+    /// the clauses: something meets them where the goal can be false, and only there if it loads from variables alone
     pub cnf: Cnf,
     /// the terms, each behind its arguments
     pub table: TermTable,

@@ -1,7 +1,7 @@
 //! Goals of `blast_examples` in a bank, and their clauses from a place on; a quotient with its remainder and two loads
 //! by another writing of the rules.
 
-use crate::{Blasted, blast};
+use crate::{Blasted, blast, read_back};
 use clause_spec::Literal;
 use std::alloc::{AllocError, Global};
 use std::test::Fail;
@@ -169,5 +169,20 @@ fn loads_of_one_memory_are_tied(rt: HostRuntime) -> Result<(), Fail> {
         text.as_str(),
         "159 292: -159 158 0 -159 -128 0 159 -158 128 0 -159 -34 74 0 -159 34 -74 0 -159 -35 75 0 -159 35 -75 0 -159 -36 76 0 -159 36 -76 0 -159 -37 77 0 -159 37 -77 0 -159 -38 78 0 -159 38 -78 0 -159 -39 79 0 -159 39 -79 0 -159 -40 80 0 -159 40 -80 0 -159 -41 81 0 -159 41 -81 0 -96 0 "
     );
+    Ok(())
+}
+
+fn back(alloc: Global) -> Result<String, AllocError> {
+    let blasted = choice(alloc)?;
+    let assignment = read_back(alloc, &blasted, &[true, true, false, true, false])?;
+    let p = assignment.value(alloc, variable(0, Sort::Truth))?;
+    let q = assignment.value(alloc, variable(1, Sort::Truth))?;
+    format!(in alloc; "{p:?} {q:?}")
+}
+
+#[test]
+fn values_read_back(rt: HostRuntime) -> Result<(), Fail> {
+    let text = back(rt.alloc())?;
+    assert_eq!(rt; text.as_str(), "Truth(true) Truth(false)");
     Ok(())
 }

@@ -1,86 +1,51 @@
 -- Straight code that is accepted does what the C source says.
-use Rattle.std.proofs.Common.{◌≡◌, ◌≢◌, ℕ, zero, suc, ◌+◌, ◌*◌, ◌-◌, ◌^◌, ◌<◌, ◌≤◌, ◌==◌, Bool, true, false, cond, List, [], ◌∷◌, length, get_or, map, refl, sym, ◌∙◌, ap, subst, arith, eqb-true, ne_eqb}
+use Rattle.std.proofs.Common.{◌≡◌, ◌≢◌, ℕ, zero, suc, ◌+◌, ◌*◌, ◌-◌, ◌≤◌, Bool, true, false, List, [], ◌∷◌, map, refl, sym, ◌∙◌, ap, subst, arith, ne_eqb}
 use Rattle.std.specs.Prelude.{ℤ, pos, ◌&&◌, nat_le, bytes_eq, is_some, Option, Some, None, IfSome, Contains, option_and_then}
 use Rattle.std.specs.List.{list_all}
 use Rattle.std.proofs.lemmas.Bool.{leb-true, leb-false}
-use Rattle.std.proofs.lemmas.List.{get_or_past}
-use Rattle.std.proofs.lemmas.List.Elements.{All-get_or}
 use Rattle.std.proofs.lemmas.Slice.Eq.{bytes_eq-Decides}
 use Rattle.rv_instr.specs.declared.Instr.TheVariants.{Jalr}
 use Rattle.rv_spec.specs.Machine.{Machine, Memory, IsMachine, read_register, byte_at}
 use Rattle.rv_spec.specs.Step.{after, step}
+use Rattle.rv_spec.proofs.Kept.{read_below}
 use Rattle.rv_spec.proofs.Steps.{after_stopped, after_step, after-add}
 use Rattle.elf_spec.specs.Image.{Image, entry_of, size_at, fixed_byte, object_of}
 use Rattle.c_spec.specs.Unit.{Unit}
 use Rattle.c_meaning_spec.specs.Run.{More, Back, Place, Bars, c_run, returned, HaveTypes}
 use Rattle.claim_spec.specs.Claim.{Meets, HoldsFixed, Gives, AgreesFrom, run_beside, widened, kept_registers, IsValid}
 use Rattle.claim_spec.specs.Code.{HasCode, itself}
-use Rattle.straight_terms.specs.declared.Variable.TheVariants.{Parameter, Entry}
-use Rattle.straight_terms.specs.Term.{Term, Of, Test, Truth, Equal, AreWords, value_of, truth_of}
-use Rattle.straight_terms.specs.Normal.{normal_test}
-use Rattle.straight_terms.proofs.Values.{value-normal_test}
+use Rattle.term_spec.specs.Term.{Term}
 use Rattle.straight_code.specs.Straight.{crooked_at, words_before_last}
-use Rattle.straight_code.specs.Decision.{Registers, entry_terms, term_at, terms_from, result_term, result_test, kept_test, tests_of, is_truth, all_true, accepts}
+use Rattle.straight_code.specs.Decision.{Registers, entry_term, entry_terms, term_at, terms_from, result_term, result_test, kept_test, tests_of, is_found, all_found, accepts}
 use Rattle.straight_code.proofs.Stack.{HasStraightCode, has_straight_code, straight_stack}
-use Rattle.straight_code.proofs.Terms.{assignment_of, entry_follows}
+use Rattle.straight_code.proofs.Worth.{IsWord, word_as, equal_found}
+use Rattle.straight_code.proofs.Terms.{assignment_of, is_assignment, entry_word, entry_follows}
 use Rattle.straight_code.proofs.Run.{IsAt, Runs, fetches, run_plain, HasReturned, step_return}
-use Rattle.straight_code.proofs.Result.{result_worth}
-
--- ---- registers are words
-
-pub read_below : (m : Machine) → IsMachine m → (r : ℕ) → read_register m r < 2 ^ 32
-unfolding read_register
-read_below m is r = at_zero (r == 0)
-  where
-    at_place : (b : Bool) → nat_le (length m.registers) r ≡ b → get_or m.registers r 0 < 2 ^ 32
-    at_place true e = let here = get_or_past m.registers r 0 (leb-true (length m.registers) r e) in omega (arith, here)
-    at_place false e = All-get_or (λ x. x < 2 ^ 32) m.registers r 0 (leb-false (length m.registers) r e) is.words
-
-    at_zero : (b : Bool) → cond b 0 (get_or m.registers r 0) < 2 ^ 32
-    at_zero true = omega arith
-    at_zero false = at_place (nat_le (length m.registers) r) refl
-
-are_words : (m : Machine) → IsMachine m → AreWords (assignment_of m)
-are_words m is (Parameter i) = read_below m is (10 + i)
-are_words m is (Entry r) = read_below m is r
+use Rattle.straight_code.proofs.Result.{HasArguments, result_word}
 
 -- ---- what is accepted holds
-
-truth_from : (m : Machine) (t : Test) → AreWords (assignment_of m) → is_truth (normal_test t) ≡ true → truth_of (assignment_of m) t ≡ true
-unfolding truth_of
-truth_from m t words e = sym (value-normal_test (assignment_of m) words t) ∙ is_worth (normal_test t) e
-  where
-    is_worth : (n : Test) → is_truth n ≡ true → truth_of (assignment_of m) n ≡ true
-    is_worth (Truth value) h = h
-    is_worth (Equal left right) h = absurd (cc)
-
-equal_from : (m : Machine) (left right : Term) → AreWords (assignment_of m) → is_truth (normal_test (Equal left right)) ≡ true
-    → value_of (assignment_of m) left ≡ value_of (assignment_of m) right
-unfolding truth_of
-equal_from m left right words e = eqb-true (value_of (assignment_of m) left) (value_of (assignment_of m) right) (truth_from m (Equal left right) words e)
 
 both_true : (a b : Bool) → (a && b) ≡ true → (a ≡ true) × (b ≡ true)
 both_true true b e = (refl, e)
 both_true false b e = absurd (cc)
 
-each_of : (test : Test → Bool) (f : ℕ → Test) (xs : List ℕ) (x : ℕ) → list_all test (map f xs) ≡ true → Contains xs x → test (f x) ≡ true
+each_of : (test : Term → Bool) (f : ℕ → Term) (xs : List ℕ) (x : ℕ) → list_all test (map f xs) ≡ true → Contains xs x → test (f x) ≡ true
 each_of test f [] x e (k, below, here) = absurd (omega (arith, below))
 each_of test f (y ∷ xs) x e (zero, below, here) = subst (λ z. test (f z) ≡ true) here (both_true (test (f y)) (list_all test (map f xs)) e).0
 each_of test f (y ∷ xs) x e (suc k, below, here) = each_of test f xs x (both_true (test (f y)) (list_all test (map f xs)) e).1 (k, omega (arith, below), here)
 
-result_accepted : (m : Machine) (unit : Unit) (terms : Registers) → AreWords (assignment_of m) → all_true (tests_of unit terms) ≡ true
-    → value_of (assignment_of m) (term_at terms 10) ≡ value_of (assignment_of m) (result_term unit.operator unit.left unit.right)
-result_accepted m unit terms words e =
-    equal_from m (term_at terms 10) (result_term unit.operator unit.left unit.right) words
-    (both_true (is_truth (normal_test (result_test unit terms))) (list_all (λ test. is_truth (normal_test test)) (map (kept_test terms) (1 ∷ kept_registers))) e).0
+result_accepted : (m : Machine) (unit : Unit) (values : List ℤ) (terms : Registers) (n : ℕ) → IsMachine m → HaveTypes unit unit.name values → HasArguments m values
+    → all_found (tests_of unit terms) ≡ true → IsWord (assignment_of m) (term_at terms 10) n → n ≡ widened (returned unit values)
+result_accepted m unit values terms n is typed arguments e word =
+    equal_found (assignment_of m) (is_assignment m is) (term_at terms 10) (result_term unit.operator unit.left unit.right) n (widened (returned unit values)) word
+    (result_word unit m values is typed arguments)
+    (both_true (is_found (result_test unit terms)) (all_found (map (kept_test terms) (1 ∷ kept_registers))) e).0
 
-kept_accepted : (m : Machine) (unit : Unit) (terms : Registers) (r : ℕ) → AreWords (assignment_of m) → all_true (tests_of unit terms) ≡ true → Contains (1 ∷ kept_registers) r
-    → value_of (assignment_of m) (term_at terms r) ≡ read_register m r
-unfolding value_of
-kept_accepted m unit terms r words e among =
-    equal_from m (term_at terms r) (Of (Entry r)) words
-    (each_of (λ test. is_truth (normal_test test)) (kept_test terms) (1 ∷ kept_registers) r
-    (both_true (is_truth (normal_test (result_test unit terms))) (list_all (λ test. is_truth (normal_test test)) (map (kept_test terms) (1 ∷ kept_registers))) e).1 among)
+kept_accepted : (m : Machine) (unit : Unit) (terms : Registers) (r n : ℕ) → IsMachine m → all_found (tests_of unit terms) ≡ true → Contains (1 ∷ kept_registers) r
+    → IsWord (assignment_of m) (term_at terms r) n → n ≡ read_register m r
+kept_accepted m unit terms r n is e among word =
+    equal_found (assignment_of m) (is_assignment m is) (term_at terms r) (entry_term r) n (read_register m r) word (entry_word m is r)
+    (each_of is_found (kept_test terms) (1 ∷ kept_registers) r (both_true (is_found (result_test unit terms)) (all_found (map (kept_test terms) (1 ∷ kept_registers))) e).1 among)
 
 behind_first : (xs : List ℕ) (x y : ℕ) → Contains xs y → Contains (x ∷ xs) y
 behind_first xs x y (k, below, here) = (suc k, omega (arith, below), here)
@@ -91,7 +56,7 @@ behind_first xs x y (k, below, here) = (suc k, omega (arith, below), here)
 record IsCall (image : Image) (unit : Unit) (entry size count stack : ℕ) (m : Machine) (values : List ℤ) : Type 0 where
   has : HasStraightCode image entry size count
   sized : size_at image entry ≡ Some size
-  accepted : all_true (tests_of unit (terms_from image entry count (entry_terms 32))) ≡ true
+  accepted : all_found (tests_of unit (terms_from image entry count (entry_terms 32))) ≡ true
   typed : HaveTypes unit unit.name values
   meets : Meets image entry stack m values
 
@@ -118,8 +83,8 @@ unfolding IsAfter
 after_words image unit entry size count stack k m values is within =
     let words = is.has.words in
     let in_space = is.has.code.in_space in
-    run_plain image (assignment_of m) (stop_of m) entry k (entry_terms 32) m.memory m (are_words m is.meets.machine) is.meets.fixed
-    (record { at_place = is.meets.at_entry; same_memory = refl; follows = entry_follows m is.meets.machine.count })
+    run_plain image (assignment_of m) (stop_of m) entry k (entry_terms 32) m.memory m is.meets.fixed
+    (record { at_place = is.meets.at_entry; same_memory = refl; follows = entry_follows m is.meets.machine })
     (omega (arith, words, in_space, within))
     (λ j below. is.has.straight.plain j (omega (arith, below, within)))
     (λ j below. inside image unit entry size count stack j m values is (omega (arith, below, within)))
@@ -131,19 +96,19 @@ unfolding IsAfter
 after_return image unit entry size count stack m now values is at_last =
     let words = is.has.words in
     let in_space = is.has.code.in_space in
-    let kept = kept_accepted m unit (terms_after image entry count) 1 (are_words m is.meets.machine) is.accepted (0, omega arith, refl) in
+    let kept = kept_accepted m unit (terms_after image entry count) 1 (read_register now 1) is.meets.machine is.accepted (0, omega arith, refl) (at_last.follows.agree 1) in
     step_return now (stop_of m)
     (fetches image (assignment_of m) (entry + 4 * count) (terms_after image entry count) m.memory now (Jalr 0 1 (pos 0)) is.meets.fixed at_last (omega (arith, words, in_space)) is.has.straight.last)
-    (at_last.follows.agree 1 ∙ kept)
+    kept
     is.meets.return_aligned
-    (read_below m is.meets.machine 1)
+    (read_below m 1 is.meets.machine)
 
 -- a machine to which the call has come back
 record IsBack (image : Image) (entry count : ℕ) (m final : Machine) : Type 0 where
   always : (j : ℕ) → after m (stop_of m) (count + suc j) ≡ Some final
   at_stop : final.pc ≡ stop_of m
   same_memory : final.memory ≡ m.memory
-  worth : (r : ℕ) → read_register final r ≡ value_of (assignment_of m) (term_at (terms_after image entry count) r)
+  words : (r : ℕ) → IsWord (assignment_of m) (term_at (terms_after image entry count) r) (read_register final r)
 
 comes_back : (image : Image) (unit : Unit) (entry size count stack : ℕ) (m : Machine) (values : List ℤ) → IsCall image unit entry size count stack m values
     → (final : Machine) × IsBack image entry count m final
@@ -156,7 +121,9 @@ comes_back image unit entry size count stack m values is =
         always = λ j. always_back last.0 back.0 last.1 last.2.at_place back.1 back.2.at_stop j;
         at_stop = back.2.at_stop;
         same_memory = back.2.memory_same ∙ last.2.same_memory;
-        worth = λ r. back.2.registers_same r ∙ last.2.follows.agree r;
+        words = λ r.
+            let t = term_at (terms_after image entry count) r in
+            word_as (assignment_of m) t t (read_register back.0 r) (read_register last.0 r) refl (back.2.registers_same r) (last.2.follows.agree r);
       },
     )
   where
@@ -222,13 +189,13 @@ stays_safe image unit entry size count stack k m values is (late j) =
 gives_result : (image : Image) (unit : Unit) (entry size count stack : ℕ) (m final : Machine) (values : List ℤ) (value : Option ℤ) (memory : Memory)
     → IsCall image unit entry size count stack m values → IsBack image entry count m final → value ≡ Some (returned unit values) → memory ≡ m.memory → Gives m final stack value memory
 gives_result image unit entry size count stack m final values value memory is back value_is memory_is =
-    let words = are_words m is.meets.machine in
     let terms = terms_after image entry count in
     record {
       result_given = subst (λ o. IfSome o (λ v. read_register final 10 ≡ widened v)) (sym value_is)
-          (back.worth 10 ∙ (result_accepted m unit terms words is.accepted ∙ sym (result_worth unit m values is.typed is.meets.arguments)));
+          (result_accepted m unit values terms (read_register final 10) is.meets.machine is.typed is.meets.arguments is.accepted (back.words 10));
       memory_given = λ address below outside. ap (λ mem. byte_at mem address) (back.same_memory ∙ sym memory_is);
-      registers_kept = λ register among. back.worth register ∙ kept_accepted m unit terms register words is.accepted (behind_first kept_registers 1 register among);
+      registers_kept = λ register among.
+          kept_accepted m unit terms register (read_register final register) is.meets.machine is.accepted (behind_first kept_registers 1 register among) (back.words register);
     }
 
 gives_at : (image : Image) (unit : Unit) (entry size count stack k n : ℕ) (m final : Machine) (values : List ℤ) (value : Option ℤ) (memory : Memory)

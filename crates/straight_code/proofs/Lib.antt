@@ -1,8 +1,10 @@
 pub mod Forms
 pub mod Stack
 pub mod Fetch
+pub mod Worth
 pub mod Terms
 pub mod Run
 pub mod Result
 pub mod Agree
 pub mod Loops
+pub mod Places

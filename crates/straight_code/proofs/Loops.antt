@@ -1,16 +1,14 @@
--- What the loops over the words, the registers and the kept registers keep.
-use Rattle.std.proofs.Common.{◌≡◌, ◌≢◌, ℕ, zero, suc, ◌+◌, ◌*◌, ◌-◌, ◌<◌, ◌≤◌, Bool, true, false, List, [], ◌∷◌, ◌++◌, length, get_or, set, map, take, refl, sym, ◌∙◌, ap, arith, ne_eqb, add-one}
+-- What the loops over the words and the kept registers keep.
+use Rattle.std.proofs.Common.{◌≡◌, ℕ, zero, suc, ◌+◌, ◌*◌, ◌-◌, ◌<◌, ◌≤◌, Bool, true, false, List, length, get_or, map, take, refl, sym, ◌∙◌, ap, arith}
 use Rattle.std.specs.Prelude.{Some, None, ◌&&◌}
 use Rattle.std.specs.List.{list_all}
-use Rattle.std.proofs.lemmas.List.{take_all, map-append, map-set}
+use Rattle.std.proofs.lemmas.List.{take_all}
 use Rattle.std.proofs.lemmas.List.Folds.{list_all-map, list_all_at, list_all_more}
 use Rattle.elf_spec.specs.Image.{Image}
 use Rattle.claim_spec.specs.Code.{instr_at}
-use Rattle.straight_terms.specs.Term.{Test}
-use Rattle.straight_terms.specs.declared.term.Term as tree
-use Rattle.straight_terms.specs.Trees.{term_of}
+use Rattle.term_spec.specs.Term.{Term}
 use Rattle.straight_code.specs.Straight.{is_plain, is_return, crooked_from}
-use Rattle.straight_code.specs.Decision.{Registers, entry_term, entry_terms, put_term, effect_of, terms_from}
+use Rattle.straight_code.specs.Decision.{Registers, effect_of, terms_from}
 
 -- ---- the words
 
@@ -63,34 +61,20 @@ unfolding terms_from
 terms_done image address zero terms last = refl
 terms_done image address (suc count) terms last = absurd (omega (arith, last))
 
--- ---- the registers
-
-pub entry_more : (n : ℕ) → entry_terms (n + 1) ≡ entry_terms n ++ entry_term n ∷ []
-entry_more n = rw add-one refl
-
-pub entry_pushed : (trees : List tree.Term) (t : tree.Term) (n : ℕ) → map term_of trees ≡ entry_terms n → term_of t ≡ entry_term n
-    → map term_of (trees ++ t ∷ []) ≡ entry_terms (n + 1)
-entry_pushed trees t n before here = map-append term_of trees (t ∷ []) ∙ (ap (λ l. l ++ term_of t ∷ []) before ∙ (ap (λ x. entry_terms n ++ x ∷ []) here ∙ sym (entry_more n)))
-
-pub put_moved : (trees : List tree.Term) (t : tree.Term) (register place : ℕ) → place ≡ register → register ≢ 0
-    → map term_of (set trees place t) ≡ put_term register (term_of t) (map term_of trees)
-unfolding put_term
-put_moved trees t register place same nonzero = rw (ne_eqb register 0 nonzero) (map-set term_of trees place t ∙ ap (λ i. set (map term_of trees) i (term_of t)) same)
-
 -- ---- the kept registers
 
-pub kept_stops : (test : Test → Bool) (f : ℕ → Test) (xs : List ℕ) (i : ℕ) → i < length xs → test (f (get_or xs i 0)) ≡ false → list_all test (map f xs) ≡ false
+pub kept_stops : (test : Term → Bool) (f : ℕ → Term) (xs : List ℕ) (i : ℕ) → i < length xs → test (f (get_or xs i 0)) ≡ false → list_all test (map f xs) ≡ false
 kept_stops test f xs i within e = list_all-map test f xs ∙ list_all_at (λ x. test (f x)) xs i 0 within e
 
 both : (a b : Bool) → a ≡ true → b ≡ true → (a && b) ≡ true
 both a b e h = rw (e, h) refl
 
-pub kept_more : (test : Test → Bool) (f : ℕ → Test) (xs : List ℕ) (i : ℕ) → i < length xs → list_all test (map f (take i xs)) ≡ true → test (f (get_or xs i 0)) ≡ true
+pub kept_more : (test : Term → Bool) (f : ℕ → Term) (xs : List ℕ) (i : ℕ) → i < length xs → list_all test (map f (take i xs)) ≡ true → test (f (get_or xs i 0)) ≡ true
     → list_all test (map f (take (i + 1) xs)) ≡ true
 kept_more test f xs i within before here =
     list_all-map test f (take (i + 1) xs)
     ∙ (list_all_more (λ x. test (f x)) xs i 0 within
     ∙ both (list_all (λ x. test (f x)) (take i xs)) (test (f (get_or xs i 0))) (sym (list_all-map test f (take i xs)) ∙ before) here)
 
-pub kept_whole : (test : Test → Bool) (f : ℕ → Test) (xs : List ℕ) (i : ℕ) → length xs ≤ i → list_all test (map f (take i xs)) ≡ true → list_all test (map f xs) ≡ true
+pub kept_whole : (test : Term → Bool) (f : ℕ → Term) (xs : List ℕ) (i : ℕ) → length xs ≤ i → list_all test (map f (take i xs)) ≡ true → list_all test (map f xs) ≡ true
 kept_whole test f xs i whole e = ap (λ l. list_all test (map f l)) (sym (take_all i xs whole)) ∙ e

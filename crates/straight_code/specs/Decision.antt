@@ -1,5 +1,5 @@
 -- When straight code is accepted: the normal forms of a few equations are true.
-use Rattle.std.specs.Prelude.{ℕ, zero, suc, ◌+◌, ◌==◌, Bool, false, if◌then◌else◌, List, [], ◌∷◌, ◌++◌, map, get_or, slice_set, Option, Some}
+use Rattle.std.specs.Prelude.{ℕ, zero, suc, ◌+◌, ◌==◌, Bool, if◌then◌else◌, List, [], ◌∷◌, ◌++◌, map, get_or, slice_set, Option, Some}
 use Rattle.std.specs.List.{list_all}
 use Rattle.rv_instr.specs.declared.Instr.{Instr}
 use Rattle.rv_instr.specs.declared.Instr.TheVariants.{Immediate, Arithmetic}
@@ -14,15 +14,16 @@ use Rattle.c_spec.specs.declared.Operator.TheVariants.{Plus, Minus}
 use Rattle.c_spec.specs.Unit.{Unit}
 use Rattle.claim_spec.specs.Code.{instr_at}
 use Rattle.claim_spec.specs.Claim.{kept_registers}
-use Rattle.straight_terms.specs.declared.Variable.TheVariants.{Parameter, Entry}
-use Rattle.straight_terms.specs.Term.{Term, Of, Constant, Add, Subtract, Test, Truth, Equal}
-use Rattle.straight_terms.specs.Normal.{normal_test}
+use Rattle.term_spec.specs.declared.Width.TheVariants.{W32}
+use Rattle.term_spec.specs.Term.{Term, constant, open_term, equal, add, subtract}
+use Rattle.normal_spec.specs.Seen.{is_true}
+use Rattle.normal_spec.specs.Normal.{normal}
+use Rattle.code_graph_spec.specs.State.{entry_register}
 use Rattle.straight_code.specs.Straight.{words_before_last}
 
--- what a register holds at the entry: x0 is 0, and x10 and x11 have the two parameters (RISC-V psABI, integer
--- calling convention)
+-- what a register holds at the entry: x0 is 0 and no variable
 abbrev pub entry_term : ℕ → Term
-entry_term r = if r == 0 then Constant 0 else if r == 10 then Of (Parameter 0) else if r == 11 then Of (Parameter 1) else Of (Entry r)
+entry_term r = if r == 0 then constant W32 0 else open_term (entry_register r)
 
 -- the terms of the registers below a number, in order
 abbrev pub entry_terms : ℕ → List Term
@@ -34,7 +35,7 @@ abbrev pub Registers : Type 0
 Registers = List Term
 
 abbrev pub term_at : Registers → ℕ → Term
-term_at terms r = get_or terms r (Constant 0)
+term_at terms r = get_or terms r (constant W32 0)
 
 -- x0 stays as it is
 unfoldable pub put_term : ℕ → Term → Registers → Registers
@@ -42,9 +43,9 @@ put_term rd t terms = if rd == 0 then terms else slice_set terms rd t
 
 -- the registers' terms after an instruction
 unfoldable pub effect_of : Option Instr → Registers → Registers
-effect_of (Some (Arithmetic arithmetic.Add rd left right)) terms = put_term rd (Add (term_at terms left) (term_at terms right)) terms
-effect_of (Some (Arithmetic arithmetic.Subtract rd left right)) terms = put_term rd (Subtract (term_at terms left) (term_at terms right)) terms
-effect_of (Some (Immediate immediate.Add rd source imm)) terms = put_term rd (Add (term_at terms source) (Constant (word imm))) terms
+effect_of (Some (Arithmetic arithmetic.Add rd left right)) terms = put_term rd (add (term_at terms left) (term_at terms right)) terms
+effect_of (Some (Arithmetic arithmetic.Subtract rd left right)) terms = put_term rd (subtract (term_at terms left) (term_at terms right)) terms
+effect_of (Some (Immediate immediate.Add rd source imm)) terms = put_term rd (add (term_at terms source) (constant W32 (word imm))) terms
 effect_of other terms = terms
 
 -- after so many instructions from an address on
@@ -56,35 +57,35 @@ terms_from image address (suc count) terms = terms_from image (address + 4) coun
 abbrev pub final_terms : Image → (entry size : ℕ) → Registers
 final_terms image entry size = terms_from image entry (words_before_last size) (entry_terms 32)
 
+-- the two parameters are in x10 and x11 (RISC-V psABI, integer calling convention)
 abbrev pub operand_term : Operand → Term
-operand_term First = Of (Parameter 0)
-operand_term Second = Of (Parameter 1)
+operand_term First = entry_term 10
+operand_term Second = entry_term 11
 
 -- the value that the C function returns (ISO C11, 6.5.6)
 abbrev pub result_term : Operator → Operand → Operand → Term
-result_term Plus left right = Add (operand_term left) (operand_term right)
-result_term Minus left right = Subtract (operand_term left) (operand_term right)
+result_term Plus left right = add (operand_term left) (operand_term right)
+result_term Minus left right = subtract (operand_term left) (operand_term right)
 
 -- x10 has the result
-abbrev pub result_test : Unit → Registers → Test
-result_test unit terms = Equal (term_at terms 10) (result_term unit.operator unit.left unit.right)
+abbrev pub result_test : Unit → Registers → Term
+result_test unit terms = equal (term_at terms 10) (result_term unit.operator unit.left unit.right)
 
 -- a register has its entry value
-abbrev pub kept_test : Registers → ℕ → Test
-kept_test terms r = Equal (term_at terms r) (Of (Entry r))
+abbrev pub kept_test : Registers → ℕ → Term
+kept_test terms r = equal (term_at terms r) (entry_term r)
 
 -- the return address and the kept registers have their entry values
-abbrev pub tests_of : Unit → Registers → List Test
+abbrev pub tests_of : Unit → Registers → List Term
 tests_of unit terms = result_test unit terms ∷ map (kept_test terms) (1 ∷ kept_registers)
 
-abbrev pub is_truth : Test → Bool
-is_truth (Truth value) = value
-is_truth (Equal left right) = false
+-- the normal form is true; the terms have no memory, so no bytes are fixed
+abbrev pub is_found : Term → Bool
+is_found test = is_true (normal [] test)
 
--- each equation's normal form is true
-abbrev pub all_true : List Test → Bool
-all_true tests = list_all (λ test. is_truth (normal_test test)) tests
+abbrev pub all_found : List Term → Bool
+all_found tests = list_all is_found tests
 
 -- the straight code of the function is found to do what the C source says
 abbrev pub accepts : Image → Unit → (entry size : ℕ) → Bool
-accepts image unit entry size = all_true (tests_of unit (final_terms image entry size))
+accepts image unit entry size = all_found (tests_of unit (final_terms image entry size))

@@ -1,16 +1,22 @@
 // The equations that make a function valid.
 
-ghost use Rattle.std.specs.Prelude.{◌≡◌, ◌<◌, IfOk, IsTrue, map, nat_lt};
+ghost use Rattle.std.specs.Prelude.{◌≡◌, ◌<◌, List, length, map, IfOk, IsTrue, nat_lt};
 ghost use Rattle.std.specs.List.{list_all};
-ghost use Rattle.straight_terms.specs.Trees.{term_of, test_of};
-ghost use Rattle.straight_terms.specs.Normal as form;
+ghost use Rattle.term_spec.specs.Term as tree;
+ghost use Rattle.term_spec.specs.Term.{Term};
+ghost use Rattle.term_bank.specs.Nodes.{build, tree_at, Holds, Extends};
+ghost use Rattle.normal_spec.specs.Seen.{is_true};
+ghost use Rattle.c_spec.specs.declared.Operand.{Operand as operand};
 ghost use Rattle.straight_code.specs.Decision as spec;
-ghost use Rattle.straight_code.specs.Terms.{terms_of};
 
+use crate::registers::{entry_atom, place_of};
 use crate::state::Registers;
 use c_spec::{Operand, Operator};
+use rv_instr::Reg;
 use std::alloc::{AllocError, Global};
-use straight_terms::{Term, Test, Variable, normal_test};
+use term_bank::{Bank, TermId, TermNode};
+use term_norm::normal;
+use term_spec::{Atom, BinaryOperator, WordOperator};
 use thin_source::Unit;
 
 // The return address, and sp, gp, tp and s0 to s11, which a function keeps (RISC-V psABI, integer register
@@ -18,73 +24,101 @@ use thin_source::Unit;
 const KEPT: [u8; 16] = [1, 2, 3, 4, 8, 9, 18, 19, 20, 21, 22, 23, 24, 25, 26, 27];
 
 // The parameter that an operand is.
-fn operand(operand: Operand) -> Term
-    ensures { term_of result ≡ spec.operand_term operand }
+fn operand(operand: Operand) -> Atom
+    ensures { tree.Leaf result ≡ spec.operand_term operand }
 {
     match operand {
-        Operand::First => Term::Of(Variable::Parameter(0)),
-        Operand::Second => Term::Of(Variable::Parameter(1)),
+        Operand::First => entry_atom(Reg::new(10)),
+        Operand::Second => entry_atom(Reg::new(11)),
+    }
+}
+
+// What an operator of the source does to words.
+fn operation(operator: Operator) -> WordOperator
+    ensures { (left right : operand) → spec.result_term operator left right ≡ tree.on_words result (spec.operand_term left) (spec.operand_term right) }
+{
+    match operator {
+        Operator::Plus => WordOperator::Add,
+        Operator::Minus => WordOperator::Subtract,
     }
 }
 
 // The value that the function of the source returns.
-fn result_term(alloc: Global, unit: &Unit) -> Result<Term, AllocError>
-    ensures { IfOk result (λ t. term_of t ≡ spec.result_term unit.now.operator unit.now.left unit.now.right) }
+fn result_term(bank: &mut Bank, unit: &Unit) -> Result<TermId, AllocError>
+    ensures tree { IfOk result (λ i. Holds bank.new i (spec.result_term unit.now.operator unit.now.left unit.now.right)) }
+    ensures extends { Extends bank.old bank.new }
 {
-    let left = operand(unit.left());
-    let right = operand(unit.right());
-    match unit.operator() {
-        Operator::Plus => Term::add(alloc, left, right),
-        Operator::Minus => Term::subtract(alloc, left, right),
+    let left = bank.add(TermNode::Leaf(operand(unit.left())))?;
+    let right = bank.add(TermNode::Leaf(operand(unit.right())))?;
+    let operator = BinaryOperator::Word(operation(unit.operator()));
+    bank.add(TermNode::Binary(operator, left, right))
+}
+
+// Whether a node's term is true.
+#[tactic(auto, unfolding(normal_spec::specs::Seen::is_true))]
+fn is_truth(node: TermNode) -> bool
+    ensures { (trees : List Term) → result ≡ is_true (build trees node) }
+{
+    match node {
+        TermNode::Leaf(Atom::Truth(value)) => value,
+        _ => false,
     }
 }
 
-// Whether the normal form of the equation is true.
-fn is_equal(alloc: Global, left: Term, right: Term) -> Result<bool, AllocError>
-    ensures { IfOk result (λ yes. yes ≡ spec.is_truth (form.normal_test (test_of (Test.Equal left right)))) }
+// Whether the normal form of the equation of two terms is true.
+fn is_equal(alloc: Global, bank: &mut Bank, x: TermId, y: TermId) -> Result<bool, AllocError>
+    requires first { x < length bank.old }
+    requires second { y < length bank.old }
+    ensures found { IfOk result (λ yes. yes ≡ spec.is_found (tree.equal (tree_at bank.old x) (tree_at bank.old y))) }
+    ensures extends { Extends bank.old bank.new }
 {
-    let test = Test::Equal(left, right);
-    match normal_test(alloc, &test)? {
-        Test::Truth(value) => Ok(value),
-        Test::Equal(_, _) => Ok(false),
+    let equation = bank.add(TermNode::Binary(BinaryOperator::Equal, x, y))?;
+    let form = normal(alloc, bank, equation, &[])?;
+    Ok(is_truth(bank.node(form)))
+}
+
+impl Registers {
+    // Whether x10 has the result.
+    fn has_result(&mut self, alloc: Global, unit: &Unit) -> Result<bool, AllocError>
+        ensures found { IfOk result (λ yes. yes ≡ spec.is_found (spec.result_test unit.now self.old)) }
+        ensures same { self.new ≡ self.old }
+    {
+        let wanted = result_term(&mut self.bank, unit)?;
+        let given = place_of(&self.places, Reg::new(10));
+        is_equal(alloc, &mut self.bank, given, wanted)
     }
-}
 
-// Whether a register below 32 has its entry value.
-fn is_kept(alloc: Global, registers: &Registers, register: u8) -> Result<bool, AllocError>
-    requires { register < 32 }
-    ensures { IfOk result (λ yes. yes ≡ spec.is_truth (form.normal_test (spec.kept_test (terms_of registers.now) register))) }
-{
-    let now = registers.copy(alloc, register)?;
-    is_equal(alloc, now, Term::Of(Variable::Entry(register)))
-}
+    // Whether a register has its entry value.
+    fn is_kept(&mut self, alloc: Global, register: Reg) -> Result<bool, AllocError>
+        ensures found { IfOk result (λ yes. yes ≡ spec.is_found (spec.kept_test self.old register)) }
+        ensures same { self.new ≡ self.old }
+    {
+        let entry = self.bank.add(TermNode::Leaf(entry_atom(register)))?;
+        let now = place_of(&self.places, register);
+        is_equal(alloc, &mut self.bank, now, entry)
+    }
 
-// Whether each of these registers has its entry value.
-fn are_kept(alloc: Global, registers: &Registers, kept: &[u8]) -> Result<bool, AllocError>
-    requires { IsTrue (list_all (λ r. nat_lt r 32) kept.now) }
-    ensures { IfOk result (λ yes. yes ≡ spec.all_true (map (spec.kept_test (terms_of registers.now)) kept.now)) }
-{
-    for register in kept {
-        if !is_kept(alloc, registers, *register)? {
+    // Whether each of these registers has its entry value.
+    fn are_kept(&mut self, alloc: Global, kept: &[u8]) -> Result<bool, AllocError>
+        requires { IsTrue (list_all (λ r. nat_lt r 32) kept.now) }
+        ensures { IfOk result (λ yes. yes ≡ spec.all_found (map (spec.kept_test self.old) kept.now)) }
+    {
+        for register in kept {
+            if !self.is_kept(alloc, Reg::new(*register))? {
+                return Ok(false);
+            }
+        }
+        Ok(true)
+    }
+
+    // Whether each of the equations is found to be true: the result is that of the source, and the return address
+    // and the kept registers have their entry values.
+    pub(crate) fn are_accepted(&mut self, alloc: Global, unit: &Unit) -> Result<bool, AllocError>
+        ensures { IfOk result (λ yes. yes ≡ spec.all_found (spec.tests_of unit.now self.old)) }
+    {
+        if !self.has_result(alloc, unit)? {
             return Ok(false);
         }
+        self.are_kept(alloc, &KEPT)
     }
-    Ok(true)
-}
-
-// Whether each of the equations is found to be true: the result is that of the source, and the return address
-// and the kept registers have their entry values.
-pub(crate) fn are_true(
-    alloc: Global,
-    unit: &Unit,
-    registers: &Registers,
-) -> Result<bool, AllocError>
-    ensures { IfOk result (λ yes. yes ≡ spec.all_true (spec.tests_of unit.now (terms_of registers.now))) }
-{
-    let given = registers.copy(alloc, 10)?;
-    let wanted = result_term(alloc, unit)?;
-    if !is_equal(alloc, given, wanted)? {
-        return Ok(false);
-    }
-    are_kept(alloc, registers, &KEPT)
 }

@@ -1,10 +1,11 @@
 //! The decision on straight code: whether a function of sums and differences does what its C source says.
 //!
 //! [`crooked_word`] finds where the code of a function isn't straight, and [`decide`] answers for a straight
-//! function. Straight code (`specs/Straight.antt`) is ADD, SUB and ADDI, and then
-//! the return; a term stands for each register. The function is accepted (`specs/Decision.antt`) where the
-//! normal forms of a few equations of terms are true, and then it is valid: its code does what the source
-//! says, in the sense of `claim_spec` (`specs/Claim.antt`), and takes no stack.
+//! function. Straight code (`specs/Straight.antt`) is ADD, SUB and ADDI, and then the return; a term of a bank
+//! stands for each register, so that the work grows with the code, however large the terms are as trees. The
+//! function is accepted (`specs/Decision.antt`) where the normal forms (`normal_spec`) of a few equations of terms
+//! are true, and then it is valid: its code does what the source says, in the sense of `claim_spec`
+//! (`specs/Claim.antt`), and takes no stack.
 
 #![tactic(auto)]
 
@@ -22,7 +23,6 @@ mod state;
 
 pub use code::crooked_word;
 use elf_read::Image;
-use equations::are_true;
 use registers::final_registers;
 use std::alloc::{AllocError, Global};
 use thin_source::Unit;
@@ -44,7 +44,10 @@ pub fn decide(
     ensures stack { IfOk result (λ accepted. IsStack image.now entry 0) }
     ensures valid { IfOk result (λ accepted. IsTrue accepted → IsValid image.now unit.now unit.now.name 0) }
 {
-    let registers = final_registers(alloc, image, entry, size)?;
-    let accepted = are_true(alloc, unit, &registers)?;
+    let mut registers = final_registers(alloc, image, entry, size)?;
+    let accepted = registers.are_accepted(alloc, unit)?;
     Ok(accepted)
 }
+
+#[cfg(test)]
+mod tests;

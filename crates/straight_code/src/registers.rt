@@ -1,93 +1,100 @@
 // A term for each register, and what the instructions do to them.
 
-ghost use Rattle.std.specs.Prelude.{◌≡◌, ◌+◌, ◌<◌, ◌≤◌, ◌%◌, ◌^◌, IfOk, OnOk, vec_len};
-ghost use Rattle.straight_code.specs.Decision as spec;
-ghost use Rattle.straight_code.specs.Terms.{terms_of};
-ghost use Rattle.straight_terms.specs.Trees.{term_of};
-ghost use Rattle.straight_terms.specs.Term as tree;
-ghost use Rattle.rv_spec.specs.Arithmetic.{word};
+ghost use Rattle.std.specs.Prelude.{◌≡◌, ◌==◌, ◌+◌, ◌<◌, ◌≤◌, ◌%◌, ◌^◌, IfOk, OnOk, if◌then◌else◌, length, slice_index, slice_set, vec_len};
+ghost use Rattle.term_spec.specs.Term as tree;
+ghost use Rattle.term_spec.specs.declared.Width.TheVariants as Width;
 ghost use Rattle.claim_spec.specs.Code.{instr_at};
+ghost use Rattle.straight_code.specs.Decision as spec;
 
 use crate::state::Registers;
+use code_terms::entry_register;
 use decompile::instruction;
 use elf_read::Image;
 use rv_instr::{ArithmeticOperation, ImmediateOperation, Instr, Reg};
 use std::alloc::{AllocError, Global};
-use straight_terms::{Term, Variable};
+use term_bank::{Bank, TermId, TermNode};
+use term_spec::{Atom, BinaryOperator, Width, WordOperator};
 
 // What a register holds at the entry.
-fn entry_term(register: u8) -> Term
-    ensures { term_of result ≡ spec.entry_term register }
+pub(crate) fn entry_atom(register: Reg) -> Atom
+    ensures { tree.Leaf result ≡ spec.entry_term register }
 {
-    match register {
-        0 => Term::Constant(0),
-        10 => Term::Of(Variable::Parameter(0)),
-        11 => Term::Of(Variable::Parameter(1)),
-        _ => Term::Of(Variable::Entry(register)),
+    if register.number() == 0 {
+        Atom::Constant(Width::W32, 0)
+    } else {
+        Atom::Open(entry_register(register))
+    }
+}
+
+// The place of a register's term.
+pub(crate) fn place_of(places: &[TermId], register: Reg) -> TermId
+    requires { length places.now ≡ 32 }
+    ensures place { result ≡ slice_index places.now register }
+    ensures below { register < 32 }
+{
+    places[usize::from(register.number())]
+}
+
+// A new place for the term of a register; that of x0 stays.
+fn put(places: &mut Vec<TermId>, register: Reg, place: TermId)
+    requires { vec_len places.old ≡ 32 }
+    ensures { places.new.items ≡ (if register == 0 then places.old.items else slice_set places.old.items register place) }
+{
+    let number = register.number();
+    if number != 0 {
+        places[usize::from(number)] = place;
     }
 }
 
 impl Registers {
     // The registers at the entry.
-    fn entry(alloc: Global) -> Result<Registers, AllocError>
-        ensures { IfOk result (λ registers. terms_of registers ≡ spec.entry_terms 32) }
+    pub(crate) fn entry(alloc: Global) -> Result<Registers, AllocError>
+        ensures { IfOk result (λ registers. registers ≡ spec.entry_terms 32) }
     {
-        let mut terms = Vec::new(alloc);
+        let mut bank = Bank::new(alloc);
+        let mut places = Vec::new(alloc);
         for register in 0..32u8 {
-            terms.push(entry_term(register))?;
+            let place = bank.add(TermNode::Leaf(entry_atom(Reg::new(register))))?;
+            places.push(place)?;
         }
-        Ok(Registers { terms })
+        Ok(Registers { bank, places })
     }
 
-    // The term of a register below 32, in memory of its own.
-    pub(crate) fn copy(&self, alloc: Global, register: u8) -> Result<Term, AllocError>
-        requires { register < 32 }
-        ensures { IfOk result (λ t. term_of t ≡ spec.term_at (terms_of self.now) register) }
+    // A register gets an operation on the terms of two.
+    fn operate(
+        &mut self,
+        operator: WordOperator,
+        rd: Reg,
+        left: Reg,
+        right: Reg,
+    ) -> Result<(), AllocError>
+        ensures { OnOk result (self.new ≡ spec.put_term rd (tree.on_words operator (spec.term_at self.old left) (spec.term_at self.old right)) self.old) }
     {
-        self.terms[usize::from(register)].copy(alloc)
+        let x = place_of(&self.places, left);
+        let y = place_of(&self.places, right);
+        let operator = BinaryOperator::Word(operator);
+        let place = self.bank.add(TermNode::Binary(operator, x, y))?;
+        put(&mut self.places, rd, place);
+        Ok(())
     }
 
-    // A new term for a register; x0 stays as it is.
-    #[tactic(auto, unfolding(crate::specs::Decision::put_term))]
-    fn put(&mut self, register: Reg, term: Term)
-        ensures { terms_of self.new ≡ spec.put_term register (term_of term) (terms_of self.old) }
+    // A register gets the sum of another's term and a number.
+    fn raise(&mut self, rd: Reg, source: Reg, number: u32) -> Result<(), AllocError>
+        ensures { OnOk result (self.new ≡ spec.put_term rd (tree.add (spec.term_at self.old source) (tree.constant Width.W32 number)) self.old) }
     {
-        let number = register.number();
-        if number != 0 {
-            self.terms[usize::from(number)] = term;
-        }
-    }
-
-    // The sum of two registers' terms.
-    fn sum(&self, alloc: Global, left: Reg, right: Reg) -> Result<Term, AllocError>
-        ensures { IfOk result (λ t. term_of t ≡ tree.Add (spec.term_at (terms_of self.now) left) (spec.term_at (terms_of self.now) right)) }
-    {
-        let left = self.copy(alloc, left.number())?;
-        let right = self.copy(alloc, right.number())?;
-        Term::add(alloc, left, right)
-    }
-
-    // The difference of two registers' terms.
-    fn difference(&self, alloc: Global, left: Reg, right: Reg) -> Result<Term, AllocError>
-        ensures { IfOk result (λ t. term_of t ≡ tree.Subtract (spec.term_at (terms_of self.now) left) (spec.term_at (terms_of self.now) right)) }
-    {
-        let left = self.copy(alloc, left.number())?;
-        let right = self.copy(alloc, right.number())?;
-        Term::subtract(alloc, left, right)
-    }
-
-    // The sum of a register's term and an immediate.
-    fn raised(&self, alloc: Global, source: Reg, imm: i32) -> Result<Term, AllocError>
-        ensures { IfOk result (λ t. term_of t ≡ tree.Add (spec.term_at (terms_of self.now) source) (tree.Constant (word imm))) }
-    {
-        let left = self.copy(alloc, source.number())?;
-        Term::add(alloc, left, Term::Constant(imm.cast_unsigned()))
+        let x = place_of(&self.places, source);
+        let number = Atom::Constant(Width::W32, u64::from(number));
+        let y = self.bank.add(TermNode::Leaf(number))?;
+        let operator = BinaryOperator::Word(WordOperator::Add);
+        let place = self.bank.add(TermNode::Binary(operator, x, y))?;
+        put(&mut self.places, rd, place);
+        Ok(())
     }
 
     // What an instruction of straight code does.
     #[tactic(auto, unfolding(crate::specs::Decision::effect_of))]
-    fn execute(&mut self, alloc: Global, form: &Instr) -> Result<(), AllocError>
-        ensures { OnOk result (terms_of self.new ≡ spec.effect_of (Some form.now) (terms_of self.old)) }
+    pub(crate) fn execute(&mut self, form: &Instr) -> Result<(), AllocError>
+        ensures { OnOk result (self.new ≡ spec.effect_of (Some form.now) self.old) }
     {
         match *form {
             Instr::Arithmetic {
@@ -96,8 +103,7 @@ impl Registers {
                 left,
                 right,
             } => {
-                let sum = self.sum(alloc, left, right)?;
-                self.put(rd, sum);
+                self.operate(WordOperator::Add, rd, left, right)?;
                 Ok(())
             }
             Instr::Arithmetic {
@@ -106,8 +112,7 @@ impl Registers {
                 left,
                 right,
             } => {
-                let difference = self.difference(alloc, left, right)?;
-                self.put(rd, difference);
+                self.operate(WordOperator::Subtract, rd, left, right)?;
                 Ok(())
             }
             Instr::Immediate {
@@ -116,8 +121,7 @@ impl Registers {
                 source,
                 imm,
             } => {
-                let sum = self.raised(alloc, source, imm)?;
-                self.put(rd, sum);
+                self.raise(rd, source, imm.cast_unsigned())?;
                 Ok(())
             }
             _ => Ok(()),
@@ -126,17 +130,12 @@ impl Registers {
 
     // What the word at an address does.
     #[tactic(auto, unfolding(crate::specs::Decision::effect_of))]
-    fn execute_at(
-        &mut self,
-        alloc: Global,
-        image: &Image<'_>,
-        address: u32,
-    ) -> Result<(), AllocError>
+    fn execute_at(&mut self, image: &Image<'_>, address: u32) -> Result<(), AllocError>
         requires { address + 4 ≤ 2 ^ 32 }
-        ensures { OnOk result (terms_of self.new ≡ spec.effect_of (instr_at image.now address) (terms_of self.old)) }
+        ensures { OnOk result (self.new ≡ spec.effect_of (instr_at image.now address) self.old) }
     {
         match instruction(image, address) {
-            Some(form) => self.execute(alloc, &form),
+            Some(form) => self.execute(&form),
             None => Ok(()),
         }
     }
@@ -152,11 +151,11 @@ pub(crate) fn final_registers(
     requires not_empty { 0 < size }
     requires in_space { entry + size ≤ 2 ^ 32 }
     requires aligned { size % 4 ≡ 0 }
-    ensures { IfOk result (λ registers. terms_of registers ≡ spec.final_terms image.now entry size) }
+    ensures { IfOk result (λ registers. registers ≡ spec.final_terms image.now entry size) }
 {
     let mut registers = Registers::entry(alloc)?;
     for k in 0..size / 4 - 1 {
-        registers.execute_at(alloc, image, entry + 4 * k)?;
+        registers.execute_at(image, entry + 4 * k)?;
     }
     Ok(registers)
 }

@@ -1,0 +1,55 @@
+-- Numbers of words in 64 bits.
+use Rattle.std.proofs.Common.{◌≡◌, ◌<◌, ◌≤◌, ◌+◌, ◌*◌, ◌^◌, ◌%◌, ℕ, zero, suc, false, [], ◌∷◌, length, drop, get_or, refl, ap, sym, ◌∙◌, arith}
+use Rattle.std.proofs.Math.Pow.{pow_mono}
+use Rattle.clause_spec.specs.declared.Literal.{Literal}
+use Rattle.clause_spec.specs.Clause.{Valuation, holds}
+use Rattle.term_spec.specs.declared.Width.{Width}
+use Rattle.term_spec.specs.declared.Width.TheVariants.{W8, W16, W32, W64}
+use Rattle.term_spec.specs.Sort.{bits}
+use Rattle.term_spec.specs.Value.{low_bits}
+use Rattle.blast_spec.specs.Circuits.{Bits}
+use Rattle.blast_laws.specs.Meaning.{digit, number_of}
+use Rattle.blast_laws.proofs.Adders.{below_width}
+
+-- one bit more
+pub number_step : (values : Valuation) (bit : Literal) (rest : Bits) (number : ℕ) → number ≡ number_of values rest % 2 ^ 64
+    → (number * 2 % 2 ^ 64 + digit (holds values bit)) % 2 ^ 64 ≡ number_of values (bit ∷ rest) % 2 ^ 64
+number_step values bit rest number e = step (digit (holds values bit)) (number_of values rest) number e
+  where
+    step : (d n x : ℕ) → x ≡ n % 2 ^ 64 → (x * 2 % 2 ^ 64 + d) % 2 ^ 64 ≡ (d + 2 * n) % 2 ^ 64
+    step d n x same = omega arith
+
+pub low_of : (w : Width) (n : ℕ) → low_bits (bits w) (n % 2 ^ 64) ≡ low_bits (bits w) n
+low_of W8 n = omega arith
+low_of W16 n = omega arith
+low_of W32 n = omega arith
+low_of W64 n = omega arith
+
+-- the bits from a place on
+pub bits_from : (xs : Bits) (place : ℕ) (d : Literal) → place < length xs → drop place xs ≡ get_or xs place d ∷ drop (place + 1) xs
+bits_from [] place d below = absurd (omega arith)
+bits_from (x ∷ xs) zero d below = refl
+bits_from (x ∷ xs) (suc place) d below =
+    let next : suc place + 1 ≡ suc (place + 1) = omega arith in
+    bits_from xs place d (omega arith) ∙ ap (λ (n : ℕ). get_or xs place d ∷ drop n (x ∷ xs)) (sym next)
+
+abbrev pub blank_bit : Literal
+blank_bit = record { variable = 0; is_negated = false }
+
+pub number_at : (values : Valuation) (xs : Bits) (place before : ℕ) (old new : ℕ) → place ≡ before + 1 → place ≤ length xs
+    → old ≡ number_of values (drop place xs) % 2 ^ 64 → new ≡ (old * 2 % 2 ^ 64 + digit (holds values (get_or xs before blank_bit))) % 2 ^ 64
+    → new ≡ number_of values (drop before xs) % 2 ^ 64
+number_at values xs place before old new e within was made =
+    let below : before < length xs = omega (arith, e) in
+    made
+    ∙ number_step values (get_or xs before blank_bit) (drop (before + 1) xs) old (was ∙ ap (λ (n : ℕ). number_of values (drop n xs) % 2 ^ 64) e)
+    ∙ ap (λ (list : Bits). number_of values list % 2 ^ 64) (sym (bits_from xs before blank_bit below))
+
+-- a number of at most 32 bits
+pub short_number : (values : Valuation) (xs : Bits) (n : ℕ) → n ≡ number_of values xs % 2 ^ 64 → length xs ≤ 32 → (n ≡ number_of values xs) × (n < 2 ^ 32)
+short_number values xs n e short =
+    let small : number_of values xs < 2 ^ 32 = omega (arith, below_width values xs, pow_mono {i = length xs} {j = 32} short) in
+    (omega (arith, e, small), omega (arith, e, small))
+
+pub low_byte : (values : Valuation) (xs : Bits) (n : ℕ) → n ≡ number_of values xs % 2 ^ 64 → n % 256 ≡ low_bits 8 (number_of values xs)
+low_byte values xs n e = omega (arith, e)

@@ -1,0 +1,23 @@
+use Rattle.std.proofs.Common.{◌≡◌, ◌∙◌, ◌%◌, ◌^◌, ap, arith}
+use Rattle.cnf_core.specs.Bits.{valuation}
+use Rattle.blast_spec.specs.Circuits.{Bits}
+use Rattle.blast_laws.specs.Meaning.{number_of}
+use Rattle.term_core.specs.Memory.{bytes_of}
+use Rattle.term_bits.specs.Places.{bits_at}
+use Rattle.bit_blast.proofs.Numbers.{short_number}
+use Rattle.bit_blast.proofs.Written.{write_one}
+use Rattle.bit_blast.proofs.back.write_back.Goals as goal
+
+pub returns-in_ok-set : goal.returns-in_ok-set
+returns-in_ok-set c = λ short.
+    write_one (valuation c.args.values.now) (bits_at c.args.table.now c.args.load.address) (bits_at c.args.table.now c.args.load.byte) _ _
+    c.number_of-address.result c.number_of-byte.result (bytes_of c.args.memory.now) (bytes_of c.set.new.self) c.in_ok-set.ensures.ok
+    (c.number_of-address.ensures ∙ ap (λ (xs : Bits). number_of (valuation c.args.values.now) xs % 2 ^ 64) c.bits.ensures)
+    (c.number_of-byte.ensures ∙ ap (λ (xs : Bits). number_of (valuation c.args.values.now) xs % 2 ^ 64) c.bits-2.ensures)
+    (λ small. omega (arith, small)) (omega arith) short
+
+pub returns-else-address-lt4294967296 : goal.returns-else-address-lt4294967296
+returns-else-address-lt4294967296 c = λ short.
+    let address : c.number_of-address.result ≡ number_of (valuation c.args.values.now) (bits_at c.args.table.now c.args.load.address) % 2 ^ 64 =
+    c.number_of-address.ensures ∙ ap (λ (xs : Bits). number_of (valuation c.args.values.now) xs % 2 ^ 64) c.bits.ensures in
+    absurd (omega (arith, (short_number (valuation c.args.values.now) (bits_at c.args.table.now c.args.load.address) c.number_of-address.result address short).1))

@@ -1,0 +1,34 @@
+//! What is awaited behind a part.
+
+ghost use Rattle.std.specs.Prelude.{◌≡◌};
+ghost use Rattle.c_grammar_spec.specs.Expressions as grammar;
+ghost use Rattle.c_expression_reader.specs.Types as types;
+ghost use Rattle.c_syntax.specs.Expressions.{declarator_of};
+ghost use Rattle.c_type_syntax.specs.Parts.{constant_of};
+
+use c_grammar_spec::Role;
+use c_syntax::expression::{Constant, Declarator};
+
+/// What is awaited behind a member's declarator.
+pub fn member_end(declarator: &Declarator<'_>) -> Role
+    ensures { result ≡ grammar.member_end (declarator_of declarator.now) }
+{
+    if declarator.is_open {
+        return Role::Nothing;
+    }
+    if declarator.lengths.is_empty() {
+        Role::MemberEnd
+    } else {
+        Role::Nothing
+    }
+}
+
+/// What is awaited behind a constant of an enumeration.
+pub fn constant_end(constant: &Constant<'_>) -> Role
+    ensures { result ≡ types.constant_end (constant_of constant.now) }
+{
+    match constant.value {
+        Some(_) => Role::OperandEnd,
+        None => Role::Nothing,
+    }
+}

@@ -1,0 +1,41 @@
+-- What is read back falsifies the goal before normal form.
+use Rattle.std.proofs.Common.{◌≡◌, true, false, List, [], Some, sym, ◌∙◌}
+use Rattle.clause_spec.specs.Clause.{Valuation, are_met}
+use Rattle.term_spec.specs.declared.Sort.TheVariants as sort
+use Rattle.term_spec.specs.Term.{Term}
+use Rattle.term_spec.specs.Sort.{sort_of}
+use Rattle.term_spec.specs.Value.{Truth, Assignment, IsAssignment, value, binary_value}
+use Rattle.normal_spec.specs.Fixed.{Run, AreBytes, HoldsFixed}
+use Rattle.normal_spec.specs.Normal.{normal}
+use Rattle.normal_spec.proofs.Whole.{keeps_normal}
+use Rattle.blast_spec.specs.Goal.{visit, cnf_of}
+use Rattle.goal_laws.proofs.Whole.{goal_is_false}
+use Rattle.goal_read.specs.Back.{read_back}
+use Rattle.goal_read.proofs.Reading.{is_assignment}
+use Rattle.goal_read.proofs.Whole.{goal_reads}
+use Rattle.normal_loads.proofs.Whole.{normal_from, goal_from}
+use Rattle.flat_spec.specs.Flat.{loads_of}
+use Rattle.flat_spec.proofs.Loads.{are_in-with_loads}
+use Rattle.flat_spec.proofs.Forms.{truth_readable}
+use Rattle.flat_normal.proofs.Loads.{from_variables}
+use Rattle.goal_fixed.specs.Held.{held, ReadsFixed}
+use Rattle.goal_fixed.proofs.Held.{held_assigns, held_holds, same}
+
+pub laid_over : (runs : List Run) → AreBytes runs → (assignment : Assignment) → IsAssignment assignment
+    → IsAssignment (held runs assignment) × HoldsFixed runs (held runs assignment)
+laid_over runs small assignment assigns = (held_assigns runs small assignment assigns, held_holds runs assignment)
+
+pub falsified : (runs : List Run) → AreBytes runs → (values : Valuation) (goal : Term) → sort_of goal ≡ Some sort.Truth
+    → are_met values (cnf_of (normal runs goal)).clauses ≡ true
+    → ReadsFixed runs (read_back values (visit (normal runs goal) [] 1).out) (normal runs goal)
+    → value (held runs (read_back values (visit (normal runs goal) [] 1).out)) goal ≡ Truth false
+unfolding value binary_value
+falsified runs small values goal h met fixed =
+    let form : Term = normal runs goal in
+    let back : Assignment = read_back values (visit form [] 1).out in
+    let assigns = is_assignment values (visit form [] 1).out in
+    let own = keeps_normal runs small goal sort.Truth h in
+    let is_false = goal_is_false values back form assigns own.sorted met (goal_reads values form own.sorted (goal_from runs small goal h) met) in
+    let readable = truth_readable form own.sorted (from_variables form (normal_from runs small goal sort.Truth h)) in
+    let kept = same runs back assigns (loads_of form) fixed form readable (are_in-with_loads form []) in
+    sym (own.worth (held runs back) (held_assigns runs small back assigns) (held_holds runs back)) ∙ kept ∙ is_false

@@ -1,3 +1,0 @@
-pub mod Term
-pub mod Normal
-pub mod Trees

@@ -1,0 +1,135 @@
+#!/usr/bin/env python3
+"""Measures how many clauses goals have, how fast they are made, and the memory that they take.
+
+    scripts/measure_blast.py
+
+It stands outside the gate and needs `rt` and GNU `time` (Debian: time) on the path. It proves the clauses and a small
+program in a scratch repository and runs it as it is compiled. The program makes the clauses of one goal on words of 32
+bits again and again: that a product, a quotient or a chain of sums is another word. Each row is a run: the goal, how
+often its clauses were made, their variables and their number, seconds for making them once, and the peak of memory.
+"""
+
+import subprocess
+import sys
+import tempfile
+import time
+from pathlib import Path
+
+from probe import built
+
+CRATES = ["term_spec", "term_bank", "cnf_core", "bit_blast"]
+
+PROBE = r"""//! Makes the clauses of a goal: its arguments are which operator, how many of them in a chain, and how often.
+#![tactic(auto)]
+
+use bit_blast::blast;
+use std::alloc::{AllocError, Global};
+use std::env;
+use term_bank::{Bank, TermId, TermNode};
+use term_spec::{Atom, BinaryOperator, Family, Sort, Variable, Width, WordOperator};
+
+fn number(text: &str) -> usize {
+    let mut n: usize = 0;
+    for b in text.bytes() {
+        let digit = match b {
+            b'0'..=b'9' => b - b'0',
+            _ => 0,
+        };
+        n = n.wrapping_mul(10).wrapping_add(usize::from(digit));
+    }
+    n
+}
+
+fn open(bank: &mut Bank, index: usize) -> Result<TermId, AllocError> {
+    bank.add(TermNode::Leaf(Atom::Open(Variable {
+        family: Family::Register,
+        index,
+        instance: 0,
+        sort: Sort::Word(Width::W32),
+    })))
+}
+
+fn binary(bank: &mut Bank, operator: BinaryOperator, a: TermId, b: TermId) -> Result<TermId, AllocError> {
+    if a < bank.len() && b < bank.len() {
+        bank.add(TermNode::Binary(operator, a, b))
+    } else {
+        Err(AllocError)
+    }
+}
+
+fn operator(kind: usize) -> WordOperator {
+    match kind {
+        0 => WordOperator::Multiply,
+        1 => WordOperator::Divide,
+        _ => WordOperator::Add,
+    }
+}
+
+fn goal(bank: &mut Bank, kind: usize, chain: usize) -> Result<TermId, AllocError> {
+    let mut term = open(bank, 0)?;
+    for i in 0..chain {
+        let next = open(bank, i.wrapping_add(1))?;
+        term = binary(bank, BinaryOperator::Word(operator(kind)), term, next)?;
+    }
+    let other = open(bank, chain.wrapping_add(1))?;
+    binary(bank, BinaryOperator::Equal, term, other)
+}
+
+fn clauses(alloc: Global, bank: &Bank, goal: TermId) -> Result<(usize, usize), AllocError> {
+    if goal < bank.len() {
+        let blasted = blast(alloc, bank, goal)?;
+        return Ok((blasted.cnf.variables(), blasted.cnf.len()));
+    }
+    Err(AllocError)
+}
+
+fn argument(words: &[String], place: usize) -> usize {
+    match words.get(place) {
+        Some(word) => number(word.as_str()),
+        None => 0,
+    }
+}
+
+fn main(rt: HostRuntime) -> anyhow::Result<()> {
+    let words: Vec<String> = env::args(&rt)?.collect(rt.alloc())?;
+    let kind = argument(words.as_slice(), 1);
+    let chain = argument(words.as_slice(), 2);
+    let times = argument(words.as_slice(), 3);
+    let mut bank = Bank::new(rt.alloc());
+    let goal = goal(&mut bank, kind, chain)?;
+    let mut counts = (0, 0);
+    for _ in 0..times {
+        counts = clauses(rt.alloc(), &bank, goal)?;
+    }
+    println!(rt; "{} {}", counts.0, counts.1)?;
+    Ok(())
+}
+"""
+
+# a name, which operator, how many in a chain, how often
+ROWS = [("a product", 0, 1, 100), ("a quotient", 1, 1, 20), ("a chain of 1,000 sums", 2, 1000, 10), ("a chain of 10,000 sums", 2, 10000, 1)]
+
+
+def measure(program, words):
+    """The counts that a run prints, its seconds, and its peak of memory in MiB."""
+    command = ["time", "-f", "%M", str(program)] + [str(word) for word in words]
+    begin = time.monotonic()
+    ran = subprocess.run(command, capture_output=True, text=True)
+    seconds = time.monotonic() - begin
+    if ran.returncode:
+        sys.exit(f"the run failed: status {ran.returncode}, {ran.stdout}{ran.stderr}")
+    variables, clauses = ran.stdout.split()
+    return variables, clauses, seconds, int(ran.stderr.split()[-1]) / 1024
+
+
+def main():
+    with tempfile.TemporaryDirectory() as folder:
+        program = built(Path(folder), PROBE, CRATES)
+        print("| Goal | Times | Variables | Clauses | Seconds each | Peak MiB |\n|---|---|---|---|---|---|")
+        for name, kind, chain, times in ROWS:
+            variables, clauses, seconds, peak = measure(program, (kind, chain, times))
+            print(f"| {name} | {times} | {variables} | {clauses} | {seconds / times:.4f} | {peak:.1f} |", flush=True)
+
+
+if __name__ == "__main__":
+    main()
