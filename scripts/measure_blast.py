@@ -9,13 +9,10 @@ bits again and again: that a product, a quotient or a chain of sums is another w
 often its clauses were made, their variables and their number, seconds for making them once, and the peak of memory.
 """
 
-import subprocess
-import sys
 import tempfile
-import time
 from pathlib import Path
 
-from probe import built
+from probe import built, timed
 
 CRATES = ["term_spec", "term_bank", "cnf_core", "bit_blast"]
 
@@ -110,24 +107,13 @@ fn main(rt: HostRuntime) -> anyhow::Result<()> {
 ROWS = [("a product", 0, 1, 100), ("a quotient", 1, 1, 20), ("a chain of 1,000 sums", 2, 1000, 10), ("a chain of 10,000 sums", 2, 10000, 1)]
 
 
-def measure(program, words):
-    """The counts that a run prints, its seconds, and its peak of memory in MiB."""
-    command = ["time", "-f", "%M", str(program)] + [str(word) for word in words]
-    begin = time.monotonic()
-    ran = subprocess.run(command, capture_output=True, text=True)
-    seconds = time.monotonic() - begin
-    if ran.returncode:
-        sys.exit(f"the run failed: status {ran.returncode}, {ran.stdout}{ran.stderr}")
-    variables, clauses = ran.stdout.split()
-    return variables, clauses, seconds, int(ran.stderr.split()[-1]) / 1024
-
-
 def main():
     with tempfile.TemporaryDirectory() as folder:
         program = built(Path(folder), PROBE, CRATES)
         print("| Goal | Times | Variables | Clauses | Seconds each | Peak MiB |\n|---|---|---|---|---|---|")
         for name, kind, chain, times in ROWS:
-            variables, clauses, seconds, peak = measure(program, (kind, chain, times))
+            counts, seconds, peak = timed(program, (kind, chain, times))
+            variables, clauses = counts.split()
             print(f"| {name} | {times} | {variables} | {clauses} | {seconds / times:.4f} | {peak:.1f} |", flush=True)
 
 
