@@ -40,7 +40,7 @@ MAIN = r"""
 fn add_clauses(text: &mut String, cnf: &Cnf, places: &str) -> anyhow::Result<()> {
     let (from, to) = places.split_once(' ').unwrap_or((places, ""));
     write!(text, "clauses {}", cnf.variables())?;
-    for place in number(from) as usize..number(to) as usize {
+    for place in number(from) as usize..usize::min(number(to) as usize, cnf.len()) {
         if let Some(clause) = cnf.clause(place) {
             for literal in clause {
                 let sign = if literal.is_negated { "-" } else { "" };

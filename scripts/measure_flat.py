@@ -28,8 +28,8 @@ use std::env;
 use term_bank::{Bank, TermId, TermNode};
 use term_spec::{Atom, BinaryOperator, Family, Sort, Variable, Width, WordOperator};
 
-fn open(family: Family, sort: Sort) -> TermNode {
-    TermNode::Leaf(Atom::Open(Variable { family, index: 0, instance: 0, sort }))
+fn open(bank: &mut Bank, family: Family, sort: Sort) -> Result<TermId, AllocError> {
+    bank.add(TermNode::Leaf(Atom::Open(Variable { family, index: 0, instance: 0, sort })))
 }
 
 // a node whose arguments are there; 0 where one is not
@@ -43,8 +43,8 @@ fn add(bank: &mut Bank, operator: BinaryOperator, a: TermId, b: TermId) -> Resul
 }
 
 fn loads(bank: &mut Bank, count: usize) -> Result<TermId, AllocError> {
-    let memory = bank.add(open(Family::SourceMemory, Sort::Memory))?;
-    let x = bank.add(open(Family::Register, Sort::Word(Width::W32)))?;
+    let memory = open(bank, Family::SourceMemory, Sort::Memory)?;
+    let x = open(bank, Family::Register, Sort::Word(Width::W32))?;
     let mut sum = bank.add(TermNode::Leaf(Atom::Constant(Width::W8, 0)))?;
     for i in 0..count {
         let offset = bank.add(TermNode::Leaf(Atom::Constant(Width::W32, (i as u64).wrapping_add(1))))?;

@@ -7,12 +7,12 @@ use Rattle.clause_spec.specs.Clause.{Cnf}
 use Rattle.term_spec.specs.declared.WordOperator.TheVariants as word
 use Rattle.term_spec.specs.declared.BinaryOperator.TheVariants as binary
 use Rattle.term_spec.specs.Term.{Term, divide, remainder}
+use Rattle.term_spec.specs.Same.{same_term}
+use Rattle.term_spec.proofs.Same.{same_is}
 use Rattle.term_bank.specs.declared.node.TermNode.{TermNode}
 use Rattle.term_bank.specs.declared.node.TermNode.TheVariants.{Leaf, Unary, Binary, Ternary, Quaternary, Octonary}
 use Rattle.term_bank.specs.Nodes.{tree_at, build, Holds}
 use Rattle.term_bank.proofs.Growth.{slice_get-seam, tree_at-front}
-use Rattle.normal_spec.specs.Same.{same_term}
-use Rattle.normal_spec.proofs.Same.{same_is}
 use Rattle.blast_spec.specs.Gates.{Build, give, ◌>>=◌}
 use Rattle.blast_spec.specs.Circuits.{Bits, new_bits, division}
 use Rattle.blast_spec.specs.Goal.{Table, is_there, bits_in, enter, divided}

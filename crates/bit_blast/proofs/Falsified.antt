@@ -9,10 +9,10 @@ use Rattle.term_spec.specs.Term as tree
 use Rattle.term_spec.specs.Term.{Term}
 use Rattle.term_spec.specs.Sort.{sort_of}
 use Rattle.term_spec.specs.Value.{Truth, Assignment, value}
+use Rattle.term_spec.specs.Same.{same_term}
 use Rattle.term_bank.specs.declared.node.TermNode.{TermNode}
 use Rattle.term_bank.specs.declared.node.TermNode.TheVariants.{Leaf, Unary, Binary, Ternary, Quaternary, Octonary}
 use Rattle.term_bank.specs.Nodes.{build}
-use Rattle.normal_spec.specs.Same.{same_term}
 use Rattle.blast_spec.specs.Goal.{Table, visit, loads_of, goal_gates, cnf_of}
 use Rattle.blast_laws.proofs.Gates.{all_stand}
 use Rattle.goal_laws.proofs.Whole.{goal_is_false}

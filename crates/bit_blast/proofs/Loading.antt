@@ -10,11 +10,11 @@ use Rattle.term_spec.specs.declared.Atom.TheVariants as atom
 use Rattle.term_spec.specs.declared.BinaryOperator.TheVariants as binary
 use Rattle.term_spec.specs.Term as tree
 use Rattle.term_spec.specs.Term.{Term}
+use Rattle.term_spec.specs.Same.{same_term}
+use Rattle.term_spec.proofs.Same.{same_is, same_itself}
 use Rattle.term_bank.specs.declared.node.TermNode.{TermNode}
 use Rattle.term_bank.specs.declared.node.TermNode.TheVariants.{Leaf, Unary, Binary, Ternary, Quaternary, Octonary}
 use Rattle.term_bank.specs.Nodes.{IsNode, tree_at, build, Holds, AreDistinct}
-use Rattle.normal_spec.specs.Same.{same_term}
-use Rattle.normal_spec.proofs.Same.{same_is, same_itself}
 use Rattle.blast_spec.specs.Circuits.{Bits}
 use Rattle.blast_spec.specs.Goal as goal
 use Rattle.blast_spec.specs.Goal.{Table, Load, bits_in, with_load, is_of_memory}

@@ -12,15 +12,13 @@ use Rattle.term_spec.specs.declared.Sort.TheVariants as sort
 use Rattle.term_spec.specs.declared.Variable.{Variable}
 use Rattle.term_spec.specs.declared.Atom.TheVariants as atom
 use Rattle.term_spec.specs.contracts.VariableEq.TheImpl.Laws as variable_laws
-use Rattle.term_spec.proofs.Same.{variable-same}
-use Rattle.term_spec.specs.Same.{same_variable}
+use Rattle.term_spec.proofs.Same.{variable-same, same_is, same_itself}
+use Rattle.term_spec.specs.Same.{same_variable, same_term}
 use Rattle.term_spec.specs.Term.{Term, Leaf}
 use Rattle.term_spec.specs.Sort.{bits, same_width}
 use Rattle.term_spec.specs.Value as spec
 use Rattle.term_spec.specs.Value.{low_bits, with_byte, IsOfSort}
 use Rattle.term_bank.specs.Nodes.{tree_at, Holds, AreDistinct}
-use Rattle.normal_spec.specs.Same.{same_term}
-use Rattle.normal_spec.proofs.Same.{same_is, same_itself}
 use Rattle.blast_spec.specs.Circuits.{Bits}
 use Rattle.blast_spec.specs.Goal.{Table, Load, is_there, bits_in, bit_of, loads_of, is_of_memory, found_bits}
 use Rattle.blast_laws.specs.Meaning.{number_of}

@@ -2,7 +2,8 @@
 //!
 //! [`blast`] gives exactly the clauses that `blast_spec` has for a truth value (`specs/Goal.antt`, `cnf_of`), with the
 //! table of its terms and their bits, in a [`Blasted`]. Values that meet the clauses are read back by [`read_back`] as
-//! the assignment that `goal_read` has for them (`specs/Back.antt`), under which the goal is false.
+//! the assignment that `goal_read` has for them (`specs/Back.antt`), under which the goal is false if it loads from
+//! variables alone.
 //!
 //! The terms are visited without recursion: what is left to do stands on a stack, and each step does what
 //! `visit_steps` says.
@@ -19,6 +20,3 @@ mod walk;
 
 pub use back::read_back;
 pub use blasted::{Blasted, blast};
-
-#[cfg(test)]
-mod tests;

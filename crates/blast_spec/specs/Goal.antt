@@ -21,7 +21,7 @@ use Rattle.term_spec.specs.declared.QuaternaryOperator.{QuaternaryOperator}
 use Rattle.term_spec.specs.declared.QuaternaryOperator.TheVariants as quaternary
 use Rattle.term_spec.specs.Term.{Term, Leaf, Unary, Binary, Ternary, Quaternary, Octonary, divide, remainder}
 use Rattle.term_spec.specs.Sort.{bits}
-use Rattle.normal_spec.specs.Same.{same_term}
+use Rattle.term_spec.specs.Same.{same_term}
 use Rattle.blast_spec.specs.Gates.{Gate, Truth, Build, Made, give, ◌>>=◌, make, claim, last_of, clauses_from}
 use Rattle.blast_spec.specs.Circuits.{Bits, one, none, zeros, each_two, and_gate, or_gate, xor_gate, choose_bits, equal_bits, sum_bits, difference_bits, less_bit, product_bits, moved_up, moved_down, shift_bits, shift_signed_bits, sign_of, new_bits, division}
 

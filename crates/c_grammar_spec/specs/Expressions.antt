@@ -1,6 +1,7 @@
 -- Expressions and types: which leaves spell which tree (ISO C11, 6.5 to 6.7.7). `names` are the names of types
 -- that are in force, `depth` is the number of constructs that are open around, and `count` the number of
--- operators that stand before in the same whole expression. A relation has the name of C11's nonterminal.
+-- operators that stand before in the same whole expression. A relation has the name of C11's
+-- nonterminal where C11 has one.
 use Rattle.std.specs.Prelude.{◌≡◌, ℕ, suc, ◌+◌, ◌==◌, ◌&&◌, ◌||◌, bytes_eq, Bool, true, false, List, [], ◌∷◌, ◌++◌, map, length, Option, Some, None, option_map, find, filter}
 use Rattle.std.specs.List.{list_any}
 use Rattle.c_spec.specs.declared.token.Keyword.{Keyword}
@@ -131,7 +132,7 @@ combinations =
     ∷ (Unsigned ∷ Long ∷ Long ∷ [], integer.UnsignedLongLong) ∷ (Unsigned ∷ Long ∷ Long ∷ Int ∷ [], integer.UnsignedLongLong)
     ∷ []
 
--- how often each of these words stands in a list
+-- tests of one word
 abbrev pub is_char : Keyword → Bool
 is_char Char = true
 is_char other = false
@@ -156,6 +157,7 @@ abbrev pub is_long : Keyword → Bool
 is_long Long = true
 is_long other = false
 
+-- the test holds equally often in both lists
 abbrev pub same_counts : (test : Keyword → Bool) → List Keyword → List Keyword → Bool
 same_counts test one two = length (filter test one) == length (filter test two)
 

@@ -22,7 +22,7 @@ use Rattle.c_grammar_spec.specs.Units.{Unit}
 abbrev pub IsUnit : (tokens : List Placed) → TranslationUnit → Type 0
 IsUnit tokens unit = IsWhole marks Unit tokens unit
 
--- the keywords that the grammar has
+-- the keywords that the grammar lacks
 abbrev pub left_out_keyword : Keyword → Option LeftOut
 left_out_keyword keyword.Goto = Some left_out.Goto
 left_out_keyword keyword.Union = Some left_out.Union
@@ -92,10 +92,6 @@ first_of None other = other
 abbrev pub fault_kind : Role → List Placed → ParseFaultKind
 fault_kind role [] = Unexpected
 fault_kind role (token ∷ rest) = kind_of (first_of (left_out_token token.token) (left_out_place role token.token))
-
--- the kind by the token alone
-abbrev pub token_kind : List Placed → ParseFaultKind
-token_kind tokens = fault_kind Nothing tokens
 
 -- the leaf goes on with leaves that stand for these tokens to a unit
 pub record GoesOn (front : List Placed) (leaf : Leaf) : Type 0 where

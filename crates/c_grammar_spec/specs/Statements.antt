@@ -1,5 +1,6 @@
 -- Statements: which leaves spell which tree (ISO C11, 6.8). `names` and `depth` are those of Expressions.antt.
--- A test, a value that is assigned or declared, and a piece of a `for` are each one whole expression.
+-- A test, a value that is declared or returned, an expression statement and a piece of a `for` are each one whole
+-- expression; a value that is assigned goes on with the count of what it is assigned to.
 use Rattle.std.specs.Prelude.{◌≡◌, ℕ, suc, ◌+◌, Bool, true, false, List, [], ◌∷◌, ◌++◌, Option, Some, None}
 use Rattle.c_spec.specs.declared.token.Keyword.TheVariants.{Break, Case, Continue, Default, Do, Else, For, If, Return, Switch, While}
 use Rattle.c_spec.specs.declared.token.Punctuator.{Punctuator}
@@ -31,11 +32,6 @@ pub data AssignMark : BinaryOperator → Punctuator → Type 0 where
   bit_and : AssignMark BitAnd punctuator.AmpersandAssign
   bit_xor : AssignMark BitXor punctuator.CaretAssign
   bit_or : AssignMark BitOr punctuator.BarAssign
-
--- how many operators some arguments have
-abbrev pub operators_of_all : Expressions → ℕ
-operators_of_all no_expressions = 0
-operators_of_all (expressions x rest) = operators x + operators_of_all rest
 
 -- what is awaited behind a value
 abbrev pub value_end : tree.Value → Role

@@ -27,11 +27,3 @@ none names turns wanted.Specifiers depth count rest is takes = rw is refl
 none names turns wanted.TypeName depth count rest is takes = rw is refl
 
 pub ruleset turned = (one, none)
-
--- a level above 0 is one above the level below it
-pub above : (inner : Readers) (what : Wanted) (level depth count : ℕ) (rest : List Token) (outcome : Result (Part × Bor (List Token)) ParseError) → what ≡ wanted.Binary level → (level ≡ 0 → ⊥)
-    → Gives inner (wanted.Binary (suc (level - 1))) depth count rest outcome → Gives inner what depth count rest outcome
-above inner what zero depth count rest outcome is some gives = absurd (some refl)
-above inner what (suc level) depth count rest outcome is some gives =
-    let e : suc level - 1 ≡ level = omega arith in
-    subst (λ w. Gives inner w depth count rest outcome) (sym is) (subst (λ n. Gives inner (wanted.Binary (suc n)) depth count rest outcome) e gives)

@@ -14,6 +14,3 @@ mod whole;
 pub use entry::{TURNS, conditional};
 pub use operands::{bracketed, unary};
 pub use whole::read;
-
-#[cfg(test)]
-mod tests;

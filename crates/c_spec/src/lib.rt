@@ -1,7 +1,8 @@
 //! What a C source is: its tokens and its tree.
 //!
-//! `specs/Tokens.antt` has the tokens of a text, `specs/Unit.antt` the trees and which text spells which.
-//! For now a source is one function that returns the sum or the difference of its two parameters.
+//! `specs/Lexical.antt` has the tokens of a text, by `Words.antt`, `Numbers.antt`, `Characters.antt`, `Punctuators.antt`
+//! and `Blanks.antt` beside it. For now a source is one function that returns the sum or the difference of its two
+//! parameters: `specs/Tokens.antt` has the tokens of that form, `specs/Unit.antt` the trees and which text spells which.
 //! [`SourceKind`] names the refusals.
 #![tactic(auto)]
 

@@ -1,7 +1,7 @@
 //! What a C source says, as a tree (ISO C11, 6.5 to 6.9): the operators, and in `specs/` the trees.
 //!
-//! The main definitions are `Expression` and the types around it in `specs/Expression.antt`, and `Unit` in
-//! `specs/Unit.antt`. Brackets stay in a tree, each name and each operator has its place, and the value that
+//! The main definitions are `Expression` and the types around it in `specs/Expression.antt`, and
+//! `TranslationUnit` in `specs/Unit.antt`. Brackets stay in a tree, each name and each operator has its place, and the value that
 //! a global begins with is left out, since it has no meaning here.
 #![tactic(auto)]
 

@@ -1,16 +1,22 @@
 -- What the reader of units calls wrong is the fault of the tokens, and that is unique.
-use Rattle.std.proofs.Common.{◌≡◌, inl, inr, List, ◌++◌, Err, refl, ap, sym, ◌∙◌, subst}
+use Rattle.std.proofs.Common.{◌≡◌, inl, inr, true, false, List, [], ◌∷◌, ◌++◌, Err, refl, ap, sym, ◌∙◌, subst, append-nil, append_assoc}
 use Rattle.std.proofs.lemmas.List.{append_cancel_right}
 use Rattle.c_spec.specs.Lexical.{Placed}
+use Rattle.c_tree_spec.specs.Unit.{TranslationUnit}
 use Rattle.c_grammar_spec.specs.declared.ParseFaultKind.{ParseFaultKind}
 use Rattle.c_grammar_spec.specs.declared.Role.{Role}
 use Rattle.c_grammar_spec.specs.Faults as faults
-use Rattle.c_grammar_spec.specs.Faults.{fault_kind, GoesOn, Awaits, IsFault}
+use Rattle.c_grammar_spec.specs.Faults.{fault_kind, GoesOn, Awaits, IsUnit, IsFault}
 use Rattle.c_grammar_spec.specs.Leaves.{Leaf, marks}
 use Rattle.c_grammar_spec.specs.Units as grammar
-use Rattle.exact_read.specs.Reading.{Wrong, plains}
+use Rattle.exact_read.specs.Reading.{Wrong, plains, Within}
+use Rattle.exact_read.specs.Exact.{IsDeep}
+use Rattle.exact_read.specs.Whole.{IsWrongAt}
+use Rattle.exact_read.proofs.Basics.{plains-append}
+use Rattle.exact_read.proofs.Parts.{stops_anything}
 use Rattle.role_read.specs.Roles.{Next, Asked}
 use Rattle.role_read.proofs.Basics.{asked_once}
+use Rattle.role_read.proofs.Lists.{plain_cut, within_left, within_right}
 use Rattle.role_read.proofs.Whole.{whole_asks, wrong_once, deep_or_wrong, deep_once}
 use Rattle.c_expression_roles.specs.Firm.{roles}
 use Rattle.c_unit_reader.specs.Units.{read_unit}
@@ -57,10 +63,34 @@ unique_fault tokens one two left right (faults.wrong front l a w cut h) (faults.
 unique_fault tokens one two left right (faults.deep l d) (faults.wrong other r b v cut k) = absurd (deep_or_wrong roled-items.alike tokens r l v d)
 unique_fault tokens one two left right (faults.deep l d) (faults.deep r f) = (refl, deep_once roled-items.alike tokens l r d f)
 
+-- in a unit no token is wrong
+unit_or_wrong : (tokens rest : List Placed) (unit : TranslationUnit) → IsUnit tokens unit → IsWrongAt marks grammar.Unit tokens rest → ⊥
+unit_or_wrong tokens [] unit u w = w.none.at_end unit u.text u.spells refl (sym u.cut ∙ w.cut ∙ append-nil (plains marks w.front))
+unit_or_wrong tokens (token ∷ rest) unit u w = w.none.at_token unit u.text token rest rest u.spells refl (sym u.cut ∙ w.cut)
+
+-- and at none too much is open
+unit_or_deep : (tokens rest : List Placed) (unit : TranslationUnit) → IsUnit tokens unit → IsDeep marks grammar.Unit tokens rest → ⊥
+unit_or_deep tokens rest unit u d =
+    let begins : plains marks u.text ≡ plains marks (d.front ++ d.last ∷ []) ++ d.behind =
+    sym u.cut ∙ d.cut ∙ ap (λ r. plains marks d.front ++ r) d.here ∙ sym (append_assoc (plains marks d.front) (marks.plain d.last ∷ []) d.behind) ∙ ap (λ l. l ++ d.behind) (sym (plains-append marks d.front (d.last ∷ []))) in
+    let p = plain_cut marks u.text (plains marks (d.front ++ d.last ∷ [])) d.behind begins in
+    let within : Within marks (d.front ++ d.last ∷ []) =
+    roled-items.alike unit d.value p.first p.second (d.front ++ d.last ∷ []) d.more
+    (subst (grammar.Unit unit) p.cut u.spells)
+    (subst (grammar.Unit d.value) (sym (append_assoc d.front (d.last ∷ []) d.more)) d.spells)
+    p.is_left (within_left marks p.first p.second (subst (Within marks) p.cut u.within)) (stops_anything (plains marks p.first)) in
+    let over : true ≡ false = sym d.over ∙ (within_right marks d.front (d.last ∷ []) within).0 in
+    cc
+
+no_fault : (tokens : List Placed) (unit : TranslationUnit) (kind : ParseFaultKind) (rest : List Placed) → IsUnit tokens unit → IsFault tokens kind rest → ⊥
+no_fault tokens unit kind rest u (faults.wrong front r role w cut h) = unit_or_wrong tokens r unit u w
+no_fault tokens unit kind rest u (faults.deep r d) = unit_or_deep tokens r unit u d
+
 pub unit-tells : UnitTells
 unit-tells =
     record {
       wrong = wrong_fault;
       deep = λ tokens rest e. faults.deep rest (unit-is_exact.deep tokens rest e);
       unique = unique_fault;
+      none = no_fault;
     }

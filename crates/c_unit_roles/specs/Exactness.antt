@@ -1,10 +1,11 @@
 -- What it means that the reader of units tells the fault of tokens that are no unit.
 use Rattle.std.specs.Prelude.{◌≡◌, List, Err}
 use Rattle.c_spec.specs.Lexical.{Placed}
+use Rattle.c_tree_spec.specs.Unit.{TranslationUnit}
 use Rattle.c_grammar_spec.specs.declared.ParseFaultKind.{ParseFaultKind}
 use Rattle.c_grammar_spec.specs.declared.ParseFaultKind.TheVariants.{Depth}
 use Rattle.c_grammar_spec.specs.declared.Role.{Role}
-use Rattle.c_grammar_spec.specs.Faults.{fault_kind, IsFault}
+use Rattle.c_grammar_spec.specs.Faults.{fault_kind, IsUnit, IsFault}
 use Rattle.exact_read.specs.Reading.{Deep, Wrong}
 use Rattle.c_unit_reader.specs.Units.{read_unit}
 
@@ -15,3 +16,5 @@ pub record UnitTells : Type 0 where
   pub deep : (tokens rest : List Placed) → read_unit tokens ≡ Err (Deep, rest) → IsFault tokens Depth rest
   -- tokens have one fault alone
   pub unique : (tokens : List Placed) (one two : ParseFaultKind) (left right : List Placed) → IsFault tokens one left → IsFault tokens two right → (one ≡ two) × (left ≡ right)
+  -- tokens that are a unit have none
+  pub none : (tokens : List Placed) (unit : TranslationUnit) (kind : ParseFaultKind) (rest : List Placed) → IsUnit tokens unit → IsFault tokens kind rest → ⊥

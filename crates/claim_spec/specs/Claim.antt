@@ -6,15 +6,11 @@ use Rattle.rv_spec.specs.Step.{after}
 use Rattle.elf_spec.specs.Image.{Image, entry_of, size_at, object_of, fixed_byte, global_pointer}
 use Rattle.c_spec.specs.Unit.{Unit}
 use Rattle.c_meaning_spec.specs.Run.{Memory, Outcome, Guard, Back, Span, c_run, HaveTypes}
-use Rattle.claim_spec.specs.Code.{InRange, Reaches, IsStack}
+use Rattle.code_spec.specs.Code.{InRange, Reaches, IsStack, HoldsFixed}
 
 -- a value as a word: what is narrower is widened by the sign of its type (RISC-V psABI, integer calling convention)
 abbrev pub widened : ℤ → ℕ
 widened value = word value
-
--- every fixed byte stands in memory
-abbrev pub HoldsFixed : Image → Memory → Type 0
-HoldsFixed image memory = (address byte : ℕ) → fixed_byte image address ≡ Some byte → byte_at memory address ≡ byte
 
 -- the dead stack: the bytes below the stack pointer that the call may use
 pub record InZone (m : Machine) (stack address : ℕ) : Type 0 where

@@ -1,4 +1,2 @@
-pub mod Code
-pub mod Faults
 pub mod Claim
 pub mod Verdict

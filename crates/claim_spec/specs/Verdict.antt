@@ -15,8 +15,8 @@ use Rattle.claim_spec.specs.declared.Quantity.{Quantity}
 use Rattle.claim_spec.specs.declared.Quantity.TheVariants.{Elf, C, Functions}
 use Rattle.claim_spec.specs.declared.PairKind.{PairKind}
 use Rattle.claim_spec.specs.declared.PairKind.TheVariants.{NothingListed, NoSource, NoSymbol}
-use Rattle.claim_spec.specs.declared.CodeKind.{CodeKind}
-use Rattle.claim_spec.specs.declared.CodeKind.TheVariants.{NoFunction, Ambiguous, Empty, Writable, Misplaced, Undecoded, Indirect, Leaves, Overlap}
+use Rattle.code_spec.specs.declared.CodeKind.{CodeKind}
+use Rattle.code_spec.specs.declared.CodeKind.TheVariants.{NoFunction, Ambiguous, Empty, Writable, Misplaced, Undecoded, Indirect, Leaves, Overlap}
 
 -- what is said of a listed function: whether it is valid, and how much stack it takes
 pub record Judgement : Type 0 where

@@ -47,7 +47,8 @@ finding_at clauses truths number = if number == 0 then Missing else finding_of t
 
 pub data Outcome : Type 0 where
   Follows : Outcome
-  -- at the hint of this number, counted from 1; 0 are the literals
+  -- at the hint of this number, counted from 1, and `Open` at the last; 0 are the literals, or `Open` where there
+  -- are no hints
   Refused : (hint : ℕ) → (kind : StepFaultKind) → Outcome
 
 -- what a finding comes to: `on` goes on with a literal made true

@@ -4,7 +4,7 @@ use Rattle.std.proofs.lemmas.Bool.{ne_eqb}
 use Rattle.rv_instr.specs.declared.Instr.{Instr}
 use Rattle.rv_instr.specs.declared.Instr.TheVariants.{Jalr}
 use Rattle.rv_spec.specs.Machine.{past}
-use Rattle.claim_spec.specs.Code.{Flow, flow_of, Falls, Branches, Jumps, Calls, Leads, Returns, Stops}
+use Rattle.code_spec.specs.Code.{Flow, flow_of, Falls, Branches, Jumps, Calls, Leads, Returns, Stops}
 use Rattle.term_spec.specs.Term.{Term}
 use Rattle.graph_spec.specs.declared.Next.{Next}
 use Rattle.graph_spec.specs.declared.Next.TheVariants as next

@@ -5,7 +5,7 @@ use Rattle.rv_instr.specs.declared.Instr.{Instr}
 use Rattle.rv_instr.specs.declared.Instr.TheVariants as instr
 use Rattle.rv_instr.specs.declared.StoreKind.{StoreKind}
 use Rattle.elf_spec.specs.Runs.{Run}
-use Rattle.claim_spec.specs.Code.{Flow, Falls, Branches, Jumps, Calls, Leads, Returns, Stops}
+use Rattle.code_spec.specs.Code.{Flow, Falls, Branches, Jumps, Calls, Leads, Returns, Stops}
 use Rattle.term_spec.specs.Term.{Term, or_term, less}
 use Rattle.graph_spec.specs.declared.Next.{Next}
 use Rattle.graph_spec.specs.declared.Next.TheVariants as next

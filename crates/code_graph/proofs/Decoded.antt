@@ -8,8 +8,8 @@ use Rattle.std.proofs.lemmas.List.Elements.{All-contains}
 use Rattle.rv_instr.specs.declared.Instr.{Instr}
 use Rattle.rv_instr.specs.Instr.{instr}
 use Rattle.elf_spec.specs.Image.{Image}
-use Rattle.claim_spec.specs.Code.{Flow, flow_of, instr_at, flow_at, IsReachable}
-use Rattle.claim_spec.specs.Faults.{word_at, HasNoFault}
+use Rattle.code_spec.specs.Code.{Flow, flow_of, instr_at, flow_at, IsReachable}
+use Rattle.code_spec.specs.Faults.{word_at, HasNoFault}
 use Rattle.decompile.specs.Found.{IsCode}
 use Rattle.code_graph_law.proofs.Reached.{has_instruction, has_flow, flow_alone}
 use Rattle.code_graph_layout.specs.Layout as spec

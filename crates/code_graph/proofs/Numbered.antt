@@ -9,7 +9,7 @@ use Rattle.std.proofs.lemmas.Bool.{ne_eqb}
 use Rattle.std.proofs.lemmas.List.{append_assoc, map-append, length-map, get_or_at}
 use Rattle.std.proofs.lemmas.Map.Keys.{sorted_from_strictly_increasing, below_from_sorted, sorted_tail}
 use Rattle.elf_spec.specs.Image.{Image}
-use Rattle.claim_spec.specs.Code.{IsReachable}
+use Rattle.code_spec.specs.Code.{IsReachable}
 use Rattle.code_graph_spec.specs.Blocks.{Of, Frame}
 use Rattle.code_graph_spec.specs.CodeGraph.{AreFirstNodes}
 use Rattle.code_graph_layout.specs.Layout.{Item, block, AreNumbered, AreItems}

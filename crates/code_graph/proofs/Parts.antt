@@ -6,7 +6,7 @@ use Rattle.rv_instr.specs.declared.BranchTest.{BranchTest}
 use Rattle.rv_instr.specs.declared.Instr.{Instr}
 use Rattle.rv_instr.specs.declared.Instr.TheVariants.{Branch}
 use Rattle.rv_spec.specs.Machine.{past}
-use Rattle.claim_spec.specs.Code.{Falls, Branches, Jumps, Calls, Leads, Returns, Stops}
+use Rattle.code_spec.specs.Code.{Falls, Branches, Jumps, Calls, Leads, Returns, Stops}
 use Rattle.graph_spec.specs.declared.Next.TheVariants as next
 use Rattle.graph_spec.specs.Graph.{Node, Basic, Cond, Call}
 use Rattle.code_graph_spec.specs.Forms.{operand, access_tests, returns_home, effects, branch_test, taken}

@@ -7,7 +7,7 @@ use Rattle.rv_instr.specs.declared.LoadKind.{LoadKind}
 use Rattle.rv_instr.specs.declared.LoadKind.TheVariants as load_kind
 use Rattle.rv_instr.specs.declared.StoreKind.{StoreKind}
 use Rattle.rv_instr.specs.declared.StoreKind.TheVariants as store_kind
-use Rattle.claim_spec.specs.Code.{Flow, Falls, Branches, Jumps, Calls, Leads, Returns, Stops}
+use Rattle.code_spec.specs.Code.{Flow, Falls, Branches, Jumps, Calls, Leads, Returns, Stops}
 use Rattle.term_spec.specs.Term.{Term}
 use Rattle.graph_spec.specs.declared.Next.{Next}
 use Rattle.graph_spec.specs.declared.Next.TheVariants as next

@@ -10,8 +10,8 @@ use Rattle.rv_instr.specs.declared.Instr.{Instr}
 use Rattle.elf_spec.specs.Image.{Image, size_at}
 use Rattle.elf_spec.specs.Runs.{Run, AreRuns}
 use Rattle.elf_read.specs.declared.parts.Extent.{Extent}
-use Rattle.claim_spec.specs.Code.{InRange, Flow, Falls, Branches, Jumps, Calls, Leads, Returns, Stops, flow_of, instr_at, flow_at, IsReachable}
-use Rattle.claim_spec.specs.Faults.{HasNoFault, goes_to}
+use Rattle.code_spec.specs.Code.{InRange, Flow, Falls, Branches, Jumps, Calls, Leads, Returns, Stops, flow_of, instr_at, flow_at, IsReachable}
+use Rattle.code_spec.specs.Faults.{HasNoFault, goes_to}
 use Rattle.graph_spec.specs.Graph.{Node, Graph}
 use Rattle.code_graph_spec.specs.Blocks.{Place, Of, Frame, is_inside, leaves}
 use Rattle.code_graph_spec.specs.CodeGraph.{IsCodeGraph}

@@ -4,7 +4,7 @@ use Rattle.std.specs.List.{position_or_len}
 use Rattle.std.specs.Map.{lookup}
 use Rattle.elf_spec.specs.Image.{Image, size_at}
 use Rattle.elf_spec.specs.Runs.{Run}
-use Rattle.claim_spec.specs.Faults.{HasNoFault}
+use Rattle.code_spec.specs.Faults.{HasNoFault}
 use Rattle.graph_spec.specs.Graph.{Graph, IsValid}
 use Rattle.code_graph_spec.specs.Blocks.{Frame}
 use Rattle.code_graph_spec.specs.CodeGraph.{IsCodeGraph, AreFirstNodes}

@@ -6,7 +6,7 @@ use Rattle.rv_instr.specs.declared.LoadKind.{LoadKind}
 use Rattle.rv_instr.specs.declared.LoadKind.TheVariants as load_kind
 use Rattle.rv_instr.specs.declared.StoreKind.{StoreKind}
 use Rattle.rv_instr.specs.declared.StoreKind.TheVariants as store_kind
-use Rattle.claim_spec.specs.Code.{Flow, Falls, Calls}
+use Rattle.code_spec.specs.Code.{Flow, Falls, Calls}
 use Rattle.code_graph_layout.specs.Layout.{Item}
 
 abbrev pub load_tests : LoadKind → ℕ

@@ -3,7 +3,7 @@ use Rattle.std.specs.Prelude.{◌≡◌, ℕ, ◌+◌, ◌-◌, ◌^◌, ◌<◌
 use Rattle.elf_spec.specs.Image.{Image}
 use Rattle.elf_spec.specs.Runs.{Run, AreRuns}
 use Rattle.elf_read.specs.declared.parts.Extent.{Extent}
-use Rattle.claim_spec.specs.Code.{Flow, Jumps}
+use Rattle.code_spec.specs.Code.{Flow, Jumps}
 use Rattle.term_spec.specs.Term.{Term}
 use Rattle.graph_spec.specs.declared.Next.TheVariants as next
 use Rattle.graph_spec.specs.Graph.{Node, Cond}

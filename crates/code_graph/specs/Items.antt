@@ -1,8 +1,8 @@
 -- The instructions that a function reaches, as the program has them.
 use Rattle.std.specs.Prelude.{◌≡◌, ℕ, Bool, true, false, List, map, Some, None}
 use Rattle.elf_spec.specs.Image.{Image, size_at}
-use Rattle.claim_spec.specs.Code.{Flow, Falls, Branches, Jumps, Calls, Leads, Returns, Stops, flow_of}
-use Rattle.claim_spec.specs.Faults.{HasNoFault}
+use Rattle.code_spec.specs.Code.{Flow, Falls, Branches, Jumps, Calls, Leads, Returns, Stops, flow_of}
+use Rattle.code_spec.specs.Faults.{HasNoFault}
 use Rattle.code_graph_layout.specs.Layout as spec
 use Rattle.code_graph.specs.declared.items.Item.{Item}
 

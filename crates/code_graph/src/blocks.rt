@@ -1,7 +1,7 @@
 //! The nodes of an instruction.
 
 ghost use Rattle.std.specs.Prelude.{◌≡◌, ◌==◌, ◌∷◌, [], map, if◌then◌else◌, IfOk, OnOk, None};
-ghost use Rattle.claim_spec.specs.Code.{Flow, flow_of, Falls, Branches, Jumps, Calls, Leads, Returns, Stops};
+ghost use Rattle.code_spec.specs.Code.{Flow, flow_of, Falls, Branches, Jumps, Calls, Leads, Returns, Stops};
 ghost use Rattle.term_core.specs.Trees.{term_of};
 ghost use Rattle.graph_spec.specs.Graph.{Basic, with_nodes};
 ghost use Rattle.graph_core.specs.Graphs.{graph_of, node_of};

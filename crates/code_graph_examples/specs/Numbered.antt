@@ -2,7 +2,7 @@
 -- 10000 hex and 4 k more is 10 k + 1, and its further nodes follow; the landing node behind it is 10 k + 10.
 use Rattle.std.specs.Prelude.{ℕ, ◌+◌, ◌-◌, ◌*◌, ◌/◌, List, [], ◌∷◌, replicate, Option, None, option_map, option_and_then}
 use Rattle.rv_instr.specs.Instr.{instr}
-use Rattle.claim_spec.specs.Code.{flow_of}
+use Rattle.code_spec.specs.Code.{flow_of}
 use Rattle.term_spec.specs.Term.{Term, open_term, equal}
 use Rattle.graph_spec.specs.declared.Next.{Next}
 use Rattle.graph_spec.specs.declared.Next.TheVariants as next

@@ -13,8 +13,7 @@ use Rattle.rv_spec.proofs.Registers.{pc-write, memory-write}
 use Rattle.rv_spec.proofs.Kept.{read_below, byte_below}
 use Rattle.elf_spec.specs.Image.{Image}
 use Rattle.elf_spec.specs.Runs.{Run, AreRuns}
-use Rattle.claim_spec.specs.Claim.{HoldsFixed}
-use Rattle.claim_spec.specs.Code.{Falls, Jumps, Calls, Leads, Returns, Stops, flow_of}
+use Rattle.code_spec.specs.Code.{HoldsFixed, Falls, Jumps, Calls, Leads, Returns, Stops, flow_of}
 use Rattle.term_spec.specs.Term.{Term}
 use Rattle.term_spec.specs.Value.{Bytes, Assignment, value}
 use Rattle.graph_spec.specs.Graph.{Binding}

@@ -7,8 +7,7 @@ use Rattle.rv_instr.specs.Instr.{instr}
 use Rattle.rv_spec.specs.Machine.{Machine, Memory, byte_at, past, load_word}
 use Rattle.rv_spec.specs.Step.{step, execute}
 use Rattle.elf_spec.specs.Image.{Image, fixed_byte}
-use Rattle.claim_spec.specs.Claim.{HoldsFixed}
-use Rattle.claim_spec.specs.Code.{instr_at, word_of_bytes}
+use Rattle.code_spec.specs.Code.{HoldsFixed, instr_at, word_of_bytes}
 
 word_loaded : (memory : Memory) (address a b c d : ℕ) → address + 4 ≤ 2 ^ 32
     → byte_at memory address ≡ a → byte_at memory (address + 1) ≡ b → byte_at memory (address + 2) ≡ c → byte_at memory (address + 3) ≡ d

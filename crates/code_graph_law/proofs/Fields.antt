@@ -5,7 +5,7 @@ use Rattle.rv_instr.specs.declared.Instr.{Instr}
 use Rattle.rv_instr.specs.declared.Instr.TheVariants.{Lui, Auipc, Jal, Jalr, Branch, Load, Store, Immediate, Shift, Arithmetic, Fence, Ecall, Ebreak}
 use Rattle.rv_instr.specs.Instr.{instr, instr_of, instr_of_immediate, either, listed, opcode, rd, rs1, rs2, funct3, funct10, branches, loads, stores, immediates, shifts, arithmetics, i_immediate, u_immediate, j_immediate, field}
 use Rattle.elf_spec.specs.Image.{Image, fixed_byte}
-use Rattle.claim_spec.specs.Code.{instr_at, word_of_bytes}
+use Rattle.code_spec.specs.Code.{instr_at, word_of_bytes}
 
 -- registers, and the amount of a shift
 abbrev pub AreFields : Instr → Type 0

@@ -4,8 +4,8 @@ use Rattle.std.proofs.lemmas.List.{append-nil, append_assoc}
 use Rattle.rv_instr.specs.declared.Instr.{Instr}
 use Rattle.rv_spec.specs.Machine.{Machine}
 use Rattle.elf_spec.specs.Image.{Image, size_at}
-use Rattle.claim_spec.specs.Code.{Flow, Returns, instr_at, flow_at, IsReachable, Reaches}
-use Rattle.claim_spec.specs.Faults.{ReachesNoFault}
+use Rattle.code_spec.specs.Code.{Flow, Returns, instr_at, flow_at, IsReachable, Reaches}
+use Rattle.code_spec.specs.Faults.{ReachesNoFault}
 use Rattle.term_spec.specs.Term.{Term}
 use Rattle.term_spec.specs.Value.{Assignment, value}
 use Rattle.graph_spec.specs.Graph.{Graphs}

@@ -5,8 +5,8 @@ use Rattle.std.proofs.lemmas.List.{append-nil, append_assoc, length-append}
 use Rattle.rv_instr.specs.declared.Instr.{Instr}
 use Rattle.rv_spec.specs.Machine.{Machine, read_register, past}
 use Rattle.elf_spec.specs.Image.{Image, size_at}
-use Rattle.claim_spec.specs.Code.{InRange, Flow, Falls, Branches, Jumps, Calls, Leads, Returns, Stops, flow_of, instr_at, flow_at, IsReachable, here, next, Reaches}
-use Rattle.claim_spec.specs.Faults.{ReachesNoFault}
+use Rattle.code_spec.specs.Code.{InRange, Flow, Falls, Branches, Jumps, Calls, Leads, Returns, Stops, flow_of, instr_at, flow_at, IsReachable, here, next, Reaches}
+use Rattle.code_spec.specs.Faults.{ReachesNoFault}
 use Rattle.term_spec.specs.Term.{Term, open_term}
 use Rattle.term_spec.specs.Value.{Truth, Assignment, value}
 use Rattle.graph_spec.specs.declared.Next.{Next}

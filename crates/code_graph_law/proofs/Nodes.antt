@@ -4,7 +4,7 @@ use Rattle.std.specs.Prelude.{slice_get, nat_le, nat_lt, option_and_then}
 use Rattle.std.proofs.lemmas.Bool.{le-leb, lt-ltb, leb-true, ltb-true, and_parts}
 use Rattle.rv_instr.specs.declared.Instr.{Instr}
 use Rattle.elf_spec.specs.Image.{Image, size_at}
-use Rattle.claim_spec.specs.Code.{InRange, Flow, Falls, Branches, Jumps, Calls, Leads, Returns, Stops, Reaches}
+use Rattle.code_spec.specs.Code.{InRange, Flow, Falls, Branches, Jumps, Calls, Leads, Returns, Stops, Reaches}
 use Rattle.term_spec.specs.Term.{Term}
 use Rattle.graph_spec.specs.declared.Next.TheVariants as next
 use Rattle.graph_spec.specs.Graph.{Node, Cond, Graph, Graphs, node_at}

@@ -5,10 +5,10 @@ use Rattle.std.proofs.lemmas.Bool.{cases_lt, cases_eq}
 use Rattle.rv_instr.specs.declared.Instr.{Instr}
 use Rattle.rv_instr.specs.declared.Instr.TheVariants.{Lui, Auipc, Jal, Jalr, Branch, Load, Store, Immediate, Shift, Arithmetic, Fence, Ecall, Ebreak}
 use Rattle.elf_spec.specs.Image.{Image, size_at, fixed_byte}
-use Rattle.claim_spec.specs.declared.CodeKind.TheVariants.{NoFunction, Empty, Writable, Misplaced, Undecoded, Indirect, Leaves}
-use Rattle.claim_spec.specs.Code.{InRange, HasCode, IsFixedRange, empty, writable, misplaced, aligned, Flow, Falls, Branches, Jumps, Calls, Leads, Returns, Stops, flow_of, flow_of_pair, pair_target, instr_at, flow_at, nexts_of, IsReachable, here, next}
-use Rattle.claim_spec.specs.Faults.{direct_flow, IsDirectlyReachable, is_indirect, goes_to, IsInstructionFault, no_function, undecoded, indirect, leaves, of_instruction, of_range, HasNoFault}
-use Rattle.claim_spec.proofs.Direct.{direct-reachable}
+use Rattle.code_spec.specs.declared.CodeKind.TheVariants.{NoFunction, Empty, Writable, Misplaced, Undecoded, Indirect, Leaves}
+use Rattle.code_spec.specs.Code.{InRange, HasCode, IsFixedRange, empty, writable, misplaced, aligned, Flow, Falls, Branches, Jumps, Calls, Leads, Returns, Stops, flow_of, flow_of_pair, pair_target, instr_at, flow_at, nexts_of, IsReachable, here, next}
+use Rattle.code_spec.specs.Faults.{direct_flow, IsDirectlyReachable, is_indirect, goes_to, IsInstructionFault, no_function, undecoded, indirect, leaves, of_instruction, of_range, HasNoFault}
+use Rattle.code_spec.proofs.Direct.{direct-reachable}
 
 -- ---- lists of one or two addresses
 

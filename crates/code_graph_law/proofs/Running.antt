@@ -5,8 +5,8 @@ use Rattle.rv_spec.specs.Machine.{Machine, read_register}
 use Rattle.rv_spec.specs.Step as machine
 use Rattle.rv_spec.proofs.Steps.{after_zero, after_step, after_stopped}
 use Rattle.elf_spec.specs.Image.{Image, size_at}
-use Rattle.claim_spec.specs.Code.{InRange, itself}
-use Rattle.claim_spec.specs.Faults.{ReachesNoFault}
+use Rattle.code_spec.specs.Code.{InRange, itself}
+use Rattle.code_spec.specs.Faults.{ReachesNoFault}
 use Rattle.term_spec.specs.Value.{Assignment}
 use Rattle.graph_spec.specs.Graph.{Graphs}
 use Rattle.graph_spec.specs.Run.{State, Running, Returned, Failed, step, walk_of}

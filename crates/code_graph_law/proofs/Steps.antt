@@ -13,10 +13,9 @@ use Rattle.rv_spec.proofs.Registers.{memory-write}
 use Rattle.rv_spec.proofs.Kept.{execute_keeps, read_below}
 use Rattle.elf_spec.specs.Image.{Image, size_at}
 use Rattle.elf_spec.specs.Runs.{AreRuns}
-use Rattle.claim_spec.specs.Claim.{HoldsFixed}
-use Rattle.claim_spec.specs.Code.{InRange, Flow, Falls, Branches, Jumps, Calls, Leads, Returns, Stops, flow_of, instr_at, flow_at, nexts_of, aligned, IsReachable, next, call, Reaches, further}
-use Rattle.claim_spec.specs.Faults.{goes_to, is_indirect, HasNoFault, ReachesNoFault}
-use Rattle.claim_spec.proofs.Direct.{each_without, direct-reaches}
+use Rattle.code_spec.specs.Code.{HoldsFixed, InRange, Flow, Falls, Branches, Jumps, Calls, Leads, Returns, Stops, flow_of, instr_at, flow_at, nexts_of, aligned, IsReachable, next, call, Reaches, further}
+use Rattle.code_spec.specs.Faults.{goes_to, is_indirect, HasNoFault, ReachesNoFault}
+use Rattle.code_spec.proofs.Direct.{each_without, direct-reaches}
 use Rattle.term_spec.specs.Term.{Term}
 use Rattle.term_spec.specs.Value.{Assignment, value}
 use Rattle.graph_spec.specs.declared.Next.{Next}

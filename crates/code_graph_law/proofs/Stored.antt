@@ -12,7 +12,7 @@ use Rattle.rv_spec.specs.Step as step
 use Rattle.rv_spec.proofs.Memory.{byte_elsewhere}
 use Rattle.elf_spec.specs.Image.{Image, fixed_byte}
 use Rattle.elf_spec.specs.Runs.{Run, AreRuns}
-use Rattle.claim_spec.specs.Claim.{HoldsFixed}
+use Rattle.code_spec.specs.Code.{HoldsFixed}
 use Rattle.term_spec.specs.declared.Width.TheVariants.{W32}
 use Rattle.term_spec.specs.declared.WordOperator.TheVariants as word_op
 use Rattle.term_spec.specs.Term.{Term, constant, less}

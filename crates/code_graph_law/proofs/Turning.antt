@@ -8,7 +8,7 @@ use Rattle.rv_spec.specs.Arithmetic.{word, holds}
 use Rattle.rv_spec.specs.Machine.{Machine, read_register, write_register, past}
 use Rattle.rv_spec.specs.Step as step
 use Rattle.rv_spec.specs.Step.{execute, goto, next}
-use Rattle.claim_spec.specs.Code.{Branches, Jumps, Calls, Leads, Returns, Stops, flow_of}
+use Rattle.code_spec.specs.Code.{Branches, Jumps, Calls, Leads, Returns, Stops, flow_of}
 
 -- ---- a branch
 

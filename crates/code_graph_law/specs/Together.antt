@@ -5,9 +5,8 @@ use Rattle.rv_spec.specs.Machine.{Machine, IsMachine, past, read_register}
 use Rattle.rv_spec.specs.Step.{after}
 use Rattle.elf_spec.specs.Image.{Image, size_at}
 use Rattle.elf_spec.specs.Runs.{Run}
-use Rattle.claim_spec.specs.Code.{InRange, Flow, Calls, instr_at, flow_at, IsReachable, Reaches}
-use Rattle.claim_spec.specs.Faults.{ReachesNoFault}
-use Rattle.claim_spec.specs.Claim.{HoldsFixed}
+use Rattle.code_spec.specs.Code.{InRange, Flow, Calls, instr_at, flow_at, IsReachable, Reaches, HoldsFixed}
+use Rattle.code_spec.specs.Faults.{ReachesNoFault}
 use Rattle.term_spec.specs.declared.Width.TheVariants.{W32}
 use Rattle.term_spec.specs.Term.{Term}
 use Rattle.term_spec.specs.Value.{Number, Assignment}

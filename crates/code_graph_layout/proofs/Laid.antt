@@ -7,8 +7,8 @@ use Rattle.std.proofs.lemmas.Option.{slice_get_within, slice_get-get_or}
 use Rattle.rv_instr.specs.declared.Instr.{Instr}
 use Rattle.elf_spec.specs.Image.{Image}
 use Rattle.elf_spec.specs.Runs.{AreRuns}
-use Rattle.claim_spec.specs.Code.{InRange, Flow, Falls, Branches, Jumps, Calls, Leads, Returns, Stops, instr_at, flow_at, IsReachable}
-use Rattle.claim_spec.specs.Faults.{HasNoFault, goes_to}
+use Rattle.code_spec.specs.Code.{InRange, Flow, Falls, Branches, Jumps, Calls, Leads, Returns, Stops, instr_at, flow_at, IsReachable}
+use Rattle.code_spec.specs.Faults.{HasNoFault, goes_to}
 use Rattle.graph_spec.specs.declared.Next.{Next}
 use Rattle.graph_spec.specs.declared.Next.TheVariants as next
 use Rattle.graph_spec.specs.Graph.{Node, Basic}

@@ -6,7 +6,7 @@ use Rattle.std.specs.Prelude.{ℕ, ◌+◌, ◌%◌, ◌==◌, ◌&&◌, nat_le,
 use Rattle.rv_instr.specs.declared.Instr.{Instr}
 use Rattle.rv_spec.specs.Machine.{past}
 use Rattle.elf_spec.specs.Runs.{Run}
-use Rattle.claim_spec.specs.Code.{Flow, Falls, Branches, Jumps, Calls, Leads, Returns, Stops}
+use Rattle.code_spec.specs.Code.{Flow, Falls, Branches, Jumps, Calls, Leads, Returns, Stops}
 use Rattle.term_spec.specs.Term.{Term, open_term}
 use Rattle.graph_spec.specs.declared.Next.{Next}
 use Rattle.graph_spec.specs.declared.Next.TheVariants as next
@@ -54,8 +54,7 @@ chain f address index [] (Does node) = node ∷ []
 chain f address index (test ∷ tests) ending =
     Cond test (onward f address (index + 1) tests ending) next.Err ∷ chain f address (index + 1) tests ending
 
--- what a called function starts with: x1 has the address behind the call, and its own entry registers have what the
--- registers have
+-- x1 and the entry register of x1 have the address behind the call
 abbrev pub link : ℕ → List Binding
 link back = record { variable = register 1; term = number back } ∷ record { variable = entry_register 1; term = number back } ∷ []
 
@@ -67,6 +66,8 @@ other_registers =
     2 ∷ 3 ∷ 4 ∷ 5 ∷ 6 ∷ 7 ∷ 8 ∷ 9 ∷ 10 ∷ 11 ∷ 12 ∷ 13 ∷ 14 ∷ 15 ∷ 16
     ∷ 17 ∷ 18 ∷ 19 ∷ 20 ∷ 21 ∷ 22 ∷ 23 ∷ 24 ∷ 25 ∷ 26 ∷ 27 ∷ 28 ∷ 29 ∷ 30 ∷ 31 ∷ []
 
+-- what a called function starts with: x1 has the address behind the call, and its own entry registers have what the
+-- registers have
 unfoldable pub call_inputs : ℕ → List Binding
 call_inputs back = link back ++ map entry_binding other_registers
 

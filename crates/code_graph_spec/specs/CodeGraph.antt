@@ -4,7 +4,7 @@ use Rattle.std.specs.List.Sorted.{IsStrictlyIncreasing}
 use Rattle.rv_instr.specs.declared.Instr.{Instr}
 use Rattle.elf_spec.specs.Image.{Image}
 use Rattle.elf_spec.specs.Runs.{AreRuns}
-use Rattle.claim_spec.specs.Code.{Flow, instr_at, flow_at, IsReachable}
+use Rattle.code_spec.specs.Code.{Flow, instr_at, flow_at, IsReachable}
 use Rattle.graph_spec.specs.declared.Next.{Next}
 use Rattle.graph_spec.specs.declared.Next.TheVariants as next
 use Rattle.graph_spec.specs.Graph.{Node, Basic, Graph}

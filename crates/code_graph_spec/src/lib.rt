@@ -1,4 +1,4 @@
-//! The graph of a function of an executable, and what it means that the machine and the graph step together.
+//! The graph of a function of an executable.
 //!
 //! `specs/State.antt` says once how a machine's registers and its memory of bytes stand in the variables of terms;
 //! `specs/Forms.antt` has the term of each form of instruction; `specs/Blocks.antt` the nodes of an instruction, and

@@ -9,8 +9,8 @@ use Rattle.rv_spec.specs.Arithmetic.{word, of_immediate, of_shift}
 use Rattle.rv_spec.specs.Machine.{past}
 use Rattle.elf_spec.specs.Image.{Image}
 use Rattle.elf_spec.specs.Runs.{Run}
-use Rattle.claim_spec.specs.Code.{InRange, Flow, Falls, Branches, Jumps, Calls, Leads, Returns, Stops, instr_at, flow_at, nexts_of, aligned, IsReachable, here, next}
-use Rattle.claim_spec.specs.Faults.{HasNoFault}
+use Rattle.code_spec.specs.Code.{InRange, Flow, Falls, Branches, Jumps, Calls, Leads, Returns, Stops, instr_at, flow_at, nexts_of, aligned, IsReachable, here, next}
+use Rattle.code_spec.specs.Faults.{HasNoFault}
 use Rattle.rv_instr.specs.declared.LoadKind.{LoadKind}
 use Rattle.rv_instr.specs.declared.LoadKind.TheVariants as load_kind
 use Rattle.rv_instr.specs.declared.StoreKind.{StoreKind}

@@ -2,7 +2,7 @@
 use Rattle.std.specs.Prelude.{◌+◌, ◌^◌, ◌≤◌, length, Contains}
 use Rattle.elf_spec.specs.Image.{Image}
 use Rattle.elf_spec.specs.Runs.{Run}
-use Rattle.claim_spec.specs.Faults.{HasNoFault}
+use Rattle.code_spec.specs.Faults.{HasNoFault}
 use Rattle.graph_spec.specs.Graph.{Graph, IsValid}
 use Rattle.code_graph_spec.specs.Blocks.{Frame}
 use Rattle.code_graph_spec.specs.CodeGraph.{IsCodeGraph}

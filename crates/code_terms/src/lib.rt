@@ -13,6 +13,3 @@ mod products;
 pub use access::{avoids, is_multiple, last_written, loaded, stored};
 pub use arithmetic::{branch_test, computed, taken};
 pub use basic::{address, entry_register, memory, number, operand, register, returns_home};
-
-#[cfg(test)]
-mod tests;

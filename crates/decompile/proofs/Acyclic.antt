@@ -2,7 +2,7 @@
 use Rattle.std.proofs.Common.{◌≡◌, ◌⊎◌, ◌+◌, ℕ, refl, sym, subst, inl, inr}
 use Rattle.std.specs.Prelude.{Option, Some, None, Result, Ok, Err, IfOk, IfSome}
 use Rattle.elf_spec.specs.Image.{Image, size_at}
-use Rattle.claim_spec.specs.Code.{CallsOn, Reaches, itself, further, IsStack, deep}
+use Rattle.code_spec.specs.Code.{CallsOn, Reaches, itself, further, IsStack, deep}
 use Rattle.decompile.specs.Found.{IsCyclic, IsDepth}
 
 -- the function calls another one, from which a third is reached

@@ -5,8 +5,8 @@ use Rattle.std.proofs.lemmas.Bool.{cases_lt}
 use Rattle.std.proofs.lemmas.List.{get_or_default}
 use Rattle.std.proofs.lemmas.List.Elements.{Contains-get_or}
 use Rattle.elf_spec.specs.Image.{Image}
-use Rattle.claim_spec.specs.declared.CodeKind.{CodeKind}
-use Rattle.claim_spec.specs.Code.{IsGreatest, IsRangeFault}
+use Rattle.code_spec.specs.declared.CodeKind.{CodeKind}
+use Rattle.code_spec.specs.Code.{IsGreatest, IsRangeFault}
 use Rattle.decompile.specs.Growth.{Grows, AreReached}
 use Rattle.decompile.specs.Surveys.{CallsOut}
 use Rattle.decompile.specs.Stacks.{Known, known_or_zero, AreCalls, IsDeepest}

@@ -7,8 +7,8 @@ use Rattle.std.proofs.lemmas.List.Elements.{Contains-append_left, Contains-appen
 use Rattle.indexmap.specs.IndexSet.{insert_key}
 use Rattle.indexmap.proofs.CallerLemmas.{Contains-list_any}
 use Rattle.elf_spec.specs.Image.{Image}
-use Rattle.claim_spec.specs.Code.{InRange, aligned, Flow, nexts_of}
-use Rattle.claim_spec.specs.Faults.{direct_flow}
+use Rattle.code_spec.specs.Code.{InRange, aligned, Flow, nexts_of}
+use Rattle.code_spec.specs.Faults.{direct_flow}
 use Rattle.decompile.specs.Growth.{Grows, IsInside, LeadsTo}
 use Rattle.decompile.specs.Flows.{in_range}
 

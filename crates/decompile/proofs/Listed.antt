@@ -7,10 +7,10 @@ use Rattle.std.proofs.lemmas.Bool.{leb-true, leb-false}
 use Rattle.std.specs.List.Sorted.{IsStrictlyIncreasing}
 use Rattle.std.proofs.lemmas.Map.Keys.{non_decreasing_from_sorted, sorted_from_strictly_increasing}
 use Rattle.elf_spec.specs.Image.{Image, size_at}
-use Rattle.claim_spec.specs.declared.CodeKind.{CodeKind}
-use Rattle.claim_spec.specs.Code.{HasCode, IsRangeFault, empty, writable, misplaced}
-use Rattle.claim_spec.specs.Faults.{word_at, IsDirectlyReachable, IsInstructionFault, IsFunctionFault, of_range, of_instruction, HasNoFault, IsFirst, rank}
-use Rattle.claim_spec.proofs.Direct.{reachable-direct, direct-reachable}
+use Rattle.code_spec.specs.declared.CodeKind.{CodeKind}
+use Rattle.code_spec.specs.Code.{HasCode, IsRangeFault, empty, writable, misplaced}
+use Rattle.code_spec.specs.Faults.{word_at, IsDirectlyReachable, IsInstructionFault, IsFunctionFault, of_range, of_instruction, HasNoFault, IsFirst, rank}
+use Rattle.code_spec.proofs.Direct.{reachable-direct, direct-reachable}
 use Rattle.decompile.specs.Flows.{fault_at}
 use Rattle.decompile.specs.Growth.{IsPlace, AreReached}
 use Rattle.decompile.specs.Listing.{AreWords, IsStop, IsListingError}

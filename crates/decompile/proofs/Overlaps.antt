@@ -5,9 +5,9 @@ use Rattle.std.specs.List.Sorted.{IsStrictlyIncreasing}
 use Rattle.std.proofs.lemmas.Bool.{cases_lt}
 use Rattle.std.proofs.lemmas.Map.Keys.{below_from_sorted, sorted_from_strictly_increasing, non_decreasing_from_sorted}
 use Rattle.elf_spec.specs.Image.{Image, size_at}
-use Rattle.claim_spec.specs.declared.CodeKind.{CodeKind}
-use Rattle.claim_spec.specs.declared.CodeKind.TheVariants.{Overlap}
-use Rattle.claim_spec.specs.Faults.{IsFirst, rank}
+use Rattle.code_spec.specs.declared.CodeKind.{CodeKind}
+use Rattle.code_spec.specs.declared.CodeKind.TheVariants.{Overlap}
+use Rattle.code_spec.specs.Faults.{IsFirst, rank}
 use Rattle.decompile.specs.Surveys.{OverlapsAt, IsOverlap}
 
 -- a range of one of the first so many ends there

@@ -7,8 +7,8 @@ use Rattle.std.specs.Ordering.{nat_cmp}
 use Rattle.std.proofs.lemmas.List.Sorted.{IsNonDecreasingBy-from_sort, IsPermutation-sym, Contains-permutation}
 use Rattle.std.proofs.lemmas.Map.Keys.{IsStrictlyIncreasing-from_distinct}
 use Rattle.elf_spec.specs.Image.{Image}
-use Rattle.claim_spec.specs.Code.{InRange, HasCode, aligned, Flow, Falls, Branches, Jumps, Calls, Leads, Returns, Stops, nexts_of}
-use Rattle.claim_spec.specs.Faults.{IsDirectlyReachable, here, next as onward}
+use Rattle.code_spec.specs.Code.{InRange, HasCode, aligned, Flow, Falls, Branches, Jumps, Calls, Leads, Returns, Stops, nexts_of}
+use Rattle.code_spec.specs.Faults.{IsDirectlyReachable, here, next as onward}
 use Rattle.decompile.specs.Growth.{IsPlace, LeadsTo, Reaches, AreReached}
 use Rattle.decompile.proofs.Growing.{none_contained, only_contained}
 use Rattle.decompile.proofs.Walks.{IsWalked, walked-all}

@@ -10,10 +10,10 @@ use Rattle.std.proofs.lemmas.List.Elements.{Contains-get_or}
 use Rattle.std.proofs.lemmas.List.Sorted.{IsNonDecreasingBy-from_sort, IsPermutation-sym, Contains-permutation, All-permutation}
 use Rattle.std.proofs.lemmas.Map.Keys.{IsStrictlyIncreasing-from_distinct, below_from_sorted, sorted_from_strictly_increasing, non_decreasing_from_sorted}
 use Rattle.elf_spec.specs.Image.{Image, size_at}
-use Rattle.claim_spec.specs.declared.CodeKind.{CodeKind}
-use Rattle.claim_spec.specs.declared.CodeKind.TheVariants.{Overlap}
-use Rattle.claim_spec.specs.Faults.{RangesMeet, ReachesDirectly, IsReachFault, of_function, overlap, ReachesNoFault}
-use Rattle.claim_spec.proofs.Direct.{reaches-direct, direct-reaches}
+use Rattle.code_spec.specs.declared.CodeKind.{CodeKind}
+use Rattle.code_spec.specs.declared.CodeKind.TheVariants.{Overlap}
+use Rattle.code_spec.specs.Faults.{RangesMeet, ReachesDirectly, IsReachFault, of_function, overlap, ReachesNoFault}
+use Rattle.code_spec.proofs.Direct.{reaches-direct, direct-reaches}
 use Rattle.decompile.specs.Surveys.{AnyHasFault, OverlapsAt, IsOverlap, IsFirstOf, AreEntries, earlier}
 use Rattle.decompile.specs.Found.{IsReach}
 use Rattle.decompile.specs.declared.faults.CodeFault.{CodeFault}

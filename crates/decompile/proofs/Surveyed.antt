@@ -4,8 +4,8 @@ use Rattle.std.specs.Prelude.{Option, None, IsSome, Contains}
 use Rattle.std.proofs.lemmas.List.{get_or_append_left, get_or_default}
 use Rattle.std.proofs.lemmas.List.Elements.{Contains-get_or}
 use Rattle.elf_spec.specs.Image.{Image, size_at}
-use Rattle.claim_spec.specs.declared.CodeKind.{CodeKind}
-use Rattle.claim_spec.specs.Faults.{CallsDirectly, call, ReachesDirectly, itself, further}
+use Rattle.code_spec.specs.declared.CodeKind.{CodeKind}
+use Rattle.code_spec.specs.Faults.{CallsDirectly, call, ReachesDirectly, itself, further}
 use Rattle.decompile.specs.Growth.{Grows}
 use Rattle.decompile.specs.Surveys.{CallsOut, HasFault, AnyHasFault, IsFirstOf, AreEntries, earlier}
 use Rattle.decompile.specs.declared.faults.CodeFault.{CodeFault}

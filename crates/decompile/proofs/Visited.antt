@@ -3,9 +3,9 @@ use Rattle.std.proofs.Common.{◌≡◌, ◌⊎◌, ◌+◌, ◌<◌, ◌≤◌,
 use Rattle.std.specs.Prelude.{Option, Some, None, IsSome, All, MatchOption}
 use Rattle.std.proofs.lemmas.List.Elements.{Contains-get_or}
 use Rattle.elf_spec.specs.Image.{Image, size_at}
-use Rattle.claim_spec.specs.declared.CodeKind.{CodeKind}
-use Rattle.claim_spec.specs.Code.{Calls, HasCode, IsRangeFault}
-use Rattle.claim_spec.specs.Faults.{direct_flow, CallsDirectly, call, IsFunctionFault, IsFirst}
+use Rattle.code_spec.specs.declared.CodeKind.{CodeKind}
+use Rattle.code_spec.specs.Code.{Calls, HasCode, IsRangeFault}
+use Rattle.code_spec.specs.Faults.{direct_flow, CallsDirectly, call, IsFunctionFault, IsFirst}
 use Rattle.decompile.specs.Growth.{Grows, AreReached}
 use Rattle.decompile.specs.Listing.{IsStop}
 use Rattle.decompile.specs.Surveys.{CallsFrom, CallsAmong, CallsOut, HasFault, AreSound, IsFirstOf}

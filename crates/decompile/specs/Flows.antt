@@ -3,11 +3,11 @@ use Rattle.std.specs.Prelude.{ℕ, ◌+◌, ◌&&◌, nat_le, nat_lt, Bool, if�
 use Rattle.std.specs.List.{list_all}
 use Rattle.rv_instr.specs.declared.Instr.{Instr}
 use Rattle.elf_spec.specs.Image.{Image, size_at}
-use Rattle.claim_spec.specs.declared.CodeKind.{CodeKind}
-use Rattle.claim_spec.specs.declared.CodeKind.TheVariants.{NoFunction, Undecoded, Indirect, Leaves}
-use Rattle.claim_spec.specs.Code as spec
-use Rattle.claim_spec.specs.Code.{instr_at, flow_of}
-use Rattle.claim_spec.specs.Faults.{is_indirect, goes_to}
+use Rattle.code_spec.specs.declared.CodeKind.{CodeKind}
+use Rattle.code_spec.specs.declared.CodeKind.TheVariants.{NoFunction, Undecoded, Indirect, Leaves}
+use Rattle.code_spec.specs.Code as spec
+use Rattle.code_spec.specs.Code.{instr_at, flow_of}
+use Rattle.code_spec.specs.Faults.{is_indirect, goes_to}
 use Rattle.decompile.specs.declared.flows.Flow.{Flow}
 use Rattle.decompile.specs.declared.flows.Flow.TheVariants.{Falls, Branches, Jumps, Calls, Leads, Returns, Stops}
 

@@ -2,9 +2,9 @@
 use Rattle.std.specs.Prelude.{◌≡◌, ◌↔◌, ℕ, List, map, All, Contains, Option, Some, None}
 use Rattle.std.specs.List.Sorted.{IsStrictlyIncreasing}
 use Rattle.elf_spec.specs.Image.{Image, size_at}
-use Rattle.claim_spec.specs.declared.CodeKind.{CodeKind}
-use Rattle.claim_spec.specs.Code.{AreReachable, CallsOn, Reaches, IsStack}
-use Rattle.claim_spec.specs.Faults.{word_at, IsFunctionFault, HasNoFault, IsReachFault, ReachesNoFault, IsFirst}
+use Rattle.code_spec.specs.declared.CodeKind.{CodeKind}
+use Rattle.code_spec.specs.Code.{AreReachable, CallsOn, Reaches, IsStack}
+use Rattle.code_spec.specs.Faults.{word_at, IsFunctionFault, HasNoFault, IsReachFault, ReachesNoFault, IsFirst}
 use Rattle.decompile.specs.declared.faults.CodeError.{CodeError}
 use Rattle.decompile.specs.declared.faults.CodeError.TheVariants.{Fault, NoMemory}
 

@@ -2,8 +2,8 @@
 use Rattle.std.specs.Prelude.{◌≡◌, ◌↔◌, ◌+◌, ◌%◌, ◌^◌, ◌≤◌, ℕ, List, ◌++◌, Contains, Some}
 use Rattle.std.specs.List.Sorted.{IsStrictlyIncreasing}
 use Rattle.elf_spec.specs.Image.{Image}
-use Rattle.claim_spec.specs.Code.{Flow, InRange, nexts_of}
-use Rattle.claim_spec.specs.Faults.{direct_flow, IsDirectlyReachable}
+use Rattle.code_spec.specs.Code.{Flow, InRange, nexts_of}
+use Rattle.code_spec.specs.Faults.{direct_flow, IsDirectlyReachable}
 
 -- behind the items of the old list stand such as have the property, and whatever has it stands in the new list
 pub record Grows (P : ℕ → Type 0) (old new : List ℕ) : Type 0 where

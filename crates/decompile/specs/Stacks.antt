@@ -1,7 +1,7 @@
 -- The search for the stack of a function: what is done, what is open, and what is to do.
 use Rattle.std.specs.Prelude.{◌≡◌, ◌⊎◌, ◌↔◌, ◌+◌, ◌^◌, ◌<◌, ◌≤◌, ℕ, List, [], ◌∷◌, ◌++◌, length, map, sum_by, Contains, slice_index, Option, Some, unwrap_or}
 use Rattle.elf_spec.specs.Image.{Image, size_at}
-use Rattle.claim_spec.specs.Code.{instr_at, opening_of, IsGreatest}
+use Rattle.code_spec.specs.Code.{instr_at, opening_of, IsGreatest}
 use Rattle.decompile.specs.Growth.{AreReached}
 use Rattle.decompile.specs.Surveys.{CallsOut}
 use Rattle.decompile.specs.declared.stacks.Task.{Task}

@@ -1,10 +1,10 @@
 -- The functions that are reached: what each calls, its faults, and which of several faults is the first.
 use Rattle.std.specs.Prelude.{◌≡◌, ◌↔◌, ◌<◌, ◌==◌, ◌&&◌, ◌||◌, nat_lt, ℕ, Bool, if◌then◌else◌, List, length, Contains, All, slice_index, Option, Some, None, IsSome, MatchOption}
 use Rattle.elf_spec.specs.Image.{Image, size_at}
-use Rattle.claim_spec.specs.declared.CodeKind.{CodeKind}
-use Rattle.claim_spec.specs.declared.CodeKind.TheVariants.{Overlap}
-use Rattle.claim_spec.specs.Code.{Calls}
-use Rattle.claim_spec.specs.Faults.{direct_flow, CallsDirectly, ReachesDirectly, IsFunctionFault, RangesMeet, IsFirst, rank}
+use Rattle.code_spec.specs.declared.CodeKind.{CodeKind}
+use Rattle.code_spec.specs.declared.CodeKind.TheVariants.{Overlap}
+use Rattle.code_spec.specs.Code.{Calls}
+use Rattle.code_spec.specs.Faults.{direct_flow, CallsDirectly, ReachesDirectly, IsFunctionFault, RangesMeet, IsFirst, rank}
 use Rattle.decompile.specs.Flows.{fault_at}
 use Rattle.decompile.specs.declared.faults.CodeFault.{CodeFault}
 

@@ -1,13 +1,13 @@
 //! What is wrong with code.
 
 ghost use Rattle.std.specs.Prelude.{◌≡◌, ◌+◌, ◌<◌, ◌≤◌, ◌^◌, is_some, if◌then◌else◌, IfOk, IfErr, Some, None, ◌∷◌, []};
-ghost use Rattle.claim_spec.specs.Code as code;
-ghost use Rattle.claim_spec.specs.Faults.{word_at, is_indirect};
+ghost use Rattle.code_spec.specs.Code as code;
+ghost use Rattle.code_spec.specs.Faults.{word_at, is_indirect};
 ghost use Rattle.decompile.specs.Flows as spec;
 ghost use Rattle.decompile.specs.declared.faults.CodeError.TheVariants.{NoMemory, Fault};
 
 use crate::flows::{Flow, flow_of, instruction, word};
-use claim_spec::CodeKind;
+use code_spec::CodeKind;
 use elf_read::Image;
 use rv_instr::Instr;
 use std::alloc::{AllocError, AllocFailed};

@@ -4,8 +4,8 @@ ghost use Rattle.std.specs.Prelude.{◌≡◌, ◌+◌, ◌≤◌, ◌^◌, ◌=
 ghost use Rattle.std.specs.Option.{option_map};
 ghost use Rattle.rv_spec.specs.Arithmetic.{word as word_of};
 ghost use Rattle.rv_spec.specs.Machine.{past};
-ghost use Rattle.claim_spec.specs.Code as spec;
-ghost use Rattle.claim_spec.specs.Faults.{word_at, direct_flow as direct};
+ghost use Rattle.code_spec.specs.Code as spec;
+ghost use Rattle.code_spec.specs.Faults.{word_at, direct_flow as direct};
 ghost use Rattle.decompile.specs.Flows.{flow_seen};
 
 use byteorder::{ByteOrder, LittleEndian};
@@ -46,7 +46,7 @@ pub(crate) fn word(image: &Image<'_>, address: u32) -> Option<u32>
 }
 
 /// The instruction at an address, if its four bytes are fixed and have a form.
-#[tactic(auto, unfolding(claim_spec::specs::Code::instr_at))]
+#[tactic(auto, unfolding(code_spec::specs::Code::instr_at))]
 pub fn instruction(image: &Image<'_>, address: u32) -> Option<Instr>
     requires { address + 4 ≤ 2 ^ 32 }
     ensures { result ≡ spec.instr_at image.now address }
@@ -99,7 +99,7 @@ pub(crate) fn flow_of(address: u32, form: &Instr) -> Flow
 }
 
 /// The flow of the instruction at an address, looked at alone.
-#[tactic(auto, unfolding(claim_spec::specs::Faults::direct_flow))]
+#[tactic(auto, unfolding(code_spec::specs::Faults::direct_flow))]
 pub(crate) fn direct_flow(image: &Image<'_>, address: u32) -> Option<Flow>
     requires { address + 4 ≤ 2 ^ 32 }
     ensures { option_map flow_seen result ≡ direct image.now address }

@@ -2,7 +2,7 @@
 
 ghost use Rattle.std.specs.Prelude.{◌≡◌, ◌+◌, ◌<◌, ◌≤◌, ◌^◌, length, All, IfOk, OnOk, IsSome, MatchOption};
 ghost use Rattle.elf_spec.specs.Image.{size_at};
-ghost use Rattle.claim_spec.specs.Faults.{rank as rank_of};
+ghost use Rattle.code_spec.specs.Faults.{rank as rank_of};
 ghost use Rattle.decompile.specs.Growth.{Grows, IsPlace};
 ghost use Rattle.decompile.specs.Listing.{IsStop};
 ghost use Rattle.decompile.specs.Surveys as spec;
@@ -12,7 +12,7 @@ use crate::faults::{CodeFault, fault_at};
 use crate::flows::{Flow, direct_flow};
 use crate::range::range_fault;
 use crate::walk::{add, reached};
-use claim_spec::CodeKind;
+use code_spec::CodeKind;
 use elf_read::Image;
 use indexmap::IndexSet;
 use std::alloc::{AllocError, Global};

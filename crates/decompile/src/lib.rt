@@ -15,8 +15,6 @@ mod listing;
 mod range;
 mod stacks;
 mod survey;
-#[cfg(test)]
-mod tests;
 mod walk;
 
 pub use faults::{CodeError, CodeFault};

@@ -2,7 +2,7 @@
 
 ghost use Rattle.std.specs.Prelude.{◌≡◌, ◌+◌, ◌<◌, ◌≤◌, ◌^◌, All, IfOk, IfErr, IsSome, Some, None};
 ghost use Rattle.elf_spec.specs.Image.{size_at};
-ghost use Rattle.claim_spec.specs.Faults.{word_at};
+ghost use Rattle.code_spec.specs.Faults.{word_at};
 ghost use Rattle.decompile.specs.Flows as spec;
 ghost use Rattle.decompile.specs.Growth.{IsPlace};
 ghost use Rattle.decompile.specs.Listing.{AreWords, IsListingError};
@@ -12,7 +12,7 @@ use crate::faults::{CodeError, CodeFault, fault_at};
 use crate::flows::word;
 use crate::range::range_fault;
 use crate::walk::reached;
-use claim_spec::CodeKind;
+use code_spec::CodeKind;
 use elf_read::Image;
 use std::alloc::Global;
 

@@ -9,7 +9,7 @@ ghost use Rattle.decompile.specs.Found.{IsReach, IsReachError};
 use crate::faults::{CodeError, CodeFault};
 use crate::functions::{earlier, visit};
 use crate::walk::add;
-use claim_spec::CodeKind;
+use code_spec::CodeKind;
 use elf_read::Image;
 use indexmap::IndexSet;
 use std::alloc::{AllocError, Global};

@@ -1,8 +1,8 @@
 //! The addresses that a function reaches.
 
 ghost use Rattle.std.specs.Prelude.{◌≡◌, ◌+◌, ◌<◌, ◌≤◌, ◌^◌, ◌%◌, ◌∷◌, [], IfOk, OnOk};
-ghost use Rattle.claim_spec.specs.Code as spec;
-ghost use Rattle.claim_spec.specs.Code.{HasCode};
+ghost use Rattle.code_spec.specs.Code as spec;
+ghost use Rattle.code_spec.specs.Code.{HasCode};
 ghost use Rattle.decompile.specs.Flows.{flow_seen};
 ghost use Rattle.decompile.specs.Growth.{Grows, IsInside, LeadsTo, Reaches, AreReached};
 

@@ -40,6 +40,7 @@ pub record HasEntries (file strings : List ℕ) (base place : ℕ) (symbols : Li
   pub names : drop place strings ≡ layout.names symbols
   pub words : All IsSymbolOfWords symbols
   pub named : All IsNamed symbols
+  pub behind_empty : 0 < place
   pub short : place + length (layout.names symbols) < 2 ^ 32
 
 next_entries : (file strings : List ℕ) (base place : ℕ) (s : Symbol) (symbols : List Symbol) → HasEntries file strings base place (s ∷ symbols)
@@ -56,6 +57,7 @@ next_entries file strings base place s symbols so =
       names = after strings (0 ∷ []) (layout.names symbols) (place + length s.name) 1 behind refl;
       words = λ k d h. so.words (suc k) d (omega arith);
       named = λ k d h. so.named (suc k) d (omega arith);
+      behind_empty = omega arith;
       short = omega (arith, so.short, length-append s.name (0 ∷ layout.names symbols));
     }
 
@@ -78,6 +80,10 @@ name_before name rest no_zero =
     (λ h. eq-eqb _ 0 (get_or-append_seam name 0 rest 0)) in
     ap (λ n. take n (name ++ 0 ∷ rest)) position ∙ take-append_seam name (0 ∷ rest)
 
+-- a place behind the empty name is that of a name
+named_in : (strings : List ℕ) (place : ℕ) → 0 < place → spec.name_in strings place ≡ before_first (λ b. b == 0) (drop place strings)
+named_in strings place behind = rw (ne_eqb place 0 (λ e. omega arith)) refl
+
 pub ended_name : (name rest : List ℕ) → Contains (name ++ 0 ∷ rest) 0
 ended_name name rest = (length name, omega (arith, length-append name (0 ∷ rest)), get_or-append_seam name 0 rest 0)
 
@@ -88,15 +94,16 @@ symbol_eq one other n v z k =
     ∙ ap (λ x. make other.name other.value x one.kind) z ∙ ap (λ x. make other.name other.value other.size x) k
 
 symbol_read : (file strings : List ℕ) (table base place : ℕ) (s : Symbol) (symbols : List Symbol)
-    → ((n : ℕ) → spec.strings_from file table n ≡ drop n strings) → HasEntries file strings base place (s ∷ symbols)
+    → spec.strings_of file table ≡ strings → HasEntries file strings base place (s ∷ symbols)
     → spec.symbol_at file table base ≡ s
 symbol_read file strings table base place s symbols strings_are so =
     let e = first_entry file strings base place s symbols so in
     let named = so.named 0 s (omega arith) in
     let kind : (16 + s.kind) % 16 ≡ s.kind = omega (arith, named.kind) in
     symbol_eq (spec.symbol_at file table base) s
-    (ap (λ n. before_first (λ b. b == 0) (spec.strings_from file table n)) e.name
-    ∙ ap (λ xs. before_first (λ b. b == 0) xs) (strings_are place ∙ so.names) ∙ name_before s.name (layout.names symbols) named.no_zero)
+    (ap (λ n. spec.name_in (spec.strings_of file table) n) e.name ∙ ap (λ xs. spec.name_in xs place) strings_are
+    ∙ named_in strings place so.behind_empty ∙ ap (λ xs. before_first (λ b. b == 0) xs) so.names
+    ∙ name_before s.name (layout.names symbols) named.no_zero)
     e.value e.size (ap (λ n. n % 16) e.info ∙ kind)
 
 filter_taken : (p : ℕ → Bool) (x : ℕ) (xs : List ℕ) → p x ≡ true → filter p (x ∷ xs) ≡ x ∷ filter p xs
@@ -104,7 +111,7 @@ filter_taken p x xs e = rw e refl
 
 -- the symbols of the entries are those that were written
 pub symbols_read : (file strings : List ℕ) (table base place : ℕ) (symbols : List Symbol)
-    → ((n : ℕ) → spec.strings_from file table n ≡ drop n strings) → HasEntries file strings base place symbols
+    → spec.strings_of file table ≡ strings → HasEntries file strings base place symbols
     → map (spec.symbol_at file table) (filter (λ at. not (spec.u16_at file (at + 14) == 0)) (spec.entries base 16 (length symbols))) ≡ symbols
 symbols_read file strings table base place [] strings_are so = refl
 symbols_read file strings table base place (s ∷ symbols) strings_are so =
@@ -120,14 +127,14 @@ symbols_read file strings table base place (s ∷ symbols) strings_are so =
 
 -- each entry's name is ended
 pub entries_ended : (file strings : List ℕ) (table base place k : ℕ) (symbols : List Symbol)
-    → ((n : ℕ) → spec.strings_from file table n ≡ drop n strings) → HasEntries file strings base place symbols → k < length symbols
+    → spec.strings_of file table ≡ strings → HasEntries file strings base place symbols → k < length symbols
     → spec.IsEnded file table (base + 16 * k)
 entries_ended file strings table base place k [] strings_are so h = absurd (omega arith)
 entries_ended file strings table base place zero (s ∷ symbols) strings_are so h =
     let here : base ≡ base + 16 * 0 = omega arith in
     let e = first_entry file strings base place s symbols so in
     subst (λ n. spec.IsEnded file table n) here
-    (subst (λ xs. Contains xs 0) (sym (ap (λ n. spec.strings_from file table n) e.name ∙ strings_are place ∙ so.names))
+    (λ some. subst (λ xs. Contains xs 0) (sym (ap (λ n. drop n (spec.strings_of file table)) e.name ∙ ap (λ xs. drop place xs) strings_are ∙ so.names))
     (ended_name s.name (layout.names symbols)))
 entries_ended file strings table base place (suc k) (s ∷ symbols) strings_are so h =
     let there : base + 16 + 16 * k ≡ base + 16 * suc k = omega arith in

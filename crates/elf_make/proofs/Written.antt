@@ -192,17 +192,17 @@ has_programs image file flags w r words = record {
   short = omega (arith, w.short);
 }
 
-strings_there : (image : Image) (file : List ℕ) (flags : ℕ) → IsReadBack image file flags → (n : ℕ)
-    → spec.strings_from file (layout.sections_at image + 40) n ≡ drop n (0 ∷ layout.names image.symbols)
-strings_there image file flags r n =
+strings_there : (image : Image) (file : List ℕ) (flags : ℕ) → IsReadBack image file flags
+    → spec.strings_of file (layout.sections_at image + 40) ≡ 0 ∷ layout.names image.symbols
+strings_there image file flags r =
     let table = layout.sections_at image + 40 in
     let size : layout.strings_size image ≡ length (0 ∷ layout.names image.symbols) = omega arith in
     let whole : take (layout.strings_size image) (drop (layout.strings_at image) file) ≡ 0 ∷ layout.names image.symbols =
     ap (λ xs. take (layout.strings_size image) xs) r.there.strings
     ∙ ap (λ m. take m (from_strings image)) size
     ∙ take-append_seam (0 ∷ layout.names image.symbols) (layout.padding (layout.strings_end image) ++ sections_of image) in
-    ap (λ m. drop n (take m (drop (spec.u32_at file (spec.string_table file table + 16)) file))) r.fields.strings_size_is
-    ∙ ap (λ m. drop n (take (layout.strings_size image) (drop m file))) r.fields.strings_offset ∙ ap (λ xs. drop n xs) whole
+    ap (λ m. take m (drop (spec.u32_at file (spec.string_table file table + 16)) file)) r.fields.strings_size_is
+    ∙ ap (λ m. take (layout.strings_size image) (drop m file)) r.fields.strings_offset ∙ whole
 
 has_entries : (image : Image) (file : List ℕ) (flags : ℕ) → CanBeWritten image flags → IsReadBack image file flags
     → All IsSymbolOfWords image.symbols → HasEntries file (0 ∷ layout.names image.symbols) (layout.table_at image + 16) 1 image.symbols
@@ -212,6 +212,7 @@ has_entries image file flags w r words = record {
   names = refl;
   words = words;
   named = w.named;
+  behind_empty = lit< tt;
   short = omega (arith, w.short);
 }
 
@@ -332,9 +333,7 @@ ended_at image file flags w r words =
     let table = layout.sections_at image + 40 in
     let strings = 0 ∷ layout.names image.symbols in
     let first : spec.IsEnded file table (layout.table_at image) =
-    subst (λ xs. Contains xs 0)
-    (sym (ap (λ n. spec.strings_from file table n) (empty_entry image file flags r).1 ∙ strings_there image file flags r 0))
-    (0, omega arith, refl) in
+    λ some. absurd (omega (arith, (empty_entry image file flags r).1)) in
     subst (λ xs. All (spec.IsEnded file table) xs) (sym (entries_are image file flags r))
     (all_cons (spec.IsEnded file table) (layout.table_at image) (spec.entries (layout.table_at image + 16) 16 (length image.symbols)) first
     (all_entries (spec.IsEnded file table) (layout.table_at image + 16) 16 (length image.symbols)

@@ -13,6 +13,3 @@ mod writer;
 
 pub use parts::Parts;
 pub use writer::write;
-
-#[cfg(test)]
-mod tests;

@@ -23,6 +23,3 @@ pub use elf_spec::Named;
 pub use loaded::Image;
 pub use parts::{Extent, Segment, Symbol};
 pub use reader::{ElfError, ElfFault, read};
-
-#[cfg(test)]
-mod tests;

@@ -134,7 +134,7 @@ fn check_names(bytes: &[u8], table: usize, strings: &Strings) -> Result<(), ElfF
     requires inside { table + 40 ≤ length bytes.now }
     requires is_table { spec.IsTable bytes.now table }
     requires has_strings { spec.HasStrings bytes.now table }
-    requires strings { strings.now ≡ spec.strings_from bytes.now table 0 }
+    requires strings { strings.now ≡ spec.strings_of bytes.now table }
     ensures kept { OnOk result ((kind : ElfKind) (at : ℕ) → spec.Keeps bytes.now kind at) }
     ensures ended { OnOk result (All (λ at. spec.IsEnded bytes.now table at) (spec.symbols bytes.now table)) }
     ensures refused { IfErr result (λ fault. spec.IsRefusedFile bytes.now fault.kind fault.offset) }

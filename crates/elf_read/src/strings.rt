@@ -1,7 +1,7 @@
 //! A string table, and the names in it.
 
 ghost use Rattle.std.specs.Prelude.{◌≡◌, ◌==◌, ◌<◌, ◌^◌, ◌↔◌, drop, length, Contains, IfOk, IfSome, IsSome, MatchOption};
-ghost use Rattle.std.specs.List.{before_first};
+ghost use Rattle.elf_spec.specs.File.{name_in};
 ghost use Rattle.elf_read.specs.Zeros.{AreZeros, IsNextZero, HasNoZero};
 
 use std::alloc::{AllocError, Global};
@@ -36,11 +36,14 @@ impl<'a> Strings<'a> {
         Ok(Strings { bytes, zeros })
     }
 
-    /// The name at a place, if a 0 byte ends it.
+    /// The name at a place, if a 0 byte ends it; the empty one at place 0.
     pub(crate) fn name(&self, place: usize) -> Option<&'a [u8]>
-        ensures ended { IsSome result ↔ Contains (drop place self.now) 0 }
-        ensures name { IfSome result (λ name. name.now ≡ before_first (λ b. b == 0) (drop place self.now)) }
+        ensures ended { IsSome result ↔ (0 < place → Contains (drop place self.now) 0) }
+        ensures name { IfSome result (λ name. name.now ≡ name_in self.now place) }
     {
+        if place == 0 {
+            return Some(&[]);
+        }
         let end = next_zero(self.bytes, self.zeros.as_slice(), place)?;
         Some(&self.bytes[place..end])
     }

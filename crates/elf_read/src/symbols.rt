@@ -63,7 +63,7 @@ pub(crate) fn strings<'a>(bytes: &'a [u8], table: usize) -> &'a [u8]
     requires table { table + 40 ≤ length bytes.now }
     requires sections { spec.u32_at bytes.now 32 + 40 * spec.u16_at bytes.now 48 ≤ length bytes.now }
     requires strings { spec.HasStrings bytes.now table }
-    ensures strings { result.now ≡ spec.strings_from bytes.now table 0 }
+    ensures strings { result.now ≡ spec.strings_of bytes.now table }
     ensures short { length result.now < 2 ^ 32 }
 {
     let header = u32_at(bytes, 32) as usize + 40 * u32_at(bytes, table + 24) as usize;
@@ -76,7 +76,7 @@ pub(crate) fn strings<'a>(bytes: &'a [u8], table: usize) -> &'a [u8]
 pub(crate) fn name_fault(bytes: &[u8], table: usize, strings: &Strings) -> Option<usize>
     requires table { table + 40 ≤ length bytes.now }
     requires is_table { spec.IsTable bytes.now table }
-    requires strings { strings.now ≡ spec.strings_from bytes.now table 0 }
+    requires strings { strings.now ≡ spec.strings_of bytes.now table }
     ensures { MatchOption result (All (λ at. spec.IsEnded bytes.now table at) (spec.symbols bytes.now table)) (λ at. IsFirstUnended bytes.now table at) }
 {
     let start = u32_at(bytes, table + 16) as usize;
@@ -92,7 +92,7 @@ pub(crate) fn name_fault(bytes: &[u8], table: usize, strings: &Strings) -> Optio
 
 fn is_ended(bytes: &[u8], table: usize, at: usize, strings: &Strings) -> bool
     requires inside { at + 16 ≤ length bytes.now }
-    requires strings { strings.now ≡ spec.strings_from bytes.now table 0 }
+    requires strings { strings.now ≡ spec.strings_of bytes.now table }
     ensures { IsTrue result ↔ spec.IsEnded bytes.now table at }
 {
     strings.name(u32_at(bytes, at) as usize).is_some()
@@ -107,7 +107,7 @@ pub(crate) fn defined_symbols<'a>(
 ) -> Result<Vec<Symbol<'a>>, AllocError>
     requires table { table + 40 ≤ length bytes.now }
     requires is_table { spec.IsTable bytes.now table }
-    requires strings { strings.now ≡ spec.strings_from bytes.now table 0 }
+    requires strings { strings.now ≡ spec.strings_of bytes.now table }
     requires ended { All (λ at. spec.IsEnded bytes.now table at) (spec.symbols bytes.now table) }
     ensures { IfOk result (λ symbols. map symbol_of symbols.items ≡ spec.defined_symbols bytes.now (Some table)) }
 {
@@ -126,7 +126,7 @@ pub(crate) fn defined_symbols<'a>(
 /// The symbol of an entry.
 fn symbol_at<'a>(bytes: &[u8], table: usize, at: usize, strings: &Strings<'a>) -> Symbol<'a>
     requires inside { at + 16 ≤ length bytes.now }
-    requires strings { strings.now ≡ spec.strings_from bytes.now table 0 }
+    requires strings { strings.now ≡ spec.strings_of bytes.now table }
     requires ended { spec.IsEnded bytes.now table at }
     ensures { symbol_of result ≡ spec.symbol_at bytes.now table at }
 {

@@ -1,6 +1,6 @@
 -- Which bytes are an executable, and its image; and why, and where, other bytes are refused. Everything is said
 -- of offsets in the whole file. (System V ABI, chapters 4 and 5; RISC-V psABI, ELF object files.)
-use Rattle.std.specs.Prelude.{◌≡◌, ◌+◌, ◌*◌, ◌^◌, ◌%◌, ◌/◌, ◌<◌, ◌≤◌, ◌==◌, not, ℕ, zero, suc, List, [], ◌∷◌, length, take, drop, map, filter, find, slice_index, Contains, Option, Some, None, IsSome}
+use Rattle.std.specs.Prelude.{◌≡◌, ◌+◌, ◌*◌, ◌^◌, ◌%◌, ◌/◌, ◌<◌, ◌≤◌, ◌==◌, not, if◌then◌else◌, ℕ, zero, suc, List, [], ◌∷◌, length, take, drop, map, filter, find, slice_index, Contains, Option, Some, None, IsSome}
 use Rattle.std.specs.List.{before_first}
 use Rattle.byteorder.specs.Endian.{little_number}
 use Rattle.elf_spec.specs.declared.ElfKind.{ElfKind}
@@ -74,14 +74,13 @@ pub record HasStrings (bytes : List ℕ) (table : ℕ) : Type 0 where
 abbrev pub symbols : List ℕ → (table : ℕ) → List ℕ
 symbols bytes table = entries (u32_at bytes (table + 16)) 16 (u32_at bytes (table + 20) / 16)
 
--- the string table from a place on
-abbrev pub strings_from : List ℕ → (table name : ℕ) → List ℕ
-strings_from bytes table name =
-    drop name (take (u32_at bytes (string_table bytes table + 20)) (drop (u32_at bytes (string_table bytes table + 16)) bytes))
+-- the bytes of the string table
+abbrev pub strings_of : List ℕ → (table : ℕ) → List ℕ
+strings_of bytes table = take (u32_at bytes (string_table bytes table + 20)) (drop (u32_at bytes (string_table bytes table + 16)) bytes)
 
--- the name of a symbol (st_name) is ended by a 0 byte inside the string table
+-- a symbol has no name (st_name is 0), or its name is ended by a 0 byte inside the string table
 abbrev pub IsEnded : List ℕ → (table at : ℕ) → Type 0
-IsEnded bytes table at = Contains (strings_from bytes table (u32_at bytes at)) 0
+IsEnded bytes table at = 0 < u32_at bytes at → Contains (drop (u32_at bytes at) (strings_of bytes table)) 0
 
 -- what the file keeps of each kind at an offset; where it doesn't, it has a fault of that kind at that offset
 abbrev pub Keeps : List ℕ → ElfKind → (at : ℕ) → Type 0
@@ -141,10 +140,14 @@ segment_at bytes at = record {
   bytes = take (u32_at bytes (at + 16)) (drop (u32_at bytes (at + 4)) bytes);
 }
 
--- the symbol of an entry: its name ends before the 0 byte
+-- the name at a place of a string table ends before the 0 byte; place 0 is that of no name, which is empty
+abbrev pub name_in : (strings : List ℕ) → (place : ℕ) → List ℕ
+name_in strings place = if place == 0 then [] else before_first (λ b. b == 0) (drop place strings)
+
+-- the symbol of an entry
 abbrev pub symbol_at : List ℕ → (table at : ℕ) → Symbol
 symbol_at bytes table at = record {
-  name = before_first (λ b. b == 0) (strings_from bytes table (u32_at bytes at));
+  name = name_in (strings_of bytes table) (u32_at bytes at);
   value = u32_at bytes (at + 4);
   size = u32_at bytes (at + 8);
   kind = u8_at bytes (at + 12) % 16;

@@ -1,8 +1,8 @@
 //! What an ELF32 executable of RISC-V is, as far as the claim reads it.
 //!
-//! `specs/Image.antt` has the image: loaded segments, defined symbols, and what is read off them, among it
-//! the runs of fixed bytes. `specs/File.antt` has which bytes are an executable, and their image; and for all
-//! other bytes why they are refused, and at which offset. [`ElfKind`] names the refusals.
+//! `specs/Image.antt` has the image: loaded segments, defined symbols, and what is read off them;
+//! `specs/Runs.antt` the runs of fixed bytes. `specs/File.antt` has which bytes are an executable, and their
+//! image; and for all other bytes why they are refused, and at which offset. [`ElfKind`] names the refusals.
 #![tactic(auto)]
 
 /// Why a file is no executable that is read here, in the order in which it is tried (System V ABI, ELF

@@ -10,8 +10,7 @@ use Rattle.term_spec.specs.declared.BinaryOperator.{BinaryOperator}
 use Rattle.term_spec.specs.declared.BinaryOperator.TheVariants as binary
 use Rattle.term_spec.specs.Term.{Term, Leaf, Unary, Binary, Ternary, Quaternary, Octonary, Occurs, truth, open_term, not_term, and_term, or_term}
 use Rattle.term_spec.specs.Sort.{sort_of, sort_of_atom, sort_of_unary, sort_of_binary, sort_of_ternary, sort_of_quaternary, all_bytes}
-use Rattle.term_spec.proofs.Sorts.{sort_if-some, with_one-some, with_two-some, with_three-some, with_four-some}
-use Rattle.normal_spec.proofs.Loads.{load_is}
+use Rattle.term_spec.proofs.Sorts.{sort_if-some, with_one-some, with_two-some, with_three-some, with_four-some, load_is}
 use Rattle.flat_spec.specs.Flat.{Load, FlatLoad, load_of, is_in, with_load, with_loads, loads_of, place_of, byte_variable, byte_or, without_loads, flattened, flat_loads, agree, pairs, memories_of, is_from, pairs_of, all_of, consistent, flat_of}
 use Rattle.flat_spec.specs.Back.{LoadsFromVariables, IsWithoutMemory}
 use Rattle.flat_spec.proofs.Loads.{AreIn, are_in-with_loads}

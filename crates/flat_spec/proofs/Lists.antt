@@ -5,10 +5,8 @@ use Rattle.std.proofs.lemmas.Bool.{and_parts}
 use Rattle.term_spec.specs.declared.Variable.{Variable}
 use Rattle.term_spec.specs.contracts.VariableEq.TheImpl.Laws as variable_laws
 use Rattle.term_spec.specs.Term.{Term}
-use Rattle.term_spec.specs.Same.{same_variable}
-use Rattle.term_spec.proofs.Same.{variable-same}
-use Rattle.normal_spec.specs.Same.{same_term}
-use Rattle.normal_spec.proofs.Same.{same_is, same_itself}
+use Rattle.term_spec.specs.Same.{same_variable, same_term}
+use Rattle.term_spec.proofs.Same.{variable-same, same_is, same_itself}
 use Rattle.flat_spec.specs.Flat.{Load, same_load, is_in, with_load, place_of}
 
 pub variable_itself : (v : Variable) → same_variable v v ≡ true

@@ -17,8 +17,7 @@ use Rattle.term_spec.specs.declared.QuaternaryOperator.{QuaternaryOperator}
 use Rattle.term_spec.specs.declared.QuaternaryOperator.TheVariants as quaternary
 use Rattle.term_spec.specs.Term.{Term, Leaf, Unary, Binary, Ternary, Quaternary, Octonary}
 use Rattle.term_spec.specs.Sort.{is_memory, is_byte, is_truth, is_word, same_sort, sort_if, all_bytes, sort_of, sort_of_atom, sort_of_unary, sort_of_binary, sort_of_ternary, sort_of_quaternary}
-use Rattle.term_spec.proofs.Sorts.{same_sort-true, sort_if-some, with_one-some, with_two-some, with_three-some, with_four-some}
-use Rattle.normal_spec.proofs.Loads.{load_is}
+use Rattle.term_spec.proofs.Sorts.{same_sort-true, sort_if-some, with_one-some, with_two-some, with_three-some, with_four-some, load_is}
 use Rattle.flat_spec.specs.Flat.{Load, load_of}
 use Rattle.flat_spec.specs.Back.{IfOfVariable, IsNoMemory, LoadsFromVariables}
 

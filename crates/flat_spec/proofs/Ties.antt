@@ -1,6 +1,7 @@
 -- What says that loads of one memory at equal addresses are equal, and what it is worth.
 use Rattle.std.proofs.Common.{◌≡◌, ℕ, ◌^◌, ◌<◌, Bool, true, false, cond, List, [], ◌∷◌, ◌++◌, map, ◌⊎◌, refl, ap, sym, ◌∙◌, subst, inl, inr, eq-eqb, eqb-true}
 use Rattle.std.specs.Prelude.{◌==◌, ◌||◌, not, filter}
+use Rattle.std.proofs.Math.Nat.{mod-eq_of_lt}
 use Rattle.term_spec.specs.declared.Width.TheVariants.{W8, W32}
 use Rattle.term_spec.specs.declared.Variable.{Variable}
 use Rattle.term_spec.specs.declared.BinaryOperator.TheVariants as binary
@@ -8,7 +9,6 @@ use Rattle.term_spec.specs.Term.{Term, truth, and_term}
 use Rattle.term_spec.specs.Same.{same_variable}
 use Rattle.term_spec.proofs.Same.{variable-same}
 use Rattle.term_spec.specs.Value.{Value, Truth, Number, Bytes, Assignment, value, unary_value, binary_value, loaded, low_bits}
-use Rattle.normal_spec.proofs.Numbers.{mod-small}
 use Rattle.flat_spec.specs.Flat.{FlatLoad, agree, pairs, is_among, with_memories, memories_of, is_from, pairs_of, all_of, consistent}
 use Rattle.flat_spec.specs.Back.{number_of, first_byte}
 use Rattle.flat_spec.proofs.Lists.{variable_itself}
@@ -187,8 +187,8 @@ module _ (B : Assignment) where
   first_is x n p (y ∷ ys) worth all there hx =
       let parts = true_parts B (map (agree y) ys) (pairs ys) all in
       let w : HasWorth B y = worth.0 in
-      let address : low_bits 32 (number_of (value B y.address)) ≡ w.at = ap (λ v. low_bits 32 (number_of v)) w.is.address_is ∙ mod-small w.at (2 ^ 32) w.is.address_below in
-      let byte : low_bits 8 (number_of (value B y.byte)) ≡ w.gives = ap (λ v. low_bits 8 (number_of v)) w.is.byte_is ∙ mod-small w.gives (2 ^ 8) w.is.byte_below in
+      let address : low_bits 32 (number_of (value B y.address)) ≡ w.at = ap (λ v. low_bits 32 (number_of v)) w.is.address_is ∙ mod-eq_of_lt w.is.address_below in
+      let byte : low_bits 8 (number_of (value B y.byte)) ≡ w.gives = ap (λ v. low_bits 8 (number_of v)) w.is.byte_is ∙ mod-eq_of_lt w.is.byte_below in
       step (low_bits 32 (number_of (value B y.address)) == n) refl w address byte parts.0 there (λ k. first_is x n p ys worth.1 parts.1 k hx)
     where
       step : (test : Bool) → (low_bits 32 (number_of (value B y.address)) == n) ≡ test → (w : HasWorth B y) → low_bits 32 (number_of (value B y.address)) ≡ w.at

@@ -2,6 +2,7 @@
 use Rattle.std.proofs.Common.{◌≡◌, ◌≢◌, ℕ, zero, suc, ◌+◌, ◌^◌, ◌<◌, Bool, true, false, cond, List, [], ◌∷◌, Some, refl, ap, sym, ◌∙◌, subst, inl, inr, arith, ◌↔◌}
 use Rattle.std.specs.Prelude.{◌==◌, ◌&&◌, slice_get, filter}
 use Rattle.std.proofs.lemmas.Option.{same_Some}
+use Rattle.std.proofs.Math.Nat.{mod-eq_of_lt}
 use Rattle.term_spec.specs.declared.Width.TheVariants.{W8, W32}
 use Rattle.term_spec.specs.declared.Sort.{Sort}
 use Rattle.term_spec.specs.declared.Sort.TheVariants as sort
@@ -14,7 +15,6 @@ use Rattle.term_spec.specs.Sort.{is_memory, sort_of}
 use Rattle.term_spec.proofs.Sorts.{as_word, same_sort-true}
 use Rattle.term_spec.proofs.Soundness.{value-sort, at_memory}
 use Rattle.term_spec.specs.Value.{Value, Truth, Number, Bytes, Assignment, IsAssignment, IsOfSort, value, unary_value, binary_value, loaded, low_bits}
-use Rattle.normal_spec.proofs.Numbers.{mod-small}
 use Rattle.flat_spec.specs.Flat.{Load, FlatLoad, loads_of, place_of, byte_variable, without_loads, flattened, flat_loads, is_among, memories_of, is_from, pairs_of, consistent, flat_of}
 use Rattle.flat_spec.specs.Back.{term_of, number_of, with_bytes, first_byte, memory_back, rebuilt, LoadsFromVariables, HasNoBytes, IsAlwaysTrue}
 use Rattle.flat_spec.proofs.Lists.{at_place}
@@ -178,7 +178,7 @@ module _ (B : Assignment) (h : IsAssignment B) (all : List Load) where
         (all_filter (HasWorth B) (is_from l.memory) (flattened all 0 all) (all_worth fine 0 all good))
         (pairs_of-parts B l.memory (memories_of (flattened all 0 all)) (flattened all 0 all) ties among)
         (there_filter l.memory x (flattened all 0 all) refl stands) worth in
-        let low : low_bits 32 address.0 ≡ address.0 = mod-small address.0 (2 ^ 32) address.2 in
+        let low : low_bits 32 address.0 ≡ address.0 = mod-eq_of_lt address.2 in
         byte.1
         ∙ ap (Number W8) (sym (ap (λ n. first_byte B n (filter (is_from l.memory) (flattened all 0 all))) low ∙ first))
         ∙ sym (load_value (rebuilt (flattened all 0 all) B) l

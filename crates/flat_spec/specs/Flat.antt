@@ -9,8 +9,7 @@ use Rattle.term_spec.specs.declared.Atom.TheVariants as atom
 use Rattle.term_spec.specs.declared.BinaryOperator.{BinaryOperator}
 use Rattle.term_spec.specs.declared.BinaryOperator.TheVariants as binary
 use Rattle.term_spec.specs.Term.{Term, Leaf, Unary, Binary, Ternary, Quaternary, Octonary, truth, open_term, not_term, and_term, or_term, equal}
-use Rattle.term_spec.specs.Same.{same_variable}
-use Rattle.normal_spec.specs.Same.{same_term}
+use Rattle.term_spec.specs.Same.{same_variable, same_term}
 
 -- ---- the loads of a term
 

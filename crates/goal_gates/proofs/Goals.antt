@@ -19,7 +19,7 @@ use Rattle.term_spec.specs.declared.QuaternaryOperator.{QuaternaryOperator}
 use Rattle.term_spec.specs.declared.QuaternaryOperator.TheVariants as quaternary
 use Rattle.term_spec.specs.Term.{Term, Leaf, Unary, Binary, Ternary, Quaternary, Octonary, divide, remainder}
 use Rattle.term_spec.specs.Sort.{bits}
-use Rattle.normal_spec.specs.Same.{same_term}
+use Rattle.term_spec.specs.Same.{same_term}
 use Rattle.blast_spec.specs.Gates.{Gate, Truth, Bit, And, Xor, Mux, Majority, Claim, gate_clauses, next, last_of, literal_of, clauses_from, Made, Build, give, ◌>>=◌, make, claims, claim}
 use Rattle.blast_spec.specs.Circuits.{Bits, one, none, zeros, and_gate, or_gate, xor_gate, each_two, choose_bits, equal_bits, sum_bits, difference_bits, less_bit, product_bits, moved_up, moved_down, shift_bits, shift_signed_bits, sign_of, new_bits, division}
 use Rattle.blast_spec.specs.Goal.{single, bit_of, known, known_bits, size_of, atom_bits, unary_bits, word_bits, binary_bits, ternary_bits, quaternary_bits, Table, entry_of, is_there, found_bits, bits_in, enter, divided, with_binary, once, visit, Load, with_load, loads_of, equal_where, tie, tie_all, is_of_memory, memories_of, tie_memories, goal_gates, cnf_of}

@@ -5,8 +5,8 @@ use Rattle.std.specs.List.{find}
 use Rattle.clause_spec.specs.Clause.{Valuation}
 use Rattle.term_spec.specs.Term.{Term}
 use Rattle.term_spec.specs.Value.{Assignment, value}
-use Rattle.normal_spec.specs.Same.{same_term}
-use Rattle.normal_spec.proofs.Same.{same_is, same_itself}
+use Rattle.term_spec.specs.Same.{same_term}
+use Rattle.term_spec.proofs.Same.{same_is, same_itself}
 use Rattle.blast_spec.specs.Gates.{Gate, Build, last_of, give, ◌>>=◌}
 use Rattle.blast_spec.specs.Circuits.{Bits}
 use Rattle.blast_spec.specs.Goal.{Table, is_there, bits_in, found_bits, enter, once}

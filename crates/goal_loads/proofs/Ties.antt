@@ -8,9 +8,9 @@ use Rattle.term_spec.specs.declared.Sort.TheVariants as sort
 use Rattle.term_spec.specs.declared.BinaryOperator.TheVariants as binary
 use Rattle.term_spec.specs.Term.{Term, Leaf, Unary, Binary, Ternary, Quaternary, Octonary}
 use Rattle.term_spec.specs.Value.{Value, Truth, Number, Bytes, IsOfSort, Assignment, IsAssignment, low_bits, loaded, value, binary_value}
+use Rattle.term_spec.specs.Same.{same_term}
 use Rattle.term_spec.proofs.Soundness.{value-sort, at_word, at_memory}
-use Rattle.normal_spec.specs.Same.{same_term}
-use Rattle.normal_spec.proofs.Same.{same_is}
+use Rattle.term_spec.proofs.Same.{same_is}
 use Rattle.blast_spec.specs.Gates.{last_of, claims}
 use Rattle.blast_spec.specs.Circuits.{Bits, equal_bits}
 use Rattle.blast_spec.specs.Goal.{Table, Load, bits_in, loads_of, equal_where, tie, tie_all, is_of_memory, tie_memories}

@@ -5,8 +5,8 @@ use Rattle.clause_spec.specs.declared.Literal.{Literal}
 use Rattle.clause_spec.specs.Clause.{Valuation, holds, negation}
 use Rattle.term_spec.specs.declared.BinaryOperator.TheVariants as binary
 use Rattle.term_spec.specs.Term.{Term, Leaf, Unary, Binary, Ternary, Quaternary, Octonary}
-use Rattle.normal_spec.specs.Same.{same_term}
-use Rattle.normal_spec.proofs.Same.{same_is, same_itself}
+use Rattle.term_spec.specs.Same.{same_term}
+use Rattle.term_spec.proofs.Same.{same_is, same_itself}
 use Rattle.blast_spec.specs.Gates.{last_of, claims}
 use Rattle.blast_spec.specs.Circuits.{Bits, equal_bits}
 use Rattle.blast_spec.specs.Goal.{Table, Load, bits_in, with_load, loads_of, equal_where, tie, tie_all, is_of_memory, memories_of, tie_memories}

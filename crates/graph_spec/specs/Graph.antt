@@ -21,8 +21,8 @@ pub data Node : Type 0 where
   Cond : (test : Term) → (on_true on_false : Next) → Node
   Call : (callee : ℕ) → (inputs outputs : List Binding) → (landing : ℕ) → Node
 
--- the nodes, and at which of them a run begins. Landing nodes are basic nodes that bind nothing: the entry is one,
--- and each call has one of its own, to which nothing else goes
+-- the nodes, and at which of them a run begins. Landing nodes are basic nodes that bind nothing: in the graphs that are
+-- made here the entry is one, and each call has one of its own, to which nothing else goes
 pub record Graph : Type 0 where
   pub nodes : List Node
   pub entry : ℕ

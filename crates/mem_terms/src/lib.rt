@@ -21,6 +21,3 @@ mod whole;
 pub use back::rebuild;
 pub use places::{Flat, LoadPlaces};
 pub use whole::flat;
-
-#[cfg(test)]
-mod tests;

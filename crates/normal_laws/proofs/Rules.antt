@@ -11,8 +11,8 @@ use Rattle.term_spec.specs.declared.TernaryOperator.TheVariants as ternary
 use Rattle.term_spec.specs.declared.QuaternaryOperator.TheVariants as quaternary
 use Rattle.term_spec.specs.Term.{Term, Unary, Binary, Ternary, Quaternary, Octonary, not_term, complement, choose, load, on_words, low, byte}
 use Rattle.term_spec.specs.Sort.{same_width}
+use Rattle.term_spec.specs.Same.{same_term}
 use Rattle.normal_spec.specs.Fixed.{Run, fixed_byte}
-use Rattle.normal_spec.specs.Same.{same_term}
 use Rattle.normal_spec.specs.Seen.{is_true, is_false, is_zero, is_full, is_constant, number_of, is_source_memory, width_of, base, offset, under_not, under_complement, under_extension, are_negations, are_complements, part, whole, under_first_byte, are_bytes_of, are_constants}
 use Rattle.normal_spec.specs.Normal.{normal_unary, normal_word, normal_binary, normal_ternary, normal_not, normal_complement, normal_and, normal_or, normal_bit_and, normal_bit_or, normal_bit_xor, normal_equal, normal_less, normal_choose, normal_shift, normal_extend, extended, normal_low, normal_byte, normal_join, byte_or, load_of_variable, normal_load}
 use Rattle.normal_laws.proofs.Forms.{IsNormal, choice, value_one, value_two, constant_normal, Given, given_or, given_if, AreNormal, given_at}

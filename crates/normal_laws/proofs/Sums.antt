@@ -8,9 +8,9 @@ use Rattle.term_spec.specs.declared.BinaryOperator.TheVariants as binary
 use Rattle.term_spec.specs.Term.{Term, Leaf, Binary, constant, add}
 use Rattle.term_spec.specs.Sort.{bits}
 use Rattle.term_spec.specs.Value.{Value, Truth, Number, Bytes, low_bits, binary_value}
+use Rattle.term_spec.specs.Same.{same_term}
 use Rattle.term_spec.proofs.Words.{low_bits-below}
 use Rattle.normal_spec.specs.Fixed.{Run}
-use Rattle.normal_spec.specs.Same.{same_term}
 use Rattle.normal_spec.specs.Seen.{is_constant, is_zero, is_one, known, constant_of, number_of, width_of, base, offset}
 use Rattle.normal_spec.specs.Normal.{normal_binary, normal_word, with_constant, add_constant, normal_add, negative, normal_subtract, multiply_constant, normal_multiply}
 use Rattle.normal_spec.proofs.Numbers.{mod-small}

@@ -12,15 +12,15 @@ use Rattle.term_spec.specs.declared.TernaryOperator.TheVariants as ternary
 use Rattle.term_spec.specs.declared.QuaternaryOperator.TheVariants as quaternary
 use Rattle.term_spec.specs.Term.{Term, Leaf, Unary, Binary, Ternary, Quaternary, Octonary, not_term, load, choose}
 use Rattle.term_spec.specs.Sort.{all_bytes, sort_of, sort_of_atom, sort_of_unary, sort_of_binary, sort_of_ternary, sort_of_quaternary}
-use Rattle.term_spec.proofs.Sorts.{sort_if-some, with_one-some, with_two-some, with_three-some, with_four-some}
+use Rattle.term_spec.specs.Same.{same_term}
+use Rattle.term_spec.proofs.Sorts.{sort_if-some, with_one-some, with_two-some, with_three-some, with_four-some, load_is}
 use Rattle.normal_spec.specs.Fixed.{Run, fixed_byte}
-use Rattle.normal_spec.specs.Same.{same_term}
 use Rattle.normal_spec.specs.Seen.{is_true, is_false, is_constant, is_source_memory, number_of}
 use Rattle.normal_spec.specs.Normal.{normal_not, normal_and, normal_equal, normal_less, normal_choose, byte_or, load_of_variable, normal_load, normal_binary}
 use Rattle.normal_spec.proofs.Truths.{sort-under_not, keeps_not, keeps_and}
 use Rattle.normal_spec.proofs.Words.{keeps_less}
 use Rattle.normal_spec.proofs.Equals.{words, keeps_equal}
-use Rattle.normal_spec.proofs.Loads.{load_is, choose_is}
+use Rattle.normal_spec.proofs.Loads.{choose_is}
 use Rattle.normal_laws.proofs.Forms.{IsNormal}
 use Rattle.goal_read.specs.Back.{IfFromVariable}
 use Rattle.normal_loads.specs.Loads.{AllFromVariables}

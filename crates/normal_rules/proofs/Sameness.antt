@@ -5,11 +5,11 @@ use Rattle.std.proofs.lemmas.Bool.{eq-eqb, false_from_ne_true}
 use Rattle.std.proofs.lemmas.Option.{same_Some}
 use Rattle.term_spec.specs.declared.UnaryOperator.TheVariants as unary
 use Rattle.term_spec.specs.Term.{Term, Unary, not_term, complement, byte}
+use Rattle.term_spec.specs.Same.{same_term}
+use Rattle.term_spec.proofs.Same.{same_is, same_itself}
 use Rattle.term_bank.specs.Nodes.{tree_at, AreDistinct}
 use Rattle.term_bank.proofs.Growth.{held}
-use Rattle.normal_spec.specs.Same.{same_term}
 use Rattle.normal_spec.specs.Seen.{under_not, under_complement}
-use Rattle.normal_spec.proofs.Same.{same_is, same_itself}
 
 pub same_bools : (a b : Bool) → (a ≡ true → b ≡ true) → (b ≡ true → a ≡ true) → a ≡ b
 same_bools true true f g = refl

@@ -4,7 +4,7 @@ ghost use Rattle.std.specs.Prelude.{◌≡◌, ℕ, ◌+◌, ◌<◌, ◌≤◌,
 ghost use Rattle.term_spec.specs.Term as tree;
 ghost use Rattle.term_bank.specs.Nodes.{IsNode, tree_at, build};
 ghost use Rattle.term_spec.specs.Sort.{same_width};
-ghost use Rattle.normal_spec.specs.Same.{same_term};
+ghost use Rattle.term_spec.specs.Same.{same_term};
 ghost use Rattle.normal_spec.specs.Seen as seen;
 ghost use Rattle.normal_spec.specs.Normal as spec;
 ghost use Rattle.normal_rules.specs.Forms.{form_tree, IsForm, AreWithin};
@@ -117,7 +117,7 @@ fn under_first_byte(bank: &Bank, x: TermId) -> Option<TermId>
 }
 
 // Whether a term is the byte of a word at a place.
-#[tactic(auto, unfolding(normal_spec::specs::Same::same_term))]
+#[tactic(auto, unfolding(term_spec::specs::Same::same_term))]
 fn is_byte_of(bank: &Bank, x: TermId, word: TermId, place: usize) -> bool
     requires x_within { x < length bank.now }
     requires word_within { word < length bank.now }

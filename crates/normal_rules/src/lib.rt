@@ -30,6 +30,3 @@ pub use rules::{
     normal_word,
 };
 pub use seen::{is_constant, is_source_memory, number_of};
-
-#[cfg(test)]
-mod tests;

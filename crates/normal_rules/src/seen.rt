@@ -2,9 +2,9 @@
 
 ghost use Rattle.std.specs.Prelude.{◌≡◌, ◌<◌, ◌&&◌, ◌==◌, not, length, map, All, IfSome, option_map};
 ghost use Rattle.term_spec.specs.Term as tree;
+ghost use Rattle.term_spec.specs.Same.{same_term};
 ghost use Rattle.term_bank.specs.Nodes.{IsNode, tree_at, build};
 ghost use Rattle.term_core.specs.Values.{value_of};
-ghost use Rattle.normal_spec.specs.Same.{same_term};
 ghost use Rattle.normal_spec.specs.Seen as seen;
 
 use crate::numbers::all_ones;

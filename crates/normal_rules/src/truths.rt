@@ -2,7 +2,7 @@
 
 ghost use Rattle.std.specs.Prelude.{◌≡◌, ℕ, ◌<◌, ◌==◌, ◌&&◌, not, length};
 ghost use Rattle.term_bank.specs.Nodes.{IsNode, tree_at};
-ghost use Rattle.normal_spec.specs.Same.{same_term};
+ghost use Rattle.term_spec.specs.Same.{same_term};
 ghost use Rattle.normal_spec.specs.Seen as seen;
 ghost use Rattle.normal_spec.specs.Normal as spec;
 ghost use Rattle.normal_rules.specs.Forms.{form_tree, IsForm};

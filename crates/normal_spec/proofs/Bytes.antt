@@ -11,12 +11,12 @@ use Rattle.term_spec.specs.Term.{Term, byte}
 use Rattle.term_spec.specs.Sort.{sort_of}
 use Rattle.term_spec.proofs.Sorts.{as_word}
 use Rattle.term_spec.proofs.Soundness.{value-sort}
+use Rattle.term_spec.proofs.Same.{same_is}
 use Rattle.normal_spec.proofs.Keeps.{known-sort, known-worth}
 use Rattle.term_spec.specs.Value.{Value, Number, Assignment, IsAssignment, IsOfSort, value, unary_value, byte_of, number_of_bytes, low_bits}
-use Rattle.normal_spec.specs.Same.{same_term}
+use Rattle.term_spec.specs.Same.{same_term}
 use Rattle.normal_spec.specs.Seen.{are_bytes_of, is_constant, are_constants, known}
 use Rattle.normal_spec.proofs.Numbers.{mod-small}
-use Rattle.normal_spec.proofs.Same.{same_is}
 use Rattle.normal_spec.proofs.Words.{word_of}
 
 same_length : {A B : Type 0} → (f : A → B) (xs : List A) → length (map f xs) ≡ length xs

@@ -15,13 +15,13 @@ use Rattle.term_spec.specs.declared.QuaternaryOperator.TheVariants as quaternary
 use Rattle.term_spec.specs.Term.{Term, Unary, Binary, Quaternary, Octonary, on_words, zero_extend, sign_extend, low, byte}
 use Rattle.term_spec.specs.Sort.{bits, bits_of, same_width, sort_of, sort_of_unary, sort_of_binary, sort_of_quaternary, is_word, is_byte, all_bytes}
 use Rattle.term_spec.specs.Value.{Number, Assignment, IsAssignment, IsOfSort, operation, low_bits, ones_if, is_negative, value, unary_value, binary_value, quaternary_value, joined, byte_of, number_of_bytes, word_or_stray}
+use Rattle.term_spec.specs.Same.{same_term}
 use Rattle.term_spec.proofs.Sorts.{sort_if-some, with_one-some, with_two-some, with_four-some, same_sort-true, same_width-true, word_width}
-use Rattle.normal_spec.specs.Same.{same_term}
+use Rattle.term_spec.proofs.Same.{same_itself}
 use Rattle.normal_spec.specs.Fixed.{Run}
 use Rattle.normal_spec.specs.Seen.{are_constants, is_zero, known, constant_of, under_extension, part, under_first_byte, are_bytes_of, whole, width_of}
 use Rattle.normal_spec.specs.Normal.{normal_shift, normal_extend, extended, normal_low, normal_byte, normal_join}
 use Rattle.normal_spec.proofs.Numbers.{mod-small}
-use Rattle.normal_spec.proofs.Same.{same_itself}
 use Rattle.normal_spec.proofs.Bytes.{AllBytes, number_of_all, number_of_known, all_known, picked, pieces, worth-byte}
 use Rattle.normal_spec.proofs.Words.{sort-words, word_of, number_is, words_keep}
 use Rattle.normal_spec.proofs.Keeps.{Keeps, keeps_itself, keeps_if, keeps_option, keeps_value_of_one, keeps_value_of_two, constant-sort, constant-worth, zero_is, width_is}

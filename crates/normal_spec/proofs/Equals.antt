@@ -12,14 +12,14 @@ use Rattle.term_spec.specs.declared.WordOperator.TheVariants as word
 use Rattle.term_spec.specs.Term.{Term, Leaf, Binary, truth, constant, not_term, equal}
 use Rattle.term_spec.specs.Sort.{bits, sort_of, sort_of_binary, is_memory, same_sort}
 use Rattle.term_spec.specs.Value.{Truth, Number, Assignment, IsAssignment, value, binary_value}
+use Rattle.term_spec.specs.Same.{same_term}
 use Rattle.term_spec.proofs.Sorts.{sort_if-some, with_two-some, same_sort-true}
 use Rattle.term_spec.proofs.Soundness.{on_two_words-same}
-use Rattle.normal_spec.specs.Same.{same_term}
+use Rattle.term_spec.proofs.Same.{same_is}
 use Rattle.normal_spec.specs.Fixed.{Run}
 use Rattle.normal_spec.specs.Seen.{is_true, is_false, base, offset}
 use Rattle.normal_spec.specs.Normal.{normal_not, normal_equal}
 use Rattle.normal_spec.proofs.Numbers.{apart_with_offsets}
-use Rattle.normal_spec.proofs.Same.{same_is}
 use Rattle.normal_spec.proofs.Truths.{sort-truth, sort-not, worth_of, worth-not, equal_worth, keeps_not}
 use Rattle.normal_spec.proofs.Words.{words_of, word_of, equal_number, split}
 use Rattle.normal_spec.proofs.Keeps.{Keeps, keeps_itself, keeps_then, keeps_if, keeps_value_of_two, true_is, false_is, value-truth}

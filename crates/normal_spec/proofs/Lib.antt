@@ -1,5 +1,4 @@
 pub mod Numbers
-pub mod Same
 pub mod Keeps
 pub mod Truths
 pub mod Words

@@ -17,7 +17,7 @@ use Rattle.term_spec.specs.declared.QuaternaryOperator.TheVariants as quaternary
 use Rattle.term_spec.specs.Term.{Term, Leaf, Ternary, Quaternary, open_term, not_term, and_term, equal, less, load, choose, store, over}
 use Rattle.term_spec.specs.Sort.{sort_of, sort_of_binary, sort_of_ternary, sort_of_quaternary, is_memory, is_address, is_byte, is_truth, same_sort}
 use Rattle.term_spec.specs.Value.{Truth, Number, Bytes, Assignment, IsAssignment, value, binary_value, ternary_value, quaternary_value, loaded, low_bits, with_byte, overlaid}
-use Rattle.term_spec.proofs.Sorts.{sort_if-some, with_two-some, with_three-some, with_four-some, as_memory, same_sort-true}
+use Rattle.term_spec.proofs.Sorts.{sort_if-some, with_three-some, with_four-some, as_memory, same_sort-true}
 use Rattle.term_spec.proofs.Soundness.{value-sort}
 use Rattle.normal_spec.specs.Fixed.{Run, AreBytes, fixed_byte}
 use Rattle.normal_spec.specs.Seen.{is_constant, is_source_memory, is_of_source, number_of}
@@ -29,14 +29,6 @@ use Rattle.normal_spec.proofs.Equals.{words, sort-equal, worth-equal_words, keep
 use Rattle.normal_spec.proofs.Keeps.{Keeps, keeps_itself, keeps_then, keeps_if, at_sort, ternary_keeps, binary_keeps, unary_keeps, constant_is, sort-constant, value-constant}
 
 -- ---- sorts
-
-pub load_is : (m d : Term) (s : Sort) → sort_of (load m d) ≡ Some s → (s ≡ sort.Word W8) × (sort_of m ≡ Some sort.Memory) × (sort_of d ≡ Some (sort.Word W32))
-unfolding sort_of sort_of_binary
-load_is m d s h =
-    let parts = with_two-some (sort_of_binary binary.Load) (sort_of m) (sort_of d) s h in
-    let tests = sort_if-some _ (sort.Word W8) s parts.4 in
-    let both = and_parts (is_memory parts.0) (is_address parts.1) tests.0 in
-    (sym tests.1, parts.2 ∙ ap Some (same_sort-true parts.0 sort.Memory both.0), parts.3 ∙ ap Some (same_sort-true parts.1 (sort.Word W32) both.1))
 
 sort-load : (m d : Term) → sort_of m ≡ Some sort.Memory → sort_of d ≡ Some (sort.Word W32) → sort_of (load m d) ≡ Some (sort.Word W8)
 unfolding sort_of sort_of_binary

@@ -10,13 +10,13 @@ use Rattle.term_spec.specs.declared.BinaryOperator.TheVariants as binary
 use Rattle.term_spec.specs.Term.{Term, Unary, truth, not_term, and_term, or_term, choose}
 use Rattle.term_spec.specs.Sort.{sort_of, sort_of_atom, sort_of_unary, sort_of_binary, sort_of_ternary, is_truth}
 use Rattle.term_spec.specs.Value.{Value, Truth, Assignment, IsAssignment, value, unary_value, binary_value, ternary_value}
+use Rattle.term_spec.specs.Same.{same_term}
 use Rattle.term_spec.proofs.Sorts.{sort_if-some, with_one-some, as_truth, same_sort-true, same_sort-same}
 use Rattle.term_spec.proofs.Soundness.{value-sort}
-use Rattle.normal_spec.specs.Same.{same_term}
+use Rattle.term_spec.proofs.Same.{same_is}
 use Rattle.normal_spec.specs.Fixed.{Run}
 use Rattle.normal_spec.specs.Seen.{is_true, is_false, under_not, are_negations}
 use Rattle.normal_spec.specs.Normal.{normal_not, normal_and, normal_or, arm_or, normal_choose}
-use Rattle.normal_spec.proofs.Same.{same_is}
 use Rattle.normal_spec.proofs.Keeps.{Keeps, keeps_itself, keeps_then, keeps_if, keeps_value_of_one, keeps_value_of_two, true_is, false_is, value-truth}
 
 -- ---- sorts

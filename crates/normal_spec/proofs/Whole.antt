@@ -18,14 +18,14 @@ use Rattle.term_spec.specs.declared.QuaternaryOperator.TheVariants as quaternary
 use Rattle.term_spec.specs.Term.{Term, Leaf, Unary, Binary, Ternary, Quaternary, Octonary, not_term, complement, and_term, or_term, less, on_words}
 use Rattle.term_spec.specs.Sort.{sort_of, sort_of_unary, sort_of_binary, is_truth, is_word, same_sort}
 use Rattle.term_spec.specs.Value.{value}
-use Rattle.term_spec.proofs.Sorts.{sort_if-some, with_one-some, with_two-some, same_sort-true, word_width}
+use Rattle.term_spec.proofs.Sorts.{sort_if-some, with_one-some, with_two-some, same_sort-true, word_width, load_is}
 use Rattle.normal_spec.specs.Fixed.{Run, AreBytes}
 use Rattle.normal_spec.specs.Normal.{normal_unary, normal_word, normal_binary, normal_ternary, normal_quaternary, normal_octonary, normal}
 use Rattle.normal_spec.proofs.Truths.{keeps_not, keeps_and, keeps_or, keeps_choose}
 use Rattle.normal_spec.proofs.Words.{words_of, sort-words, keeps_complement, keeps_bit_and, keeps_bit_or, keeps_bit_xor, keeps_add, keeps_subtract, keeps_multiply, keeps_less}
 use Rattle.normal_spec.proofs.Equals.{alike_of, keeps_equal}
 use Rattle.normal_spec.proofs.Cuts.{zero_extend_of, sign_extend_of, low_of, byte_parts, shift_left_by_0, shift_right_by_0, shift_right_signed_by_0, keeps_shift, keeps_zero_extend, keeps_sign_extend, keeps_low, keeps_byte, keeps_join, join_two_is, join_four_is, join_eight_is}
-use Rattle.normal_spec.proofs.Loads.{load_is, choose_is, keeps_load}
+use Rattle.normal_spec.proofs.Loads.{choose_is, keeps_load}
 use Rattle.normal_spec.proofs.Keeps.{Keeps, keeps_itself, keeps_then, keeps_value_of_two, unary_keeps, binary_keeps, ternary_keeps, quaternary_keeps}
 
 not_is : (x : Term) (s : Sort) → sort_of (not_term x) ≡ Some s → (s ≡ sort.Truth) × (sort_of x ≡ Some sort.Truth)

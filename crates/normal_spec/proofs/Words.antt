@@ -15,15 +15,15 @@ use Rattle.term_spec.specs.declared.BinaryOperator.TheVariants as binary
 use Rattle.term_spec.specs.Term.{Term, Leaf, Unary, Binary, truth, constant, complement, on_words, add, subtract, multiply, bit_and as bit_and_term, bit_or as bit_or_term, bit_xor as bit_xor_term, less}
 use Rattle.term_spec.specs.Sort.{bits, sort_of, sort_of_unary, sort_of_binary, is_word}
 use Rattle.term_spec.specs.Value.{Truth, Number, Assignment, IsAssignment, operation, low_bits, value, unary_value, binary_value}
+use Rattle.term_spec.specs.Same.{same_term}
 use Rattle.term_spec.proofs.Sorts.{sort_if-some, with_one-some, with_two-some, as_word, same_sort-true, word_width}
 use Rattle.term_spec.proofs.Words.{low_bits-below}
 use Rattle.term_spec.proofs.Soundness.{value-sort, on_two_words-same}
-use Rattle.normal_spec.specs.Same.{same_term}
+use Rattle.term_spec.proofs.Same.{same_is}
 use Rattle.normal_spec.specs.Fixed.{Run}
 use Rattle.normal_spec.specs.Seen.{is_constant, is_zero, is_one, is_full, number_of, under_complement, are_complements, base, offset, zero_like, full_like, width_of}
 use Rattle.normal_spec.specs.Normal.{normal_complement, normal_bit_and, normal_bit_or, normal_bit_xor, with_constant, add_constant, normal_add, negative, normal_subtract, multiply_constant, normal_multiply, normal_less}
 use Rattle.normal_spec.proofs.Numbers.{mod-small, and-zero_left, and-zero_right, and-ones_left, and-ones_right, and-equal, and-inverse_left, and-inverse_right, or-zero_left, or-zero_right, or-ones_left, or-ones_right, or-equal, or-inverse_left, or-inverse_right, xor-equal, xor-zero_left, xor-zero_right, sum_again, sum_of_small, difference_of_equal}
-use Rattle.normal_spec.proofs.Same.{same_is}
 use Rattle.normal_spec.proofs.Truths.{either_of, sort-truth}
 use Rattle.normal_spec.proofs.Keeps.{Keeps, keeps_itself, keeps_then, keeps_if, keeps_value_of_one, keeps_value_of_two, constant_is, zero_is, one_is, full_is, sort-constant, value-constant, value-truth, constant_sorted, width_is}
 

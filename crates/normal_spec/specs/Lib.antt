@@ -1,4 +1,3 @@
-pub mod Same
 pub mod Fixed
 pub mod Seen
 pub mod Normal

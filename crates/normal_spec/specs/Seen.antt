@@ -16,7 +16,7 @@ use Rattle.term_spec.specs.declared.QuaternaryOperator.TheVariants as quaternary
 use Rattle.term_spec.specs.Term.{Term, Leaf, Unary, Binary, Ternary, Quaternary, Octonary, truth, constant, not_term, complement, byte}
 use Rattle.term_spec.specs.Sort.{bits, same_width}
 use Rattle.term_spec.specs.Value.{Value, Truth, Number, Bytes, stray}
-use Rattle.normal_spec.specs.Same.{same_term}
+use Rattle.term_spec.specs.Same.{same_term}
 
 -- ---- widths
 
@@ -30,8 +30,8 @@ width_of_atom (atom.Truth value) = W8
 width_of_atom (atom.Constant w number) = w
 width_of_atom (atom.Open variable) = width_of_sort variable.sort
 
--- the width of a well-sorted word: its operator says it, or the word that it has as its first argument; 8 for what
--- is no word
+-- the width of a well-sorted word: its operator says it, or its first argument that is a word; 8 for what is no
+-- word
 unfoldable pub width_of : Term → Width
 width_of (Leaf leaf) = width_of_atom leaf
 width_of (Unary unary.Not x) = W8

@@ -5,7 +5,7 @@ ghost use Rattle.term_spec.specs.declared.Sort.{Sort};
 ghost use Rattle.term_spec.specs.Term.{Term};
 ghost use Rattle.term_spec.specs.Sort.{sort_of};
 ghost use Rattle.term_spec.specs.Value.{Assignment, IsAssignment, value};
-ghost use Rattle.normal_spec.specs.Same.{same_term};
+ghost use Rattle.term_spec.specs.Same.{same_term};
 ghost use Rattle.normal_spec.specs.Fixed.{Run, AreBytes, HoldsFixed};
 ghost use Rattle.normal_spec.specs.Normal.{normal};
 

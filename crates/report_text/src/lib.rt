@@ -13,6 +13,3 @@ mod verdicts;
 pub use certificates::certificate;
 pub use reports::report;
 pub use verdicts::{Judgement, Verdict, status};
-
-#[cfg(test)]
-mod tests;

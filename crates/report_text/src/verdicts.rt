@@ -4,7 +4,8 @@ ghost use Rattle.claim_spec.specs.Verdict.{status_of};
 ghost use Rattle.report_text.specs.Verdicts.{verdict_of};
 
 use c_spec::SourceKind;
-use claim_spec::{CodeKind, PairKind, Quantity};
+use claim_spec::{PairKind, Quantity};
+use code_spec::CodeKind;
 use elf_spec::ElfKind;
 use tv_bytes::Bytes;
 

@@ -126,8 +126,8 @@ pub enum ArithmeticOperation {
 
 /// One instruction of RV32IM, its fields taken apart.
 ///
-/// An `offset` or `imm` of type `i32` is the word's immediate, sign extended; the offsets of jumps
-/// and branches are even and count bytes. `imm` of LUI and AUIPC is the number in bits 31..12 of the
+/// An `offset` or `imm` of type `i32` is the word's immediate, sign extended; offsets count bytes,
+/// and those of JAL and of branches are even. `imm` of LUI and AUIPC is the number in bits 31..12 of the
 /// word, below 2^20: `lui x10, 1` has 1. A shift's `amount` is below 32.
 #[derive(Clone, Copy, PartialEq, Eq, Debug)]
 pub enum Instr {

@@ -12,8 +12,8 @@ use Rattle.rv_spec.proofs.Steps.{after_stopped, after_step, after-add}
 use Rattle.elf_spec.specs.Image.{Image, entry_of, size_at, fixed_byte, object_of}
 use Rattle.c_spec.specs.Unit.{Unit}
 use Rattle.c_meaning_spec.specs.Run.{More, Back, Place, Bars, c_run, returned, HaveTypes}
-use Rattle.claim_spec.specs.Claim.{Meets, HoldsFixed, Gives, AgreesFrom, run_beside, widened, kept_registers, IsValid}
-use Rattle.claim_spec.specs.Code.{HasCode, itself}
+use Rattle.code_spec.specs.Code.{HoldsFixed, HasCode, itself}
+use Rattle.claim_spec.specs.Claim.{Meets, Gives, AgreesFrom, run_beside, widened, kept_registers, IsValid}
 use Rattle.term_spec.specs.Term.{Term}
 use Rattle.straight_code.specs.Straight.{crooked_at, words_before_last}
 use Rattle.straight_code.specs.Decision.{Registers, entry_term, entry_terms, term_at, terms_from, result_term, result_test, kept_test, tests_of, is_found, all_found, accepts}

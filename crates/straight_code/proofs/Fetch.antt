@@ -6,8 +6,7 @@ use Rattle.rv_instr.specs.declared.Instr.{Instr}
 use Rattle.rv_instr.specs.Instr.{instr}
 use Rattle.rv_spec.specs.Machine.{Memory, byte_at, past, load_word}
 use Rattle.elf_spec.specs.Image.{Image, fixed_byte}
-use Rattle.claim_spec.specs.Claim.{HoldsFixed}
-use Rattle.claim_spec.specs.Code.{instr_at, word_of_bytes}
+use Rattle.code_spec.specs.Code.{HoldsFixed, instr_at, word_of_bytes}
 
 -- every fixed byte stands in memory
 pub record Fixes (image : Image) (memory : Memory) : Type 0 where

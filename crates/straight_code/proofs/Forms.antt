@@ -7,7 +7,7 @@ use Rattle.rv_instr.specs.declared.Instr.TheVariants.{Jalr, Immediate, Arithmeti
 use Rattle.rv_instr.specs.declared.ArithmeticOperation.TheVariants.{Add, Subtract}
 use Rattle.rv_instr.specs.declared.ImmediateOperation.TheVariants as immediate
 use Rattle.elf_spec.specs.Image.{Image}
-use Rattle.claim_spec.specs.Code.{instr_at}
+use Rattle.code_spec.specs.Code.{instr_at}
 use Rattle.straight_code.specs.Straight.{is_zero, is_return, is_plain, crooked_from}
 
 -- the three forms before the return

@@ -1,11 +1,10 @@
 -- What the loops over the words and the kept registers keep.
-use Rattle.std.proofs.Common.{◌≡◌, ℕ, zero, suc, ◌+◌, ◌*◌, ◌-◌, ◌<◌, ◌≤◌, Bool, true, false, List, length, get_or, map, take, refl, sym, ◌∙◌, ap, arith}
-use Rattle.std.specs.Prelude.{Some, None, ◌&&◌}
+use Rattle.std.proofs.Common.{◌≡◌, ℕ, zero, suc, ◌+◌, ◌*◌, ◌-◌, ◌<◌, Bool, true, false, List, length, get_or, map, refl, sym, ◌∙◌, ap, arith}
+use Rattle.std.specs.Prelude.{Some, None}
 use Rattle.std.specs.List.{list_all}
-use Rattle.std.proofs.lemmas.List.{take_all}
-use Rattle.std.proofs.lemmas.List.Folds.{list_all-map, list_all_at, list_all_more}
+use Rattle.std.proofs.lemmas.List.Folds.{list_all-map, list_all_at}
 use Rattle.elf_spec.specs.Image.{Image}
-use Rattle.claim_spec.specs.Code.{instr_at}
+use Rattle.code_spec.specs.Code.{instr_at}
 use Rattle.term_spec.specs.Term.{Term}
 use Rattle.straight_code.specs.Straight.{is_plain, is_return, crooked_from}
 use Rattle.straight_code.specs.Decision.{Registers, effect_of, terms_from}
@@ -65,16 +64,3 @@ terms_done image address (suc count) terms last = absurd (omega (arith, last))
 
 pub kept_stops : (test : Term → Bool) (f : ℕ → Term) (xs : List ℕ) (i : ℕ) → i < length xs → test (f (get_or xs i 0)) ≡ false → list_all test (map f xs) ≡ false
 kept_stops test f xs i within e = list_all-map test f xs ∙ list_all_at (λ x. test (f x)) xs i 0 within e
-
-both : (a b : Bool) → a ≡ true → b ≡ true → (a && b) ≡ true
-both a b e h = rw (e, h) refl
-
-pub kept_more : (test : Term → Bool) (f : ℕ → Term) (xs : List ℕ) (i : ℕ) → i < length xs → list_all test (map f (take i xs)) ≡ true → test (f (get_or xs i 0)) ≡ true
-    → list_all test (map f (take (i + 1) xs)) ≡ true
-kept_more test f xs i within before here =
-    list_all-map test f (take (i + 1) xs)
-    ∙ (list_all_more (λ x. test (f x)) xs i 0 within
-    ∙ both (list_all (λ x. test (f x)) (take i xs)) (test (f (get_or xs i 0))) (sym (list_all-map test f (take i xs)) ∙ before) here)
-
-pub kept_whole : (test : Term → Bool) (f : ℕ → Term) (xs : List ℕ) (i : ℕ) → length xs ≤ i → list_all test (map f (take i xs)) ≡ true → list_all test (map f xs) ≡ true
-kept_whole test f xs i whole e = ap (λ l. list_all test (map f l)) (sym (take_all i xs whole)) ∙ e

@@ -1,8 +1,8 @@
 -- The terms of registers at places of a bank that grows.
-use Rattle.std.proofs.Common.{◌≡◌, ℕ, false, ◌+◌, ◌<◌, ◌≤◌, ◌==◌, Bool, true, cond, List, [], ◌∷◌, ◌++◌, length, map, get_or, set, refl, sym, ◌∙◌, ap, subst, arith, add-one, length-set}
+use Rattle.std.proofs.Common.{◌≡◌, ℕ, ◌+◌, ◌<◌, ◌==◌, Bool, true, false, cond, List, [], ◌∷◌, ◌++◌, length, get_or, set, refl, sym, ◌∙◌, ap, arith, add-one}
 use Rattle.std.specs.List.{All}
 use Rattle.std.proofs.lemmas.List.{map-append, map-set, get_or-map}
-use Rattle.std.proofs.lemmas.List.Elements.{All-get_or, All-head, All-tail, All-push, All-set}
+use Rattle.std.proofs.lemmas.List.Elements.{All-get_or, All-head, All-tail, All-push}
 use Rattle.term_spec.specs.declared.Width.TheVariants.{W32}
 use Rattle.term_spec.specs.declared.WordOperator.{WordOperator}
 use Rattle.term_spec.specs.Term.{Term, constant, on_words, equal}
@@ -49,20 +49,6 @@ pub within_pushed : (old new : List Term) (places : List ℕ) (place : ℕ) → 
 within_pushed old new places place e inside below = All-push (λ p. p < length new) places place (within_later old new places e inside) below
 
 -- ---- a register with another place
-
-pub places_put : (old new : List Term) (places then : List ℕ) (rd place : ℕ) → ArePlaces old places → Extends old new → place < length new
-    → then ≡ cond (rd == 0) places (set places rd place) → ArePlaces new then
-places_put old new places then rd place are e below moved = subst (ArePlaces new) (sym moved) (at_zero (rd == 0))
-  where
-    kept : ArePlaces new places
-    kept = places_kept old new places e are
-
-    at_zero : (b : Bool) → ArePlaces new (cond b places (set places rd place))
-    at_zero true = kept
-    at_zero false = record {
-      count = length-set places rd place ∙ are.count;
-      within = All-set (λ p. p < length new) places rd place below kept.within;
-    }
 
 pub terms_put : (old new : List Term) (places then : List ℕ) (rd place : ℕ) (t : Term) → ArePlaces old places → Extends old new → Holds new place t
     → then ≡ cond (rd == 0) places (set places rd place) → terms_at new then ≡ put_term rd t (terms_at old places)

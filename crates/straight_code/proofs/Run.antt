@@ -12,8 +12,7 @@ use Rattle.rv_spec.specs.Step.{step, after, put, link, address}
 use Rattle.rv_spec.proofs.Registers.{pc-write, memory-write}
 use Rattle.rv_spec.proofs.Steps.{fetched, step_arithmetic, step_immediate, step_indirect_jump, after_zero, after_step}
 use Rattle.elf_spec.specs.Image.{Image}
-use Rattle.claim_spec.specs.Claim.{HoldsFixed}
-use Rattle.claim_spec.specs.Code.{instr_at}
+use Rattle.code_spec.specs.Code.{HoldsFixed, instr_at}
 use Rattle.term_spec.specs.declared.Width.TheVariants.{W32}
 use Rattle.term_spec.specs.declared.WordOperator.TheVariants as word_operator
 use Rattle.term_spec.specs.Term as term

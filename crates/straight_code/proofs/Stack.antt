@@ -10,7 +10,7 @@ use Rattle.rv_instr.specs.declared.Instr.{Instr}
 use Rattle.rv_instr.specs.declared.Instr.TheVariants.{Jalr, Immediate}
 use Rattle.rv_instr.specs.declared.ImmediateOperation.TheVariants as immediate
 use Rattle.elf_spec.specs.Image.{Image, size_at}
-use Rattle.claim_spec.specs.Code.{instr_at, HasCode, Flow, Falls, Calls, Jumps, Returns, flow_of, flow_at, nexts_of, IsReachable, here, next, CallsOn, call, tail, opening_of, AreReachable, IsStack, deep}
+use Rattle.code_spec.specs.Code.{instr_at, HasCode, Flow, Falls, Calls, Jumps, Returns, flow_of, flow_at, nexts_of, IsReachable, here, next, CallsOn, call, tail, opening_of, AreReachable, IsStack, deep}
 use Rattle.straight_code.specs.Straight.{crooked_at, words_before_last}
 use Rattle.straight_code.proofs.Forms.{IsPlain, sum_form, difference_form, immediate_form, IsStraight, straight_from}
 

@@ -6,7 +6,7 @@ use Rattle.term_spec.specs.declared.Sort.TheVariants as sort
 use Rattle.term_spec.specs.declared.WordOperator.{WordOperator}
 use Rattle.term_spec.specs.Term.{Term, constant, equal, on_words}
 use Rattle.term_spec.specs.Sort.{sort_of, sort_of_atom}
-use Rattle.term_spec.specs.Value.{Value, Truth, Number, Assignment, IsAssignment, value, binary_value, operation}
+use Rattle.term_spec.specs.Value.{Truth, Number, Assignment, IsAssignment, value, binary_value, operation}
 use Rattle.term_spec.proofs.Words.{operation-below}
 use Rattle.normal_spec.specs.Fixed.{AreBytes, HoldsFixed, fixed_byte}
 use Rattle.normal_spec.specs.Normal.{normal}

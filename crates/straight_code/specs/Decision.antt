@@ -12,7 +12,7 @@ use Rattle.c_spec.specs.declared.Operand.TheVariants.{First, Second}
 use Rattle.c_spec.specs.declared.Operator.{Operator}
 use Rattle.c_spec.specs.declared.Operator.TheVariants.{Plus, Minus}
 use Rattle.c_spec.specs.Unit.{Unit}
-use Rattle.claim_spec.specs.Code.{instr_at}
+use Rattle.code_spec.specs.Code.{instr_at}
 use Rattle.claim_spec.specs.Claim.{kept_registers}
 use Rattle.term_spec.specs.declared.Width.TheVariants.{W32}
 use Rattle.term_spec.specs.Term.{Term, constant, open_term, equal, add, subtract}

@@ -5,7 +5,7 @@ use Rattle.rv_instr.specs.declared.Instr.TheVariants.{Jalr, Immediate, Arithmeti
 use Rattle.rv_instr.specs.declared.ArithmeticOperation.TheVariants.{Add, Subtract}
 use Rattle.rv_instr.specs.declared.ImmediateOperation.TheVariants as immediate
 use Rattle.elf_spec.specs.Image.{Image}
-use Rattle.claim_spec.specs.Code.{instr_at}
+use Rattle.code_spec.specs.Code.{instr_at}
 
 abbrev pub is_zero : ℤ → Bool
 is_zero (pos n) = n == 0

@@ -1,7 +1,7 @@
 // The words of the function, and whether they are straight.
 
 ghost use Rattle.std.specs.Prelude.{◌≡◌, ◌+◌, ◌<◌, ◌≤◌, ◌%◌, ◌^◌, ◌==◌, not};
-ghost use Rattle.claim_spec.specs.Code.{HasCode, instr_at};
+ghost use Rattle.code_spec.specs.Code.{HasCode, instr_at};
 ghost use Rattle.straight_code.specs.Straight as spec;
 
 use decompile::instruction;

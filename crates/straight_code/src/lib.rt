@@ -12,7 +12,7 @@
 ghost use Rattle.std.specs.Prelude.{◌≡◌, Some, None, IfOk, IsTrue};
 ghost use Rattle.elf_spec.specs.Image.{entry_of, size_at};
 ghost use Rattle.claim_spec.specs.Claim.{IsValid};
-ghost use Rattle.claim_spec.specs.Code.{HasCode, IsStack};
+ghost use Rattle.code_spec.specs.Code.{HasCode, IsStack};
 ghost use Rattle.straight_code.specs.Straight.{crooked_at};
 ghost use Rattle.straight_code.specs.Decision.{accepts};
 

@@ -3,7 +3,7 @@
 ghost use Rattle.std.specs.Prelude.{◌≡◌, ◌==◌, ◌+◌, ◌<◌, ◌≤◌, ◌%◌, ◌^◌, IfOk, OnOk, if◌then◌else◌, length, slice_index, slice_set, vec_len};
 ghost use Rattle.term_spec.specs.Term as tree;
 ghost use Rattle.term_spec.specs.declared.Width.TheVariants as Width;
-ghost use Rattle.claim_spec.specs.Code.{instr_at};
+ghost use Rattle.code_spec.specs.Code.{instr_at};
 ghost use Rattle.straight_code.specs.Decision as spec;
 
 use crate::state::Registers;

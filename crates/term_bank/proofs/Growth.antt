@@ -1,15 +1,19 @@
 -- The trees of a list of nodes, as it grows.
 use Rattle.std.proofs.Common.{◌≡◌, ℕ, zero, suc, ◌+◌, ◌<◌, ◌≤◌, Bool, true, false, cond, List, [], ◌∷◌, ◌++◌, length, get_or, Some, refl, sym, ap, ◌∙◌, subst, arith, append_assoc, length-append, append-nil}
 use Rattle.std.specs.Prelude.{slice_get}
-use Rattle.std.specs.List.{IsDistinct, AllByRecursion}
+use Rattle.std.specs.List.{IsDistinct, AllByRecursion, list_any}
 use Rattle.std.proofs.Math.ListN.{get_or-append}
+use Rattle.std.proofs.lemmas.List.Elements.{All-from_get_or}
+use Rattle.std.proofs.lemmas.List.Folds.{list_any_at, list_any_none}
 use Rattle.std.proofs.lemmas.Option.{slice_get-get_or, slice_get_within, get_or_from_slice_get, same_Some}
 use Rattle.term_spec.specs.declared.Atom.TheVariants as atom
 use Rattle.term_spec.specs.Term as tree
 use Rattle.term_spec.specs.Term.{Term}
+use Rattle.term_spec.specs.Same.{same_term}
+use Rattle.term_spec.proofs.Same.{same_is, same_itself}
 use Rattle.term_bank.specs.declared.node.TermNode.{TermNode}
 use Rattle.term_bank.specs.declared.node.TermNode.TheVariants.{Leaf, Unary, Binary, Ternary, Quaternary, Octonary}
-use Rattle.term_bank.specs.Nodes.{IsNode, tree_at, build, Holds, Extends, AreDistinct}
+use Rattle.term_bank.specs.Nodes.{IsNode, tree_at, build, Holds, with_tree, Extends, AreDistinct}
 use Rattle.term_bank.specs.Trees.{grown, AreNodes}
 
 -- ---- lists
@@ -249,7 +253,32 @@ within_added trees id t h = slice_get_within trees id t h
 pub length-Extends : (old new : List Term) → Extends old new → length old ≤ length new
 length-Extends old new e = omega (arith, ap length e.1, length-append old e.0)
 
--- at most one more tree
-pub one_added : (test : Bool) (old new : List TermNode) (trees : List Term) (node : TermNode) → grown [] old ≡ trees → new ≡ cond test old (old ++ node ∷ []) → length (grown [] new) ≤ length trees + 1
-one_added true old new trees node view e = omega (arith, ap length view, length-grown [] old, length-grown [] new, ap length e)
-one_added false old new trees node view e = omega (arith, ap length view, length-grown [] old, length-grown [] new, ap length e, length-append old (node ∷ []))
+-- ---- the tree of the node among those before
+
+among : (trees : List Term) (t : Term) (i : ℕ) → Holds trees i t → list_any (same_term t) trees ≡ true
+among trees t i at =
+    let here : tree_at trees i ≡ t = get_or_from_slice_get trees i t (tree.Leaf (atom.Truth false)) at in
+    list_any_at (same_term t) trees i (tree.Leaf (atom.Truth false)) (slice_get_within trees i t at) (ap (same_term t) here ∙ same_itself t)
+
+absent : (trees : List Term) (t : Term) → AreDistinct (trees ++ t ∷ []) → list_any (same_term t) trees ≡ false
+absent trees t distinct =
+    list_any_none (same_term t) trees (All-from_get_or (λ x. same_term t x ≡ false) trees (tree.Leaf (atom.Truth false)) (λ i below. other i below (same_term t (tree_at trees i)) refl))
+  where
+    other : (i : ℕ) → i < length trees → (test : Bool) → same_term t (tree_at trees i) ≡ test → same_term t (tree_at trees i) ≡ false
+    other i below false e = e
+    other i below true e =
+        let here : Holds trees i t = held trees i below ∙ ap Some (sym (same_is t (tree_at trees i) e)) in
+        let last : i ≡ length trees = distinct i (length trees) t (slice_get-front trees (t ∷ []) i t here) (slice_get-seam trees [] t) in
+        absurd (omega arith)
+
+pub with_tree-added : (test : Bool) (old new : List TermNode) (trees : List Term) (node : TermNode) (id : ℕ) → grown [] old ≡ trees → new ≡ cond test old (old ++ node ∷ [])
+    → Holds (grown [] new) id (build trees node) → AreDistinct (grown [] new) → grown [] new ≡ with_tree trees (build trees node)
+unfolding with_tree
+with_tree-added true old new trees node id view e holds distinct =
+    let same : grown [] new ≡ trees = ap (grown []) e ∙ view in
+    let there : list_any (same_term (build trees node)) trees ≡ true = among trees (build trees node) id (subst (λ g. Holds g id (build trees node)) same holds) in
+    same ∙ sym (ap (λ b. cond b trees (trees ++ build trees node ∷ [])) there)
+with_tree-added false old new trees node id view e holds distinct =
+    let more : grown [] new ≡ trees ++ build trees node ∷ [] = ap (grown []) e ∙ grown-append [] old (node ∷ []) ∙ ap (λ g. g ++ build g node ∷ []) view in
+    let none : list_any (same_term (build trees node)) trees ≡ false = absent trees (build trees node) (subst AreDistinct more distinct) in
+    more ∙ sym (ap (λ b. cond b trees (trees ++ build trees node ∷ [])) none)

@@ -4,7 +4,9 @@ use Rattle.term_spec.specs.declared.Atom.TheVariants as atom
 use Rattle.term_spec.specs.Term as tree
 use Rattle.term_spec.specs.Term.{Term}
 use Rattle.term_spec.specs.declared.Width.TheVariants.{W64}
+use Rattle.term_spec.specs.Same.{same_term}
 use Rattle.term_spec.specs.Value as spec
+use Rattle.indexmap.specs.IndexSet.{insert_key}
 use Rattle.term_bank.specs.declared.node.TermNode.{TermNode}
 use Rattle.term_bank.specs.declared.node.TermNode.TheVariants.{Leaf, Unary, Binary, Ternary, Quaternary, Octonary}
 
@@ -34,6 +36,10 @@ build trees (Octonary a b c d e f g h) =
 -- the tree at this place
 abbrev pub Holds : List Term → ℕ → Term → Type 0
 Holds trees id t = slice_get trees id ≡ Some t
+
+-- the trees, and this one behind them where it isn't among them
+unfoldable pub with_tree : List Term → Term → List Term
+with_tree trees t = insert_key same_term trees t
 
 -- the trees before are the first of the trees after
 abbrev pub Extends : List Term → List Term → Type 0

@@ -1,8 +1,8 @@
-ghost use Rattle.std.specs.Prelude.{◌≡◌, ◌+◌, ◌<◌, ◌≤◌, [], length, map, IfOk};
+ghost use Rattle.std.specs.Prelude.{◌≡◌, ◌<◌, ◌≤◌, [], length, map, IfOk, OnOk, OnErr};
 ghost use Rattle.term_spec.specs.Value.{value};
 ghost use Rattle.term_core.specs.Values.{value_of};
 ghost use Rattle.term_core.specs.Assignment.{assignment_of};
-ghost use Rattle.term_bank.specs.Nodes.{IsNode, build, Holds, Extends, AreDistinct};
+ghost use Rattle.term_bank.specs.Nodes.{IsNode, build, Holds, with_tree, Extends, AreDistinct};
 
 use crate::evaluation::evaluate;
 use crate::node::TermNode;
@@ -61,14 +61,16 @@ impl Bank {
         let _ = &self.nodes;
     }
 
-    /// The place of the node's term, which is added where it isn't there.
+    /// The place of the node's term, which is added where it isn't there. Where memory is wanting the terms are as
+    /// before.
     pub fn add(&mut self, node: TermNode) -> Result<TermId, AllocError>
         requires { IsNode (length self.old) node }
         ensures id { IfOk result (λ i. Holds self.new i (build self.old node)) }
         ensures within { IfOk result (λ i. i < length self.new) }
+        ensures added { OnOk result (self.new ≡ with_tree self.old (build self.old node)) }
+        ensures refused { OnErr result (self.new ≡ self.old) }
         ensures extends { Extends self.old self.new }
         ensures longer { length self.old ≤ length self.new }
-        ensures one { length self.new ≤ length self.old + 1 }
         ensures distinct { AreDistinct self.new }
     {
         let (id, _) = self.nodes.insert_full(node)?;

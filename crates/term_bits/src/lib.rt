@@ -12,6 +12,3 @@ mod parts;
 
 pub use atoms::bit_count;
 pub use nodes::{bit_of, own_bits};
-
-#[cfg(test)]
-mod tests;

@@ -24,6 +24,3 @@ pub use sorts::{
 };
 pub use term::{Term, eval, sort};
 pub use value::{Value, binary, byte_of, octonary, quaternary, ternary, unary};
-
-#[cfg(test)]
-mod tests;

@@ -14,6 +14,3 @@ mod walk;
 
 pub use forms::normal;
 pub use runs::Run;
-
-#[cfg(test)]
-mod tests;

@@ -1,11 +1,14 @@
 -- What a test of sorts says, and what a sort says of a value.
-use Rattle.std.proofs.Common.{◌≡◌, ℕ, ◌^◌, ◌<◌, Bool, true, Option, Some, None, refl, ap}
+use Rattle.std.proofs.Common.{◌≡◌, ℕ, ◌^◌, ◌<◌, Bool, true, Option, Some, None, refl, sym, ap, ◌∙◌}
+use Rattle.std.proofs.lemmas.Bool.{and_parts}
 use Rattle.std.proofs.lemmas.Option.{cond_some}
 use Rattle.term_spec.specs.declared.Width.{Width}
 use Rattle.term_spec.specs.declared.Width.TheVariants.{W8, W16, W32, W64}
 use Rattle.term_spec.specs.declared.Sort.{Sort}
 use Rattle.term_spec.specs.declared.Sort.TheVariants as sort
-use Rattle.term_spec.specs.Sort.{bits, same_width, same_sort, is_word, sort_if, with_one, with_two, with_three, with_four}
+use Rattle.term_spec.specs.declared.BinaryOperator.TheVariants as binary
+use Rattle.term_spec.specs.Term.{Term, load}
+use Rattle.term_spec.specs.Sort.{bits, same_width, same_sort, is_word, is_memory, is_address, sort_if, with_one, with_two, with_three, with_four, sort_of, sort_of_binary}
 use Rattle.term_spec.specs.Value.{Value, Truth, Number, Bytes, IsOfSort}
 
 -- ---- tests
@@ -69,6 +72,14 @@ with_four-some f (Some a) (Some b) (Some c) None s e = absurd (cc)
 with_four-some f (Some a) (Some b) None r s e = absurd (cc)
 with_four-some f (Some a) None q r s e = absurd (cc)
 with_four-some f None p q r s e = absurd (cc)
+
+pub load_is : (m d : Term) (s : Sort) → sort_of (load m d) ≡ Some s → (s ≡ sort.Word W8) × (sort_of m ≡ Some sort.Memory) × (sort_of d ≡ Some (sort.Word W32))
+unfolding sort_of sort_of_binary
+load_is m d s h =
+    let parts = with_two-some (sort_of_binary binary.Load) (sort_of m) (sort_of d) s h in
+    let tests = sort_if-some _ (sort.Word W8) s parts.4 in
+    let both = and_parts (is_memory parts.0) (is_address parts.1) tests.0 in
+    (sym tests.1, parts.2 ∙ ap Some (same_sort-true parts.0 sort.Memory both.0), parts.3 ∙ ap Some (same_sort-true parts.1 (sort.Word W32) both.1))
 
 -- ---- what a value of a sort is
 

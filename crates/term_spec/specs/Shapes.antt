@@ -3,7 +3,7 @@
 use Rattle.std.specs.Prelude.{ℕ, ◌-◌, ◌^◌}
 use Rattle.term_spec.specs.declared.Width.{Width}
 use Rattle.term_spec.specs.declared.Width.TheVariants.{W32, W64}
-use Rattle.term_spec.specs.Term.{Term, constant, not_term, and_term, equal, less, add, subtract, multiply, bit_xor, divide, remainder, zero_extend, sign_extend, byte, join_two, join_four, Octonary, choose, load, store}
+use Rattle.term_spec.specs.Term.{Term, constant, not_term, and_term, equal, less, add, subtract, multiply, bit_xor, divide, remainder, zero_extend, sign_extend, byte, join_two, join_four, choose, load, store}
 use Rattle.term_spec.specs.Sort.{bits}
 
 -- the word whose top bit alone is set
@@ -59,11 +59,6 @@ load_half m a = join_two (load m a) (load m (past a 1))
 abbrev pub load_word : Term → Term → Term
 load_word m a = join_four (load m a) (load m (past a 1)) (load m (past a 2)) (load m (past a 3))
 
-abbrev pub load_double : Term → Term → Term
-load_double m a =
-    Octonary (load m a) (load m (past a 1)) (load m (past a 2)) (load m (past a 3))
-    (load m (past a 4)) (load m (past a 5)) (load m (past a 6)) (load m (past a 7))
-
 -- byte 0 of the word at a, byte 1 at a + 1 and so on; the first is written first
 abbrev pub store_byte : Term → Term → Term → Term
 store_byte m a x = store m a (byte 0 x)
@@ -73,7 +68,3 @@ store_half m a x = store (store_byte m a x) (past a 1) (byte 1 x)
 
 abbrev pub store_word : Term → Term → Term → Term
 store_word m a x = store (store (store_half m a x) (past a 2) (byte 2 x)) (past a 3) (byte 3 x)
-
-abbrev pub store_double : Term → Term → Term → Term
-store_double m a x =
-    store (store (store (store (store_word m a x) (past a 4) (byte 4 x)) (past a 5) (byte 5 x)) (past a 6) (byte 6 x)) (past a 7) (byte 7 x)

@@ -1,5 +1,5 @@
 -- The sort of a term, or none where it is not well sorted.
-use Rattle.std.specs.Prelude.{ℕ, ◌*◌, ◌^◌, ◌==◌, ◌&&◌, not, nat_lt, nat_le, Bool, true, false, if◌then◌else◌, List, [], ◌∷◌, Option, Some, None, IsSome, option_and_then}
+use Rattle.std.specs.Prelude.{ℕ, ◌*◌, ◌^◌, ◌==◌, ◌&&◌, not, nat_lt, nat_le, Bool, true, false, if◌then◌else◌, List, [], ◌∷◌, Option, Some, None, option_and_then}
 use Rattle.term_spec.specs.declared.Width.{Width}
 use Rattle.term_spec.specs.declared.Width.TheVariants.{W8, W16, W32, W64}
 use Rattle.term_spec.specs.declared.Sort.{Sort}
@@ -117,6 +117,3 @@ sort_of (Ternary operator a b c) = with_three (sort_of_ternary operator) (sort_o
 sort_of (Quaternary operator a b c d) = with_four (sort_of_quaternary operator) (sort_of a) (sort_of b) (sort_of c) (sort_of d)
 sort_of (Octonary a b c d e f g h) =
     sort_if (all_bytes (sort_of a ∷ sort_of b ∷ sort_of c ∷ sort_of d ∷ sort_of e ∷ sort_of f ∷ sort_of g ∷ sort_of h ∷ [])) (Word W64)
-
-abbrev pub IsWellSorted : Term → Type 0
-IsWellSorted t = IsSome (sort_of t)

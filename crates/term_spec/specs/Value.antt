@@ -1,5 +1,6 @@
 -- What a term is worth under an assignment of values to its variables. Words are numbers modulo 2 ^ width; a
--- memory has a byte for each address below 2 ^ 32. What is not well sorted is worth `stray`.
+-- memory has a byte for each address below 2 ^ 32. An operator at values of other kinds is worth `stray`; of a term
+-- that is not well sorted nothing else is meant.
 use Rattle.std.specs.Prelude.{◌≡◌, ℕ, ◌+◌, ◌-◌, ◌*◌, ◌/◌, ◌%◌, ◌^◌, ◌<◌, ◌==◌, ◌&&◌, ◌||◌, not, nat_lt, nat_le, Bool, true, false, if◌then◌else◌, List, [], ◌∷◌, map, Option, Some, None, option_map, option_and_then, bit_and, bit_or, bit_xor}
 use Rattle.term_spec.specs.declared.Width.{Width}
 use Rattle.term_spec.specs.declared.Width.TheVariants.{W8, W16, W32, W64}
@@ -194,7 +195,3 @@ value assignment (Quaternary operator a b c d) =
 value assignment (Octonary a b c d e f g h) =
     joined W64 (value assignment a ∷ value assignment b ∷ value assignment c ∷ value assignment d
     ∷ value assignment e ∷ value assignment f ∷ value assignment g ∷ value assignment h ∷ [])
-
--- the truth value holds
-abbrev pub IsTrueUnder : Assignment → Term → Type 0
-IsTrueUnder assignment t = value assignment t ≡ Truth true

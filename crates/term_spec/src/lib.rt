@@ -1,9 +1,10 @@
 //! Terms over truth values, words and memory: their sorts, and what they are worth.
 //!
 //! `specs/Term.antt` has the trees, grouped by how many arguments an operator has; `specs/Sort.antt` the sort
-//! of a term, or none where it is not well sorted; `specs/Value.antt` its value under an assignment; and
-//! `specs/Shapes.antt` the terms for signed comparison and division, high products, and loads and stores of
-//! several bytes. Of the crate only the enums below and the record [`Variable`] run.
+//! of a term, or none where it is not well sorted; `specs/Value.antt` its value under an assignment;
+//! `specs/Same.antt` the tests of two variables and of two terms; and `specs/Shapes.antt` the terms for signed
+//! comparison and division, high products, and loads and stores of several bytes. Of the crate only the enums
+//! below and the record [`Variable`] run.
 //!
 //! Of a variable the definitions see its sort, and whether two are the same; a family of variables that is
 //! added changes none of them.

@@ -9,6 +9,3 @@
 mod table;
 
 pub use table::TermTable;
-
-#[cfg(test)]
-mod tests;

@@ -1,5 +1,9 @@
 -- What reading does to what is left of a file, where the object tells it.
-use Rattle.std.specs.Prelude.{◌≡◌, ℕ, List, ◌++◌, take, drop, Option, IfSome, option_map, ◌≤◌, []}
+use Rattle.std.specs.Prelude.{◌≡◌, ℕ, List, ◌++◌, ◌∷◌, take, drop, Option, IfSome, option_map, ◌≤◌, []}
+
+-- the names that were begun, where the object tells them, and then this one
+abbrev pub with_name : Option (List (List ℕ)) → (name : List ℕ) → Option (List (List ℕ))
+with_name opened name = option_map (λ names. names ++ name ∷ []) opened
 
 -- the bytes taken, and then what is left now, are what was left before
 abbrev pub HandsOver : Option (List ℕ) → List ℕ → Option (List ℕ) → Type 0

@@ -1,7 +1,7 @@
 ghost use Rattle.std.specs.Prelude.{◌≡◌, ℕ, ◌+◌, ◌<◌, ◌≤◌, List, ◌++◌, length, take, Option, IfOk, OnOk, OnErr, IsErrOf, vec_len};
 ghost use Rattle.tv_base.specs.declared.faults.OutsideFault.TheVariants.{NoMemory};
 ghost use Rattle.tv_base.specs.Faults.{HasCause};
-ghost use Rattle.tv_base.specs.Reading.{HandsOver, IsAtEnd, IsTaken, IsPartlyTaken};
+ghost use Rattle.tv_base.specs.Reading.{HandsOver, IsAtEnd, IsTaken, IsPartlyTaken, with_name};
 
 use crate::OutsideFault;
 use std::alloc::Global;
@@ -17,14 +17,19 @@ pub trait Desk {
     /// What is left of the begun file, where the desk tells it.
     ghost left: { Self → Option (List ℕ) };
 
+    /// The names of the files that were begun, in order, where the desk tells them.
+    ghost opened: { Self → Option (List (List ℕ)) };
+
     /// How many calls failed; it stops at 18446744073709551615.
     ghost faults: { Self → ℕ };
 
     /// Begins the file of this name, from its first byte. A name that the desk hasn't is refused.
     fn begin(&mut self, name: &str) -> Result<(), OutsideFault>
         ensures begins { OnOk result (left self.new ≡ bytes self.old name.now) }
+        ensures opens { OnOk result (opened self.new ≡ with_name (opened self.old) name.now) }
         ensures same_bytes { bytes self.new ≡ bytes self.old }
         ensures refused { OnErr result (left self.new ≡ left self.old) }
+        ensures refused_name { OnErr result (opened self.new ≡ opened self.old) }
         ensures cause { HasCause (faults self.old) (faults self.new) result }
         ensures unfailing { OnOk result (faults self.new ≡ faults self.old) }
         ensures no_memory { IsErrOf result NoMemory → faults self.new ≡ faults self.old };
@@ -37,6 +42,7 @@ pub trait Desk {
         ensures hands_over { IfOk result (λ count. HandsOver (left self.old) (take count buf.new) (left self.new)) }
         ensures end { IfOk result (λ count. count ≡ 0 → IsAtEnd (left self.old)) }
         ensures same_bytes { bytes self.new ≡ bytes self.old }
+        ensures same_names { opened self.new ≡ opened self.old }
         ensures refused { OnErr result (left self.new ≡ left self.old) }
         ensures cause { HasCause (faults self.old) (faults self.new) result }
         ensures unfailing { OnOk result (faults self.new ≡ faults self.old) }
@@ -58,6 +64,7 @@ fn read_piece<D: Desk>(
     ensures end { IfOk result (λ count. count ≡ 0 → IsAtEnd (D.left desk.old)) }
     ensures part { OnErr result (IsPartlyTaken (length buf.old) (D.left desk.old) (D.left desk.new)) }
     ensures same_bytes { D.bytes desk.new ≡ D.bytes desk.old }
+    ensures same_names { D.opened desk.new ≡ D.opened desk.old }
     ensures cause { HasCause (D.faults desk.old) (D.faults desk.new) result }
     ensures unfailing { OnOk result (D.faults desk.new ≡ D.faults desk.old) }
     ensures no_memory { IsErrOf result NoMemory → D.faults desk.new ≡ D.faults desk.old }
@@ -86,6 +93,7 @@ pub fn read_up_to<D: Desk>(
     ensures taken { IfOk result (λ bytes. IsTaken most (D.left desk.old) bytes.items (D.left desk.new)) }
     ensures part { OnErr result (IsPartlyTaken most (D.left desk.old) (D.left desk.new)) }
     ensures same_bytes { D.bytes desk.new ≡ D.bytes desk.old }
+    ensures same_names { D.opened desk.new ≡ D.opened desk.old }
     ensures cause { HasCause (D.faults desk.old) (D.faults desk.new) result }
     ensures unfailing { OnOk result (D.faults desk.new ≡ D.faults desk.old) }
     ensures no_memory { IsErrOf result NoMemory → D.faults desk.new ≡ D.faults desk.old }

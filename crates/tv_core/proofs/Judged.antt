@@ -6,7 +6,7 @@ use Rattle.std.proofs.lemmas.List.Elements.{All-push, All-map}
 use Rattle.elf_spec.specs.Image.{Image}
 use Rattle.c_spec.specs.Unit.{Unit}
 use Rattle.claim_spec.specs.Claim.{IsValid}
-use Rattle.claim_spec.specs.declared.CodeKind.{CodeKind}
+use Rattle.code_spec.specs.declared.CodeKind.{CodeKind}
 use Rattle.claim_spec.specs.declared.PairKind.{PairKind}
 use Rattle.claim_spec.specs.declared.PairKind.TheVariants.{NothingListed}
 use Rattle.claim_spec.specs.declared.Quantity.TheVariants.{Functions}

@@ -1,12 +1,13 @@
 -- What two files come to, from the bytes that were read of them.
-use Rattle.std.proofs.Common.{◌≡◌, ◌+◌, ◌<◌, ◌≤◌, ℕ, List, Option, Some, length, take, take_all, arith, ap, ◌∙◌, subst, inl, inr}
+use Rattle.std.proofs.Common.{◌≡◌, ◌⊎◌, ◌+◌, ◌<◌, ◌≤◌, ℕ, List, Option, Some, None, length, take, take_all, arith, ap, ◌∙◌, subst, inl, inr}
 use Rattle.std.specs.Prelude.{IfSome}
 use Rattle.std.proofs.lemmas.List.{length-take}
 use Rattle.claim_spec.specs.Verdict.{Verdict, TooLarge}
 use Rattle.claim_spec.specs.declared.Quantity.TheVariants.{Elf, C}
 use Rattle.tv_core.specs.Verdicts.{IsSound, Judges, elf_large, c_large, within}
+use Rattle.tv_base.specs.Reading.{with_name}
 use Rattle.tv_words.specs.Commands.{Proving}
-use Rattle.tv_core.specs.Ends.{Told, IsReached, TakesAtMost, TakesOfTwo}
+use Rattle.tv_core.specs.Ends.{Told, IsReached, TakesAtMost, TakesOfTwo, OpensOfTwo}
 
 -- the bytes that were read of a file that is told
 told : (file : Option (List ℕ)) (text read : List ℕ) (most : ℕ) → IfSome file (λ bytes. read ≡ take most bytes) → file ≡ Some text → read ≡ take most text
@@ -59,3 +60,18 @@ pub taken_of_two : (bytes : Told) (elf_name source_name : List ℕ) (before midd
 taken_of_two bytes elf_name source_name before middle now first (inl same) =
     elim first [ inl e ↦ inl (inl (same ∙ e)) | inr t ↦ inl (inr (t.0, t.1, same ∙ t.2)) ]
 taken_of_two bytes elf_name source_name before middle now first (inr t) = inr (inr t)
+
+-- the executable, where it is told, is no longer than what was read of it
+elf_within : (file : Option (List ℕ)) (read : List ℕ) → IfSome file (λ text. read ≡ take (16777216 + 1) text) → length read ≤ 16777216
+    → IfSome file (λ text. length text ≤ 16777216)
+elf_within None read taken small = tt
+elf_within (Some text) read taken small = short text read 16777216 taken small
+
+-- what was begun first, and then
+pub opened_of_two : (bytes : Told) (elf_name source_name read : List ℕ) (before middle now : Option (List (List ℕ)))
+    → IfSome (bytes elf_name) (λ text. read ≡ take (16777216 + 1) text) → length read ≤ 16777216
+    → middle ≡ with_name before elf_name → (now ≡ middle) ⊎ (now ≡ with_name middle source_name)
+    → OpensOfTwo bytes elf_name source_name before now
+opened_of_two bytes elf_name source_name read before middle now taken small first (inl same) = inr (inl (same ∙ first))
+opened_of_two bytes elf_name source_name read before middle now taken small first (inr then) =
+    inr (inr (then ∙ ap (λ names. with_name names source_name) first, elf_within (bytes elf_name) read taken small))

@@ -2,10 +2,10 @@
 use Rattle.std.proofs.Common.{◌≡◌, ◌<◌, ◌≤◌, ◌+◌, ◌%◌, ◌^◌, ℕ, zero, suc, Bool, true, false, Some, ◌⊎◌, inl, inr, refl, arith}
 use Rattle.std.specs.Prelude.{is_some, IsSome}
 use Rattle.elf_spec.specs.Image.{Image, size_at, fixed_byte}
-use Rattle.claim_spec.specs.declared.CodeKind.{CodeKind}
-use Rattle.claim_spec.specs.declared.CodeKind.TheVariants.{Empty, Writable, Misplaced}
-use Rattle.claim_spec.specs.Code.{InRange, IsFixedRange, IsRangeFault, empty, writable, misplaced, HasCode}
-use Rattle.claim_spec.specs.Faults.{ReachesNoFault, of_function, of_range, itself}
+use Rattle.code_spec.specs.declared.CodeKind.{CodeKind}
+use Rattle.code_spec.specs.declared.CodeKind.TheVariants.{Empty, Writable, Misplaced}
+use Rattle.code_spec.specs.Code.{InRange, IsFixedRange, IsRangeFault, empty, writable, misplaced, HasCode}
+use Rattle.code_spec.specs.Faults.{ReachesNoFault, of_function, of_range, itself}
 
 no_range_fault : (image : Image) (entry size : ℕ) (kind : CodeKind) → ReachesNoFault image entry → size_at image entry ≡ Some size
     → IsRangeFault image entry size kind → ⊥

@@ -1,10 +1,11 @@
 -- How a run ends: what it says, what it leaves, and what was the cause.
-use Rattle.std.specs.Prelude.{◌≡◌, ◌≢◌, ◌≤◌, ◌+◌, ◌⊎◌, ℕ, List, [], take, drop, Option, Some, None, option_map, Result, IsTrue, IsErrOf}
+use Rattle.std.specs.Prelude.{◌≡◌, ◌≢◌, ◌≤◌, ◌+◌, ◌⊎◌, ℕ, List, [], length, take, drop, Option, Some, None, IfSome, option_map, Result, IsTrue, IsErrOf}
 use Rattle.claim_spec.specs.declared.Quantity.TheVariants.{Elf, C}
 use Rattle.claim_spec.specs.Verdict.{Verdict, RefusedWords, Judged, Judgement, all_valid, status_of, report_of, judgements_text, certificate_of, maximum_of}
 use Rattle.tv_base.specs.declared.faults.OutsideFault.{OutsideFault}
 use Rattle.tv_base.specs.declared.faults.OutsideFault.TheVariants.{Failed}
 use Rattle.tv_base.specs.Faults.{Rose}
+use Rattle.tv_base.specs.Reading.{with_name}
 use Rattle.tv_base.specs.Writing.{Grows, GrowsPartly}
 use Rattle.tv_words.specs.Commands.{Command, Prove, Proving, IsCommand}
 use Rattle.tv_core.specs.Verdicts.{IsVerdict, IsSound, AreSound}
@@ -108,6 +109,8 @@ pub record EndsValid (words : List (List ℕ)) (bytes : Told) (report_name : Lis
   pub reported : Grows report_before report_name (judgements_text judgements) report_now
   pub stored : Becomes store_before job.certificate (certificate_of judgements) store_now
 
+-- ---- the desk
+
 -- what is left is as before, or all but at most so many bytes of this file
 abbrev pub TakesAtMost : Told → (name : List ℕ) → (most : ℕ) → (left_before left_now : Option (List ℕ)) → Type 0
 TakesAtMost bytes name most left_before left_now =
@@ -121,3 +124,14 @@ TakesOfTwo bytes elf_name source_name left_before left_now =
 abbrev pub TakesLittle : List (List ℕ) → Told → (left_before left_now : Option (List ℕ)) → Type 0
 TakesLittle words bytes left_before left_now =
     (left_now ≡ left_before) ⊎ ((job : Proving) × IsCommand words (Prove job) × TakesOfTwo bytes job.elf job.source left_before left_now)
+
+-- no file was begun, or the executable, or it and then the source; the source only where the executable, where it is told,
+-- is within its maximum
+abbrev pub OpensOfTwo : Told → (elf_name source_name : List ℕ) → (opened_before opened_now : Option (List (List ℕ))) → Type 0
+OpensOfTwo bytes elf_name source_name opened_before opened_now =
+    (opened_now ≡ opened_before) ⊎ ((opened_now ≡ with_name opened_before elf_name)
+    ⊎ ((opened_now ≡ with_name (with_name opened_before elf_name) source_name) × IfSome (bytes elf_name) (λ elf. length elf ≤ maximum_of Elf)))
+
+abbrev pub OpensInOrder : List (List ℕ) → Told → (opened_before opened_now : Option (List (List ℕ))) → Type 0
+OpensInOrder words bytes opened_before opened_now =
+    (opened_now ≡ opened_before) ⊎ ((job : Proving) × IsCommand words (Prove job) × OpensOfTwo bytes job.elf job.source opened_before opened_now)

@@ -12,10 +12,10 @@ use Rattle.c_spec.specs.Lexical.{Placed, AreTokens, IsTokenFault}
 use Rattle.claim_spec.specs.declared.Quantity.TheVariants.{Elf, C, Functions}
 use Rattle.claim_spec.specs.declared.PairKind.{PairKind}
 use Rattle.claim_spec.specs.declared.PairKind.TheVariants.{NothingListed}
-use Rattle.claim_spec.specs.declared.CodeKind.{CodeKind}
-use Rattle.claim_spec.specs.declared.CodeKind.TheVariants.{Ambiguous}
-use Rattle.claim_spec.specs.Code.{IsStack}
-use Rattle.claim_spec.specs.Faults.{IsReachFault, ReachesNoFault, IsFirst}
+use Rattle.code_spec.specs.declared.CodeKind.{CodeKind}
+use Rattle.code_spec.specs.declared.CodeKind.TheVariants.{Ambiguous}
+use Rattle.code_spec.specs.Code.{IsStack}
+use Rattle.code_spec.specs.Faults.{IsReachFault, ReachesNoFault, IsFirst}
 use Rattle.claim_spec.specs.Claim.{IsValid}
 use Rattle.claim_spec.specs.Verdict.{Verdict, TooLarge, RefusedElf, RefusedC, RefusedPair, RefusedCode, Judged, Judgement, names_of, pair_fault, first_unpaired, maximum_of}
 use Rattle.straight_code.specs.Straight.{crooked_at}

@@ -2,8 +2,8 @@ ghost use Rattle.std.specs.Prelude.{◌≡◌, ◌≢◌, ℕ, List, Option, Som
 ghost use Rattle.elf_spec.specs.Image.{function_named, size_at};
 ghost use Rattle.elf_spec.specs.declared.Named.TheVariants.{Absent};
 ghost use Rattle.claim_spec.specs.Claim.{IsValid};
-ghost use Rattle.claim_spec.specs.Code.{IsStack};
-ghost use Rattle.claim_spec.specs.Faults.{IsFirst, IsReachFault, ReachesNoFault};
+ghost use Rattle.code_spec.specs.Code.{IsStack};
+ghost use Rattle.code_spec.specs.Faults.{IsFirst, IsReachFault, ReachesNoFault};
 ghost use Rattle.claim_spec.specs.Verdict as claim;
 ghost use Rattle.tv_base.specs.declared.faults.OutsideFault.TheVariants.{NoMemory};
 ghost use Rattle.report_text.specs.Judgements.{judgement_of};
@@ -13,7 +13,8 @@ ghost use Rattle.tv_core.specs.Verdicts as spec;
 ghost use Rattle.tv_core.specs.Verdicts.{Lists, Pairs, Judges, IsSound, HasCodeFault, HasSoundCode, IsJudgement};
 
 use crate::listing::{first_unpaired, pair_fault};
-use claim_spec::{CodeKind, PairKind, Quantity};
+use claim_spec::{PairKind, Quantity};
+use code_spec::CodeKind;
 use decompile::{CodeError, CodeFault, reach};
 use elf_read::Image;
 use elf_spec::Named;

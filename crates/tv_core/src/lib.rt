@@ -14,6 +14,3 @@ mod reach;
 mod running;
 
 pub use running::run;
-
-#[cfg(test)]
-mod tests;

@@ -3,7 +3,7 @@ ghost use Rattle.tv_base.specs.declared.faults.OutsideFault.TheVariants.{Failed,
 ghost use Rattle.tv_base.specs.Faults.{HasCause, Rose};
 ghost use Rattle.report_text.specs.Verdicts.{verdict_of};
 ghost use Rattle.tv_words.specs.Jobs.{proving_of};
-ghost use Rattle.tv_core.specs.Ends.{AskFor, IsOutcome, EndsWith, EndsPartly, EndsValid, StoresPartly, TakesLittle, certificate_name};
+ghost use Rattle.tv_core.specs.Ends.{AskFor, IsOutcome, EndsWith, EndsPartly, EndsValid, StoresPartly, TakesLittle, OpensInOrder, certificate_name};
 
 use crate::publish::publish;
 use crate::reach::reach;
@@ -33,6 +33,7 @@ fn outcome<D: Desk>(
     ensures exact { IfOk result (λ verdict. (words : List (List ℕ)) → AskFor words (option_map proving_of job.now)
         → IsOutcome words (D.bytes desk.old) (certificate_name (option_map proving_of job.now)) (verdict_of verdict)) }
     ensures taken { (words : List (List ℕ)) → AskFor words (option_map proving_of job.now) → TakesLittle words (D.bytes desk.old) (D.left desk.old) (D.left desk.new) }
+    ensures opened { (words : List (List ℕ)) → AskFor words (option_map proving_of job.now) → OpensInOrder words (D.bytes desk.old) (D.opened desk.old) (D.opened desk.new) }
     ensures cause { HasCause (D.faults desk.old) (D.faults desk.new) result }
     ensures unfailing { OnOk result (D.faults desk.new ≡ D.faults desk.old) }
     ensures no_memory { IsErrOf result NoMemory → D.faults desk.new ≡ D.faults desk.old }
@@ -71,6 +72,7 @@ fn try_run<D: Desk, R: Sink, K: Store>(
     ensures store_part { StoresPartly (map string_bytes words.now) (D.bytes desk.old) (K.held certificate.old) (K.held certificate.new) }
     ensures store_first { (K.faults certificate.new ≡ K.faults certificate.old) ⊎ (R.held report.new ≡ R.held report.old) }
     ensures taken { TakesLittle (map string_bytes words.now) (D.bytes desk.old) (D.left desk.old) (D.left desk.new) }
+    ensures opened { OpensInOrder (map string_bytes words.now) (D.bytes desk.old) (D.opened desk.old) (D.opened desk.new) }
     ensures fault { IsErrOf result Failed → Rose (D.faults desk.old) (D.faults desk.new)
         ⊎ (Rose (R.faults report.old) (R.faults report.new) ⊎ Rose (K.faults certificate.old) (K.faults certificate.new)) }
     ensures unfailing { OnOk result ((D.faults desk.new ≡ D.faults desk.old)
@@ -128,6 +130,8 @@ pub fn run<D: Desk, R: Sink, K: Store>(
         × (R.faults report.new ≡ R.faults report.old) × (K.faults certificate.new ≡ K.faults certificate.old) }
     // Of a file at most one byte more than its maximum is taken.
     ensures taken { TakesLittle (map string_bytes words.now) (D.bytes desk.old) (D.left desk.old) (D.left desk.new) }
+    // The executable is begun once, and then the source once, where the executable isn't too long.
+    ensures opened { OpensInOrder (map string_bytes words.now) (D.bytes desk.old) (D.opened desk.old) (D.opened desk.new) }
 {
     match try_run(alloc, words, desk, report, certificate) {
         Ok(code) => code,

@@ -21,6 +21,3 @@ pub use given::GivenFile;
 pub use sinks::{MemSink, SteadySink};
 pub use stores::{MemStore, SteadyStore};
 pub use system::{FileDesk, FileStore, OutSink};
-
-#[cfg(test)]
-mod tests;

@@ -20,7 +20,7 @@ fn refused<T>(faults: &mut u64, error: &io::Error) -> Result<T, OutsideFault>
     Err(OutsideFault::Failed)
 }
 
-/// Files of the operating system, read. It tells nothing of their content.
+/// Files of the operating system, read. It tells neither their content nor which were begun.
 #[derive(Drop)]
 pub struct FileDesk<R: Files + Drop> {
     rt: R,
@@ -45,6 +45,8 @@ impl<R: Files + Drop> Desk for FileDesk<R> {
     ghost bytes = { λ _ _. None };
 
     ghost left = { λ _. None };
+
+    ghost opened = { λ _. None };
 
     ghost faults = { λ desk. desk.faults };
 

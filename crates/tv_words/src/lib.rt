@@ -136,6 +136,3 @@ fn listed<'a>(alloc: Global, text: Option<&'a str>) -> Result<Option<Vec<&'a str
         None => Ok(None),
     }
 }
-
-#[cfg(test)]
-mod tests;

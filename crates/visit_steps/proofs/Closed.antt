@@ -3,8 +3,8 @@ use Rattle.std.proofs.Common.{◌≡◌, Bool, true, false, List, [], ◌∷◌,
 use Rattle.std.specs.Prelude.{if◌then◌else◌, is_some}
 use Rattle.std.specs.List.{find}
 use Rattle.term_spec.specs.Term.{Term, divide, remainder}
-use Rattle.normal_spec.specs.Same.{same_term}
-use Rattle.normal_spec.proofs.Same.{same_is, same_itself}
+use Rattle.term_spec.specs.Same.{same_term}
+use Rattle.term_spec.proofs.Same.{same_is, same_itself}
 use Rattle.blast_spec.specs.Circuits.{Bits}
 use Rattle.blast_spec.specs.Goal.{Table, is_there}
 use Rattle.visit_steps.specs.Steps.{needs, AllThere, IsClosed}

@@ -1,8 +1,8 @@
 use Rattle.std.proofs.Common.{◌≡◌, Some, sym, rules}
 use Rattle.std.specs.Prelude.{IsSome}
 use Rattle.elf_spec.specs.Image.{size_at}
-use Rattle.claim_spec.specs.Code.{Calls}
-use Rattle.claim_spec.specs.Faults.{direct_flow}
+use Rattle.code_spec.specs.Code.{Calls}
+use Rattle.code_spec.specs.Faults.{direct_flow}
 use Rattle.decompile.proofs.Visited.{calls-one}
 use Rattle.decompile.proofs.functions.add_call.Goals as goal
 

@@ -1,5 +1,5 @@
 use Rattle.std.proofs.Common.{◌≡◌, None}
-use Rattle.claim_spec.specs.Faults.{word_at}
+use Rattle.code_spec.specs.Faults.{word_at}
 use Rattle.decompile.proofs.Wrong.{unfixed}
 use Rattle.decompile.proofs.listing.sound_word.Goals as goal
 

@@ -1,6 +1,6 @@
 use Rattle.std.proofs.Common.{ℕ, IsSome}
 use Rattle.elf_spec.specs.Image.{fixed_byte}
-use Rattle.claim_spec.specs.Code.{InRange}
+use Rattle.code_spec.specs.Code.{InRange}
 use Rattle.decompile.proofs.range.is_fixed_range.Given as goal
 
 abbrev pub invariant-loop-k : goal.invariant-loop-k

@@ -1,7 +1,7 @@
 use Rattle.std.proofs.Common.{All, IsSome, sym, subst}
 use Rattle.std.specs.List.Sorted.{IsStrictlyIncreasing}
 use Rattle.elf_spec.specs.Image.{size_at}
-use Rattle.claim_spec.specs.Faults.{IsReachFault}
+use Rattle.code_spec.specs.Faults.{IsReachFault}
 use Rattle.decompile.specs.Surveys.{IsOverlap, IsFirstOf}
 use Rattle.decompile.proofs.Reached.{increasing, entries-moved, first-of-reach, found-reach}
 use Rattle.decompile.proofs.survey.found_entries.Goals as goal

@@ -1,5 +1,5 @@
 use Rattle.std.proofs.Common.{◌+◌, [], ◌∷◌}
-use Rattle.claim_spec.specs.Code.{aligned}
+use Rattle.code_spec.specs.Code.{aligned}
 use Rattle.decompile.proofs.Growing.{inside-append}
 use Rattle.decompile.proofs.walk.add_flow.Goals as goal
 

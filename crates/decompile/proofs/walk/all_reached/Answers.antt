@@ -1,6 +1,6 @@
 use Rattle.std.proofs.Common.{◌≡◌, get_or, ap, subst, arith}
 use Rattle.std.proofs.lemmas.List.Elements.{Contains-get_or}
-use Rattle.claim_spec.specs.Faults.{IsDirectlyReachable, here}
+use Rattle.code_spec.specs.Faults.{IsDirectlyReachable, here}
 use Rattle.decompile.specs.Growth.{Grows, LeadsTo}
 use Rattle.decompile.proofs.Walks.{walked-start, walked-next}
 use Rattle.decompile.proofs.Places.{place-walked, step-path, walked-reaches}

@@ -1,4 +1,4 @@
-use Rattle.normal_spec.proofs.Same.{same_is, same_itself}
+use Rattle.term_spec.proofs.Same.{same_is, same_itself}
 use Rattle.normal_spec.proofs.laws.same_terms_are_equal.Goals as goal
 
 pub returns : goal.returns

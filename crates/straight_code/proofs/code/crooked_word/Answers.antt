@@ -1,6 +1,6 @@
 use Rattle.std.proofs.Common.{◌≡◌, ◌+◌, ◌*◌, ◌-◌, ◌/◌, sym, ◌∙◌, ap, arith}
 use Rattle.std.specs.Prelude.{Some}
-use Rattle.claim_spec.specs.Code.{instr_at}
+use Rattle.code_spec.specs.Code.{instr_at}
 use Rattle.straight_code.specs.Straight.{is_return}
 use Rattle.straight_code.proofs.Loops.{crooked_turn, crooked_here, crooked_last, straight_last}
 use Rattle.straight_code.proofs.code.crooked_word.Goals as goal

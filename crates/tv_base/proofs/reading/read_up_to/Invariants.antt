@@ -7,6 +7,7 @@ invariant-pieces g l =
     HandsOver (g.D.Desk.left l.initial.desk) l.bytes.items (g.D.Desk.left l.desk)
     × (vec_len l.bytes ≤ l.most)
     × (g.D.Desk.bytes l.desk ≡ g.D.Desk.bytes l.initial.desk)
+    × (g.D.Desk.opened l.desk ≡ g.D.Desk.opened l.initial.desk)
     × (g.D.Desk.faults l.desk ≡ g.D.Desk.faults l.initial.desk)
     × (vec_len l.buf ≡ vec_len l.initial.buf)
 

@@ -4,7 +4,7 @@ use Rattle.report_text.specs.Verdicts.{verdict_of}
 use Rattle.tv_words.specs.Jobs.{proving_of}
 use Rattle.tv_core.specs.Verdicts.{Judges, IsSound}
 use Rattle.tv_core.specs.Ends.{TakesAtMost}
-use Rattle.tv_core.proofs.Reaching.{elf_too_large, c_too_large, files_judged, taken_of_two}
+use Rattle.tv_core.proofs.Reaching.{elf_too_large, c_too_large, files_judged, taken_of_two, opened_of_two}
 use Rattle.tv_core.proofs.reach.reach.Goals as goal
 
 pub returns-then-len-gt-ELF_BYTES-clause-reached : goal.returns-then-len-gt-ELF_BYTES-clause-reached
@@ -45,3 +45,27 @@ returns-clause-taken g c =
     (g.D.Desk.left c.args.desk.now) (g.D.Desk.left c.read_file.new.desk) (g.D.Desk.left c.read_file-2.new.desk) c.in_ok-elf.ensures.taken
     (subst (λ b. TakesAtMost b c.args.job.now.source.now (4194304 + 1) (g.D.Desk.left c.read_file.new.desk) (g.D.Desk.left c.read_file-2.new.desk))
     c.in_ok-elf.ensures.same_bytes c.in_ok-source.ensures.taken)
+
+pub returns-in_err-source-clause-opened : goal.returns-in_err-source-clause-opened
+returns-in_err-source-clause-opened g c =
+    opened_of_two (g.D.Desk.bytes c.args.desk.now) c.args.job.now.elf.now c.args.job.now.source.now c.in_ok-elf.elf.items
+    (g.D.Desk.opened c.args.desk.now) (g.D.Desk.opened c.read_file.new.desk) (g.D.Desk.opened c.read_file-2.new.desk)
+    c.in_ok-elf.ensures.bytes (omega arith) c.in_ok-elf.ensures.opened c.in_err-source.ensures.opened_part
+
+pub returns-then-len-gt-C_BYTES-clause-opened : goal.returns-then-len-gt-C_BYTES-clause-opened
+returns-then-len-gt-C_BYTES-clause-opened g c =
+    opened_of_two (g.D.Desk.bytes c.args.desk.now) c.args.job.now.elf.now c.args.job.now.source.now c.in_ok-elf.elf.items
+    (g.D.Desk.opened c.args.desk.now) (g.D.Desk.opened c.read_file.new.desk) (g.D.Desk.opened c.read_file-2.new.desk)
+    c.in_ok-elf.ensures.bytes (omega arith) c.in_ok-elf.ensures.opened c.in_ok-source.ensures.opened_part
+
+pub returns-in_err-verdict-clause-opened : goal.returns-in_err-verdict-clause-opened
+returns-in_err-verdict-clause-opened g c =
+    opened_of_two (g.D.Desk.bytes c.args.desk.now) c.args.job.now.elf.now c.args.job.now.source.now c.in_ok-elf.elf.items
+    (g.D.Desk.opened c.args.desk.now) (g.D.Desk.opened c.read_file.new.desk) (g.D.Desk.opened c.read_file-2.new.desk)
+    c.in_ok-elf.ensures.bytes (omega arith) c.in_ok-elf.ensures.opened c.in_ok-source.ensures.opened_part
+
+pub returns-clause-opened : goal.returns-clause-opened
+returns-clause-opened g c =
+    opened_of_two (g.D.Desk.bytes c.args.desk.now) c.args.job.now.elf.now c.args.job.now.source.now c.in_ok-elf.elf.items
+    (g.D.Desk.opened c.args.desk.now) (g.D.Desk.opened c.read_file.new.desk) (g.D.Desk.opened c.read_file-2.new.desk)
+    c.in_ok-elf.ensures.bytes (omega arith) c.in_ok-elf.ensures.opened c.in_ok-source.ensures.opened_part

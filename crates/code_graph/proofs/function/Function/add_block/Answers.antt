@@ -1,5 +1,5 @@
 use Rattle.std.proofs.Common.{◌∙◌, sym, ap, cond, None}
-use Rattle.claim_spec.specs.Code.{Flow, flow_of, Returns, Stops}
+use Rattle.code_spec.specs.Code.{Flow, flow_of, Returns, Stops}
 use Rattle.graph_core.specs.Graphs.{graph_of}
 use Rattle.code_graph.specs.Frames.{frame_of}
 use Rattle.code_graph.proofs.Added.{with_flow, jalr_flow}

@@ -1,0 +1,147 @@
+-- The loop over words around a base.
+use Rattle.std.proofs.Common.{◌≡◌, ℕ, ◌<◌, Bool, true, false, ◌||◌, List, [], ◌∷◌, length, drop, map, refl, ap, sym, ◌∙◌, Ok, Option, Some, None}
+use Rattle.std.specs.Prelude.{option_map, unwrap_or}
+use Rattle.std.specs.Option.{is_some}
+use Rattle.c_spec.specs.declared.token.Keyword.{Keyword}
+use Rattle.c_spec.specs.Lexical.{Placed, Token}
+use Rattle.c_tree_spec.specs.Expression as tree
+use Rattle.c_grammar_spec.specs.declared.Role.{Role}
+use Rattle.c_grammar_spec.specs.declared.Role.TheVariants.{Nothing}
+use Rattle.c_grammar_spec.specs.Leaves.{plain}
+use Rattle.c_grammar_spec.specs.Expressions.{both}
+use Rattle.exact_read.specs.Reading.{Outcome}
+use Rattle.exact_read.specs.Grammar.{read_map}
+use Rattle.read_loop.specs.Going.{Going}
+use Rattle.read_loop.proofs.Loops.{going-start, going-step, going-end, going-same}
+use Rattle.c_expression_reader.specs.Readers.{token, next_is}
+use Rattle.c_expression_reader.specs.Types.{no_storage}
+use Rattle.c_type_reader.specs.Specified.{read_around}
+use Rattle.c_declaration_reader.specs.Around.{LocalWord, LocalConst, LocalStatic, ItemWord, ItemConst, ItemTypedef, ItemExtern, ItemStatic, ItemInline, local_word, item_word, with_local, with_item, word_of, is_word, word_at, storage_of}
+use Rattle.c_parse_word.specs.Words.{first_of, first_with}
+use Rattle.c_parse_word.proofs.Steps.{begins-next}
+use Rattle.c_parse_declaration.specs.declared.around.Position.{Position}
+use Rattle.c_parse_declaration.specs.declared.around.Position.TheVariants.{Local, Item}
+use Rattle.c_parse_declaration.specs.Words.{next_says, summary, read_words}
+
+-- what words say is gathered from the left
+or-same : (a b c : Bool) → (a || (b || c)) ≡ ((a || b) || c)
+or-same true b c = refl
+or-same false b c = refl
+
+or-none : (a : Bool) → (a || false) ≡ a
+or-none true = refl
+or-none false = refl
+
+both-same : (one two three : tree.Storage) → both one (both two three) ≡ both (both one two) three
+both-same one two three =
+    let typedefs : Bool → tree.Storage = λ b. record { is_typedef = b; is_static = one.is_static || (two.is_static || three.is_static) } in
+    let statics : Bool → tree.Storage = λ b. record { is_typedef = (one.is_typedef || two.is_typedef) || three.is_typedef; is_static = b } in
+    ap typedefs (or-same one.is_typedef two.is_typedef three.is_typedef) ∙ ap statics (or-same one.is_static two.is_static three.is_static)
+
+both-none : (one : tree.Storage) → both one no_storage ≡ one
+both-none one =
+    let typedefs : Bool → tree.Storage = λ b. record { is_typedef = b; is_static = one.is_static || false } in
+    let statics : Bool → tree.Storage = λ b. record { is_typedef = one.is_typedef; is_static = b } in
+    ap typedefs (or-none one.is_typedef) ∙ ap statics (or-none one.is_static)
+
+first-place : (first : Option ℕ) (place : ℕ) (places : List ℕ) → first_with first (place ∷ places) ≡ first_with (Some (unwrap_or first place)) places
+first-place None place places = refl
+first-place (Some other) place places = refl
+
+first-alone : (first : Option ℕ) → first_with first [] ≡ first
+first-alone None = refl
+first-alone (Some place) = refl
+
+-- words of a class are being read, behind those that said this
+abbrev gathered : {W : Type 0} → (with : W → tree.Storage → tree.Storage) → tree.Storage → Option ℕ → List (W × ℕ) → tree.Storage × Option ℕ
+gathered with storage first words = (both storage (storage_of with words), first_with first (map (λ word. word.1) words))
+
+abbrev Gathering : {W : Type 0} → (of : Keyword → Option W) → (with : W → tree.Storage → tree.Storage) → (whole : Outcome Placed Role (tree.Storage × Option ℕ)) → tree.Storage → Option ℕ → List Placed → Type 0
+Gathering of with whole storage first rest = Going (λ (_ : Unit {0}) next. is_word of next.token) (λ _. token Nothing plain (word_at of)) (λ _ _. tt {0}) whole (λ words last. Ok (gathered with storage first words, last)) (tt {0}) rest
+
+gathering-start : {W : Type 0} (of : Keyword → Option W) (with : W → tree.Storage → tree.Storage) (tokens : List Placed) → Gathering of with (read_map (summary with) (read_around (word_at of) (is_word of)) tokens) no_storage None tokens
+gathering-start of with tokens = going-start
+
+-- what the next token says, of a class
+abbrev next_of : {W : Type 0} → (of : Keyword → Option W) → (with : W → tree.Storage → tree.Storage) → List Placed → Option (tree.Storage × ℕ)
+next_of of with [] = None
+next_of of with (next ∷ rest) = option_map (λ said. (said, next.offset)) (option_map (λ word. with word no_storage) (word_of of next.token))
+
+next-local : (tokens : List Placed) → next_says Local tokens ≡ next_of local_word with_local tokens
+next-local [] = refl
+next-local (next ∷ rest) = refl
+
+next-item : (tokens : List Placed) → next_says Item tokens ≡ next_of item_word with_item tokens
+next-item [] = refl
+next-item (next ∷ rest) = refl
+
+next-word : {W : Type 0} (of : Keyword → Option W) (with : W → tree.Storage → tree.Storage) (said : tree.Storage) (place : ℕ) (tokens : List Placed) → next_of of with tokens ≡ Some (said, place)
+    → (word : W) × (token Nothing plain (word_at of) tokens ≡ Ok ((word, place), drop 1 tokens)) × (next_is (is_word of) tokens ≡ true) × (with word no_storage ≡ said)
+next-word of with said place [] e = absurd (cc)
+next-word {W} of with said place (next ∷ rest) e = by_word (word_of of next.token) refl e
+  where
+    by_word : (found : Option W) → word_of of next.token ≡ found → option_map {U = tree.Storage × ℕ} (λ s. (s, next.offset)) (option_map (λ w. with w no_storage) found) ≡ Some (said, place)
+        → (word : W) × (token Nothing plain (word_at of) (next ∷ rest) ≡ Ok ((word, place), rest)) × (is_word of next.token ≡ true) × (with word no_storage ≡ said)
+    by_word None is h = absurd (cc)
+    by_word (Some word) is h =
+        let parts : (with word no_storage, next.offset) ≡ (said, place) = ap (λ o. unwrap_or o (said, place)) h in
+        (word, rw is (ap (λ (p : tree.Storage × ℕ). Ok ((word, p.1), rest)) parts), ap is_some is, ap (λ (p : tree.Storage × ℕ). p.0) parts)
+
+gathering-step : {W : Type 0} (of : Keyword → Option W) (with : W → tree.Storage → tree.Storage) → ((word : W) (storage : tree.Storage) → with word storage ≡ both (with word no_storage) storage) → (whole : Outcome Placed Role (tree.Storage × Option ℕ)) (storage said : tree.Storage) (first : Option ℕ) (place : ℕ) (tokens : List Placed)
+    → Gathering of with whole storage first tokens → next_of of with tokens ≡ Some (said, place) → length (drop 1 tokens) < length tokens → Gathering of with whole (both storage said) (Some (unwrap_or first place)) (drop 1 tokens)
+gathering-step {W} of with law whole storage said first place tokens going e less =
+    let next = next-word of with said place tokens e in
+    let places : List (W × ℕ) → List ℕ = map (λ word. word.1) in
+    let same : (words : List (W × ℕ)) → gathered with storage first ((next.0, place) ∷ words) ≡ gathered with (both storage said) (Some (unwrap_or first place)) words =
+    λ words.
+    ap (λ s. (both storage s, first_with first (place ∷ places words))) (law next.0 (storage_of with words))
+    ∙ ap (λ s. (both storage (both s (storage_of with words)), first_with first (place ∷ places words))) next.3
+    ∙ ap (λ s. (s, first_with first (place ∷ places words))) (both-same storage said (storage_of with words))
+    ∙ ap (λ f. (both (both storage said) (storage_of with words), f)) (first-place first place (places words)) in
+    going-same (λ words last. Ok (gathered with storage first ((next.0, place) ∷ words), last)) (λ words last. Ok (gathered with (both storage said) (Some (unwrap_or first place)) words, last)) (λ words last. ap (λ made. Ok (made, last)) (same words))
+    (going-step going (begins-next (λ (_ : Unit {0}). is_word of) (tt {0}) tokens ∙ next.2) (next.0, place) (drop 1 tokens) next.1 less)
+
+no-word : {W : Type 0} (of : Keyword → Option W) (with : W → tree.Storage → tree.Storage) (tokens : List Placed) → next_of of with tokens ≡ None → next_is (is_word of) tokens ≡ false
+no-word of with [] e = refl
+no-word {W} of with (next ∷ rest) e = by_word (word_of of next.token) e
+  where
+    by_word : (word : Option W) → option_map {U = tree.Storage × ℕ} (λ said. (said, next.offset)) (option_map (λ w. with w no_storage) word) ≡ None → is_some word ≡ false
+    by_word None h = refl
+    by_word (Some word) h = absurd (cc)
+
+gathering-end : {W : Type 0} (of : Keyword → Option W) (with : W → tree.Storage → tree.Storage) (whole : Outcome Placed Role (tree.Storage × Option ℕ)) (storage : tree.Storage) (first : Option ℕ) (tokens : List Placed) → Gathering of with whole storage first tokens → next_of of with tokens ≡ None → whole ≡ Ok ((storage, first), tokens)
+gathering-end of with whole storage first tokens going e =
+    going-end going (begins-next (λ (_ : Unit {0}). is_word of) (tt {0}) tokens ∙ no-word of with tokens e)
+    ∙ ap (λ s. Ok ((s, first_with first []), tokens)) (both-none storage) ∙ ap (λ f. Ok ((storage, f), tokens)) (first-alone first)
+
+-- the same of the words of locals, and of items
+pub Words : Position → (whole : Outcome Placed Role (tree.Storage × Option ℕ)) → tree.Storage → Option ℕ → List Placed → Type 0
+Words Local = Gathering local_word with_local
+Words Item = Gathering item_word with_item
+
+local-law : (word : LocalWord) (storage : tree.Storage) → with_local word storage ≡ both (with_local word no_storage) storage
+local-law LocalConst storage = refl
+local-law LocalStatic storage = refl
+
+item-law : (word : ItemWord) (storage : tree.Storage) → with_item word storage ≡ both (with_item word no_storage) storage
+item-law ItemConst storage = refl
+item-law ItemTypedef storage = refl
+item-law ItemExtern storage = refl
+item-law ItemStatic storage = refl
+item-law ItemInline storage = refl
+
+pub words-start : (position : Position) (tokens : List Placed) → Words position (read_words position tokens) no_storage None tokens
+unfolding Words
+words-start Local tokens = gathering-start local_word with_local tokens
+words-start Item tokens = gathering-start item_word with_item tokens
+
+pub words-step : (position : Position) (whole : Outcome Placed Role (tree.Storage × Option ℕ)) (storage said : tree.Storage) (first : Option ℕ) (place : ℕ) (tokens : List Placed) → Words position whole storage first tokens → next_says position tokens ≡ Some (said, place) → length (drop 1 tokens) < length tokens
+    → Words position whole (both storage said) (Some (unwrap_or first place)) (drop 1 tokens)
+unfolding Words
+words-step Local whole storage said first place tokens going e less = gathering-step local_word with_local local-law whole storage said first place tokens going (sym (next-local tokens) ∙ e) less
+words-step Item whole storage said first place tokens going e less = gathering-step item_word with_item item-law whole storage said first place tokens going (sym (next-item tokens) ∙ e) less
+
+pub words-end : (position : Position) (whole : Outcome Placed Role (tree.Storage × Option ℕ)) (storage : tree.Storage) (first : Option ℕ) (tokens : List Placed) → Words position whole storage first tokens → next_says position tokens ≡ None → whole ≡ Ok ((storage, first), tokens)
+unfolding Words
+words-end Local whole storage first tokens going e = gathering-end local_word with_local whole storage first tokens going (sym (next-local tokens) ∙ e)
+words-end Item whole storage first tokens going e = gathering-end item_word with_item whole storage first tokens going (sym (next-item tokens) ∙ e)

@@ -1,0 +1,69 @@
+-- The tree of each statement, by the trees of what stands in it.
+use Rattle.std.proofs.Common.{◌≡◌, ℕ, map, ap, sym, ◌∙◌, Option, Vec}
+use Rattle.std.specs.Option.{option_map}
+use Rattle.std.specs.declared.alloc.Global.{Global}
+use Rattle.std.specs.declared.boxed.Box.{Box}
+use Rattle.c_tree_spec.specs.Unit as tree
+use Rattle.c_syntax.specs.declared.expression.Expression.{Expression}
+use Rattle.c_syntax.specs.declared.simple.Simple.{Simple}
+use Rattle.c_syntax.specs.declared.simple.Value.{Value}
+use Rattle.c_syntax.specs.Expressions.{expression_of}
+use Rattle.c_syntax.specs.Simples.{value_of, simple_of}
+use Rattle.c_unit_syntax.specs.declared.statement.ForStart.{ForStart}
+use Rattle.c_unit_syntax.specs.declared.statement.Statement.{Statement, fold-roll-Statement}
+use Rattle.c_unit_syntax.specs.declared.statement.Part.TheOpen as layer
+use Rattle.c_unit_syntax.specs.declared.statement.Statement.TheVariants as made
+use Rattle.c_unit_syntax.specs.declared.statement.Part.{Part}
+use Rattle.c_unit_syntax.specs.declared.statement.Group.{Group}
+use Rattle.c_unit_syntax.specs.Locals.{start_of}
+use Rattle.c_unit_syntax.specs.Statements.{statement_of, part_of, group_of, parts_of, groups_of, part_step, statement_step, group_step}
+
+pub Block-view : (parts : Vec Part Global) (place : ℕ) → statement_of (made.Block parts place) ≡ tree.Block (parts_of (map part_of parts.items)) place
+unfolding statement_of part_of group_of
+Block-view parts place = ap statement_of (sym (made.rolls-Block parts place)) ∙ fold-roll-Statement _ _ _ part_step statement_step group_step (layer.Block parts place)
+
+pub Empty-view : (place : ℕ) → statement_of (made.Empty place) ≡ tree.Empty place
+unfolding statement_of part_of group_of
+Empty-view place = ap statement_of (sym (made.rolls-Empty place)) ∙ fold-roll-Statement _ _ _ part_step statement_step group_step (layer.Empty place)
+
+pub Perform-view : (simple : Simple) → statement_of (made.Perform simple) ≡ tree.Perform (simple_of simple)
+unfolding statement_of part_of group_of
+Perform-view simple = ap statement_of (sym (made.rolls-Perform simple)) ∙ fold-roll-Statement _ _ _ part_step statement_step group_step (layer.Perform simple)
+
+pub Break-view : (place : ℕ) → statement_of (made.Break place) ≡ tree.Break place
+unfolding statement_of part_of group_of
+Break-view place = ap statement_of (sym (made.rolls-Break place)) ∙ fold-roll-Statement _ _ _ part_step statement_step group_step (layer.Break place)
+
+pub Continue-view : (place : ℕ) → statement_of (made.Continue place) ≡ tree.Continue place
+unfolding statement_of part_of group_of
+Continue-view place = ap statement_of (sym (made.rolls-Continue place)) ∙ fold-roll-Statement _ _ _ part_step statement_step group_step (layer.Continue place)
+
+pub Return-view : (value : Option Value) (place : ℕ) → statement_of (made.Return value place) ≡ tree.Return (option_map value_of value) place
+unfolding statement_of part_of group_of
+Return-view value place = ap statement_of (sym (made.rolls-Return value place)) ∙ fold-roll-Statement _ _ _ part_step statement_step group_step (layer.Return value place)
+
+pub If-view : (test : Expression) (body : Box Statement Global) (place : ℕ) → statement_of (made.If test body place) ≡ tree.If (expression_of test) (statement_of body.value) place
+unfolding statement_of part_of group_of
+If-view test body place = ap statement_of (sym (made.rolls-If test body place)) ∙ fold-roll-Statement _ _ _ part_step statement_step group_step (layer.If test body place)
+
+pub IfElse-view : (test : Expression) (body : Box Statement Global) (otherwise : Box Statement Global) (place : ℕ) → statement_of (made.IfElse test body otherwise place) ≡ tree.IfElse (expression_of test) (statement_of body.value) (statement_of otherwise.value) place
+unfolding statement_of part_of group_of
+IfElse-view test body otherwise place = ap statement_of (sym (made.rolls-IfElse test body otherwise place)) ∙ fold-roll-Statement _ _ _ part_step statement_step group_step (layer.IfElse test body otherwise place)
+
+pub While-view : (test : Expression) (body : Box Statement Global) (place : ℕ) → statement_of (made.While test body place) ≡ tree.While (expression_of test) (statement_of body.value) place
+unfolding statement_of part_of group_of
+While-view test body place = ap statement_of (sym (made.rolls-While test body place)) ∙ fold-roll-Statement _ _ _ part_step statement_step group_step (layer.While test body place)
+
+pub Do-view : (body : Box Statement Global) (test : Expression) (place : ℕ) → statement_of (made.Do body test place) ≡ tree.Do (statement_of body.value) (expression_of test) place
+unfolding statement_of part_of group_of
+Do-view body test place = ap statement_of (sym (made.rolls-Do body test place)) ∙ fold-roll-Statement _ _ _ part_step statement_step group_step (layer.Do body test place)
+
+pub For-view : (start : ForStart) (test : Option Expression) (step : Option Simple) (body : Box Statement Global) (place : ℕ) → statement_of (made.For start test step body place) ≡ tree.For (start_of start) (option_map expression_of test) (option_map simple_of step) (statement_of body.value) place
+unfolding statement_of part_of group_of
+For-view start test step body place = ap statement_of (sym (made.rolls-For start test step body place)) ∙ fold-roll-Statement _ _ _ part_step statement_step group_step (layer.For start test step body place)
+
+pub Switch-view : (test : Expression) (groups : Vec Group Global) (place : ℕ) → statement_of (made.Switch test groups place) ≡ tree.Switch (expression_of test) (groups_of (map group_of groups.items)) place
+unfolding statement_of part_of group_of
+Switch-view test groups place = ap statement_of (sym (made.rolls-Switch test groups place)) ∙ fold-roll-Statement _ _ _ part_step statement_step group_step (layer.Switch test groups place)
+
+pub ruleset views = (Block-view, Empty-view, Perform-view, Break-view, Continue-view, Return-view, If-view, IfElse-view, While-view, Do-view, For-view, Switch-view)

@@ -1,0 +1,27 @@
+-- The tree of a declaration of locals, and of what else stands in a statement, without the program's pointers.
+use Rattle.std.specs.Prelude.{map}
+use Rattle.std.specs.Option.{option_map}
+use Rattle.c_tree_spec.specs.Unit as tree
+use Rattle.c_syntax.specs.Expressions.{expression_of, specifiers_of, declarator_of}
+use Rattle.c_syntax.specs.Simples.{value_of, simple_of}
+use Rattle.c_unit_syntax.specs.declared.statement.Local.{Local}
+use Rattle.c_unit_syntax.specs.declared.statement.Locals.{Locals}
+use Rattle.c_unit_syntax.specs.declared.statement.ForStart.{ForStart}
+use Rattle.c_unit_syntax.specs.declared.statement.ForStart.TheVariants as start
+use Rattle.c_unit_syntax.specs.declared.statement.Label.{Label}
+use Rattle.c_unit_syntax.specs.declared.statement.Label.TheVariants as label
+
+abbrev pub local_of : Local → tree.Local
+local_of local = record { declarator = declarator_of local.declarator; value = option_map value_of local.value }
+
+abbrev pub locals_of : Locals → tree.Locals
+locals_of locals = record { specifiers = specifiers_of locals.specifiers; locals = map local_of locals.locals.items }
+
+abbrev pub start_of : ForStart → tree.ForStart
+start_of start.Empty = tree.StartsEmpty
+start_of (start.Locals locals) = tree.StartsLocals (locals_of locals)
+start_of (start.Simple simple) = tree.StartsSimple (simple_of simple)
+
+abbrev pub label_of : Label → tree.Label
+label_of (label.Case value place) = tree.Case (expression_of value) place
+label_of (label.Default place) = tree.Default place

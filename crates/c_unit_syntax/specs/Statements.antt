@@ -1,0 +1,58 @@
+-- The tree of a statement without the program's pointers.
+use Rattle.std.specs.Prelude.{List, [], ◌∷◌, map}
+use Rattle.std.specs.Option.{option_map}
+use Rattle.c_tree_spec.specs.Unit as tree
+use Rattle.c_syntax.specs.Expressions.{expression_of}
+use Rattle.c_syntax.specs.Simples.{value_of, simple_of}
+use Rattle.c_unit_syntax.specs.declared.statement.Statement.{Statement, Statement-F, fold-Statement}
+use Rattle.c_unit_syntax.specs.declared.statement.Part.{Part, Part-F, fold-Part}
+use Rattle.c_unit_syntax.specs.declared.statement.Part.TheOpen as open_tree
+use Rattle.c_unit_syntax.specs.declared.statement.Group.{Group, Group-F, fold-Group}
+use Rattle.c_unit_syntax.specs.Locals.{locals_of, start_of, label_of}
+
+-- what stands in a block, alone
+pub data Piece : Type 0 where
+  Declares : (locals : tree.Locals) → Piece
+  States : (statement : tree.Statement) → Piece
+
+-- lists of the program, and of the tree
+abbrev pub parts_of : List Piece → tree.Parts
+parts_of [] = tree.no_parts
+parts_of (Declares locals ∷ rest) = tree.parts_local locals (parts_of rest)
+parts_of (States statement ∷ rest) = tree.parts_statement statement (parts_of rest)
+
+abbrev pub groups_of : List (List tree.Label × tree.Parts) → tree.Groups
+groups_of [] = tree.no_groups
+groups_of (group ∷ rest) = tree.groups group.0 group.1 (groups_of rest)
+
+-- one level, with what stands inside already seen as its tree
+abbrev pub part_step : Part-F Piece tree.Statement (List tree.Label × tree.Parts) → Piece
+part_step (open_tree.Locals locals) = Declares (locals_of locals)
+part_step (open_tree.Statement statement) = States statement
+
+abbrev pub statement_step : Statement-F Piece tree.Statement (List tree.Label × tree.Parts) → tree.Statement
+statement_step (open_tree.Block parts place) = tree.Block (parts_of parts.items) place
+statement_step (open_tree.Empty place) = tree.Empty place
+statement_step (open_tree.Perform simple) = tree.Perform (simple_of simple)
+statement_step (open_tree.Break place) = tree.Break place
+statement_step (open_tree.Continue place) = tree.Continue place
+statement_step (open_tree.Return value place) = tree.Return (option_map value_of value) place
+statement_step (open_tree.If test body place) = tree.If (expression_of test) body.value place
+statement_step (open_tree.IfElse test body otherwise place) = tree.IfElse (expression_of test) body.value otherwise.value place
+statement_step (open_tree.While test body place) = tree.While (expression_of test) body.value place
+statement_step (open_tree.Do body test place) = tree.Do body.value (expression_of test) place
+statement_step (open_tree.For start test step body place) =
+    tree.For (start_of start) (option_map expression_of test) (option_map simple_of step) body.value place
+statement_step (open_tree.Switch test groups place) = tree.Switch (expression_of test) (groups_of groups.items) place
+
+abbrev pub group_step : Group-F Piece tree.Statement (List tree.Label × tree.Parts) → List tree.Label × tree.Parts
+group_step group = (map label_of group.labels.items, parts_of group.parts.items)
+
+unfoldable pub statement_of : Statement → tree.Statement
+statement_of = fold-Statement Piece tree.Statement (List tree.Label × tree.Parts) part_step statement_step group_step
+
+unfoldable pub part_of : Part → Piece
+part_of = fold-Part Piece tree.Statement (List tree.Label × tree.Parts) part_step statement_step group_step
+
+unfoldable pub group_of : Group → List tree.Label × tree.Parts
+group_of = fold-Group Piece tree.Statement (List tree.Label × tree.Parts) part_step statement_step group_step

@@ -1,0 +1,13 @@
+//! Tests of files and code: images, layouts, what functions reach, the terms of instructions, and graphs.
+#![tactic(auto)]
+
+#[cfg(test)]
+mod code;
+#[cfg(test)]
+mod graphs;
+#[cfg(test)]
+mod images;
+#[cfg(test)]
+mod layouts;
+#[cfg(test)]
+mod terms;
