@@ -9,33 +9,21 @@ bits again and again: that a product, a quotient or a chain of sums is another w
 often its clauses were made, their variables and their number, seconds for making them once, and the peak of memory.
 """
 
-import tempfile
-from pathlib import Path
-
-from probe import built, timed
+from probe import measure, timed
 
 CRATES = ["term_spec", "term_bank", "cnf_core", "bit_blast"]
 
 PROBE = r"""//! Makes the clauses of a goal: its arguments are which operator, how many of them in a chain, and how often.
 #![tactic(auto)]
 
+mod numbers;
+
 use bit_blast::blast;
+use numbers::argument;
 use std::alloc::{AllocError, Global};
 use std::env;
 use term_bank::{Bank, TermId, TermNode};
 use term_spec::{Atom, BinaryOperator, Family, Sort, Variable, Width, WordOperator};
-
-fn number(text: &str) -> usize {
-    let mut n: usize = 0;
-    for b in text.bytes() {
-        let digit = match b {
-            b'0'..=b'9' => b - b'0',
-            _ => 0,
-        };
-        n = n.wrapping_mul(10).wrapping_add(usize::from(digit));
-    }
-    n
-}
 
 fn open(bank: &mut Bank, index: usize) -> Result<TermId, AllocError> {
     bank.add(TermNode::Leaf(Atom::Open(Variable {
@@ -80,13 +68,6 @@ fn clauses(alloc: Global, bank: &Bank, goal: TermId) -> Result<(usize, usize), A
     Err(AllocError)
 }
 
-fn argument(words: &[String], place: usize) -> usize {
-    match words.get(place) {
-        Some(word) => number(word.as_str()),
-        None => 0,
-    }
-}
-
 fn main(rt: HostRuntime) -> anyhow::Result<()> {
     let words: Vec<String> = env::args(&rt)?.collect(rt.alloc())?;
     let kind = argument(words.as_slice(), 1);
@@ -107,15 +88,12 @@ fn main(rt: HostRuntime) -> anyhow::Result<()> {
 ROWS = [("a product", 0, 1, 100), ("a quotient", 1, 1, 20), ("a chain of 1,000 sums", 2, 1000, 10), ("a chain of 10,000 sums", 2, 10000, 1)]
 
 
-def main():
-    with tempfile.TemporaryDirectory() as folder:
-        program = built(Path(folder), PROBE, CRATES)
-        print("| Goal | Times | Variables | Clauses | Seconds each | Peak MiB |\n|---|---|---|---|---|---|")
-        for name, kind, chain, times in ROWS:
-            counts, seconds, peak = timed(program, (kind, chain, times))
-            variables, clauses = counts.split()
-            print(f"| {name} | {times} | {variables} | {clauses} | {seconds / times:.4f} | {peak:.1f} |", flush=True)
+def rows(program):
+    for name, kind, chain, times in ROWS:
+        counts, seconds, peak = timed(program, (kind, chain, times))
+        variables, clauses = counts.split()
+        yield name, times, variables, clauses, f"{seconds / times:.4f}", f"{peak:.1f}"
 
 
 if __name__ == "__main__":
-    main()
+    measure(PROBE, CRATES, ["Goal", "Times", "Variables", "Clauses", "Seconds each", "Peak MiB"], rows)
