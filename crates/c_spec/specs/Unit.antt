@@ -51,7 +51,7 @@ pub record IsC (text : List ℕ) (unit : Unit) : Type 0 where
 abbrev pub bodies : Unit → List (List ℕ)
 bodies unit = unit.name ∷ []
 
--- the text is refused for this reason, at this offset
+-- this is a reason to refuse the text, at this offset: a text without tokens is of no form either
 abbrev pub IsRefusedSource : (text : List ℕ) → SourceKind → (offset : ℕ) → Type 0
 IsRefusedSource text (token_fault kind) offset = IsTokenFault text kind offset
 IsRefusedSource text Later offset = (offset ≡ 0) × ((unit : Unit) → IsC text unit → ⊥)

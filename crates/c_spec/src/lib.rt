@@ -13,7 +13,7 @@ pub mod token;
 pub enum SourceKind {
     /// The text has no tokens.
     Token(token::TokenFaultKind),
-    /// The text has tokens, and is not of the one form that is read so far.
+    /// The text is not of the one form that is read so far.
     Later,
 }
 

@@ -1,5 +1,5 @@
 -- Logs of steps: each adds a clause that follows from those before it.
-use Rattle.std.specs.Prelude.{◌≡◌, ℕ, List, [], ◌∷◌, ◌++◌, map, Contains}
+use Rattle.std.specs.Prelude.{◌≡◌, ℕ, List, [], ◌∷◌, ◌++◌}
 use Rattle.clause_spec.specs.declared.Literal.{Literal}
 use Rattle.clause_spec.specs.Clause.{Clause, Cnf}
 use Rattle.clause_spec.specs.Step.{outcome, Follows}
@@ -15,7 +15,10 @@ pub data AllFollow (variables : ℕ) : List Clause → List Step → Type 0 wher
   some : (clauses : List Clause) (step : Step) (rest : List Step) → outcome variables clauses step.literals step.hints ≡ Follows
       → AllFollow variables (clauses ++ step.literals ∷ []) rest → AllFollow variables clauses (step ∷ rest)
 
--- the steps show that nothing meets the clauses: each follows, and one has no literal
+-- the steps show that nothing meets the clauses: each follows, and the last has no literal
 pub record Refutes (cnf : Cnf) (steps : List Step) : Type 0 where
   pub follows : AllFollow cnf.variables cnf.clauses steps
-  pub closes : Contains (map (λ s. s.literals) steps) []
+  pub front : List Step
+  pub last : Step
+  pub ends : steps ≡ front ++ last ∷ []
+  pub closes : last.literals ≡ []

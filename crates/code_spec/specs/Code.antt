@@ -147,6 +147,16 @@ pub data Reaches (image : Image) (entry : ℕ) : ℕ → Type 0 where
   further : (middle size target : ℕ) → Reaches image entry middle → size_at image middle ≡ Some size → CallsOn image middle size target
       → Reaches image entry target
 
+-- a cycle of calls is reached: a function that is reached calls back to one that reaches it
+pub record IsCyclic (image : Image) (entry : ℕ) : Type 0 where
+  pub other : ℕ
+  pub reached : Reaches image entry other
+  pub last : ℕ
+  pub onward : Reaches image other last
+  pub size : ℕ
+  pub size_is : size_at image last ≡ Some size
+  pub back : CallsOn image last size other
+
 -- by how much `addi x2, x2, imm` lowers the stack pointer
 abbrev pub opening_of : Option Instr → ℕ
 opening_of (Some (Immediate Add rd source (negsuc n))) = if (rd == 2) && (source == 2) then suc n else 0

@@ -2,8 +2,8 @@
 use Rattle.std.proofs.Common.{◌≡◌, ◌⊎◌, ◌+◌, ℕ, refl, sym, subst, inl, inr}
 use Rattle.std.specs.Prelude.{Option, Some, None, Result, Ok, Err, IfOk, IfSome}
 use Rattle.elf_spec.specs.Image.{Image, size_at}
-use Rattle.code_spec.specs.Code.{CallsOn, Reaches, itself, further, IsStack, deep}
-use Rattle.decompile.specs.Found.{IsCyclic, IsDepth}
+use Rattle.code_spec.specs.Code.{CallsOn, Reaches, itself, further, IsStack, IsCyclic, deep}
+use Rattle.decompile.specs.Found.{IsDepth}
 
 -- the function calls another one, from which a third is reached
 record Front (image : Image) (entry other : ℕ) : Type 0 where

@@ -6,14 +6,14 @@ use Rattle.std.proofs.lemmas.List.{append-nil, reverse-append, length-append, le
 use Rattle.std.proofs.lemmas.List.Folds.{list_any_at}
 use Rattle.std.proofs.lemmas.List.Elements.{Contains-append_cases, Contains-append_right}
 use Rattle.elf_spec.specs.Image.{Image, size_at}
-use Rattle.code_spec.specs.Code.{AreReachable, CallsOn, Reaches, IsStack, deep, IsGreatest, opening_of, instr_at}
+use Rattle.code_spec.specs.Code.{AreReachable, CallsOn, Reaches, IsStack, IsCyclic, deep, IsGreatest, opening_of, instr_at}
 use Rattle.code_spec.specs.Code as code
 use Rattle.code_spec.specs.Faults.{CallsDirectly, ReachesDirectly, itself, further, ReachesNoFault, HasNoFault}
 use Rattle.code_spec.proofs.Direct.{reachable-direct, direct-reachable, calls-direct, direct-calls, reaches-direct, each_without}
 use Rattle.decompile.specs.Growth.{Grows}
 use Rattle.decompile.specs.Surveys.{CallsOut}
 use Rattle.decompile.specs.Stacks.{Known, known_or_zero, AreCalls, IsTotal, IsEntered}
-use Rattle.decompile.specs.Found.{IsCyclic, IsDepth}
+use Rattle.decompile.specs.Found.{IsDepth}
 use Rattle.decompile.specs.declared.stacks.Task.{Task}
 use Rattle.decompile.specs.declared.stacks.Task.TheVariants.{Enter, Leave}
 use Rattle.decompile.proofs.Growing.{none_contained, only_contained}

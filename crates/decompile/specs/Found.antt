@@ -3,7 +3,7 @@ use Rattle.std.specs.Prelude.{◌≡◌, ◌↔◌, ℕ, List, map, All, Contain
 use Rattle.std.specs.List.Sorted.{IsStrictlyIncreasing}
 use Rattle.elf_spec.specs.Image.{Image, size_at}
 use Rattle.code_spec.specs.declared.CodeKind.{CodeKind}
-use Rattle.code_spec.specs.Code.{AreReachable, CallsOn, Reaches, IsStack}
+use Rattle.code_spec.specs.Code.{AreReachable, Reaches, IsStack, IsCyclic}
 use Rattle.code_spec.specs.Faults.{word_at, IsFunctionFault, HasNoFault, IsReachFault, ReachesNoFault, IsFirst}
 use Rattle.decompile.specs.declared.faults.CodeError.{CodeError}
 use Rattle.decompile.specs.declared.faults.CodeError.TheVariants.{Fault, NoMemory}
@@ -37,16 +37,6 @@ pub record IsReach (image : Image) (entry : ℕ) (entries : List ℕ) : Type 0 w
 abbrev pub IsReachError : Image → (entry : ℕ) → CodeError → Type 0
 IsReachError image entry (Fault fault) = IsFirst (IsReachFault image entry) fault.kind fault.address
 IsReachError image entry NoMemory = Unit {0}
-
--- a cycle of calls is reached: a function that is reached calls back to one that reaches it
-pub record IsCyclic (image : Image) (entry : ℕ) : Type 0 where
-  pub other : ℕ
-  pub reached : Reaches image entry other
-  pub last : ℕ
-  pub onward : Reaches image other last
-  pub size : ℕ
-  pub size_is : size_at image last ≡ Some size
-  pub back : CallsOn image last size other
 
 -- the stack of the function at an entry; none where a cycle is reached
 abbrev pub IsDepth : Image → (entry : ℕ) → Option ℕ → Type 0

@@ -3,9 +3,9 @@
 ghost use Rattle.std.specs.Prelude.{◌≡◌, ◌↔◌, ◌+◌, ◌<◌, ◌≤◌, ◌^◌, ◌++◌, ◌∷◌, [], length, map, take, sum_by, nat_eq, All, Contains, IfOk, IfErr, OnOk, IsSome, IfSome, Some};
 ghost use Rattle.indexmap.specs.IndexMap.{get};
 ghost use Rattle.elf_spec.specs.Image.{size_at};
-ghost use Rattle.code_spec.specs.Code.{opening_of};
+ghost use Rattle.code_spec.specs.Code.{IsCyclic, opening_of};
 ghost use Rattle.decompile.specs.Growth.{Grows, IsPlace, AreReached};
-ghost use Rattle.decompile.specs.Found.{IsCyclic, IsDepth, IsReachError};
+ghost use Rattle.decompile.specs.Found.{IsDepth, IsReachError};
 ghost use Rattle.code_spec.specs.Faults.{ReachesNoFault};
 ghost use Rattle.decompile.specs.Stacks.{AreCalls, IsDeepest, IsTotal, IsEntered, opening_at};
 

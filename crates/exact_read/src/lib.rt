@@ -29,6 +29,7 @@
 //! | one word of a table, where words may begin alike and none begins another | `read_one_of` | `OneOf` | `exact-one_of` |
 //! | items with a separator between them | `read_separated` | `Separated` | `exact-separated` |
 //! | the same, with a separator behind the last item or none | `read_list` | `Listed` | `exact-list` |
+//! | a part, and items behind it that are taken into its value from the left | `read_folded` | `Folded` | `exact-folded` |
 //! | another way to say the texts, the reader or the test at entry | | | `exact-same` |
 //! | a whole input | `read_whole` | `IsWhole`, `IsWrongAt` | `exact-whole` |
 //!

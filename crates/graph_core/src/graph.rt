@@ -59,7 +59,7 @@ pub enum Node {
 pub struct Graph {
     /// Its nodes; a node's number is its place.
     pub nodes: Vec<Node>,
-    /// The node at which a run begins, a landing node.
+    /// The node at which a run begins.
     pub entry: usize,
 }
 

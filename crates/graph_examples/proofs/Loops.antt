@@ -27,7 +27,7 @@ endless_pair w runs safe x y start n = inl (record {
 
 pub start_of : (binary source : Walk ℕ) (x : ℕ) → ((n : ℕ) → IsSafe source [] n x) → IsStart (frame_of binary source) any_state x x
 start_of binary source x safe = record {
-  premise = same x;
+  premise = λ address. same x;
   is_fine = tt;
   binary_kept = λ n. no_bounds binary n x;
   source_kept = λ n. no_bounds source n x;
@@ -54,7 +54,7 @@ countdown_agrees n x = record {
 }
 
 pub countdowns_agree : Simulates (frame_of countdown countdown) any_state
-countdowns_agree x y start n = inl (subst (λ (z : ℕ). Agree (frame_of countdown countdown) n x z) (eqb-true x y start.premise) (countdown_agrees n x))
+countdowns_agree x y start n = inl (subst (λ (z : ℕ). Agree (frame_of countdown countdown) n x z) (eqb-true x y (start.premise 0)) (countdown_agrees n x))
 
 pub endless_agree : Simulates (frame_of endless endless) any_state
 endless_agree = endless_pair endless (λ n. refl) (λ x y start n k less runs. refl)

@@ -16,7 +16,7 @@ abbrev pub frame_of : Walk ℕ → Walk ℕ → Frame ℕ ℕ
 frame_of binary source = record {
   binary = binary;
   source = source;
-  premise = λ x y. x == y;
+  premise = λ address x y. x == y;
   returns = λ address x y. true;
   goals = [];
   binary_bounds = [];

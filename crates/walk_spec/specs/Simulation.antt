@@ -21,7 +21,7 @@ module _ (A C : Type 0) where
   pub record Frame : Type 0 where
     pub binary : Walk A
     pub source : Walk C
-    pub premise : A → C → Bool
+    pub premise : ℕ → A → C → Bool
     pub returns : ℕ → A → C → Bool
     pub goals : List Goal
     pub binary_bounds : List Mark
@@ -65,7 +65,7 @@ module _ {A C : Type 0} where
   -- the states of which a simulation speaks: the premise holds, the source's state is fine, both runs keep the
   -- bounds, and the source's does not fail before its stop
   pub record IsStart (f : Frame A C) (fine : C → Type 0) (x : A) (y : C) : Type 0 where
-    pub premise : f.premise x y ≡ true
+    pub premise : IsRelated f.premise x y
     pub is_fine : fine y
     pub binary_kept : (n : ℕ) → KeepsBounds f.binary (binary_marks f) f.binary_bounds n x
     pub source_kept : (n : ℕ) → KeepsBounds f.source (source_marks f) f.source_bounds n y
