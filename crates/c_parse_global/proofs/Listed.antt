@@ -1,5 +1,5 @@
 -- The loop over parts with `,` between them.
-use Rattle.std.proofs.Common.{◌≡◌, ℕ, ◌<◌, Bool, true, false, List, [], ◌∷◌, ◌++◌, length, refl, ap, sym, ◌∙◌, subst, Ok, Err}
+use Rattle.std.proofs.Common.{◌≡◌, ℕ, ◌<◌, true, false, List, [], ◌∷◌, ◌++◌, length, refl, ap, sym, ◌∙◌, subst, Ok, Err}
 use Rattle.std.proofs.lemmas.List.{append_assoc, append-nil}
 use Rattle.c_spec.specs.declared.token.Punctuator.{Punctuator}
 use Rattle.c_spec.specs.declared.token.Punctuator.TheVariants as punctuator

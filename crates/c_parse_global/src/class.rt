@@ -1,7 +1,8 @@
 //! Readers of one token where a declarator stands in an item, and what is awaited behind a parameter.
 
-ghost use Rattle.std.specs.Prelude.{◌≡◌, IfOk, IfErr, Ok, length, suc};
+ghost use Rattle.std.specs.Prelude.{◌≡◌, IfOk, IfErr, Ok, false, length, suc};
 ghost use Rattle.c_grammar_spec.specs.declared.Role.TheVariants.{Nothing, DeclaredName};
+ghost use Rattle.c_grammar_spec.specs.Expressions.{is_type_name};
 ghost use Rattle.c_grammar_spec.specs.Leaves.{awaited, plain};
 ghost use Rattle.c_expression_reader.specs.Readers.{token, next_is};
 ghost use Rattle.c_expression_reader.specs.Types.{plain_name_at};
@@ -58,6 +59,7 @@ pub fn declared_name<'t>(
 ) -> Result<Name<'t>, ParseError<'t, 't>>
     ensures found { IfOk result (λ x. token DeclaredName (awaited DeclaredName) (plain_name_at (names_of names.now)) (list_of tokens.old.rest.now) ≡ Ok (name_of x, list_of tokens.new.rest.now)) }
     ensures shorter { IfOk result (λ _. length tokens.old.rest.now ≡ suc (length tokens.new.rest.now)) }
+    ensures fresh { IfOk result (λ x. is_type_name (names_of names.now) x.spelling.now ≡ false) }
     ensures fault { IfErr result (λ e. IsErrorOf (token DeclaredName (awaited DeclaredName) (plain_name_at (names_of names.now)) (list_of tokens.old.rest.now)) e) }
 {
     let [first, rest @ ..] = tokens.rest else {

@@ -1,6 +1,8 @@
 //! Declarators in items (6.7.6, 6.9).
 
-ghost use Rattle.std.specs.Prelude.{◌≡◌, ◌<◌, IfOk, IfErr, Ok, length};
+ghost use Rattle.std.specs.Prelude.{◌≡◌, ◌<◌, IfOk, IfErr, Ok, false, length};
+ghost use Rattle.c_grammar_spec.specs.Expressions.{is_type_name};
+ghost use Rattle.c_grammar_spec.specs.Units.{name_of_global};
 ghost use Rattle.c_global_reader.specs.Parameters as parameters;
 ghost use Rattle.c_syntax.specs.Names.{name_of};
 ghost use Rattle.c_unit_syntax.specs.Units.{function_of, global_of};
@@ -33,6 +35,7 @@ fn function<'t, 'n, I: Fn(&'t [Token<'t>], Wanted, usize, usize) -> Outcome<'t>>
     requires exact { IsExact (inside inner.now.names.now inner.now.turns) (I.post inner.now.read) }
     ensures found { IfOk result (λ x. parameters.read_function (names_of inner.now.names.now) (inside inner.now.names.now inner.now.turns) 0 pointers (name_of name.entry) (list_of tokens.old.rest.now) ≡ Ok (function_of x, list_of tokens.new.rest.now)) }
     ensures shorter { IfOk result (λ _. length tokens.new.rest.now < length tokens.old.rest.now) }
+    ensures named { IfOk result (λ x. x.name ≡ name.entry) }
     ensures fault { IfErr result (λ e. IsErrorOf (parameters.read_function (names_of inner.now.names.now) (inside inner.now.names.now inner.now.turns) 0 pointers (name_of name.entry) (list_of tokens.old.rest.now)) e) }
 {
     tokens.counted(Punctuator::LeftParenthesis, 1, 0)?;
@@ -44,7 +47,7 @@ fn function<'t, 'n, I: Fn(&'t [Token<'t>], Wanted, usize, usize) -> Outcome<'t>>
     })
 }
 
-/// A declarator in an item, with `typedef` or without: with it there is no function's.
+/// A declarator in an item, with `typedef` or without: with it there is no function's. Its name is none of a type.
 pub fn global<'t, 'n, I: Fn(&'t [Token<'t>], Wanted, usize, usize) -> Outcome<'t>>(
     alloc: Global,
     tokens: &mut Tokens<'t, 't>,
@@ -55,6 +58,7 @@ pub fn global<'t, 'n, I: Fn(&'t [Token<'t>], Wanted, usize, usize) -> Outcome<'t
     requires exact { IsExact (inside inner.now.names.now inner.now.turns) (I.post inner.now.read) }
     ensures found { IfOk result (λ x. parameters.read_global (names_of inner.now.names.now) (inside inner.now.names.now inner.now.turns) is_typedef (list_of tokens.old.rest.now) ≡ Ok (global_of x, list_of tokens.new.rest.now)) }
     ensures shorter { IfOk result (λ _. length tokens.new.rest.now < length tokens.old.rest.now) }
+    ensures fresh { IfOk result (λ x. is_type_name (names_of inner.now.names.now) (name_of_global (global_of x)) ≡ false) }
     ensures fault { IfErr result (λ e. IsErrorOf (parameters.read_global (names_of inner.now.names.now) (inside inner.now.names.now inner.now.turns) is_typedef (list_of tokens.old.rest.now)) e) }
 {
     let pointers = pointer(tokens);

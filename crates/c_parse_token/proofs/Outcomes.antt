@@ -1,5 +1,5 @@
 -- An error of a part is one of the whole.
-use Rattle.std.proofs.Common.{◌≡◌, ap, Ok, Err}
+use Rattle.std.proofs.Common.{ap}
 use Rattle.c_spec.specs.Lexical.{Placed}
 use Rattle.c_grammar_spec.specs.declared.Role.{Role}
 use Rattle.exact_read.specs.Reading.{Outcome, Reader}

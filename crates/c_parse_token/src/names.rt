@@ -1,48 +1,42 @@
 //! Names of types.
 
-ghost use Rattle.std.specs.Prelude.{◌≡◌, ◌∷◌, ◌++◌, [], IfOk, map, bytes_eq};
-ghost use Rattle.std.specs.List.{list_any};
+ghost use Rattle.std.specs.Prelude.{◌≡◌, [], IfOk};
 ghost use Rattle.c_grammar_spec.specs.Expressions.{is_type_name};
+ghost use Rattle.c_parse_token.specs.Lists.{names_of, with_name};
 
+use indexmap::IndexSet;
 use std::alloc::{AllocError, Global};
 
 /// The names of types that are in force.
 #[derive(Drop)]
 pub struct TypeNames<'a> {
     /// In the order in which they came into force.
-    pub names: Vec<&'a [u8]>,
+    pub names: IndexSet<&'a [u8]>,
 }
 
 impl<'a> TypeNames<'a> {
     /// No names.
+    #[tactic(auto, unfolding(crate::specs::Lists::names_of))]
     pub fn new(alloc: Global) -> TypeNames<'a>
-        ensures { result.names.items ≡ [] }
+        ensures { names_of result ≡ [] }
     {
         TypeNames {
-            names: Vec::new(alloc),
+            names: IndexSet::new(alloc),
         }
     }
 
-    /// Puts a name in force.
+    /// Puts a name in force, which changes nothing where it is in force already.
     pub fn add(&mut self, name: &'a [u8]) -> Result<(), AllocError>
-        ensures { IfOk result (λ _. self.new.names.items ≡ self.old.names.items ++ name.entry ∷ []) }
+        ensures { IfOk result (λ _. names_of self.new ≡ with_name name.now (names_of self.old)) }
     {
-        self.names.push(name)?;
+        self.names.insert(name)?;
         Ok(())
     }
 
     /// The name is one of a type.
-    #[tactic(auto, using(crate::proofs::Named::named))]
     pub fn contains(&self, spelling: &[u8]) -> bool
-        ensures { result ≡ is_type_name (map (λ name. name.now) self.now.names.items) spelling.now }
+        ensures { result ≡ is_type_name (names_of self.now) spelling.now }
     {
-        lists(self.names.as_slice(), spelling)
+        self.names.contains(spelling)
     }
-}
-
-// One of the names is this.
-fn lists(names: &[&[u8]], spelling: &[u8]) -> bool
-    ensures { result ≡ list_any (λ name. bytes_eq name.now spelling.now) names.now }
-{
-    names.iter().any(|name| *name == spelling)
 }

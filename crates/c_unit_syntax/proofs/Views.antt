@@ -26,7 +26,7 @@ pub Empty-view : (place : ℕ) → statement_of (made.Empty place) ≡ tree.Empt
 unfolding statement_of part_of group_of
 Empty-view place = ap statement_of (sym (made.rolls-Empty place)) ∙ fold-roll-Statement _ _ _ part_step statement_step group_step (layer.Empty place)
 
-pub Perform-view : (simple : Simple) → statement_of (made.Perform simple) ≡ tree.Perform (simple_of simple)
+pub Perform-view : (simple : Box Simple Global) → statement_of (made.Perform simple) ≡ tree.Perform (simple_of simple.value)
 unfolding statement_of part_of group_of
 Perform-view simple = ap statement_of (sym (made.rolls-Perform simple)) ∙ fold-roll-Statement _ _ _ part_step statement_step group_step (layer.Perform simple)
 
@@ -38,31 +38,31 @@ pub Continue-view : (place : ℕ) → statement_of (made.Continue place) ≡ tre
 unfolding statement_of part_of group_of
 Continue-view place = ap statement_of (sym (made.rolls-Continue place)) ∙ fold-roll-Statement _ _ _ part_step statement_step group_step (layer.Continue place)
 
-pub Return-view : (value : Option Value) (place : ℕ) → statement_of (made.Return value place) ≡ tree.Return (option_map value_of value) place
+pub Return-view : (value : Option (Box Value Global)) (place : ℕ) → statement_of (made.Return value place) ≡ tree.Return (option_map (λ x. value_of x.value) value) place
 unfolding statement_of part_of group_of
 Return-view value place = ap statement_of (sym (made.rolls-Return value place)) ∙ fold-roll-Statement _ _ _ part_step statement_step group_step (layer.Return value place)
 
-pub If-view : (test : Expression) (body : Box Statement Global) (place : ℕ) → statement_of (made.If test body place) ≡ tree.If (expression_of test) (statement_of body.value) place
+pub If-view : (test : Box Expression Global) (body : Box Statement Global) (place : ℕ) → statement_of (made.If test body place) ≡ tree.If (expression_of test.value) (statement_of body.value) place
 unfolding statement_of part_of group_of
 If-view test body place = ap statement_of (sym (made.rolls-If test body place)) ∙ fold-roll-Statement _ _ _ part_step statement_step group_step (layer.If test body place)
 
-pub IfElse-view : (test : Expression) (body : Box Statement Global) (otherwise : Box Statement Global) (place : ℕ) → statement_of (made.IfElse test body otherwise place) ≡ tree.IfElse (expression_of test) (statement_of body.value) (statement_of otherwise.value) place
+pub IfElse-view : (test : Box Expression Global) (body : Box Statement Global) (otherwise : Box Statement Global) (place : ℕ) → statement_of (made.IfElse test body otherwise place) ≡ tree.IfElse (expression_of test.value) (statement_of body.value) (statement_of otherwise.value) place
 unfolding statement_of part_of group_of
 IfElse-view test body otherwise place = ap statement_of (sym (made.rolls-IfElse test body otherwise place)) ∙ fold-roll-Statement _ _ _ part_step statement_step group_step (layer.IfElse test body otherwise place)
 
-pub While-view : (test : Expression) (body : Box Statement Global) (place : ℕ) → statement_of (made.While test body place) ≡ tree.While (expression_of test) (statement_of body.value) place
+pub While-view : (test : Box Expression Global) (body : Box Statement Global) (place : ℕ) → statement_of (made.While test body place) ≡ tree.While (expression_of test.value) (statement_of body.value) place
 unfolding statement_of part_of group_of
 While-view test body place = ap statement_of (sym (made.rolls-While test body place)) ∙ fold-roll-Statement _ _ _ part_step statement_step group_step (layer.While test body place)
 
-pub Do-view : (body : Box Statement Global) (test : Expression) (place : ℕ) → statement_of (made.Do body test place) ≡ tree.Do (statement_of body.value) (expression_of test) place
+pub Do-view : (body : Box Statement Global) (test : Box Expression Global) (place : ℕ) → statement_of (made.Do body test place) ≡ tree.Do (statement_of body.value) (expression_of test.value) place
 unfolding statement_of part_of group_of
 Do-view body test place = ap statement_of (sym (made.rolls-Do body test place)) ∙ fold-roll-Statement _ _ _ part_step statement_step group_step (layer.Do body test place)
 
-pub For-view : (start : ForStart) (test : Option Expression) (step : Option Simple) (body : Box Statement Global) (place : ℕ) → statement_of (made.For start test step body place) ≡ tree.For (start_of start) (option_map expression_of test) (option_map simple_of step) (statement_of body.value) place
+pub For-view : (start : ForStart) (test : Option (Box Expression Global)) (step : Option (Box Simple Global)) (body : Box Statement Global) (place : ℕ) → statement_of (made.For start test step body place) ≡ tree.For (start_of start) (option_map (λ x. expression_of x.value) test) (option_map (λ x. simple_of x.value) step) (statement_of body.value) place
 unfolding statement_of part_of group_of
 For-view start test step body place = ap statement_of (sym (made.rolls-For start test step body place)) ∙ fold-roll-Statement _ _ _ part_step statement_step group_step (layer.For start test step body place)
 
-pub Switch-view : (test : Expression) (groups : Vec Group Global) (place : ℕ) → statement_of (made.Switch test groups place) ≡ tree.Switch (expression_of test) (groups_of (map group_of groups.items)) place
+pub Switch-view : (test : Box Expression Global) (groups : Vec Group Global) (place : ℕ) → statement_of (made.Switch test groups place) ≡ tree.Switch (expression_of test.value) (groups_of (map group_of groups.items)) place
 unfolding statement_of part_of group_of
 Switch-view test groups place = ap statement_of (sym (made.rolls-Switch test groups place)) ∙ fold-roll-Statement _ _ _ part_step statement_step group_step (layer.Switch test groups place)
 

@@ -19,9 +19,9 @@ locals_of locals = record { specifiers = specifiers_of locals.specifiers; locals
 
 abbrev pub start_of : ForStart → tree.ForStart
 start_of start.Empty = tree.StartsEmpty
-start_of (start.Locals locals) = tree.StartsLocals (locals_of locals)
-start_of (start.Simple simple) = tree.StartsSimple (simple_of simple)
+start_of (start.Locals locals) = tree.StartsLocals (locals_of locals.value)
+start_of (start.Simple simple) = tree.StartsSimple (simple_of simple.value)
 
 abbrev pub label_of : Label → tree.Label
-label_of (label.Case value place) = tree.Case (expression_of value) place
+label_of (label.Case value place) = tree.Case (expression_of value.value) place
 label_of (label.Default place) = tree.Default place

@@ -27,23 +27,23 @@ groups_of (group ∷ rest) = tree.groups group.0 group.1 (groups_of rest)
 
 -- one level, with what stands inside already seen as its tree
 abbrev pub part_step : Part-F Piece tree.Statement (List tree.Label × tree.Parts) → Piece
-part_step (open_tree.Locals locals) = Declares (locals_of locals)
-part_step (open_tree.Statement statement) = States statement
+part_step (open_tree.Locals locals) = Declares (locals_of locals.value)
+part_step (open_tree.Statement statement) = States statement.value
 
 abbrev pub statement_step : Statement-F Piece tree.Statement (List tree.Label × tree.Parts) → tree.Statement
 statement_step (open_tree.Block parts place) = tree.Block (parts_of parts.items) place
 statement_step (open_tree.Empty place) = tree.Empty place
-statement_step (open_tree.Perform simple) = tree.Perform (simple_of simple)
+statement_step (open_tree.Perform simple) = tree.Perform (simple_of simple.value)
 statement_step (open_tree.Break place) = tree.Break place
 statement_step (open_tree.Continue place) = tree.Continue place
-statement_step (open_tree.Return value place) = tree.Return (option_map value_of value) place
-statement_step (open_tree.If test body place) = tree.If (expression_of test) body.value place
-statement_step (open_tree.IfElse test body otherwise place) = tree.IfElse (expression_of test) body.value otherwise.value place
-statement_step (open_tree.While test body place) = tree.While (expression_of test) body.value place
-statement_step (open_tree.Do body test place) = tree.Do body.value (expression_of test) place
+statement_step (open_tree.Return value place) = tree.Return (option_map (λ x. value_of x.value) value) place
+statement_step (open_tree.If test body place) = tree.If (expression_of test.value) body.value place
+statement_step (open_tree.IfElse test body otherwise place) = tree.IfElse (expression_of test.value) body.value otherwise.value place
+statement_step (open_tree.While test body place) = tree.While (expression_of test.value) body.value place
+statement_step (open_tree.Do body test place) = tree.Do body.value (expression_of test.value) place
 statement_step (open_tree.For start test step body place) =
-    tree.For (start_of start) (option_map expression_of test) (option_map simple_of step) body.value place
-statement_step (open_tree.Switch test groups place) = tree.Switch (expression_of test) (groups_of groups.items) place
+    tree.For (start_of start) (option_map (λ x. expression_of x.value) test) (option_map (λ x. simple_of x.value) step) body.value place
+statement_step (open_tree.Switch test groups place) = tree.Switch (expression_of test.value) (groups_of groups.items) place
 
 abbrev pub group_step : Group-F Piece tree.Statement (List tree.Label × tree.Parts) → List tree.Label × tree.Parts
 group_step group = (map label_of group.labels.items, parts_of group.parts.items)

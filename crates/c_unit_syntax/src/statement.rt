@@ -1,6 +1,6 @@
 //! Statements (6.8), and the declarations of locals that stand among them (6.7).
 
-ghost use Rattle.std.specs.Prelude.{◌≡◌, IfOk, map};
+ghost use Rattle.std.specs.Prelude.{◌≡◌, map};
 ghost use Rattle.std.specs.Option.{option_map};
 ghost use Rattle.c_tree_spec.specs.Unit as tree;
 ghost use Rattle.c_syntax.specs.Expressions.{expression_of};
@@ -10,7 +10,6 @@ ghost use Rattle.c_unit_syntax.specs.Statements.{statement_of, parts_of, part_of
 
 use c_syntax::expression::{Declarator, Expression, Specifiers};
 use c_syntax::simple::{Simple, Value};
-use std::alloc::{AllocError, Global};
 
 /// A declared local, and what it begins with.
 #[derive(Drop)]
@@ -36,16 +35,16 @@ pub enum ForStart<'a> {
     /// With nothing.
     Empty,
     /// With a declaration.
-    Locals(Locals<'a>),
+    Locals(Box<Locals<'a>>),
     /// With an expression statement.
-    Simple(Simple<'a>),
+    Simple(Box<Simple<'a>>),
 }
 
 /// A label of a `switch`. The last part is the place of its keyword.
 #[derive(Drop)]
 pub enum Label<'a> {
     /// `case value:`
-    Case(Expression<'a>, usize),
+    Case(Box<Expression<'a>>, usize),
     /// `default:`
     Default(usize),
 }
@@ -59,25 +58,31 @@ pub enum Statement<'a> {
     /// `;`
     Empty(usize),
     /// An expression statement.
-    Perform(Simple<'a>),
+    Perform(Box<Simple<'a>>),
     /// `break;`
     Break(usize),
     /// `continue;`
     Continue(usize),
     /// `return;`, `return value;`
-    Return(Option<Value<'a>>, usize),
+    Return(Option<Box<Value<'a>>>, usize),
     /// `if (test) body`
-    If(Expression<'a>, Box<Statement<'a>>, usize),
+    If(Box<Expression<'a>>, Box<Statement<'a>>, usize),
     /// `if (test) body else otherwise`
-    IfElse(Expression<'a>, Box<Statement<'a>>, Box<Statement<'a>>, usize),
+    IfElse(Box<Expression<'a>>, Box<Statement<'a>>, Box<Statement<'a>>, usize),
     /// `while (test) body`
-    While(Expression<'a>, Box<Statement<'a>>, usize),
+    While(Box<Expression<'a>>, Box<Statement<'a>>, usize),
     /// `do body while (test);`
-    Do(Box<Statement<'a>>, Expression<'a>, usize),
+    Do(Box<Statement<'a>>, Box<Expression<'a>>, usize),
     /// `for (start; test; step) body`
-    For(ForStart<'a>, Option<Expression<'a>>, Option<Simple<'a>>, Box<Statement<'a>>, usize),
+    For(
+        ForStart<'a>,
+        Option<Box<Expression<'a>>>,
+        Option<Box<Simple<'a>>>,
+        Box<Statement<'a>>,
+        usize,
+    ),
     /// `switch (test) { .. }`
-    Switch(Expression<'a>, Vec<Group<'a>>, usize),
+    Switch(Box<Expression<'a>>, Vec<Group<'a>>, usize),
 }
 
 /// What stands in a block, or in a group of a `switch`.
@@ -85,9 +90,9 @@ pub enum Statement<'a> {
 #[cycle(statements)]
 pub enum Part<'a> {
     /// A declaration of locals.
-    Locals(Locals<'a>),
+    Locals(Box<Locals<'a>>),
     /// A statement.
-    Statement(Statement<'a>),
+    Statement(Box<Statement<'a>>),
 }
 
 /// Labels of a `switch`, one at least, and what stands behind them, one part at least.
@@ -98,13 +103,6 @@ pub struct Group<'a> {
     pub labels: Vec<Label<'a>>,
     /// The parts in order.
     pub parts: Vec<Part<'a>>,
-}
-
-// A statement in memory of its own.
-fn boxed<'a>(alloc: Global, inner: Statement<'a>) -> Result<Box<Statement<'a>>, AllocError>
-    ensures { IfOk result (λ x. x.value ≡ inner.entry) }
-{
-    Ok(Box::new(alloc, inner)?)
 }
 
 #[tactic(auto, using(crate::proofs::Views::views))]
@@ -124,8 +122,8 @@ impl<'a> Statement<'a> {
     }
 
     /// An expression statement.
-    pub fn perform(simple: Simple<'a>) -> Statement<'a>
-        ensures { statement_of result ≡ tree.Perform (simple_of simple.entry) }
+    pub fn perform(simple: Box<Simple<'a>>) -> Statement<'a>
+        ensures { statement_of result ≡ tree.Perform (simple_of simple.entry.value) }
     {
         Statement::Perform(simple)
     }
@@ -145,84 +143,73 @@ impl<'a> Statement<'a> {
     }
 
     /// `return;`, `return value;`
-    pub fn return_at(value: Option<Value<'a>>, place: usize) -> Statement<'a>
-        ensures { statement_of result ≡ tree.Return (option_map value_of value.entry) place }
+    pub fn return_at(value: Option<Box<Value<'a>>>, place: usize) -> Statement<'a>
+        ensures { statement_of result ≡ tree.Return (option_map (λ x. value_of x.value) value.entry) place }
     {
         Statement::Return(value, place)
     }
 
     /// `if (test) body`
     pub fn if_only(
-        alloc: Global,
-        test: Expression<'a>,
-        body: Statement<'a>,
+        test: Box<Expression<'a>>,
+        body: Box<Statement<'a>>,
         place: usize,
-    ) -> Result<Statement<'a>, AllocError>
-        ensures { IfOk result (λ x. statement_of x ≡ tree.If (expression_of test.entry) (statement_of body.entry) place) }
+    ) -> Statement<'a>
+        ensures { statement_of result ≡ tree.If (expression_of test.entry.value) (statement_of body.entry.value) place }
     {
-        let body = boxed(alloc, body)?;
-        Ok(Statement::If(test, body, place))
+        Statement::If(test, body, place)
     }
 
     /// `if (test) body else otherwise`
     pub fn if_else(
-        alloc: Global,
-        test: Expression<'a>,
-        body: Statement<'a>,
-        otherwise: Statement<'a>,
+        test: Box<Expression<'a>>,
+        body: Box<Statement<'a>>,
+        otherwise: Box<Statement<'a>>,
         place: usize,
-    ) -> Result<Statement<'a>, AllocError>
-        ensures { IfOk result (λ x. statement_of x ≡ tree.IfElse (expression_of test.entry) (statement_of body.entry) (statement_of otherwise.entry) place) }
+    ) -> Statement<'a>
+        ensures { statement_of result ≡ tree.IfElse (expression_of test.entry.value) (statement_of body.entry.value) (statement_of otherwise.entry.value) place }
     {
-        let body = boxed(alloc, body)?;
-        let otherwise = boxed(alloc, otherwise)?;
-        Ok(Statement::IfElse(test, body, otherwise, place))
+        Statement::IfElse(test, body, otherwise, place)
     }
 
     /// `while (test) body`
     pub fn while_loop(
-        alloc: Global,
-        test: Expression<'a>,
-        body: Statement<'a>,
+        test: Box<Expression<'a>>,
+        body: Box<Statement<'a>>,
         place: usize,
-    ) -> Result<Statement<'a>, AllocError>
-        ensures { IfOk result (λ x. statement_of x ≡ tree.While (expression_of test.entry) (statement_of body.entry) place) }
+    ) -> Statement<'a>
+        ensures { statement_of result ≡ tree.While (expression_of test.entry.value) (statement_of body.entry.value) place }
     {
-        let body = boxed(alloc, body)?;
-        Ok(Statement::While(test, body, place))
+        Statement::While(test, body, place)
     }
 
     /// `do body while (test);`
     pub fn do_loop(
-        alloc: Global,
-        body: Statement<'a>,
-        test: Expression<'a>,
+        body: Box<Statement<'a>>,
+        test: Box<Expression<'a>>,
         place: usize,
-    ) -> Result<Statement<'a>, AllocError>
-        ensures { IfOk result (λ x. statement_of x ≡ tree.Do (statement_of body.entry) (expression_of test.entry) place) }
+    ) -> Statement<'a>
+        ensures { statement_of result ≡ tree.Do (statement_of body.entry.value) (expression_of test.entry.value) place }
     {
-        let body = boxed(alloc, body)?;
-        Ok(Statement::Do(body, test, place))
+        Statement::Do(body, test, place)
     }
 
     /// `for (start; test; step) body`
     pub fn for_loop(
-        alloc: Global,
         start: ForStart<'a>,
-        test: Option<Expression<'a>>,
-        step: Option<Simple<'a>>,
-        body: Statement<'a>,
+        test: Option<Box<Expression<'a>>>,
+        step: Option<Box<Simple<'a>>>,
+        body: Box<Statement<'a>>,
         place: usize,
-    ) -> Result<Statement<'a>, AllocError>
-        ensures { IfOk result (λ x. statement_of x ≡ tree.For (start_of start.entry) (option_map expression_of test.entry) (option_map simple_of step.entry) (statement_of body.entry) place) }
+    ) -> Statement<'a>
+        ensures { statement_of result ≡ tree.For (start_of start.entry) (option_map (λ x. expression_of x.value) test.entry) (option_map (λ x. simple_of x.value) step.entry) (statement_of body.entry.value) place }
     {
-        let body = boxed(alloc, body)?;
-        Ok(Statement::For(start, test, step, body, place))
+        Statement::For(start, test, step, body, place)
     }
 
     /// `switch (test) { .. }`
-    pub fn switch(test: Expression<'a>, groups: Vec<Group<'a>>, place: usize) -> Statement<'a>
-        ensures { statement_of result ≡ tree.Switch (expression_of test.entry) (groups_of (map group_of groups.entry.items)) place }
+    pub fn switch(test: Box<Expression<'a>>, groups: Vec<Group<'a>>, place: usize) -> Statement<'a>
+        ensures { statement_of result ≡ tree.Switch (expression_of test.entry.value) (groups_of (map group_of groups.entry.items)) place }
     {
         Statement::Switch(test, groups, place)
     }

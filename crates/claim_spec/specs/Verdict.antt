@@ -11,6 +11,10 @@ use Rattle.c_spec.specs.declared.SourceKind.{SourceKind}
 use Rattle.c_spec.specs.declared.SourceKind.TheVariants.{Token, Later as later_source}
 use Rattle.c_spec.specs.declared.token.TokenFaultKind.{TokenFaultKind}
 use Rattle.c_spec.specs.declared.token.TokenFaultKind.TheVariants.{Byte, Number, Character, Comment}
+use Rattle.c_grammar_spec.specs.declared.LeftOut.{LeftOut}
+use Rattle.c_grammar_spec.specs.declared.LeftOut.TheVariants as left_out
+use Rattle.c_grammar_spec.specs.declared.ParseFaultKind.{ParseFaultKind}
+use Rattle.c_grammar_spec.specs.declared.ParseFaultKind.TheVariants.{Unexpected, LeftOut as LeftOutKind, Depth}
 use Rattle.claim_spec.specs.declared.Quantity.{Quantity}
 use Rattle.claim_spec.specs.declared.Quantity.TheVariants.{Elf, C, Functions}
 use Rattle.claim_spec.specs.declared.PairKind.{PairKind}
@@ -29,6 +33,7 @@ pub data Verdict : Type 0 where
   TooLarge : (quantity : Quantity) → Verdict
   RefusedElf : (kind : ElfKind) → (offset : ℕ) → Verdict
   RefusedC : (kind : SourceKind) → (offset : ℕ) → Verdict
+  RefusedSyntax : (kind : ParseFaultKind) → (offset : ℕ) → Verdict
   RefusedPair : (kind : PairKind) → (name : List ℕ) → Verdict
   RefusedCode : (kind : CodeKind) → (name : List ℕ) → (address : ℕ) → Verdict
   Judged : (judgements : List Judgement) → Verdict
@@ -91,6 +96,26 @@ abbrev pub source_word : SourceKind → List ℕ
 source_word (Token kind) = token_word kind
 source_word later_source = codes "Later"
 
+abbrev pub left_out_word : LeftOut → List ℕ
+left_out_word left_out.Goto = codes "Goto"
+left_out_word left_out.Union = codes "Union"
+left_out_word left_out.Float = codes "Float"
+left_out_word left_out.Volatile = codes "Volatile"
+left_out_word left_out.Asm = codes "Asm"
+left_out_word left_out.Variadic = codes "Variadic"
+left_out_word left_out.Bool = codes "Bool"
+left_out_word left_out.Attribute = codes "Attribute"
+left_out_word left_out.Keyword = codes "Keyword"
+left_out_word left_out.FunctionPointer = codes "FunctionPointer"
+left_out_word left_out.BitField = codes "BitField"
+left_out_word left_out.Comma = codes "Comma"
+left_out_word left_out.Call = codes "Call"
+
+abbrev pub syntax_word : ParseFaultKind → List ℕ
+syntax_word Unexpected = codes "Unexpected"
+syntax_word (LeftOutKind part) = codes "LeftOut." ++ left_out_word part
+syntax_word Depth = codes "Depth"
+
 abbrev pub pair_word : PairKind → List ℕ
 pair_word NothingListed = codes "NothingListed"
 pair_word NoSource = codes "NoSource"
@@ -116,6 +141,7 @@ status_of RefusedWords = 2
 status_of (TooLarge quantity) = 7
 status_of (RefusedElf fault offset) = 3
 status_of (RefusedC fault offset) = 3
+status_of (RefusedSyntax fault offset) = 3
 status_of (RefusedPair fault name) = 3
 status_of (RefusedCode fault name address) = 3
 status_of (Judged judgements) = if all_valid judgements then 0 else 1
@@ -142,6 +168,7 @@ report_of RefusedWords = line (codes "refused words")
 report_of (TooLarge quantity) = line (codes "limit " ++ quantity_word quantity ++ codes " " ++ decimal (maximum_of quantity))
 report_of (RefusedElf fault offset) = line (codes "refused elf " ++ elf_word fault ++ codes " at " ++ decimal offset)
 report_of (RefusedC fault offset) = line (codes "refused c " ++ source_word fault ++ codes " at " ++ decimal offset)
+report_of (RefusedSyntax fault offset) = line (codes "refused c " ++ syntax_word fault ++ codes " at " ++ decimal offset)
 report_of (RefusedPair fault name) = line (codes "refused pair " ++ pair_word fault ++ codes " " ++ name)
 report_of (RefusedCode fault name address) =
     line (codes "refused code " ++ code_word fault ++ codes " " ++ name ++ codes " at " ++ encode_lower (to_be_bytes w32 address))

@@ -1,10 +1,11 @@
-ghost use Rattle.std.specs.Prelude.{◌≡◌, IfOk, count_by, flat_map, not};
+ghost use Rattle.std.specs.Prelude.{◌≡◌, ◌++◌, IfOk, OnOk, count_by, flat_map, not};
 ghost use Rattle.claim_spec.specs.Verdict as claim;
 ghost use Rattle.report_text.specs.Judgements.{judgement_of, judgements_of};
 ghost use Rattle.report_text.specs.Verdicts.{verdict_of};
 
 use crate::lines::{push_address, push_decimal};
 use crate::{Judgement, Verdict};
+use c_grammar_spec::{LeftOut, ParseFaultKind};
 use c_spec::SourceKind;
 use c_spec::token::TokenFaultKind;
 use claim_spec::{PairKind, Quantity};
@@ -99,6 +100,53 @@ fn refused_c(alloc: Global, kind: SourceKind, offset: usize) -> Result<Vec<u8>, 
 {
     let mut text = Vec::from_slice(alloc, b"refused c ")?;
     text.extend_from_slice(source_word(kind))?;
+    text.extend_from_slice(b" at ")?;
+    push_decimal(&mut text, offset as u64)?;
+    text.push(b'\n')?;
+    Ok(text)
+}
+
+/// The word of a part of C that is left out.
+fn left_out_word(part: LeftOut) -> &'static [u8]
+    ensures { result.now ≡ claim.left_out_word part }
+{
+    match part {
+        LeftOut::Goto => b"Goto",
+        LeftOut::Union => b"Union",
+        LeftOut::Float => b"Float",
+        LeftOut::Volatile => b"Volatile",
+        LeftOut::Asm => b"Asm",
+        LeftOut::Variadic => b"Variadic",
+        LeftOut::Bool => b"Bool",
+        LeftOut::Attribute => b"Attribute",
+        LeftOut::Keyword => b"Keyword",
+        LeftOut::FunctionPointer => b"FunctionPointer",
+        LeftOut::BitField => b"BitField",
+        LeftOut::Comma => b"Comma",
+        LeftOut::Call => b"Call",
+    }
+}
+
+/// The word of a refusal of tokens.
+fn push_syntax_word(text: &mut Vec<u8>, kind: ParseFaultKind) -> Result<(), AllocError>
+    ensures { OnOk result (text.new.items ≡ text.old.items ++ claim.syntax_word kind) }
+{
+    match kind {
+        ParseFaultKind::Unexpected => text.extend_from_slice(b"Unexpected"),
+        ParseFaultKind::LeftOut(part) => {
+            text.extend_from_slice(b"LeftOut.")?;
+            text.extend_from_slice(left_out_word(part))
+        }
+        ParseFaultKind::Depth => text.extend_from_slice(b"Depth"),
+    }
+}
+
+/// `refused c KIND at OFFSET`, of tokens
+fn refused_syntax(alloc: Global, kind: ParseFaultKind, offset: usize) -> Result<Vec<u8>, AllocError>
+    ensures { IfOk result (λ text. text.items ≡ claim.report_of (claim.RefusedSyntax kind offset)) }
+{
+    let mut text = Vec::from_slice(alloc, b"refused c ")?;
+    push_syntax_word(&mut text, kind)?;
     text.extend_from_slice(b" at ")?;
     push_decimal(&mut text, offset as u64)?;
     text.push(b'\n')?;
@@ -240,6 +288,7 @@ pub fn report(alloc: Global, verdict: &Verdict) -> Result<Vec<u8>, AllocError>
         Verdict::TooLarge(quantity) => limit(alloc, *quantity),
         Verdict::RefusedElf { kind, offset } => refused_elf(alloc, *kind, *offset),
         Verdict::RefusedC { kind, offset } => refused_c(alloc, *kind, *offset),
+        Verdict::RefusedSyntax { kind, offset } => refused_syntax(alloc, *kind, *offset),
         Verdict::RefusedPair { kind, name } => refused_pair(alloc, *kind, name.as_slice()),
         Verdict::RefusedCode {
             kind,

@@ -3,6 +3,7 @@ ghost use Rattle.std.specs.List.{list_all};
 ghost use Rattle.claim_spec.specs.Verdict.{status_of};
 ghost use Rattle.report_text.specs.Verdicts.{verdict_of};
 
+use c_grammar_spec::ParseFaultKind;
 use c_spec::SourceKind;
 use claim_spec::{PairKind, Quantity};
 use code_spec::CodeKind;
@@ -32,9 +33,14 @@ pub enum Verdict {
         kind: ElfKind,
         offset: usize,
     },
-    /// The second file is no C source. The offset counts bytes of the file.
+    /// The second file has no tokens, or is not of the form that is read so far. The offset counts bytes of the file.
     RefusedC {
         kind: SourceKind,
+        offset: usize,
+    },
+    /// The tokens of the second file are no unit. The offset counts bytes of the file.
+    RefusedSyntax {
+        kind: ParseFaultKind,
         offset: usize,
     },
     /// The two don't go together, by the function or global of this name.
@@ -69,6 +75,7 @@ pub fn status(verdict: &Verdict) -> u8
         Verdict::TooLarge(_) => 7,
         Verdict::RefusedElf { .. }
         | Verdict::RefusedC { .. }
+        | Verdict::RefusedSyntax { .. }
         | Verdict::RefusedPair { .. }
         | Verdict::RefusedCode { .. } => 3,
         Verdict::Judged(judgements) => { if all_valid(judgements) { 0 } else { 1 } }

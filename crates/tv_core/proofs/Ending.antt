@@ -1,10 +1,10 @@
 -- The validity theorem, from how a run ends.
 use Rattle.std.proofs.Common.{◌≡◌, ◌≢◌, ◌⊎◌, ℕ, Bool, true, false, List, [], ◌∷◌, map, Option, Some, None, refl, arith, sym, ◌∙◌, subst, inl, inr}
 use Rattle.std.specs.Prelude.{if◌then◌else◌}
-use Rattle.claim_spec.specs.Verdict.{Verdict, RefusedWords, TooLarge, RefusedElf, RefusedC, RefusedPair, RefusedCode, Judged, Judgement, status_of, report_of, judgements_text, certificate_of}
+use Rattle.claim_spec.specs.Verdict.{Verdict, RefusedWords, TooLarge, RefusedElf, RefusedC, RefusedSyntax, RefusedPair, RefusedCode, Judged, Judgement, status_of, report_of, judgements_text, certificate_of}
 use Rattle.tv_base.specs.Writing.{Grows}
-use Rattle.tv_words.specs.Commands.{Command, Prove, Proving, IsCommand}
-use Rattle.tv_core.specs.Verdicts.{Judges, elf_refused, no_tokens, c_refused, too_many, nothing_listed, pair_refused, code_refused, judged, IsVerdict, elf_large, c_large, within}
+use Rattle.tv_words.specs.Commands.{Prove, Proving, IsCommand}
+use Rattle.tv_core.specs.Verdicts.{Judges, elf_refused, no_tokens, no_unit, c_refused, too_many, nothing_listed, pair_refused, code_refused, judged, IsVerdict, elf_large, c_large, within}
 use Rattle.tv_core.specs.Ends.{Told, AskFor, IsReached, IsOutcome, no_command, commanded, Becomes, LeavesUnder, certificate_name, EndsWith, EndsValid}
 
 -- what comes of a job, and without one
@@ -32,7 +32,8 @@ one_at_least : (elf c : List ℕ) (functions : Option (List (List ℕ))) (verdic
     → verdict ≡ Judged js → js ≢ []
 one_at_least elf c functions verdict js (elf_refused fault offset h) e = λ empty. cc
 one_at_least elf c functions verdict js (no_tokens image kind offset h k) e = λ empty. cc
-one_at_least elf c functions verdict js (c_refused image tokens kind offset h k l) e = λ empty. cc
+one_at_least elf c functions verdict js (no_unit image kind offset h k) e = λ empty. cc
+one_at_least elf c functions verdict js (c_refused image tree kind offset h k l) e = λ empty. cc
 one_at_least elf c functions verdict js (too_many image unit names h k) e = λ empty. cc
 one_at_least elf c functions verdict js (nothing_listed image unit h) e = λ empty. cc
 one_at_least elf c functions verdict js (pair_refused image unit names kind name h k l m) e = λ empty. cc
@@ -75,6 +76,7 @@ judgements_in RefusedWords zero = absurd (omega arith)
 judgements_in (TooLarge quantity) zero = absurd (omega arith)
 judgements_in (RefusedElf fault offset) zero = absurd (omega arith)
 judgements_in (RefusedC kind offset) zero = absurd (omega arith)
+judgements_in (RefusedSyntax kind offset) zero = absurd (omega arith)
 judgements_in (RefusedPair kind name) zero = absurd (omega arith)
 judgements_in (RefusedCode kind name address) zero = absurd (omega arith)
 judgements_in (Judged js) zero = (js, refl)

@@ -1,5 +1,5 @@
 -- Judgements on the names of a list, one after the other.
-use Rattle.std.proofs.Common.{rules, ◌≡◌, ◌≢◌, ◌<◌, ◌≤◌, ◌+◌, ◌⊎◌, ◌++◌, ℕ, List, [], ◌∷◌, length, get_or, take, drop, map, All, Option, Result, Ok, Err, Some, None, refl, ap, sym, ◌∙◌, subst, append_assoc, take_all, inl, inr, arith}
+use Rattle.std.proofs.Common.{◌≡◌, ◌≢◌, ◌<◌, ◌≤◌, ◌+◌, ◌++◌, ℕ, List, [], ◌∷◌, length, get_or, take, drop, map, All, Option, Result, Ok, Err, Some, None, ap, sym, ◌∙◌, subst, append_assoc, take_all}
 use Rattle.std.specs.Prelude.{IsTrue, IfOk, codes}
 use Rattle.std.proofs.lemmas.List.{take_more, take-append-drop, map-append}
 use Rattle.std.proofs.lemmas.List.Elements.{All-push, All-map}

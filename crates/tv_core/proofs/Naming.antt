@@ -1,13 +1,11 @@
 -- What the symbols and the bodies of a name come to.
 use Rattle.std.proofs.Common.{rules, ◌≡◌, ◌≢◌, ℕ, Bool, true, false, List, [], ◌∷◌, ◌<◌, length, get_or, All, cond, Option, Some, None, refl, ap, sym, ◌∙◌, subst}
-use Rattle.std.specs.Prelude.{◌==◌, ◌||◌, is_some, IsSome, bytes_eq, not, find, if◌then◌else◌}
-use Rattle.std.specs.List.{list_any}
+use Rattle.std.specs.Prelude.{◌==◌, ◌||◌, is_some, bytes_eq, not, find, if◌then◌else◌}
 use Rattle.std.proofs.lemmas.List.Elements.{All-cons, All-get_or}
 use Rattle.std.proofs.lemmas.Slice.Eq.{bytes_eq-Decides}
 use Rattle.elf_spec.specs.Image.{Image, entry_of, function_named, named_of, named_beside, first_of, values_of}
-use Rattle.elf_spec.specs.declared.Named.{Named}
-use Rattle.elf_spec.specs.declared.Named.TheVariants.{Absent, One, Two}
-use Rattle.c_spec.specs.Unit.{Unit, bodies}
+use Rattle.elf_spec.specs.declared.Named.TheVariants.{Absent, One}
+use Rattle.c_spec.specs.Unit.{Unit}
 use Rattle.claim_spec.specs.declared.PairKind.{PairKind}
 use Rattle.claim_spec.specs.declared.PairKind.TheVariants.{NoSource, NoSymbol}
 use Rattle.claim_spec.specs.Verdict.{listed, pair_fault, first_unpaired}

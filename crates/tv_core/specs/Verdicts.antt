@@ -8,7 +8,10 @@ use Rattle.c_spec.specs.Unit.{Unit, IsC, IsRefusedSource}
 use Rattle.c_spec.specs.declared.SourceKind.{SourceKind}
 use Rattle.c_spec.specs.declared.SourceKind.TheVariants.{Token}
 use Rattle.c_spec.specs.declared.token.TokenFaultKind.{TokenFaultKind}
-use Rattle.c_spec.specs.Lexical.{Placed, AreTokens, IsTokenFault}
+use Rattle.c_spec.specs.Lexical.{IsTokenFault}
+use Rattle.c_tree_spec.specs.Unit.{TranslationUnit}
+use Rattle.c_grammar_spec.specs.declared.ParseFaultKind.{ParseFaultKind}
+use Rattle.c_grammar_spec.specs.Source.{HasTree, IsParseFault}
 use Rattle.claim_spec.specs.declared.Quantity.TheVariants.{Elf, C, Functions}
 use Rattle.claim_spec.specs.declared.PairKind.{PairKind}
 use Rattle.claim_spec.specs.declared.PairKind.TheVariants.{NothingListed}
@@ -17,12 +20,13 @@ use Rattle.code_spec.specs.declared.CodeKind.TheVariants.{Ambiguous}
 use Rattle.code_spec.specs.Code.{IsStack}
 use Rattle.code_spec.specs.Faults.{IsReachFault, ReachesNoFault, IsFirst}
 use Rattle.claim_spec.specs.Claim.{IsValid}
-use Rattle.claim_spec.specs.Verdict.{Verdict, TooLarge, RefusedElf, RefusedC, RefusedPair, RefusedCode, Judged, Judgement, names_of, pair_fault, first_unpaired, maximum_of}
+use Rattle.claim_spec.specs.Verdict.{Verdict, TooLarge, RefusedElf, RefusedC, RefusedSyntax, RefusedPair, RefusedCode, Judged, Judgement, names_of, pair_fault, first_unpaired, maximum_of}
 use Rattle.straight_code.specs.Straight.{crooked_at}
 use Rattle.straight_code.specs.Decision.{accepts}
 
-abbrev pub HasTokens : List ℕ → Type 0
-HasTokens text = (tokens : List Placed) × AreTokens text tokens
+-- the text is a unit of the grammar
+abbrev pub IsInGrammar : List ℕ → Type 0
+IsInGrammar text = (tree : TranslationUnit) × HasTree text tree
 
 -- ---- code
 
@@ -67,7 +71,7 @@ pub record IsJudgement (image : Image) (unit : Unit) (judgement : Judgement) : T
 -- both files are accepted, and these names are to be validated
 pub record Lists (elf c : List ℕ) (functions : Option (List (List ℕ))) (image : Image) (unit : Unit) (names : List (List ℕ)) : Type 0 where
   pub is_elf : IsElf elf image
-  pub has_tokens : HasTokens c
+  pub in_grammar : IsInGrammar c
   pub is_c : IsC c unit
   pub listed : names ≡ names_of functions image unit
 
@@ -83,7 +87,9 @@ pub data Judges (elf c : List ℕ) (functions : Option (List (List ℕ))) : Verd
   elf_refused : (kind : ElfKind) (offset : ℕ) → IsRefusedFile elf kind offset → Judges elf c functions (RefusedElf kind offset)
   no_tokens : (image : Image) (kind : TokenFaultKind) (offset : ℕ) → IsElf elf image → IsTokenFault c kind offset
       → Judges elf c functions (RefusedC (Token kind) offset)
-  c_refused : (image : Image) (tokens : List Placed) (kind : SourceKind) (offset : ℕ) → IsElf elf image → AreTokens c tokens
+  no_unit : (image : Image) (kind : ParseFaultKind) (offset : ℕ) → IsElf elf image → IsParseFault c kind offset
+      → Judges elf c functions (RefusedSyntax kind offset)
+  c_refused : (image : Image) (tree : TranslationUnit) (kind : SourceKind) (offset : ℕ) → IsElf elf image → HasTree c tree
       → IsRefusedSource c kind offset → Judges elf c functions (RefusedC kind offset)
   too_many : (image : Image) (unit : Unit) (names : List (List ℕ)) → Lists elf c functions image unit names
       → maximum_of Functions < length names → Judges elf c functions (TooLarge Functions)

@@ -6,13 +6,17 @@ ghost use Rattle.thin_source.specs.Refused.{IsFaultOf};
 ghost use Rattle.tv_base.specs.declared.faults.OutsideFault.TheVariants.{NoMemory};
 ghost use Rattle.report_text.specs.Verdicts.{verdict_of};
 ghost use Rattle.tv_words.specs.Jobs.{proving_of};
-ghost use Rattle.tv_core.specs.Verdicts.{HasTokens, Judges, IsSound};
+ghost use Rattle.tv_core.specs.Verdicts.{IsInGrammar, Judges, IsSound};
+ghost use Rattle.c_spec.specs.Lexical.{AreTokens};
+ghost use Rattle.c_parse_token.specs.Lists.{list_of};
+ghost use Rattle.c_parse.specs.Refused as syntax;
 ghost use Rattle.c_token.specs.Refused as token;
 
 use crate::functions::judge_names;
 use crate::listing::names;
+use c_parse::{ParseError, parse};
 use c_spec::SourceKind;
-use c_token::{TokenError, tokens};
+use c_token::{Token, TokenError, tokens};
 use elf_read::ElfError;
 use report_text::Verdict;
 use std::alloc::Global;
@@ -39,6 +43,10 @@ pub(crate) fn judge(
         Ok(lexed) => lexed,
         Err(error) => return without_tokens(error),
     };
+    match parse(alloc, lexed.as_slice()) {
+        Ok(tree) => drop(tree),
+        Err(error) => return without_unit(error, lexed.as_slice(), source),
+    }
     drop(lexed);
     let unit = match thin_source::read(alloc, source) {
         Ok(unit) => unit,
@@ -64,6 +72,25 @@ fn without_tokens(error: TokenError) -> Result<Verdict, OutsideFault>
     }
 }
 
+/// The verdict where there is an image and the tokens of the source are no unit.
+fn without_unit(
+    error: ParseError,
+    tokens: &[Token<'_>],
+    source: &[u8],
+) -> Result<Verdict, OutsideFault>
+    ensures exact { (elf : List ℕ) (functions : Option (List (List ℕ))) (image : elf_image) → IsElf elf image → AreTokens source.now (list_of tokens.now) → syntax.IsFaultOf (list_of tokens.now) error → IfOk result (λ verdict. Judges elf source.now functions (verdict_of verdict)) }
+    ensures sound { (elf c : List ℕ) (functions : Option (List (List ℕ))) → IfOk result (λ verdict. IsSound elf c functions (verdict_of verdict)) }
+    ensures memory { OnErr result (IsErrOf result NoMemory) }
+{
+    match error {
+        ParseError::Fault(fault) => Ok(Verdict::RefusedSyntax {
+            kind: fault.kind,
+            offset: fault.offset(tokens, source.len()),
+        }),
+        ParseError::NoMemory => Err(OutsideFault::NoMemory),
+    }
+}
+
 /// The verdict where there is no image.
 fn refused_elf(error: ElfError) -> Result<Verdict, OutsideFault>
     ensures exact { (elf c : List ℕ) (functions : Option (List (List ℕ))) → file.IsRefusal elf error → IfOk result (λ verdict. Judges elf c functions (verdict_of verdict)) }
@@ -81,7 +108,7 @@ fn refused_elf(error: ElfError) -> Result<Verdict, OutsideFault>
 
 /// The verdict where there is an image and no unit.
 fn refused_source(error: SourceError) -> Result<Verdict, OutsideFault>
-    ensures exact { (elf c : List ℕ) (functions : Option (List (List ℕ))) (image : elf_image) → IsElf elf image → HasTokens c → IsFaultOf c error → IfOk result (λ verdict. Judges elf c functions (verdict_of verdict)) }
+    ensures exact { (elf c : List ℕ) (functions : Option (List (List ℕ))) (image : elf_image) → IsElf elf image → IsInGrammar c → IsFaultOf c error → IfOk result (λ verdict. Judges elf c functions (verdict_of verdict)) }
     ensures sound { (elf c : List ℕ) (functions : Option (List (List ℕ))) → IfOk result (λ verdict. IsSound elf c functions (verdict_of verdict)) }
     ensures memory { OnErr result (IsErrOf result NoMemory) }
 {

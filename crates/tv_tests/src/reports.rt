@@ -1,5 +1,6 @@
 //! What is written of each outcome.
 
+use c_grammar_spec::{LeftOut, ParseFaultKind};
 use c_spec::SourceKind;
 use claim_spec::{PairKind, Quantity};
 use code_spec::CodeKind;
@@ -48,6 +49,14 @@ fn reports_each_outcome(rt: HostRuntime) -> Result<(), Fail> {
             },
             3,
             "refused c Later at 120\n",
+        ),
+        (
+            Verdict::RefusedSyntax {
+                kind: ParseFaultKind::LeftOut(LeftOut::Goto),
+                offset: 12,
+            },
+            3,
+            "refused c LeftOut.Goto at 12\n",
         ),
         (
             Verdict::RefusedPair {

@@ -317,6 +317,51 @@ fn answers_each_pair(rt: HostRuntime) -> Result<(), Fail> {
     Ok(())
 }
 
+// Texts that are refused, and the report: a name in brackets is declared; a statement is left out; two texts end in a
+// function, and one goes on behind it; a quotation mark stands behind the statement that is left out; there is no text.
+const TEXTS: [(&[u8], &[u8]); 7] = [
+    (
+        b"int (*p)(int);",
+        b"refused c LeftOut.FunctionPointer at 4\n",
+    ),
+    (b"int f(void){goto a;}", b"refused c LeftOut.Goto at 12\n"),
+    (
+        b"unsigned f(unsigned a,unsigned b){return a+b;",
+        b"refused c Unexpected at 45\n",
+    ),
+    (b"int f(void){return 0 ", b"refused c Unexpected at 21\n"),
+    (
+        b"unsigned f(unsigned a,unsigned b){return a+b;}}",
+        b"refused c Unexpected at 46\n",
+    ),
+    (b"int f(void){goto a;}\"", b"refused c Byte at 20\n"),
+    (b"", b"refused c Later at 0\n"),
+];
+
+#[test]
+fn refuses_a_text_by_its_first_fault(rt: HostRuntime) -> Result<(), Fail> {
+    for (source, report) in TEXTS {
+        let end = run_in_memory(rt.alloc(), COMMAND, &ADD_TWO_ARGUMENTS, source, &NONE)?;
+        assert!(rt; is_end(&end, 3, report, b"", [0, 0, 0]), "{end:?}");
+    }
+    Ok(())
+}
+
+#[test]
+fn refuses_too_many_open_brackets(rt: HostRuntime) -> Result<(), Fail> {
+    let source = padded(rt.alloc(), b"int x=", b'(', 135)?;
+    let end = run_in_memory(
+        rt.alloc(),
+        COMMAND,
+        &ADD_TWO_ARGUMENTS,
+        source.as_slice(),
+        &NONE,
+    )?;
+    let report = b"refused c Depth at 134\n";
+    assert!(rt; is_end(&end, 3, report, b"", [0, 0, 0]), "{end:?}");
+    Ok(())
+}
+
 /// The executable with other words of code, another size of `f`, and a second symbol behind it.
 fn of_two_symbols(
     alloc: Global,

@@ -1,4 +1,4 @@
-use Rattle.std.proofs.Common.{arith, ◌≡◌, ◌<◌, ◌∙◌, sym, ap, map, ◌++◌, ◌∷◌, [], length, refl}
+use Rattle.std.proofs.Common.{arith, ◌<◌, ◌∙◌, sym, ap, map, ◌++◌, ◌∷◌, [], length}
 use Rattle.std.proofs.lemmas.List.{map-append}
 use Rattle.c_spec.specs.declared.token.Punctuator.TheVariants as punctuator
 use Rattle.exact_read.specs.Grammar.{read_nothing}

@@ -1,5 +1,4 @@
-use Rattle.std.proofs.Common.{rules, ◌≡◌, Some, sym, subst}
-use Rattle.std.specs.Prelude.{IsSome}
+use Rattle.std.proofs.Common.{rules}
 use Rattle.elf_spec.proofs.Functions.{entry_has_size}
 use Rattle.tv_core.specs.Verdicts.{ambiguous, of_reach}
 use Rattle.tv_core.proofs.Naming.{one_entry}

@@ -3,7 +3,7 @@ use Rattle.std.specs.Prelude.{option_map}
 use Rattle.std.proofs.lemmas.List.{nil_from_length}
 use Rattle.std.proofs.lemmas.Bool.Decides.{Decides-eqb}
 use Rattle.tv_core.proofs.Naming.{unpaired_faulty}
-use Rattle.tv_core.proofs.Judged.{refused_empty, refused_many, refused_unpaired, paired_pairs}
+use Rattle.tv_core.proofs.Judged.{refused_empty, refused_many, refused_unpaired}
 use Rattle.tv_core.proofs.functions.judge_names.Goals as goal
 
 pub returns-then-is_empty-clause-exact : goal.returns-then-is_empty-clause-exact

@@ -1,5 +1,5 @@
 use Rattle.std.proofs.Common.{rules, sym}
-use Rattle.tv_core.proofs.Naming.{no_source, no_symbol, no_fault}
+use Rattle.tv_core.proofs.Naming.{no_symbol, no_fault}
 use Rattle.tv_core.proofs.listing.pair_fault.Goals as goal
 
 pub returns-then-eq : goal.returns-then-eq

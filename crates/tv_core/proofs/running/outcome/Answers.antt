@@ -1,8 +1,7 @@
-use Rattle.std.proofs.Common.{ap, subst}
+use Rattle.std.proofs.Common.{ap}
 use Rattle.std.specs.Prelude.{option_map}
 use Rattle.report_text.specs.Verdicts.{verdict_of}
 use Rattle.tv_words.specs.Jobs.{proving_of}
-use Rattle.tv_core.specs.Ends.{AskFor, no_command, commanded}
 use Rattle.tv_core.proofs.Ending.{outcome_of_none, outcome_of_some}
 use Rattle.tv_core.proofs.running.outcome.Goals as goal
 

@@ -1,0 +1,94 @@
+//! The syntax of C: what unit tokens are, or their first fault (ISO C11, 6.5 to 6.9).
+//!
+//! [`parse`] has the crate's contract: it gives the tree of a unit exactly where the tokens are one, and else the
+//! fault of the tokens with its kind. Both are defined in `c_grammar_spec`, by the grammar's derivations alone
+//! (`specs/Units.antt`, `specs/Faults.antt`).
+#![tactic(auto)]
+
+ghost use Rattle.std.specs.Prelude.{◌≡◌, IfOk, IfErr, length, drop};
+ghost use Rattle.c_tree_spec.specs.Unit as tree;
+ghost use Rattle.c_grammar_spec.specs.Faults.{IsUnit, offset_of};
+ghost use Rattle.c_unit_syntax.specs.Units.{unit_of};
+ghost use Rattle.c_unit_reader.specs.Units.{read_items};
+ghost use Rattle.c_parse_token.specs.Lists.{list_of, fault_of, IsErrorOf};
+ghost use Rattle.c_parse.specs.Refused.{IsFaultOf, told};
+
+mod kind;
+
+use c_grammar_spec::ParseFaultKind;
+use c_parse_token::{Fault, ParseError as Stopped};
+use c_parse_unit::unit;
+use c_token::Token;
+use c_unit_syntax::unit::TranslationUnit;
+use kind::fault_kind;
+use std::alloc::Global;
+
+/// Where and why tokens are no unit.
+#[derive(Clone, Copy, Debug, PartialEq, Eq)]
+pub struct ParseFault {
+    /// How many tokens stand before the one at fault: all of them, where the end is.
+    pub token: usize,
+    /// Why.
+    pub kind: ParseFaultKind,
+}
+
+/// Why tokens gave no unit.
+#[derive(Clone, Copy, Debug, PartialEq, Eq)]
+pub enum ParseError {
+    /// The tokens are no unit: their first fault.
+    Fault(ParseFault),
+    /// There was no memory.
+    NoMemory,
+}
+
+impl ParseFault {
+    /// The place of the fault in bytes from the front of the text, which has so many.
+    pub fn offset(&self, tokens: &[Token<'_>], end: usize) -> usize
+        ensures { result ≡ offset_of end (drop self.now.token (list_of tokens.now)) }
+    {
+        if self.token < tokens.len() {
+            tokens[self.token].offset
+        } else {
+            end
+        }
+    }
+}
+
+// The kind of the fault at the first of these tokens, or at the end.
+fn kind_of(fault: Fault, rest: &[Token<'_>]) -> ParseFaultKind
+    ensures { result ≡ told (fault_of fault) (list_of rest.now) }
+{
+    match fault {
+        Fault::Deep => ParseFaultKind::Depth,
+        Fault::Wrong(role) => fault_kind(role, rest),
+    }
+}
+
+// The fault where the reader of units stopped.
+fn fault_at(tokens: &[Token<'_>], stopped: Stopped<'_, '_>) -> ParseError
+    requires { IsErrorOf (read_items (list_of tokens.now)) stopped }
+    ensures { IsFaultOf (list_of tokens.now) result }
+{
+    match stopped {
+        Stopped::NoMemory => ParseError::NoMemory,
+        Stopped::At(fault, rest) => {
+            let kind = kind_of(fault, rest);
+            let token = tokens.len().saturating_sub(rest.len());
+            ParseError::Fault(ParseFault { token, kind })
+        }
+    }
+}
+
+/// The unit that the tokens are; or their first fault, which stands at the first token with which those so far
+/// begin no unit, or where too much is open.
+pub fn parse<'t>(alloc: Global, tokens: &'t [Token<'t>]) -> Result<TranslationUnit<'t>, ParseError>
+    ensures found { IfOk result (λ unit. IsUnit (list_of tokens.now) (unit_of unit)) }
+    ensures same { IfOk result (λ unit. (other : tree.TranslationUnit) → IsUnit (list_of tokens.now) other → other ≡ unit_of unit) }
+    ensures fault { IfErr result (λ error. IsFaultOf (list_of tokens.now) error) }
+    ensures only { IfErr result (λ error. (other : tree.TranslationUnit) → IsUnit (list_of tokens.now) other → error ≡ ParseError.NoMemory) }
+{
+    match unit(alloc, tokens) {
+        Ok(read) => Ok(read),
+        Err(stopped) => Err(fault_at(tokens, stopped)),
+    }
+}

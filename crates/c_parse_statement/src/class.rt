@@ -1,0 +1,129 @@
+//! What a token is where a statement is read, and readers of keywords.
+
+ghost use Rattle.std.specs.Prelude.{◌≡◌, ◌≤◌, ◌||◌, not, Bool, IfOk, IfErr, Ok, length, suc};
+ghost use Rattle.c_grammar_spec.specs.declared.Role.TheVariants.{Nothing};
+ghost use Rattle.c_grammar_spec.specs.Leaves.{plain, opens};
+ghost use Rattle.c_expression_reader.specs.Readers.{token, next_is};
+ghost use Rattle.c_statement_reader.specs.Statements as statements;
+ghost use Rattle.c_parse_token.specs.Lists.{list_of, IsErrorOf};
+ghost use Rattle.c_parse_statement.specs.Pieces.{starts_element};
+ghost use Rattle.c_token.specs.Pieces.{token_of};
+
+use c_grammar_spec::Role;
+use c_parse_token::class::is_mark;
+use c_parse_token::{Fault, ParseError, Tokens};
+use c_spec::token::{Keyword, Punctuator};
+use c_token::Kind;
+
+// How much may be open.
+const MOST: usize = 128;
+
+// The token is this keyword.
+fn is_keyword(kind: Kind<'_>, wanted: Keyword) -> bool
+    ensures { result ≡ statements.is_keyword wanted (token_of kind.entry) }
+{
+    match kind {
+        Kind::Word(word) => word == wanted,
+        _ => false,
+    }
+}
+
+// The token begins a label of a `switch`.
+fn begins_label(kind: Kind<'_>) -> bool
+    ensures { result ≡ statements.begins_label (token_of kind.entry) }
+{
+    is_keyword(kind, Keyword::Case) || is_keyword(kind, Keyword::Default)
+}
+
+// No part of a block begins with the token.
+fn ends_parts(kind: Kind<'_>) -> bool
+    ensures { result ≡ statements.ends_parts (token_of kind.entry) }
+{
+    is_mark(kind, Punctuator::RightBrace)
+        || is_keyword(kind, Keyword::Case)
+        || is_keyword(kind, Keyword::Default)
+        || is_keyword(kind, Keyword::Else)
+}
+
+/// The next token is this keyword.
+pub fn next_keyword(tokens: &Tokens<'_, '_>, wanted: Keyword) -> bool
+    ensures { result ≡ next_is (statements.is_keyword wanted) (list_of tokens.now.rest.now) }
+{
+    match tokens.rest {
+        [first, ..] => is_keyword(first.kind, wanted),
+        [] => false,
+    }
+}
+
+/// A part of a block can begin with the next token.
+pub fn starts_part(tokens: &Tokens<'_, '_>) -> bool
+    ensures { result ≡ next_is (λ next. not (statements.ends_parts next)) (list_of tokens.now.rest.now) }
+{
+    match tokens.rest {
+        [first, ..] => !ends_parts(first.kind),
+        [] => false,
+    }
+}
+
+/// The next token begins a label.
+pub fn starts_label(tokens: &Tokens<'_, '_>) -> bool
+    ensures { result ≡ next_is statements.begins_label (list_of tokens.now.rest.now) }
+{
+    match tokens.rest {
+        [first, ..] => begins_label(first.kind),
+        [] => false,
+    }
+}
+
+/// A label or a part begins with the next token.
+pub fn starts_element(tokens: &Tokens<'_, '_>) -> bool
+    ensures { result ≡ next_is starts_element (list_of tokens.now.rest.now) }
+{
+    match tokens.rest {
+        [first, ..] => begins_label(first.kind) || !ends_parts(first.kind),
+        [] => false,
+    }
+}
+
+/// A keyword: its place.
+pub fn keyword<'t>(
+    tokens: &mut Tokens<'t, 't>,
+    wanted: Keyword,
+) -> Result<usize, ParseError<'t, 't>>
+    ensures found { IfOk result (λ x. token Nothing plain (statements.keyword_place wanted) (list_of tokens.old.rest.now) ≡ Ok (x, list_of tokens.new.rest.now)) }
+    ensures shorter { IfOk result (λ _. length tokens.old.rest.now ≡ suc (length tokens.new.rest.now)) }
+    ensures fault { IfErr result (λ e. IsErrorOf (token Nothing plain (statements.keyword_place wanted) (list_of tokens.old.rest.now)) e) }
+{
+    let [first, rest @ ..] = tokens.rest else {
+        return Err(ParseError::At(Fault::Wrong(Role::Nothing), tokens.rest));
+    };
+    if !is_keyword(first.kind, wanted) {
+        return Err(ParseError::At(Fault::Wrong(Role::Nothing), tokens.rest));
+    }
+    tokens.rest = rest;
+    Ok(first.offset)
+}
+
+/// A keyword with which so much is open: its place.
+pub fn opening<'t>(
+    tokens: &mut Tokens<'t, 't>,
+    wanted: Keyword,
+    opened: usize,
+) -> Result<usize, ParseError<'t, 't>>
+    ensures found { IfOk result (λ x. token Nothing (opens opened) (statements.keyword_place wanted) (list_of tokens.old.rest.now) ≡ Ok (x, list_of tokens.new.rest.now)) }
+    ensures within { IfOk result (λ _. opened ≤ 128) }
+    ensures shorter { IfOk result (λ _. length tokens.old.rest.now ≡ suc (length tokens.new.rest.now)) }
+    ensures fault { IfErr result (λ e. IsErrorOf (token Nothing (opens opened) (statements.keyword_place wanted) (list_of tokens.old.rest.now)) e) }
+{
+    let [first, rest @ ..] = tokens.rest else {
+        return Err(ParseError::At(Fault::Wrong(Role::Nothing), tokens.rest));
+    };
+    if !is_keyword(first.kind, wanted) {
+        return Err(ParseError::At(Fault::Wrong(Role::Nothing), tokens.rest));
+    }
+    if MOST < opened {
+        return Err(ParseError::At(Fault::Deep, tokens.rest));
+    }
+    tokens.rest = rest;
+    Ok(first.offset)
+}

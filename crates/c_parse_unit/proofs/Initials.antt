@@ -1,0 +1,152 @@
+-- The loops over designators and over initial values, and braces around these.
+use Rattle.std.proofs.Common.{◌≡◌, ℕ, suc, ◌<◌, true, false, if◌then◌else◌, List, [], ◌∷◌, length, refl, ap, sym, ◌∙◌, subst, Ok, Option, Some, None}
+use Rattle.c_spec.specs.declared.token.Punctuator.TheVariants as punctuator
+use Rattle.c_spec.specs.Lexical.{Placed}
+use Rattle.c_tree_spec.specs.Expression as tree
+use Rattle.c_grammar_spec.specs.declared.Role.{Role}
+use Rattle.c_grammar_spec.specs.declared.Role.TheVariants.{Nothing}
+use Rattle.c_grammar_spec.specs.Leaves.{plain, awaited, opens}
+use Rattle.exact_read.specs.Reading.{Outcome, Reader}
+use Rattle.exact_read.specs.Grammar.{bind, context_after, read_many, read_map}
+use Rattle.read_loop.specs.Going.{begins, Going}
+use Rattle.read_loop.proofs.Loops.{bind-ok, bind-bind, going-start, going-step, going-end}
+use Rattle.c_expression_reader.specs.Classes.{is_mark, mark_place}
+use Rattle.c_expression_reader.specs.Readers.{Readers, token, behind, choose, next_is}
+use Rattle.c_unit_reader.specs.Initializers as initializers
+use Rattle.c_unit_reader.specs.Initializers.{Place, BehindInitial, BehindComma, next_place, end_of_place, end_of_initial, initials_start, begins_initial, begins_designator, read_initials_part, read_designated, read_designator, read_designators}
+use Rattle.c_parse_token.specs.declared.outcome.ParseError.{ParseError}
+use Rattle.c_parse_token.specs.Lists.{IsErrorOf}
+use Rattle.c_parse_word.proofs.Steps.{begins-next}
+use Rattle.c_parse_steps.proofs.Steps.{error-from, going-error}
+use Rattle.c_parse_unit.specs.Behind.{read_initials_behind}
+
+-- designators are being read
+pub Designating : (inner : Readers) → (depth : ℕ) → (whole : Outcome Placed Role (Unit {0})) → List Placed → Type 0
+Designating inner depth whole rest = Going (λ (_ : Unit {0}) next. begins_designator next.token) (λ _. read_designator inner depth) (λ _ _. tt {0}) whole (λ more last. Ok (tt {0}, last)) (tt {0}) rest
+
+pub designating-start : (inner : Readers) (depth : ℕ) (tokens rest : List Placed) → read_designator inner depth tokens ≡ Ok (tt {0}, rest) → Designating inner depth (read_designators inner depth tokens) rest
+unfolding Designating
+designating-start inner depth tokens rest e =
+    let many : Reader Placed Role (List (Unit {0})) = read_many (λ (_ : Unit {0}) next. begins_designator next.token) (λ _. read_designator inner depth) (λ _ _. tt {0}) (tt {0}) in
+    subst (λ whole. Going (λ (_ : Unit {0}) next. begins_designator next.token) (λ _. read_designator inner depth) (λ _ _. tt {0}) whole (λ more last. Ok (tt {0}, last)) (tt {0}) rest)
+    (sym (ap (λ o. bind {X = Unit {0} × List (Unit {0})} (bind o (λ x after. bind (many after) (λ xs last. Ok ((x, xs), last)))) (λ _ last. Ok (tt {0}, last))) e ∙ bind-bind {Y = Unit {0} × List (Unit {0})} (many rest) (λ xs last. Ok ((tt {0}, xs), last)) (λ _ last. Ok (tt {0}, last))))
+    going-start
+
+pub designating-step : (inner : Readers) (depth : ℕ) (whole : Outcome Placed Role (Unit {0})) (tokens rest : List Placed) → Designating inner depth whole tokens → next_is begins_designator tokens ≡ true → read_designator inner depth tokens ≡ Ok (tt {0}, rest) → length rest < length tokens → Designating inner depth whole rest
+unfolding Designating
+designating-step inner depth whole tokens rest going was e less = going-step going (begins-next (λ (_ : Unit {0}). begins_designator) (tt {0}) tokens ∙ was) (tt {0}) rest e less
+
+pub designating-error : (inner : Readers) (depth : ℕ) (whole : Outcome Placed Role (Unit {0})) (tokens : List Placed) (error : ParseError) → Designating inner depth whole tokens → next_is begins_designator tokens ≡ true → IsErrorOf (read_designator inner depth tokens) error → IsErrorOf whole error
+unfolding Designating
+designating-error inner depth whole tokens error going was h = going-error going (begins-next (λ (_ : Unit {0}). begins_designator) (tt {0}) tokens ∙ was) error h
+
+pub designating-end : (inner : Readers) (depth : ℕ) (whole : Outcome Placed Role (Unit {0})) (tokens : List Placed) → Designating inner depth whole tokens → next_is begins_designator tokens ≡ false → whole ≡ Ok (tt {0}, tokens)
+unfolding Designating
+designating-end inner depth whole tokens going ends = going-end going (begins-next (λ (_ : Unit {0}). begins_designator) (tt {0}) tokens ∙ ends)
+
+-- initial values are being read
+abbrev pub initials_close : Place → List (Option (Option tree.Expression)) → Reader Placed Role (Unit {0})
+initials_close place parts after =
+    bind (token (end_of_place (context_after next_place place parts)) (awaited (end_of_place (context_after next_place place parts))) (mark_place punctuator.RightBrace) after) (λ _ rest. Ok (tt {0}, rest))
+
+pub Initials : (names : List (List ℕ)) → (inner : Readers) → (depth : ℕ) → (initial : Reader Placed Role (Option tree.Expression)) → (whole : Outcome Placed Role (Unit {0})) → Place → List Placed → Type 0
+Initials names inner depth initial whole place rest = Going (initials_start names) (read_initials_part inner depth initial) next_place whole (initials_close place) place rest
+
+pub initials-start : (names : List (List ℕ)) (inner : Readers) (depth : ℕ) (initial : Reader Placed Role (Option tree.Expression)) (last : Option tree.Expression) (tokens : List Placed) → Initials names inner depth initial (read_initials_behind names inner depth initial last tokens) (BehindInitial last) tokens
+unfolding Initials
+initials-start names inner depth initial last tokens = going-start
+
+begins-comma : (names : List (List ℕ)) (last : Option tree.Expression) (tokens : List Placed) → begins (initials_start names) (BehindInitial last) tokens ≡ next_is (is_mark punctuator.Comma) tokens
+begins-comma names last [] = refl
+begins-comma names last (token ∷ more) = refl
+
+begins-initial : (names : List (List ℕ)) (tokens : List Placed) → begins (initials_start names) BehindComma tokens ≡ next_is (begins_initial names) tokens
+begins-initial names [] = refl
+begins-initial names (token ∷ more) = refl
+
+pub initials-comma : (names : List (List ℕ)) (inner : Readers) (depth : ℕ) (initial : Reader Placed Role (Option tree.Expression)) (whole : Outcome Placed Role (Unit {0})) (last : Option tree.Expression) (role : Role) (place : ℕ) (tokens rest : List Placed) → role ≡ end_of_initial last → Initials names inner depth initial whole (BehindInitial last) tokens
+    → next_is (is_mark punctuator.Comma) tokens ≡ true → token role (awaited role) (mark_place punctuator.Comma) tokens ≡ Ok (place, rest) → length rest < length tokens → Initials names inner depth initial whole BehindComma rest
+unfolding Initials
+initials-comma names inner depth initial whole last role place tokens rest same going was e less =
+    let comma : token (end_of_initial last) (awaited (end_of_initial last)) (mark_place punctuator.Comma) tokens ≡ Ok (place, rest) = subst (λ r. token r (awaited r) (mark_place punctuator.Comma) tokens ≡ Ok (place, rest)) same e in
+    going-step going (begins-comma names last tokens ∙ was) None rest (bind-ok (token (end_of_initial last) (awaited (end_of_initial last)) (mark_place punctuator.Comma) tokens) (λ _ after. Ok (None, after)) place rest comma) less
+
+pub initials-comma_error : (names : List (List ℕ)) (inner : Readers) (depth : ℕ) (initial : Reader Placed Role (Option tree.Expression)) (whole : Outcome Placed Role (Unit {0})) (last : Option tree.Expression) (role : Role) (tokens : List Placed) (error : ParseError) → role ≡ end_of_initial last → Initials names inner depth initial whole (BehindInitial last) tokens
+    → next_is (is_mark punctuator.Comma) tokens ≡ true → IsErrorOf (token role (awaited role) (mark_place punctuator.Comma) tokens) error → IsErrorOf whole error
+unfolding Initials
+initials-comma_error names inner depth initial whole last role tokens error same going was g =
+    let h : IsErrorOf (token (end_of_initial last) (awaited (end_of_initial last)) (mark_place punctuator.Comma) tokens) error = subst (λ r. IsErrorOf (token r (awaited r) (mark_place punctuator.Comma) tokens) error) same g in
+    going-error going (begins-comma names last tokens ∙ was) error
+    (error-from (token (end_of_initial last) (awaited (end_of_initial last)) (mark_place punctuator.Comma) tokens) (read_initials_part inner depth initial (BehindInitial last) tokens) error (λ fault e. ap (λ o. bind {Y = Option (Option tree.Expression)} o (λ _ after. Ok (None, after))) e) h)
+
+pub initials-step : (names : List (List ℕ)) (inner : Readers) (depth : ℕ) (initial : Reader Placed Role (Option tree.Expression)) (whole : Outcome Placed Role (Unit {0})) (last : Option tree.Expression) (tokens rest : List Placed) → Initials names inner depth initial whole BehindComma tokens
+    → next_is (begins_initial names) tokens ≡ true → read_designated inner depth initial tokens ≡ Ok (last, rest) → length rest < length tokens → Initials names inner depth initial whole (BehindInitial last) rest
+unfolding Initials
+initials-step names inner depth initial whole last tokens rest going was e less =
+    going-step going (begins-initial names tokens ∙ was) (Some last) rest (bind-ok (read_designated inner depth initial tokens) (λ x after. Ok (Some x, after)) last rest e) less
+
+pub initials-error : (names : List (List ℕ)) (inner : Readers) (depth : ℕ) (initial : Reader Placed Role (Option tree.Expression)) (whole : Outcome Placed Role (Unit {0})) (tokens : List Placed) (error : ParseError) → Initials names inner depth initial whole BehindComma tokens
+    → next_is (begins_initial names) tokens ≡ true → IsErrorOf (read_designated inner depth initial tokens) error → IsErrorOf whole error
+unfolding Initials
+initials-error names inner depth initial whole tokens error going was h =
+    going-error going (begins-initial names tokens ∙ was) error
+    (error-from (read_designated inner depth initial tokens) (read_initials_part inner depth initial BehindComma tokens) error (λ fault e. ap (λ o. bind {Y = Option (Option tree.Expression)} o (λ x after. Ok (Some x, after))) e) h)
+
+-- the list ends behind a value
+ended : (names : List (List ℕ)) (inner : Readers) (depth : ℕ) (initial : Reader Placed Role (Option tree.Expression)) (whole : Outcome Placed Role (Unit {0})) (last : Option tree.Expression) (tokens : List Placed) → Initials names inner depth initial whole (BehindInitial last) tokens → next_is (is_mark punctuator.Comma) tokens ≡ false
+    → whole ≡ bind (token (end_of_initial last) (awaited (end_of_initial last)) (mark_place punctuator.RightBrace) tokens) (λ _ rest. Ok (tt {0}, rest))
+unfolding Initials
+ended names inner depth initial whole last tokens going ends = going-end going (begins-comma names last tokens ∙ ends)
+
+pub initials-end : (names : List (List ℕ)) (inner : Readers) (depth : ℕ) (initial : Reader Placed Role (Option tree.Expression)) (whole : Outcome Placed Role (Unit {0})) (last : Option tree.Expression) (role : Role) (place : ℕ) (tokens rest : List Placed) → role ≡ end_of_initial last → Initials names inner depth initial whole (BehindInitial last) tokens → next_is (is_mark punctuator.Comma) tokens ≡ false
+    → token role (awaited role) (mark_place punctuator.RightBrace) tokens ≡ Ok (place, rest) → whole ≡ Ok (tt {0}, rest)
+initials-end names inner depth initial whole last role place tokens rest same going ends e =
+    let close : token (end_of_initial last) (awaited (end_of_initial last)) (mark_place punctuator.RightBrace) tokens ≡ Ok (place, rest) = subst (λ r. token r (awaited r) (mark_place punctuator.RightBrace) tokens ≡ Ok (place, rest)) same e in
+    ended names inner depth initial whole last tokens going ends ∙ bind-ok (token (end_of_initial last) (awaited (end_of_initial last)) (mark_place punctuator.RightBrace) tokens) (λ _ after. Ok (tt {0}, after)) place rest close
+
+pub initials-unclosed : (names : List (List ℕ)) (inner : Readers) (depth : ℕ) (initial : Reader Placed Role (Option tree.Expression)) (whole : Outcome Placed Role (Unit {0})) (last : Option tree.Expression) (role : Role) (tokens : List Placed) (error : ParseError) → role ≡ end_of_initial last → Initials names inner depth initial whole (BehindInitial last) tokens → next_is (is_mark punctuator.Comma) tokens ≡ false
+    → IsErrorOf (token role (awaited role) (mark_place punctuator.RightBrace) tokens) error → IsErrorOf whole error
+initials-unclosed names inner depth initial whole last role tokens error same going ends g =
+    let h : IsErrorOf (token (end_of_initial last) (awaited (end_of_initial last)) (mark_place punctuator.RightBrace) tokens) error = subst (λ r. IsErrorOf (token r (awaited r) (mark_place punctuator.RightBrace) tokens) error) same g in
+    error-from (token (end_of_initial last) (awaited (end_of_initial last)) (mark_place punctuator.RightBrace) tokens) whole error (λ fault e. ended names inner depth initial whole last tokens going ends ∙ ap (λ o. bind o (λ _ after. Ok (tt {0}, after))) e) h
+
+-- the list ends behind a `,`
+ended_comma : (names : List (List ℕ)) (inner : Readers) (depth : ℕ) (initial : Reader Placed Role (Option tree.Expression)) (whole : Outcome Placed Role (Unit {0})) (tokens : List Placed) → Initials names inner depth initial whole BehindComma tokens → next_is (begins_initial names) tokens ≡ false
+    → whole ≡ bind (token Nothing (awaited Nothing) (mark_place punctuator.RightBrace) tokens) (λ _ rest. Ok (tt {0}, rest))
+unfolding Initials
+ended_comma names inner depth initial whole tokens going ends = going-end going (begins-initial names tokens ∙ ends)
+
+pub initials-end_comma : (names : List (List ℕ)) (inner : Readers) (depth : ℕ) (initial : Reader Placed Role (Option tree.Expression)) (whole : Outcome Placed Role (Unit {0})) (place : ℕ) (tokens rest : List Placed) → Initials names inner depth initial whole BehindComma tokens → next_is (begins_initial names) tokens ≡ false
+    → token Nothing (awaited Nothing) (mark_place punctuator.RightBrace) tokens ≡ Ok (place, rest) → whole ≡ Ok (tt {0}, rest)
+initials-end_comma names inner depth initial whole place tokens rest going ends e = ended_comma names inner depth initial whole tokens going ends ∙ bind-ok (token Nothing (awaited Nothing) (mark_place punctuator.RightBrace) tokens) (λ _ after. Ok (tt {0}, after)) place rest e
+
+pub initials-unclosed_comma : (names : List (List ℕ)) (inner : Readers) (depth : ℕ) (initial : Reader Placed Role (Option tree.Expression)) (whole : Outcome Placed Role (Unit {0})) (tokens : List Placed) (error : ParseError) → Initials names inner depth initial whole BehindComma tokens → next_is (begins_initial names) tokens ≡ false
+    → IsErrorOf (token Nothing (awaited Nothing) (mark_place punctuator.RightBrace) tokens) error → IsErrorOf whole error
+initials-unclosed_comma names inner depth initial whole tokens error going ends h =
+    error-from (token Nothing (awaited Nothing) (mark_place punctuator.RightBrace) tokens) whole error (λ fault e. ended_comma names inner depth initial whole tokens going ends ∙ ap (λ o. bind o (λ _ after. Ok (tt {0}, after))) e) h
+
+-- a fault in what stands behind a `{`
+pub braced-error : (names : List (List ℕ)) (inner : Readers) (room depth opened place : ℕ) (error : ParseError) (tokens rest : List Placed) → opened ≡ suc depth → next_is (is_mark punctuator.LeftBrace) tokens ≡ true → token Nothing (opens opened) (mark_place punctuator.LeftBrace) tokens ≡ Ok (place, rest) → next_is (is_mark punctuator.RightBrace) rest ≡ false
+    → IsErrorOf (initializers.read_initials names inner opened (initializers.read_initial names inner room opened) rest) error → IsErrorOf (initializers.read_initial_around names inner depth (initializers.read_initial names inner room (suc depth)) tokens) error
+braced-error names inner room depth opened place error tokens rest same was e some h =
+    error-from (initials (suc depth) rest) (initializers.read_initial_around names inner depth (initial (suc depth)) tokens) error
+    (λ fault f. ap (λ b. if b then behind_brace tokens else read_map (λ x. Some x) (inner.conditional depth 0) tokens) was
+    ∙ bind-ok (token Nothing (opens (suc depth)) (mark_place punctuator.LeftBrace) tokens) (λ _ after. in_braces after) place rest (subst (λ n. token Nothing (opens n) (mark_place punctuator.LeftBrace) tokens ≡ Ok (place, rest)) same e)
+    ∙ ap (λ b. if b then empty rest else read_map (λ _. None) (initials (suc depth)) rest) some
+    ∙ ap (λ o. bind o (λ _ after. Ok (None, after))) f)
+    (subst (λ n. IsErrorOf (initials n rest) error) same h)
+  where
+    initial : (n : ℕ) → Reader Placed Role (Option tree.Expression)
+    initial n = initializers.read_initial names inner room n
+
+    initials : (n : ℕ) → Reader Placed Role (Unit {0})
+    initials n = initializers.read_initials names inner n (initial n)
+
+    empty : Reader Placed Role (Option tree.Expression)
+    empty = read_map (λ _. None) (token Nothing plain (mark_place punctuator.RightBrace))
+
+    in_braces : Reader Placed Role (Option tree.Expression)
+    in_braces = choose (is_mark punctuator.RightBrace) empty (read_map (λ _. None) (initials (suc depth)))
+
+    behind_brace : Reader Placed Role (Option tree.Expression)
+    behind_brace = behind (token Nothing (opens (suc depth)) (mark_place punctuator.LeftBrace)) (λ _. in_braces)
