@@ -1,13 +1,6 @@
-// Declarations of locals and the specifiers of items: what is read of texts, and faults with their places.
+// Declarations of locals: what is read of texts.
 
-ghost use Rattle.std.specs.Prelude.{◌≤◌};
-ghost use Rattle.c_expression_reader.specs.Budget.{enough};
-ghost use Rattle.c_parse_steps.specs.Inside.{inside};
-ghost use Rattle.c_parse_inside.specs.Parts.{Allows, Gives};
-
-use c_parse_declaration::{declaration, item_specifiers};
-use c_parse_expression::TURNS;
-use c_parse_inside::Inside;
+use c_parse_declaration::declaration;
 use c_parse_token::{ParseError, Tokens, TypeNames};
 use c_syntax::expression::{Specifiers, Storage};
 use c_syntax::simple::Value;
@@ -28,31 +21,6 @@ const DECLARATIONS: [(&[u8], bool, usize, usize, usize, usize, Option<usize>); 9
     (b"int a = f(b, c);", false, 0, 1, 0, 0, Some(2)),
     (b"int a = f(b), c = g();", false, 0, 2, 0, 0, Some(0)),
     (b"struct tag *a = b + c;", false, 0, 1, 1, 0, None),
-];
-
-// What begins no declaration of locals, and the place of the token at fault: that of the end is the length.
-const FAULTS: [(&[u8], usize); 12] = [
-    (b"int", 3),
-    (b"int ;", 4),
-    (b"static a;", 7),
-    (b"typedef int a;", 0),
-    (b"unsigned static long a;", 16),
-    (b"int word;", 4),
-    (b"int (*a)(void);", 4),
-    (b"int a", 5),
-    (b"int a b", 6),
-    (b"int a[1", 7),
-    (b"int a = ;", 8),
-    (b"int a, ;", 7),
-];
-
-// A text, whether `typedef` and `static` stand in it, the place of its first word, and how many tokens are left.
-const ITEMS: [(&[u8], bool, bool, usize, usize); 5] = [
-    (b"typedef int a;", true, false, 0, 2),
-    (b" static inline int f", false, true, 1, 1),
-    (b"extern const word a", false, false, 0, 1),
-    (b"int static typedef a", true, true, 0, 1),
-    (b"word word", false, false, 0, 1),
 ];
 
 fn arguments(local: &Local<'_>) -> Option<usize> {
@@ -91,30 +59,6 @@ fn read_locals<'t>(
     Ok((x, tokens.rest.len()))
 }
 
-// The specifiers of an item that the tokens begin with, and how many tokens are left.
-fn read_specifiers<'t>(
-    alloc: Global,
-    rest: &'t [Token<'t>],
-) -> Result<(Specifiers<'t>, usize), ParseError<'t, 't>> {
-    let mut names: TypeNames<'t> = TypeNames::new(alloc);
-    names.add(b"word")?;
-    let names = &names;
-    let read = |rest, wanted, depth, count|
-        requires depth { depth ≤ 128 }
-        requires count { count ≤ 128 }
-        requires allowed { Allows 11 wanted }
-        ensures { Gives (inside names.entry.now enough) wanted depth count rest.entry.now result }
-    { c_parse_expression::read(alloc, rest, names, wanted, depth, count, TURNS) };
-    let inner = Inside {
-        read,
-        names,
-        turns: TURNS,
-    };
-    let mut tokens = Tokens { rest };
-    let x = item_specifiers(alloc, &mut tokens, &inner, 0)?;
-    Ok((x, tokens.rest.len()))
-}
-
 #[test]
 fn reads_locals(rt: HostRuntime) -> Result<(), Fail> {
     for (source, is_static, place, count, pointers, lengths, called) in DECLARATIONS {
@@ -125,34 +69,6 @@ fn reads_locals(rt: HostRuntime) -> Result<(), Fail> {
         assert_eq!(rt; words(&read.specifiers), (false, is_static, place));
         assert_eq!(rt; declared(&read), Some((count, pointers, lengths, called)));
         assert_eq!(rt; rest, 0);
-    }
-    Ok(())
-}
-
-#[test]
-fn places_faults(rt: HostRuntime) -> Result<(), Fail> {
-    for (source, place) in FAULTS {
-        let all = c_token::tokens(rt.alloc(), source).map_err(|_| "tokens")?;
-        let Err(ParseError::At(_, rest)) = read_locals(rt.alloc(), all.as_slice()) else {
-            return Err(Fail::from("no fault"));
-        };
-        assert_eq!(rt;
-            rest.first().map_or(source.len(), |token| token.offset),
-            place
-        );
-    }
-    Ok(())
-}
-
-#[test]
-fn reads_the_specifiers_of_items(rt: HostRuntime) -> Result<(), Fail> {
-    for (source, is_typedef, is_static, place, left) in ITEMS {
-        let all = c_token::tokens(rt.alloc(), source).map_err(|_| "tokens")?;
-        let Ok((read, rest)) = read_specifiers(rt.alloc(), all.as_slice()) else {
-            return Err(Fail::from("fault"));
-        };
-        assert_eq!(rt; words(&read), (is_typedef, is_static, place));
-        assert_eq!(rt; rest, left);
     }
     Ok(())
 }

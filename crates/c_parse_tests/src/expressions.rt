@@ -1,89 +1,83 @@
-// Expressions with their trees, and faults with their places. Each tree is written by hand from the grammar, an operator
-// before its operands; each place was counted by hand.
+// Expressions with the places of their outermost operators, and faults with their places, worked by hand from the grammar.
 
 use c_parse_expression::conditional;
-use c_parse_inside::Counted;
 use c_parse_token::{ParseError, Tokens, TypeNames};
-use c_syntax::expression::{Base, Constant, Declarator, Expression, Member, Specifiers, TypeName};
+use c_syntax::expression::Expression;
 use c_token::Token;
-use c_tree_spec::{Access, BinaryOperator, IntegerType, UnaryOperator};
-use std::alloc::{AllocError, Global};
+use std::alloc::Global;
 use std::test::Fail;
 
-// Expressions and their trees.
-const TREES: [(&[u8], &[u8]); 66] = [
-    (b"a", b"a"),
-    (b"7", b"7"),
-    (b"0x1F", b"31"),
-    (b"'a'", b"'97"),
-    (b"(a)", b"(() a)"),
-    (b"((a))", b"(() (() a))"),
-    (b"a[0]", b"([] a 0)"),
-    (b"a[b][c]", b"([] ([] a b) c)"),
-    (b"a.b", b"(. a b)"),
-    (b"a->b", b"(-> a b)"),
-    (b"a.b->c[1]", b"([] (-> (. a b) c) 1)"),
-    (b"a.word", b"(. a word)"),
-    (b"(a)[1]", b"([] (() a) 1)"),
-    (b"-a", b"(- a)"),
-    (b"- -a", b"(- (- a))"),
-    (b"!~a", b"(! (~ a))"),
-    (b"&a[1]", b"(& ([] a 1))"),
-    (b"*a.b", b"(* (. a b))"),
-    (b"-a[1].b", b"(- (. ([] a 1) b))"),
-    (b"+1", b"(+ 1)"),
-    (b"sizeof a", b"(sizeof a)"),
-    (b"sizeof a[1]", b"(sizeof ([] a 1))"),
-    (b"sizeof (a)[1]", b"(sizeof ([] (() a) 1))"),
-    (b"sizeof (int)", b"(sizeof int)"),
-    (b"sizeof (word)", b"(sizeof word)"),
-    (b"sizeof -a", b"(sizeof (- a))"),
-    (b"sizeof sizeof a", b"(sizeof (sizeof a))"),
-    (b"sizeof (int) * 2", b"(* (sizeof int) 2)"),
-    (b"(int)a", b"(cast int a)"),
-    (b"(int)(char)a", b"(cast int (cast char a))"),
-    (b"(word)-1", b"(cast word (- 1))"),
-    (b"(int)a.b", b"(cast int (. a b))"),
-    (b"(int)a + b", b"(+ (cast int a) b)"),
-    (b"-(int)a", b"(- (cast int a))"),
-    (b"(unsigned char)a", b"(cast uchar a)"),
-    (b"(long int unsigned long)a", b"(cast ulong2 a)"),
-    (b"(const int * const *)a", b"(cast int** a)"),
-    (b"(int const)a", b"(cast int a)"),
-    (b"(struct tag *)a", b"(cast struct:tag* a)"),
-    (b"(enum tag)a", b"(cast enum:tag a)"),
-    (b"(void)a", b"(cast void a)"),
-    (
-        b"(struct { int a, *b[2][3]; char c; })a",
-        b"(cast struct{int a0,b1[2][3];char c0;} a)",
-    ),
-    (
-        b"(struct tag { int a[]; })a",
-        b"(cast struct:tag{int a0[];} a)",
-    ),
-    (b"(enum { one, two = 2, })a", b"(cast enum{one,two=,} a)"),
-    (b"(enum tag { one = 1 + 2 })a", b"(cast enum:tag{one=,} a)"),
-    (b"a + b * c", b"(+ a (* b c))"),
-    (b"a * b + c", b"(+ (* a b) c)"),
-    (b"a - b - c", b"(- (- a b) c)"),
-    (b"a / b % c * d", b"(* (% (/ a b) c) d)"),
-    (b"a << b + c", b"(<< a (+ b c))"),
-    (b"a < b << c", b"(< a (<< b c))"),
-    (b"a == b < c", b"(== a (< b c))"),
-    (b"a & b == c", b"(& a (== b c))"),
-    (b"a ^ b & c", b"(^ a (& b c))"),
-    (b"a | b ^ c", b"(| a (^ b c))"),
-    (b"a && b | c", b"(&& a (| b c))"),
-    (b"a || b && c", b"(|| a (&& b c))"),
-    (b"a || b || c", b"(|| (|| a b) c)"),
-    (b"a >= b <= c > d", b"(> (<= (>= a b) c) d)"),
-    (b"a != b == c", b"(== (!= a b) c)"),
-    (b"a ? b : c", b"(? a b c)"),
-    (b"a ? b : c ? d : e", b"(? a b (? c d e))"),
-    (b"a ? b ? c : d : e", b"(? a (? b c d) e)"),
-    (b"a || b ? c + d : e", b"(? (|| a b) (+ c d) e)"),
-    (b"(a ? b : c) + 1", b"(+ (() (? a b c)) 1)"),
-    (b"a[b ? c : d]", b"([] a (? b c d))"),
+// A text, the place of the outermost operator of the expression that it begins with (of a name or a number that of its
+// token), and how many tokens are left. `word` is a name of a type.
+const EXPRESSIONS: [(&[u8], usize, usize); 68] = [
+    (b"a", 0, 0),
+    (b"0x1F", 0, 0),
+    (b"'a'", 0, 0),
+    (b"((a))", 0, 0),
+    (b"a[0]", 1, 0),
+    (b"a[b][c]", 4, 0),
+    (b"a.b", 1, 0),
+    (b"a.b->c[1]", 6, 0),
+    (b"a.word", 1, 0),
+    (b"(a)[1]", 3, 0),
+    (b"-a", 0, 0),
+    (b"- -a", 0, 0),
+    (b"!~a", 0, 0),
+    (b"&a[1]", 0, 0),
+    (b"*a.b", 0, 0),
+    (b"+1", 0, 0),
+    (b"sizeof a[1]", 0, 0),
+    (b"sizeof (a)[1]", 0, 0),
+    (b"sizeof (int)", 0, 0),
+    (b"sizeof (word)", 0, 0),
+    (b"sizeof sizeof a", 0, 0),
+    (b"sizeof (int) * 2", 13, 0),
+    (b"(int)a", 0, 0),
+    (b"(int)(char)a", 0, 0),
+    (b"(word)-1", 0, 0),
+    (b"(a)-1", 3, 0),
+    (b"(int)a.b", 0, 0),
+    (b"(int)a + b", 7, 0),
+    (b"-(int)a", 0, 0),
+    (b"(long int unsigned long)a", 0, 0),
+    (b"(const int * const *)a", 0, 0),
+    (b"(enum tag { one = 1 + 2, two, })a", 0, 0),
+    (b"a + b * c", 2, 0),
+    (b"a * b + c", 6, 0),
+    (b"a - b - c", 6, 0),
+    (b"a / b % c * d", 10, 0),
+    (b"a << b + c", 2, 0),
+    (b"a + b << c", 6, 0),
+    (b"a < b << c", 2, 0),
+    (b"a << b < c", 7, 0),
+    (b"a == b < c", 2, 0),
+    (b"a < b == c", 6, 0),
+    (b"a & b == c", 2, 0),
+    (b"a == b & c", 7, 0),
+    (b"a ^ b & c", 2, 0),
+    (b"a & b ^ c", 6, 0),
+    (b"a | b ^ c", 2, 0),
+    (b"a ^ b | c", 6, 0),
+    (b"a && b | c", 2, 0),
+    (b"a | b && c", 6, 0),
+    (b"a || b && c", 2, 0),
+    (b"a && b || c", 7, 0),
+    (b"a || b || c", 7, 0),
+    (b"a >= b <= c > d", 12, 0),
+    (b"a != b == c", 7, 0),
+    (b"a ? b : c", 2, 0),
+    (b"a ? b : c ? d : e", 2, 0),
+    (b"a ? b ? c : d : e", 2, 0),
+    (b"a || b ? c + d : e", 7, 0),
+    (b"(a ? b : c) + 1", 12, 0),
+    (b"a[b ? c : d]", 1, 0),
+    (b"(struct { int a, *b[2][3]; char c; })a", 0, 0),
+    (b"sizeof (int)[1]", 0, 3),
+    (b"sizeof (int).a", 0, 2),
+    (b"a b", 0, 1),
+    (b"a = b", 0, 2),
+    (b"a(b)", 0, 3),
+    (b"a, b", 0, 2),
 ];
 
 // What begins no expression, and the place of the token at fault: that of the end is the length.
@@ -162,305 +156,40 @@ const FAULTS: [(&[u8], usize); 66] = [
     (b"a && ", 5),
 ];
 
-// Whole expressions with what stands behind them and is left.
-const REST: [(&[u8], &[u8], usize); 6] = [
-    (b"sizeof (int)[1]", b"(sizeof int)", 3),
-    (b"sizeof (int).a", b"(sizeof int)", 2),
-    (b"a b", b"a", 1),
-    (b"a = b", b"a", 2),
-    (b"a(b)", b"a", 3),
-    (b"a, b", b"a", 2),
-];
-
-fn unary_text(operator: UnaryOperator) -> &'static [u8] {
-    match operator {
-        UnaryOperator::AddressOf => b"&",
-        UnaryOperator::Dereference => b"*",
-        UnaryOperator::Plus => b"+",
-        UnaryOperator::Minus => b"-",
-        UnaryOperator::Complement => b"~",
-        UnaryOperator::Not => b"!",
-    }
-}
-
-fn binary_text(operator: BinaryOperator) -> &'static [u8] {
-    match operator {
-        BinaryOperator::LogicalOr => b"||",
-        BinaryOperator::LogicalAnd => b"&&",
-        BinaryOperator::BitOr => b"|",
-        BinaryOperator::BitXor => b"^",
-        BinaryOperator::BitAnd => b"&",
-        BinaryOperator::Equal => b"==",
-        BinaryOperator::NotEqual => b"!=",
-        BinaryOperator::Less => b"<",
-        BinaryOperator::Greater => b">",
-        BinaryOperator::LessOrEqual => b"<=",
-        BinaryOperator::GreaterOrEqual => b">=",
-        BinaryOperator::ShiftLeft => b"<<",
-        BinaryOperator::ShiftRight => b">>",
-        BinaryOperator::Add => b"+",
-        BinaryOperator::Subtract => b"-",
-        BinaryOperator::Multiply => b"*",
-        BinaryOperator::Divide => b"/",
-        BinaryOperator::Remainder => b"%",
-    }
-}
-
-fn access_text(access: Access) -> &'static [u8] {
-    match access {
-        Access::Dot => b".",
-        Access::Arrow => b"->",
-    }
-}
-
-fn integer_text(named: IntegerType) -> &'static [u8] {
-    match named {
-        IntegerType::Char => b"char",
-        IntegerType::SignedChar => b"schar",
-        IntegerType::UnsignedChar => b"uchar",
-        IntegerType::Short => b"short",
-        IntegerType::UnsignedShort => b"ushort",
-        IntegerType::Int => b"int",
-        IntegerType::UnsignedInt => b"uint",
-        IntegerType::Long => b"long",
-        IntegerType::UnsignedLong => b"ulong",
-        IntegerType::LongLong => b"long2",
-        IntegerType::UnsignedLongLong => b"ulong2",
-    }
-}
-
-// A number below 100.
-fn write_number(out: &mut Vec<u8>, number: u64) -> Result<(), AllocError> {
-    if number >= 10 {
-        out.push(b'0' + (number / 10 % 10) as u8)?;
-    }
-    out.push(b'0' + (number % 10) as u8)?;
-    Ok(())
-}
-
-fn write_tag(out: &mut Vec<u8>, word: &[u8], tag: &[u8]) -> Result<(), AllocError> {
-    out.extend_from_slice(word)?;
-    out.extend_from_slice(b":")?;
-    out.extend_from_slice(tag)?;
-    Ok(())
-}
-
-fn write_declarator(out: &mut Vec<u8>, declarator: &Declarator<'_>) -> Result<(), AllocError> {
-    out.extend_from_slice(declarator.name.spelling)?;
-    write_number(out, declarator.pointers as u64)?;
-    if declarator.is_open {
-        out.extend_from_slice(b"[]")?;
-    }
-    for length in declarator.lengths.iter() {
-        out.push(b'[')?;
-        if let Expression::Number(value, _, _) = length {
-            write_number(out, *value)?;
-        }
-        out.push(b']')?;
-    }
-    Ok(())
-}
-
-// A base that holds nothing inside.
-fn write_plain(out: &mut Vec<u8>, base: &Base<'_>) -> Result<(), AllocError> {
-    match base {
-        Base::Void => out.extend_from_slice(b"void")?,
-        Base::Integer(named) => out.extend_from_slice(integer_text(*named))?,
-        Base::TypedefName(name) => out.extend_from_slice(name.spelling)?,
-        Base::StructTag(tag) => write_tag(out, b"struct", tag.spelling)?,
-        Base::EnumTag(tag) => write_tag(out, b"enum", tag.spelling)?,
-        Base::Struct(_, _) => out.extend_from_slice(b"struct")?,
-        Base::Enum(_, _) => out.extend_from_slice(b"enum")?,
-    }
-    Ok(())
-}
-
-fn write_members(out: &mut Vec<u8>, members: &[Member<'_>]) -> Result<(), AllocError> {
-    for member in members {
-        write_plain(out, &member.specifiers.base)?;
-        let mut separator = b' ';
-        for declarator in member.declarators.iter() {
-            out.push(separator)?;
-            write_declarator(out, declarator)?;
-            separator = b',';
-        }
-        out.push(b';')?;
-    }
-    Ok(())
-}
-
-fn write_constants(out: &mut Vec<u8>, constants: &[Constant<'_>]) -> Result<(), AllocError> {
-    for constant in constants {
-        out.extend_from_slice(constant.name.spelling)?;
-        if constant.value.is_some() {
-            out.push(b'=')?;
-        }
-        out.push(b',')?;
-    }
-    Ok(())
-}
-
-fn write_specifiers(out: &mut Vec<u8>, specifiers: &Specifiers<'_>) -> Result<(), AllocError> {
-    match &specifiers.base {
-        Base::Struct(tag, members) => {
-            match tag {
-                Some(name) => write_tag(out, b"struct", name.spelling)?,
-                None => out.extend_from_slice(b"struct")?,
-            }
-            out.push(b'{')?;
-            write_members(out, members.as_slice())?;
-            out.push(b'}')?;
-        }
-        Base::Enum(tag, constants) => {
-            match tag {
-                Some(name) => write_tag(out, b"enum", name.spelling)?,
-                None => out.extend_from_slice(b"enum")?,
-            }
-            out.push(b'{')?;
-            write_constants(out, constants.as_slice())?;
-            out.push(b'}')?;
-        }
-        other => write_plain(out, other)?,
-    }
-    Ok(())
-}
-
-fn write_type(out: &mut Vec<u8>, of: &TypeName<'_>) -> Result<(), AllocError> {
-    write_specifiers(out, &of.specifiers)?;
-    for _ in 0..of.pointers {
-        out.push(b'*')?;
-    }
-    Ok(())
-}
-
-fn open(out: &mut Vec<u8>, operator: &[u8]) -> Result<(), AllocError> {
-    out.push(b'(')?;
-    out.extend_from_slice(operator)?;
-    out.push(b' ')?;
-    Ok(())
-}
-
-fn write_tree(out: &mut Vec<u8>, tree: &Expression<'_>) -> Result<(), AllocError> {
+fn place_of(tree: &Expression<'_>) -> usize {
     match tree {
-        Expression::Named(name) => {
-            out.extend_from_slice(name.spelling)?;
-            return Ok(());
-        }
-        Expression::Number(value, _, _) => return write_number(out, *value),
-        Expression::Character(value, _) => {
-            out.push(b'\'')?;
-            return write_number(out, u64::from(*value));
-        }
-        Expression::Bracketed(inner, _) => {
-            open(out, b"()")?;
-            write_tree(out, &**inner)?;
-        }
-        Expression::Index(base, index, _) => {
-            open(out, b"[]")?;
-            write_tree(out, &**base)?;
-            out.push(b' ')?;
-            write_tree(out, &**index)?;
-        }
-        Expression::Member(base, access, name, _) => {
-            open(out, access_text(*access))?;
-            write_tree(out, &**base)?;
-            out.push(b' ')?;
-            out.extend_from_slice(name.spelling)?;
-        }
-        Expression::Unary(operator, operand, _) => {
-            open(out, unary_text(*operator))?;
-            write_tree(out, &**operand)?;
-        }
-        Expression::Sizeof(operand, _) => {
-            open(out, b"sizeof")?;
-            write_tree(out, &**operand)?;
-        }
-        Expression::SizeofType(of, _) => {
-            open(out, b"sizeof")?;
-            write_type(out, &**of)?;
-        }
-        Expression::Cast(to, operand, _) => {
-            open(out, b"cast")?;
-            write_type(out, &**to)?;
-            out.push(b' ')?;
-            write_tree(out, &**operand)?;
-        }
-        Expression::Binary(operator, left, right, _) => {
-            open(out, binary_text(*operator))?;
-            write_tree(out, &**left)?;
-            out.push(b' ')?;
-            write_tree(out, &**right)?;
-        }
-        Expression::Conditional(test, first, second, _) => {
-            open(out, b"?")?;
-            write_tree(out, &**test)?;
-            out.push(b' ')?;
-            write_tree(out, &**first)?;
-            out.push(b' ')?;
-            write_tree(out, &**second)?;
-        }
+        Expression::Named(name) => name.place,
+        Expression::Number(_, _, place)
+        | Expression::Character(_, place)
+        | Expression::Bracketed(_, place)
+        | Expression::Index(_, _, place)
+        | Expression::Member(_, _, _, place)
+        | Expression::Unary(_, _, place)
+        | Expression::Sizeof(_, place)
+        | Expression::SizeofType(_, place)
+        | Expression::Cast(_, _, place)
+        | Expression::Binary(_, _, _, place)
+        | Expression::Conditional(_, _, _, place) => *place,
     }
-    out.push(b')')?;
-    Ok(())
 }
 
-fn tokens_of(alloc: Global, source: &'static [u8]) -> Result<Vec<Token<'static>>, Fail> {
-    let tokens = c_token::tokens(alloc, source).map_err(|_| "tokens")?;
-    Ok(tokens)
-}
-
-// What the tokens begin with, and how many tokens are left; `word` and `byte` are names of types.
-fn front<'t>(
-    alloc: Global,
-    rest: &'t [Token<'t>],
-) -> Result<(Counted<'t>, usize), ParseError<'t, 't>> {
+// The place of the expression that the tokens begin with, and how many tokens are left.
+fn front<'t>(alloc: Global, rest: &'t [Token<'t>]) -> Result<(usize, usize), ParseError<'t, 't>> {
     let mut names: TypeNames<'t> = TypeNames::new(alloc);
     names.add(b"word")?;
-    names.add(b"byte")?;
     let mut tokens = Tokens { rest };
     let read = conditional(alloc, &mut tokens, &names, 0, 0)?;
-    Ok((read, tokens.rest.len()))
-}
-
-// The tree of what the tokens begin with, and how many tokens are left.
-fn tree_of(alloc: Global, source: &'static [u8]) -> Result<(Vec<u8>, usize), Fail> {
-    let all = tokens_of(alloc, source)?;
-    let Ok((read, rest)) = front(alloc, all.as_slice()) else {
-        return Err(Fail::from("fault"));
-    };
-    let mut out = Vec::new(alloc);
-    write_tree(&mut out, &read.tree)?;
-    Ok((out, rest))
-}
-
-// The place of the token at fault.
-fn fault_of(alloc: Global, source: &'static [u8]) -> Result<Option<usize>, Fail> {
-    let all = tokens_of(alloc, source)?;
-    match front(alloc, all.as_slice()) {
-        Err(ParseError::At(_, rest)) => {
-            let place = rest.first().map_or(source.len(), |token| token.offset);
-            Ok(Some(place))
-        }
-        Err(ParseError::NoMemory) | Ok(_) => Ok(None),
-    }
+    Ok((place_of(&read.tree), tokens.rest.len()))
 }
 
 #[test]
-fn reads_trees(rt: HostRuntime) -> Result<(), Fail> {
-    for (source, shown) in TREES {
-        let (tree, rest) = tree_of(rt.alloc(), source)?;
-        assert_eq!(rt; tree.as_slice(), shown);
-        assert_eq!(rt; rest, 0);
-    }
-    Ok(())
-}
-
-#[test]
-fn leaves_the_rest(rt: HostRuntime) -> Result<(), Fail> {
-    for (source, shown, left) in REST {
-        let (tree, rest) = tree_of(rt.alloc(), source)?;
-        assert_eq!(rt; tree.as_slice(), shown);
-        assert_eq!(rt; rest, left);
+fn reads_expressions(rt: HostRuntime) -> Result<(), Fail> {
+    for (source, place, left) in EXPRESSIONS {
+        let all = c_token::tokens(rt.alloc(), source).map_err(|_| "tokens")?;
+        let Ok(read) = front(rt.alloc(), all.as_slice()) else {
+            return Err(Fail::from("fault"));
+        };
+        assert_eq!(rt; read, (place, left));
     }
     Ok(())
 }
@@ -468,8 +197,14 @@ fn leaves_the_rest(rt: HostRuntime) -> Result<(), Fail> {
 #[test]
 fn places_faults(rt: HostRuntime) -> Result<(), Fail> {
     for (source, place) in FAULTS {
-        let fault = fault_of(rt.alloc(), source)?;
-        assert_eq!(rt; fault, Some(place));
+        let all = c_token::tokens(rt.alloc(), source).map_err(|_| "tokens")?;
+        let Err(ParseError::At(_, rest)) = front(rt.alloc(), all.as_slice()) else {
+            return Err(Fail::from("no fault"));
+        };
+        assert_eq!(rt;
+            rest.first().map_or(source.len(), |token| token.offset),
+            place
+        );
     }
     Ok(())
 }

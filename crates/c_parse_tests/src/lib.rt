@@ -1,5 +1,5 @@
-//! Tests of the readers of expressions, types, declarations and what they stand on: texts with their trees, and with the
-//! places of their faults, worked by hand.
+//! Tests of the tokens of C and of the readers of its grammar: texts with what is read of them, and with the kinds and places
+//! of their faults, worked by hand.
 #![tactic(auto)]
 
 #[cfg(test)]
@@ -7,6 +7,10 @@ mod declarations;
 #[cfg(test)]
 mod expressions;
 #[cfg(test)]
-mod globals;
-#[cfg(test)]
 mod simple;
+#[cfg(test)]
+mod statements;
+#[cfg(test)]
+mod tokens;
+#[cfg(test)]
+mod units;

@@ -1,4 +1,4 @@
-// Expression statements: what is read of texts, and faults with their places.
+// Expression statements: what is read of texts.
 
 use c_parse_simple::expression_statement;
 use c_parse_token::{ParseError, Tokens, TypeNames};
@@ -27,19 +27,6 @@ const STATEMENTS: [(&[u8], &[u8], Option<usize>, usize, usize); 16] = [
     (b"a + b = c", b"", None, 0, 2),
     (b"-a++", b"", None, 0, 1),
     (b"(f)(a)", b"", None, 0, 3),
-];
-
-// What begins no expression statement, and the place of the token at fault: that of the end is the length.
-const FAULTS: [(&[u8], usize); 9] = [
-    (b"", 0),
-    (b"a =", 3),
-    (b"a = ;", 4),
-    (b"a += ", 5),
-    (b"++", 2),
-    (b"++ -", 4),
-    (b"f(", 2),
-    (b"f(a", 3),
-    (b"f(a,)", 4),
 ];
 
 fn assigned_by(operator: BinaryOperator) -> &'static [u8] {
@@ -89,21 +76,6 @@ fn reads_statements(rt: HostRuntime) -> Result<(), Fail> {
         };
         assert_eq!(rt; summary(&read), (kind, called, place));
         assert_eq!(rt; rest, left);
-    }
-    Ok(())
-}
-
-#[test]
-fn places_faults(rt: HostRuntime) -> Result<(), Fail> {
-    for (source, place) in FAULTS {
-        let all = c_token::tokens(rt.alloc(), source).map_err(|_| "tokens")?;
-        let Err(ParseError::At(_, rest)) = front(rt.alloc(), all.as_slice()) else {
-            return Err(Fail::from("no fault"));
-        };
-        assert_eq!(rt;
-            rest.first().map_or(source.len(), |token| token.offset),
-            place
-        );
     }
     Ok(())
 }

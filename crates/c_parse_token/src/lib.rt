@@ -15,6 +15,3 @@ mod tokens;
 pub use names::TypeNames;
 pub use outcome::{Fault, ParseError};
 pub use tokens::Tokens;
-
-#[cfg(test)]
-mod tests;

@@ -13,6 +13,3 @@ mod mark;
 pub use head::{Head, base_head};
 pub use integer::integer_type;
 pub use mark::{consts, pointer};
-
-#[cfg(test)]
-mod tests;

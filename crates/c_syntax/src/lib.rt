@@ -9,5 +9,3 @@
 
 pub mod expression;
 pub mod simple;
-#[cfg(test)]
-mod tests;

@@ -12,6 +12,3 @@ mod marks;
 pub use clause_spec::{Literal, StepFaultKind};
 pub use hints::StepFault;
 pub use log::{Log, StepError};
-
-#[cfg(test)]
-mod tests;

@@ -1,9 +1,9 @@
-//! Tests of the clauses of goals: tables of terms, their bits, and what is read back.
+//! Tests of clauses: circuits, the clauses of goals and what is read back, and logs.
 #![tactic(auto)]
 
 #[cfg(test)]
-mod bits;
+mod circuits;
 #[cfg(test)]
 mod goals;
 #[cfg(test)]
-mod tables;
+mod logs;

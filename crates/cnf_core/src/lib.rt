@@ -12,6 +12,3 @@ pub use clause_spec::Literal;
 pub use cnf::Cnf;
 pub use evaluation::eval;
 pub use list::ClauseList;
-
-#[cfg(test)]
-mod tests;

@@ -1,4 +1,4 @@
-//! Tests of files and code: images, layouts, what functions reach, the terms of instructions, and graphs.
+//! Tests of files and code: instructions, the machine, images, layouts, what functions reach, walks, and graphs.
 #![tactic(auto)]
 
 #[cfg(test)]
@@ -8,6 +8,10 @@ mod graphs;
 #[cfg(test)]
 mod images;
 #[cfg(test)]
+mod instructions;
+#[cfg(test)]
 mod layouts;
 #[cfg(test)]
-mod terms;
+mod machine;
+#[cfg(test)]
+mod walks;

@@ -10,9 +10,6 @@
 mod codes;
 mod formats;
 mod ranges;
-#[cfg(test)]
-mod tests;
-
 ghost use Rattle.std.specs.Prelude.{◌≡◌, ℕ, ◌<◌, ◌^◌, Some};
 ghost use Rattle.rv_instr.specs.Instr.{instr};
 ghost use Rattle.rv_asm.specs.Fits.{Fits};

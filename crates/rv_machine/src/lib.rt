@@ -13,9 +13,6 @@ pub mod effects;
 mod machine;
 mod memory;
 mod stepping;
-#[cfg(test)]
-mod tests;
-
 pub use machine::Machine;
 pub use memory::Memory;
 use rv_instr::{LoadKind, Reg, StoreKind};

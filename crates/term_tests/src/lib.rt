@@ -1,4 +1,4 @@
-//! Tests of terms: their values and sorts, banks, rules, normal forms and flat terms, worked by hand.
+//! Tests of terms: their values, banks, normal forms and flat terms, worked by hand.
 #![tactic(auto)]
 
 #[cfg(test)]
@@ -7,7 +7,5 @@ mod banks;
 mod flat_terms;
 #[cfg(test)]
 mod normal_forms;
-#[cfg(test)]
-mod rules;
 #[cfg(test)]
 mod trees;

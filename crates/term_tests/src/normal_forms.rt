@@ -5,7 +5,8 @@ use std::test::Fail;
 use term_bank::{Bank, TermId, TermNode};
 use term_norm::{Run, normal};
 use term_spec::{
-    Atom, BinaryOperator, Family, Sort, TernaryOperator, Variable, Width, WordOperator,
+    Atom, BinaryOperator, Family, QuaternaryOperator, Sort, TernaryOperator, UnaryOperator,
+    Variable, Width, WordOperator,
 };
 
 fn variable(bank: &mut Bank, family: Family, sort: Sort) -> Result<TermId, AllocError> {
@@ -58,6 +59,58 @@ fn normal_of(alloc: Global, bank: &mut Bank, term: TermId) -> Result<TermId, All
     Err(AllocError)
 }
 
+fn unary(bank: &mut Bank, operator: UnaryOperator, x: TermId) -> Result<TermId, AllocError> {
+    if x < bank.len() {
+        return bank.add(TermNode::Unary(operator, x));
+    }
+    Err(AllocError)
+}
+
+fn four_times(bank: &mut Bank, x: TermId) -> Result<TermId, AllocError> {
+    if x < bank.len() {
+        return bank.add(TermNode::Quaternary(QuaternaryOperator::Join, x, x, x, x));
+    }
+    Err(AllocError)
+}
+
+fn eight_times(bank: &mut Bank, x: TermId) -> Result<TermId, AllocError> {
+    if x < bank.len() {
+        return bank.add(TermNode::Octonary(x, x, x, x, x, x, x, x));
+    }
+    Err(AllocError)
+}
+
+// A test with each operator that gives a truth value: `or (and (not (ult y x)) (eq x y)) p`.
+fn tests(bank: &mut Bank, x: TermId, y: TermId) -> Result<TermId, AllocError> {
+    let p = variable(bank, Family::Register, Sort::Truth)?;
+    let less = binary(bank, BinaryOperator::Less, y, x)?;
+    let not = unary(bank, UnaryOperator::Not, less)?;
+    let equal = binary(bank, BinaryOperator::Equal, x, y)?;
+    let both = binary(bank, BinaryOperator::And, not, equal)?;
+    binary(bank, BinaryOperator::Or, both, p)
+}
+
+// A word of 64 bits with each operator of words of bytes: `ite TEST (join of 8) (zext 64 (add (join of 2) (low 16 (join of 4))))`.
+fn sample(bank: &mut Bank) -> Result<TermId, AllocError> {
+    let byte = variable(bank, Family::Register, Sort::Word(Width::W8))?;
+    let two = binary(bank, BinaryOperator::Join, byte, byte)?;
+    let four = four_times(bank, byte)?;
+    let eight = eight_times(bank, byte)?;
+    let low = unary(bank, UnaryOperator::Low(Width::W16), four)?;
+    let sum = binary(bank, BinaryOperator::Word(WordOperator::Add), two, low)?;
+    let wide = unary(bank, UnaryOperator::ZeroExtend(Width::W64), sum)?;
+    let test = tests(bank, sum, two)?;
+    ternary(bank, TernaryOperator::Choose, test, eight, wide)
+}
+
+// Whether the normal form of the sample is its own normal form.
+fn sample_has_a_normal_form(alloc: Global) -> Result<bool, AllocError> {
+    let mut bank = Bank::new(alloc);
+    let term = sample(&mut bank)?;
+    let once = normal_of(alloc, &mut bank, term)?;
+    Ok(normal_of(alloc, &mut bank, once)? == once)
+}
+
 // Whether a load at 100, where 9 is fixed, of a store of 7 at x is the choice of 7 where 100 is x, else 9.
 fn load_is_a_choice(alloc: Global) -> Result<bool, AllocError> {
     let mut bank = Bank::new(alloc);
@@ -99,6 +152,12 @@ fn sums_are_normal(alloc: Global, depth: u32) -> Result<bool, AllocError> {
 #[test]
 fn loads_are_taken_apart(rt: HostRuntime) -> Result<(), Fail> {
     assert!(rt; load_is_a_choice(rt.alloc())?);
+    Ok(())
+}
+
+#[test]
+fn each_operator_has_a_normal_form(rt: HostRuntime) -> Result<(), Fail> {
+    assert!(rt; sample_has_a_normal_form(rt.alloc())?);
     Ok(())
 }
 

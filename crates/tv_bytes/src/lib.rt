@@ -53,17 +53,3 @@ impl Bytes {
         self.items
     }
 }
-
-#[cfg(test)]
-mod tests {
-    use super::*;
-    use std::test::Fail;
-
-    #[test]
-    fn copies_bytes(rt: HostRuntime) -> Result<(), Fail> {
-        let bytes = Bytes::copied(rt.alloc(), b"name")?;
-        assert_eq!(rt; bytes.as_slice(), b"name".as_slice());
-        assert_eq!(rt; bytes.into_vec().as_slice(), b"name".as_slice());
-        Ok(())
-    }
-}

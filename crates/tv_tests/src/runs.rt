@@ -347,21 +347,6 @@ fn refuses_a_text_by_its_first_fault(rt: HostRuntime) -> Result<(), Fail> {
     Ok(())
 }
 
-#[test]
-fn refuses_too_many_open_brackets(rt: HostRuntime) -> Result<(), Fail> {
-    let source = padded(rt.alloc(), b"int x=", b'(', 135)?;
-    let end = run_in_memory(
-        rt.alloc(),
-        COMMAND,
-        &ADD_TWO_ARGUMENTS,
-        source.as_slice(),
-        &NONE,
-    )?;
-    let report = b"refused c Depth at 134\n";
-    assert!(rt; is_end(&end, 3, report, b"", [0, 0, 0]), "{end:?}");
-    Ok(())
-}
-
 /// The executable with other words of code, another size of `f`, and a second symbol behind it.
 fn of_two_symbols(
     alloc: Global,
@@ -532,42 +517,6 @@ fn takes_files_up_to_their_maxima(rt: HostRuntime) -> Result<(), Fail> {
             end.status == status && end.report.as_slice() == report,
             "{end:?}"
         );
-    }
-    Ok(())
-}
-
-// Which calls fail, and what is left of the report and of the certificate. With 100 bytes a call the executable takes
-// three reads behind its beginning.
-const CUT_OFF: [(Mishaps<'static>, &[u8], &[u8], [u64; 3]); 2] = [
-    (
-        Mishaps {
-            desk: &[4],
-            report: &[],
-            store: &[],
-            most: 100,
-        },
-        b"",
-        b"",
-        [1, 0, 0],
-    ),
-    (
-        Mishaps {
-            desk: &[],
-            report: &[2],
-            store: &[],
-            most: 5,
-        },
-        b"valid",
-        CERTIFICATE,
-        [0, 1, 0],
-    ),
-];
-
-#[test]
-fn ends_at_the_call_that_fails(rt: HostRuntime) -> Result<(), Fail> {
-    for (mishaps, report, certificate, faults) in CUT_OFF {
-        let end = run_in_memory(rt.alloc(), COMMAND, &ADD_TWO_ARGUMENTS, SUM, &mishaps)?;
-        assert!(rt; is_end(&end, 4, report, certificate, faults), "{end:?}");
     }
     Ok(())
 }

@@ -155,18 +155,3 @@ fn refuses_other_words(rt: HostRuntime) -> Result<(), Fail> {
     }
     Ok(())
 }
-
-#[test]
-fn takes_a_long_list(rt: HostRuntime) -> Result<(), Fail> {
-    let alloc = rt.alloc();
-    let mut list = String::from_str(alloc, "--functions=f")?;
-    for index in 1..4097 {
-        write!(list, ",f{index}")?;
-    }
-    let words = ["tv", "prove", "e", "c", "--cert", "k", list.as_str()];
-    let words = strings(alloc, &words)?;
-    let Job::Prove(job) = command(alloc, words.as_slice())?;
-    let names = job.functions.as_ref().map_or(0, |names| names.len());
-    assert!(rt; names == 4097);
-    Ok(())
-}

@@ -21,6 +21,3 @@ pub use clause_spec::Literal;
 pub use gates::Gates;
 pub use shifts::Shift;
 pub use words::{negation, negations, none, one, padded, sign_of};
-
-#[cfg(test)]
-mod tests;

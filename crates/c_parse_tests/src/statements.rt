@@ -1,4 +1,4 @@
-// What stands in blocks, and faults with their places. Each row is worked by hand.
+// What stands in blocks. Each row is worked by hand.
 
 use c_parse_expression::TURNS;
 use c_parse_statement::parts;
@@ -37,24 +37,6 @@ const PARTS: [(&[u8], &[u8], usize, usize, usize); 20] = [
         1,
         0,
     ),
-];
-
-// What begins no parts with a token behind them, and the place of the token at fault: that of the end is the length.
-const FAULTS: [(&[u8], usize); 14] = [
-    (b"int = 1;", 4),
-    (b"{ a = 1;", 8),
-    (b"break a;", 6),
-    (b"return a b;", 9),
-    (b"a = 1 }", 6),
-    (b"if a", 3),
-    (b"if (a) else ;", 7),
-    (b"while (a)", 9),
-    (b"do ; while (a)", 14),
-    (b"for (int i = 0 i", 15),
-    (b"for (;;;)", 7),
-    (b"switch (a) { f(); }", 13),
-    (b"switch (a) { case 1; }", 19),
-    (&[b'{'; 200], 127),
 ];
 
 fn kind(part: Option<&Part<'_>>) -> (&'static [u8], usize) {
@@ -99,21 +81,6 @@ fn reads_parts(rt: HostRuntime) -> Result<(), Fail> {
         assert_eq!(rt; kind(read.first()), (first, inside));
         assert_eq!(rt; read.len(), count);
         assert_eq!(rt; rest, left);
-    }
-    Ok(())
-}
-
-#[test]
-fn places_faults(rt: HostRuntime) -> Result<(), Fail> {
-    for (source, place) in FAULTS {
-        let all = c_token::tokens(rt.alloc(), source).map_err(|_| "tokens")?;
-        let Err(ParseError::At(_, rest)) = front(rt.alloc(), all.as_slice()) else {
-            return Err(Fail::from("no fault"));
-        };
-        assert_eq!(rt;
-            rest.first().map_or(source.len(), |token| token.offset),
-            place
-        );
     }
     Ok(())
 }

@@ -4,7 +4,7 @@ ghost use Rattle.std.specs.Prelude.{⊤, ℕ};
 ghost use Rattle.walk_spec.specs.Countdown.{countdown, leads_back, no_call};
 ghost use Rattle.walk_spec.proofs.Countdown.{countdown_is_walk};
 
-use crate::{
+use graph_core::{
     Binding, Graph, GraphRun, Next, Node, Walks, arrivals_add_up, callee_runs_as_alone,
     ended_run_stays, run_goes_on, run_stops_as_its_rest, run_stops_once, validate,
 };

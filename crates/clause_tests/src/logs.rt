@@ -1,6 +1,7 @@
 ghost use Rattle.std.specs.Prelude.{◌≡◌, length, IfOk};
 
-use crate::{Literal, Log, StepError, StepFault, StepFaultKind};
+use clause_check::{Log, StepError, StepFault, StepFaultKind};
+use clause_spec::Literal;
 use cnf_core::Cnf;
 use std::alloc::{AllocError, Global};
 use std::test::Fail;

@@ -1,9 +1,9 @@
 //! What the contracts leave to memory, and values of the RISC-V unprivileged specification.
 
-use crate::effects::effect;
-use crate::{Effect, Machine, Memory, Ran, Stepped, run, step};
 use rv_decode::decode;
 use rv_instr::Reg;
+use rv_machine::effects::effect;
+use rv_machine::{Effect, Machine, Memory, Ran, Stepped, run, step};
 use std::alloc::{AllocError, Global};
 
 fn x(number: u8) -> Reg {

@@ -1,6 +1,8 @@
-//! Words beside the forms that GNU objdump 2.40 prints for them, and words that it prints none for.
+//! Words beside the forms that GNU objdump 2.40 prints for them, and that GNU as 2.40 makes the words of; words of no form,
+//! and forms of no word.
 
-use crate::decode;
+use rv_asm::{encode, fits};
+use rv_decode::decode;
 use rv_instr::{
     ArithmeticOperation, BranchTest, ImmediateOperation, Instr, LoadKind, Reg, ShiftOperation,
     StoreKind,
@@ -65,7 +67,7 @@ fn arithmetic(operation: ArithmeticOperation, rd: u8, left: u8, right: u8) -> In
 }
 
 #[test]
-fn decodes_as_the_disassembler_does(rt: HostRuntime) {
+fn decodes_and_encodes_as_other_tools_do(rt: HostRuntime) {
     let rows = [
         (
             0x800000b7,
@@ -267,6 +269,8 @@ fn decodes_as_the_disassembler_does(rt: HostRuntime) {
     ];
     for (word, form) in rows {
         assert_eq!(rt; decode(word), Some(form), "at {word:08x}");
+        assert!(rt; fits(&form), "at {word:08x}");
+        assert_eq!(rt; encode(&form), word, "at {word:08x}");
     }
 }
 
@@ -279,5 +283,39 @@ fn decodes_nothing_else(rt: HostRuntime) {
     ];
     for word in words {
         assert_eq!(rt; decode(word), None, "at {word:08x}");
+    }
+}
+
+#[test]
+fn refuses_what_no_word_has(rt: HostRuntime) {
+    let forms = [
+        Instr::Jal {
+            rd: x(0),
+            offset: 1,
+        },
+        Instr::Jalr {
+            rd: x(0),
+            base: x(1),
+            offset: 2048,
+        },
+        Instr::Branch {
+            test: BranchTest::Less,
+            left: x(1),
+            right: x(2),
+            offset: 4096,
+        },
+        Instr::Lui {
+            rd: x(1),
+            imm: 0x100000,
+        },
+        Instr::Shift {
+            operation: ShiftOperation::Left,
+            rd: x(1),
+            source: x(1),
+            amount: 32,
+        },
+    ];
+    for form in forms {
+        assert!(rt; !fits(&form), "{form:?}");
     }
 }
