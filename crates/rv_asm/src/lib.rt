@@ -10,6 +10,7 @@
 mod codes;
 mod formats;
 mod ranges;
+
 ghost use Rattle.std.specs.Prelude.{◌≡◌, ℕ, ◌<◌, ◌^◌, Some};
 ghost use Rattle.rv_instr.specs.Instr.{instr};
 ghost use Rattle.rv_asm.specs.Fits.{Fits};

@@ -12,6 +12,7 @@ ghost use Rattle.rv_instr.specs.Instr.{instr};
 mod fields;
 mod forms;
 mod tables;
+
 use crate::fields::{j_immediate, opcode, rd, u_immediate};
 use crate::forms::{arithmetic, branch, fence, immediate, indirect_jump, load, store};
 use rv_instr::Instr;

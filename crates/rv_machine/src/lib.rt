@@ -13,6 +13,7 @@ pub mod effects;
 mod machine;
 mod memory;
 mod stepping;
+
 pub use machine::Machine;
 pub use memory::Memory;
 use rv_instr::{LoadKind, Reg, StoreKind};
