@@ -6,3 +6,4 @@ pub mod Steps
 pub mod Turns
 pub mod Rebuilt
 pub mod Flats
+pub mod Plain

@@ -1,7 +1,10 @@
 // The flat term of a term.
 
-ghost use Rattle.std.specs.Prelude.{◌<◌, length, IfOk};
+ghost use Rattle.std.specs.Prelude.{◌≡◌, ◌↔◌, ◌<◌, length, Some, IfOk};
+ghost use Rattle.term_spec.specs.declared.Sort.TheVariants as sort;
+ghost use Rattle.term_spec.specs.Sort.{sort_of};
 ghost use Rattle.term_bank.specs.Nodes.{tree_at, Extends};
+ghost use Rattle.flat_spec.specs.Back.{LoadsFromVariables, IsWithoutMemory, HasNoBytes, IsAlwaysTrue};
 ghost use Rattle.mem_terms.specs.Places.{IsFlatOf};
 
 use crate::build::{implied, truth};
@@ -16,6 +19,12 @@ use term_bank::{Bank, TermId};
 pub fn flat(alloc: Global, bank: &mut Bank, goal: TermId) -> Result<Flat, AllocError>
     requires { goal < length bank.old }
     ensures flat { IfOk result (λ flat. IsFlatOf bank.new flat (tree_at bank.old goal)) }
+
+    // The flat term is a truth value without memory, and true under every assignment exactly where the term is.
+    ensures sort { IfOk result (λ flat. let t = tree_at bank.old goal in sort_of t ≡ Some sort.Truth → LoadsFromVariables t → sort_of (tree_at bank.new flat.term) ≡ Some sort.Truth) }
+    ensures memory { IfOk result (λ flat. let t = tree_at bank.old goal in sort_of t ≡ Some sort.Truth → LoadsFromVariables t → IsWithoutMemory (tree_at bank.new flat.term)) }
+    ensures valid { IfOk result (λ flat. let t = tree_at bank.old goal in sort_of t ≡ Some sort.Truth → LoadsFromVariables t → HasNoBytes t
+        → IsAlwaysTrue t ↔ IsAlwaysTrue (tree_at bank.new flat.term)) }
     ensures extends { Extends bank.old bank.new }
 {
     // equal trees have one place from here on

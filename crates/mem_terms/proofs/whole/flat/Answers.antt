@@ -5,6 +5,7 @@ use Rattle.mem_terms.specs.Places.{load_at, AreWithin}
 use Rattle.mem_terms.proofs.Trees.{extends_itself}
 use Rattle.mem_terms.proofs.Steps.{IsWalked, ended}
 use Rattle.mem_terms.proofs.Flats.{loads_within, without_within, is_flat, all_loads_within, all_loads_are}
+use Rattle.mem_terms.proofs.Plain.{flat_sort, flat_memory, flat_valid}
 use Rattle.mem_terms.proofs.whole.flat.Goals as goal
 
 pub place-without-requires : goal.place-without-requires
@@ -43,3 +44,12 @@ returns-clause-flat c =
           (all_loads_are c.args.bank.now c.truth.new.bank c.run.new.bank c.args.goal c.run.new.self.done.items c.run.new.self.loads.items c.deref.result.now c.truth.ensures.extends c.requires walked same c.consistent.new.bank c.implied.new.bank c.place-without.result c.in_ok-all.all c.in_ok-term.term
           c.place-without.ensures c.consistent.ensures.extends c.in_ok-all.ensures.tree c.implied.ensures.extends);
     }
+
+pub returns-clause-sort : goal.returns-clause-sort
+returns-clause-sort c = flat_sort c.implied.new.bank _ (tree_at c.args.bank.now c.args.goal) (returns-clause-flat c)
+
+pub returns-clause-memory : goal.returns-clause-memory
+returns-clause-memory c = flat_memory c.implied.new.bank _ (tree_at c.args.bank.now c.args.goal) (returns-clause-flat c)
+
+pub returns-clause-valid : goal.returns-clause-valid
+returns-clause-valid c = flat_valid c.implied.new.bank _ (tree_at c.args.bank.now c.args.goal) (returns-clause-flat c)
