@@ -1,4 +1,5 @@
 pub mod Growth
+pub mod Kept
 pub mod Parts
 pub mod Steps
 pub mod Taken

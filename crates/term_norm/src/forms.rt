@@ -1,6 +1,10 @@
 // The normal form of the terms of a bank.
 
-ghost use Rattle.std.specs.Prelude.{◌≡◌, ◌<◌, length, IfOk, IfErr};
+ghost use Rattle.std.specs.Prelude.{◌≡◌, ◌<◌, length, Some, IfOk, IfErr};
+ghost use Rattle.term_spec.specs.declared.Sort.{Sort};
+ghost use Rattle.term_spec.specs.Sort.{sort_of};
+ghost use Rattle.term_spec.specs.Value.{Assignment as assignment, IsAssignment, value};
+ghost use Rattle.normal_spec.specs.Fixed.{AreBytes, HoldsFixed};
 ghost use Rattle.normal_spec.specs.Normal as spec;
 ghost use Rattle.term_bank.specs.Nodes.{tree_at, Holds, Extends};
 ghost use Rattle.term_norm.specs.Runs.{runs_of, form_with};
@@ -85,6 +89,26 @@ fn form_at_hand(
     }
 }
 
+// The place of the normal form of a term, found on a walk over the terms below it.
+fn form_of(
+    alloc: Global,
+    bank: &mut Bank,
+    term: TermId,
+    runs: &[Run<'_>],
+) -> Result<TermId, AllocError>
+    requires { term < length bank.old }
+    ensures form { IfOk result (λ i. Holds bank.new i (form_with runs.now (tree_at bank.old term))) }
+    ensures extends { Extends bank.old bank.new }
+{
+    let mut walk = Walk::new(alloc, term);
+    loop {
+        let outcome = form_at_hand(alloc, bank, runs, &walk);
+        if let Some(form) = walk.take(outcome)? {
+            return Ok(form);
+        }
+    }
+}
+
 /// The place of the normal form of a term, where `runs` are the bytes that each memory of the source holds.
 /// The bank grows, also where memory is wanting.
 pub fn normal(
@@ -95,14 +119,13 @@ pub fn normal(
 ) -> Result<TermId, AllocError>
     requires { term < length bank.old }
     ensures form { IfOk result (λ i. Holds bank.new i (spec.normal (runs_of runs.now) (tree_at bank.old term))) }
+    ensures sort { IfOk result (λ i. AreBytes (runs_of runs.now) → (s : Sort) → sort_of (tree_at bank.old term) ≡ Some s → sort_of (tree_at bank.new i) ≡ Some s) }
+
+    // It has the value of the term wherever the memories of the source hold these bytes.
+    ensures value { IfOk result (λ i. (s : Sort) → sort_of (tree_at bank.old term) ≡ Some s
+        → (a : assignment) → IsAssignment a → HoldsFixed (runs_of runs.now) a → value a (tree_at bank.new i) ≡ value a (tree_at bank.old term)) }
     ensures within { IfOk result (λ i. i < length bank.new) }
     ensures extends { Extends bank.old bank.new }
 {
-    let mut walk = Walk::new(alloc, term);
-    loop {
-        let outcome = form_at_hand(alloc, bank, runs, &walk);
-        if let Some(form) = walk.take(outcome)? {
-            return Ok(form);
-        }
-    }
+    form_of(alloc, bank, term, runs)
 }

@@ -1,27 +1,26 @@
-use Rattle.std.proofs.Common.{◌≤◌, length, refl, arith}
-use Rattle.term_spec.specs.Term.{Term}
-use Rattle.term_norm.specs.Runs.{form_with}
-use Rattle.term_norm.specs.Walk.{Advances}
-use Rattle.term_norm.proofs.Growth.{extends_through, longer}
-use Rattle.term_norm.proofs.Steps.{goes_on}
-use Rattle.term_norm.proofs.Taken.{taken}
+use Rattle.std.proofs.lemmas.Result.{IfOk-weaker}
+use Rattle.term_bank.specs.Nodes.{tree_at}
+use Rattle.term_norm.specs.Runs.{runs_of, form_with}
+use Rattle.term_norm.proofs.Growth.{read, within}
+use Rattle.term_norm.proofs.Kept.{form_sort, form_value}
 use Rattle.term_norm.proofs.forms.normal.Goals as goal
 
-advances : (c : goal.In_default) → Advances c.loop-walk.walk c.take.new.self c.args.term
-advances c = goes_on c.loop-walk.walk c.take.new.self c.args.term c.form_at_hand-outcome.result c.in_ok-form.field-0 c.in_default.is (c.in_ok-form.ensures.end c.args.term c.loop-walk.invariant.sound)
+pub returns-clause-sort : goal.returns-clause-sort
+returns-clause-sort c =
+    IfOk-weaker c.form_of.result _ _
+    (λ i h. form_sort (runs_of c.args.runs.now) (tree_at c.args.bank.now c.args.term) (tree_at c.form_of.new.bank i)
+    (read c.form_of.new.bank i (form_with c.args.runs.now (tree_at c.args.bank.now c.args.term)) h))
+    c.form_of.ensures.form
 
-pub loop-walk-smaller : goal.loop-walk-smaller
-loop-walk-smaller c = (advances c).less
+pub returns-clause-value : goal.returns-clause-value
+returns-clause-value c =
+    IfOk-weaker c.form_of.result _ _
+    (λ i h. form_value (runs_of c.args.runs.now) (tree_at c.args.bank.now c.args.term) (tree_at c.form_of.new.bank i)
+    (read c.form_of.new.bank i (form_with c.args.runs.now (tree_at c.args.bank.now c.args.term)) h))
+    c.form_of.ensures.form
 
-pub loop-walk-preserved : goal.loop-walk-preserved
-loop-walk-preserved c =
-    let initial = c.args.bank.now in
-    let old = c.loop-walk.bank in
-    let new = c.form_at_hand-outcome.new.bank in
-    let more : length initial ≤ length old = longer initial old c.loop-walk.invariant.grown in
-    let at : c.loop-walk.walk.at ≤ c.args.term = c.loop-walk.invariant.sound.within in
-    record {
-      grown = extends_through initial old new c.loop-walk.invariant.grown c.form_at_hand-outcome.ensures.extends;
-      sound = (advances c).sound;
-      forms = taken (form_with c.args.runs.now) (form_with c.args.runs.now) old new c.loop-walk.walk c.take.new.self c.form_at_hand-outcome.result (λ (t : Term). refl) c.form_at_hand-outcome.ensures.extends (omega arith) c.loop-walk.invariant.forms c.form_at_hand-outcome.ensures.form c.in_ok-form.ensures.forms;
-    }
+pub returns-clause-within : goal.returns-clause-within
+returns-clause-within c =
+    IfOk-weaker c.form_of.result _ _
+    (λ i h. within c.form_of.new.bank i (form_with c.args.runs.now (tree_at c.args.bank.now c.args.term)) h)
+    c.form_of.ensures.form

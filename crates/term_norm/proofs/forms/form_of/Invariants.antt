@@ -1,7 +1,7 @@
 use Rattle.term_bank.specs.Nodes.{Extends}
 use Rattle.term_norm.specs.Runs.{form_with}
 use Rattle.term_norm.specs.Walk.{IsWalk, AreForms, work}
-use Rattle.term_norm.proofs.forms.normal.Given as goal
+use Rattle.term_norm.proofs.forms.form_of.Given as goal
 
 abbrev pub invariant-loop-walk : goal.invariant-loop-walk
 invariant-loop-walk l = record {
