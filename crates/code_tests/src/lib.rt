@@ -1,4 +1,4 @@
-//! Tests of files and code: images, layouts, what functions reach, the terms of instructions, and graphs.
+//! Tests of files and code: images, layouts, what functions reach, the terms of instructions, graphs, and walks.
 #![tactic(auto)]
 
 #[cfg(test)]
@@ -11,3 +11,5 @@ mod images;
 mod layouts;
 #[cfg(test)]
 mod terms;
+#[cfg(test)]
+mod walks;

@@ -16,6 +16,3 @@ pub use run::{GraphRun, callee_runs_as_alone, valid_run_keeps_sorts};
 pub use walks::{
     Walks, arrivals_add_up, ended_run_stays, run_goes_on, run_stops_as_its_rest, run_stops_once,
 };
-
-#[cfg(test)]
-mod tests;
