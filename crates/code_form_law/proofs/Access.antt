@@ -20,10 +20,10 @@ use Rattle.term_spec.specs.Shapes.{past, load_half, load_word, store_byte, store
 use Rattle.term_spec.specs.Value.{Truth, Number, Bytes, Assignment, value, operation, low_bits}
 use Rattle.graph_spec.specs.Run.{is_truth}
 use Rattle.code_graph_spec.specs.State.{register, memory, Alike}
-use Rattle.code_graph_spec.specs.Forms.{number, operand, address, loaded, stored, is_multiple, load_tests, aligned_for, all_hold}
+use Rattle.code_graph_spec.specs.Forms.{number, operand, address, loaded, stored, is_multiple, load_tests, aligned_for}
 use Rattle.code_form_law.proofs.Words.{byte_extended, half_extended}
 use Rattle.code_form_law.proofs.Values.{words_worth, equal_worth, zero_extend_worth, byte_sign_worth, half_sign_worth, byte_worth, join_two_worth, join_four_worth, load_worth, store_worth}
-use Rattle.code_form_law.specs.Worth.{IsWorth}
+use Rattle.code_form_law.specs.Worth.{IsWorth, all_hold}
 use Rattle.code_form_law.proofs.Forms.{constant_worth}
 
 -- ---- operands

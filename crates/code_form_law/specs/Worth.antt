@@ -1,5 +1,6 @@
 -- What it means that the term of a form is worth what the machine computes.
-use Rattle.std.specs.Prelude.{◌≡◌, ℕ, ◌^◌, ◌<◌, true, Some}
+use Rattle.std.specs.List.{list_all}
+use Rattle.std.specs.Prelude.{◌≡◌, ℕ, ◌^◌, ◌<◌, Bool, true, List, Some}
 use Rattle.rv_instr.specs.declared.ArithmeticOperation.{ArithmeticOperation}
 use Rattle.rv_instr.specs.declared.BranchTest.{BranchTest}
 use Rattle.rv_instr.specs.declared.LoadKind.{LoadKind}
@@ -10,12 +11,17 @@ use Rattle.rv_spec.specs.Step as step
 use Rattle.term_spec.specs.declared.Width.TheVariants.{W32}
 use Rattle.term_spec.specs.Term.{Term, open_term}
 use Rattle.term_spec.specs.Value.{Truth, Number, Assignment, value}
+use Rattle.graph_spec.specs.Run.{is_truth}
 use Rattle.code_graph_spec.specs.State.{memory, memory_value}
-use Rattle.code_graph_spec.specs.Forms.{computed, taken, loaded, stored, load_tests, aligned_for, all_hold}
+use Rattle.code_graph_spec.specs.Forms.{computed, taken, loaded, stored, load_tests, aligned_for}
 
 -- the term is worth this word
 abbrev pub IsWorth : Assignment → Term → ℕ → Type 0
 IsWorth s t a = value s t ≡ Number W32 a
+
+-- all of the tests hold
+abbrev pub all_hold : Assignment → List Term → Bool
+all_hold values tests = list_all (λ t. is_truth (value values t)) tests
 
 -- each operation
 abbrev pub OperationsCompute : Type 0

@@ -10,10 +10,10 @@ use Rattle.graph_spec.specs.declared.Next.{Next}
 use Rattle.graph_spec.specs.declared.Next.TheVariants as next
 use Rattle.graph_spec.specs.Graph.{Binding, Node, Basic, Cond, Call, Graph, with_nodes}
 use Rattle.code_graph_spec.specs.Forms.{access_tests, returns_home, effects, branch_test}
-use Rattle.code_graph_spec.specs.Blocks.{Of, Behind, Frame, leaves, toward, call_inputs}
+use Rattle.code_graph_spec.specs.Blocks.{Of, Behind, Setting, leaves, toward, call_inputs}
 use Rattle.code_graph_layout.specs.Layout.{Item, block, blocks}
 use Rattle.code_graph.specs.Items.{is_return_flow}
-use Rattle.code_graph.specs.Frames.{asks, Stays}
+use Rattle.code_graph.specs.Settings.{asks, Stays}
 use Rattle.code_graph.proofs.Asked.{with-with}
 use Rattle.code_graph.proofs.Parts.{falls_block, branch_block, jump_block, call_block, bad_call_block, lead_block, return_block, stop_block}
 
@@ -27,7 +27,7 @@ pub added_twice : (new middle old : Graph) (first second wanted : List Node) →
 added_twice new middle old first second wanted so more same =
     more ∙ ap (λ (g : Graph). with_nodes g second) so ∙ with-with old first second ∙ ap (with_nodes old) same
 
-module _ (f : Frame) (address : ℕ) (i : Instr) (new old : Graph) where
+module _ (f : Setting) (address : ℕ) (i : Instr) (new old : Graph) where
   pub step_added : (middle : Graph) (tests : List Term) (bindings : List Binding) (to : Next) → middle ≡ with_nodes old (asks f address 0 tests)
       → tests ≡ access_tests f.runs i → new ≡ with_nodes middle (Basic bindings to ∷ []) → bindings ≡ effects address i → to ≡ toward f (address + 4)
       → new ≡ with_nodes old (block f (record { address = address; form = i; flow = Falls }))
@@ -79,19 +79,19 @@ abbrev pub jal_flow : (rd target : ℕ) → Flow
 jal_flow rd target = if rd == 0 then Jumps target else if rd == 1 then Calls target else Leads target
 
 -- by a flow that is known
-pub with_flow : (f : Frame) (address : ℕ) (i : Instr) (new old : Graph) (flow other : Flow) → flow ≡ other
+pub with_flow : (f : Setting) (address : ℕ) (i : Instr) (new old : Graph) (flow other : Flow) → flow ≡ other
     → new ≡ with_nodes old (block f (record { address = address; form = i; flow = other }))
     → new ≡ with_nodes old (block f (record { address = address; form = i; flow = flow }))
 with_flow f address i new old flow other same so =
     so ∙ ap (λ (fl : Flow). with_nodes old (block f (record { address = address; form = i; flow = fl }))) (sym same)
 
 -- one instruction more
-pub block_added : (f : Frame) (new old wanted : Graph) (item : Item) (rest : List Item) → new ≡ with_nodes old (block f item)
+pub block_added : (f : Setting) (new old wanted : Graph) (item : Item) (rest : List Item) → new ≡ with_nodes old (block f item)
     → with_nodes old (blocks f (item ∷ rest)) ≡ wanted → with_nodes new (blocks f rest) ≡ wanted
 block_added f new old wanted item rest so whole =
     ap (λ (g : Graph). with_nodes g (blocks f rest)) so ∙ with-with old (block f item) (blocks f rest) ∙ whole
 
-module _ (f : Frame) (address : ℕ) (i : Instr) (new old : Graph) where
+module _ (f : Setting) (address : ℕ) (i : Instr) (new old : Graph) where
   pub jump_added : (rd target : ℕ) (to : Next) → rd ≡ 0 → Stays f (jal_flow rd target) → to ≡ toward f target → new ≡ with_nodes old (Basic [] to ∷ [])
       → new ≡ with_nodes old (block f (record { address = address; form = i; flow = jal_flow rd target }))
   jump_added rd target to e stays to_is so =

@@ -4,13 +4,13 @@ use Rattle.std.proofs.lemmas.List.{append_assoc, append-nil}
 use Rattle.term_spec.specs.Term.{Term}
 use Rattle.graph_spec.specs.declared.Next.TheVariants as next
 use Rattle.graph_spec.specs.Graph.{Node, Cond, Graph, with_nodes}
-use Rattle.code_graph_spec.specs.Blocks.{Of, Frame, Does, onward, chain}
-use Rattle.code_graph.specs.Frames.{asks}
+use Rattle.code_graph_spec.specs.Blocks.{Of, Setting, Does, onward, chain}
+use Rattle.code_graph.specs.Settings.{asks}
 
-abbrev pub ask : Frame → (address index : ℕ) → Term → Node
+abbrev pub ask : Setting → (address index : ℕ) → Term → Node
 ask f address index test = Cond test (next.At (f.at (Of address index))) next.Err
 
-pub asks-push : (f : Frame) (address index : ℕ) (tests : List Term) (test : Term)
+pub asks-push : (f : Setting) (address index : ℕ) (tests : List Term) (test : Term)
     → asks f address index (tests ++ test ∷ []) ≡ asks f address index tests ++ ask f address (index + length tests + 1) test ∷ []
 unfolding asks
 asks-push f address index [] test = ap (λ (n : ℕ). ask f address n test ∷ []) {x = index + 1} {y = index + 0 + 1} (omega arith)
@@ -21,7 +21,7 @@ asks-push f address index (t ∷ tests) test =
     (rest ∙ ap (λ (n : ℕ). asks f address (index + 1) tests ++ ask f address n test ∷ []) same)
 
 -- the tests before a node
-pub chain-asks : (f : Frame) (address index : ℕ) (tests : List Term) (node : Node) → chain f address index tests (Does node) ≡ asks f address index tests ++ node ∷ []
+pub chain-asks : (f : Setting) (address index : ℕ) (tests : List Term) (node : Node) → chain f address index tests (Does node) ≡ asks f address index tests ++ node ∷ []
 unfolding chain asks
 chain-asks f address index [] node = refl
 chain-asks f address index (test ∷ []) node = refl
@@ -33,14 +33,14 @@ with-with g first second =
     let make : List Node → Graph = λ nodes. record { nodes = nodes; entry = g.entry } in
     ap make (append_assoc g.nodes first second)
 
-pub nothing_asked : (f : Frame) (address : ℕ) (g : Graph) → g ≡ with_nodes g (asks f address 0 [])
+pub nothing_asked : (f : Setting) (address : ℕ) (g : Graph) → g ≡ with_nodes g (asks f address 0 [])
 unfolding asks
 nothing_asked f address g =
     let make : List Node → Graph = λ nodes. record { nodes = nodes; entry = g.entry } in
     ap make (sym (append-nil g.nodes))
 
 -- one test more
-pub test_added : (f : Frame) (address index number : ℕ) (start old new : Graph) (tests : List Term) (test : Term) → old ≡ with_nodes start (asks f address 0 tests)
+pub test_added : (f : Setting) (address index number : ℕ) (start old new : Graph) (tests : List Term) (test : Term) → old ≡ with_nodes start (asks f address 0 tests)
     → index ≡ length tests + 1 → number ≡ f.at (Of address index) → new ≡ with_nodes old (Cond test (next.At number) next.Err ∷ [])
     → new ≡ with_nodes start (asks f address 0 (tests ++ test ∷ []))
 test_added f address index number start old new tests test so count is more =

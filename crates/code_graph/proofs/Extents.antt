@@ -14,7 +14,7 @@ use Rattle.term_core.specs.Trees.{term_of}
 use Rattle.term_spec.specs.Term.{Term, or_term, less}
 use Rattle.code_graph_spec.specs.Forms.{number, avoids}
 use Rattle.code_terms.specs.Between.{avoids_between}
-use Rattle.code_graph.specs.Frames.{blank, blanked, run_of, HaveExtents}
+use Rattle.code_graph.specs.Settings.{blank, blanked, run_of, HaveExtents}
 use Rattle.code_graph.proofs.Rising.{one_list, starts_low}
 
 -- the addresses of the first runs
@@ -105,9 +105,11 @@ no_more image n runs given is = elim (cases_lt n (length runs)) [
 
 pub all_first : (image : Image) (extents : List Extent) → AreFirst image extents → IsExtentAt image (length extents) None → HaveExtents image extents
 all_first image extents are given = record {
+  runs = given.runs;
+  are_runs = given.are_runs;
   ordered = are.ordered;
   below = are.below;
-  same = λ runs is. are.same runs is ∙ ap (map blanked) (take_all (length extents) runs (no_more image (length extents) runs given is));
+  same = are.same given.runs given.are_runs ∙ ap (map blanked) (take_all (length extents) given.runs (no_more image (length extents) given.runs given given.are_runs));
 }
 
 blank_long : (x : Extent) → length (run_of x).bytes ≡ x.last + 1 - x.first

@@ -10,14 +10,14 @@ use Rattle.std.proofs.lemmas.List.{append_assoc, map-append, length-map, get_or_
 use Rattle.std.proofs.lemmas.Map.Keys.{sorted_from_strictly_increasing, below_from_sorted, sorted_tail}
 use Rattle.elf_spec.specs.Image.{Image}
 use Rattle.code_spec.specs.Code.{IsReachable}
-use Rattle.code_graph_spec.specs.Blocks.{Of, Frame}
+use Rattle.code_graph_spec.specs.Blocks.{Of, Setting}
 use Rattle.code_graph_spec.specs.CodeGraph.{AreFirstNodes}
 use Rattle.code_graph_layout.specs.Layout.{Item, block, AreNumbered, AreItems}
 use Rattle.code_graph.specs.declared.items.Item.{Item as CodeItem}
 use Rattle.code_graph.specs.Items.{item_of}
 use Rattle.code_graph.specs.Answer.{first_in}
 use Rattle.code_graph.specs.Counts.{further_nodes, numbered}
-use Rattle.code_graph.specs.Frames.{Stays}
+use Rattle.code_graph.specs.Settings.{Stays}
 use Rattle.code_graph.proofs.Sizes.{block_long}
 
 abbrev pub key : ℕ × ℕ → ℕ
@@ -114,7 +114,7 @@ next_numbered runs n next further old new item rest all inserted further_is next
 
 -- ---- a layout's numbers
 
-module _ (f : Frame) (firsts : List (ℕ × ℕ)) (up : IsStrictlyIncreasing (map key firsts)) where
+module _ (f : Setting) (firsts : List (ℕ × ℕ)) (up : IsStrictlyIncreasing (map key firsts)) where
   pub are_numbered : (front : List (ℕ × ℕ)) (n : ℕ) (items : List Item) → front ++ numbered (length f.runs) n items ≡ firsts
       → ((item : Item) → Contains items item → Stays f item.flow) → AreNumbered f (first_in firsts) n items
   unfolding AreNumbered
@@ -140,7 +140,7 @@ place_of (x ∷ es) e (suc k, below, is) =
     let found = place_of es e (k, omega arith, is) in
     (x ∷ found.0, found.1, ap (λ (ys : List (ℕ × ℕ)). x ∷ ys) found.2)
 
-pub are_first_nodes : (image : Image) (f : Frame) (runs : ℕ) (items : List Item) (firsts : List (ℕ × ℕ)) → AreItems image f.entry f.size items
+pub are_first_nodes : (image : Image) (f : Setting) (runs : ℕ) (items : List Item) (firsts : List (ℕ × ℕ)) → AreItems image f.entry f.size items
     → firsts ≡ numbered runs 1 items → ((address index : ℕ) → f.at (Of address index) ≡ first_in firsts address + index) → AreFirstNodes image f firsts
 are_first_nodes image f runs items firsts are numbers by = record { rising = up; exactly = λ address number. (reached address number, listed address number) }
   where

@@ -10,12 +10,12 @@ use Rattle.code_spec.specs.Code.{Falls, Branches, Jumps, Calls, Leads, Returns, 
 use Rattle.graph_spec.specs.declared.Next.TheVariants as next
 use Rattle.graph_spec.specs.Graph.{Node, Basic, Cond, Call}
 use Rattle.code_graph_spec.specs.Forms.{operand, access_tests, returns_home, effects, branch_test, taken}
-use Rattle.code_graph_spec.specs.Blocks.{Behind, Frame, Does, leaves, toward, chain, tests_of, ending_of, nodes_at, landing_of, call_inputs}
+use Rattle.code_graph_spec.specs.Blocks.{Behind, Setting, Does, leaves, toward, chain, tests_of, ending_of, nodes_at, landing_of, call_inputs}
 use Rattle.code_graph_layout.specs.Layout.{Item, block}
-use Rattle.code_graph.specs.Frames.{asks}
+use Rattle.code_graph.specs.Settings.{asks}
 use Rattle.code_graph.proofs.Asked.{chain-asks}
 
-module _ (f : Frame) (address : ℕ) (i : Instr) where
+module _ (f : Setting) (address : ℕ) (i : Instr) where
   pub falls_block : block f (record { address = address; form = i; flow = Falls })
       ≡ asks f address 0 (access_tests f.runs i) ++ Basic (effects address i) (toward f (address + 4)) ∷ []
   unfolding nodes_at tests_of ending_of landing_of

@@ -13,12 +13,12 @@ use Rattle.graph_spec.specs.declared.Next.{Next}
 use Rattle.graph_spec.specs.declared.Next.TheVariants as next
 use Rattle.graph_spec.specs.Graph.{Node, Basic, Call}
 use Rattle.code_graph_spec.specs.Forms as forms
-use Rattle.code_graph_spec.specs.Blocks.{Behind, Frame, Ending, Does, leaves, toward, chain, tests_of, ending_of, nodes_at, landing_of, call_inputs, tail_inputs}
+use Rattle.code_graph_spec.specs.Blocks.{Behind, Setting, Ending, Does, leaves, toward, chain, tests_of, ending_of, nodes_at, landing_of, call_inputs, tail_inputs}
 use Rattle.code_graph_layout.specs.Layout.{Item, landing_node, block}
 use Rattle.code_graph.specs.Counts.{load_tests, alignments, access_tests, further_by, further_nodes}
-use Rattle.code_graph.specs.Frames.{Stays}
+use Rattle.code_graph.specs.Settings.{Stays}
 
-chain_long : (f : Frame) (address index : ℕ) (tests : List Term) (node : Node) → length (chain f address index tests (Does node)) ≡ length tests + 1
+chain_long : (f : Setting) (address index : ℕ) (tests : List Term) (node : Node) → length (chain f address index tests (Does node)) ≡ length tests + 1
 unfolding chain
 chain_long f address index [] node = refl
 chain_long f address index (test ∷ tests) node = omega (arith, chain_long f address (index + 1) tests node)
@@ -35,7 +35,7 @@ aligned store_kind.Byte a = refl
 aligned store_kind.Half a = refl
 aligned store_kind.Word a = refl
 
-accesses : (f : Frame) (i : Instr) → length (forms.access_tests f.runs i) ≡ access_tests (length f.runs) i
+accesses : (f : Setting) (i : Instr) → length (forms.access_tests f.runs i) ≡ access_tests (length f.runs) i
 accesses f (instr.Lui rd imm) = refl
 accesses f (instr.Auipc rd imm) = refl
 accesses f (instr.Jal rd offset) = refl
@@ -53,18 +53,18 @@ accesses f (instr.Fence rd source bits) = refl
 accesses f instr.Ecall = refl
 accesses f instr.Ebreak = refl
 
-call_long : (f : Frame) (address target : ℕ) (b : Bool)
+call_long : (f : Setting) (address target : ℕ) (b : Bool)
     → length ((cond b (Call (f.graph_number target) (call_inputs ((address + 4) % 2 ^ 32)) [] (f.at (Behind address))) (Basic [] next.Err) ∷ [])
     ++ landing_node (cond b (Some (toward f (address + 4))) None)) ≡ cond b 1 0 + 1
 call_long f address target true = refl
 call_long f address target false = refl
 
-jump_long : (f : Frame) (address target : ℕ) (i : Instr) → leaves f target ≡ false
+jump_long : (f : Setting) (address target : ℕ) (i : Instr) → leaves f target ≡ false
     → length (nodes_at f address i (Jumps target) ++ landing_node (landing_of f address (Jumps target))) ≡ 1
 unfolding nodes_at chain tests_of ending_of landing_of
 jump_long f address target i e = rw e refl
 
-pub block_long : (f : Frame) (item : Item) → Stays f item.flow → length (block f item) ≡ further_nodes (length f.runs) item + 1
+pub block_long : (f : Setting) (item : Item) → Stays f item.flow → length (block f item) ≡ further_nodes (length f.runs) item + 1
 unfolding nodes_at chain tests_of ending_of landing_of
 block_long f item stays = of item.flow stays
   where

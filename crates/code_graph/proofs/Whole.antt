@@ -13,17 +13,17 @@ use Rattle.elf_read.specs.declared.parts.Extent.{Extent}
 use Rattle.code_spec.specs.Code.{InRange, Flow, Falls, Branches, Jumps, Calls, Leads, Returns, Stops, flow_of, instr_at, flow_at, IsReachable}
 use Rattle.code_spec.specs.Faults.{HasNoFault, goes_to}
 use Rattle.graph_spec.specs.Graph.{Node, Graph}
-use Rattle.code_graph_spec.specs.Blocks.{Place, Of, Frame, is_inside, leaves}
+use Rattle.code_graph_spec.specs.Blocks.{Place, Of, Setting, is_inside, leaves}
 use Rattle.code_graph_spec.specs.CodeGraph.{IsCodeGraph}
 use Rattle.code_graph_law.proofs.Reached.{flow_alone, stays_inside, code_there}
 use Rattle.code_graph_layout.specs.Layout.{Item, laid, blocks, AreItems, AreNumbered, LaidAreCodeGraphs}
 use Rattle.code_graph_valid.specs.Valid.{CodeGraphsAreValid}
 use Rattle.code_graph.specs.declared.items.Item.{Item as CodeItem}
 use Rattle.code_graph.specs.Items.{item_of, AreInstructions}
-use Rattle.code_graph.specs.Answer.{first_in, frame, IsFunctionGraph}
+use Rattle.code_graph.specs.Answer.{first_in, setting, IsFunctionGraph}
 use Rattle.code_graph.specs.Counts.{numbered}
-use Rattle.code_graph.specs.Frames.{run_of, blanked, HaveExtents, Stays}
-use Rattle.code_graph.proofs.Blanks.{blank_frame, same_laid}
+use Rattle.code_graph.specs.Settings.{run_of, blanked, HaveExtents, Stays}
+use Rattle.code_graph.proofs.Blanks.{blank_setting, same_laid}
 use Rattle.code_graph.proofs.Numbered.{key, same_keys, keys-numbered, are_numbered, are_first_nodes}
 
 -- ---- nothing jumps out of the range
@@ -32,10 +32,10 @@ off : (b : Bool) → (b && false) ≡ false
 off true = refl
 off false = refl
 
-stays_there : (f : Frame) (target : ℕ) → InRange f.entry f.size target → leaves f target ≡ false
+stays_there : (f : Setting) (target : ℕ) → InRange f.entry f.size target → leaves f target ≡ false
 stays_there f target inside = rw (le-leb f.entry target inside.from, lt-ltb target (f.entry + f.size) inside.below) (off (target % 4 == 0))
 
-pub stays : (image : Image) (f : Frame) (item : Item) → HasNoFault image f.entry f.size → IsReachable image f.entry f.size item.address
+pub stays : (image : Image) (f : Setting) (item : Item) → HasNoFault image f.entry f.size → IsReachable image f.entry f.size item.address
     → instr_at image item.address ≡ Some item.form → flow_at image f.entry item.address ≡ Some item.flow → Stays f item.flow
 stays image f item sound there form flow = of item.flow refl
   where
@@ -59,7 +59,7 @@ stays image f item sound there form flow = of item.flow refl
 pub rising_items : (items : List CodeItem) → IsStrictlyIncreasing (map (λ (item : Item). item.address) (map item_of items)) → IsStrictlyIncreasing (map (λ (item : CodeItem). item.address) items)
 rising_items items up = subst (λ (xs : List ℕ). IsStrictlyIncreasing xs) (same_keys items) up
 
-pub all_stay : (image : Image) (f : Frame) (items : List CodeItem) → HasNoFault image f.entry f.size → AreItems image f.entry f.size (map item_of items)
+pub all_stay : (image : Image) (f : Setting) (items : List CodeItem) → HasNoFault image f.entry f.size → AreItems image f.entry f.size (map item_of items)
     → All (λ (item : CodeItem). Stays f (item_of item).flow) items
 all_stay image f items sound are k d h =
     let among : Contains (map item_of items) (item_of (get_or items k d)) =
@@ -98,13 +98,12 @@ run_small (e ∷ extents) (r ∷ runs) same ordered below run (suc k, within, is
 
 module _ (image : Image) (entry size : ℕ) (entries : List ℕ) (items : List Item) (extents : List Extent) (firsts : List (ℕ × ℕ)) (graph : Graph)
     (sound : HasNoFault image entry size) (are : AreItems image entry size items) (have : HaveExtents image extents)
-    (numbers : firsts ≡ numbered (length extents) 1 items) (made : graph ≡ laid (frame entry size (map run_of extents) entries firsts) items)
-    (runs : List Run) (runs_are : AreRuns image runs) where
-  abbrev own : Frame
-  own = frame entry size runs entries firsts
+    (numbers : firsts ≡ numbered (length extents) 1 items) (made : graph ≡ laid (setting entry size (map run_of extents) entries firsts) items) where
+  abbrev own : Setting
+  own = setting entry size have.runs entries firsts
 
-  same_count : length extents ≡ length runs
-  same_count = sym (length-map extents run_of) ∙ ap length (have.same runs runs_are) ∙ length-map runs blanked
+  same_count : length extents ≡ length have.runs
+  same_count = sym (length-map extents run_of) ∙ ap length have.same ∙ length-map have.runs blanked
 
   up : IsStrictlyIncreasing (map key firsts)
   up = subst (λ (xs : List ℕ). IsStrictlyIncreasing xs) (sym (ap (map key) numbers ∙ keys-numbered (length extents) 1 items)) are.rising
@@ -115,17 +114,18 @@ module _ (image : Image) (entry size : ℕ) (entries : List ℕ) (items : List I
       (λ item among. stays image own item sound (are.reached item among) (are.forms item among) (are.flows item among))
 
   laid_so : graph ≡ laid own items
-  laid_so = made ∙ ap (λ (rs : List Run). laid (frame entry size rs entries firsts) items) (have.same runs runs_are) ∙ same_laid own items
+  laid_so = made ∙ ap (λ (rs : List Run). laid (setting entry size rs entries firsts) items) have.same ∙ same_laid own items
 
   is_graph : LaidAreCodeGraphs → IsCodeGraph image own graph
-  is_graph layout = subst (IsCodeGraph image own) (sym laid_so) (layout image own (first_in firsts) items runs_are sound are (λ place. refl) numbers_there)
+  is_graph layout = subst (IsCodeGraph image own) (sym laid_so) (layout image own (first_in firsts) items have.are_runs sound are (λ place. refl) numbers_there)
 
-  pub whole : size_at image entry ≡ Some size → LaidAreCodeGraphs → CodeGraphsAreValid → IsFunctionGraph image entry entries runs graph firsts
+  pub whole : size_at image entry ≡ Some size → LaidAreCodeGraphs → CodeGraphsAreValid → IsFunctionGraph image entry entries graph firsts
   whole size_is layout valid = record {
     size = size;
     size_is = size_is;
+    runs = have.runs;
     sound = sound;
     graph_is = is_graph layout;
     firsts_are = are_first_nodes image own (length extents) items firsts are numbers (λ address index. refl);
-    valid = valid image own graph sound (run_small extents runs (have.same runs runs_are) have.ordered have.below) (is_graph layout);
+    valid = valid image own graph sound (run_small extents have.runs have.same have.ordered have.below) (is_graph layout);
   }

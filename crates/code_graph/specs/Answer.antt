@@ -6,7 +6,7 @@ use Rattle.elf_spec.specs.Image.{Image, size_at}
 use Rattle.elf_spec.specs.Runs.{Run}
 use Rattle.code_spec.specs.Faults.{HasNoFault}
 use Rattle.graph_spec.specs.Graph.{Graph, IsValid}
-use Rattle.code_graph_spec.specs.Blocks.{Frame}
+use Rattle.code_graph_spec.specs.Blocks.{Setting}
 use Rattle.code_graph_spec.specs.CodeGraph.{IsCodeGraph, AreFirstNodes}
 use Rattle.code_graph_layout.specs.Layout.{numbers_by}
 
@@ -19,8 +19,8 @@ abbrev pub first_in : List (ℕ × ℕ) → (address : ℕ) → ℕ
 first_in firsts address = unwrap_or (lookup (nat_eq address) firsts) 0
 
 -- how graphs and nodes are numbered: graphs by a list of entries, nodes by the first one of each instruction
-abbrev pub frame : (entry size : ℕ) → List Run → (entries : List ℕ) → (firsts : List (ℕ × ℕ)) → Frame
-frame entry size runs entries firsts = record {
+abbrev pub setting : (entry size : ℕ) → List Run → (entries : List ℕ) → (firsts : List (ℕ × ℕ)) → Setting
+setting entry size runs entries firsts = record {
   entry = entry;
   size = size;
   runs = runs;
@@ -28,11 +28,13 @@ frame entry size runs entries firsts = record {
   at = numbers_by (first_in firsts);
 }
 
--- the function at an entry has no fault; this is its graph, and these are the first nodes of its instructions
-pub record IsFunctionGraph (image : Image) (entry : ℕ) (entries : List ℕ) (runs : List Run) (graph : Graph) (firsts : List (ℕ × ℕ)) : Type 0 where
+-- the function at an entry has no fault; this is its graph, whose stores meet none of the runs of fixed bytes, and
+-- these are the first nodes of its instructions
+pub record IsFunctionGraph (image : Image) (entry : ℕ) (entries : List ℕ) (graph : Graph) (firsts : List (ℕ × ℕ)) : Type 0 where
   pub size : ℕ
   pub size_is : size_at image entry ≡ Some size
+  pub runs : List Run
   pub sound : HasNoFault image entry size
-  pub graph_is : IsCodeGraph image (frame entry size runs entries firsts) graph
-  pub firsts_are : AreFirstNodes image (frame entry size runs entries firsts) firsts
+  pub graph_is : IsCodeGraph image (setting entry size runs entries firsts) graph
+  pub firsts_are : AreFirstNodes image (setting entry size runs entries firsts) firsts
   pub valid : IsValid graph

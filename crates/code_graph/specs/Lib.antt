@@ -1,4 +1,4 @@
 pub mod Answer
 pub mod Items
 pub mod Counts
-pub mod Frames
+pub mod Settings

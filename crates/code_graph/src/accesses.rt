@@ -3,7 +3,7 @@
 ghost use Rattle.std.specs.Prelude.{◌≡◌, ◌++◌, ◌∷◌, [], ◌≤◌, map, All, IfOk, OnOk};
 ghost use Rattle.term_core.specs.Trees.{term_of};
 ghost use Rattle.code_graph_spec.specs.Forms as spec;
-ghost use Rattle.code_graph.specs.Frames.{run_of};
+ghost use Rattle.code_graph.specs.Settings.{run_of};
 
 use code_terms::{address, avoids, is_multiple, last_written};
 use elf_read::Extent;

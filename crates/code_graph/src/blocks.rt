@@ -8,7 +8,7 @@ ghost use Rattle.graph_core.specs.Graphs.{graph_of, node_of};
 ghost use Rattle.code_graph_spec.specs.Forms.{branch_test as branch_test_is};
 ghost use Rattle.code_graph_layout.specs.Layout.{block};
 ghost use Rattle.code_graph.specs.Items.{item_of, item_with, is_return_flow};
-ghost use Rattle.code_graph.specs.Frames.{frame_of, Stays, asks};
+ghost use Rattle.code_graph.specs.Settings.{setting_of, Stays, asks};
 
 use crate::accesses::access_tests;
 use crate::bindings::{call_inputs, effects};
@@ -47,7 +47,7 @@ impl Function<'_> {
     /// Adds the tests of an instruction, each of which goes on to the node behind it; where one doesn't hold the run
     /// fails.
     fn add_tests(&self, graph: &mut Graph, address: u32, tests: Vec<Term>) -> Result<(), AllocError>
-        ensures { OnOk result (graph_of graph.new ≡ with_nodes (graph_of graph.old) (asks (frame_of self.now) address 0 (map term_of tests.items))) }
+        ensures { OnOk result (graph_of graph.new ≡ with_nodes (graph_of graph.old) (asks (setting_of self.now) address 0 (map term_of tests.items))) }
     {
         let mut index: usize = 0;
         for test in tests {
@@ -64,7 +64,7 @@ impl Function<'_> {
 
     /// Adds an instruction that goes on to the next one: its tests, and what it binds.
     fn add_step(&self, alloc: Global, graph: &mut Graph, item: &Item) -> Result<(), AllocError>
-        ensures { OnOk result (graph_of graph.new ≡ with_nodes (graph_of graph.old) (block (frame_of self.now) (item_with item.now Falls))) }
+        ensures { OnOk result (graph_of graph.new ≡ with_nodes (graph_of graph.old) (block (setting_of self.now) (item_with item.now Falls))) }
     {
         let tests = access_tests(alloc, self.runs, &item.form)?;
         self.add_tests(graph, item.address, tests)?;
@@ -83,7 +83,7 @@ impl Function<'_> {
         target: u32,
     ) -> Result<(), AllocError>
         requires { term_of test ≡ branch_test_is item.now.form }
-        ensures { OnOk result (graph_of graph.new ≡ with_nodes (graph_of graph.old) (block (frame_of self.now) (item_with item.now (Branches target)))) }
+        ensures { OnOk result (graph_of graph.new ≡ with_nodes (graph_of graph.old) (block (setting_of self.now) (item_with item.now (Branches target)))) }
     {
         let on_true = self.toward(target);
         let on_false = self.onward(item.address);
@@ -103,7 +103,7 @@ impl Function<'_> {
         item: &Item,
         target: u32,
     ) -> Result<(), AllocError>
-        ensures { OnOk result (graph_of graph.new ≡ with_nodes (graph_of graph.old) (block (frame_of self.now) (item_with item.now (Calls target)))) }
+        ensures { OnOk result (graph_of graph.new ≡ with_nodes (graph_of graph.old) (block (setting_of self.now) (item_with item.now (Calls target)))) }
     {
         if target.is_multiple_of(4) {
             let callee = self.graph_number(target);
@@ -131,8 +131,8 @@ impl Function<'_> {
         rd: Reg,
         target: u32,
     ) -> Result<(), AllocError>
-        requires { Stays (frame_of self.now) (if rd == 0 then Jumps target else if rd == 1 then Calls target else Leads target) }
-        ensures { OnOk result (graph_of graph.new ≡ with_nodes (graph_of graph.old) (block (frame_of self.now) (item_with item.now (if rd == 0 then Jumps target else if rd == 1 then Calls target else Leads target)))) }
+        requires { Stays (setting_of self.now) (if rd == 0 then Jumps target else if rd == 1 then Calls target else Leads target) }
+        ensures { OnOk result (graph_of graph.new ≡ with_nodes (graph_of graph.old) (block (setting_of self.now) (item_with item.now (if rd == 0 then Jumps target else if rd == 1 then Calls target else Leads target)))) }
     {
         match rd.number() {
             0 => {
@@ -158,7 +158,7 @@ impl Function<'_> {
         item: &Item,
         returns: bool,
     ) -> Result<(), AllocError>
-        ensures { OnOk result (graph_of graph.new ≡ with_nodes (graph_of graph.old) (block (frame_of self.now) (item_with item.now (if returns then Returns else Stops)))) }
+        ensures { OnOk result (graph_of graph.new ≡ with_nodes (graph_of graph.old) (block (setting_of self.now) (item_with item.now (if returns then Returns else Stops)))) }
     {
         if returns {
             let test = returns_home(alloc)?;
@@ -181,8 +181,8 @@ impl Function<'_> {
         graph: &mut Graph,
         item: &Item,
     ) -> Result<(), AllocError>
-        requires { Stays (frame_of self.now) (item_of item.now).flow }
-        ensures { OnOk result (graph_of graph.new ≡ with_nodes (graph_of graph.old) (block (frame_of self.now) (item_of item.now))) }
+        requires { Stays (setting_of self.now) (item_of item.now).flow }
+        ensures { OnOk result (graph_of graph.new ≡ with_nodes (graph_of graph.old) (block (setting_of self.now) (item_of item.now))) }
     {
         match item.form {
             Instr::Jal { rd, offset } => {

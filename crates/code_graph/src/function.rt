@@ -31,7 +31,7 @@ impl Function<'_> {
     ghost use Rattle.std.specs.Prelude.{◌≡◌, ◌+◌, IfOk};
     ghost use Rattle.code_graph_spec.specs.Blocks as spec;
     ghost use Rattle.code_graph.specs.Answer.{first_in, number_in};
-    ghost use Rattle.code_graph.specs.Frames.{frame_of};
+    ghost use Rattle.code_graph.specs.Settings.{setting_of};
 
     /// The number of the first node of the instruction at an address.
     fn first(&self, address: u32) -> usize
@@ -42,14 +42,14 @@ impl Function<'_> {
 
     /// The number of a node of the instruction at an address, if there are so many numbers.
     pub(crate) fn node(&self, address: u32, index: usize) -> Result<usize, AllocError>
-        ensures { IfOk result (λ number. number ≡ (frame_of self.now).at (spec.Of address index)) }
+        ensures { IfOk result (λ number. number ≡ (setting_of self.now).at (spec.Of address index)) }
     {
         plus(self.first(address), index)
     }
 
     /// Whether an address lies in the range.
     fn is_inside(&self, target: u32) -> bool
-        ensures { result ≡ spec.is_inside (frame_of self.now) target }
+        ensures { result ≡ spec.is_inside (setting_of self.now) target }
     {
         target >= self.entry && target - self.entry < self.size
     }
@@ -57,7 +57,7 @@ impl Function<'_> {
     /// On to the instruction at an address; an error at no multiple of 4, and outside the range.
     #[tactic(auto, unfolding(code_graph_spec::specs::Blocks::toward))]
     pub(crate) fn toward(&self, target: u32) -> Next
-        ensures { result ≡ spec.toward (frame_of self.now) target }
+        ensures { result ≡ spec.toward (setting_of self.now) target }
     {
         if target.is_multiple_of(4) && self.is_inside(target) {
             Next::At(self.first(target))
@@ -69,7 +69,7 @@ impl Function<'_> {
     /// On to the instruction behind the one at an address.
     #[tactic(auto, unfolding(code_graph_spec::specs::Blocks::toward))]
     pub(crate) fn onward(&self, address: u32) -> Next
-        ensures { result ≡ spec.toward (frame_of self.now) (address + 4) }
+        ensures { result ≡ spec.toward (setting_of self.now) (address + 4) }
     {
         match address.checked_add(4) {
             Some(next) => self.toward(next),

@@ -1,9 +1,8 @@
 //! The graph of a function.
 
-ghost use Rattle.std.specs.Prelude.{◌≡◌, ℕ, List, map, IfOk, IfErr, IsSome, All};
+ghost use Rattle.std.specs.Prelude.{◌≡◌, ℕ, map, IfOk, IfErr, IsSome, All};
 ghost use Rattle.std.specs.List.Sorted.{IsStrictlyIncreasing};
 ghost use Rattle.elf_spec.specs.Image.{size_at};
-ghost use Rattle.elf_spec.specs.Runs.{Run, AreRuns};
 ghost use Rattle.decompile.specs.Found.{IsCodeError};
 ghost use Rattle.graph_core.specs.Graphs.{graph_of};
 ghost use Rattle.code_graph.specs.Answer.{IsFunctionGraph};
@@ -35,12 +34,12 @@ impl Function<'_> {
     ghost use Rattle.code_graph_layout.specs.Layout.{laid};
     ghost use Rattle.graph_core.specs.Graphs.{graph_of as seen};
     ghost use Rattle.code_graph.specs.Items.{item_of};
-    ghost use Rattle.code_graph.specs.Frames.{frame_of, Stays};
+    ghost use Rattle.code_graph.specs.Settings.{setting_of, Stays};
 
     /// The graph of some instructions: a landing node at the entry, and the nodes of each in order.
     fn graph(&self, alloc: Global, items: &[Item]) -> Result<Graph, AllocError>
-        requires { All (λ item. Stays (frame_of self.now) (item_of item).flow) items.now }
-        ensures { IfOk result (λ graph. seen graph ≡ laid (frame_of self.now) (map item_of items.now)) }
+        requires { All (λ item. Stays (setting_of self.now) (item_of item).flow) items.now }
+        ensures { IfOk result (λ graph. seen graph ≡ laid (setting_of self.now) (map item_of items.now)) }
     {
         let mut graph = Graph::new(alloc);
         let first = self.node(self.entry, 0)?;
@@ -66,7 +65,7 @@ pub fn decompile(
 ) -> Result<CodeGraph, CodeError>
     requires function { IsSome (size_at image.now entry) }
     requires rising { IsStrictlyIncreasing entries.now }
-    ensures graph { IfOk result (λ found. (runs : List Run) → AreRuns image.now runs → IsFunctionGraph image.now entry entries.now runs (graph_of found.graph) found.firsts.entries) }
+    ensures graph { IfOk result (λ found. IsFunctionGraph image.now entry entries.now (graph_of found.graph) found.firsts.entries) }
     ensures fault { IfErr result (λ error. IsCodeError image.now entry error) }
 {
     let size = image.size_at(entry).unwrap();

@@ -1,7 +1,7 @@
 //! The runs of fixed bytes.
 
 ghost use Rattle.std.specs.Prelude.{IfOk, OnOk};
-ghost use Rattle.code_graph.specs.Frames.{HaveExtents};
+ghost use Rattle.code_graph.specs.Settings.{HaveExtents};
 
 use elf_read::{Extent, Image};
 use std::alloc::{AllocError, Global};

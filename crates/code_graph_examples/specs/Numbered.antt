@@ -8,7 +8,7 @@ use Rattle.graph_spec.specs.declared.Next.{Next}
 use Rattle.graph_spec.specs.declared.Next.TheVariants as next
 use Rattle.graph_spec.specs.Graph.{Node, Basic, Cond}
 use Rattle.code_graph_spec.specs.State.{register, entry_register, memory}
-use Rattle.code_graph_spec.specs.Blocks.{Place, Entrance, Of, Behind, Frame, nodes_at, landing_of}
+use Rattle.code_graph_spec.specs.Blocks.{Place, Entrance, Of, Behind, Setting, nodes_at, landing_of}
 
 abbrev pub number_of : Place → ℕ
 number_of Entrance = 0
@@ -16,7 +16,7 @@ number_of (Of address k) = (address - 0x10000) / 4 * 10 + k + 1
 number_of (Behind address) = (address - 0x10000) / 4 * 10 + 10
 
 -- a function at 10000 hex; the file fixes 100 hex bytes there, and four bytes from 20000 hex on
-abbrev pub function : ℕ → Frame
+abbrev pub function : ℕ → Setting
 function size = record {
   entry = 0x10000;
   size = size;

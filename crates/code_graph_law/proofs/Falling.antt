@@ -22,10 +22,9 @@ use Rattle.code_graph_spec.specs.State.{memory, Alike}
 use Rattle.code_graph_spec.specs.Forms as forms
 use Rattle.code_graph_spec.specs.Forms.{operand, number, address, effects, access_tests, load_tests, store_tests, computed, loaded, stored, aligned_for, avoids, last_written}
 use Rattle.code_form_law.proofs.Forms.{constant_worth, computed_worth}
-use Rattle.code_form_law.specs.Worth.{IsWorth}
+use Rattle.code_form_law.specs.Worth.{IsWorth, all_hold}
 use Rattle.code_form_law.proofs.Access.{operand_worth, address_worth, memory_worth, loaded_worth, stored_worth}
 use Rattle.code_graph_law.specs.Together.{Began, IsSound}
-use Rattle.code_graph_spec.specs.Forms.{all_hold}
 use Rattle.code_graph_law.proofs.Bound.{put_alike, put_began, store_alike, store_began, moved_alike}
 use Rattle.code_graph_law.proofs.Stored.{parts_hold, store_keeps}
 use Rattle.code_graph_law.proofs.Fields.{AreFields}

@@ -13,8 +13,8 @@ use Rattle.graph_spec.specs.Run.{Waiting, State, Running, Failed, step, is_truth
 use Rattle.walk_spec.specs.Walk.{Walk, after}
 use Rattle.code_graph_spec.specs.State.{Alike}
 use Rattle.code_graph_spec.specs.Blocks.{Of, tests_of, ending_of}
-use Rattle.code_graph_law.specs.Together.{Numbering, frame, AreCodeGraphs, is_node, IsAt, at_entrance, at_landing, in_instruction, Began, AreWaiting, IsBeside, beside, IsSound}
-use Rattle.code_graph_spec.specs.Forms.{all_hold}
+use Rattle.code_graph_law.specs.Together.{Numbering, setting, AreCodeGraphs, is_node, IsAt, at_entrance, at_landing, in_instruction, Began, AreWaiting, IsBeside, beside, IsSound}
+use Rattle.code_form_law.specs.Worth.{all_hold}
 use Rattle.code_graph_law.proofs.Stored.{more_holds}
 use Rattle.code_graph_law.proofs.Reached.{flow_alone, has_instruction, has_flow}
 use Rattle.code_graph_law.proofs.Steps.{Acts, Moves, fails, clean, next_test, last_moves}
@@ -52,8 +52,8 @@ module _ (image : Image) (entry : ℕ) (n : Numbering) (graphs : Graphs) (home :
 
     -- through the tests that are left
     run_on : (i : Instr) (flow : Flow) (left passed : List Term) → IsReachable image function size m.pc → instr_at image m.pc ≡ Some i
-        → flow_at image function m.pc ≡ Some flow → tests_of (frame n function size) i flow ≡ passed ++ left → all_hold values passed ≡ true
-        → is_node left (ending_of (frame n function size) m.pc i flow) ≡ true → Leads image entry n graphs home m (here_at passed)
+        → flow_at image function m.pc ≡ Some flow → tests_of (setting n function size) i flow ≡ passed ++ left → all_hold values passed ≡ true
+        → is_node left (ending_of (setting n function size) m.pc i flow) ≡ true → Leads image entry n graphs home m (here_at passed)
     unfolding tests_of
     run_on i flow [] passed there is flow_is tests hold node =
         let known = flow_alone image function size m.pc (clean image entry n graphs home no_fault whole function size reached sized) there i flow is flow_is in
@@ -64,9 +64,9 @@ module _ (image : Image) (entry : ℕ) (n : Numbering) (graphs : Graphs) (home :
         (λ more. next_test image entry n graphs home no_fault whole function size reached sized m ok back values below alike began waiting i flow passed test left there is flow_is tests more)
         (λ more now. run_on i flow left (passed ++ test ∷ []) there is flow_is (tests ∙ sym (append_assoc passed (test ∷ []) left)) (more_holds values passed test hold now) more)
       where
-        further : (is_node left (ending_of (frame n function size) m.pc i flow) ≡ true) ⊎ (flow ≡ Returns)
-            → (is_node left (ending_of (frame n function size) m.pc i flow) ≡ true → (step graphs (here_at passed) ≡ Failed) ⊎ ((step graphs (here_at passed) ≡ here_at (passed ++ test ∷ [])) × (is_truth (value values test) ≡ true)))
-            → (is_node left (ending_of (frame n function size) m.pc i flow) ≡ true → is_truth (value values test) ≡ true → Leads image entry n graphs home m (here_at (passed ++ test ∷ [])))
+        further : (is_node left (ending_of (setting n function size) m.pc i flow) ≡ true) ⊎ (flow ≡ Returns)
+            → (is_node left (ending_of (setting n function size) m.pc i flow) ≡ true → (step graphs (here_at passed) ≡ Failed) ⊎ ((step graphs (here_at passed) ≡ here_at (passed ++ test ∷ [])) × (is_truth (value values test) ≡ true)))
+            → (is_node left (ending_of (setting n function size) m.pc i flow) ≡ true → is_truth (value values test) ≡ true → Leads image entry n graphs home m (here_at (passed ++ test ∷ [])))
             → Leads image entry n graphs home m (here_at passed)
         further (inl more) step_is rest = by (step_is more)
           where
@@ -78,7 +78,7 @@ module _ (image : Image) (entry : ℕ) (n : Numbering) (graphs : Graphs) (home :
             let alone = flow_alone image function size m.pc (clean image entry n graphs home no_fault whole function size reached sized) there i flow is flow_is in
             one_step m (here_at passed) (return_moves image entry n graphs home no_fault whole function size reached sized m ok back values below alike began waiting i passed there is (flow_is ∙ ap Some home_bound) (sym alone.0 ∙ home_bound)
             (first_of_one image entry n graphs home no_fault whole function size reached sized m ok back values below alike began waiting passed test left
-            (sym (ap (λ (fl : Flow). tests_of (frame n function size) i fl) home_bound) ∙ tests)))
+            (sym (ap (λ (fl : Flow). tests_of (setting n function size) i fl) home_bound) ∙ tests)))
 
     -- from the first node of an instruction
     begin_on : (address : ℕ) → IsReachable image function size address → m.pc ≡ address
@@ -90,9 +90,9 @@ module _ (image : Image) (entry : ℕ) (n : Numbering) (graphs : Graphs) (home :
         from_here reach =
             let found = has_instruction image function size m.pc (clean image entry n graphs home no_fault whole function size reached sized) reach in
             let flow = has_flow image function m.pc found.0 found.1 in
-            run_on found.0 flow.0 (tests_of (frame n function size) found.0 flow.0) [] reach found.1 flow.1 refl refl (begins (frame n function size) m.pc found.0 flow.0)
+            run_on found.0 flow.0 (tests_of (setting n function size) found.0 flow.0) [] reach found.1 flow.1 refl refl (begins (setting n function size) m.pc found.0 flow.0)
 
-    pub leads_from : (node : ℕ) → IsAt image (frame n function size) values m.pc node → Leads image entry n graphs home m (Running (n.graph_number function) node values below)
+    pub leads_from : (node : ℕ) → IsAt image (setting n function size) values m.pc node → Leads image entry n graphs home m (Running (n.graph_number function) node values below)
     leads_from _ (at_entrance pc_is) =
         step_more m _ _ (from_entrance image entry n graphs home no_fault whole function size reached sized m ok back values below alike began waiting)
         (begin_on function (entry_reached image entry n graphs home no_fault whole function size reached sized m ok back values below alike began waiting) pc_is)

@@ -15,11 +15,11 @@ use Rattle.graph_spec.specs.Graph.{Node, Basic, Cond, Graphs}
 use Rattle.graph_spec.specs.Run.{Waiting, Running, Failed, step, go, is_truth}
 use Rattle.code_graph_spec.specs.State.{register, entry_register, Alike}
 use Rattle.code_graph_spec.specs.Forms.{returns_home}
-use Rattle.code_graph_spec.specs.Blocks.{Entrance, Of, Behind, Frame, toward, chain, tests_of, ending_of, nodes_at, landing_of}
+use Rattle.code_graph_spec.specs.Blocks.{Entrance, Of, Behind, Setting, toward, chain, tests_of, ending_of, nodes_at, landing_of}
 use Rattle.code_graph_spec.specs.CodeGraph.{IsNodeAt, entrance, of_instruction, landing}
 use Rattle.code_form_law.proofs.Values.{equal_worth}
-use Rattle.code_graph_law.specs.Together.{Numbering, frame, AreCodeGraphs, is_node, IsAt, at_entrance, at_landing, in_instruction, Began, AreWaiting, IsBeside, beside, IsSound}
-use Rattle.code_graph_spec.specs.Forms.{all_hold}
+use Rattle.code_graph_law.specs.Together.{Numbering, setting, AreCodeGraphs, is_node, IsAt, at_entrance, at_landing, in_instruction, Began, AreWaiting, IsBeside, beside, IsSound}
+use Rattle.code_form_law.specs.Worth.{all_hold}
 use Rattle.code_graph_law.proofs.Reached.{first_in, whole_word, flow_alone, code_there, has_code}
 use Rattle.code_graph_law.proofs.Fetched.{steps_by}
 use Rattle.code_graph_law.proofs.Stored.{more_holds}
@@ -30,8 +30,8 @@ use Rattle.code_graph_law.proofs.Steps.{Acts, Moves, fails, acts, waits, nothing
 module _ (image : Image) (entry : ℕ) (n : Numbering) (graphs : Graphs) (home : ℕ) (no_fault : ReachesNoFault image entry) (whole : AreCodeGraphs image entry n graphs)
     (function size : ℕ) (reached : Reaches image entry function) (sized : size_at image function ≡ Some size) (m : Machine) (ok : IsSound image m)
     (back : ℕ) (values : Assignment) (below : List Waiting) (alike : Alike m values) (began : Began values back) (waiting : AreWaiting image entry n home below back) where
-  abbrev f : Frame
-  f = frame n function size
+  abbrev f : Setting
+  f = setting n function size
 
   abbrev g : ℕ
   g = n.graph_number function

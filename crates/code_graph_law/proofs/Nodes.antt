@@ -8,13 +8,13 @@ use Rattle.code_spec.specs.Code.{InRange, Flow, Falls, Branches, Jumps, Calls, L
 use Rattle.term_spec.specs.Term.{Term}
 use Rattle.graph_spec.specs.declared.Next.TheVariants as next
 use Rattle.graph_spec.specs.Graph.{Node, Cond, Graph, Graphs, node_at}
-use Rattle.code_graph_spec.specs.Blocks.{Place, Entrance, Of, Frame, Ending, Does, Goes, is_inside, toward, onward, chain, tests_of, ending_of}
+use Rattle.code_graph_spec.specs.Blocks.{Place, Entrance, Of, Setting, Ending, Does, Goes, is_inside, toward, onward, chain, tests_of, ending_of}
 use Rattle.code_graph_spec.specs.CodeGraph.{IsNodeAt}
-use Rattle.code_graph_law.specs.Together.{Numbering, frame, AreCodeGraphs, is_node}
+use Rattle.code_graph_law.specs.Together.{Numbering, setting, AreCodeGraphs, is_node}
 
 -- ---- in a chain
 
-module _ (f : Frame) (address : ℕ) where
+module _ (f : Setting) (address : ℕ) where
   -- the test behind others
   pub test_in : (index : ℕ) (passed : List Term) (test : Term) (left : List Term) (ending : Ending)
       → slice_get (chain f address index (passed ++ test ∷ left) ending) (length passed)
@@ -54,12 +54,12 @@ module _ (f : Frame) (address : ℕ) where
 
 -- ---- targets
 
-pub toward_there : (f : Frame) (target : ℕ) → target % 4 ≡ 0 → InRange f.entry f.size target → toward f target ≡ next.At (f.at (Of target 0))
+pub toward_there : (f : Setting) (target : ℕ) → target % 4 ≡ 0 → InRange f.entry f.size target → toward f target ≡ next.At (f.at (Of target 0))
 unfolding toward
 toward_there f target whole inside =
     rw (eq-eqb (target % 4) 0 whole, le-leb f.entry target inside.from, lt-ltb target (f.entry + f.size) inside.below) refl
 
-pub toward_either : (f : Frame) (target : ℕ) → (toward f target ≡ next.Err) ⊎ ((target % 4 ≡ 0) × InRange f.entry f.size target)
+pub toward_either : (f : Setting) (target : ℕ) → (toward f target ≡ next.Err) ⊎ ((target % 4 ≡ 0) × InRange f.entry f.size target)
 unfolding toward
 toward_either f target = at ((target % 4 == 0) && is_inside f target) refl
   where
@@ -74,7 +74,7 @@ toward_either f target = at ((target % 4 == 0) && is_inside f target) refl
 
 module _ (image : Image) (entry : ℕ) (n : Numbering) (graphs : Graphs) (whole : AreCodeGraphs image entry n graphs) where
   pub node_there : (function size : ℕ) (place : Place) (node : Node) → Reaches image entry function → size_at image function ≡ Some size
-      → IsNodeAt image (frame n function size) place node → node_at graphs (n.graph_number function) (n.node_number function place) ≡ Some node
+      → IsNodeAt image (setting n function size) place node → node_at graphs (n.graph_number function) (n.node_number function place) ≡ Some node
   node_there function size place node reached sized is =
       let found = whole.each function size reached sized in
       ap (option_and_then (λ (graph : Graph). slice_get graph.nodes (n.node_number function place))) found.1 ∙ found.2.there place node is

@@ -24,12 +24,12 @@ use Rattle.graph_spec.specs.Graph.{Node, Basic, Cond, Call, Graph, Graphs}
 use Rattle.graph_spec.specs.Run.{Waiting, State, Running, Returned, Failed, step, act, go, leave, enter, bound, entered, resumed, is_truth}
 use Rattle.code_graph_spec.specs.State.{Alike}
 use Rattle.code_graph_spec.specs.Forms.{operand, effects, branch_test}
-use Rattle.code_graph_spec.specs.Blocks.{Place, Of, Behind, Frame, Ending, Does, toward, onward, chain, leaves, call_inputs, tail_inputs, tests_of, ending_of, nodes_at}
+use Rattle.code_graph_spec.specs.Blocks.{Place, Of, Behind, Setting, Ending, Does, toward, onward, chain, leaves, call_inputs, tail_inputs, tests_of, ending_of, nodes_at}
 use Rattle.code_graph_spec.specs.CodeGraph.{IsNodeAt, of_instruction}
 use Rattle.code_form_law.proofs.Forms.{taken_worth}
 use Rattle.code_form_law.proofs.Access.{operand_worth}
-use Rattle.code_graph_law.specs.Together.{Numbering, frame, AreCodeGraphs, is_node, IsAt, at_entrance, at_landing, in_instruction, Began, AreWaiting, nobody, behind_call, IsBeside, beside, IsSound}
-use Rattle.code_graph_spec.specs.Forms.{all_hold}
+use Rattle.code_graph_law.specs.Together.{Numbering, setting, AreCodeGraphs, is_node, IsAt, at_entrance, at_landing, in_instruction, Began, AreWaiting, nobody, behind_call, IsBeside, beside, IsSound}
+use Rattle.code_form_law.specs.Worth.{all_hold}
 use Rattle.code_graph_law.proofs.Reached.{first_in, second_in, is_aligned, inside_range, multiple_there, whole_word, has_instruction, has_flow, stays_inside, calls_function, has_code}
 use Rattle.code_graph_law.proofs.Fetched.{steps_by}
 use Rattle.code_graph_law.proofs.Bound.{moved_alike, call_alike, call_began, resumed_alike, resumed_began}
@@ -77,14 +77,14 @@ pub data Moves (image : Image) (entry : ℕ) (n : Numbering) (home : ℕ) (m : M
 still_machine : (i : Instr) (m then : Machine) → IsMachine m → execute i m ≡ Some then → IsMachine then
 still_machine i m then is does = subst (λ (o : Option Machine). IfSome o IsMachine) does (execute_keeps i m is)
 
-not_leaving : (f : Frame) (target : ℕ) → InRange f.entry f.size target → leaves f target ≡ false
+not_leaving : (f : Setting) (target : ℕ) → InRange f.entry f.size target → leaves f target ≡ false
 not_leaving f target inside = rw (le-leb f.entry target inside.from, lt-ltb target (f.entry + f.size) inside.below) (off (target % 4 == 0))
   where
     off : (b : Bool) → (b && false) ≡ false
     off true = refl
     off false = refl
 
-misaligned : (f : Frame) (target : ℕ) → (target % 4 == 0) ≡ false → toward f target ≡ to.Err
+misaligned : (f : Setting) (target : ℕ) → (target % 4 == 0) ≡ false → toward f target ≡ to.Err
 unfolding toward
 misaligned f target odd = rw odd refl
 
@@ -104,17 +104,17 @@ module _ (image : Image) (entry : ℕ) (n : Numbering) (graphs : Graphs) (home :
 
   -- the first node of an instruction that is reached
   pub start_at : (function size address : ℕ) (values : Assignment) → Reaches image entry function → size_at image function ≡ Some size → IsReachable image function size address
-      → IsAt image (frame n function size) values address (n.node_number function (Of address 0))
+      → IsAt image (setting n function size) values address (n.node_number function (Of address 0))
   start_at function size address values reached sized there =
       let found = has_instruction image function size address (clean function size reached sized) there in
       let flow = has_flow image function address found.0 found.1 in
-      in_instruction found.0 flow.0 [] (tests_of (frame n function size) found.0 flow.0) there found.1 flow.1 refl refl
-      (begins (frame n function size) address found.0 flow.0)
+      in_instruction found.0 flow.0 [] (tests_of (setting n function size) found.0 flow.0) there found.1 flow.1 refl refl
+      (begins (setting n function size) address found.0 flow.0)
 
   module _ (function size : ℕ) (reached : Reaches image entry function) (sized : size_at image function ≡ Some size) (m : Machine) (ok : IsSound image m)
       (back : ℕ) (values : Assignment) (below : List Waiting) (alike : Alike m values) (began : Began values back) (waiting : AreWaiting image entry n home below back) where
-    abbrev f : Frame
-    f = frame n function size
+    abbrev f : Setting
+    f = setting n function size
 
     abbrev g : ℕ
     g = n.graph_number function

@@ -21,8 +21,7 @@ use Rattle.graph_spec.specs.Run.{is_truth}
 use Rattle.code_graph_spec.specs.Forms.{number, avoids, last_written, aligned_for, store_tests}
 use Rattle.code_form_law.proofs.Values.{words_worth, less_worth, or_worth}
 use Rattle.code_form_law.proofs.Forms.{constant_worth}
-use Rattle.code_form_law.specs.Worth.{IsWorth}
-use Rattle.code_graph_spec.specs.Forms.{all_hold}
+use Rattle.code_form_law.specs.Worth.{IsWorth, all_hold}
 use Rattle.code_graph_law.proofs.Covered.{covered}
 
 pub parts_hold : (s : Assignment) (xs ys : List Term) → all_hold s (xs ++ ys) ≡ true → (all_hold s xs ≡ true) × (all_hold s ys ≡ true)

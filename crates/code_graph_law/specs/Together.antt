@@ -14,8 +14,8 @@ use Rattle.graph_spec.specs.Graph.{Graph, Graphs}
 use Rattle.graph_spec.specs.Run.{Waiting, State, Running, Returned, Failed, walk_of}
 use Rattle.walk_spec.specs.Walk as walk
 use Rattle.code_graph_spec.specs.State.{entry_register, Alike}
-use Rattle.code_graph_spec.specs.Forms.{all_hold}
-use Rattle.code_graph_spec.specs.Blocks.{Place, Entrance, Of, Behind, Frame, Ending, Does, Goes, tests_of, ending_of}
+use Rattle.code_form_law.specs.Worth.{all_hold}
+use Rattle.code_graph_spec.specs.Blocks.{Place, Entrance, Of, Behind, Setting, Ending, Does, Goes, tests_of, ending_of}
 use Rattle.code_graph_spec.specs.CodeGraph.{IsCodeGraph}
 
 -- ---- the graphs of a set of functions
@@ -26,13 +26,13 @@ pub record Numbering : Type 0 where
   pub graph_number : ℕ → ℕ
   pub node_number : ℕ → Place → ℕ
 
-abbrev pub frame : Numbering → (entry size : ℕ) → Frame
-frame n entry size = record { entry = entry; size = size; runs = n.runs; graph_number = n.graph_number; at = n.node_number entry }
+abbrev pub setting : Numbering → (entry size : ℕ) → Setting
+setting n entry size = record { entry = entry; size = size; runs = n.runs; graph_number = n.graph_number; at = n.node_number entry }
 
 -- each function that is reached from the entry has its graph
 pub record AreCodeGraphs (image : Image) (entry : ℕ) (n : Numbering) (graphs : Graphs) : Type 0 where
   pub each : (function size : ℕ) → Reaches image entry function → size_at image function ≡ Some size
-      → (graph : Graph) × (slice_get graphs (n.graph_number function) ≡ Some graph) × IsCodeGraph image (frame n function size) graph
+      → (graph : Graph) × (slice_get graphs (n.graph_number function) ≡ Some graph) × IsCodeGraph image (setting n function size) graph
 
 -- ---- where a run stands
 
@@ -44,7 +44,7 @@ is_node (test ∷ tests) ending = true
 
 -- the node of a function at which a run stands, where the machine is at pc: the landing node at the entry, that behind
 -- a call, or a node of the instruction at pc, whose tests before that node hold
-pub data IsAt (image : Image) (f : Frame) (values : Assignment) (pc : ℕ) : ℕ → Type 0 where
+pub data IsAt (image : Image) (f : Setting) (values : Assignment) (pc : ℕ) : ℕ → Type 0 where
   at_entrance : pc ≡ f.entry → IsAt image f values pc (f.at Entrance)
   at_landing : (address target : ℕ) → IsReachable image f.entry f.size address → flow_at image f.entry address ≡ Some (Calls target)
       → target % 4 ≡ 0 → pc ≡ past address 4 → IsAt image f values pc (f.at (Behind address))
@@ -72,7 +72,7 @@ pub data AreWaiting (image : Image) (entry : ℕ) (n : Numbering) (home : ℕ) :
 -- at, and the variables have what it has
 pub data IsBeside (image : Image) (entry : ℕ) (n : Numbering) (home : ℕ) (m : Machine) : State → Type 0 where
   beside : (function size node back : ℕ) (values : Assignment) (below : List Waiting) → Reaches image entry function
-      → size_at image function ≡ Some size → IsAt image (frame n function size) values m.pc node → Alike m values
+      → size_at image function ≡ Some size → IsAt image (setting n function size) values m.pc node → Alike m values
       → Began values back → AreWaiting image entry n home below back
       → IsBeside image entry n home m (Running (n.graph_number function) node values below)
 

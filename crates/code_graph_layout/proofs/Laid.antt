@@ -12,7 +12,7 @@ use Rattle.code_spec.specs.Faults.{HasNoFault, goes_to}
 use Rattle.graph_spec.specs.declared.Next.{Next}
 use Rattle.graph_spec.specs.declared.Next.TheVariants as next
 use Rattle.graph_spec.specs.Graph.{Node, Basic}
-use Rattle.code_graph_spec.specs.Blocks.{Place, Entrance, Of, Behind, Frame, leaves, chain, tests_of, ending_of, nodes_at, landing_of}
+use Rattle.code_graph_spec.specs.Blocks.{Place, Entrance, Of, Behind, Setting, leaves, chain, tests_of, ending_of, nodes_at, landing_of}
 use Rattle.code_graph_spec.specs.CodeGraph.{IsNodeAt, entrance, of_instruction, landing, IsCodeGraph}
 use Rattle.code_graph_law.proofs.Reached.{flow_alone, stays_inside, first_in}
 use Rattle.code_graph_layout.specs.Layout.{Item, landing_node, block, blocks, entrance_node, laid, numbers_by, AreNumbered, AreItems}
@@ -23,7 +23,7 @@ off : (b : Bool) → (b && false) ≡ false
 off true = refl
 off false = refl
 
-no_tail : (f : Frame) (address target : ℕ) (to : Next) → InRange f.entry f.size target → landing_of f address (Jumps target) ≡ Some to → ⊥
+no_tail : (f : Setting) (address target : ℕ) (to : Next) → InRange f.entry f.size target → landing_of f address (Jumps target) ≡ Some to → ⊥
 unfolding landing_of
 no_tail f address target to inside e =
     let stays : leaves f target ≡ false = rw (le-leb f.entry target inside.from, lt-ltb target (f.entry + f.size) inside.below) (off (target % 4 == 0)) in
@@ -31,7 +31,7 @@ no_tail f address target to inside e =
     let bad : None ≡ Some to = sym none ∙ e in
     cc
 
-module _ (image : Image) (f : Frame) (no_fault : HasNoFault image f.entry f.size) where
+module _ (image : Image) (f : Setting) (no_fault : HasNoFault image f.entry f.size) where
   one_node : (address : ℕ) (i : Instr) (flow : Flow) (to : Next) → IsReachable image f.entry f.size address → instr_at image address ≡ Some i → flow_at image f.entry address ≡ Some flow
       → landing_of f address flow ≡ Some to → length (nodes_at f address i flow) ≡ 1
   unfolding landing_of nodes_at chain tests_of ending_of

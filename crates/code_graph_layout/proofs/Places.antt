@@ -4,7 +4,7 @@ use Rattle.std.specs.Prelude.{slice_get, Contains}
 use Rattle.std.proofs.lemmas.Bool.{cases_lt}
 use Rattle.std.proofs.lemmas.List.{append_assoc, length-append}
 use Rattle.graph_spec.specs.Graph.{Node}
-use Rattle.code_graph_spec.specs.Blocks.{Frame}
+use Rattle.code_graph_spec.specs.Blocks.{Setting}
 use Rattle.code_graph_layout.specs.Layout.{Item, block, blocks, AreNumbered}
 
 -- ---- places of lists
@@ -21,27 +21,27 @@ get_behind (x ∷ xs) ys j = ap (slice_get (x ∷ xs ++ ys)) {x = suc (length xs
 -- ---- the number at which an item's nodes stand
 
 -- the item is among them, and its nodes stand at m where those of the first stand at n
-pub data Stands (f : Frame) : (n : ℕ) → List Item → Item → (m : ℕ) → Type 0 where
+pub data Stands (f : Setting) : (n : ℕ) → List Item → Item → (m : ℕ) → Type 0 where
   at_once : (n : ℕ) (item : Item) (rest : List Item) → Stands f n (item ∷ rest) item n
   behind : (n m : ℕ) (x item : Item) (rest : List Item) → Stands f (n + length (block f x)) rest item m → Stands f n (x ∷ rest) item m
 
-pub stands_from : (f : Frame) (n m : ℕ) (items : List Item) (item : Item) → Stands f n items item m → n ≤ m
+pub stands_from : (f : Setting) (n m : ℕ) (items : List Item) (item : Item) → Stands f n items item m → n ≤ m
 stands_from f n m items item (at_once _ _ rest) = omega arith
 stands_from f n m items item (behind _ _ x _ rest s) = omega (arith, stands_from f (n + length (block f x)) m rest item s)
 
-pub stands_numbered : (f : Frame) (first : ℕ → ℕ) (n m : ℕ) (items : List Item) (item : Item) → AreNumbered f first n items → Stands f n items item m → first item.address ≡ m
+pub stands_numbered : (f : Setting) (first : ℕ → ℕ) (n m : ℕ) (items : List Item) (item : Item) → AreNumbered f first n items → Stands f n items item m → first item.address ≡ m
 unfolding AreNumbered
 stands_numbered f first n m items item are (at_once _ _ rest) = are.0
 stands_numbered f first n m items item are (behind _ _ x _ rest s) = stands_numbered f first (n + length (block f x)) m rest item are.1 s
 
-pub stands_among : (f : Frame) (n : ℕ) (items : List Item) (item : Item) → Contains items item → (m : ℕ) × Stands f n items item m
+pub stands_among : (f : Setting) (n : ℕ) (items : List Item) (item : Item) → Contains items item → (m : ℕ) × Stands f n items item m
 stands_among f n [] item (k, below, is) = absurd (omega arith)
 stands_among f n (x ∷ rest) item (zero, below, is) = (n, subst (λ y. Stands f n (y ∷ rest) item n) (sym is) (at_once n item rest))
 stands_among f n (x ∷ rest) item (suc k, below, is) =
     let found = stands_among f (n + length (block f x)) rest item (k, omega arith, is) in
     (found.0, behind n found.0 x item rest found.1)
 
-pub among_stands : (f : Frame) (n m : ℕ) (items : List Item) (item : Item) → Stands f n items item m → Contains items item
+pub among_stands : (f : Setting) (n m : ℕ) (items : List Item) (item : Item) → Stands f n items item m → Contains items item
 among_stands f n m items item (at_once _ _ rest) = (0, omega arith, refl)
 among_stands f n m items item (behind _ _ x _ rest s) =
     let found = among_stands f (n + length (block f x)) m rest item s in
@@ -49,7 +49,7 @@ among_stands f n m items item (behind _ _ x _ rest s) =
 
 -- ---- its nodes
 
-pub node_in : (f : Frame) (before : List Node) (n m : ℕ) (items : List Item) (item : Item) (j : ℕ) → length before ≡ n → Stands f n items item m → j < length (block f item)
+pub node_in : (f : Setting) (before : List Node) (n m : ℕ) (items : List Item) (item : Item) (j : ℕ) → length before ≡ n → Stands f n items item m → j < length (block f item)
     → slice_get (before ++ blocks f items) (m + j) ≡ slice_get (block f item) j
 node_in f before n m items item j count (at_once _ _ rest) below =
     ap (slice_get (before ++ (block f item ++ blocks f rest))) {x = n + j} {y = length before + j} (omega arith)
@@ -59,7 +59,7 @@ node_in f before n m items item j count (behind _ _ x _ rest s) below =
     ∙ node_in f (before ++ block f x) (n + length (block f x)) m rest item j (omega (arith, length-append before (block f x))) s below
 
 -- each number is that of a node of one item
-pub item_of : (f : Frame) (n : ℕ) (items : List Item) (k : ℕ) → n ≤ k → k < n + length (blocks f items)
+pub item_of : (f : Setting) (n : ℕ) (items : List Item) (k : ℕ) → n ≤ k → k < n + length (blocks f items)
     → (item : Item) × (m : ℕ) × (j : ℕ) × Stands f n items item m × (j < length (block f item)) × (k ≡ m + j)
 item_of f n [] k from below = absurd (omega arith)
 item_of f n (x ∷ rest) k from below = elim (cases_lt k (n + length (block f x))) [
@@ -70,7 +70,7 @@ item_of f n (x ∷ rest) k from below = elim (cases_lt k (n + length (block f x)
 ]
 
 -- an item is the first, or among the rest
-first_or_rest : (f : Frame) (n l : ℕ) (items : List Item) (other : Item) → Stands f n items other l → (x : Item) (rest : List Item) → items ≡ x ∷ rest
+first_or_rest : (f : Setting) (n l : ℕ) (items : List Item) (other : Item) → Stands f n items other l → (x : Item) (rest : List Item) → items ≡ x ∷ rest
     → ((x ≡ other) × (l ≡ n)) ⊎ Stands f (n + length (block f x)) rest other l
 first_or_rest f n l items other (at_once _ _ rest0) x rest e = inl (cc, refl)
 first_or_rest f n l items other (behind _ _ y _ rest0 s) x rest e =
@@ -79,7 +79,7 @@ first_or_rest f n l items other (behind _ _ y _ rest0 s) x rest e =
     inr (subst (λ (xs : List Item). Stands f (n + length (block f x)) xs other l) others (subst (λ (z : Item). Stands f (n + length (block f z)) rest0 other l) same s))
 
 -- two items whose nodes share a number are one
-pub one_item : (f : Frame) (n m l : ℕ) (items : List Item) (item other : Item) (j k : ℕ) → Stands f n items item m → Stands f n items other l
+pub one_item : (f : Setting) (n m l : ℕ) (items : List Item) (item other : Item) (j k : ℕ) → Stands f n items item m → Stands f n items other l
     → j < length (block f item) → k < length (block f other) → m + j ≡ l + k → (item ≡ other) × (j ≡ k)
 one_item f n m l items item other j k (at_once _ _ rest) t below within same = elim (first_or_rest f n l (item ∷ rest) other t item rest refl) [
   | inl one ↦ (one.0, omega (arith, one.1))

@@ -9,7 +9,7 @@ use Rattle.code_spec.specs.Faults.{HasNoFault}
 use Rattle.graph_spec.specs.declared.Next.{Next}
 use Rattle.graph_spec.specs.declared.Next.TheVariants as next
 use Rattle.graph_spec.specs.Graph.{Node, Basic, Graph}
-use Rattle.code_graph_spec.specs.Blocks.{Place, Entrance, Of, Behind, Frame, nodes_at, landing_of}
+use Rattle.code_graph_spec.specs.Blocks.{Place, Entrance, Of, Behind, Setting, nodes_at, landing_of}
 use Rattle.code_graph_spec.specs.CodeGraph.{IsCodeGraph}
 
 -- an instruction that is reached
@@ -23,17 +23,17 @@ landing_node None = []
 landing_node (Some to) = Basic [] to ∷ []
 
 -- its nodes, and its landing node
-abbrev pub block : Frame → Item → List Node
+abbrev pub block : Setting → Item → List Node
 block f item = nodes_at f item.address item.form item.flow ++ landing_node (landing_of f item.address item.flow)
 
-abbrev pub blocks : Frame → List Item → List Node
+abbrev pub blocks : Setting → List Item → List Node
 blocks f [] = []
 blocks f (item ∷ rest) = block f item ++ blocks f rest
 
-abbrev pub entrance_node : Frame → Node
+abbrev pub entrance_node : Setting → Node
 entrance_node f = Basic [] (next.At (f.at (Of f.entry 0)))
 
-abbrev pub laid : Frame → List Item → Graph
+abbrev pub laid : Setting → List Item → Graph
 laid f items = record { nodes = entrance_node f ∷ blocks f items; entry = 0 }
 
 -- the numbers of nodes, by the number of each instruction's first one: a call has one node
@@ -43,7 +43,7 @@ numbers_by first (Of address index) = first address + index
 numbers_by first (Behind address) = first address + 1
 
 -- each instruction's first number is that at which its nodes stand, from n on
-unfoldable pub AreNumbered : Frame → (ℕ → ℕ) → ℕ → List Item → Type 0
+unfoldable pub AreNumbered : Setting → (ℕ → ℕ) → ℕ → List Item → Type 0
 AreNumbered f first n [] = ⊤
 AreNumbered f first n (item ∷ rest) = (first item.address ≡ n) × AreNumbered f first (n + length (block f item)) rest
 
@@ -56,6 +56,6 @@ pub record AreItems (image : Image) (entry size : ℕ) (items : List Item) : Typ
   pub all : (address : ℕ) → IsReachable image entry size address → (item : Item) × Contains items item × (item.address ≡ address)
 
 abbrev pub LaidAreCodeGraphs : Type 0
-LaidAreCodeGraphs = (image : Image) (f : Frame) (first : ℕ → ℕ) (items : List Item) → AreRuns image f.runs → HasNoFault image f.entry f.size
+LaidAreCodeGraphs = (image : Image) (f : Setting) (first : ℕ → ℕ) (items : List Item) → AreRuns image f.runs → HasNoFault image f.entry f.size
     → AreItems image f.entry f.size items → ((place : Place) → f.at place ≡ numbers_by first place) → AreNumbered f first 1 items
     → IsCodeGraph image f (laid f items)

@@ -21,7 +21,7 @@ pub data Place : Type 0 where
 
 -- what is read of a function while its nodes are written: its entry and size, the runs of fixed bytes of the file, the
 -- numbers of the functions' graphs by their entries, and the numbers of its own nodes by their places
-pub record Frame : Type 0 where
+pub record Setting : Type 0 where
   pub entry : ℕ
   pub size : ℕ
   pub runs : List Run
@@ -29,11 +29,11 @@ pub record Frame : Type 0 where
   pub at : Place → ℕ
 
 -- the address lies in the range
-abbrev pub is_inside : Frame → ℕ → Bool
+abbrev pub is_inside : Setting → ℕ → Bool
 is_inside f target = nat_le f.entry target && nat_lt target (f.entry + f.size)
 
 -- on to the instruction at an address; an error at no multiple of 4, and outside the range
-unfoldable pub toward : Frame → ℕ → Next
+unfoldable pub toward : Setting → ℕ → Next
 toward f target = if (target % 4 == 0) && is_inside f target then next.At (f.at (Of target 0)) else next.Err
 
 -- how an instruction ends behind its tests: with a node, or with no node of its own
@@ -42,13 +42,13 @@ pub data Ending : Type 0 where
   Goes : (to : Next) → Ending
 
 -- where the node before goes on if it goes on at this number of the instruction
-abbrev pub onward : Frame → (address index : ℕ) → List Term → Ending → Next
+abbrev pub onward : Setting → (address index : ℕ) → List Term → Ending → Next
 onward f address index [] (Goes to) = to
 onward f address index [] (Does node) = next.At (f.at (Of address index))
 onward f address index (test ∷ tests) ending = next.At (f.at (Of address index))
 
 -- the nodes of an instruction from a number on: each test that doesn't hold is an error
-unfoldable pub chain : Frame → (address index : ℕ) → List Term → Ending → List Node
+unfoldable pub chain : Setting → (address index : ℕ) → List Term → Ending → List Node
 chain f address index [] (Goes to) = []
 chain f address index [] (Does node) = node ∷ []
 chain f address index (test ∷ tests) ending =
@@ -76,12 +76,12 @@ unfoldable pub tail_inputs : List Binding
 tail_inputs = map entry_binding (1 ∷ other_registers)
 
 -- a jump out of the range, which is a call that doesn't come back: a tail call
-abbrev pub leaves : Frame → ℕ → Bool
+abbrev pub leaves : Setting → ℕ → Bool
 leaves f target = (target % 4 == 0) && not (is_inside f target)
 
 -- what has to hold before an instruction: alignment and fixed bytes, and at a return, also one by a tail call, that it
 -- is to the address with which the function began
-unfoldable pub tests_of : Frame → Instr → Flow → List Term
+unfoldable pub tests_of : Setting → Instr → Flow → List Term
 tests_of f i Falls = access_tests f.runs i
 tests_of f i (Branches target) = []
 tests_of f i (Jumps target) = if leaves f target then returns_home ∷ [] else []
@@ -92,7 +92,7 @@ tests_of f i Stops = []
 
 -- what an instruction does behind its tests. ECALL, EBREAK and a call of no multiple of 4 are errors, as is a jump to
 -- an address that the file doesn't tell
-unfoldable pub ending_of : Frame → (address : ℕ) → Instr → Flow → Ending
+unfoldable pub ending_of : Setting → (address : ℕ) → Instr → Flow → Ending
 ending_of f address i Falls = Does (Basic (effects address i) (toward f (address + 4)))
 ending_of f address i (Branches target) = Does (Cond (branch_test i) (toward f target) (toward f (address + 4)))
 ending_of f address i (Jumps target) =
@@ -104,11 +104,11 @@ ending_of f address i Returns = Goes next.Ret
 ending_of f address i Stops = Does (Basic [] next.Err)
 
 -- the nodes of the instruction at an address, of this flow
-unfoldable pub nodes_at : Frame → (address : ℕ) → Instr → Flow → List Node
+unfoldable pub nodes_at : Setting → (address : ℕ) → Instr → Flow → List Node
 nodes_at f address i flow = chain f address 0 (tests_of f i flow) (ending_of f address i flow)
 
 -- where the landing node behind the call at an address goes on, if it has one: behind a tail call the function returns
-unfoldable pub landing_of : Frame → (address : ℕ) → Flow → Option Next
+unfoldable pub landing_of : Setting → (address : ℕ) → Flow → Option Next
 landing_of f address (Calls target) = if target % 4 == 0 then Some (toward f (address + 4)) else None
 landing_of f address (Jumps target) = if leaves f target then Some next.Ret else None
 landing_of f address flow = None

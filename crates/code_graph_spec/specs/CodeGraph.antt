@@ -8,10 +8,10 @@ use Rattle.code_spec.specs.Code.{Flow, instr_at, flow_at, IsReachable}
 use Rattle.graph_spec.specs.declared.Next.{Next}
 use Rattle.graph_spec.specs.declared.Next.TheVariants as next
 use Rattle.graph_spec.specs.Graph.{Node, Basic, Graph}
-use Rattle.code_graph_spec.specs.Blocks.{Place, Entrance, Of, Behind, Frame, nodes_at, landing_of}
+use Rattle.code_graph_spec.specs.Blocks.{Place, Entrance, Of, Behind, Setting, nodes_at, landing_of}
 
 -- the node at a place of a function's graph; at every other place there is none
-pub data IsNodeAt (image : Image) (f : Frame) : Place → Node → Type 0 where
+pub data IsNodeAt (image : Image) (f : Setting) : Place → Node → Type 0 where
   entrance : IsNodeAt image f Entrance (Basic [] (next.At (f.at (Of f.entry 0))))
   of_instruction : (address index : ℕ) (i : Instr) (flow : Flow) (node : Node) → IsReachable image f.entry f.size address
       → instr_at image address ≡ Some i → flow_at image f.entry address ≡ Some flow
@@ -20,9 +20,9 @@ pub data IsNodeAt (image : Image) (f : Frame) : Place → Node → Type 0 where
       → flow_at image f.entry address ≡ Some flow → landing_of f address flow ≡ Some to
       → IsNodeAt image f (Behind address) (Basic [] to)
 
--- the graph of the function that the frame speaks of: each of its nodes stands at its number, each number is that of
+-- the graph of the function of this setting: each of its nodes stands at its number, each number is that of
 -- one place, and there are no other nodes
-pub record IsCodeGraph (image : Image) (f : Frame) (graph : Graph) : Type 0 where
+pub record IsCodeGraph (image : Image) (f : Setting) (graph : Graph) : Type 0 where
   pub runs_are : AreRuns image f.runs
   pub entry_is : graph.entry ≡ f.at Entrance
   pub there : (place : Place) (node : Node) → IsNodeAt image f place node → slice_get graph.nodes (f.at place) ≡ Some node
@@ -31,6 +31,6 @@ pub record IsCodeGraph (image : Image) (f : Frame) (graph : Graph) : Type 0 wher
       → f.at place ≡ f.at other → place ≡ other
 
 -- the instructions that the function reaches, each with the number of its first node, by address
-pub record AreFirstNodes (image : Image) (f : Frame) (firsts : List (ℕ × ℕ)) : Type 0 where
+pub record AreFirstNodes (image : Image) (f : Setting) (firsts : List (ℕ × ℕ)) : Type 0 where
   pub rising : IsStrictlyIncreasing (map (λ first. first.0) firsts)
   pub exactly : (address node : ℕ) → Contains firsts (address, node) ↔ (IsReachable image f.entry f.size address × (node ≡ f.at (Of address 0)))

@@ -1,7 +1,6 @@
 -- The term of each form of instruction: the RISC-V unprivileged specification, chapters "RV32I Base Integer
 -- Instruction Set" and "M Extension". Each form has one shape, of at most 256 operators beside its operands.
-use Rattle.std.specs.List.{list_all}
-use Rattle.std.specs.Prelude.{Bool, ℕ, ◌+◌, ◌-◌, ◌*◌, ◌%◌, ◌^◌, ◌==◌, false, if◌then◌else◌, ℤ, List, [], ◌∷◌, ◌++◌, length, map}
+use Rattle.std.specs.Prelude.{ℕ, ◌+◌, ◌-◌, ◌*◌, ◌%◌, ◌^◌, ◌==◌, false, if◌then◌else◌, ℤ, List, [], ◌∷◌, ◌++◌, length, map}
 use Rattle.rv_instr.specs.declared.BranchTest.{BranchTest}
 use Rattle.rv_instr.specs.declared.BranchTest.TheVariants as branch
 use Rattle.rv_instr.specs.declared.LoadKind.{LoadKind}
@@ -18,9 +17,7 @@ use Rattle.elf_spec.specs.Runs.{Run}
 use Rattle.term_spec.specs.declared.Width.TheVariants.{W32}
 use Rattle.term_spec.specs.Term.{Term, truth, constant, open_term, not_term, or_term, equal, less, add, subtract, multiply, bit_and, bit_or, bit_xor, shift_left, shift_right, shift_right_signed, divide, remainder, zero_extend, sign_extend, load, choose}
 use Rattle.term_spec.specs.Shapes.{signed_less, signed_quotient, signed_remainder, high_product, high_product_signed, high_product_signed_unsigned, past, load_half, load_word, store_byte, store_half, store_word}
-use Rattle.term_spec.specs.Value.{Assignment, value}
 use Rattle.graph_spec.specs.Graph.{Binding}
-use Rattle.graph_spec.specs.Run.{is_truth}
 use Rattle.code_graph_spec.specs.State.{register, entry_register, memory}
 
 -- ---- operands
@@ -92,10 +89,6 @@ stored store_kind.Half a x = store_half (open_term memory) a x
 stored store_kind.Word a x = store_word (open_term memory) a x
 
 -- ---- tests
-
--- all of the tests hold
-abbrev pub all_hold : Assignment → List Term → Bool
-all_hold values tests = list_all (λ t. is_truth (value values t)) tests
 
 -- the address is a multiple of a power of 2, of which 1 is taken here
 abbrev pub is_multiple : ℕ → Term → Term

@@ -22,7 +22,7 @@ use Rattle.graph_spec.specs.declared.Next.TheVariants as to
 use Rattle.graph_spec.specs.Graph.{Binding, IsBinding, AreBindings, Node, Basic, Cond, Call, Graph, IsNext, IsNode, IsValid}
 use Rattle.code_graph_spec.specs.State.{register, entry_register}
 use Rattle.code_graph_spec.specs.Forms.{number, operand, address, put, effects, access_tests, load_tests, aligned_for, avoids, last_written, returns_home, branch_test}
-use Rattle.code_graph_spec.specs.Blocks.{Place, Entrance, Of, Behind, Frame, Ending, Does, Goes, toward, onward, chain, tests_of, ending_of, nodes_at, landing_of, leaves, entry_binding, other_registers, call_inputs, tail_inputs}
+use Rattle.code_graph_spec.specs.Blocks.{Place, Entrance, Of, Behind, Setting, Ending, Does, Goes, toward, onward, chain, tests_of, ending_of, nodes_at, landing_of, leaves, entry_binding, other_registers, call_inputs, tail_inputs}
 use Rattle.code_graph_spec.specs.CodeGraph.{IsNodeAt, entrance, of_instruction, landing, IsCodeGraph}
 use Rattle.code_graph_law.proofs.Reached.{first_in, second_in, is_aligned, has_instruction, has_flow, code_there}
 use Rattle.code_graph_law.proofs.Fields.{AreFields, fields_at}
@@ -166,7 +166,7 @@ module _ (runs : List Run) (within : (run : Run) → Contains runs run → run.s
   access_sorted instr.Ecall = no_tests
   access_sorted instr.Ebreak = no_tests
 
-tests_sorted : (f : Frame) → ((run : Run) → Contains f.runs run → run.start + length run.bytes ≤ 2 ^ 32) → ((run : Run) → Contains f.runs run → 0 < length run.bytes)
+tests_sorted : (f : Setting) → ((run : Run) → Contains f.runs run → run.start + length run.bytes ≤ 2 ^ 32) → ((run : Run) → Contains f.runs run → 0 < length run.bytes)
     → (i : Instr) (flow : Flow) → AreTests (tests_of f i flow)
 unfolding tests_of
 tests_sorted f within some i Falls = access_sorted f.runs within some i
@@ -190,13 +190,13 @@ IsEnding : ℕ → Ending → Type 0
 IsEnding count (Does node) = IsNode count node
 IsEnding count (Goes to) = IsNext count to
 
-first_node : (f : Frame) (a : ℕ) (tests : List Term) (ending : Ending) → is_node tests ending ≡ true → (node : Node) × (slice_get (chain f a 0 tests ending) 0 ≡ Some node)
+first_node : (f : Setting) (a : ℕ) (tests : List Term) (ending : Ending) → is_node tests ending ≡ true → (node : Node) × (slice_get (chain f a 0 tests ending) 0 ≡ Some node)
 unfolding chain
 first_node f a [] (Does node) e = (node, refl)
 first_node f a [] (Goes to) e = absurd (cc)
 first_node f a (test ∷ tests) ending e = (Cond test (onward f a 1 tests ending) to.Err, refl)
 
-module _ (image : Image) (f : Frame) (graph : Graph) (no_fault : HasNoFault image f.entry f.size)
+module _ (image : Image) (f : Setting) (graph : Graph) (no_fault : HasNoFault image f.entry f.size)
     (within : (run : Run) → Contains f.runs run → run.start + length run.bytes ≤ 2 ^ 32) (is : IsCodeGraph image f graph) where
   abbrev count : ℕ
   count = length graph.nodes

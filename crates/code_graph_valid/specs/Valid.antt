@@ -4,9 +4,9 @@ use Rattle.elf_spec.specs.Image.{Image}
 use Rattle.elf_spec.specs.Runs.{Run}
 use Rattle.code_spec.specs.Faults.{HasNoFault}
 use Rattle.graph_spec.specs.Graph.{Graph, IsValid}
-use Rattle.code_graph_spec.specs.Blocks.{Frame}
+use Rattle.code_graph_spec.specs.Blocks.{Setting}
 use Rattle.code_graph_spec.specs.CodeGraph.{IsCodeGraph}
 
 abbrev pub CodeGraphsAreValid : Type 0
-CodeGraphsAreValid = (image : Image) (f : Frame) (graph : Graph) → HasNoFault image f.entry f.size
+CodeGraphsAreValid = (image : Image) (f : Setting) (graph : Graph) → HasNoFault image f.entry f.size
     → ((run : Run) → Contains f.runs run → run.start + length run.bytes ≤ 2 ^ 32) → IsCodeGraph image f graph → IsValid graph

@@ -1,8 +1,8 @@
-//! Two small graphs, of which one calls the other, and a walk that has nothing of graphs.
+//! Walks: those of two small graphs, of which one calls the other, and one that has nothing of graphs.
 
 ghost use Rattle.std.specs.Prelude.{⊤, ℕ};
-ghost use Rattle.walk_spec.specs.Countdown.{countdown, leads_back, no_call};
-ghost use Rattle.walk_spec.proofs.Countdown.{countdown_is_walk};
+ghost use Rattle.graph_examples.specs.Countdown.{countdown, leads_back, no_call};
+ghost use Rattle.graph_examples.proofs.Countdown.{countdown_is_walk};
 
 use graph_core::{
     Binding, Graph, GraphRun, Next, Node, Walks, arrivals_add_up, callee_runs_as_alone,
@@ -116,33 +116,6 @@ fn puts_graphs_together(rt: HostRuntime) -> Result<(), Fail> {
     assert!(rt; run.nodes() == 4);
     run_goes_on(&run);
     callee_runs_as_alone(&run);
-    Ok(())
-}
-
-#[test]
-fn refuses_graphs_that_are_not_valid(rt: HostRuntime) -> Result<(), Fail> {
-    let alloc = rt.alloc();
-    let empty = Graph::new(alloc);
-    assert!(rt; !validate(&empty));
-    let mut no_entry = callee(alloc)?;
-    no_entry.entry = 3;
-    assert!(rt; !validate(&no_entry));
-    let mut dangling = callee(alloc)?;
-    dangling.add(landing(alloc, 4))?;
-    assert!(rt; !validate(&dangling));
-    let mut no_test = callee(alloc)?;
-    no_test.add(Node::Cond {
-        test: open(PARAMETER),
-        on_true: Next::Ret,
-        on_false: Next::Err,
-    })?;
-    assert!(rt; !validate(&no_test));
-    let mut narrow = callee(alloc)?;
-    narrow.add(Node::Basic {
-        bindings: one(alloc, LOCAL, number(Width::W8, 1))?,
-        next: Next::Ret,
-    })?;
-    assert!(rt; !validate(&narrow));
     Ok(())
 }
 

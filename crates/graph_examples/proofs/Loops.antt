@@ -3,7 +3,7 @@ use Rattle.std.proofs.Common.{◌≡◌, ℕ, ◌==◌, ◌||◌, Bool, true, fa
 use Rattle.std.proofs.lemmas.Bool.{eqb-true, eq-eqb, or_cases}
 use Rattle.walk_spec.specs.Walk.{Walk, after, reached, stopped, StopsAt, IsSafe, KeepsBounds}
 use Rattle.walk_spec.specs.Simulation.{Agree, both_return, IsStart, Simulates, IsHeld, held}
-use Rattle.walk_spec.specs.Countdown.{countdown}
+use Rattle.graph_examples.specs.Countdown.{countdown}
 use Rattle.graph_examples.specs.Loops.{endless, failing, frame_of, any_state}
 
 never : (b : Bool) → b ≡ true → b ≡ false → ⊥

@@ -8,7 +8,7 @@
 ghost use Rattle.std.specs.Prelude.{◌≡◌, ℕ, Some, None, true, false, [], ◌∷◌};
 ghost use Rattle.walk_spec.specs.Walk.{after, arrivals, KeepsBounds, StopsAt};
 ghost use Rattle.walk_spec.specs.Simulation.{Simulates};
-ghost use Rattle.walk_spec.specs.Countdown.{countdown};
+ghost use Rattle.graph_examples.specs.Countdown.{countdown};
 ghost use Rattle.graph_examples.specs.Loops.{any_state, endless, failing, frame_of};
 ghost use Rattle.term_spec.specs.Value.{Assignment};
 ghost use Rattle.graph_spec.specs.Graph.{IsValid};

@@ -2,8 +2,8 @@ use Rattle.std.proofs.Common.{◌≡◌, ◌∙◌, ℕ, ◌+◌, ◌<◌, zero,
 use Rattle.std.specs.List.{All}
 use Rattle.std.proofs.lemmas.List.Elements.{All-from_recursion}
 use Rattle.walk_spec.specs.Walk.{Mark, arrivals, stopped}
-use Rattle.walk_spec.specs.Countdown.{countdown}
-use Rattle.walk_spec.proofs.Countdown.{countdown_is_walk}
+use Rattle.graph_examples.specs.Countdown.{countdown}
+use Rattle.graph_examples.proofs.Countdown.{countdown_is_walk}
 use Rattle.walk_spec.proofs.Runs.{stopped_on}
 use Rattle.graph_examples.specs.Call.{mark}
 use Rattle.graph_examples.proofs.Computes.{runs_compute}

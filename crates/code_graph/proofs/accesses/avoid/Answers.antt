@@ -3,7 +3,7 @@ use Rattle.std.proofs.lemmas.List.{get_or_default}
 use Rattle.term_core.specs.Trees.{term_of}
 use Rattle.elf_read.specs.declared.parts.Extent.{Extent}
 use Rattle.code_graph_spec.specs.Forms.{avoids}
-use Rattle.code_graph.specs.Frames.{run_of}
+use Rattle.code_graph.specs.Settings.{run_of}
 use Rattle.code_graph.proofs.Extents.{avoid_step}
 use Rattle.code_graph.proofs.accesses.avoid.Goals as goal
 

@@ -1,7 +1,7 @@
 use Rattle.std.proofs.Common.{◌≡◌, ◌++◌, map, drop}
 use Rattle.term_core.specs.Trees.{term_of}
 use Rattle.code_graph_spec.specs.Forms.{avoids}
-use Rattle.code_graph.specs.Frames.{run_of}
+use Rattle.code_graph.specs.Settings.{run_of}
 use Rattle.code_graph.proofs.accesses.avoid.Given as goal
 
 abbrev pub invariant-loop-run : goal.invariant-loop-run

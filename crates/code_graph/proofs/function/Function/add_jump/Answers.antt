@@ -1,16 +1,16 @@
 use Rattle.std.proofs.Common.{◌≡◌, ◌≢◌, sym, ◌∙◌, rules}
 use Rattle.graph_core.specs.Graphs.{graph_of}
-use Rattle.code_graph.specs.Frames.{frame_of}
+use Rattle.code_graph.specs.Settings.{setting_of}
 use Rattle.code_graph.proofs.Added.{jump_added, lead_added}
 use Rattle.code_graph.proofs.function.Function.add_jump.Goals as goal
 
 pub returns-in_ok-add_plain-in-0 : goal.returns-in_ok-add_plain-in-0
 returns-in_ok-add_plain-in-0 c =
-    jump_added (frame_of c.args.self.now) c.args.item.now.address c.args.item.now.form _ _ c.args.rd c.args.target c.toward.result
+    jump_added (setting_of c.args.self.now) c.args.item.now.address c.args.item.now.form _ _ c.args.rd c.args.target c.toward.result
     (sym c.number.ensures.value ∙ c.in-0.is) c.requires c.toward.ensures c.in_ok-add_plain-in-0.ensures
 
 pub returns-in_ok-add_plain-in_default : goal.returns-in_ok-add_plain-in_default
 returns-in_ok-add_plain-in_default c =
     let some : c.args.rd ≢ 0 = search rules in
     let other : c.args.rd ≢ 1 = search rules in
-    lead_added (frame_of c.args.self.now) c.args.item.now.address c.args.item.now.form _ _ c.args.rd c.args.target some other c.in_ok-add_plain-in_default.ensures
+    lead_added (setting_of c.args.self.now) c.args.item.now.address c.args.item.now.form _ _ c.args.rd c.args.target some other c.in_ok-add_plain-in_default.ensures

@@ -5,7 +5,7 @@ use Rattle.graph_core.specs.Graphs.{graph_of}
 use Rattle.code_graph_layout.specs.Layout.{blocks, laid}
 use Rattle.code_graph.specs.declared.items.Item.{Item}
 use Rattle.code_graph.specs.Items.{item_of}
-use Rattle.code_graph.specs.Frames.{frame_of}
+use Rattle.code_graph.specs.Settings.{setting_of}
 use Rattle.code_graph.proofs.Added.{block_added}
 use Rattle.code_graph.proofs.function.Function.graph.Goals as goal
 
@@ -14,6 +14,6 @@ loop-item-preserved c =
     let rest : drop c.loop-item.item-index c.args.items.now ≡ c.item-item.result ∷ drop (c.loop-item.item-index + 1) c.args.items.now =
     drop_more c.args.items.now c.loop-item.item-index c.item-item.result c.loop-item-test.true
     ∙ ap (λ (x : Item). x ∷ drop (c.loop-item.item-index + 1) c.args.items.now) (sym c.item-item.is) in
-    block_added (frame_of c.args.self.now) (graph_of c.add_block.new.graph) (graph_of c.loop-item.graph) (laid (frame_of c.args.self.now) (map item_of c.args.items.now))
+    block_added (setting_of c.args.self.now) (graph_of c.add_block.new.graph) (graph_of c.loop-item.graph) (laid (setting_of c.args.self.now) (map item_of c.args.items.now))
     (item_of c.item-item.result) (map item_of (drop (c.loop-item.item-index + 1) c.args.items.now)) c.in_ok-add_block.ensures
-    (ap (λ (is : List Item). with_nodes (graph_of c.loop-item.graph) (blocks (frame_of c.args.self.now) (map item_of is))) (sym rest) ∙ c.loop-item.invariant)
+    (ap (λ (is : List Item). with_nodes (graph_of c.loop-item.graph) (blocks (setting_of c.args.self.now) (map item_of is))) (sym rest) ∙ c.loop-item.invariant)

@@ -3,9 +3,9 @@ use Rattle.graph_spec.specs.Graph.{with_nodes}
 use Rattle.graph_core.specs.Graphs.{graph_of}
 use Rattle.code_graph_layout.specs.Layout.{blocks, laid}
 use Rattle.code_graph.specs.Items.{item_of}
-use Rattle.code_graph.specs.Frames.{frame_of}
+use Rattle.code_graph.specs.Settings.{setting_of}
 use Rattle.code_graph.proofs.function.Function.graph.Given as goal
 
 abbrev pub invariant-loop-item : goal.invariant-loop-item
 invariant-loop-item l =
-    with_nodes (graph_of l.graph) (blocks (frame_of l.self) (map item_of (drop l.item-index l.items))) ≡ laid (frame_of l.self) (map item_of l.items)
+    with_nodes (graph_of l.graph) (blocks (setting_of l.self) (map item_of (drop l.item-index l.items))) ≡ laid (setting_of l.self) (map item_of l.items)

@@ -3,7 +3,7 @@ use Rattle.std.proofs.Common.{◌≡◌, ◌∙◌, ℕ, ◌-◌, ◌==◌, ◌&
 use Rattle.std.specs.Prelude.{⊤}
 use Rattle.std.proofs.lemmas.Bool.{and_parts, eqb-true, not-true}
 use Rattle.walk_spec.specs.Walk.{IsWalk}
-use Rattle.walk_spec.specs.Countdown.{countdown, leads_back, no_call}
+use Rattle.graph_examples.specs.Countdown.{countdown, leads_back, no_call}
 
 node_is : (m n : ℕ) → (m == 0 && not (n == 0)) ≡ true → m ≡ 0
 node_is m n h = eqb-true m 0 (and_parts (m == 0) (not (n == 0)) h).0

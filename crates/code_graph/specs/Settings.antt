@@ -7,8 +7,8 @@ use Rattle.code_spec.specs.Code.{Flow, Jumps}
 use Rattle.term_spec.specs.Term.{Term}
 use Rattle.graph_spec.specs.declared.Next.TheVariants as next
 use Rattle.graph_spec.specs.Graph.{Node, Cond}
-use Rattle.code_graph_spec.specs.Blocks.{Frame, Of, leaves}
-use Rattle.code_graph.specs.Answer.{frame}
+use Rattle.code_graph_spec.specs.Blocks.{Setting, Of, leaves}
+use Rattle.code_graph.specs.Answer.{setting}
 use Rattle.code_graph.specs.declared.function.Function.{Function}
 
 -- of a run of fixed bytes a graph has the first address and the last one, whatever the bytes are: a run with 0 in
@@ -24,19 +24,21 @@ run_of e = blank e.first (e.last + 1 - e.first)
 
 -- these are the addresses of the runs of fixed bytes
 pub record HaveExtents (image : Image) (extents : List Extent) : Type 0 where
+  pub runs : List Run
+  pub are_runs : AreRuns image runs
   pub ordered : All (λ e. e.first ≤ e.last) extents
   pub below : All (λ e. e.last < 2 ^ 32) extents
-  pub same : (runs : List Run) → AreRuns image runs → map run_of extents ≡ map blanked runs
+  pub same : map run_of extents ≡ map blanked runs
 
-abbrev pub frame_of : Function → Frame
-frame_of f = frame f.entry f.size (map run_of f.runs.now) f.entries.now f.firsts.now.entries
+abbrev pub setting_of : Function → Setting
+setting_of f = setting f.entry f.size (map run_of f.runs.now) f.entries.now f.firsts.now.entries
 
 -- the instruction doesn't jump out of the range
-abbrev pub Stays : Frame → Flow → Type 0
+abbrev pub Stays : Setting → Flow → Type 0
 Stays f (Jumps target) = leaves f target ≡ false
 Stays f flow = ⊤
 
 -- the nodes of tests, each of which goes on to the node behind it
-unfoldable pub asks : Frame → (address index : ℕ) → List Term → List Node
+unfoldable pub asks : Setting → (address index : ℕ) → List Term → List Node
 asks f address index [] = []
 asks f address index (test ∷ tests) = Cond test (next.At (f.at (Of address (index + 1)))) next.Err ∷ asks f address (index + 1) tests
