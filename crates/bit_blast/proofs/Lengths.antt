@@ -12,9 +12,9 @@ use Rattle.blast_spec.specs.Circuits.{Bits}
 use Rattle.blast_spec.specs.Goal.{Table, bits_in, visit, loads_of}
 use Rattle.goal_laws.specs.Shows.{Shows, AllShow}
 use Rattle.goal_laws.proofs.Tables.{shown_there}
-use Rattle.goal_complete.proofs.Models.{terms_stand}
-use Rattle.goal_loads.specs.Loaded.{AllLoaded}
-use Rattle.goal_loads.proofs.Gathered.{goal_loaded}
+use Rattle.goal_models.proofs.Models.{terms_stand}
+use Rattle.goal_models.proofs.Loaded.{AllLoaded}
+use Rattle.goal_models.proofs.Gathered.{goal_loaded}
 use Rattle.goal_read.specs.Back.{read_back}
 use Rattle.goal_read.proofs.Reading.{is_assignment}
 use Rattle.bit_blast.specs.Backs.{AreShort}

@@ -1,1 +1,14 @@
+pub mod Made
+pub mod Circuits
+pub mod Goals
+pub mod Settled
 pub mod Settling
+pub mod Claims
+pub mod Bare
+pub mod Divisions
+pub mod Complete
+pub mod Models
+pub mod Loaded
+pub mod Gathered
+pub mod Ties
+pub mod Whole

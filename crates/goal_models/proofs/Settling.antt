@@ -7,8 +7,8 @@ use Rattle.term_spec.specs.Value.{Assignment, value}
 use Rattle.blast_spec.specs.Gates.{Gate, Truth, Bit, And, Xor, Mux, Majority, Claim, next}
 use Rattle.blast_laws.specs.Meaning.{differ, majority, Stands}
 use Rattle.goal_laws.specs.Reads.{bit_of_value}
-use Rattle.goal_gates.specs.Named.{IsNamed, GateNames, GatesName}
-use Rattle.goal_models.specs.Settled.{with_value, given, settled, Settles, AllSettle}
+use Rattle.goal_models.specs.Named.{IsNamed, GateNames, GatesName}
+use Rattle.goal_models.proofs.Settled.{with_value, given, settled, Settles, AllSettle}
 
 other_value : (values : Valuation) (variable other : ℕ) (b : Bool) → other < variable → with_value values variable b other ≡ values other
 other_value values variable other b below = ap (λ t. if t then b else values other) (apart other variable below)

@@ -1,18 +1,53 @@
-//! Laws of values for the gates of a goal (`blast_spec`): each function's clause is one law, and its body is empty.
+//! Laws of the gates of a goal and of the models of its clauses (`blast_spec`): each function's clause is one law, and
+//! its body is empty.
 //!
-//! For each assignment there are values under which each gate of a goal has its value, and the bits of its
-//! variables, loads, quotients and remainders are those of the assignment's values (`specs/Settled.antt`). That
-//! the further clauses hold then too, those of divisions, of tied loads and that the goal is false, is not stated here.
+//! A gate names only variables that were made before it (`specs/Named.antt`), so the clauses of a goal name only its
+//! variables, and its gates can be given their values one after the other. For each assignment there are values of the
+//! variables under which all gates of a goal's terms have their values, the claims of divisions included, and each
+//! term's bits are those of its value. Where a well-sorted goal is false under an assignment, there are values that
+//! meet all its clauses, those that tie the loads of one memory included, whatever its memories are; so where no values
+//! meet them, the goal is true under each assignment. That values which meet the clauses always have an assignment is
+//! not stated here.
 #![tactic(auto)]
 
-ghost use Rattle.std.specs.Prelude.{ℕ, false};
-ghost use Rattle.clause_spec.specs.Clause.{Valuation};
+ghost use Rattle.std.specs.Prelude.{◌≡◌, true, false, [], Some};
+ghost use Rattle.clause_spec.specs.Clause.{Valuation, are_of, are_met};
+ghost use Rattle.term_spec.specs.declared.Sort.TheVariants as sort;
 ghost use Rattle.term_spec.specs.Term.{Term};
-ghost use Rattle.term_spec.specs.Value.{Assignment};
-ghost use Rattle.blast_spec.specs.Goal.{goal_gates};
-ghost use Rattle.goal_models.specs.Settled.{AllSettle};
+ghost use Rattle.term_spec.specs.Sort.{sort_of};
+ghost use Rattle.term_spec.specs.Value.{Truth, Assignment, IsAssignment, value};
+ghost use Rattle.blast_spec.specs.Goal.{visit, goal_gates, cnf_of};
+ghost use Rattle.blast_laws.specs.Meaning.{AllStand};
+ghost use Rattle.goal_laws.specs.Shows.{AllShow};
+ghost use Rattle.goal_laws.specs.Reads.{Reads};
+ghost use Rattle.goal_models.specs.Named.{GatesName};
 
-/// For each assignment there are values under which each gate has its value.
-pub fn gates_settle_for_each_assignment()
-    ensures { (assignment : Assignment) (goal : Term) → (values : Valuation) × AllSettle assignment values 0 (goal_gates goal 0).gates }
+/// Each gate names only variables that were made before it.
+pub fn gates_name_earlier_variables()
+    ensures { (goal : Term) → GatesName 0 (goal_gates goal 0).gates }
+{}
+
+/// The clauses name only variables from 1 to the number of the last.
+pub fn clauses_are_of_their_variables()
+    ensures { (goal : Term) → are_of (cnf_of goal).variables (cnf_of goal).clauses ≡ true }
+{}
+
+/// For each assignment there are values under which all gates of the goal's terms have their values, claims included.
+pub fn terms_settle_for_each_assignment()
+    ensures { (assignment : Assignment) (goal : Term) → IsAssignment assignment → sort_of goal ≡ Some sort.Truth
+        → (values : Valuation) × (values 1 ≡ true) × AllStand values 1 (visit goal [] 1).gates × AllShow values assignment (visit goal [] 1).out }
+{}
+
+/// Where a goal is false under an assignment, there are values that meet its clauses, and that read back as the
+/// assignment.
+pub fn false_goals_have_models()
+    ensures { (assignment : Assignment) (goal : Term) → IsAssignment assignment → sort_of goal ≡ Some sort.Truth
+        → value assignment goal ≡ Truth false
+        → (values : Valuation) × (are_met values (cnf_of goal).clauses ≡ true) × Reads assignment values 0 (goal_gates goal 0).gates }
+{}
+
+/// Where no values meet the clauses of a goal, it is true under each assignment.
+pub fn goals_with_unmet_clauses_are_true()
+    ensures { (goal : Term) → sort_of goal ≡ Some sort.Truth → ((values : Valuation) → are_met values (cnf_of goal).clauses ≡ false)
+        → (assignment : Assignment) → IsAssignment assignment → value assignment goal ≡ Truth true }
 {}

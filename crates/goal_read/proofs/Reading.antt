@@ -25,7 +25,7 @@ use Rattle.blast_laws.proofs.Adders.{below_width}
 use Rattle.goal_laws.specs.Shows.{Shows}
 use Rattle.goal_laws.specs.Reads.{bit_of_value, Reads}
 use Rattle.goal_laws.proofs.Leaves.{new_length, one_more}
-use Rattle.goal_complete.proofs.Divisions.{same_head}
+use Rattle.goal_models.proofs.Divisions.{same_head}
 use Rattle.goal_read.specs.Back.{first_byte, loads_from, value_back, read_back, IsVariable, IfFromVariable, LoadsFromVariables}
 use Rattle.goal_read.proofs.Silent.{reads_both}
 use Rattle.goal_read.proofs.Fronts.{Front, front_bits, new_there}

@@ -18,9 +18,9 @@ use Rattle.goal_laws.specs.Shows.{Shows, AllShow}
 use Rattle.goal_laws.specs.Reads.{Reads}
 use Rattle.goal_laws.proofs.Tables.{shown_there}
 use Rattle.goal_laws.proofs.Whole.{goal_is_false}
-use Rattle.goal_complete.proofs.Models.{terms_stand}
-use Rattle.goal_loads.specs.Loaded.{AllLoaded}
-use Rattle.goal_loads.proofs.Gathered.{goal_loaded}
+use Rattle.goal_models.proofs.Models.{terms_stand}
+use Rattle.goal_models.proofs.Loaded.{AllLoaded}
+use Rattle.goal_models.proofs.Gathered.{goal_loaded}
 use Rattle.goal_read.specs.Back.{read_back, LoadsFromVariables}
 use Rattle.goal_read.proofs.Silent.{NoReads, silent_reads, reads_both, silent-append, silent_claims, silent_equal}
 use Rattle.goal_read.proofs.Alike.{AllLong, byte_found}

@@ -4,7 +4,7 @@ use Rattle.term_bank.specs.Nodes.{tree_at}
 use Rattle.blast_spec.specs.Gates.{Truth, make}
 use Rattle.blast_spec.specs.Goal.{bit_of}
 use Rattle.word_circuits.specs.Gives.{Gives}
-use Rattle.goal_gates.proofs.Goals.{goal_named}
+use Rattle.goal_models.proofs.Goals.{goal_named}
 use Rattle.bit_blast.proofs.Moved.{is_within}
 use Rattle.bit_blast.proofs.Whole.{whole_blast, whole_table}
 use Rattle.bit_blast.proofs.blasted.blast.Goals as goal

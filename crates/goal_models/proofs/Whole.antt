@@ -16,13 +16,13 @@ use Rattle.goal_laws.specs.Reads.{Reads}
 use Rattle.goal_laws.proofs.Unaries.{only_bit}
 use Rattle.goal_laws.proofs.Tables.{shown_there}
 use Rattle.goal_laws.proofs.Visits.{Takes, all_taken}
-use Rattle.goal_gates.proofs.Goals.{goal_made}
-use Rattle.goal_models.specs.Settled.{settled, AllSettle}
+use Rattle.goal_models.proofs.Goals.{goal_made}
+use Rattle.goal_models.proofs.Settled.{settled, AllSettle}
 use Rattle.goal_models.proofs.Settling.{gates_settle}
-use Rattle.goal_complete.proofs.Bare.{settled_reads, settled_parts, stand_both}
-use Rattle.goal_complete.proofs.Complete.{Completes, all_complete}
-use Rattle.goal_loads.proofs.Gathered.{goal_loaded}
-use Rattle.goal_loads.proofs.Ties.{loads_mean, memories_settle}
+use Rattle.goal_models.proofs.Bare.{settled_reads, settled_parts, stand_both}
+use Rattle.goal_models.proofs.Complete.{Completes, all_complete}
+use Rattle.goal_models.proofs.Gathered.{goal_loaded}
+use Rattle.goal_models.proofs.Ties.{loads_mean, memories_settle}
 
 denied : (b : Bool) → b ≡ true → (b || false) ≡ true
 denied true e = refl

@@ -27,10 +27,10 @@ use Rattle.goal_laws.proofs.Leaves.{new_length}
 use Rattle.goal_laws.proofs.Operators.{at_words}
 use Rattle.goal_laws.proofs.Tables.{Visited, shown_there}
 use Rattle.goal_laws.proofs.Visits.{Takes, all_taken}
-use Rattle.goal_models.specs.Settled.{AllSettle}
-use Rattle.goal_complete.specs.Claims.{NoClaims}
-use Rattle.goal_complete.proofs.Bare.{bare_stand, settled_reads, settled_parts, stand_both, bare_atom, bare_unary, bare_binary, bare_ternary, bare_quaternary, bare_new}
-use Rattle.goal_complete.proofs.Divisions.{settled_number, division_settles}
+use Rattle.goal_models.proofs.Settled.{AllSettle}
+use Rattle.goal_models.proofs.Claims.{NoClaims}
+use Rattle.goal_models.proofs.Bare.{bare_stand, settled_reads, settled_parts, stand_both, bare_atom, bare_unary, bare_binary, bare_ternary, bare_quaternary, bare_new}
+use Rattle.goal_models.proofs.Divisions.{settled_number, division_settles}
 
 -- what settles for a term has its values, further clauses included
 unfoldable pub Completes : Valuation → Assignment → Term → Type 0

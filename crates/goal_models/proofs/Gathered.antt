@@ -20,7 +20,7 @@ use Rattle.blast_spec.specs.Gates.{Build, last_of, give, ◌>>=◌}
 use Rattle.blast_spec.specs.Circuits.{Bits, new_bits}
 use Rattle.blast_spec.specs.Goal.{Table, is_there, bits_in, enter, atom_bits, unary_bits, ternary_bits, quaternary_bits, divided, with_binary, visit}
 use Rattle.goal_laws.proofs.Tables.{still_there, now_there}
-use Rattle.goal_loads.specs.Loaded.{IfLoaded, AllLoaded}
+use Rattle.goal_models.proofs.Loaded.{IfLoaded, AllLoaded}
 
 -- ---- tables that grow
 

@@ -19,8 +19,8 @@ use Rattle.blast_laws.proofs.Widths.{number-twice, length-twice}
 use Rattle.blast_laws.proofs.Division.{whole_numbers}
 use Rattle.goal_laws.specs.Reads.{bit_of_value}
 use Rattle.goal_laws.proofs.Leaves.{one_more}
-use Rattle.goal_models.specs.Settled.{AllSettle}
-use Rattle.goal_complete.proofs.Bare.{bare_stand, settled_parts, stand_both, bare_or_all, bare_product, bare_sum, bare_equal, bare_less}
+use Rattle.goal_models.proofs.Settled.{AllSettle}
+use Rattle.goal_models.proofs.Bare.{bare_stand, settled_parts, stand_both, bare_or_all, bare_product, bare_sum, bare_equal, bare_less}
 
 -- ---- bits by numbers
 

@@ -23,9 +23,9 @@ use Rattle.term_spec.specs.Same.{same_term}
 use Rattle.blast_spec.specs.Gates.{Gate, Truth, Bit, And, Xor, Mux, Majority, Claim, gate_clauses, next, last_of, literal_of, clauses_from, Made, Build, give, ◌>>=◌, make, claims, claim}
 use Rattle.blast_spec.specs.Circuits.{Bits, one, none, zeros, and_gate, or_gate, xor_gate, each_two, choose_bits, equal_bits, sum_bits, difference_bits, less_bit, product_bits, moved_up, moved_down, shift_bits, shift_signed_bits, sign_of, new_bits, division}
 use Rattle.blast_spec.specs.Goal.{single, bit_of, known, known_bits, size_of, atom_bits, unary_bits, word_bits, binary_bits, ternary_bits, quaternary_bits, Table, entry_of, is_there, found_bits, bits_in, enter, divided, with_binary, once, visit, Load, with_load, loads_of, equal_where, tie, tie_all, is_of_memory, memories_of, tie_memories, goal_gates, cnf_of}
-use Rattle.goal_gates.specs.Named.{IsNamed, AreNamed, AllNamed, GateNames, GatesName, WellMade, TableNames}
-use Rattle.goal_gates.proofs.Made.{last_rises, still_named, still_all, names_negation, names_negations, names-append, names-take, names-drop, names-replicate, names_one, names_none, names_sign, then_made, give_made, TwoMade, and_made, or_made, xor_made, each_two_made}
-use Rattle.goal_gates.proofs.Circuits.{equal_made, sum_made, less_made, difference_made, choose_made, product_made, shift_made, keeps_up, keeps_down, shift_signed_made, new_made, claims_named, claim_made, division_made}
+use Rattle.goal_models.specs.Named.{IsNamed, AreNamed, AllNamed, GateNames, GatesName, WellMade, TableNames}
+use Rattle.goal_models.proofs.Made.{last_rises, still_named, still_all, names_negation, names_negations, names-append, names-take, names-drop, names-replicate, names_one, names_none, names_sign, then_made, give_made, TwoMade, and_made, or_made, xor_made, each_two_made}
+use Rattle.goal_models.proofs.Circuits.{equal_made, sum_made, less_made, difference_made, choose_made, product_made, shift_made, keeps_up, keeps_down, shift_signed_made, new_made, claims_named, claim_made, division_made}
 
 -- ---- operators
 

@@ -22,8 +22,8 @@ use Rattle.blast_spec.specs.Circuits.{Bits, one, none, zeros, and_gate, or_gate,
 use Rattle.blast_spec.specs.Goal.{atom_bits, unary_bits, word_bits, binary_bits, ternary_bits, quaternary_bits}
 use Rattle.blast_laws.specs.Meaning.{AllStand}
 use Rattle.goal_laws.specs.Reads.{Reads}
-use Rattle.goal_models.specs.Settled.{AllSettle}
-use Rattle.goal_complete.specs.Claims.{NoClaims}
+use Rattle.goal_models.proofs.Settled.{AllSettle}
+use Rattle.goal_models.proofs.Claims.{NoClaims}
 
 pub bare-append : (gates more : List Gate) → NoClaims gates → NoClaims more → NoClaims (gates ++ more)
 bare-append [] more h k = k

@@ -10,11 +10,11 @@ use Rattle.blast_spec.specs.Goal.{bits_in, bit_of, visit, tie_memories, memories
 use Rattle.blast_laws.specs.Meaning.{AllStand}
 use Rattle.goal_laws.specs.Shows.{AllShow}
 use Rattle.goal_laws.proofs.Visits.{Takes, all_taken}
-use Rattle.goal_gates.proofs.Goals.{goal_made}
-use Rattle.goal_models.specs.Settled.{settled}
+use Rattle.goal_models.proofs.Goals.{goal_made}
+use Rattle.goal_models.proofs.Settled.{settled}
 use Rattle.goal_models.proofs.Settling.{gates_settle}
-use Rattle.goal_complete.proofs.Bare.{settled_reads, settled_parts}
-use Rattle.goal_complete.proofs.Complete.{Completes, all_complete}
+use Rattle.goal_models.proofs.Bare.{settled_reads, settled_parts}
+use Rattle.goal_models.proofs.Complete.{Completes, all_complete}
 
 -- the terms of any goal
 pub terms_stand : (assignment : Assignment) (goal : Term) → IsAssignment assignment → sort_of goal ≡ Some sort.Truth

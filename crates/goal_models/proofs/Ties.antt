@@ -19,10 +19,10 @@ use Rattle.blast_laws.proofs.Gates.{holds-negation}
 use Rattle.blast_laws.proofs.Bitwise.{equal_stands}
 use Rattle.goal_laws.specs.Shows.{Shows, AllShow}
 use Rattle.goal_laws.proofs.Tables.{shown_there}
-use Rattle.goal_models.specs.Settled.{AllSettle}
-use Rattle.goal_complete.proofs.Bare.{bare_stand, settled_parts, stand_both, bare_equal}
-use Rattle.goal_complete.proofs.Divisions.{same_head}
-use Rattle.goal_loads.specs.Loaded.{Loaded, AllLoaded}
+use Rattle.goal_models.proofs.Settled.{AllSettle}
+use Rattle.goal_models.proofs.Bare.{bare_stand, settled_parts, stand_both, bare_equal}
+use Rattle.goal_models.proofs.Divisions.{same_head}
+use Rattle.goal_models.proofs.Loaded.{Loaded, AllLoaded}
 
 -- ---- what a load is worth
 

@@ -1,4 +1,0 @@
-pub mod Bare
-pub mod Divisions
-pub mod Complete
-pub mod Models
