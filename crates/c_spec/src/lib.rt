@@ -1,8 +1,8 @@
 //! What a C source is: its tokens and its tree.
 //!
 //! `specs/Lexical.antt` has the tokens of a text, by `Words.antt`, `Numbers.antt`, `Characters.antt`, `Punctuators.antt`
-//! and `Blanks.antt` beside it. For now a source is one function that returns the sum or the difference of its two
-//! parameters: `specs/Tokens.antt` has the tokens of that form, `specs/Unit.antt` the trees and which text spells which.
+//! and `Blanks.antt` beside it. The one form that is judged so far, a function that returns the sum or the difference of
+//! its two parameters, has its tokens in `specs/Tokens.antt`, its trees and which text spells which in `specs/Unit.antt`.
 //! [`SourceKind`] names the refusals.
 #![tactic(auto)]
 
@@ -13,7 +13,7 @@ pub mod token;
 pub enum SourceKind {
     /// The text has no tokens.
     Token(token::TokenFaultKind),
-    /// The text is not of the one form that is read so far.
+    /// The text is not of the one form that is judged so far.
     Later,
 }
 

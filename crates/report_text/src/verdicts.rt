@@ -33,7 +33,7 @@ pub enum Verdict {
         kind: ElfKind,
         offset: usize,
     },
-    /// The second file has no tokens, or is not of the form that is read so far. The offset counts bytes of the file.
+    /// The second file has no tokens, or is not of the form that is judged so far. The offset counts bytes of the file.
     RefusedC {
         kind: SourceKind,
         offset: usize,
