@@ -1,22 +1,26 @@
--- Declarators are read exactly.
-use Rattle.std.proofs.Common.{◌≡◌, ℕ, zero, suc, Bool, true, false, List, [], ◌∷◌, ◌++◌, Option, Some, None, refl, ap, sym, ◌∙◌, subst, not, cond}
+-- Declarators keep roles.
+use Rattle.std.proofs.Common.{◌≡◌, ℕ, Bool, true, List, Option, Some, ap, [], refl, false, None, subst, cond, sym, ◌∙◌, ◌∷◌, ◌++◌, zero, suc, not}
 use Rattle.c_spec.specs.declared.token.Punctuator.TheVariants as punctuator
 use Rattle.c_spec.specs.Lexical.{Placed, Token, Name as name_token, Word, Number as number_token, Character as character_token, Mark}
 use Rattle.c_tree_spec.specs.Expression as tree
 use Rattle.c_grammar_spec.specs.declared.Role.TheVariants.{DeclaredName}
-use Rattle.c_grammar_spec.specs.Leaves.{Leaf, plain, awaited, mark, named, marks}
+use Rattle.c_grammar_spec.specs.Leaves.{named, mark, Leaf, plain, awaited, marks}
 use Rattle.c_grammar_spec.specs.Expressions as grammar
-use Rattle.exact_read.specs.Reading.{plains, Stops}
-use Rattle.exact_read.specs.Exact.{Exact}
-use Rattle.exact_read.specs.Grammar.{anything, One, Map, Then}
-use Rattle.exact_read.proofs.Parts.{exact-one, exact-map, exact-same, stops_anything}
-use Rattle.exact_read.proofs.Then.{exact-then}
-use Rattle.c_expression_reader.specs.Classes.{is_mark, name_at, name_of}
+use Rattle.exact_read.specs.Reading.{Stops, plains}
+use Rattle.exact_read.specs.Grammar.{One, Then, Map, anything}
+use Rattle.exact_read.proofs.Parts.{stops_anything}
+use Rattle.c_expression_reader.specs.Classes.{name_of, name_at, is_mark}
 use Rattle.c_expression_reader.specs.Readers.{Readers}
-use Rattle.c_expression_reader.specs.Types.{plain_name_at, plain_name_of, is_plain_name, read_declarator}
+use Rattle.c_expression_reader.specs.Types.{plain_name_of, plain_name_at, is_plain_name, read_declarator}
 use Rattle.c_type_reader.proofs.Fresh.{fresh, fresh_is}
-use Rattle.c_type_reader.proofs.Pointers.{stop_pointer, exact-pointer}
-use Rattle.c_type_reader.proofs.Dimensions.{Whole, exact-dimensions}
+use Rattle.c_type_reader.proofs.Pointers.{stop_pointer}
+use Rattle.c_type_reader.proofs.Dimensions.{roled-dimensions}
+use Rattle.role_read.proofs.Basics.{roled-same}
+use Rattle.role_read.proofs.Then.{roled-then}
+use Rattle.c_expression_reader.specs.Firm.{Firm}
+use Rattle.c_expression_reader.proofs.Firm.{firm-map, firm-one}
+use Rattle.c_type_reader.specs.Exactness.{Whole}
+use Rattle.c_type_reader.proofs.Plain.{roled-pointer}
 
 -- a class of names that can be declared
 pub record Declares (names : List (List ℕ)) (is_member : Bool) (class : Placed → Option tree.Name) : Type 0 where
@@ -140,13 +144,13 @@ pub name_stops : (p : ℕ) (n : tree.Name) (rest : List Placed) → Stops (stop_
 name_stops zero n rest = refl
 name_stops (suc p) n rest = refl
 
-pub exact-declarator : {names : List (List ℕ)} {is_member : Bool} {class : Placed → Option tree.Name} → Declares names is_member class → (inner : Readers) (depth : ℕ) → Whole names inner depth
-    → Exact marks anything (grammar.Declarator names is_member depth) (λ _ t. not (is_mark punctuator.LeftBracket t.token)) (read_declarator class inner depth)
-exact-declarator {names} {is_member} {class} kind inner depth whole =
-    exact-same anything (grammar.Declarator names is_member depth) (read_declarator class inner depth) (λ t h. h) (text_declarator kind depth) (declarator_text kind depth) (λ tokens. refl)
-    (exact-map made_declarator (λ _ t. not (is_mark punctuator.LeftBracket t.token)) (λ x. refl)
-    (exact-then (exact-pointer anything) (λ p. exact-then (exact-one marks (stop_pointer anything p) (awaited DeclaredName) class DeclaredName (λ t. refl) (named kind.sample) kind.sample (kind.self kind.sample kind.sample_is))
-    (λ n. exact-dimensions names inner depth whole)
+pub roled-declarator : {names : List (List ℕ)} {is_member : Bool} {class : Placed → Option tree.Name} → Declares names is_member class → (inner : Readers) (depth : ℕ) → Whole names inner depth
+    → Firm anything (grammar.Declarator names is_member depth) (λ _ t. not (is_mark punctuator.LeftBracket t.token)) (read_declarator class inner depth)
+roled-declarator {names} {is_member} {class} kind inner depth whole =
+    roled-same anything (grammar.Declarator names is_member depth) (read_declarator class inner depth) (λ t h. h) (text_declarator kind depth) (declarator_text kind depth) (λ tokens. refl)
+    (firm-map made_declarator (λ _ t. not (is_mark punctuator.LeftBracket t.token)) (λ x. refl)
+    (roled-then (roled-pointer anything) (λ p. roled-then (firm-one (stop_pointer anything p) (awaited DeclaredName) class DeclaredName (λ t. refl) (λ t. refl) (named kind.sample) kind.sample (kind.self kind.sample kind.sample_is))
+    (λ n. roled-dimensions names inner depth whole)
     record {
       ends = λ n y left right rest one two stops. stops_anything (plains marks right ++ rest);
       goes_on = λ n left one. ((false, tree.no_expressions), [], grammar.given depth tree.no_expressions [] (grammar.no_lengths depth));

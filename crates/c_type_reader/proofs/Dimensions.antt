@@ -1,32 +1,30 @@
--- The lengths of an array are read exactly.
-use Rattle.std.proofs.Common.{◌≡◌, ℕ, suc, ◌≤◌, Bool, true, false, List, [], ◌∷◌, ◌++◌, refl, ap, sym, ◌∙◌, subst, IsTrue, not, ◌&&◌, ◌||◌, append_assoc, ltb-false}
+-- The lengths of an array keep roles.
+use Rattle.std.proofs.Common.{◌≡◌, Bool, true, false, refl, ◌||◌, ℕ, ◌≤◌, ltb-false, suc, List, [], ◌∷◌, ◌++◌, ap, ◌∙◌, append_assoc, sym, subst, not, ◌&&◌, IsTrue}
 use Rattle.std.specs.Prelude.{nat_lt}
 use Rattle.c_spec.specs.declared.token.Punctuator.TheVariants as punctuator
 use Rattle.c_spec.specs.Lexical.{Placed}
 use Rattle.c_tree_spec.specs.Expression as tree
-use Rattle.c_grammar_spec.specs.declared.Role.TheVariants.{Nothing, OperandEnd}
-use Rattle.c_grammar_spec.specs.Leaves.{Leaf, plain, awaited, opens, mark, marks, is_over}
+use Rattle.c_grammar_spec.specs.declared.Role.TheVariants.{OperandEnd, Nothing}
+use Rattle.c_grammar_spec.specs.Leaves.{opens, is_over, Leaf, awaited, mark, marks, plain}
 use Rattle.c_grammar_spec.specs.Expressions as grammar
 use Rattle.exact_read.specs.Reading.{plains, Stops}
-use Rattle.exact_read.specs.Exact.{Exact}
-use Rattle.exact_read.specs.Grammar.{anything, One, Map, Then, Or, first, second, Many, none, some, Nothing as Empty, nothing, read_map, read_then}
-use Rattle.exact_read.proofs.Parts.{exact-map, exact-same, exact-nothing, stops_anything, both}
-use Rattle.exact_read.proofs.Then.{exact-then}
-use Rattle.exact_read.proofs.Many.{Items, exact-many}
-use Rattle.exact_read.proofs.Stop.{exact-stop, exact-enter}
-use Rattle.c_expression_reader.specs.Classes.{is_mark, mark_place}
-use Rattle.c_expression_reader.specs.Stops.{stop_conditional}
+use Rattle.exact_read.specs.Grammar.{One, anything, first, Many, none, some, Map, Then, Or, Nothing as Empty, second, nothing, read_map, read_then}
+use Rattle.exact_read.proofs.Parts.{stops_anything, both}
+use Rattle.exact_read.proofs.Many.{Items}
+use Rattle.c_expression_reader.specs.Classes.{mark_place, is_mark}
 use Rattle.c_expression_reader.specs.Exactness.{Closed}
-use Rattle.c_expression_reader.specs.Readers.{Readers, token, behind, before, choose}
-use Rattle.c_expression_reader.specs.Types.{read_length, read_lengths, read_dimensions, expressions_of}
-use Rattle.c_expression_reader.proofs.Marks.{mark-self, one-mark, mark-one, mark-passes, exact-closed, Behind, exact-opened, exact-choose, exact-choice}
+use Rattle.c_expression_reader.specs.Readers.{token, Readers, before, behind, choose}
+use Rattle.c_expression_reader.specs.Types.{expressions_of, read_length, read_lengths, read_dimensions}
+use Rattle.c_expression_reader.proofs.Marks.{Behind, mark-passes, one-mark, mark-one, roled-closed, mark-self, roled-opened, mark-some, behind_begins, behind_silent, roled-choose, roled-choice, map_begins, map_silent}
 use Rattle.c_expression_reader.proofs.Samples.{zero_tree, zero_text, zero_conditional}
 use Rattle.c_type_reader.proofs.Tokens.{stops_or_true}
 use Rattle.c_type_reader.proofs.Firsts.{conditional_first, first_not_mark}
-
--- whole expressions one construct deeper are read exactly, where so many may be open
-abbrev pub Whole : (names : List (List ℕ)) → Readers → (depth : ℕ) → Type 0
-Whole names inner depth = suc depth ≤ 128 → Exact marks anything (grammar.Conditional names (suc depth) 0) stop_conditional (inner.conditional (suc depth) 0)
+use Rattle.role_read.proofs.Basics.{roled-same, roled-enter, roled-stop}
+use Rattle.role_read.proofs.Begins.{Begins}
+use Rattle.role_read.proofs.Then.{roled-then}
+use Rattle.c_expression_reader.specs.Firm.{Firm}
+use Rattle.c_expression_reader.proofs.Firm.{firm-map, firm-many, firm-nothing}
+use Rattle.c_type_reader.specs.Exactness.{Whole}
 
 or-false : (a : Bool) → (a || false) ≡ false → a ≡ false
 or-false true e = absurd (cc)
@@ -39,21 +37,11 @@ within_opens depth t e = ltb-false 128 depth (or-false (nat_lt 128 depth) e)
 abbrev pub ValueText : (names : List (List ℕ)) → (depth : ℕ) → tree.Expression → List Leaf → Type 0
 ValueText names depth = Closed (awaited OperandEnd) punctuator.RightBracket (grammar.Conditional names (suc depth) 0)
 
-pub exact-value : (names : List (List ℕ)) (inner : Readers) (depth : ℕ) → Whole names inner depth → suc depth ≤ 128
-    → Exact marks anything (ValueText names depth) (λ _. anything) (before (inner.conditional (suc depth) 0) (token OperandEnd (awaited OperandEnd) (mark_place punctuator.RightBracket)))
-exact-value names inner depth whole small = exact-closed punctuator.RightBracket OperandEnd (awaited OperandEnd) (λ t. refl) (whole small) (λ x close. refl)
-
 pub zero_value : (names : List (List ℕ)) (depth : ℕ) → ValueText names depth zero_tree (zero_text ++ awaited OperandEnd (mark punctuator.RightBracket 0) ∷ [])
 zero_value names depth = record { inside = zero_text; close = 0; spells = zero_conditional names (suc depth) 0; cut = refl }
 
 abbrev pub LengthText : (names : List (List ℕ)) → (depth : ℕ) → tree.Expression → List Leaf → Type 0
 LengthText names depth = Behind (One (opens (suc depth)) (mark_place punctuator.LeftBracket)) (λ _. ValueText names depth)
-
-pub exact-length : (names : List (List ℕ)) (inner : Readers) (depth : ℕ) → Whole names inner depth → Exact marks anything (LengthText names depth) (λ _. anything) (read_length inner depth)
-exact-length names inner depth whole =
-    exact-opened (mark_place punctuator.LeftBracket) Nothing (opens (suc depth)) (λ t. refl) (mark punctuator.LeftBracket 0) 0 (mark-self punctuator.LeftBracket 0)
-    (λ place. (zero_tree, zero_text ++ awaited OperandEnd (mark punctuator.RightBracket 0) ∷ [], zero_value names depth))
-    (λ place t is within. exact-value names inner depth whole (within_opens (suc depth) t within))
 
 length_items : (names : List (List ℕ)) (depth : ℕ) → Items marks (λ (_ : Unit {0}) t. is_mark punctuator.LeftBracket t.token) (λ _ _. true) (λ _. LengthText names depth) (λ _ _. anything) (λ (_ : Unit {0}) (_ : tree.Expression). tt {0})
 length_items names depth =
@@ -98,15 +86,6 @@ lengths_many names depth e text (grammar.some_length d x rest inside right place
             r.1.1),
       ),
     )
-
-pub exact-lengths : (names : List (List ℕ)) (inner : Readers) (depth : ℕ) → Whole names inner depth → Exact marks anything (grammar.Lengths names depth) (λ _ t. not (is_mark punctuator.LeftBracket t.token)) (read_lengths inner depth)
-exact-lengths names inner depth whole =
-    exact-same anything (grammar.Lengths names depth) (read_lengths inner depth) (λ t h. stops_or_true (λ t. is_mark punctuator.LeftBracket t.token) (t ∷ []))
-    (λ e text m. subst (λ v. grammar.Lengths names depth v text) (sym m.is) (many_lengths names depth tt m.inner text m.spells))
-    (λ e text h. let r = lengths_many names depth e text h in record { inner = r.0; is = r.1.0; spells = r.1.1 })
-    (λ tokens. refl)
-    (exact-map expressions_of (λ _ t. not (is_mark punctuator.LeftBracket t.token)) (λ xs. refl)
-    (exact-many (length_items names depth) (λ c. exact-enter (λ t. is_mark punctuator.LeftBracket t.token) (exact-length names inner depth whole)) tt))
 
 -- all lengths, of which the first may be left out
 abbrev DimensionsOf : (names : List (List ℕ)) → (depth : ℕ) → Bool × tree.Expressions → List Leaf → Type 0
@@ -182,22 +161,6 @@ dimensions_text names depth is_open lengths text (grammar.left_out d l t place c
       cut = refl;
     })
 
-exact-open : (names : List (List ℕ)) (inner : Readers) (depth : ℕ) → Whole names inner depth → Exact marks anything (OpenText names depth) (λ _ t. not (is_mark punctuator.LeftBracket t.token)) (read_map (λ lengths. (true, lengths)) (behind (token Nothing plain (mark_place punctuator.RightBracket)) (λ _. read_lengths inner depth)))
-exact-open names inner depth whole =
-    exact-map (λ lengths. (true, lengths)) (λ _ t. not (is_mark punctuator.LeftBracket t.token)) (λ x. refl)
-    (exact-opened (mark_place punctuator.RightBracket) Nothing plain (λ t. refl) (mark punctuator.RightBracket 0) 0 (mark-self punctuator.RightBracket 0)
-    (λ x. (tree.no_expressions, [], grammar.no_lengths depth)) (λ x t is within. exact-lengths names inner depth whole))
-
-exact-given : (names : List (List ℕ)) (inner : Readers) (depth : ℕ) → Whole names inner depth → suc depth ≤ 128
-    → Exact marks anything (GivenText names depth) (λ _ t. not (is_mark punctuator.LeftBracket t.token)) (read_map (λ pair. (false, tree.expressions pair.0 pair.1)) (read_then (before (inner.conditional (suc depth) 0) (token OperandEnd (awaited OperandEnd) (mark_place punctuator.RightBracket))) (λ _. read_lengths inner depth)))
-exact-given names inner depth whole small =
-    exact-map (λ (pair : tree.Expression × tree.Expressions). (false, tree.expressions pair.0 pair.1)) (λ _ t. not (is_mark punctuator.LeftBracket t.token)) (λ x. refl)
-    (exact-then (exact-value names inner depth whole small) (λ _. exact-lengths names inner depth whole)
-    record {
-      ends = λ x y left right rest one two stops. stops_anything (plains marks right ++ rest);
-      goes_on = λ x left one. (tree.no_expressions, [], grammar.no_lengths depth);
-    })
-
 -- where nothing is read, what was asked before
 abbrev pub stop_dimensions : (entry : Placed → Bool) → Bool × tree.Expressions → Placed → Bool
 stop_dimensions entry (true, lengths) t = not (is_mark punctuator.LeftBracket t.token)
@@ -219,16 +182,60 @@ some_same : (names : List (List ℕ)) (depth : ℕ) (entry : Placed → Bool) (x
 some_same names depth entry x text t (first m) = ap (λ (p : Bool × tree.Expressions). stop_dimensions entry p t) (sym m.is)
 some_same names depth entry x text t (second m) = ap (λ (p : Bool × tree.Expressions). stop_dimensions entry p t) (sym m.is)
 
-pub exact-dimensions_from : (names : List (List ℕ)) (inner : Readers) (depth : ℕ) (entry : Placed → Bool) → Whole names inner depth → Exact marks entry (λ (pair : Bool × tree.Expressions) text. grammar.Dimensions names depth pair.0 pair.1 text) (stop_dimensions entry) (read_dimensions inner depth)
-exact-dimensions_from names inner depth entry whole =
-    exact-same entry (DimensionsOf names depth) (read_dimensions inner depth) (λ t h. h) (text_dimensions names depth) (λ pair text h. dimensions_text names depth pair.0 pair.1 text h) (λ tokens. refl)
-    (exact-choose (is_mark punctuator.LeftBracket)
+pub roled-value : (names : List (List ℕ)) (inner : Readers) (depth : ℕ) → Whole names inner depth → suc depth ≤ 128
+    → Firm anything (ValueText names depth) (λ _. anything) (before (inner.conditional (suc depth) 0) (token OperandEnd (awaited OperandEnd) (mark_place punctuator.RightBracket)))
+roled-value names inner depth whole small = roled-closed punctuator.RightBracket OperandEnd (awaited OperandEnd) (λ t. refl) (λ t. refl) (whole small) (λ x close. refl)
+
+pub roled-length : (names : List (List ℕ)) (inner : Readers) (depth : ℕ) → Whole names inner depth → Firm anything (LengthText names depth) (λ _. anything) (read_length inner depth)
+roled-length names inner depth whole =
+    roled-opened (mark_place punctuator.LeftBracket) Nothing (opens (suc depth)) (λ t. refl) (λ t. refl) (mark punctuator.LeftBracket 0) 0 (mark-self punctuator.LeftBracket 0)
+    (λ place. (zero_tree, zero_text ++ awaited OperandEnd (mark punctuator.RightBracket 0) ∷ [], zero_value names depth))
+    (λ place t is within. roled-value names inner depth whole (within_opens (suc depth) t within))
+
+length_begins : (names : List (List ℕ)) (depth : ℕ) (t : Placed) → is_mark punctuator.LeftBracket t.token ≡ true → Begins marks (LengthText names depth) t
+length_begins names depth t e =
+    behind_begins (mark_place punctuator.LeftBracket) (opens (suc depth)) (λ t. refl) t t.offset (mark-some punctuator.LeftBracket t e) (zero_tree, zero_text ++ awaited OperandEnd (mark punctuator.RightBracket 0) ∷ [], zero_value names depth)
+
+pub roled-lengths : (names : List (List ℕ)) (inner : Readers) (depth : ℕ) → Whole names inner depth → Firm anything (grammar.Lengths names depth) (λ _ t. not (is_mark punctuator.LeftBracket t.token)) (read_lengths inner depth)
+roled-lengths names inner depth whole =
+    roled-same anything (grammar.Lengths names depth) (read_lengths inner depth) (λ t h. stops_or_true (λ t. is_mark punctuator.LeftBracket t.token) (t ∷ []))
+    (λ e text m. subst (λ v. grammar.Lengths names depth v text) (sym m.is) (many_lengths names depth tt m.inner text m.spells))
+    (λ e text h. let r = lengths_many names depth e text h in record { inner = r.0; is = r.1.0; spells = r.1.1 })
+    (λ tokens. refl)
+    (firm-map expressions_of (λ _ t. not (is_mark punctuator.LeftBracket t.token)) (λ xs. refl)
+    (firm-many (length_items names depth) (λ c t e. length_begins names depth t e) (λ c. behind_silent (mark_place punctuator.LeftBracket) (opens (suc depth)) (λ t. refl)) (λ c. roled-enter (λ t. is_mark punctuator.LeftBracket t.token) (roled-length names inner depth whole)) tt))
+
+roled-open : (names : List (List ℕ)) (inner : Readers) (depth : ℕ) → Whole names inner depth → Firm anything (OpenText names depth) (λ _ t. not (is_mark punctuator.LeftBracket t.token)) (read_map (λ lengths. (true, lengths)) (behind (token Nothing plain (mark_place punctuator.RightBracket)) (λ _. read_lengths inner depth)))
+roled-open names inner depth whole =
+    firm-map (λ lengths. (true, lengths)) (λ _ t. not (is_mark punctuator.LeftBracket t.token)) (λ x. refl)
+    (roled-opened (mark_place punctuator.RightBracket) Nothing plain (λ t. refl) (λ t. refl) (mark punctuator.RightBracket 0) 0 (mark-self punctuator.RightBracket 0)
+    (λ x. (tree.no_expressions, [], grammar.no_lengths depth)) (λ x t is within. roled-lengths names inner depth whole))
+
+roled-given : (names : List (List ℕ)) (inner : Readers) (depth : ℕ) → Whole names inner depth → suc depth ≤ 128
+    → Firm anything (GivenText names depth) (λ _ t. not (is_mark punctuator.LeftBracket t.token)) (read_map (λ pair. (false, tree.expressions pair.0 pair.1)) (read_then (before (inner.conditional (suc depth) 0) (token OperandEnd (awaited OperandEnd) (mark_place punctuator.RightBracket))) (λ _. read_lengths inner depth)))
+roled-given names inner depth whole small =
+    firm-map (λ (pair : tree.Expression × tree.Expressions). (false, tree.expressions pair.0 pair.1)) (λ _ t. not (is_mark punctuator.LeftBracket t.token)) (λ x. refl)
+    (roled-then (roled-value names inner depth whole small) (λ _. roled-lengths names inner depth whole)
+    record {
+      ends = λ x y left right rest one two stops. stops_anything (plains marks right ++ rest);
+      goes_on = λ x left one. (tree.no_expressions, [], grammar.no_lengths depth);
+    })
+
+some_open : (names : List (List ℕ)) (depth : ℕ) → (x : Bool × tree.Expressions) × (right : List Leaf) × Or (OpenText names depth) (GivenText names depth) x right
+some_open names depth = ((true, tree.no_expressions), plain (mark punctuator.RightBracket 0) ∷ [], first (record { inner = tree.no_expressions; is = refl; spells = record { first = 0; left = plain (mark punctuator.RightBracket 0) ∷ []; right = []; is_first = mark-one punctuator.RightBracket plain 0; is_second = grammar.no_lengths depth; cut = refl } }))
+
+pub roled-dimensions_from : (names : List (List ℕ)) (inner : Readers) (depth : ℕ) (entry : Placed → Bool) → Whole names inner depth → Firm entry (λ (pair : Bool × tree.Expressions) text. grammar.Dimensions names depth pair.0 pair.1 text) (stop_dimensions entry) (read_dimensions inner depth)
+roled-dimensions_from names inner depth entry whole =
+    roled-same entry (DimensionsOf names depth) (read_dimensions inner depth) (λ t h. h) (text_dimensions names depth) (λ pair text h. dimensions_text names depth pair.0 pair.1 text h) (λ tokens. refl)
+    (roled-choose (is_mark punctuator.LeftBracket)
     record {
       first_begins = λ x text b. (opens (suc depth) (mark punctuator.LeftBracket b.first), b.right, b.cut ∙ ap (λ l. l ++ b.right) (one-mark punctuator.LeftBracket (opens (suc depth)) b.first b.left b.is_first), mark-passes punctuator.LeftBracket (mark punctuator.LeftBracket b.first) b.first (mark-self punctuator.LeftBracket b.first));
       second_begins = λ x text rest one stops. none_begins entry x text rest one stops;
     }
-    (exact-enter (both entry (λ t. is_mark punctuator.LeftBracket t.token)) (exact-stop (stop_dimensions entry) (λ x text b t. some_same names depth entry x b.right t b.is_second) some_exact))
-    (exact-stop (stop_dimensions entry) (λ x text one t. none_same entry x text t one) (exact-nothing (both entry (λ t. not (is_mark punctuator.LeftBracket t.token))) (false, tree.no_expressions))))
+    (λ t e. behind_begins (mark_place punctuator.LeftBracket) (opens (suc depth)) (λ t. refl) t t.offset (mark-some punctuator.LeftBracket t e) (some_open names depth))
+    (behind_silent (mark_place punctuator.LeftBracket) (opens (suc depth)) (λ t. refl))
+    (roled-enter (both entry (λ t. is_mark punctuator.LeftBracket t.token)) (roled-stop (stop_dimensions entry) (λ x text b t. some_same names depth entry x b.right t b.is_second) some_exact))
+    (roled-stop (stop_dimensions entry) (λ x text one t. none_same entry x text t one) (firm-nothing (both entry (λ t. not (is_mark punctuator.LeftBracket t.token))) (false, tree.no_expressions))))
   where
     value_first : (x : Bool × tree.Expressions) (text : List Leaf) (rest : List Placed) → GivenText names depth x text → Stops (λ t. not (is_mark punctuator.RightBracket t.token)) (plains marks text ++ rest)
     value_first x text rest m =
@@ -237,24 +244,26 @@ exact-dimensions_from names inner depth entry whole =
         first_not_mark names punctuator.RightBracket refl text rest
         (record { leaf = f.leaf; more = (f.more ++ awaited OperandEnd (mark punctuator.RightBracket v.close) ∷ []) ++ m.spells.right; cut = m.spells.cut ∙ ap (λ t. t ++ m.spells.right) (v.cut ∙ ap (λ t. t ++ awaited OperandEnd (mark punctuator.RightBracket v.close) ∷ []) f.cut); yes = f.yes })
 
-    some_exact : Exact marks anything (SomeText names depth) (λ _ t. not (is_mark punctuator.LeftBracket t.token))
+    some_exact : Firm anything (SomeText names depth) (λ _ t. not (is_mark punctuator.LeftBracket t.token))
         (behind (token Nothing (opens (suc depth)) (mark_place punctuator.LeftBracket)) (λ _. choose (is_mark punctuator.RightBracket)
         (read_map (λ lengths. (true, lengths)) (behind (token Nothing plain (mark_place punctuator.RightBracket)) (λ _. read_lengths inner depth)))
         (read_map (λ pair. (false, tree.expressions pair.0 pair.1)) (read_then (before (inner.conditional (suc depth) 0) (token OperandEnd (awaited OperandEnd) (mark_place punctuator.RightBracket))) (λ _. read_lengths inner depth)))))
     some_exact =
-        exact-opened (mark_place punctuator.LeftBracket) Nothing (opens (suc depth)) (λ t. refl) (mark punctuator.LeftBracket 0) 0 (mark-self punctuator.LeftBracket 0)
-        (λ place. ((true, tree.no_expressions), plain (mark punctuator.RightBracket 0) ∷ [], first (record { inner = tree.no_expressions; is = refl; spells = record { first = 0; left = plain (mark punctuator.RightBracket 0) ∷ []; right = []; is_first = mark-one punctuator.RightBracket plain 0; is_second = grammar.no_lengths depth; cut = refl } })))
-        (λ place t is within. exact-choice (is_mark punctuator.RightBracket)
+        roled-opened (mark_place punctuator.LeftBracket) Nothing (opens (suc depth)) (λ t. refl) (λ t. refl) (mark punctuator.LeftBracket 0) 0 (mark-self punctuator.LeftBracket 0)
+        (λ place. some_open names depth)
+        (λ place t is within. roled-choice (is_mark punctuator.RightBracket)
         record {
           first_begins = λ x text m. (plain (mark punctuator.RightBracket m.spells.first), m.spells.right, m.spells.cut ∙ ap (λ t. t ++ m.spells.right) (one-mark punctuator.RightBracket plain m.spells.first m.spells.left m.spells.is_first), mark-passes punctuator.RightBracket (mark punctuator.RightBracket m.spells.first) m.spells.first (mark-self punctuator.RightBracket m.spells.first));
           second_begins = λ x text rest m stops. value_first x text rest m;
         }
-        (exact-open names inner depth whole)
-        (exact-given names inner depth whole (within_opens (suc depth) t within)))
+        (λ t e. map_begins (λ lengths. (true, lengths)) t (behind_begins (mark_place punctuator.RightBracket) plain (λ t. refl) t t.offset (mark-some punctuator.RightBracket t e) (tree.no_expressions, [], grammar.no_lengths depth)))
+        (map_silent (λ lengths. (true, lengths)) (behind_silent (mark_place punctuator.RightBracket) plain (λ t. refl)))
+        (roled-open names inner depth whole)
+        (roled-given names inner depth whole (within_opens (suc depth) t within)))
 
-pub exact-dimensions : (names : List (List ℕ)) (inner : Readers) (depth : ℕ) → Whole names inner depth → Exact marks anything (λ (pair : Bool × tree.Expressions) text. grammar.Dimensions names depth pair.0 pair.1 text) (λ _ t. not (is_mark punctuator.LeftBracket t.token)) (read_dimensions inner depth)
-exact-dimensions names inner depth whole =
-    exact-stop (λ _ t. not (is_mark punctuator.LeftBracket t.token)) (λ x text h t. same x t) (exact-dimensions_from names inner depth anything whole)
+pub roled-dimensions : (names : List (List ℕ)) (inner : Readers) (depth : ℕ) → Whole names inner depth → Firm anything (λ (pair : Bool × tree.Expressions) text. grammar.Dimensions names depth pair.0 pair.1 text) (λ _ t. not (is_mark punctuator.LeftBracket t.token)) (read_dimensions inner depth)
+roled-dimensions names inner depth whole =
+    roled-stop (λ _ t. not (is_mark punctuator.LeftBracket t.token)) (λ x text h t. same x t) (roled-dimensions_from names inner depth anything whole)
   where
     same : (x : Bool × tree.Expressions) (t : Placed) → stop_dimensions anything x t ≡ not (is_mark punctuator.LeftBracket t.token)
     same (true, lengths) t = refl

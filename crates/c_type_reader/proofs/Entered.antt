@@ -1,31 +1,7 @@
 -- Readers that differ only where they are not used, and contexts that tell more than a reader looks at.
-use Rattle.std.proofs.Common.{◌≡◌, ℕ, zero, suc, length, Bool, true, false, List, [], ◌∷◌, ◌++◌, Ok, Err, refl, ap, sym, ◌∙◌, subst, cond}
-use Rattle.exact_read.specs.Reading.{Outcome, Reader, Marks, plains, Stops}
-use Rattle.exact_read.specs.Exact.{Exact}
+use Rattle.std.proofs.Common.{◌≡◌, ℕ, zero, suc, Bool, true, false, List, [], ◌∷◌, Ok, Err, refl, ap, sym, ◌∙◌, cond, length}
+use Rattle.exact_read.specs.Reading.{Outcome, Reader}
 use Rattle.exact_read.specs.Grammar.{bind, read_at_most, read_many}
-use Rattle.exact_read.proofs.Basics.{Stops-other}
-
--- the same reader where the next token passes the test of entry
-pub exact-entered : {T U K X : Type 0} {marks : Marks T U} {entry : T → Bool} {S : X → List U → Type 0} {stop : X → T → Bool} {read : Reader T K X} (read' : Reader T K X) → ((before : List T) → Stops entry before → read' before ≡ read before)
-    → Exact marks entry S stop read → Exact marks entry S stop read'
-exact-entered {T} {U} {K} {X} {marks} {entry} {S} {stop} {read} read' same is =
-    record {
-      takes = λ before x rest enters e. is.takes before x rest enters (sym (same before enters) ∙ e);
-      again = λ x text rest spells stops enters. same (plains marks text ++ rest) enters ∙ is.again x text rest spells stops enters;
-      wrongs = λ before kind rest enters e. let one = is.wrongs before kind rest enters (sym (same before enters) ∙ e) in
-          record {
-            front = one.front;
-            cut = one.cut;
-            within = one.within;
-            value = one.value;
-            more = one.more;
-            spells = one.spells;
-            whatever = λ token old new here.
-                let opens : Stops entry (plains marks one.front ++ token ∷ old) = subst (Stops entry) (one.cut ∙ ap (λ r. plains marks one.front ++ r) here) enters in
-                same (plains marks one.front ++ token ∷ new) (Stops-other marks entry one.front token old new opens) ∙ one.whatever token old new here;
-          };
-      deeps = λ before rest enters e. is.deeps before rest enters (sym (same before enters) ∙ e);
-    }
 
 -- a context that tells more than another
 pub many-context : {T K X C D : Type 0} (starts : C → T → Bool) (item : C → Reader T K X) (next : C → X → C) (of : D → C) (next' : D → X → D) → ((d : D) (x : X) → of (next' d x) ≡ next (of d) x)

@@ -1,9 +1,9 @@
 -- What an expression begins with, and what it doesn't begin with.
-use Rattle.std.proofs.Common.{◌≡◌, ℕ, Bool, true, false, List, [], ◌∷◌, ◌++◌, refl, ap, sym, ◌∙◌, subst, not}
+use Rattle.std.proofs.Common.{◌≡◌, ℕ, true, List, ◌∷◌, ◌++◌, ap, refl, [], not, Bool, false, sym, ◌∙◌, subst}
 use denote.Enum.Bare.{sameb, same_true}
 use Rattle.c_spec.specs.declared.token.Punctuator.{Punctuator}
 use Rattle.c_spec.specs.contracts.token.Punctuator.{the_type}
-use Rattle.c_spec.specs.Lexical.{Placed, Token, Name as name_token, Word, Number as number_token, Character as character_token, Mark}
+use Rattle.c_spec.specs.Lexical.{Token, Name as name_token, Word, Number as number_token, Character as character_token, Mark, Placed}
 use Rattle.c_tree_spec.specs.declared.UnaryOperator.{UnaryOperator}
 use Rattle.c_tree_spec.specs.declared.UnaryOperator.TheVariants.{AddressOf, Dereference, Plus, Minus, Complement, Not}
 use Rattle.c_tree_spec.specs.Expression as tree
@@ -11,7 +11,7 @@ use Rattle.c_grammar_spec.specs.Leaves.{Leaf, marks}
 use Rattle.c_grammar_spec.specs.Expressions.{unary_mark, Primary, name, constant, character_constant, bracketed, Postfix, primary, index, member, Unary, postfix, prefixed, sizeof_expression, sizeof_type, Cast, unary, cast, Binary, operand, tighter, operation, Conditional, logical_or, conditional}
 use Rattle.exact_read.specs.Reading.{plains, Stops}
 use Rattle.c_expression_reader.specs.Classes.{is_mark}
-use Rattle.c_type_reader.specs.Firsts.{begins_by_mark, begins_expression}
+use Rattle.c_type_reader.specs.Firsts.{begins_expression, begins_by_mark}
 
 -- the text begins with a token that begins an expression
 pub record First (names : List (List ℕ)) (text : List Leaf) : Type 0 where

@@ -1,5 +1,5 @@
 -- There is always a name that is none of a type.
-use Rattle.std.proofs.Common.{◌≡◌, ℕ, zero, suc, ◌+◌, ◌<◌, arith, length, Bool, true, false, List, [], ◌∷◌, refl, ap, bytes_eq}
+use Rattle.std.proofs.Common.{ℕ, zero, suc, List, [], ◌∷◌, ◌≡◌, arith, length, refl, ◌+◌, ◌<◌, Bool, true, false, ap, bytes_eq}
 use Rattle.std.proofs.lemmas.Slice.Eq.{bytes_eq-Decides}
 use Rattle.c_tree_spec.specs.Expression as tree
 use Rattle.c_grammar_spec.specs.Expressions.{is_type_name}

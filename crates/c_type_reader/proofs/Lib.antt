@@ -6,10 +6,13 @@ pub mod Pointers
 pub mod Firsts
 pub mod Dimensions
 pub mod Listed
-pub mod Declarators
 pub mod Fresh
 pub mod Words
+pub mod Plain
+pub mod Declarators
 pub mod TypeFirsts
+pub mod Ended
+pub mod Begins
 pub mod Members
 pub mod Constants
 pub mod Bases

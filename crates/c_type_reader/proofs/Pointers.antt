@@ -1,23 +1,23 @@
 -- `const` and `*` are read exactly.
-use Rattle.std.proofs.Common.{◌≡◌, ℕ, zero, suc, length, Bool, true, false, List, [], ◌∷◌, ◌++◌, Some, None, Ok, refl, ap, sym, ◌∙◌, subst, IsTrue, cond, not, ◌&&◌, ◌||◌}
+use Rattle.std.proofs.Common.{◌≡◌, ℕ, Some, None, ap, cond, refl, Bool, not, ◌&&◌, List, [], ◌∷◌, ◌++◌, zero, suc, true, false, ◌∙◌, IsTrue, ◌||◌, length, sym, subst, Ok}
 use Rattle.c_spec.specs.declared.token.Keyword.TheVariants.{Const}
 use Rattle.c_spec.specs.declared.token.Punctuator.TheVariants as punctuator
-use Rattle.c_spec.specs.Lexical.{Placed, Token, Name as name_token, Word, Number as number_token, Character as character_token, Mark}
+use Rattle.c_spec.specs.Lexical.{Token, Name as name_token, Word, Number as number_token, Character as character_token, Mark, Placed}
 use Rattle.c_grammar_spec.specs.declared.Role.TheVariants.{Nothing}
-use Rattle.c_grammar_spec.specs.Leaves.{Leaf, plain, mark, word, marks}
+use Rattle.c_grammar_spec.specs.Leaves.{word, marks, Leaf, plain, mark}
 use Rattle.c_grammar_spec.specs.Expressions as grammar
 use Rattle.exact_read.specs.Reading.{plains, Stops}
 use Rattle.exact_read.specs.Exact.{Exact}
-use Rattle.exact_read.specs.Grammar.{anything, One, Many, none, some, stop_many, read_many, read_map, bind}
-use Rattle.exact_read.proofs.Parts.{exact-map, exact-same, stops_anything}
+use Rattle.exact_read.specs.Grammar.{none, One, anything, Many, some, stop_many, read_many, read_map, bind}
+use Rattle.exact_read.proofs.Parts.{stops_anything, exact-map, exact-same}
 use Rattle.exact_read.proofs.Many.{Items, exact-many}
 use Rattle.exact_read.proofs.Stop.{exact-stop, exact-enter}
-use Rattle.c_expression_reader.specs.Classes.{is_mark, mark_place}
+use Rattle.c_expression_reader.specs.Classes.{mark_place, is_mark}
 use Rattle.c_expression_reader.specs.Readers.{token, before}
 use Rattle.c_expression_reader.specs.Types.{is_const, const_place, read_consts, read_pointer}
-use Rattle.c_expression_reader.proofs.Marks.{one-mark, mark-one, mark-passes, exact-mark}
+use Rattle.c_expression_reader.proofs.Marks.{exact-mark, mark-passes, one-mark, mark-one}
 use Rattle.c_type_reader.proofs.Entered.{many-context_same}
-use Rattle.c_type_reader.proofs.Tokens.{TokenClass, leaves_of, unless_read, or_right, context_read, exact-tokens, Kept, exact-before}
+use Rattle.c_type_reader.proofs.Tokens.{TokenClass, leaves_of, unless_read, exact-tokens, Kept, exact-before, or_right, context_read}
 
 -- `const`
 const-token : (k : Token) (o place : ℕ) → cond (is_const k) (Some o) None ≡ Some place → record { token = k; offset = o } ≡ word Const place

@@ -1,14 +1,14 @@
 -- Tokens of a class, spell long spell one stands next, and parts whose value is kept, are read exactly.
-use Rattle.std.proofs.Common.{◌≡◌, Bool, true, false, List, [], ◌∷◌, ◌++◌, Ok, Err, Option, Some, refl, ap, sym, ◌∙◌, subst, IsTrue, not, ◌&&◌, ◌||◌}
+use Rattle.std.proofs.Common.{◌≡◌, Bool, true, Option, Some, List, [], ◌∷◌, false, refl, IsTrue, ◌||◌, ap, not, ◌&&◌, ◌++◌, sym, ◌∙◌, subst, Ok, Err}
 use Rattle.std.specs.Prelude.{map}
 use Rattle.c_spec.specs.Lexical.{Placed}
 use Rattle.c_grammar_spec.specs.declared.Role.{Role}
 use Rattle.c_grammar_spec.specs.declared.Role.TheVariants.{Nothing}
 use Rattle.c_grammar_spec.specs.Leaves.{Leaf, plain, marks}
-use Rattle.exact_read.specs.Reading.{Outcome, Reader, Stops}
+use Rattle.exact_read.specs.Reading.{Stops, Outcome, Reader}
 use Rattle.exact_read.specs.Exact.{Exact}
-use Rattle.exact_read.specs.Grammar.{bind, anything, One, Map, Then, read_many, Many, none, some, context_after, stop_many}
-use Rattle.exact_read.proofs.Parts.{exact-one, exact-map, exact-same, stops_anything}
+use Rattle.exact_read.specs.Grammar.{context_after, stop_many, anything, One, read_many, Many, none, some, bind, Map, Then}
+use Rattle.exact_read.proofs.Parts.{exact-one, exact-same, stops_anything, exact-map}
 use Rattle.exact_read.proofs.Then.{Joins, exact-then_within}
 use Rattle.exact_read.proofs.Many.{Items, exact-many}
 use Rattle.exact_read.proofs.Stop.{exact-stop}

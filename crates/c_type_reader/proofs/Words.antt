@@ -1,5 +1,5 @@
 -- The words of integer types are read exactly.
-use Rattle.std.proofs.Common.{◌≡◌, ℕ, zero, suc, ◌≤◌, arith, length, Bool, true, false, List, [], ◌∷◌, ◌++◌, Ok, Err, refl, ap, sym, ◌∙◌, subst, IsTrue, cond, not, append_assoc, append-nil}
+use Rattle.std.proofs.Common.{◌≡◌, ℕ, true, List, [], ◌∷◌, ◌++◌, Bool, not, Ok, refl, sym, subst, append-nil, ap, append_assoc, zero, suc, ◌≤◌, arith, length, false, cond, ◌∙◌, IsTrue, Err}
 use Rattle.std.specs.Option.{is_some}
 use Rattle.c_spec.specs.declared.token.Keyword.{Keyword}
 use Rattle.c_spec.specs.Lexical.{Placed, Token, Name as name_token, Word, Number as number_token, Character as character_token, Mark}
@@ -7,12 +7,12 @@ use Rattle.c_grammar_spec.specs.declared.Role.{Role}
 use Rattle.c_grammar_spec.specs.declared.Role.TheVariants.{Nothing}
 use Rattle.c_grammar_spec.specs.Leaves.{Leaf, plain, word, marks}
 use Rattle.c_grammar_spec.specs.Expressions.{integer_type_of}
-use Rattle.exact_read.specs.Reading.{Fault, Outcome, Deep, Wrong, plains, Within, limit, Stops}
+use Rattle.exact_read.specs.Reading.{Outcome, plains, Within, Stops, limit, Fault, Deep, Wrong}
 use Rattle.exact_read.specs.Exact.{IsTaken, Exact}
-use Rattle.exact_read.specs.Grammar.{bind, anything, read_at_most}
+use Rattle.exact_read.specs.Grammar.{read_at_most, bind, anything}
 use Rattle.exact_read.proofs.Basics.{limit-bind}
 use Rattle.c_expression_reader.specs.Readers.{token}
-use Rattle.c_expression_reader.specs.Types.{word_of, goes_on, read_words}
+use Rattle.c_expression_reader.specs.Types.{goes_on, word_of, read_words}
 
 -- each word names a type with those before it
 pub data WordsAre : (words more : List Keyword) → List Leaf → Type 0 where
