@@ -2,7 +2,7 @@
 use Rattle.std.proofs.Common.{◌≡◌, Bool, true, List, false, [], ◌∷◌, ◌++◌, refl, IsTrue, not, ◌&&◌}
 use Rattle.c_spec.specs.Lexical.{Placed, Token}
 use Rattle.c_grammar_spec.specs.declared.Role.{Role}
-use Rattle.c_grammar_spec.specs.Leaves.{Leaf, marks}
+use Rattle.c_grammar_spec.specs.Leaves.{Leaf, marks, roles}
 use Rattle.exact_read.specs.Reading.{Reader, plains, Stops}
 use Rattle.exact_read.specs.Grammar.{Or, first, second}
 use Rattle.exact_read.proofs.Parts.{both}
@@ -10,7 +10,7 @@ use Rattle.c_expression_reader.specs.Readers.{choose}
 use Rattle.c_expression_reader.proofs.Marks.{roled-choose}
 use Rattle.role_read.proofs.Basics.{roled-same}
 use Rattle.role_read.proofs.Begins.{Begins, Silent}
-use Rattle.c_expression_reader.specs.Firm.{roles, Firm}
+use Rattle.c_expression_reader.specs.Firm.{Firm}
 
 -- a text that is one only where the test before allowed it
 pub record Allowed {X : Type 0} (allowed : Bool) (S : X → List Leaf → Type 0) (x : X) (text : List Leaf) : Type 0 where

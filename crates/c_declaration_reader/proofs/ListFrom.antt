@@ -4,7 +4,7 @@ use Rattle.c_spec.specs.declared.token.Punctuator.{Punctuator}
 use Rattle.c_spec.specs.declared.token.Punctuator.TheVariants as punctuator
 use Rattle.c_spec.specs.Lexical.{Placed}
 use Rattle.c_grammar_spec.specs.declared.Role.{Role}
-use Rattle.c_grammar_spec.specs.Leaves.{Leaf, awaited, mark, marks}
+use Rattle.c_grammar_spec.specs.Leaves.{Leaf, awaited, mark, marks, roles}
 use Rattle.exact_read.specs.Reading.{Reader}
 use Rattle.exact_read.specs.Grammar.{Then, Map, One, none, some, anything, context_after}
 use Rattle.c_expression_reader.specs.Classes.{mark_place}
@@ -14,9 +14,9 @@ use Rattle.c_declaration_reader.proofs.Lists.{Before, MoreText, EndText, read_en
 use Rattle.role_read.specs.Roles.{Roled}
 use Rattle.role_read.proofs.Basics.{Meets, roled-same}
 use Rattle.role_read.proofs.Then.{roled-then_within}
-use Rattle.c_expression_reader.specs.Firm.{roles, Firm}
+use Rattle.c_expression_reader.specs.Firm.{Firm}
 use Rattle.c_expression_reader.proofs.Firm.{firm-map}
-use Rattle.c_type_reader.proofs.Listed.{meets_by}
+use Rattle.c_declarator_reader.proofs.Listed.{meets_by}
 
 abbrev pub no_step : {X : Type 0} → Unit {0} → X → Unit {0}
 no_step e x = tt {0}

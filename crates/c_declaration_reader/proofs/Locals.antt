@@ -16,12 +16,12 @@ use Rattle.c_expression_reader.specs.Classes.{is_mark, mark_place}
 use Rattle.c_expression_reader.specs.Readers.{token, Readers, behind, choose}
 use Rattle.c_expression_reader.proofs.Marks.{Behind, one-mark, mark-one, mark-self, mark-passes, mark-some, roled-opened, roled-choose, behind_begins, behind_silent}
 use Rattle.c_expression_reader.proofs.Samples.{zero_tree, zero_text}
-use Rattle.c_type_reader.specs.Beside.{WithEnd}
+use Rattle.c_declarator_reader.specs.Beside.{WithEnd}
 use Rattle.c_type_reader.specs.Endings.{SpecifiersEnd, Ending, goes_on_with, stop_specifiers}
 use Rattle.c_type_reader.specs.Exactness.{AllFirm}
-use Rattle.c_type_reader.proofs.Beside.{roled-then_beside}
-use Rattle.c_type_reader.proofs.Fresh.{fresh, fresh_is}
-use Rattle.c_type_reader.proofs.Declarators.{DeclaratorFirst, declarator_first, begins_declarator, declares_other, roled-declarator}
+use Rattle.c_declarator_reader.proofs.Beside.{roled-then_beside}
+use Rattle.c_declarator_reader.proofs.Fresh.{fresh, fresh_is}
+use Rattle.c_declarator_reader.proofs.Declarators.{DeclaratorFirst, declarator_first, begins_declarator, declares_other, roled-declarator}
 use Rattle.c_type_reader.proofs.TypeFirsts.{declarator_stops}
 use Rattle.c_type_reader.proofs.Ended.{specified, with_end}
 use Rattle.c_declaration_reader.specs.Around.{is_word, local_word}

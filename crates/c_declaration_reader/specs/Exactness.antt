@@ -1,4 +1,5 @@
--- What it means that values, expression statements and declarations of locals are read exactly.
+-- What it means that values, expression statements and declarations of locals are read exactly, and that
+-- their readers keep roles.
 use Rattle.std.specs.Prelude.{ℕ, List}
 use Rattle.c_grammar_spec.specs.Expressions.{Unary, InLocal, InItem}
 use Rattle.c_grammar_spec.specs.Leaves.{marks}
@@ -9,7 +10,7 @@ use Rattle.c_expression_reader.specs.Budget.{enough}
 use Rattle.c_expression_reader.specs.Readers.{Readers}
 use Rattle.c_expression_reader.specs.Stops.{stop_cast}
 use Rattle.c_expression_reader.specs.Turns.{readers}
-use Rattle.c_type_reader.specs.Beside.{ExactBeside, FirmBeside}
+use Rattle.c_declarator_reader.specs.Beside.{ExactBeside, FirmBeside}
 use Rattle.c_type_reader.specs.Endings.{SpecifiersEnd, stop_specifiers}
 use Rattle.c_declaration_reader.specs.Around.{is_word, local_word, item_word, read_local_specifiers, read_item_specifiers}
 use Rattle.c_declaration_reader.specs.Values.{read_any_unary, read_value, read_simple}

@@ -1,4 +1,4 @@
--- Unary and cast expressions are read exactly.
+-- Postfix expressions by their first token: a bracket, or an atom.
 use Rattle.std.proofs.Common.{ℕ, List, ◌≡◌, Bool, true, false, [], ◌∷◌, Some, None, refl, subst, cond, sym, ap, suc, ◌+◌, ◌++◌}
 use Rattle.c_spec.specs.declared.token.Punctuator.TheVariants as punctuator
 use Rattle.c_spec.specs.Lexical.{Token, Name as name_token, Word, Number as number_token, Character as character_token, Mark}

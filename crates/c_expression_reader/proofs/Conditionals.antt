@@ -35,7 +35,7 @@ MoreText names depth count test = Or (ChoiceText names depth (count + operators 
 abbrev pub ConditionalText : (names : List (List ℕ)) → (depth count : ℕ) → tree.Expression → List Leaf → Type 0
 ConditionalText names depth count = Behind (Binary names 10 depth count) (λ test. MoreText names depth count test)
 
--- conditional expressions are read exactly behind one operator more
+-- conditional expressions keep roles behind one operator more
 abbrev pub Branches : (names : List (List ℕ)) → Readers → (depth count : ℕ) → Type 0
 Branches names inner depth count = (c : ℕ) → suc count ≤ c → suc count ≤ 128 → Firm anything (Conditional names depth c) stop_conditional (inner.conditional depth c)
 

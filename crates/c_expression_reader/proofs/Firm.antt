@@ -3,7 +3,7 @@ use Rattle.std.proofs.Common.{◌≡◌, inl, Bool, List, refl, Option, Some, tr
 use Rattle.c_spec.specs.Lexical.{Placed}
 use Rattle.c_grammar_spec.specs.declared.Role.{Role}
 use Rattle.c_grammar_spec.specs.declared.Role.TheVariants.{Nothing}
-use Rattle.c_grammar_spec.specs.Leaves.{Leaf, marks}
+use Rattle.c_grammar_spec.specs.Leaves.{Leaf, marks, roles}
 use Rattle.exact_read.specs.Reading.{Reader}
 use Rattle.exact_read.specs.Grammar.{read_map, Map, anything, read_one, One, read_nothing, Nothing as Empty, opens, read_many, Many, stop_many}
 use Rattle.exact_read.specs.Folds.{read_folded, Folded}
@@ -13,7 +13,7 @@ use Rattle.role_read.proofs.Basics.{roled-map, roled-one, roled-nothing}
 use Rattle.role_read.proofs.Begins.{Begins, Silent, begun_enters, silent_next}
 use Rattle.role_read.proofs.Many.{ItemRoles, roled-many}
 use Rattle.role_read.proofs.Folds.{roled-folded}
-use Rattle.c_expression_reader.specs.Firm.{quiet, Firm, roles}
+use Rattle.c_expression_reader.specs.Firm.{quiet, Firm}
 
 pub firm-map : {X Y : Type 0} {entry : Placed → Bool} {S : X → List Leaf → Type 0} {stop : X → Placed → Bool} {read : Reader Placed Role X} (change : X → Y) (stop' : Y → Placed → Bool) → ((x : X) → stop' (change x) ≡ stop x) → Firm entry S stop read → Firm entry (Map change S) stop' (read_map change read)
 firm-map change stop' same is = roled-map change stop' quiet same (λ x. inl refl) is

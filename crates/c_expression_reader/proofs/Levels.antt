@@ -28,7 +28,6 @@ use Rattle.c_expression_reader.specs.Firm.{Firm}
 use Rattle.std.specs.Option.{is_some}
 use Rattle.c_expression_reader.proofs.Firm.{firm-map, firm-folded}
 
--- Binary levels are read exactly.
 -- the operators by their tokens
 binary-punctuator : (p : Punctuator) (o : BinaryOperator) → class.binary_mark p ≡ Some o → p ≡ binary_mark o
 binary-punctuator punctuator.LogicalOr o e = let same : LogicalOr ≡ o = cc in ap binary_mark same
@@ -201,7 +200,7 @@ sample_of (suc (suc (suc (suc (suc (suc (suc (suc zero)))))))) h = (LogicalAnd, 
 sample_of (suc (suc (suc (suc (suc (suc (suc (suc (suc zero))))))))) h = (LogicalOr, refl)
 sample_of (suc (suc (suc (suc (suc (suc (suc (suc (suc (suc n)))))))))) h = absurd (omega arith)
 
--- operands are read exactly from this count on
+-- operands keep roles from this count on
 abbrev pub Operands : (names : List (List ℕ)) → Readers → (depth count : ℕ) → Type 0
 Operands names inner depth count = (c : ℕ) → count ≤ c → Firm anything (Cast names depth c) stop_cast (inner.cast depth c)
 

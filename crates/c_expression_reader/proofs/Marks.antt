@@ -5,7 +5,7 @@ use Rattle.c_spec.specs.declared.token.Punctuator.{Punctuator}
 use Rattle.c_spec.specs.contracts.token.Punctuator.{the_type}
 use Rattle.c_spec.specs.Lexical.{Token, Name as name_token, Word, Number as number_token, Character as character_token, Mark, Placed}
 use Rattle.c_grammar_spec.specs.declared.Role.{Role}
-use Rattle.c_grammar_spec.specs.Leaves.{mark, Leaf, marks, is_over}
+use Rattle.c_grammar_spec.specs.Leaves.{mark, Leaf, marks, is_over, roles}
 use Rattle.exact_read.specs.Reading.{Deep, Wrong, Outcome, Reader, plains, Stops, Within}
 use Rattle.exact_read.specs.Exact.{Exact}
 use Rattle.exact_read.specs.Grammar.{One, anything, bind, Map, Then, read_or, Or}
@@ -18,12 +18,13 @@ use Rattle.std.specs.Option.{is_some, option_map_or}
 use Rattle.std.specs.Prelude.{option_map}
 use Rattle.exact_read.proofs.Basics.{ok, err, err_parts}
 use Rattle.c_grammar_spec.specs.declared.Role.TheVariants.{Nothing}
-use Rattle.role_read.specs.Roles.{Roled, Next}
+use Rattle.role_read.specs.Roles.{Roled}
+use Rattle.exact_read.specs.Awaited.{Next}
 use Rattle.role_read.proofs.Basics.{Meets, roled-map, roled-same, roled-enter}
 use Rattle.role_read.proofs.Then.{Follows, roled-then_within, silence}
 use Rattle.role_read.proofs.Begins.{Begins, Silent}
 use Rattle.role_read.proofs.Or.{roled-or, chooses_by}
-use Rattle.c_expression_reader.specs.Firm.{Firm, roles, quiet}
+use Rattle.c_expression_reader.specs.Firm.{Firm, quiet}
 use Rattle.c_expression_reader.proofs.Firm.{firm-one}
 
 pub mark-self : (p : Punctuator) (place : ℕ) → mark_place p (mark p place) ≡ Some place

@@ -9,7 +9,7 @@ use Rattle.c_tree_spec.specs.declared.Access.TheVariants.{Dot, Arrow}
 use Rattle.c_tree_spec.specs.Expression as tree
 use Rattle.c_grammar_spec.specs.declared.Role.{Role}
 use Rattle.c_grammar_spec.specs.declared.Role.TheVariants.{OperandEnd, Nothing}
-use Rattle.c_grammar_spec.specs.Leaves.{named, Leaf, plain, mark, awaited, operates, brackets, is_over, marks}
+use Rattle.c_grammar_spec.specs.Leaves.{named, Leaf, plain, mark, awaited, operates, brackets, is_over, marks, roles}
 use Rattle.c_grammar_spec.specs.Expressions.{access_mark, Conditional, operators}
 use Rattle.exact_read.specs.Reading.{plains, Stops, Reader}
 use Rattle.exact_read.specs.Grammar.{One, anything, Map, first, Or, second}
@@ -25,7 +25,7 @@ use Rattle.c_expression_reader.proofs.Marks.{Behind, one-mark, mark-one, mark-pa
 use Rattle.c_expression_reader.proofs.Samples.{zero_tree, zero_text, zero_conditional}
 use Rattle.role_read.proofs.Basics.{roled-same, roled-enter, roled-stop}
 use Rattle.role_read.proofs.Begins.{Begins, Silent}
-use Rattle.c_expression_reader.specs.Firm.{Firm, roles}
+use Rattle.c_expression_reader.specs.Firm.{Firm}
 use Rattle.std.specs.Option.{is_some}
 use Rattle.c_expression_reader.proofs.Firm.{firm-map, firm-one, firm-folded}
 

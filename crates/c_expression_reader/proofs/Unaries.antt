@@ -10,7 +10,7 @@ use Rattle.c_tree_spec.specs.declared.UnaryOperator.{UnaryOperator}
 use Rattle.c_tree_spec.specs.declared.UnaryOperator.TheVariants.{AddressOf, Dereference, Plus, Minus, Complement, Not}
 use Rattle.c_tree_spec.specs.Expression as tree
 use Rattle.c_grammar_spec.specs.declared.Role.TheVariants.{OperandEnd, Nothing}
-use Rattle.c_grammar_spec.specs.Leaves.{Leaf, mark, word, operates, plain, brackets, number, marks, awaited}
+use Rattle.c_grammar_spec.specs.Leaves.{Leaf, mark, word, operates, plain, brackets, number, marks, awaited, roles}
 use Rattle.c_grammar_spec.specs.Expressions.{unary_mark, Unary, Cast, TypeName, postfix, prefixed, sizeof_expression, sizeof_type, unary, cast}
 use Rattle.exact_read.specs.Reading.{plains, Stops}
 use Rattle.exact_read.specs.Grammar.{One, Map, Or, first, second, anything, read_map}
@@ -29,7 +29,7 @@ use Rattle.c_expression_reader.proofs.Begins.{NoType, no-append, conditional_no}
 use Rattle.c_expression_reader.proofs.Casts.{InsideText, Atom, atom_ends_of, opening, Split, at_atom, at_bracket, postfix_split, bracket_postfix, atom_postfix}
 use Rattle.role_read.proofs.Basics.{roled-stop, roled-same, roled-enter}
 use Rattle.role_read.proofs.Begins.{Begins, Silent}
-use Rattle.c_expression_reader.specs.Firm.{Firm, roles}
+use Rattle.c_expression_reader.specs.Firm.{Firm}
 use Rattle.c_expression_reader.proofs.Firm.{firm-map, firm-one}
 
 -- what stands behind `(` at a place, and what stands behind that
@@ -321,7 +321,7 @@ cast_text names depth count x text (cast d c ty y inside t place close h k) =
       cut = refl;
     })
 
--- what stands in brackets is read exactly
+-- what stands in brackets keeps roles
 roled-inside : (names : List (List ℕ)) (inner : Readers) (depth count place : ℕ) → suc depth ≤ 128 → suc count ≤ 128 → Inside names inner depth count → Firm anything (InsideText names depth count place) (λ _. anything) (read_inside inner depth count place)
 roled-inside names inner depth count place d l inside =
     firm-map (λ x. tree.Bracketed x place) (λ _. anything) (λ x. refl)

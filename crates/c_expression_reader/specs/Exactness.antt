@@ -1,4 +1,5 @@
--- What it means that expressions are read exactly, as far as what stands inside is.
+-- What it means that readers of expressions keep roles, so that they are exact and tell what is awaited, as far as
+-- what stands inside does.
 use Rattle.std.specs.Prelude.{◌≡◌, ℕ, false, List, ◌∷◌, ◌+◌, [], ◌++◌, true, ◌≤◌, suc}
 use Rattle.c_spec.specs.declared.token.Punctuator.{Punctuator}
 use Rattle.c_spec.specs.declared.token.Punctuator.TheVariants as punctuator

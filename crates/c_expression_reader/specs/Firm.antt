@@ -3,13 +3,9 @@ use Rattle.std.specs.Prelude.{Bool, List}
 use Rattle.c_spec.specs.Lexical.{Placed}
 use Rattle.c_grammar_spec.specs.declared.Role.{Role}
 use Rattle.c_grammar_spec.specs.declared.Role.TheVariants.{Nothing}
-use Rattle.c_grammar_spec.specs.Leaves.{Leaf, marks}
+use Rattle.c_grammar_spec.specs.Leaves.{Leaf, marks, roles}
 use Rattle.exact_read.specs.Reading.{Reader}
-use Rattle.role_read.specs.Roles.{Roles, Roled}
-
--- the roles of leaves
-abbrev pub roles : Roles Leaf Role
-roles = record { role = λ leaf. leaf.role; none = Nothing }
+use Rattle.role_read.specs.Roles.{Roled}
 
 -- at the end of a value nothing is told
 abbrev pub quiet : {X : Type 0} → X → Role

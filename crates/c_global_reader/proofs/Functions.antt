@@ -1,4 +1,4 @@
--- Declarators of functions, and declarators in items, are read exactly.
+-- What stands in the brackets of a function, in the form in which it is read.
 use Rattle.std.proofs.Common.{◌≡◌, ℕ, zero, suc, Bool, true, false, List, Some, None, refl, IsTrue, [], not, ◌∷◌, ◌++◌, ap, sym, subst, ◌∙◌}
 use Rattle.std.specs.Prelude.{map}
 use Rattle.c_spec.specs.declared.token.Keyword.TheVariants.{Void}

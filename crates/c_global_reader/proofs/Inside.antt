@@ -8,7 +8,7 @@ use Rattle.c_tree_spec.specs.Expression as tree
 use Rattle.c_tree_spec.specs.Unit as unit
 use Rattle.c_grammar_spec.specs.declared.Role.{Role}
 use Rattle.c_grammar_spec.specs.declared.Role.TheVariants.{Nothing, DeclaredName}
-use Rattle.c_grammar_spec.specs.Leaves.{Leaf, plain, awaited, mark, word, named, opens, marks}
+use Rattle.c_grammar_spec.specs.Leaves.{Leaf, plain, awaited, mark, word, named, opens, marks, roles}
 use Rattle.c_grammar_spec.specs.Expressions as part
 use Rattle.c_grammar_spec.specs.Units as grammar
 use Rattle.exact_read.specs.Reading.{plains, Stops, Reader}
@@ -18,7 +18,7 @@ use Rattle.c_expression_reader.specs.Classes.{is_mark, mark_place}
 use Rattle.c_expression_reader.specs.Readers.{token, Readers, choose}
 use Rattle.c_expression_reader.proofs.Marks.{one-mark, mark-one, one_first, mark-some, roled-mark, roled-opened, roled-choose, roled-choice, behind_begins, behind_silent, map_begins, map_silent}
 use Rattle.c_type_reader.specs.Exactness.{AllFirm}
-use Rattle.c_type_reader.proofs.Tokens.{leaves_of}
+use Rattle.c_declarator_reader.proofs.Tokens.{leaves_of}
 use Rattle.c_type_reader.proofs.TypeFirsts.{specifiers_first}
 use Rattle.c_declaration_reader.specs.Declarations.{last_of, read_list_from}
 use Rattle.c_declaration_reader.proofs.ListFrom.{listed, OthersText, list_split, roled-list_from}
@@ -29,14 +29,15 @@ use Rattle.c_global_reader.proofs.Parameters.{Ended, ParameterText, rich_paramet
 use Rattle.c_global_reader.proofs.Starting.{Starting, AskedFirst, asked_first, roled-starting, asked_nothing}
 use Rattle.c_global_reader.proofs.Voids.{void_parameter, VoidText, VoidBack, first_void, parameter_void, roled-void, rich_void, void_same}
 use Rattle.c_global_reader.proofs.Functions.{tree_of, end_of, VoidList, no_close, listed_list, AloneText, InsideText, plain_grammar, PlainList, AfterVoid, list_listed, some_pair, no_void, lists}
-use Rattle.role_read.specs.Roles.{Next, IsAsked, Told}
+use Rattle.role_read.specs.Roles.{IsAsked}
+use Rattle.exact_read.specs.Awaited.{Next, Told}
 use Rattle.role_read.proofs.Basics.{Meets, roled-same, roled-enter}
 use Rattle.role_read.proofs.Begins.{Silent, Begins, begun_enters, silent_next}
-use Rattle.c_expression_reader.specs.Firm.{roles, quiet, Firm}
+use Rattle.c_expression_reader.specs.Firm.{quiet, Firm}
 use Rattle.c_expression_reader.proofs.Firm.{firm-map}
-use Rattle.c_type_reader.proofs.Listed.{begins_meet}
+use Rattle.c_declarator_reader.proofs.Listed.{begins_meet}
 use Rattle.c_type_reader.proofs.Begins.{specifiers_silent}
-use Rattle.c_type_reader.proofs.Fresh.{fresh, fresh_is}
+use Rattle.c_declarator_reader.proofs.Fresh.{fresh, fresh_is}
 use Rattle.c_type_reader.proofs.Ended.{specified}
 use Rattle.role_read.proofs.Or.{Chooses, roled-or}
 

@@ -2,15 +2,16 @@
 use Rattle.std.proofs.Common.{◌≡◌, Bool, true, List, ◌∷◌, [], ◌++◌, Err, refl, ap, ◌∙◌, subst, ◌⊎◌, inl, inr, sym}
 use Rattle.c_spec.specs.Lexical.{Token, Placed}
 use Rattle.c_grammar_spec.specs.declared.Role.{Role}
-use Rattle.c_grammar_spec.specs.Leaves.{Leaf, marks}
+use Rattle.c_grammar_spec.specs.Leaves.{Leaf, marks, roles}
 use Rattle.exact_read.specs.Reading.{Wrong, Reader, plains, Stops}
-use Rattle.exact_read.specs.Exact.{IsTaken, IsWrong, IsDeep, Exact}
+use Rattle.exact_read.specs.Exact.{IsTaken, IsWrong, Exact}
+use Rattle.exact_read.specs.Whole.{IsDeep}
 use Rattle.exact_read.specs.Grammar.{anything}
 use Rattle.exact_read.proofs.Parts.{stops_anything}
 use Rattle.c_grammar_spec.specs.declared.Role.TheVariants.{Nothing}
-use Rattle.role_read.specs.Roles.{Next, Asked, IsAsked, Roled}
+use Rattle.role_read.specs.Roles.{IsAsked, Roled}
+use Rattle.exact_read.specs.Awaited.{Next, Asked}
 use Rattle.role_read.proofs.Basics.{next_same}
-use Rattle.c_expression_reader.specs.Firm.{roles}
 
 pub record Starting {X : Type 0} (test : Token → Bool) (S : X → List Leaf → Type 0) (x : X) (text : List Leaf) : Type 0 where
   pub spells : S x text

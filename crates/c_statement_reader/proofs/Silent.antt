@@ -5,13 +5,12 @@ use Rattle.c_tree_spec.specs.Unit as unit
 use Rattle.c_spec.specs.declared.token.Punctuator.TheVariants as punctuator
 use Rattle.c_grammar_spec.specs.declared.Role.{Role}
 use Rattle.c_grammar_spec.specs.declared.Role.TheVariants.{Nothing}
-use Rattle.c_grammar_spec.specs.Leaves.{Leaf, marks, awaited, mark}
+use Rattle.c_grammar_spec.specs.Leaves.{Leaf, marks, awaited, mark, roles}
 use Rattle.c_grammar_spec.specs.Expressions as expression
 use Rattle.c_grammar_spec.specs.Statements as grammar
 use Rattle.role_read.proofs.Begins.{Silent}
 use Rattle.c_type_reader.proofs.TypeFirsts.{base_first}
 use Rattle.c_declaration_reader.specs.Texts.{LocalsText}
-use Rattle.c_expression_reader.specs.Firm.{roles}
 use Rattle.c_type_reader.proofs.Begins.{specifiers_silent}
 
 -- a text whose first leaf tells nothing

@@ -9,7 +9,7 @@ use Rattle.c_tree_spec.specs.Expression as tree
 use Rattle.c_tree_spec.specs.Unit as unit
 use Rattle.c_grammar_spec.specs.declared.Role.{Role}
 use Rattle.c_grammar_spec.specs.declared.Role.TheVariants.{OperandEnd, Nothing}
-use Rattle.c_grammar_spec.specs.Leaves.{Leaf, awaited, mark, opens, plain, word, marks}
+use Rattle.c_grammar_spec.specs.Leaves.{Leaf, awaited, mark, opens, plain, word, marks, roles}
 use Rattle.c_grammar_spec.specs.Expressions.{Conditional}
 use Rattle.c_grammar_spec.specs.Statements as grammar
 use Rattle.exact_read.specs.Reading.{Reader, plains, Stops}
@@ -21,8 +21,8 @@ use Rattle.c_expression_reader.specs.Readers.{token, Readers}
 use Rattle.c_expression_reader.proofs.Marks.{Behind, one-mark, mark-one, roled-mark, mark-self, roled-closed, roled-opened, mark-some, one_first, mark-passes, roled-choice, map_begins, map_silent}
 use Rattle.c_expression_reader.proofs.Samples.{zero_tree, zero_text, zero_conditional}
 use Rattle.c_type_reader.specs.Exactness.{AllFirm}
-use Rattle.c_type_reader.proofs.Firsts.{first_not_mark}
-use Rattle.c_type_reader.proofs.Tokens.{Kept}
+use Rattle.c_declarator_reader.proofs.Firsts.{first_not_mark}
+use Rattle.c_declarator_reader.proofs.Tokens.{Kept}
 use Rattle.c_declaration_reader.specs.Ends.{stop_value, stop_simple}
 use Rattle.c_declaration_reader.proofs.Values.{roled-value}
 use Rattle.c_declaration_reader.proofs.Simples.{roled-simple}
@@ -33,7 +33,7 @@ use Rattle.c_statement_reader.proofs.Firsts.{value_first}
 use Rattle.role_read.proofs.Basics.{roled-same}
 use Rattle.role_read.proofs.Begins.{Begins, Silent}
 use Rattle.role_read.proofs.Then.{roled-then}
-use Rattle.c_expression_reader.specs.Firm.{Firm, roles}
+use Rattle.c_expression_reader.specs.Firm.{Firm}
 use Rattle.c_expression_reader.proofs.Firm.{firm-map}
 
 -- a part, and a token behind it as the part asks

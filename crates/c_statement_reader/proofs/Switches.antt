@@ -1,11 +1,11 @@
--- What stands in a `switch` keeps roles, where the statements in it are.
+-- What stands in a `switch` keeps roles, where the statements in it do.
 use Rattle.std.proofs.Common.{ℕ, List, ◌∷◌, ◌++◌, ap, sym, ◌∙◌, subst, [], refl, ◌≡◌, true, Bool, false, not, ◌&&◌, IsTrue, ◌||◌, append-nil, append_assoc, inl, Ok}
 use Rattle.c_spec.specs.declared.token.Keyword.TheVariants.{Case, Default, Else}
 use Rattle.c_spec.specs.declared.token.Punctuator.TheVariants as punctuator
 use Rattle.c_spec.specs.Lexical.{Placed, Token, Name as name_token, Word, Number as number_token, Character as character_token, Mark}
 use Rattle.c_tree_spec.specs.Unit as unit
 use Rattle.c_grammar_spec.specs.declared.Role.TheVariants.{OperandEnd, Nothing}
-use Rattle.c_grammar_spec.specs.Leaves.{Leaf, plain, awaited, word, mark, marks}
+use Rattle.c_grammar_spec.specs.Leaves.{Leaf, plain, awaited, word, mark, marks, roles}
 use Rattle.c_grammar_spec.specs.Expressions.{Conditional}
 use Rattle.c_grammar_spec.specs.Statements as grammar
 use Rattle.exact_read.specs.Reading.{Stops, plains}
@@ -17,15 +17,15 @@ use Rattle.c_expression_reader.specs.Readers.{Readers}
 use Rattle.c_expression_reader.proofs.Marks.{Behind, one-mark, mark-one, behind_begins, same_begins, roled-mark, roled-closed, roled-opened, roled-choice, behind_silent, map_begins, map_silent, roled-closed_by}
 use Rattle.c_expression_reader.proofs.Samples.{zero_tree, zero_text, zero_conditional}
 use Rattle.c_type_reader.specs.Exactness.{AllFirm}
-use Rattle.c_type_reader.proofs.Entered.{many-context_same}
-use Rattle.c_type_reader.proofs.Tokens.{or_right}
+use Rattle.exact_read.proofs.Contexts.{many-context_same}
+use Rattle.c_declarator_reader.proofs.Tokens.{or_right}
 use Rattle.c_statement_reader.specs.Statements.{keyword_place, begins_label, Element, ElementLabel, ElementPart, is_keyword, ends_parts, elements_start, Collected, Part, PartLocals, PartStatement, with_part, before_part, collect, groups_of, parts_of, group_of, read_label, Statements, read_element, read_groups}
 use Rattle.c_statement_reader.proofs.Keywords.{one-keyword, keyword-one, keyword-some, keyword-self, silent_wrong}
 use Rattle.c_statement_reader.proofs.Parts.{is_open, PartText, goes_no_else, part_first, part_before, PartsMany, parts_many, StatementsFirm, roled-part, part_silent}
 use Rattle.role_read.proofs.Basics.{roled-same, roled-enter}
 use Rattle.role_read.proofs.Begins.{Begins, Silent, silent_next}
 use Rattle.role_read.proofs.Many.{ItemRoles, roled-many}
-use Rattle.c_expression_reader.specs.Firm.{roles, Firm, quiet}
+use Rattle.c_expression_reader.specs.Firm.{Firm, quiet}
 use Rattle.c_expression_reader.proofs.Firm.{firm-map}
 
 -- a label

@@ -1,8 +1,7 @@
--- What it means that statements are read exactly.
+-- What it means that readers of statements keep roles, so that they are exact and tell what is awaited.
 use Rattle.std.specs.Prelude.{ℕ, List, ◌+◌, ◌≤◌}
-use Rattle.c_grammar_spec.specs.Leaves.{marks, plain}
+use Rattle.c_grammar_spec.specs.Leaves.{marks, plain, roles}
 use Rattle.c_grammar_spec.specs.Statements.{Statement, Parts}
-use Rattle.exact_read.specs.Exact.{Exact}
 use Rattle.exact_read.specs.Grammar.{anything}
 use Rattle.c_expression_reader.specs.Budget.{enough}
 use Rattle.c_expression_reader.specs.Turns.{readers}
@@ -15,16 +14,7 @@ use Rattle.role_read.specs.Roles.{Roled}
 use Rattle.c_expression_reader.specs.Classes.{mark_place}
 use Rattle.c_expression_reader.specs.Exactness.{Closed}
 use Rattle.c_expression_reader.specs.Readers.{token, before}
-use Rattle.c_expression_reader.specs.Firm.{roles, quiet, Firm}
-
--- with so much room that no more constructs may open: statements, and what stands in a block
-pub record StatementsAre (names : List (List ℕ)) (room depth : ℕ) : Type 0 where
-  pub statement : Exact marks anything (Statement names depth) stop_statement (read_statement names (readers names enough) room depth)
-  pub parts : Exact marks anything (Parts names depth) stop_parts (read_parts names (readers names enough) (read_statement names (readers names enough) room) depth)
-
--- whatever names of types are in force, and wherever a construct can stand
-abbrev pub StatementsExact : Type 0
-StatementsExact = (names : List (List ℕ)) (room depth : ℕ) → depth ≤ 128 → 129 ≤ depth + room → StatementsAre names room depth
+use Rattle.c_expression_reader.specs.Firm.{quiet, Firm}
 
 -- Where the statements at a depth keep roles, so does what stands there: parts, behind which a token may be called
 -- wrong where nothing is awaited that tells more, and groups with the bracket behind them.

@@ -9,7 +9,7 @@
 //! tells more.
 #![tactic(auto)]
 
-ghost use Rattle.c_statement_reader.specs.Exactness.{CompoundsTell, StatementsExact, StatementsTell};
+ghost use Rattle.c_statement_reader.specs.Exactness.{CompoundsTell, StatementsTell};
 ghost use Rattle.c_statement_reader.specs.Samples.{ReadsElse, ReadsGroup, RefusesElse, RefusesStatement};
 
 /// The law of blocks: where statements keep roles, so does what stands in a block and in a `switch`.
@@ -21,11 +21,6 @@ pub fn compounds_tell()
 /// awaited.
 pub fn statements_tell()
     ensures { StatementsTell }
-{}
-
-/// So each statement is read exactly, and so is what stands in a block.
-pub fn statements_are_exact()
-    ensures { StatementsExact }
 {}
 
 /// A worked sample: in `if(1)if(1);else;` the `else` belongs to the second `if`.

@@ -9,18 +9,17 @@ use Rattle.c_tree_spec.specs.declared.IntegerType.{IntegerType}
 use Rattle.c_tree_spec.specs.declared.IntegerType.TheVariants as integer
 use Rattle.c_tree_spec.specs.Expression as tree
 use Rattle.c_grammar_spec.specs.declared.Role.TheVariants.{Nothing}
-use Rattle.c_grammar_spec.specs.Leaves.{Leaf, plain, word, opens, mark, named, marks}
+use Rattle.c_grammar_spec.specs.Leaves.{Leaf, plain, word, opens, mark, named, marks, roles}
 use Rattle.c_grammar_spec.specs.Expressions as grammar
 use Rattle.role_read.proofs.Begins.{Begins, Silent}
 use Rattle.c_expression_reader.specs.Classes.{begins_type_word, begins_type}
 use Rattle.c_expression_reader.specs.Types.{no_storage, plain_name_of, plain_name_at, is_plain_name}
 use Rattle.std.specs.Option.{is_some}
-use Rattle.c_type_reader.specs.Beside.{WithEnd}
+use Rattle.c_declarator_reader.specs.Beside.{WithEnd}
 use Rattle.c_type_reader.specs.Endings.{SpecifiersEnd}
-use Rattle.c_type_reader.proofs.Fresh.{fresh, fresh_is}
+use Rattle.c_declarator_reader.proofs.Fresh.{fresh, fresh_is}
 use Rattle.c_type_reader.proofs.Ended.{with_end, specified}
 use Rattle.c_type_reader.proofs.TypeFirsts.{base_first, specifiers_first}
-use Rattle.c_expression_reader.specs.Firm.{roles}
 use Rattle.c_expression_reader.specs.Exactness.{TypeRoles, BeginsTypeName}
 
 -- a base that begins with a token

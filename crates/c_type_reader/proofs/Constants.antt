@@ -6,7 +6,7 @@ use Rattle.c_spec.specs.Lexical.{Placed}
 use Rattle.c_tree_spec.specs.Expression as tree
 use Rattle.c_grammar_spec.specs.declared.Role.{Role}
 use Rattle.c_grammar_spec.specs.declared.Role.TheVariants.{Nothing}
-use Rattle.c_grammar_spec.specs.Leaves.{Leaf, plain, mark, named, marks, opens, awaited}
+use Rattle.c_grammar_spec.specs.Leaves.{Leaf, plain, mark, named, marks, opens, awaited, roles}
 use Rattle.c_grammar_spec.specs.Expressions as grammar
 use Rattle.exact_read.specs.Reading.{plains, Stops}
 use Rattle.exact_read.specs.Grammar as operator
@@ -20,17 +20,17 @@ use Rattle.c_expression_reader.specs.Readers.{token, Readers}
 use Rattle.c_expression_reader.specs.Types.{plain_name_at, constant_end, After, AfterConstant, AfterComma, next_after, constants_start, after_role, context_of, constant_before, constants_of, read_constant, read_constants_part, read_constants}
 use Rattle.c_expression_reader.proofs.Marks.{Behind, one-mark, mark-one, mark-is, mark-passes, mark-self, mark-some, roled-opened, roled-choose, behind_begins, behind_silent, map_begins, map_silent, some_value, one_first, roled-mark}
 use Rattle.c_expression_reader.proofs.Samples.{zero_tree, zero_text, zero_conditional}
-use Rattle.c_type_reader.proofs.Entered.{many-context_same}
-use Rattle.c_type_reader.proofs.Tokens.{or_right, stops_or_true}
-use Rattle.c_type_reader.proofs.Fresh.{fresh, fresh_is}
-use Rattle.c_type_reader.proofs.Dimensions.{within_opens}
-use Rattle.c_type_reader.proofs.Declarators.{plain-is, plain-self}
+use Rattle.exact_read.proofs.Contexts.{many-context_same}
+use Rattle.c_declarator_reader.proofs.Tokens.{or_right, stops_or_true}
+use Rattle.c_declarator_reader.proofs.Fresh.{fresh, fresh_is}
+use Rattle.c_declarator_reader.proofs.Dimensions.{within_opens}
+use Rattle.c_declarator_reader.proofs.Declarators.{plain-is, plain-self}
 use Rattle.role_read.proofs.Basics.{roled-same, roled-stop, roled-enter}
 use Rattle.role_read.proofs.Begins.{Begins, Silent}
 use Rattle.role_read.proofs.Then.{roled-then}
-use Rattle.c_expression_reader.specs.Firm.{Firm, roles}
+use Rattle.c_expression_reader.specs.Firm.{Firm}
 use Rattle.c_expression_reader.proofs.Firm.{firm-map, firm-one, firm-nothing, firm-many}
-use Rattle.c_type_reader.specs.Exactness.{Whole}
+use Rattle.c_declarator_reader.specs.Exactness.{Whole}
 
 abbrev pub Constant : Type 0
 Constant = tree.Name × Option tree.Expression
@@ -297,7 +297,7 @@ brace_ends names LastComma place = refl
 abbrev pub ConstantsText : (names : List (List ℕ)) → (depth : ℕ) → tree.Constants → List Leaf → Type 0
 ConstantsText names depth = Behind (One (opens (suc depth)) (mark_place punctuator.LeftBrace)) (λ _. Enumeration names (suc depth))
 
--- where conditional expressions are read exactly at this depth
+-- where conditional expressions keep roles at this depth
 roled-constant : (names : List (List ℕ)) (inner : Readers) (depth : ℕ) → Firm anything (grammar.Conditional names depth 0) stop_conditional (inner.conditional depth 0) → Firm anything (ConstantIs names depth) (λ c. stop_value c.1) (read_constant names inner depth)
 roled-constant names inner depth is =
     roled-same anything (ConstantIs names depth) (read_constant names inner depth) (λ t h. h) (text_constant names depth) (constant_text names depth) (λ tokens. refl)

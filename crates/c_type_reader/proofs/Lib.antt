@@ -1,15 +1,4 @@
-pub mod Beside
-pub mod Entered
 pub mod IntegerWords
-pub mod Tokens
-pub mod Pointers
-pub mod Firsts
-pub mod Dimensions
-pub mod Listed
-pub mod Fresh
-pub mod Words
-pub mod Plain
-pub mod Declarators
 pub mod TypeFirsts
 pub mod Ended
 pub mod Begins

@@ -15,19 +15,19 @@ use Rattle.c_expression_reader.specs.Exactness.{Closed}
 use Rattle.c_expression_reader.specs.Readers.{Readers}
 use Rattle.c_expression_reader.specs.Types.{last_of, declarators_of, is_const, members_of, read_member_list, read_members}
 use Rattle.c_expression_reader.proofs.Marks.{one-mark, mark-one, Behind, mark-self, roled-closed, roled-opened}
-use Rattle.c_type_reader.specs.Beside.{FirmBeside, WithEnd}
+use Rattle.c_declarator_reader.specs.Beside.{FirmBeside, WithEnd}
 use Rattle.c_type_reader.specs.Endings.{SpecifiersEnd, stop_specifiers}
-use Rattle.c_type_reader.proofs.Beside.{roled-then_beside, then_begins, then_silent}
+use Rattle.c_declarator_reader.proofs.Beside.{roled-then_beside, then_begins, then_silent}
 use Rattle.c_type_reader.proofs.TypeFirsts.{specifiers_first, declarator_ends}
-use Rattle.c_type_reader.proofs.Tokens.{stops_or_true}
-use Rattle.c_type_reader.proofs.Dimensions.{within_opens}
-use Rattle.c_type_reader.proofs.Declarators.{DeclaratorFirst, declarator_first, declares_member, roled-declarator}
-use Rattle.c_type_reader.proofs.Listed.{ListText, Lists, MoreText, roled-listed}
+use Rattle.c_declarator_reader.proofs.Tokens.{stops_or_true}
+use Rattle.c_declarator_reader.proofs.Dimensions.{within_opens}
+use Rattle.c_declarator_reader.proofs.Declarators.{DeclaratorFirst, declarator_first, declares_member, roled-declarator}
+use Rattle.c_declarator_reader.proofs.Listed.{ListText, Lists, MoreText, roled-listed}
 use Rattle.c_type_reader.proofs.Ended.{specified, with_end}
 use Rattle.role_read.proofs.Basics.{roled-same, roled-enter}
 use Rattle.c_expression_reader.specs.Firm.{Firm}
 use Rattle.c_expression_reader.proofs.Firm.{firm-map, firm-many}
-use Rattle.c_type_reader.specs.Exactness.{Whole}
+use Rattle.c_declarator_reader.specs.Exactness.{Whole}
 use Rattle.c_type_reader.proofs.Begins.{ended_begins, ended_silent, ended_some}
 
 -- a list of declarators, and its `;`
@@ -104,7 +104,7 @@ list_text names depth d text (grammar.more_members dp x rest t right comma h mor
       };
     }
 
--- specifiers one construct deeper are read exactly, where so many may be open
+-- specifiers one construct deeper keep roles, where so many may be open
 abbrev pub Inside : (names : List (List ℕ)) → Readers → (depth : ℕ) → Type 0
 Inside names inner depth = suc depth ≤ 128 → FirmBeside anything (SpecifiersEnd names grammar.InPart (suc depth)) (stop_specifiers is_const) (inner.specifiers (suc depth))
 

@@ -4,7 +4,8 @@ use Rattle.c_expression_reader.specs.Budget.{needs, enough}
 use Rattle.c_expression_reader.specs.Readers.{Readers}
 use Rattle.c_expression_reader.specs.Turns.{around, readers}
 use Rattle.c_expression_reader.proofs.Expressions.{around-roled}
-use Rattle.c_type_reader.specs.Exactness.{Whole, ReadersFirm, AllFirm, AllExact}
+use Rattle.c_type_reader.specs.Exactness.{ReadersFirm, AllFirm, AllExact}
+use Rattle.c_declarator_reader.specs.Exactness.{Whole}
 use Rattle.c_type_reader.proofs.Members.{Inside}
 use Rattle.c_type_reader.proofs.TypeNames.{type_facts, roled-specifiers, roled-type_name}
 use Rattle.c_type_reader.proofs.Begins.{type_roles}

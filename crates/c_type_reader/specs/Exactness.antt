@@ -1,5 +1,5 @@
--- What it means that expressions and types are read exactly.
-use Rattle.std.specs.Prelude.{ℕ, List, suc, ◌≤◌, false, not, ◌+◌}
+-- What it means that expressions and types are read exactly, and that their readers keep roles.
+use Rattle.std.specs.Prelude.{ℕ, List, ◌≤◌, ◌+◌}
 use Rattle.c_spec.specs.declared.token.Punctuator.TheVariants as punctuator
 use Rattle.c_grammar_spec.specs.declared.Role.TheVariants.{Nothing}
 use Rattle.c_grammar_spec.specs.Leaves.{plain, marks}
@@ -7,15 +7,14 @@ use Rattle.c_grammar_spec.specs.Expressions.{Cast, Conditional, TypeName, InPart
 use Rattle.exact_read.specs.Exact.{Exact}
 use Rattle.exact_read.specs.Grammar.{anything}
 use Rattle.c_expression_reader.specs.Budget.{enough, needs}
-use Rattle.c_expression_reader.specs.Classes.{mark_place, is_mark}
+use Rattle.c_expression_reader.specs.Classes.{mark_place}
 use Rattle.c_expression_reader.specs.Exactness.{PlainUnary, Closed, AreFirm}
 use Rattle.c_expression_reader.specs.Readers.{Readers, token, before}
 use Rattle.c_expression_reader.specs.Stops.{stop_cast, stop_conditional}
 use Rattle.c_expression_reader.specs.Turns.{readers}
-use Rattle.c_expression_reader.specs.Types.{is_const, plain_name_at, read_declarator}
-use Rattle.c_type_reader.specs.Beside.{ExactBeside, FirmBeside}
+use Rattle.c_expression_reader.specs.Types.{is_const}
+use Rattle.c_declarator_reader.specs.Beside.{ExactBeside, FirmBeside}
 use Rattle.c_type_reader.specs.Endings.{SpecifiersEnd, stop_specifiers}
-use Rattle.c_grammar_spec.specs.Expressions as grammar
 use Rattle.c_expression_reader.specs.Firm.{Firm}
 
 -- readers for whatever is open and however many operators stand before; a type with the bracket behind it
@@ -29,15 +28,6 @@ pub record AllExact (names : List (List ℕ)) (all : Readers) : Type 0 where
 -- whatever names of types are in force
 abbrev pub ExpressionsExact : Type 0
 ExpressionsExact = (names : List (List ℕ)) → AllExact names (readers names enough)
-
--- whole expressions one construct deeper keep roles, where so many may be open
-abbrev pub Whole : (names : List (List ℕ)) → Readers → (depth : ℕ) → Type 0
-Whole names inner depth = suc depth ≤ 128 → Firm anything (grammar.Conditional names (suc depth) 0) stop_conditional (inner.conditional (suc depth) 0)
-
-abbrev pub DeclaratorsTell : Type 0
-DeclaratorsTell =
-    (names : List (List ℕ)) (inner : Readers) (depth : ℕ) → Whole names inner depth
-    → Firm anything (grammar.Declarator names false depth) (λ _ t. not (is_mark punctuator.LeftBracket t.token)) (read_declarator (plain_name_at names) inner depth)
 
 -- readers with so many turns, types among them
 pub record ReadersFirm (names : List (List ℕ)) (inner : Readers) (turns : ℕ) : Type 0 where

@@ -1,60 +1,37 @@
 -- What the reader of units calls wrong is the fault of the tokens, and that is unique.
-use Rattle.std.proofs.Common.{List, inl, inr, ◌≡◌, Err, ◌++◌, ap, sym, ◌∙◌, subst, refl, [], ◌∷◌, append-nil, true, false, append_assoc}
+use Rattle.std.proofs.Common.{List, ◌≡◌, Err, ◌++◌, ap, sym, ◌∙◌, subst, refl, [], ◌∷◌, append-nil, true, false, append_assoc}
 use Rattle.std.proofs.lemmas.List.{append_cancel_right}
 use Rattle.c_spec.specs.Lexical.{Placed}
 use Rattle.c_tree_spec.specs.Unit.{TranslationUnit}
 use Rattle.c_grammar_spec.specs.declared.ParseFaultKind.{ParseFaultKind}
 use Rattle.c_grammar_spec.specs.declared.Role.{Role}
 use Rattle.c_grammar_spec.specs.Faults as faults
-use Rattle.c_grammar_spec.specs.Faults.{GoesOn, Awaits, fault_kind, IsFault, IsUnit}
-use Rattle.c_grammar_spec.specs.Leaves.{Leaf, marks}
+use Rattle.c_grammar_spec.specs.Faults.{fault_kind, IsFault, IsUnit}
+use Rattle.c_grammar_spec.specs.Leaves.{marks, roles}
 use Rattle.c_grammar_spec.specs.Units as grammar
 use Rattle.exact_read.specs.Reading.{Wrong, plains, Within}
-use Rattle.exact_read.specs.Exact.{IsDeep}
-use Rattle.exact_read.specs.Whole.{IsWrongAt}
+use Rattle.exact_read.specs.Whole.{IsWrongAt, IsDeep}
 use Rattle.exact_read.proofs.Basics.{plains-append}
 use Rattle.exact_read.proofs.Parts.{stops_anything}
-use Rattle.role_read.specs.Roles.{Next, Asked}
+use Rattle.exact_read.specs.Awaited.{Asked}
 use Rattle.role_read.proofs.Basics.{asked_once}
 use Rattle.role_read.proofs.Lists.{plain_cut, within_left, within_right}
 use Rattle.role_read.proofs.Whole.{whole_asks, wrong_once, deep_or_wrong, deep_once}
-use Rattle.c_expression_reader.specs.Firm.{roles}
 use Rattle.c_unit_reader.specs.Units.{read_unit}
 use Rattle.c_unit_reader.proofs.All.{unit-is_exact}
 use Rattle.c_unit_reader.specs.Exactness.{UnitTells}
 use Rattle.c_unit_reader.proofs.Items.{roled-items}
 
--- what is awaited, as the grammar says it
-next_of : (front : List Placed) (leaf : Leaf) → GoesOn front leaf → Next marks grammar.Unit front leaf
-next_of front leaf g = record { value = g.unit; before = g.before; more = g.after; spells = g.spells; same = g.same }
-
-goes_on : (front : List Placed) (leaf : Leaf) → Next marks grammar.Unit front leaf → GoesOn front leaf
-goes_on front leaf n = record { unit = n.value; before = n.before; after = n.more; spells = n.spells; same = n.same }
-
-awaits : (front : List Placed) (role : Role) → Asked marks roles grammar.Unit front role → Awaits front role
-awaits front role a =
-    record {
-      agreed = λ leaf g. a.agreed leaf (next_of front leaf g);
-      said = elim a.asked [ inl h ↦ inl h | inr n ↦ inr (n.0, goes_on front n.0 n.1, n.2) ];
-    }
-
-asked_of : (front : List Placed) (role : Role) → Awaits front role → Asked marks roles grammar.Unit front role
-asked_of front role a =
-    record {
-      agreed = λ leaf n. a.agreed leaf (goes_on front leaf n);
-      asked = elim a.said [ inl h ↦ inl h | inr n ↦ inr (n.0, next_of front n.0 n.1, n.2) ];
-    }
-
 wrong_fault : (tokens : List Placed) (role : Role) (rest : List Placed) → read_unit tokens ≡ Err (Wrong role, rest) → IsFault tokens (fault_kind role rest) rest
 wrong_fault tokens role rest e =
     let a = whole_asks roled-items tokens role rest e in
-    faults.wrong (plains marks a.front) rest role (unit-is_exact.wrong tokens role rest e) a.cut (awaits (plains marks a.front) role a.asked)
+    faults.wrong (plains marks a.front) rest role (unit-is_exact.wrong tokens role rest e) a.cut a.asked
 
 -- behind the same tokens the same is awaited
-wrong_same : (tokens front other left right : List Placed) (one two : Role) → left ≡ right → tokens ≡ front ++ left → tokens ≡ other ++ right → Awaits front one → Awaits other two → (fault_kind one left ≡ fault_kind two right) × (left ≡ right)
+wrong_same : (tokens front other left right : List Placed) (one two : Role) → left ≡ right → tokens ≡ front ++ left → tokens ≡ other ++ right → Asked marks roles grammar.Unit front one → Asked marks roles grammar.Unit other two → (fault_kind one left ≡ fault_kind two right) × (left ≡ right)
 wrong_same tokens front other left right one two same cut cut_other a b =
     let fronts : front ≡ other = append_cancel_right front other right (sym (cut ∙ ap (λ l. front ++ l) same) ∙ cut_other) in
-    let said : one ≡ two = asked_once one two (asked_of front one a) (subst (λ f. Asked marks roles grammar.Unit f two) (sym fronts) (asked_of other two b)) in
+    let said : one ≡ two = asked_once one two a (subst (λ f. Asked marks roles grammar.Unit f two) (sym fronts) b) in
     (ap (λ (r : Role). fault_kind r left) said ∙ ap (λ l. fault_kind two l) same, same)
 
 unique_fault : (tokens : List Placed) (one two : ParseFaultKind) (left right : List Placed) → IsFault tokens one left → IsFault tokens two right → (one ≡ two) × (left ≡ right)

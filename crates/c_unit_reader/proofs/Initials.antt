@@ -3,7 +3,7 @@ use Rattle.std.proofs.Common.{List, ℕ, suc, ◌∷◌, ◌++◌, ap, sym, ◌�
 use Rattle.c_spec.specs.declared.token.Punctuator.TheVariants as punctuator
 use Rattle.c_tree_spec.specs.Expression as tree
 use Rattle.c_grammar_spec.specs.declared.Role.TheVariants.{OperandEnd, Nothing}
-use Rattle.c_grammar_spec.specs.Leaves.{Leaf, plain, awaited, opens, mark, named, marks}
+use Rattle.c_grammar_spec.specs.Leaves.{Leaf, plain, awaited, opens, mark, named, marks, roles}
 use Rattle.c_grammar_spec.specs.Expressions.{Conditional}
 use Rattle.c_grammar_spec.specs.Units as grammar
 use Rattle.exact_read.specs.Reading.{plains, Stops}
@@ -17,13 +17,13 @@ use Rattle.c_expression_reader.proofs.Marks.{Behind, one-mark, mark-one, mark-so
 use Rattle.c_expression_reader.proofs.Samples.{zero_tree, zero_text, zero_conditional}
 use Rattle.c_expression_reader.proofs.Suffixes.{one-name, name-one}
 use Rattle.c_type_reader.specs.Exactness.{AllFirm}
-use Rattle.c_type_reader.proofs.Tokens.{stops_or_true}
+use Rattle.c_declarator_reader.proofs.Tokens.{stops_or_true}
 use Rattle.c_unit_reader.specs.Initializers.{begins_designator, read_designator, read_designators}
 use Rattle.c_spec.specs.Lexical.{Placed}
 use Rattle.role_read.proofs.Basics.{roled-same, roled-enter}
 use Rattle.role_read.proofs.Begins.{Begins, Silent}
 use Rattle.role_read.proofs.Then.{roled-then}
-use Rattle.c_expression_reader.specs.Firm.{roles, Firm}
+use Rattle.c_expression_reader.specs.Firm.{Firm}
 use Rattle.c_expression_reader.proofs.Firm.{firm-map, firm-one, firm-many}
 
 -- `.` and a member, or an index

@@ -9,7 +9,7 @@ use Rattle.c_tree_spec.specs.Expression as tree
 use Rattle.c_tree_spec.specs.Unit as unit
 use Rattle.c_grammar_spec.specs.declared.Role.{Role}
 use Rattle.c_grammar_spec.specs.declared.Role.TheVariants.{Nothing, DeclaredName}
-use Rattle.c_grammar_spec.specs.Leaves.{Leaf, plain, opens, mark, marks, awaited, named}
+use Rattle.c_grammar_spec.specs.Leaves.{Leaf, plain, opens, mark, marks, awaited, named, roles}
 use Rattle.c_grammar_spec.specs.Expressions as part
 use Rattle.c_grammar_spec.specs.Statements.{Parts, no_parts}
 use Rattle.c_grammar_spec.specs.Units as grammar
@@ -24,7 +24,7 @@ use Rattle.c_expression_reader.specs.Exactness.{Closed}
 use Rattle.c_expression_reader.specs.Readers.{behind, token, choose}
 use Rattle.c_expression_reader.proofs.Marks.{Behind, one-mark, mark-one, map_silent, one_first, first_silent, mark-some, map_begins, mark-self, roled-closed_by, roled-opened, roled-choice, behind_begins, behind_silent, roled-behind, roled-mark}
 use Rattle.c_type_reader.specs.Endings.{Ending, WordsAround, BraceToo, WordsToo, goes_on_with, stop_specifiers, SpecifiersEnd}
-use Rattle.c_type_reader.proofs.Declarators.{DeclaratorFirst, pointer_first, declarator_first, begins_declarator}
+use Rattle.c_declarator_reader.proofs.Declarators.{DeclaratorFirst, pointer_first, declarator_first, begins_declarator}
 use Rattle.c_type_reader.proofs.Ended.{specified, with_end}
 use Rattle.c_type_reader.proofs.Turned.{all-roled}
 use Rattle.c_type_reader.proofs.TypeFirsts.{declarator_stops, base_first}
@@ -42,7 +42,7 @@ use Rattle.role_read.specs.Roles.{Roled}
 use Rattle.role_read.proofs.Basics.{roled-same, roled-enter, roled-map}
 use Rattle.role_read.proofs.Begins.{Silent, Begins, silent_next}
 use Rattle.role_read.proofs.Many.{ItemRoles, roled-many}
-use Rattle.c_expression_reader.specs.Firm.{roles, Firm, quiet}
+use Rattle.c_expression_reader.specs.Firm.{Firm, quiet}
 use Rattle.c_expression_reader.proofs.Firm.{firm-map}
 use Rattle.c_type_reader.proofs.Begins.{specifiers_silent}
 use Rattle.c_statement_reader.proofs.Keywords.{silent_wrong}

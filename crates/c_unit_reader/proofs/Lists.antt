@@ -5,7 +5,7 @@ use Rattle.c_spec.specs.Lexical.{Placed, Token}
 use Rattle.c_tree_spec.specs.Expression as tree
 use Rattle.c_grammar_spec.specs.declared.Role.{Role}
 use Rattle.c_grammar_spec.specs.declared.Role.TheVariants.{Nothing}
-use Rattle.c_grammar_spec.specs.Leaves.{Leaf, plain, awaited, opens, mark, marks}
+use Rattle.c_grammar_spec.specs.Leaves.{Leaf, plain, awaited, opens, mark, marks, roles}
 use Rattle.c_grammar_spec.specs.Expressions.{Conditional}
 use Rattle.c_grammar_spec.specs.Units as grammar
 use Rattle.exact_read.specs.Reading.{plains, Stops, Reader}
@@ -20,16 +20,16 @@ use Rattle.c_expression_reader.specs.Readers.{Readers}
 use Rattle.c_expression_reader.proofs.Marks.{Behind, mark-is, mark-passes, one-mark, mark-one, first_begins, closed_begins, first_silent, closed_silent, mark-some, same_begins, roled-closed, roled-behind, roled-choice, roled-mark, map_begins, one_first, map_silent}
 use Rattle.c_expression_reader.proofs.Samples.{zero_tree, zero_text, zero_conditional}
 use Rattle.c_type_reader.specs.Exactness.{AllFirm}
-use Rattle.c_type_reader.specs.Firsts.{begins_expression}
-use Rattle.c_type_reader.proofs.Firsts.{conditional_first, begins-not}
-use Rattle.c_type_reader.proofs.Tokens.{or_right, stops_or_true}
+use Rattle.c_declarator_reader.specs.Firsts.{begins_expression}
+use Rattle.c_declarator_reader.proofs.Firsts.{conditional_first, begins-not}
+use Rattle.c_declarator_reader.proofs.Tokens.{or_right, stops_or_true}
 use Rattle.c_unit_reader.specs.Initializers.{end_of_initial, begins_initial, begins_designator, Place, BehindInitial, BehindComma, initials_start, next_place, end_of_place, read_designated, read_initials_part}
 use Rattle.c_unit_reader.proofs.Initials.{DesignatorsOf, designators_first, designators_begin, designators_silent, designators_some, left_begins, right_begins, roled-designators}
-use Rattle.role_read.specs.Roles.{Next, Told}
+use Rattle.exact_read.specs.Awaited.{Next, Told}
 use Rattle.role_read.proofs.Basics.{roled-same, roled-enter}
 use Rattle.role_read.proofs.Begins.{Begins, Silent, silent_next, begun_enters}
 use Rattle.role_read.proofs.Many.{ItemRoles}
-use Rattle.c_expression_reader.specs.Firm.{roles, Firm, quiet}
+use Rattle.c_expression_reader.specs.Firm.{Firm, quiet}
 use Rattle.c_expression_reader.proofs.Firm.{firm-map}
 use Rattle.c_unit_reader.proofs.Values.{conditional_begins}
 use Rattle.c_statement_reader.proofs.Silent.{conditional_silent}

@@ -1,4 +1,4 @@
--- What it means that units are read exactly.
+-- What it means that units are read exactly, and that their reader tells the fault of tokens that are no unit.
 use Rattle.std.specs.Prelude.{◌≡◌, List, Ok, Err}
 use Rattle.c_spec.specs.Lexical.{Placed}
 use Rattle.c_tree_spec.specs.Unit.{TranslationUnit}
@@ -7,8 +7,7 @@ use Rattle.c_grammar_spec.specs.Faults.{IsUnit, fault_kind, IsFault}
 use Rattle.c_grammar_spec.specs.Leaves.{marks}
 use Rattle.c_grammar_spec.specs.Units.{Unit}
 use Rattle.exact_read.specs.Reading.{Deep, Wrong}
-use Rattle.exact_read.specs.Exact.{IsDeep}
-use Rattle.exact_read.specs.Whole.{IsWrongAt}
+use Rattle.exact_read.specs.Whole.{IsWrongAt, IsDeep}
 use Rattle.c_unit_reader.specs.Units.{read_unit}
 use Rattle.c_grammar_spec.specs.declared.ParseFaultKind.{ParseFaultKind}
 use Rattle.c_grammar_spec.specs.declared.ParseFaultKind.TheVariants.{Depth}

@@ -4,7 +4,7 @@ use Rattle.c_spec.specs.declared.token.Punctuator.{Punctuator}
 use Rattle.c_spec.specs.declared.token.Punctuator.TheVariants as punctuator
 use Rattle.c_spec.specs.Lexical.{Placed, Mark}
 use Rattle.c_grammar_spec.specs.declared.Role.{Role}
-use Rattle.c_grammar_spec.specs.Leaves.{Leaf, mark, marks}
+use Rattle.c_grammar_spec.specs.Leaves.{Leaf, mark, marks, roles}
 use Rattle.exact_read.specs.Reading.{Stops, Reader, plains}
 use Rattle.exact_read.specs.Grammar.{One, Many, Then, anything, none, some, context_after, stop_many, opens, read_then, read_many}
 use Rattle.exact_read.proofs.Basics.{plains-two}
@@ -13,14 +13,15 @@ use Rattle.exact_read.proofs.Many.{Items, many_opens}
 use Rattle.c_expression_reader.specs.Classes.{mark_place, is_mark}
 use Rattle.c_expression_reader.specs.Readers.{token, behind}
 use Rattle.c_expression_reader.proofs.Marks.{Behind, mark-is, mark-passes, Keeps, mark-self, Says, roled-opened, token_wrong, one-mark, mark-one, mark-some, roled-mark, behind_begins}
-use Rattle.c_type_reader.proofs.Entered.{many-context_same}
-use Rattle.c_type_reader.proofs.Tokens.{or_right}
-use Rattle.role_read.specs.Roles.{Roled, Told, IsAsked, Next}
+use Rattle.exact_read.proofs.Contexts.{many-context_same}
+use Rattle.c_declarator_reader.proofs.Tokens.{or_right}
+use Rattle.role_read.specs.Roles.{Roled, IsAsked}
+use Rattle.exact_read.specs.Awaited.{Told, Next}
 use Rattle.role_read.proofs.Basics.{Meets, roled-same, roled-enter}
 use Rattle.role_read.proofs.Begins.{Begins, begun_enters}
 use Rattle.role_read.proofs.Then.{Follows, roled-then_within}
 use Rattle.role_read.proofs.Many.{ItemRoles, roled-many}
-use Rattle.c_expression_reader.specs.Firm.{roles, quiet, Firm}
+use Rattle.c_expression_reader.specs.Firm.{quiet, Firm}
 
 -- a `,` as a part before it asks, and a part
 abbrev pub CommaText : {X : Type 0} → (put : X → Placed → Leaf) → (S : X → List Leaf → Type 0) → X → X → List Leaf → Type 0

@@ -1,4 +1,4 @@
--- Readers that differ only where they are not used, and contexts that tell more than a reader looks at.
+-- Items are read the same where the context tells more than their reader looks at.
 use Rattle.std.proofs.Common.{◌≡◌, ℕ, zero, suc, Bool, true, false, List, [], ◌∷◌, Ok, Err, refl, ap, sym, ◌∙◌, cond, length}
 use Rattle.exact_read.specs.Reading.{Outcome, Reader}
 use Rattle.exact_read.specs.Grammar.{bind, read_at_most, read_many}

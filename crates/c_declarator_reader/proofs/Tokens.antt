@@ -1,4 +1,4 @@
--- Tokens of a class, spell long spell one stands next, and parts whose value is kept, are read exactly.
+-- Tokens of a class, as long as one stands next, and parts whose value is kept, are read exactly.
 use Rattle.std.proofs.Common.{◌≡◌, Bool, true, Option, Some, List, [], ◌∷◌, false, refl, IsTrue, ◌||◌, ap, not, ◌&&◌, ◌++◌, sym, ◌∙◌, subst, Ok, Err}
 use Rattle.std.specs.Prelude.{map}
 use Rattle.c_spec.specs.Lexical.{Placed}
@@ -13,7 +13,7 @@ use Rattle.exact_read.proofs.Then.{Joins, exact-then_within}
 use Rattle.exact_read.proofs.Many.{Items, exact-many}
 use Rattle.exact_read.proofs.Stop.{exact-stop}
 use Rattle.c_expression_reader.specs.Readers.{token, before}
-use Rattle.c_type_reader.proofs.Entered.{many-context_same}
+use Rattle.exact_read.proofs.Contexts.{many-context_same}
 
 -- a class of tokens that are told by a value
 pub record TokenClass {X : Type 0} (class : Placed → Option X) (test : Placed → Bool) (spell : X → Placed) : Type 0 where

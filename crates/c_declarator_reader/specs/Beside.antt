@@ -1,4 +1,4 @@
--- Readers that are exact with a second value beside their own, which says where the text ends.
+-- Readers that are exact, and that keep roles, with a second value beside their own, which says where the text ends.
 use Rattle.std.specs.Prelude.{◌≡◌, Bool, List}
 use Rattle.exact_read.specs.Reading.{Reader, Marks}
 use Rattle.exact_read.specs.Exact.{Exact}

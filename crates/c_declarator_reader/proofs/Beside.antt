@@ -3,16 +3,15 @@ use Rattle.std.proofs.Common.{◌≡◌, Ok, Err, refl, inr, Bool, List, ap, sym
 use Rattle.exact_read.specs.Reading.{Outcome, Reader, Within}
 use Rattle.exact_read.specs.Grammar.{bind, read_map, Map, read_then, Then, stop_then}
 use Rattle.exact_read.proofs.Then.{Joins}
-use Rattle.c_type_reader.specs.Beside.{WithEnd, FirmBeside}
+use Rattle.c_declarator_reader.specs.Beside.{WithEnd, FirmBeside}
 use Rattle.c_spec.specs.Lexical.{Placed}
 use Rattle.c_grammar_spec.specs.declared.Role.{Role}
 use Rattle.c_grammar_spec.specs.declared.Role.TheVariants.{Nothing}
-use Rattle.c_grammar_spec.specs.Leaves.{Leaf, marks}
+use Rattle.c_grammar_spec.specs.Leaves.{Leaf, marks, roles}
 use Rattle.role_read.specs.Roles.{Roled}
 use Rattle.role_read.proofs.Basics.{roled-same, roled-map}
 use Rattle.role_read.proofs.Begins.{Begins, Silent}
 use Rattle.role_read.proofs.Then.{roled-then_within, silence}
-use Rattle.c_expression_reader.specs.Firm.{roles}
 
 then_second : {T K X E Y : Type 0} (x : X) (e : E) (o : Outcome T K Y) → bind {Y = X × Y} o (λ y rest. Ok ((x, y), rest)) ≡ bind {X = (X × E) × Y} {Y = X × Y} (bind o (λ y rest. Ok (((x, e), y), rest))) (λ q rest. Ok ((q.0.0, q.1), rest))
 then_second x e (Ok (y, rest)) = refl
