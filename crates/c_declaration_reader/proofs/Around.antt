@@ -1,25 +1,26 @@
--- Specifiers directly in a declaration of locals, and directly in an item, are read exactly.
-use Rattle.std.proofs.Common.{◌≡◌, ℕ, suc, false, List, [], ◌∷◌, Option, Some, None, refl, ap, ◌∙◌}
+-- Specifiers directly in a declaration of locals, and directly in an item, keep roles.
+use Rattle.std.proofs.Common.{◌≡◌, ℕ, false, List, ◌∷◌, Option, Some, None, refl, ap, ◌∙◌, [], true, suc}
 use Rattle.std.specs.Prelude.{option_map}
 use Rattle.std.specs.Option.{is_some}
 use Rattle.c_spec.specs.declared.token.Keyword.{Keyword}
-use Rattle.c_spec.specs.declared.token.Keyword.TheVariants.{Const, Typedef, Extern, Static, Inline}
-use Rattle.c_spec.specs.Lexical.{Token, Name as name_token, Word, Number as number_token, Character as character_token, Mark}
+use Rattle.c_spec.specs.declared.token.Keyword.TheVariants.{Const, Static, Typedef, Extern, Inline}
+use Rattle.c_spec.specs.Lexical.{Token, Name as name_token, Word, Number as number_token, Character as character_token, Mark, Placed}
 use Rattle.c_tree_spec.specs.Expression as tree
-use Rattle.c_grammar_spec.specs.Leaves.{Leaf, plain, word, marks}
+use Rattle.c_grammar_spec.specs.Leaves.{Leaf, plain, word}
 use Rattle.c_grammar_spec.specs.Expressions as grammar
 use Rattle.exact_read.specs.Grammar.{anything}
 use Rattle.c_expression_reader.specs.Readers.{Readers}
 use Rattle.c_expression_reader.specs.Types.{Head, head_word, head_of}
-use Rattle.c_type_reader.specs.Beside.{ExactBeside}
+use Rattle.c_declarator_reader.specs.Beside.{FirmBeside}
 use Rattle.c_type_reader.specs.Endings.{SpecifiersEnd, stop_specifiers}
-use Rattle.c_type_reader.specs.Exactness.{AllExact}
+use Rattle.c_type_reader.specs.Exactness.{AllFirm}
 use Rattle.c_type_reader.specs.Specified.{rich_specified}
 use Rattle.c_type_reader.proofs.IntegerWords.{six}
-use Rattle.c_type_reader.proofs.Tokens.{TokenClass, leaves_of}
+use Rattle.c_declarator_reader.proofs.Tokens.{leaves_of, TokenClass}
 use Rattle.c_type_reader.proofs.TypeNames.{word_ends}
-use Rattle.c_type_reader.proofs.Specifiers.{Around, exact-specified, specified_same}
-use Rattle.c_declaration_reader.specs.Around.{LocalWord, LocalConst, LocalStatic, local_word, local_keyword, with_local, ItemWord, ItemConst, ItemTypedef, ItemExtern, ItemStatic, ItemInline, item_word, item_keyword, with_item, word_of, is_word, word_at, spell_word, storage_of, read_local_specifiers, read_item_specifiers}
+use Rattle.c_type_reader.proofs.Specifiers.{Around, specified_same, roled-specified}
+use Rattle.c_declaration_reader.specs.Around.{spell_word, storage_of, word_of, is_word, word_at, LocalWord, LocalConst, LocalStatic, local_word, local_keyword, with_local, ItemWord, ItemConst, ItemTypedef, ItemExtern, ItemStatic, ItemInline, item_word, item_keyword, with_item, read_local_specifiers, read_item_specifiers}
+use Rattle.c_expression_reader.proofs.Marks.{some_value}
 
 -- a kind of words
 record Words {W : Type 0} (position : grammar.Position) (of : Keyword → Option W) (keyword : W → Keyword) (with : W → tree.Storage → tree.Storage) : Type 0 where
@@ -157,18 +158,21 @@ local_words = record { back = local_back; self = local_self; sample = LocalConst
 item_words : Words grammar.InItem item_word item_keyword with_item
 item_words = record { back = item_back; self = item_self; sample = ItemConst; add = item_add; from = λ s text h. item_from grammar.InItem s text h refl; other = item_other; no_head = item_no_head }
 
-pub exact-local_specifiers : (names : List (List ℕ)) (inner : Readers) → AllExact names inner → (depth : ℕ) → ExactBeside marks anything (SpecifiersEnd names grammar.InLocal depth) (stop_specifiers (is_word local_word)) (read_local_specifiers names inner depth)
-exact-local_specifiers names inner all depth =
+word_found : {W : Type 0} (of : Keyword → Option W) (t : Placed) → is_word of t.token ≡ true → is_some (word_at of t) ≡ true
+word_found of t e = let w = some_value (word_of of t.token) e in ap is_some (ap (option_map (λ v. (v, t.offset))) w.1)
+
+pub roled-local_specifiers : (names : List (List ℕ)) (inner : Readers) → AllFirm names inner → (depth : ℕ) → FirmBeside anything (SpecifiersEnd names grammar.InLocal depth) (stop_specifiers (is_word local_word)) (read_local_specifiers names inner depth)
+roled-local_specifiers names inner all depth =
     record {
       both = rich_specified (word_at local_word) (is_word local_word) (spell_word local_keyword) (storage_of with_local) names inner depth;
-      is = exact-specified (around local_words) names inner depth (λ d e. all.conditional (suc (suc depth)) 0) (λ d. all.conditional (suc depth) 0) (λ d. all.specifiers (suc depth));
+      is = roled-specified (around local_words) (word_found local_word) names inner depth (λ d e. all.conditional (suc (suc depth)) 0) (λ d. all.conditional (suc depth) 0) (λ d. all.specifiers (suc depth));
       same = specified_same (word_at local_word) (is_word local_word) (spell_word local_keyword) (storage_of with_local) names inner depth;
     }
 
-pub exact-item_specifiers : (names : List (List ℕ)) (inner : Readers) → AllExact names inner → (depth : ℕ) → ExactBeside marks anything (SpecifiersEnd names grammar.InItem depth) (stop_specifiers (is_word item_word)) (read_item_specifiers names inner depth)
-exact-item_specifiers names inner all depth =
+pub roled-item_specifiers : (names : List (List ℕ)) (inner : Readers) → AllFirm names inner → (depth : ℕ) → FirmBeside anything (SpecifiersEnd names grammar.InItem depth) (stop_specifiers (is_word item_word)) (read_item_specifiers names inner depth)
+roled-item_specifiers names inner all depth =
     record {
       both = rich_specified (word_at item_word) (is_word item_word) (spell_word item_keyword) (storage_of with_item) names inner depth;
-      is = exact-specified (around item_words) names inner depth (λ d e. all.conditional (suc (suc depth)) 0) (λ d. all.conditional (suc depth) 0) (λ d. all.specifiers (suc depth));
+      is = roled-specified (around item_words) (word_found item_word) names inner depth (λ d e. all.conditional (suc (suc depth)) 0) (λ d. all.conditional (suc depth) 0) (λ d. all.specifiers (suc depth));
       same = specified_same (word_at item_word) (is_word item_word) (spell_word item_keyword) (storage_of with_item) names inner depth;
     }

@@ -1,28 +1,29 @@
--- Calls are read exactly behind their name.
-use Rattle.std.proofs.Common.{◌≡◌, ℕ, suc, ◌+◌, false, List, [], ◌∷◌, ◌++◌, refl, ap, sym, ◌∙◌, subst, not, append_assoc, append-nil}
+-- Calls keep roles behind their name.
+use Rattle.std.proofs.Common.{ℕ, List, ◌+◌, refl, ◌≡◌, [], ◌∷◌, ◌++◌, sym, subst, append-nil, ap, ◌∙◌, append_assoc, suc, false, inl, inr, not}
 use Rattle.c_spec.specs.declared.token.Punctuator.TheVariants as punctuator
 use Rattle.c_spec.specs.Lexical.{Placed}
 use Rattle.c_tree_spec.specs.Expression as tree
 use Rattle.c_tree_spec.specs.Unit as unit
-use Rattle.c_grammar_spec.specs.declared.Role.TheVariants.{Nothing, OperandEnd}
-use Rattle.c_grammar_spec.specs.Leaves.{Leaf, plain, awaited, brackets, mark, named, marks}
-use Rattle.c_grammar_spec.specs.Expressions.{is_type_name, operators, Conditional}
+use Rattle.c_grammar_spec.specs.declared.Role.TheVariants.{OperandEnd, Nothing}
+use Rattle.c_grammar_spec.specs.Leaves.{Leaf, awaited, mark, plain, brackets, named, marks}
+use Rattle.c_grammar_spec.specs.Expressions.{operators, Conditional, is_type_name}
 use Rattle.c_grammar_spec.specs.Statements as grammar
 use Rattle.exact_read.specs.Reading.{plains, Stops}
-use Rattle.exact_read.specs.Exact.{Exact}
-use Rattle.exact_read.specs.Grammar.{anything, One, Map, Then, Or, first, second, none, some}
-use Rattle.exact_read.proofs.Parts.{exact-map, exact-same}
-use Rattle.exact_read.proofs.Then.{exact-then}
-use Rattle.c_expression_reader.specs.Classes.{is_mark, mark_place}
+use Rattle.exact_read.specs.Grammar.{some, Then, One, first, none, Map, Or, second, anything}
+use Rattle.c_expression_reader.specs.Classes.{mark_place, is_mark}
 use Rattle.c_expression_reader.specs.Stops.{stop_conditional}
 use Rattle.c_expression_reader.specs.Readers.{Readers}
 use Rattle.c_expression_reader.specs.Types.{expressions_of}
-use Rattle.c_expression_reader.proofs.Marks.{mark-self, mark-passes, one-mark, mark-one, exact-mark, Behind, exact-opened, exact-choice}
+use Rattle.c_expression_reader.proofs.Marks.{one-mark, Behind, mark-one, mark-self, mark-passes, mark-some, roled-mark, roled-opened, roled-choice, map_begins, map_silent, one_first}
 use Rattle.c_expression_reader.proofs.Samples.{zero_tree, zero_text, zero_conditional}
-use Rattle.c_type_reader.specs.Exactness.{AllExact}
-use Rattle.c_type_reader.proofs.Firsts.{conditional_first, first_not_mark}
+use Rattle.c_type_reader.specs.Exactness.{AllFirm}
+use Rattle.c_declarator_reader.proofs.Firsts.{conditional_first, first_not_mark}
 use Rattle.c_declaration_reader.specs.Values.{read_arguments, read_call}
-use Rattle.c_declaration_reader.proofs.Lists.{Lists, MoreText, EndText, next_before, exact-end, end_stops, end_some}
+use Rattle.c_declaration_reader.proofs.Lists.{EndText, Lists, MoreText, next_before, end_stops, end_some, roled-end}
+use Rattle.role_read.proofs.Basics.{roled-same}
+use Rattle.role_read.proofs.Then.{roled-then}
+use Rattle.c_expression_reader.specs.Firm.{Firm}
+use Rattle.c_expression_reader.proofs.Firm.{firm-map}
 
 -- the arguments behind a first, and the `)`
 abbrev put_argument : ℕ → tree.Expression → Placed → Leaf
@@ -130,18 +131,6 @@ arguments_text names depth count arguments text a =
       };
     }
 
-pub exact-arguments : (names : List (List ℕ)) (inner : Readers) → AllExact names inner → (depth count : ℕ) → Exact marks anything (ArgumentsText names depth count) (λ _. anything) (read_arguments inner depth count)
-exact-arguments names inner all depth count =
-    exact-same anything (ArgumentsText names depth count) (read_arguments inner depth count) (λ t h. h) (text_arguments names depth count) (arguments_text names depth count) (λ tokens. refl)
-    (exact-map made_arguments (λ _. anything) (λ x. refl)
-    (exact-then (all.conditional depth count)
-    (λ x. exact-end (argument_lists names depth) step_count (λ c _. c) (λ _. OperandEnd) (λ _. awaited OperandEnd) (λ c. inner.conditional depth c) step_count (λ c t. refl) (λ e y x. refl) (λ e y. all.conditional depth e) (λ d xs. OperandEnd) put_close (λ d xs t. refl) (count + operators x, x))
-    record {
-      ends = λ x pair left right rest one two stops. end_stops (argument_lists names depth) step_count put_argument (λ e x t. refl) put_close (λ d xs t. refl) (count + operators x, x) pair right rest two;
-      goes_on = λ x left one. end_some step_count put_argument (Conditional names depth) punctuator.RightParenthesis put_close (count + operators x, x);
-    }))
-
--- a call behind its name
 abbrev EmptyText : (callee : tree.Name) → unit.Call → List Leaf → Type 0
 EmptyText callee = Map (λ (_ : ℕ). record { callee = callee; arguments = tree.no_expressions }) (One plain (mark_place punctuator.RightParenthesis))
 
@@ -185,17 +174,33 @@ call_text names depth count call text (grammar.call d c n arguments inside place
       cut = refl;
     }
 
-pub exact-call : (names : List (List ℕ)) (inner : Readers) → AllExact names inner → (depth count : ℕ) (callee : tree.Name) → Exact marks anything (CallText names depth count callee) (λ _. anything) (read_call inner depth count callee)
-exact-call names inner all depth count callee =
-    exact-opened (mark_place punctuator.LeftParenthesis) Nothing (brackets (suc depth) (suc count)) (λ t. refl) (mark punctuator.LeftParenthesis 0) 0 (mark-self punctuator.LeftParenthesis 0)
-    (λ place. (record { callee = callee; arguments = tree.no_expressions }, plain (mark punctuator.RightParenthesis 0) ∷ [], first (record { inner = 0; is = refl; spells = mark-one punctuator.RightParenthesis plain 0 })))
-    (λ place t is within. exact-choice (is_mark punctuator.RightParenthesis)
+pub roled-arguments : (names : List (List ℕ)) (inner : Readers) → AllFirm names inner → (depth count : ℕ) → Firm anything (ArgumentsText names depth count) (λ _. anything) (read_arguments inner depth count)
+roled-arguments names inner all depth count =
+    roled-same anything (ArgumentsText names depth count) (read_arguments inner depth count) (λ t h. h) (text_arguments names depth count) (arguments_text names depth count) (λ tokens. refl)
+    (firm-map made_arguments (λ _. anything) (λ x. refl)
+    (roled-then (all.conditional depth count)
+    (λ x. roled-end (argument_lists names depth) step_count (λ c _. c) (λ _. OperandEnd) (λ _. awaited OperandEnd) (λ c. inner.conditional depth c) step_count (λ c t. refl) (λ c t. refl) (λ e y x. refl) (λ e y. all.conditional depth e) (λ d xs. OperandEnd) put_close (λ d xs t. refl) (λ d xs t. refl) (λ e y. inl refl) (λ d xs. inr refl) (count + operators x, x))
+    record {
+      ends = λ x pair left right rest one two stops. end_stops (argument_lists names depth) step_count put_argument (λ e x t. refl) put_close (λ d xs t. refl) (count + operators x, x) pair right rest two;
+      goes_on = λ x left one. end_some step_count put_argument (Conditional names depth) punctuator.RightParenthesis put_close (count + operators x, x);
+    }))
+
+pub some_call : (names : List (List ℕ)) (depth count : ℕ) (callee : tree.Name) → (x : unit.Call) × (right : List Leaf) × Or (EmptyText callee) (FilledText names (suc depth) (suc count) callee) x right
+some_call names depth count callee = (record { callee = callee; arguments = tree.no_expressions }, plain (mark punctuator.RightParenthesis 0) ∷ [], first (record { inner = 0; is = refl; spells = mark-one punctuator.RightParenthesis plain 0 }))
+
+pub roled-call : (names : List (List ℕ)) (inner : Readers) → AllFirm names inner → (depth count : ℕ) (callee : tree.Name) → Firm anything (CallText names depth count callee) (λ _. anything) (read_call inner depth count callee)
+roled-call names inner all depth count callee =
+    roled-opened (mark_place punctuator.LeftParenthesis) Nothing (brackets (suc depth) (suc count)) (λ t. refl) (λ t. refl) (mark punctuator.LeftParenthesis 0) 0 (mark-self punctuator.LeftParenthesis 0)
+    (λ place. some_call names depth count callee)
+    (λ place t is within. roled-choice (is_mark punctuator.RightParenthesis)
     record {
       first_begins = λ x text m. (plain (mark punctuator.RightParenthesis m.inner), [], one-mark punctuator.RightParenthesis plain m.inner text m.spells, mark-passes punctuator.RightParenthesis (mark punctuator.RightParenthesis m.inner) m.inner (mark-self punctuator.RightParenthesis m.inner));
       second_begins = λ x text rest m stops. filled_first m.inner text rest m.spells;
     }
-    (exact-map (λ (_ : ℕ). record { callee = callee; arguments = tree.no_expressions }) (λ _. anything) (λ x. refl) (exact-mark anything punctuator.RightParenthesis Nothing plain (λ t. refl)))
-    (exact-map (λ arguments. record { callee = callee; arguments = arguments }) (λ _. anything) (λ x. refl) (exact-arguments names inner all (suc depth) (suc count))))
+    (λ t e. map_begins (λ (_ : ℕ). record { callee = callee; arguments = tree.no_expressions }) t (record { value = t.offset; first = plain t; more = []; spells = record { token = t; is = mark-some punctuator.RightParenthesis t e; cut = refl }; is = refl }))
+    (map_silent (λ (_ : ℕ). record { callee = callee; arguments = tree.no_expressions }) (λ x u more o. ap (λ (l : Leaf). l.role) (one_first x u more o)))
+    (firm-map (λ (_ : ℕ). record { callee = callee; arguments = tree.no_expressions }) (λ _. anything) (λ x. refl) (roled-mark anything punctuator.RightParenthesis Nothing plain (λ t. refl) (λ t. refl)))
+    (firm-map (λ arguments. record { callee = callee; arguments = arguments }) (λ _. anything) (λ x. refl) (roled-arguments names inner all (suc depth) (suc count))))
   where
     filled_first : (arguments : tree.Expressions) (text : List Leaf) (rest : List Placed) → ArgumentsText names (suc depth) (suc count) arguments text → Stops (λ t. not (is_mark punctuator.RightParenthesis t.token)) (plains marks text ++ rest)
     filled_first arguments text rest a =

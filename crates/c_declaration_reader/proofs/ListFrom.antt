@@ -1,19 +1,22 @@
--- Lists of parts that say what is awaited behind them are read exactly.
-use Rattle.std.proofs.Common.{◌≡◌, ℕ, Bool, List, [], ◌∷◌, ◌++◌, refl, ap, sym, ◌∙◌, subst, append_assoc, append-nil}
+-- Lists of parts that say what is awaited behind them keep roles.
+use Rattle.std.proofs.Common.{List, ℕ, [], ◌∷◌, ◌++◌, ◌≡◌, ap, ◌∙◌, refl, sym, subst, append-nil, append_assoc, Bool, inr}
 use Rattle.c_spec.specs.declared.token.Punctuator.{Punctuator}
 use Rattle.c_spec.specs.declared.token.Punctuator.TheVariants as punctuator
 use Rattle.c_spec.specs.Lexical.{Placed}
 use Rattle.c_grammar_spec.specs.declared.Role.{Role}
-use Rattle.c_grammar_spec.specs.Leaves.{Leaf, awaited, mark, marks}
+use Rattle.c_grammar_spec.specs.Leaves.{Leaf, awaited, mark, marks, roles}
 use Rattle.exact_read.specs.Reading.{Reader}
-use Rattle.exact_read.specs.Exact.{Exact}
-use Rattle.exact_read.specs.Grammar.{anything, One, Map, Then, none, some}
-use Rattle.exact_read.proofs.Parts.{exact-map, exact-same}
-use Rattle.exact_read.proofs.Then.{exact-then}
+use Rattle.exact_read.specs.Grammar.{Then, Map, One, none, some, anything, context_after}
 use Rattle.c_expression_reader.specs.Classes.{mark_place}
 use Rattle.c_expression_reader.proofs.Marks.{one-mark, mark-one, Behind}
 use Rattle.c_declaration_reader.specs.Declarations.{last_of, read_list_from}
-use Rattle.c_declaration_reader.proofs.Lists.{Before, Lists, MoreText, EndText, exact-end, end_stops, end_some}
+use Rattle.c_declaration_reader.proofs.Lists.{Before, MoreText, EndText, read_end, next_before, Lists, end_stops, end_some, roled-end, end_meets, end_not_empty}
+use Rattle.role_read.specs.Roles.{Roled}
+use Rattle.role_read.proofs.Basics.{Meets, roled-same}
+use Rattle.role_read.proofs.Then.{roled-then_within}
+use Rattle.c_expression_reader.specs.Firm.{Firm}
+use Rattle.c_expression_reader.proofs.Firm.{firm-map}
+use Rattle.c_declarator_reader.proofs.Listed.{meets_by}
 
 abbrev pub no_step : {X : Type 0} → Unit {0} → X → Unit {0}
 no_step e x = tt {0}
@@ -63,18 +66,6 @@ list_raw : {X : Type 0} (First S : X → List Leaf → Type 0) (end : X → Role
 list_raw First S end close list text r =
     let last = awaited (end (last_of r.head r.rest)) (mark close r.place) ∷ [] in
     record { inner = (r.head, (r.rest, r.place)); is = r.is; spells = record { left = r.left; right = r.right ++ last; cut = r.cut; first = r.is_head; second = record { left = r.right; right = last; cut = refl; first = r.are_rest; second = mark-one close (put_last end (tt, r.head) r.rest) r.place } } }
-
-pub exact-list_from : {X : Type 0} {entry : Placed → Bool} {First S : X → List Leaf → Type 0} {stop : X → Placed → Bool} {close : Punctuator} {one item : Reader Placed Role X} (end : X → Role) → Lists (same_part S) stop close → Exact marks entry First stop one → Exact marks anything S stop item
-    → Exact marks entry (ListText First S end close) (λ _. anything) (read_list_from end close one item)
-exact-list_from {X} {entry} {First} {S} {stop} {close} {one} {item} end lists one_is item_is =
-    exact-same entry (ListText First S end close) (read_list_from end close one item) (λ t h. h) (raw_list First S end close) (list_raw First S end close) (λ tokens. refl)
-    (exact-map made_list (λ _. anything) (λ x. refl)
-    (exact-then one_is
-    (λ x. exact-end lists no_step (λ _ y. end y) (λ role. role) (λ role. awaited role) (λ _. item) (λ _ y. end y) (λ c t. refl) (λ e y z. refl) (λ e y. item_is) (λ d xs. end (last_of d.1 xs)) (put_last end) (λ d xs t. refl) (tt, x))
-    record {
-      ends = λ x pair left right rest h two stops. end_stops lists no_step (put_end end) (λ e y t. refl) (put_last end) (λ d xs t. refl) (tt, x) pair right rest two;
-      goes_on = λ x left h. end_some no_step (put_end end) (same_part S) close (put_last end) (tt, x);
-    }))
 
 -- others behind a first part are a list
 abbrev BehindFirst : {X : Type 0} → (S : X → List Leaf → Type 0) → (end : X → Role) → Before (Unit {0}) X → List X → List Leaf → Type 0
@@ -148,3 +139,29 @@ listing_text S end close list text l =
       are_rest = s.are_rest;
       cut = l.cut ∙ ap (λ (r : Role). l.inside ++ awaited r (mark close l.place) ∷ []) s.role_is ∙ ap (λ t. t ++ awaited (end (last_of l.head l.rest)) (mark close l.place) ∷ []) s.cut ∙ append_assoc s.left s.right (awaited (end (last_of l.head l.rest)) (mark close l.place) ∷ []);
     }
+
+pub roled-list_from : {X : Type 0} {entry : Placed → Bool} {First S : X → List Leaf → Type 0} {stop : X → Placed → Bool} {ending : X → Role} {close : Punctuator} {one item : Reader Placed Role X} (end : X → Role) → ((x : X) → Meets roles (ending x) (end x)) → Lists (same_part S) stop close → Roled marks roles entry First stop ending ⊥ one → Roled marks roles anything S stop ending ⊥ item
+    → Firm entry (ListText First S end close) (λ _. anything) (read_list_from end close one item)
+roled-list_from {X} {entry} {First} {S} {stop} {ending} {close} {one} {item} end meets lists one_is item_is =
+    roled-same entry (ListText First S end close) (read_list_from end close one item) (λ t h. h) (raw_list First S end close) (list_raw First S end close) (λ tokens. refl)
+    (firm-map made_list (λ _. anything) (λ x. refl)
+    (roled-then_within one_is (λ x left h within. rest_is x)
+    record {
+      ends = λ x pair left right rest h two stops. end_stops lists no_step (put_end end) (λ e y t. refl) (put_last end) (λ d xs t. refl) (tt, x) pair right rest two;
+      goes_on = λ x left h. end_some no_step (put_end end) (same_part S) close (put_last end) (tt, x);
+    }
+    record {
+      between = λ x left kind rest h stops e. meets_by (ending x) (end x) kind (meets x) (end_meets lists no_step (put_end end) (end x) (put_last end) (tt, x) (λ t. refl) kind rest ((rest_is x).asks rest kind rest stops e));
+      empty = λ x pair left h two. absurd (end_not_empty (same_part S) close no_step (put_end end) (put_last end) (tt, x) pair two);
+      loose = λ never x left u h n. absurd never;
+      loose_empty = λ never x pair left h two. absurd never;
+    }))
+  where
+    last_same : (d : Before (Unit {0}) X) (xs : List X) → end (context_after (next_before no_step) d xs).1 ≡ end (last_of d.1 xs)
+    last_same d [] = refl
+    last_same d (y ∷ ys) = last_same (tt, y) ys
+
+    rest_is : (x : X) → Firm (stop x) (EndText no_step (put_end end) (same_part S) close (put_last end) (tt, x)) (λ _. anything) (read_end (λ role. role) (λ role. awaited role) (λ _. item) (λ _ y. end y) close (λ xs. end (last_of x xs)) (put_last end (tt, x)) (end x))
+    rest_is x =
+        roled-end lists no_step (λ _ y. end y) (λ role. role) (λ role. awaited role) (λ _. item) (λ _ y. end y) (λ c t. refl) (λ c t. refl) (λ e y z. refl) (λ e y. item_is) (λ d xs. end (last_of d.1 xs)) (put_last end) (λ d xs t. refl) (λ d xs t. refl)
+        (λ e y. meets y) (λ d xs. inr (last_same d xs)) (tt, x)

@@ -1,40 +1,41 @@
--- Declarations of locals are read exactly.
-use Rattle.std.proofs.Common.{◌≡◌, ℕ, suc, Bool, true, false, List, [], ◌∷◌, ◌++◌, Option, Some, None, refl, ap, sym, ◌∙◌, subst, IsTrue, not, ◌&&◌, append_assoc, append-nil}
+-- Declarations of locals keep roles.
+use Rattle.std.proofs.Common.{Bool, Option, Some, None, not, ◌&&◌, ℕ, List, true, false, IsTrue, refl, ◌≡◌, [], ◌∷◌, ◌++◌, ap, ◌∙◌, sym, subst, append-nil, append_assoc, suc, inl}
 use Rattle.c_spec.specs.declared.token.Punctuator.TheVariants as punctuator
 use Rattle.c_spec.specs.Lexical.{Placed, Token, Name as name_token, Word, Number as number_token, Character as character_token, Mark}
 use Rattle.c_tree_spec.specs.Expression as tree
 use Rattle.c_tree_spec.specs.Unit as unit
 use Rattle.c_grammar_spec.specs.declared.Role.{Role}
-use Rattle.c_grammar_spec.specs.declared.Role.TheVariants.{Nothing, DeclaredName}
-use Rattle.c_grammar_spec.specs.Leaves.{Leaf, plain, awaited, mark, named, marks}
-use Rattle.c_grammar_spec.specs.Expressions.{InLocal, Declarator, declarator, given, no_lengths, none as no_pointer}
+use Rattle.c_grammar_spec.specs.declared.Role.TheVariants.{DeclaredName, Nothing}
+use Rattle.c_grammar_spec.specs.Leaves.{Leaf, plain, marks, mark, awaited, named}
+use Rattle.c_grammar_spec.specs.Expressions.{Declarator, declarator, given, no_lengths, none as no_pointer, InLocal}
 use Rattle.c_grammar_spec.specs.Statements as grammar
 use Rattle.exact_read.specs.Reading.{plains, Stops}
-use Rattle.exact_read.specs.Exact.{Exact}
-use Rattle.exact_read.specs.Grammar.{anything, One, Map, Then, Or, first, second, Nothing as Empty, nothing, read_then}
-use Rattle.exact_read.proofs.Parts.{exact-map, exact-same, exact-nothing, both}
-use Rattle.exact_read.proofs.Then.{exact-then}
-use Rattle.exact_read.proofs.Stop.{exact-stop, exact-enter}
+use Rattle.exact_read.specs.Grammar.{One, Map, Or, Nothing as Empty, nothing, first, second, Then, anything}
+use Rattle.exact_read.proofs.Parts.{both}
 use Rattle.c_expression_reader.specs.Classes.{is_mark, mark_place}
-use Rattle.c_expression_reader.specs.Readers.{Readers, token, behind, choose}
-use Rattle.c_expression_reader.proofs.Marks.{mark-self, mark-passes, one-mark, mark-one, Behind, exact-opened, exact-choose}
+use Rattle.c_expression_reader.specs.Readers.{token, Readers, behind, choose}
+use Rattle.c_expression_reader.proofs.Marks.{Behind, one-mark, mark-one, mark-self, mark-passes, mark-some, roled-opened, roled-choose, behind_begins, behind_silent}
 use Rattle.c_expression_reader.proofs.Samples.{zero_tree, zero_text}
-use Rattle.c_type_reader.specs.Beside.{WithEnd}
-use Rattle.c_type_reader.specs.Endings.{Ending, SpecifiersEnd, stop_specifiers, goes_on_with}
-use Rattle.c_type_reader.specs.Exactness.{AllExact}
-use Rattle.c_type_reader.proofs.Beside.{exact-then_beside}
-use Rattle.c_type_reader.proofs.Fresh.{fresh, fresh_is}
-use Rattle.c_type_reader.proofs.Declarators.{declares_other, DeclaratorFirst, begins_declarator, declarator_first, exact-declarator}
+use Rattle.c_declarator_reader.specs.Beside.{WithEnd}
+use Rattle.c_type_reader.specs.Endings.{SpecifiersEnd, Ending, goes_on_with, stop_specifiers}
+use Rattle.c_type_reader.specs.Exactness.{AllFirm}
+use Rattle.c_declarator_reader.proofs.Beside.{roled-then_beside}
+use Rattle.c_declarator_reader.proofs.Fresh.{fresh, fresh_is}
+use Rattle.c_declarator_reader.proofs.Declarators.{DeclaratorFirst, declarator_first, begins_declarator, declares_other, roled-declarator}
 use Rattle.c_type_reader.proofs.TypeFirsts.{declarator_stops}
-use Rattle.c_type_reader.proofs.Members.{specified, with_end}
+use Rattle.c_type_reader.proofs.Ended.{specified, with_end}
 use Rattle.c_declaration_reader.specs.Around.{is_word, local_word}
-use Rattle.c_declaration_reader.specs.Declarations.{read_list_from, read_local, end_of_local, read_locals}
+use Rattle.c_declaration_reader.specs.Declarations.{end_of_local, read_local, read_list_from, read_locals}
 use Rattle.c_declaration_reader.specs.Ends.{stop_value}
 use Rattle.c_declaration_reader.specs.Texts.{LocalsText}
-use Rattle.c_declaration_reader.proofs.Around.{exact-local_specifiers}
+use Rattle.c_declaration_reader.proofs.Around.{roled-local_specifiers}
 use Rattle.c_declaration_reader.proofs.Lists.{Lists}
-use Rattle.c_declaration_reader.proofs.ListFrom.{same_part, Listed, last, more, exact-list_from, Listing, text_listing, listing_text}
-use Rattle.c_declaration_reader.proofs.Values.{exact-value, zero_value}
+use Rattle.c_declaration_reader.proofs.ListFrom.{same_part, Listed, last, more, Listing, text_listing, listing_text, roled-list_from}
+use Rattle.c_declaration_reader.proofs.Values.{zero_value, roled-value}
+use Rattle.role_read.proofs.Basics.{roled-stop, roled-enter, roled-same}
+use Rattle.role_read.proofs.Then.{roled-then}
+use Rattle.c_expression_reader.specs.Firm.{Firm}
+use Rattle.c_expression_reader.proofs.Firm.{firm-map, firm-nothing}
 
 -- what a local begins with
 abbrev stop_initial : Option unit.Value → Placed → Bool
@@ -67,19 +68,6 @@ unset_second v text (t ∷ rest) nothing stops = and-right (stop_dimensions t) (
 
 set_first : (names : List (List ℕ)) (depth : ℕ) (v : Option unit.Value) (text : List Leaf) (b : SetText names depth v text) → text ≡ plain (mark punctuator.Assign b.first) ∷ b.right
 set_first names depth v text b = b.cut ∙ ap (λ l. l ++ b.right) (one-mark punctuator.Assign plain b.first b.left b.is_first)
-
-exact-initial : (names : List (List ℕ)) (inner : Readers) → AllExact names inner → (depth : ℕ) → Exact marks stop_dimensions (InitialText names depth) stop_initial
-    (choose (is_mark punctuator.Assign) (behind (token Nothing plain (mark_place punctuator.Assign)) (λ _. Rattle.exact_read.specs.Grammar.read_map (λ value. Some value) (Rattle.c_declaration_reader.specs.Values.read_value inner depth 0))) (Rattle.exact_read.specs.Grammar.read_nothing None))
-exact-initial names inner all depth =
-    exact-choose (is_mark punctuator.Assign)
-    record {
-      first_begins = λ v text b. (plain (mark punctuator.Assign b.first), b.right, set_first names depth v text b, mark-passes punctuator.Assign (mark punctuator.Assign b.first) b.first (mark-self punctuator.Assign b.first));
-      second_begins = λ v text rest one stops. unset_second v text rest one stops;
-    }
-    (exact-enter (both stop_dimensions (λ t. is_mark punctuator.Assign t.token)) (exact-opened (mark_place punctuator.Assign) Nothing plain (λ t. refl) (mark punctuator.Assign 0) 0 (mark-self punctuator.Assign 0)
-    (λ x. (Some (unit.Computed zero_tree), zero_text, record { inner = unit.Computed zero_tree; is = refl; spells = zero_value names depth 0 }))
-    (λ x t e within. exact-map (λ v. Some v) stop_initial (λ v. refl) (exact-value names inner all depth 0))))
-    (exact-stop stop_initial (λ v text one t. unset_same v text t one) (exact-nothing (both stop_dimensions (λ t. not (is_mark punctuator.Assign t.token))) None))
 
 initial_ends : (names : List (List ℕ)) (depth : ℕ) (v : Option unit.Value) (text : List Leaf) (rest : List Placed) → InitialText names depth v text → Stops (stop_initial v) rest → Stops stop_dimensions (plains marks text ++ rest)
 initial_ends names depth v text rest (first b) stops = subst (λ l. Stops stop_dimensions (plains marks l ++ rest)) (sym (set_first names depth v text b)) refl
@@ -115,16 +103,6 @@ local_text names depth local role text (grammar.set d x v t right place h k) =
 
 abbrev stop_local : unit.Local → Placed → Bool
 stop_local local = stop_initial local.value
-
-exact-local : (names : List (List ℕ)) (inner : Readers) → AllExact names inner → (depth : ℕ) → Exact marks anything (LocalText names depth) stop_local (read_local names inner depth)
-exact-local names inner all depth =
-    exact-same anything (LocalText names depth) (read_local names inner depth) (λ t h. h) (text_local names depth) (λ local text h. (local_text names depth local (end_of_local local) text h).1) (λ tokens. refl)
-    (exact-map made_local stop_local (λ made. refl)
-    (exact-then (exact-declarator (declares_other names) inner depth (λ d. all.conditional (suc depth) 0)) (λ d. exact-initial names inner all depth)
-    record {
-      ends = λ d v left right rest one two stops. initial_ends names depth v right rest two stops;
-      goes_on = λ d left one. (None, [], second nothing);
-    }))
 
 sample_local : (names : List (List ℕ)) (depth : ℕ) → LocalText names depth (record { declarator = tree.Declared 0 (fresh names) false tree.no_expressions; value = None }) (awaited DeclaredName (named (fresh names)) ∷ [])
 sample_local names depth = grammar.unset depth (tree.Declared 0 (fresh names) false tree.no_expressions) (awaited DeclaredName (named (fresh names)) ∷ []) (declarator false depth 0 (fresh names) false tree.no_expressions [] [] (rw (fresh_is names) refl) no_pointer (given depth tree.no_expressions [] (no_lengths depth)))
@@ -229,12 +207,6 @@ locals_by names depth locals role place inside (grammar.locals d s list e left r
 locals_text : (names : List (List ℕ)) (depth : ℕ) (locals : unit.Locals) (text : List Leaf) → LocalsText names depth locals text → Map made_locals (RawLocals names depth) locals text
 locals_text names depth locals text l = subst (λ t. Map made_locals (RawLocals names depth) locals t) (sym l.cut) (locals_by names depth locals l.role l.place l.inside l.spells)
 
-exact-listing : (names : List (List ℕ)) (inner : Readers) → AllExact names inner → (depth : ℕ) → Exact marks anything (ListingOf names depth) (λ _. anything) (read_list_from end_of_local punctuator.Semicolon (read_local names inner depth) (read_local names inner depth))
-exact-listing names inner all depth =
-    exact-same anything (ListingOf names depth) (read_list_from end_of_local punctuator.Semicolon (read_local names inner depth) (read_local names inner depth)) (λ t h. h)
-    (text_listing (LocalText names depth) end_of_local punctuator.Semicolon) (listing_text (LocalText names depth) end_of_local punctuator.Semicolon) (λ tokens. refl)
-    (exact-list_from end_of_local (local_lists names depth) (exact-local names inner all depth) (exact-local names inner all depth))
-
 -- a list of locals begins with a declarator
 local_first : (names : List (List ℕ)) (depth : ℕ) (x : unit.Local) (role : Role) (text : List Leaf) → grammar.Local names depth x role text → DeclaratorFirst text
 local_first names depth x role text (grammar.unset d y t h) = declarator_first names false d y t h
@@ -255,11 +227,45 @@ word_no_declarator of (character_token value) e = refl
 specifiers_stop : (e : Ending) (k : Token) → begins_declarator k ≡ true → IsTrue (not (is_word local_word k) && not (goes_on_with e k))
 specifiers_stop e k h = rw (word_no_declarator local_word k h, declarator_stops e k h) refl
 
-pub exact-locals : (names : List (List ℕ)) (inner : Readers) → AllExact names inner → (depth : ℕ) → Exact marks anything (LocalsText names depth) (λ _. anything) (read_locals names inner depth)
-exact-locals names inner all depth =
-    exact-same anything (LocalsText names depth) (read_locals names inner depth) (λ t h. h) (text_locals names depth) (locals_text names depth) (λ tokens. refl)
-    (exact-map made_locals (λ _. anything) (λ made. refl)
-    (exact-then_beside (exact-local_specifiers names inner all depth) (λ s e left h within. exact-enter (stop_specifiers (is_word local_word) s e) (exact-listing names inner all depth))
+some_set : (names : List (List ℕ)) (depth : ℕ) → (v : Option unit.Value) × (right : List Leaf) × Map (λ v. Some v) (grammar.Value names depth 0) v right
+some_set names depth = (Some (unit.Computed zero_tree), zero_text, record { inner = unit.Computed zero_tree; is = refl; spells = zero_value names depth 0 })
+
+roled-initial : (names : List (List ℕ)) (inner : Readers) → AllFirm names inner → (depth : ℕ) → Firm stop_dimensions (InitialText names depth) stop_initial
+    (choose (is_mark punctuator.Assign) (behind (token Nothing plain (mark_place punctuator.Assign)) (λ _. Rattle.exact_read.specs.Grammar.read_map (λ value. Some value) (Rattle.c_declaration_reader.specs.Values.read_value inner depth 0))) (Rattle.exact_read.specs.Grammar.read_nothing None))
+roled-initial names inner all depth =
+    roled-choose (is_mark punctuator.Assign)
+    record {
+      first_begins = λ v text b. (plain (mark punctuator.Assign b.first), b.right, set_first names depth v text b, mark-passes punctuator.Assign (mark punctuator.Assign b.first) b.first (mark-self punctuator.Assign b.first));
+      second_begins = λ v text rest one stops. unset_second v text rest one stops;
+    }
+    (λ t e. behind_begins (mark_place punctuator.Assign) plain (λ t. refl) t t.offset (mark-some punctuator.Assign t e) (some_set names depth))
+    (behind_silent (mark_place punctuator.Assign) plain (λ t. refl))
+    (roled-enter (both stop_dimensions (λ t. is_mark punctuator.Assign t.token)) (roled-opened (mark_place punctuator.Assign) Nothing plain (λ t. refl) (λ t. refl) (mark punctuator.Assign 0) 0 (mark-self punctuator.Assign 0)
+    (λ x. some_set names depth)
+    (λ x t e within. firm-map (λ v. Some v) stop_initial (λ v. refl) (roled-value names inner all depth 0))))
+    (roled-stop stop_initial (λ v text one t. unset_same v text t one) (firm-nothing (both stop_dimensions (λ t. not (is_mark punctuator.Assign t.token))) None))
+
+roled-local : (names : List (List ℕ)) (inner : Readers) → AllFirm names inner → (depth : ℕ) → Firm anything (LocalText names depth) stop_local (read_local names inner depth)
+roled-local names inner all depth =
+    roled-same anything (LocalText names depth) (read_local names inner depth) (λ t h. h) (text_local names depth) (λ local text h. (local_text names depth local (end_of_local local) text h).1) (λ tokens. refl)
+    (firm-map made_local stop_local (λ made. refl)
+    (roled-then (roled-declarator (declares_other names) inner depth (λ d. all.conditional (suc depth) 0)) (λ d. roled-initial names inner all depth)
+    record {
+      ends = λ d v left right rest one two stops. initial_ends names depth v right rest two stops;
+      goes_on = λ d left one. (None, [], second nothing);
+    }))
+
+roled-listing : (names : List (List ℕ)) (inner : Readers) → AllFirm names inner → (depth : ℕ) → Firm anything (ListingOf names depth) (λ _. anything) (read_list_from end_of_local punctuator.Semicolon (read_local names inner depth) (read_local names inner depth))
+roled-listing names inner all depth =
+    roled-same anything (ListingOf names depth) (read_list_from end_of_local punctuator.Semicolon (read_local names inner depth) (read_local names inner depth)) (λ t h. h)
+    (text_listing (LocalText names depth) end_of_local punctuator.Semicolon) (listing_text (LocalText names depth) end_of_local punctuator.Semicolon) (λ tokens. refl)
+    (roled-list_from end_of_local (λ x. inl refl) (local_lists names depth) (roled-local names inner all depth) (roled-local names inner all depth))
+
+pub roled-locals : (names : List (List ℕ)) (inner : Readers) → AllFirm names inner → (depth : ℕ) → Firm anything (LocalsText names depth) (λ _. anything) (read_locals names inner depth)
+roled-locals names inner all depth =
+    roled-same anything (LocalsText names depth) (read_locals names inner depth) (λ t h. h) (text_locals names depth) (locals_text names depth) (λ tokens. refl)
+    (firm-map made_locals (λ _. anything) (λ made. refl)
+    (roled-then_beside (roled-local_specifiers names inner all depth) (λ s e left h within. roled-enter (stop_specifiers (is_word local_word) s e) (roled-listing names inner all depth))
     record {
       ends = λ x list left right rest one two stops.
           let f = listed_first names depth two.head two.rest two.role two.inside two.spells in

@@ -1,5 +1,5 @@
--- Expression statements without their `;` are read exactly.
-use Rattle.std.proofs.Common.{◌≡◌, ℕ, suc, Bool, true, false, List, [], ◌∷◌, ◌++◌, Some, refl, ap, sym, ◌∙◌, subst, IsTrue, not, ◌&&◌}
+-- Expression statements without their `;` keep roles.
+use Rattle.std.proofs.Common.{ℕ, List, suc, ◌∷◌, ◌++◌, ap, sym, ◌∙◌, subst, [], ◌≡◌, Some, refl, false, Bool, true, IsTrue, not, ◌&&◌}
 use Rattle.std.specs.Option.{is_some}
 use Rattle.c_spec.specs.declared.token.Punctuator.{Punctuator}
 use Rattle.c_spec.specs.declared.token.Punctuator.TheVariants as punctuator
@@ -10,33 +10,34 @@ use Rattle.c_tree_spec.specs.declared.StepOperator.{StepOperator}
 use Rattle.c_tree_spec.specs.declared.StepOperator.TheVariants.{Increment, Decrement}
 use Rattle.c_tree_spec.specs.Expression as tree
 use Rattle.c_tree_spec.specs.Unit as unit
-use Rattle.c_grammar_spec.specs.declared.Role.TheVariants.{Nothing, OperandEnd}
-use Rattle.c_grammar_spec.specs.Leaves.{Leaf, awaited, operates, brackets, mark, marks}
-use Rattle.c_grammar_spec.specs.Expressions.{operators, Unary, postfix, Conditional}
+use Rattle.c_grammar_spec.specs.declared.Role.TheVariants.{OperandEnd, Nothing}
+use Rattle.c_grammar_spec.specs.Leaves.{Leaf, brackets, mark, operates, marks, awaited}
+use Rattle.c_grammar_spec.specs.Expressions.{Unary, postfix, operators, Conditional}
 use Rattle.c_grammar_spec.specs.Statements as grammar
 use Rattle.exact_read.specs.Reading.{plains, Stops}
-use Rattle.exact_read.specs.Exact.{Exact}
-use Rattle.exact_read.specs.Grammar.{anything, One, Map, Or, first, second, read_map}
+use Rattle.exact_read.specs.Grammar.{One, Or, first, second, Map, anything, read_map}
 use Rattle.exact_read.specs.Folds.{base}
-use Rattle.exact_read.proofs.Parts.{exact-one, exact-map, exact-same, both}
-use Rattle.exact_read.proofs.Stop.{exact-enter}
-use Rattle.c_expression_reader.specs.Classes.{is_mark, mark_place, with_place}
+use Rattle.exact_read.proofs.Parts.{both}
+use Rattle.c_expression_reader.specs.Classes.{mark_place, with_place, is_mark}
 use Rattle.c_expression_reader.specs.Exactness.{PlainUnary}
-use Rattle.c_expression_reader.specs.Stops.{stop_cast, stop_conditional, ends_postfix}
+use Rattle.c_expression_reader.specs.Stops.{stop_conditional, stop_cast, ends_postfix}
 use Rattle.c_expression_reader.specs.Readers.{Readers, read_bracketed}
-use Rattle.c_expression_reader.proofs.Marks.{mark-self, mark-passes, one-mark, mark-one, exact-closed, Behind, exact-behind, exact-opened, exact-choice}
-use Rattle.c_expression_reader.proofs.Samples.{zero_tree, zero_text, zero_unary, zero_conditional}
-use Rattle.c_expression_reader.proofs.Suffixes.{Suffixed, exact-suffixed, placed}
+use Rattle.c_expression_reader.proofs.Marks.{Behind, one-mark, mark-one, roled-closed, mark-self, mark-some, roled-opened, roled-choice, behind_begins, behind_silent, mark-passes, map_begins, map_silent, placed-some, one_first, roled-behind}
+use Rattle.c_expression_reader.proofs.Samples.{zero_tree, zero_text, zero_conditional, zero_unary}
+use Rattle.c_expression_reader.proofs.Suffixes.{Suffixed, placed, roled-suffixed}
 use Rattle.c_expression_reader.proofs.Casts.{InsideText, opening, bracket_postfix}
 use Rattle.c_expression_reader.proofs.Unaries.{UnarySplit, is_plain, is_bracket, unary_split}
-use Rattle.c_type_reader.specs.Exactness.{AllExact}
-use Rattle.c_type_reader.specs.Firsts.{begins_expression}
-use Rattle.c_type_reader.proofs.Firsts.{conditional_first, first_not}
-use Rattle.c_declaration_reader.specs.Values.{is_postfix, is_unary, assign_mark, assign_operator, step_mark, step_operator, read_any_unary, read_step_before, read_assign, read_assign_by, read_step_after, read_called, read_simple_behind, read_simple}
+use Rattle.c_type_reader.specs.Exactness.{AllFirm}
+use Rattle.c_declarator_reader.specs.Firsts.{begins_expression}
+use Rattle.c_declarator_reader.proofs.Firsts.{conditional_first, first_not}
+use Rattle.c_declaration_reader.specs.Values.{assign_mark, assign_operator, step_mark, step_operator, is_postfix, is_unary, read_any_unary, read_assign, read_assign_by, read_step_after, read_called, read_simple_behind, read_step_before, read_simple}
 use Rattle.c_declaration_reader.specs.Ends.{stop_begun, stop_simple}
-use Rattle.c_declaration_reader.proofs.Trees.{unary_is, postfix_is, unary_of, postfix_of, conditional_unary, conditional_postfix}
-use Rattle.c_declaration_reader.proofs.Chosen.{Allowed, exact-allowed}
-use Rattle.c_declaration_reader.proofs.Values.{CalledText, called_alone, called_value, value_split, exact-called, called_ends, exact-value, zero_value}
+use Rattle.c_declaration_reader.proofs.Trees.{unary_of, postfix_of, unary_is, postfix_is, conditional_unary, conditional_postfix}
+use Rattle.c_declaration_reader.proofs.Chosen.{Allowed, roled-allowed}
+use Rattle.c_declaration_reader.proofs.Values.{CalledText, called_value, value_split, called_ends, zero_value, roled-value, roled-called, called_alone}
+use Rattle.role_read.proofs.Basics.{roled-same, roled-enter}
+use Rattle.c_expression_reader.specs.Firm.{Firm}
+use Rattle.c_expression_reader.proofs.Firm.{firm-map, firm-one}
 
 -- any unary expression
 abbrev BracketText : (names : List (List ℕ)) → (depth count place : ℕ) → tree.Expression → List Leaf → Type 0
@@ -54,24 +55,6 @@ any_unary names depth count x text (second p) = p.spells
 unary_any : (names : List (List ℕ)) (depth count : ℕ) (x : tree.Expression) (text : List Leaf) → UnarySplit names depth count x text → AnyText names depth count x text
 unary_any names depth count x text (is_plain p) = second p
 unary_any names depth count x text (is_bracket place rest cut h) = first (record { first = place; left = opening depth count place ∷ []; right = rest; is_first = mark-one punctuator.LeftParenthesis (brackets (suc depth) (suc count)) place; is_second = h; cut = cut })
-
-exact-bracketed : (names : List (List ℕ)) (inner : Readers) → AllExact names inner → (depth count place : ℕ) → Exact marks anything (BracketText names depth count place) stop_cast (read_bracketed inner depth count place)
-exact-bracketed names inner all depth count place =
-    exact-suffixed names inner depth count (λ c d l least. all.conditional (suc depth) (suc c)) (λ x text m. ap ends_postfix m.is)
-    (exact-map (λ x. tree.Bracketed x place) (λ _. anything) (λ x. refl) (exact-closed punctuator.RightParenthesis OperandEnd (awaited OperandEnd) (λ t. refl) (all.conditional (suc depth) (suc count)) (λ x close. refl)))
-
-pub exact-any_unary : (names : List (List ℕ)) (inner : Readers) → AllExact names inner → (depth count : ℕ) → Exact marks anything (Unary names depth count) stop_cast (read_any_unary inner depth count)
-exact-any_unary names inner all depth count =
-    exact-same anything (Unary names depth count) (read_any_unary inner depth count) (λ t h. h) (any_unary names depth count) (λ x text h. unary_any names depth count x text (unary_split names depth count x text h)) (λ tokens. refl)
-    (exact-choice (is_mark punctuator.LeftParenthesis)
-    record {
-      first_begins = λ x text b. (opening depth count b.first, b.right, b.cut ∙ ap (λ t. t ++ b.right) (one-mark punctuator.LeftParenthesis (brackets (suc depth) (suc count)) b.first b.left b.is_first), refl);
-      second_begins = λ x text rest p stops. subst (λ t. Stops (λ t. not (is_mark punctuator.LeftParenthesis t.token)) (plains marks t ++ rest)) (sym p.cut) (rw p.no refl);
-    }
-    (exact-opened (mark_place punctuator.LeftParenthesis) Nothing (brackets (suc depth) (suc count)) (λ t. refl) (mark punctuator.LeftParenthesis 0) 0 (mark-self punctuator.LeftParenthesis 0)
-    (λ place. (tree.Bracketed zero_tree place, zero_text ++ awaited OperandEnd (mark punctuator.RightParenthesis 0) ∷ [], base _ _ (record { inner = zero_tree; is = refl; spells = record { inside = zero_text; close = 0; spells = zero_conditional names (suc depth) (suc count); cut = refl } })))
-    (λ place t is within. exact-bracketed names inner all depth count place))
-    (all.unary depth count))
 
 -- the operators of assignments and steps
 assign_is : (p : Punctuator) (o : BinaryOperator) → assign_mark p ≡ Some o → grammar.AssignMark o p
@@ -219,25 +202,6 @@ simple_text names depth s text (grammar.evaluate d v t h) =
     let r = value_split names d 0 v t h in
     second (record { first = r.head; left = r.left; right = r.right; is_first = r.is_head; cut = r.cut; is_second = second (second (second (record { inner = v; is = refl; spells = r.behind }))) })
 
--- behind a target they are read exactly
-exact-assign : (names : List (List ℕ)) (inner : Readers) → AllExact names inner → (depth : ℕ) (x : tree.Expression) → Exact marks anything (AssignText names depth x) stop_simple (read_assign inner depth x)
-exact-assign names inner all depth x =
-    exact-opened (mark_place punctuator.Assign) Nothing (operates (suc (operators x))) (λ t. refl) (mark punctuator.Assign 0) 0 (mark-self punctuator.Assign 0)
-    (λ place. (unit.Assign x (unit.Computed zero_tree) place, zero_text, record { inner = unit.Computed zero_tree; is = refl; spells = zero_value names depth (suc (operators x)) }))
-    (λ place t is within. exact-map (λ value. unit.Assign x value place) stop_simple (λ value. refl) (exact-value names inner all depth (suc (operators x))))
-
-exact-by : (names : List (List ℕ)) (inner : Readers) → AllExact names inner → (depth : ℕ) (x : tree.Expression) → Exact marks anything (ByText names depth x) stop_simple (read_assign_by inner depth x)
-exact-by names inner all depth x =
-    exact-opened (with_place assign_operator) Nothing (operates (suc (operators x))) (λ t. refl) (mark punctuator.StarAssign 0) (Multiply, 0) refl
-    (λ operator. (unit.AssignBy operator.0 x zero_tree operator.1, zero_text, record { inner = zero_tree; is = refl; spells = zero_conditional names depth (suc (operators x)) }))
-    (λ operator t is within. exact-map (λ value. unit.AssignBy operator.0 x value operator.1) stop_simple (λ value. refl) (all.conditional depth (suc (operators x))))
-
-exact-after : (x : tree.Expression) → Exact marks anything (AfterText x) stop_simple (read_step_after x)
-exact-after x = exact-map (λ (operator : StepOperator × ℕ). unit.StepAfter operator.0 x operator.1) stop_simple (λ operator. refl) (exact-one marks anything (operates (suc (operators x))) (with_place step_operator) Nothing (λ t. refl) (mark punctuator.Increment 0) (Increment, 0) refl)
-
-exact-evaluate : (names : List (List ℕ)) (inner : Readers) → AllExact names inner → (depth : ℕ) (x : tree.Expression) → Exact marks (stop_begun x) (EvaluateText names depth x) stop_simple (read_map (λ value. unit.Evaluate value) (read_called inner depth 0 x))
-exact-evaluate names inner all depth x = exact-map (λ value. unit.Evaluate value) stop_simple (λ value. refl) (exact-called names inner all stop_begun depth 0 x)
-
 -- the first token of what stands behind a target
 by_first : (names : List (List ℕ)) (depth : ℕ) (x : tree.Expression) (s : unit.Simple) (text : List Leaf) (b : ByText names depth x s text) → (text ≡ operates (suc (operators x)) b.is_first.token ∷ b.right) × (assign_operator b.is_first.token.token ≡ Some b.first.0)
 by_first names depth x s text b = (b.cut ∙ ap (λ l. l ++ b.right) b.is_first.cut, (placed assign_operator b.is_first.token b.first b.is_first.is).0)
@@ -288,37 +252,6 @@ begun_third x t h = and-right ((stop_conditional x t && not (is_unary x && is_ma
 begun_conditional : (x : tree.Expression) (t : Placed) → IsTrue (stop_begun x t) → IsTrue (stop_conditional x t)
 begun_conditional x t h = and-left (stop_conditional x t) _ (and-left _ _ (and-left _ _ h))
 
-exact-behind_target : (names : List (List ℕ)) (inner : Readers) → AllExact names inner → (depth : ℕ) (x : tree.Expression) → Exact marks (stop_conditional x) (BehindText names depth x) stop_simple (read_simple_behind inner depth x)
-exact-behind_target names inner all depth x =
-    exact-allowed (is_unary x) (is_mark punctuator.Assign)
-    (λ s text b. (operates (suc (operators x)) (mark punctuator.Assign b.first), b.right, b.cut ∙ ap (λ l. l ++ b.right) (one-mark punctuator.Assign (operates (suc (operators x))) b.first b.left b.is_first), mark-passes punctuator.Assign (mark punctuator.Assign b.first) b.first (mark-self punctuator.Assign b.first)))
-    (λ s text rest one stops. not_assign s text rest one stops)
-    (exact-enter (both (stop_conditional x) (λ t. is_mark punctuator.Assign t.token)) (exact-assign names inner all depth x))
-    (exact-allowed (is_unary x) (λ k. is_some (assign_operator k))
-    (λ s text b. let f = by_first names depth x s text b in (operates (suc (operators x)) b.is_first.token, b.right, f.0, ap is_some f.1))
-    (λ s text rest one stops. not_by s text rest one stops)
-    (exact-enter (both (both (stop_conditional x) (λ t. not (is_unary x && is_mark punctuator.Assign t.token))) (λ t. is_some (assign_operator t.token))) (exact-by names inner all depth x))
-    (exact-allowed (is_postfix x) (λ k. is_some (step_operator k))
-    (λ s text m. (operates (suc (operators x)) (mark (grammar.step_mark m.inner.0) m.inner.1), [], one-step (operates (suc (operators x))) m.inner text m.spells, ap is_some (step_self m.inner.0)))
-    (λ s text rest m stops. weaker (stop_begun x) (λ t. not (is_postfix x && is_some (step_operator t.token))) (begun_third x) (plains marks text ++ rest) (evaluate_ends names depth x s text rest m stops))
-    (exact-enter (both (both (both (stop_conditional x) (λ t. not (is_unary x && is_mark punctuator.Assign t.token))) (λ t. not (is_unary x && is_some (assign_operator t.token)))) (λ t. is_some (step_operator t.token))) (exact-after x))
-    (exact-evaluate names inner all depth x)))
-  where
-    after_is : (s : unit.Simple) (text : List Leaf) (m : AfterText x s text) → text ≡ operates (suc (operators x)) (mark (grammar.step_mark m.inner.0) m.inner.1) ∷ []
-    after_is s text m = one-step (operates (suc (operators x))) m.inner text m.spells
-
-    not_by : (s : unit.Simple) (text : List Leaf) (rest : List Placed) → Or (Allowed (is_postfix x) (AfterText x)) (EvaluateText names depth x) s text → Stops (stop_simple s) rest → Stops (λ t. not (is_unary x && is_some (assign_operator t.token))) (plains marks text ++ rest)
-    not_by s text rest (first a) stops = subst (λ l. Stops (λ t. not (is_unary x && is_some (assign_operator t.token))) (plains marks l ++ rest)) (sym (after_is s text a.spells)) (false_and (is_unary x) _ (step_no a.spells.inner.0).1)
-    not_by s text rest (second m) stops = weaker (stop_begun x) (λ t. not (is_unary x && is_some (assign_operator t.token))) (begun_second x) (plains marks text ++ rest) (evaluate_ends names depth x s text rest m stops)
-
-    not_assign : (s : unit.Simple) (text : List Leaf) (rest : List Placed) → Or (Allowed (is_unary x) (ByText names depth x)) (Or (Allowed (is_postfix x) (AfterText x)) (EvaluateText names depth x)) s text → Stops (stop_simple s) rest → Stops (λ t. not (is_unary x && is_mark punctuator.Assign t.token)) (plains marks text ++ rest)
-    not_assign s text rest (first a) stops =
-        let b = a.spells in
-        let f = by_first names depth x s text b in
-        subst (λ l. Stops (λ t. not (is_unary x && is_mark punctuator.Assign t.token)) (plains marks l ++ rest)) (sym f.0) (false_and (is_unary x) (is_mark punctuator.Assign b.is_first.token.token) (assign_no b.is_first.token.token b.first.0 f.1))
-    not_assign s text rest (second (first a)) stops = subst (λ l. Stops (λ t. not (is_unary x && is_mark punctuator.Assign t.token)) (plains marks l ++ rest)) (sym (after_is s text a.spells)) (false_and (is_unary x) _ (step_no a.spells.inner.0).0)
-    not_assign s text rest (second (second m)) stops = weaker (stop_begun x) (λ t. not (is_unary x && is_mark punctuator.Assign t.token)) (begun_first x) (plains marks text ++ rest) (evaluate_ends names depth x s text rest m stops)
-
 -- an expression stops where what stands behind it begins
 assign_stops : (x : tree.Expression) (k : Token) (o : BinaryOperator) (place : ℕ) → assign_operator k ≡ Some o → IsTrue (stop_conditional x (record { token = k; offset = place }))
 assign_stops x (Mark punctuator.StarAssign) o place e = refl
@@ -364,24 +297,114 @@ begins_no_step names (Word w) e = refl
 begins_no_step names (number_token value type) e = refl
 begins_no_step names (character_token value) e = refl
 
-exact-step_before : (names : List (List ℕ)) (inner : Readers) → AllExact names inner → (depth : ℕ) → Exact marks anything (StepText names depth) stop_simple (read_step_before inner depth)
-exact-step_before names inner all depth =
-    exact-opened (with_place step_operator) Nothing (operates 1) (λ t. refl) (mark punctuator.Increment 0) (Increment, 0) refl
-    (λ operator. (unit.StepBefore operator.0 zero_tree operator.1, zero_text, record { inner = zero_tree; is = refl; spells = zero_unary names depth 1 }))
-    (λ operator t is within. exact-map (λ target. unit.StepBefore operator.0 target operator.1) stop_simple (λ target. refl) (exact-any_unary names inner all depth 1))
+roled-bracketed : (names : List (List ℕ)) (inner : Readers) → AllFirm names inner → (depth count place : ℕ) → Firm anything (BracketText names depth count place) stop_cast (read_bracketed inner depth count place)
+roled-bracketed names inner all depth count place =
+    roled-suffixed names inner depth count (λ c d l least. all.conditional (suc depth) (suc c)) (λ x text m. ap ends_postfix m.is)
+    (firm-map (λ x. tree.Bracketed x place) (λ _. anything) (λ x. refl) (roled-closed punctuator.RightParenthesis OperandEnd (awaited OperandEnd) (λ t. refl) (λ t. refl) (all.conditional (suc depth) (suc count)) (λ x close. refl)))
 
-pub exact-simple : (names : List (List ℕ)) (inner : Readers) → AllExact names inner → (depth : ℕ) → Exact marks anything (grammar.Simple names depth) stop_simple (read_simple inner depth)
-exact-simple names inner all depth =
-    exact-same anything (grammar.Simple names depth) (read_simple inner depth) (λ t h. h) (text_simple names depth) (simple_text names depth) (λ tokens. refl)
-    (exact-choice (λ k. is_some (step_operator k))
+some_bracketed : (names : List (List ℕ)) (depth count place : ℕ) → (x : tree.Expression) × (right : List Leaf) × BracketText names depth count place x right
+some_bracketed names depth count place = (tree.Bracketed zero_tree place, zero_text ++ awaited OperandEnd (mark punctuator.RightParenthesis 0) ∷ [], base _ _ (record { inner = zero_tree; is = refl; spells = record { inside = zero_text; close = 0; spells = zero_conditional names (suc depth) (suc count); cut = refl } }))
+
+pub roled-any_unary : (names : List (List ℕ)) (inner : Readers) → AllFirm names inner → (depth count : ℕ) → Firm anything (Unary names depth count) stop_cast (read_any_unary inner depth count)
+roled-any_unary names inner all depth count =
+    roled-same anything (Unary names depth count) (read_any_unary inner depth count) (λ t h. h) (any_unary names depth count) (λ x text h. unary_any names depth count x text (unary_split names depth count x text h)) (λ tokens. refl)
+    (roled-choice (is_mark punctuator.LeftParenthesis)
+    record {
+      first_begins = λ x text b. (opening depth count b.first, b.right, b.cut ∙ ap (λ t. t ++ b.right) (one-mark punctuator.LeftParenthesis (brackets (suc depth) (suc count)) b.first b.left b.is_first), refl);
+      second_begins = λ x text rest p stops. subst (λ t. Stops (λ t. not (is_mark punctuator.LeftParenthesis t.token)) (plains marks t ++ rest)) (sym p.cut) (rw p.no refl);
+    }
+    (λ t e. behind_begins (mark_place punctuator.LeftParenthesis) (brackets (suc depth) (suc count)) (λ t. refl) t t.offset (mark-some punctuator.LeftParenthesis t e) (some_bracketed names depth count t.offset))
+    (behind_silent (mark_place punctuator.LeftParenthesis) (brackets (suc depth) (suc count)) (λ t. refl))
+    (roled-opened (mark_place punctuator.LeftParenthesis) Nothing (brackets (suc depth) (suc count)) (λ t. refl) (λ t. refl) (mark punctuator.LeftParenthesis 0) 0 (mark-self punctuator.LeftParenthesis 0)
+    (some_bracketed names depth count)
+    (λ place t is within. roled-bracketed names inner all depth count place))
+    (all.unary depth count))
+
+-- behind a target they keep roles
+some_assign : (names : List (List ℕ)) (depth : ℕ) (x : tree.Expression) (place : ℕ) → (s : unit.Simple) × (right : List Leaf) × Map (λ value. unit.Assign x value place) (grammar.Value names depth (suc (operators x))) s right
+some_assign names depth x place = (unit.Assign x (unit.Computed zero_tree) place, zero_text, record { inner = unit.Computed zero_tree; is = refl; spells = zero_value names depth (suc (operators x)) })
+
+some_by : (names : List (List ℕ)) (depth : ℕ) (x : tree.Expression) (operator : BinaryOperator × ℕ) → (s : unit.Simple) × (right : List Leaf) × Map (λ value. unit.AssignBy operator.0 x value operator.1) (Conditional names depth (suc (operators x))) s right
+some_by names depth x operator = (unit.AssignBy operator.0 x zero_tree operator.1, zero_text, record { inner = zero_tree; is = refl; spells = zero_conditional names depth (suc (operators x)) })
+
+some_step : (names : List (List ℕ)) (depth : ℕ) (operator : StepOperator × ℕ) → (s : unit.Simple) × (right : List Leaf) × Map (λ target. unit.StepBefore operator.0 target operator.1) (Unary names depth 1) s right
+some_step names depth operator = (unit.StepBefore operator.0 zero_tree operator.1, zero_text, record { inner = zero_tree; is = refl; spells = zero_unary names depth 1 })
+
+roled-assign : (names : List (List ℕ)) (inner : Readers) → AllFirm names inner → (depth : ℕ) (x : tree.Expression) → Firm anything (AssignText names depth x) stop_simple (read_assign inner depth x)
+roled-assign names inner all depth x =
+    roled-opened (mark_place punctuator.Assign) Nothing (operates (suc (operators x))) (λ t. refl) (λ t. refl) (mark punctuator.Assign 0) 0 (mark-self punctuator.Assign 0)
+    (some_assign names depth x)
+    (λ place t is within. firm-map (λ value. unit.Assign x value place) stop_simple (λ value. refl) (roled-value names inner all depth (suc (operators x))))
+
+roled-by : (names : List (List ℕ)) (inner : Readers) → AllFirm names inner → (depth : ℕ) (x : tree.Expression) → Firm anything (ByText names depth x) stop_simple (read_assign_by inner depth x)
+roled-by names inner all depth x =
+    roled-opened (with_place assign_operator) Nothing (operates (suc (operators x))) (λ t. refl) (λ t. refl) (mark punctuator.StarAssign 0) (Multiply, 0) refl
+    (some_by names depth x)
+    (λ operator t is within. firm-map (λ value. unit.AssignBy operator.0 x value operator.1) stop_simple (λ value. refl) (all.conditional depth (suc (operators x))))
+
+roled-after : (x : tree.Expression) → Firm anything (AfterText x) stop_simple (read_step_after x)
+roled-after x = firm-map (λ (operator : StepOperator × ℕ). unit.StepAfter operator.0 x operator.1) stop_simple (λ operator. refl) (firm-one anything (operates (suc (operators x))) (with_place step_operator) Nothing (λ t. refl) (λ t. refl) (mark punctuator.Increment 0) (Increment, 0) refl)
+
+roled-evaluate : (names : List (List ℕ)) (inner : Readers) → AllFirm names inner → (depth : ℕ) (x : tree.Expression) → Firm (stop_begun x) (EvaluateText names depth x) stop_simple (read_map (λ value. unit.Evaluate value) (read_called inner depth 0 x))
+roled-evaluate names inner all depth x = firm-map (λ value. unit.Evaluate value) stop_simple (λ value. refl) (roled-called names inner all stop_begun depth 0 x)
+
+roled-behind_target : (names : List (List ℕ)) (inner : Readers) → AllFirm names inner → (depth : ℕ) (x : tree.Expression) → Firm (stop_conditional x) (BehindText names depth x) stop_simple (read_simple_behind inner depth x)
+roled-behind_target names inner all depth x =
+    roled-allowed (is_unary x) (is_mark punctuator.Assign)
+    (λ s text b. (operates (suc (operators x)) (mark punctuator.Assign b.first), b.right, b.cut ∙ ap (λ l. l ++ b.right) (one-mark punctuator.Assign (operates (suc (operators x))) b.first b.left b.is_first), mark-passes punctuator.Assign (mark punctuator.Assign b.first) b.first (mark-self punctuator.Assign b.first)))
+    (λ s text rest one stops. not_assign s text rest one stops)
+    (λ t e. behind_begins (mark_place punctuator.Assign) (operates (suc (operators x))) (λ t. refl) t t.offset (mark-some punctuator.Assign t e) (some_assign names depth x t.offset))
+    (behind_silent (mark_place punctuator.Assign) (operates (suc (operators x))) (λ t. refl))
+    (roled-enter (both (stop_conditional x) (λ t. is_mark punctuator.Assign t.token)) (roled-assign names inner all depth x))
+    (roled-allowed (is_unary x) (λ k. is_some (assign_operator k))
+    (λ s text b. let f = by_first names depth x s text b in (operates (suc (operators x)) b.is_first.token, b.right, f.0, ap is_some f.1))
+    (λ s text rest one stops. not_by s text rest one stops)
+    (λ t e. let o = placed-some assign_operator t e in behind_begins (with_place assign_operator) (operates (suc (operators x))) (λ t. refl) t o.0 o.1 (some_by names depth x o.0))
+    (behind_silent (with_place assign_operator) (operates (suc (operators x))) (λ t. refl))
+    (roled-enter (both (both (stop_conditional x) (λ t. not (is_unary x && is_mark punctuator.Assign t.token))) (λ t. is_some (assign_operator t.token))) (roled-by names inner all depth x))
+    (roled-allowed (is_postfix x) (λ k. is_some (step_operator k))
+    (λ s text m. (operates (suc (operators x)) (mark (grammar.step_mark m.inner.0) m.inner.1), [], one-step (operates (suc (operators x))) m.inner text m.spells, ap is_some (step_self m.inner.0)))
+    (λ s text rest m stops. weaker (stop_begun x) (λ t. not (is_postfix x && is_some (step_operator t.token))) (begun_third x) (plains marks text ++ rest) (evaluate_ends names depth x s text rest m stops))
+    (λ t e. let o = placed-some step_operator t e in map_begins (λ (operator : StepOperator × ℕ). unit.StepAfter operator.0 x operator.1) t (record { value = o.0; first = operates (suc (operators x)) t; more = []; spells = record { token = t; is = o.1; cut = refl }; is = refl }))
+    (map_silent (λ (operator : StepOperator × ℕ). unit.StepAfter operator.0 x operator.1) (λ y u more o. ap (λ (l : Leaf). l.role) (one_first y u more o)))
+    (roled-enter (both (both (both (stop_conditional x) (λ t. not (is_unary x && is_mark punctuator.Assign t.token))) (λ t. not (is_unary x && is_some (assign_operator t.token)))) (λ t. is_some (step_operator t.token))) (roled-after x))
+    (roled-evaluate names inner all depth x)))
+  where
+    after_is : (s : unit.Simple) (text : List Leaf) (m : AfterText x s text) → text ≡ operates (suc (operators x)) (mark (grammar.step_mark m.inner.0) m.inner.1) ∷ []
+    after_is s text m = one-step (operates (suc (operators x))) m.inner text m.spells
+
+    not_by : (s : unit.Simple) (text : List Leaf) (rest : List Placed) → Or (Allowed (is_postfix x) (AfterText x)) (EvaluateText names depth x) s text → Stops (stop_simple s) rest → Stops (λ t. not (is_unary x && is_some (assign_operator t.token))) (plains marks text ++ rest)
+    not_by s text rest (first a) stops = subst (λ l. Stops (λ t. not (is_unary x && is_some (assign_operator t.token))) (plains marks l ++ rest)) (sym (after_is s text a.spells)) (false_and (is_unary x) _ (step_no a.spells.inner.0).1)
+    not_by s text rest (second m) stops = weaker (stop_begun x) (λ t. not (is_unary x && is_some (assign_operator t.token))) (begun_second x) (plains marks text ++ rest) (evaluate_ends names depth x s text rest m stops)
+
+    not_assign : (s : unit.Simple) (text : List Leaf) (rest : List Placed) → Or (Allowed (is_unary x) (ByText names depth x)) (Or (Allowed (is_postfix x) (AfterText x)) (EvaluateText names depth x)) s text → Stops (stop_simple s) rest → Stops (λ t. not (is_unary x && is_mark punctuator.Assign t.token)) (plains marks text ++ rest)
+    not_assign s text rest (first a) stops =
+        let b = a.spells in
+        let f = by_first names depth x s text b in
+        subst (λ l. Stops (λ t. not (is_unary x && is_mark punctuator.Assign t.token)) (plains marks l ++ rest)) (sym f.0) (false_and (is_unary x) (is_mark punctuator.Assign b.is_first.token.token) (assign_no b.is_first.token.token b.first.0 f.1))
+    not_assign s text rest (second (first a)) stops = subst (λ l. Stops (λ t. not (is_unary x && is_mark punctuator.Assign t.token)) (plains marks l ++ rest)) (sym (after_is s text a.spells)) (false_and (is_unary x) _ (step_no a.spells.inner.0).0)
+    not_assign s text rest (second (second m)) stops = weaker (stop_begun x) (λ t. not (is_unary x && is_mark punctuator.Assign t.token)) (begun_first x) (plains marks text ++ rest) (evaluate_ends names depth x s text rest m stops)
+
+roled-step_before : (names : List (List ℕ)) (inner : Readers) → AllFirm names inner → (depth : ℕ) → Firm anything (StepText names depth) stop_simple (read_step_before inner depth)
+roled-step_before names inner all depth =
+    roled-opened (with_place step_operator) Nothing (operates 1) (λ t. refl) (λ t. refl) (mark punctuator.Increment 0) (Increment, 0) refl
+    (some_step names depth)
+    (λ operator t is within. firm-map (λ target. unit.StepBefore operator.0 target operator.1) stop_simple (λ target. refl) (roled-any_unary names inner all depth 1))
+
+pub roled-simple : (names : List (List ℕ)) (inner : Readers) → AllFirm names inner → (depth : ℕ) → Firm anything (grammar.Simple names depth) stop_simple (read_simple inner depth)
+roled-simple names inner all depth =
+    roled-same anything (grammar.Simple names depth) (read_simple inner depth) (λ t h. h) (text_simple names depth) (simple_text names depth) (λ tokens. refl)
+    (roled-choice (λ k. is_some (step_operator k))
     record {
       first_begins = λ s text b. (operates 1 (mark (grammar.step_mark b.first.0) b.first.1), b.right, b.cut ∙ ap (λ l. l ++ b.right) (one-step (operates 1) b.first b.left b.is_first), ap is_some (step_self b.first.0));
       second_begins = λ s text rest b stops.
           let f = conditional_first names depth 0 b.first b.left b.is_first in
           first_not names (λ k. is_some (step_operator k)) (begins_no_step names) text rest (record { leaf = f.leaf; more = f.more ++ b.right; cut = b.cut ∙ ap (λ l. l ++ b.right) f.cut; yes = f.yes });
     }
-    (exact-step_before names inner all depth)
-    (exact-behind (all.conditional depth 0) (λ x left h within. exact-behind_target names inner all depth x)
+    (λ t e. let o = placed-some step_operator t e in behind_begins (with_place step_operator) (operates 1) (λ t. refl) t o.0 o.1 (some_step names depth o.0))
+    (behind_silent (with_place step_operator) (operates 1) (λ t. refl))
+    (roled-step_before names inner all depth)
+    (roled-behind (all.conditional depth 0) (λ x left h within. roled-behind_target names inner all depth x)
     record {
       ends = λ x s left right rest one two stops. target_ends names depth x s right rest two stops;
       goes_on = λ x left one. (unit.Evaluate (unit.Computed x), [], second (second (second (record { inner = unit.Computed x; is = refl; spells = called_alone names depth 0 x }))));

@@ -1,8 +1,8 @@
 -- What a tree tells of the production that it stands for.
-use Rattle.std.proofs.Common.{◌≡◌, ℕ, zero, suc, true, false, List, [], ◌∷◌, refl, ap, subst}
+use Rattle.std.proofs.Common.{◌≡◌, ℕ, true, List, refl, false, [], ◌∷◌, ap, subst, zero, suc}
 use Rattle.c_tree_spec.specs.Expression as tree
 use Rattle.c_grammar_spec.specs.Leaves.{Leaf, plain, named}
-use Rattle.c_grammar_spec.specs.Expressions.{is_type_name, Primary, name, constant, character_constant, bracketed, Postfix, primary, index, member, Unary, postfix, prefixed, sizeof_expression, sizeof_type, Cast, unary, cast, Binary, operand, tighter, operation, Conditional, logical_or, conditional}
+use Rattle.c_grammar_spec.specs.Expressions.{Primary, name, constant, character_constant, bracketed, Postfix, primary, index, member, Unary, Cast, Binary, Conditional, postfix, prefixed, sizeof_expression, sizeof_type, unary, cast, operand, tighter, operation, logical_or, conditional, is_type_name}
 use Rattle.c_declaration_reader.specs.Values.{is_postfix, is_unary}
 
 primary_is : (names : List (List ℕ)) (depth count : ℕ) (x : tree.Expression) (text : List Leaf) → Primary names depth count x text → is_postfix x ≡ true
@@ -58,10 +58,6 @@ postfix_of_unary names depth count x text (sizeof_type d c y t place p close h) 
 
 pub postfix_of : (names : List (List ℕ)) (depth count : ℕ) (x : tree.Expression) (text : List Leaf) → Conditional names depth count x text → is_postfix x ≡ true → Postfix names depth count x text
 postfix_of names depth count x text h e = postfix_of_unary names depth count x text (unary_of names depth count x text h (postfix_unary x e)) e
-
--- a name alone
-pub record NameAlone (names : List (List ℕ)) (x : tree.Expression) (text : List Leaf) : Type 0 where
-  pub is : (n : tree.Name) → x ≡ tree.Named n → (text ≡ plain (named n) ∷ []) × (is_type_name names n.spelling ≡ false)
 
 name_of_primary : (names : List (List ℕ)) (depth count : ℕ) (x : tree.Expression) (text : List Leaf) → Primary names depth count x text → (n : tree.Name) → x ≡ tree.Named n → (text ≡ plain (named n) ∷ []) × (is_type_name names n.spelling ≡ false)
 name_of_primary names depth count x text (name d c m e) n same = let k : m ≡ n = cc in (ap (λ (l : tree.Name). plain (named l) ∷ []) k, subst (λ (l : tree.Name). is_type_name names l.spelling ≡ false) k e)

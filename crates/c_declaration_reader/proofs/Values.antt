@@ -1,28 +1,28 @@
--- What is assigned or returned is read exactly.
-use Rattle.std.proofs.Common.{◌≡◌, ℕ, suc, Bool, true, false, List, [], ◌∷◌, ◌++◌, refl, ap, sym, ◌∙◌, subst, IsTrue, not, ◌&&◌, append-nil}
+-- What is assigned or returned keeps roles.
+use Rattle.std.proofs.Common.{ℕ, List, [], ◌++◌, sym, subst, append-nil, ◌∷◌, ◌≡◌, refl, Bool, true, false, not, ◌&&◌, ap, ◌∙◌, IsTrue, suc}
 use Rattle.c_spec.specs.declared.token.Punctuator.TheVariants as punctuator
 use Rattle.c_spec.specs.Lexical.{Placed}
 use Rattle.c_tree_spec.specs.Expression as tree
 use Rattle.c_tree_spec.specs.Unit as unit
-use Rattle.c_grammar_spec.specs.declared.Role.{Role}
-use Rattle.c_grammar_spec.specs.Leaves.{Leaf, plain, brackets, mark, named, marks}
+use Rattle.c_grammar_spec.specs.Leaves.{Leaf, plain, named, marks, brackets, mark}
 use Rattle.c_grammar_spec.specs.Expressions.{Conditional}
 use Rattle.c_grammar_spec.specs.Statements as grammar
 use Rattle.exact_read.specs.Reading.{plains, Stops}
-use Rattle.exact_read.specs.Exact.{Exact}
-use Rattle.exact_read.specs.Grammar.{anything, Map, Or, first, second, Nothing as Empty, nothing, read_nothing}
-use Rattle.exact_read.proofs.Parts.{exact-map, exact-same, exact-nothing, both}
-use Rattle.exact_read.proofs.Stop.{exact-stop, exact-enter}
-use Rattle.c_expression_reader.specs.Classes.{is_mark}
+use Rattle.exact_read.specs.Grammar.{Map, Or, Nothing as Empty, second, nothing, first, read_nothing, anything}
+use Rattle.exact_read.proofs.Parts.{both}
+use Rattle.c_expression_reader.specs.Classes.{is_mark, mark_place}
 use Rattle.c_expression_reader.specs.Stops.{stop_conditional}
 use Rattle.c_expression_reader.specs.Readers.{Readers}
-use Rattle.c_expression_reader.proofs.Marks.{mark-self, mark-passes, one-mark, exact-behind, exact-choose}
+use Rattle.c_expression_reader.proofs.Marks.{one-mark, mark-self, mark-passes, mark-some, roled-choose, behind_begins, behind_silent, map_begins, map_silent, roled-behind}
 use Rattle.c_expression_reader.proofs.Samples.{zero_tree, zero_text, zero_conditional}
-use Rattle.c_type_reader.specs.Exactness.{AllExact}
+use Rattle.c_type_reader.specs.Exactness.{AllFirm}
 use Rattle.c_declaration_reader.specs.Values.{is_name, read_called, read_value}
 use Rattle.c_declaration_reader.specs.Ends.{stop_called, stop_value}
 use Rattle.c_declaration_reader.proofs.Trees.{name_alone, conditional_name}
-use Rattle.c_declaration_reader.proofs.Calls.{CallText, text_call, call_text, exact-call}
+use Rattle.c_declaration_reader.proofs.Calls.{CallText, text_call, call_text, roled-call, some_call}
+use Rattle.role_read.proofs.Basics.{roled-stop, roled-enter, roled-same}
+use Rattle.c_expression_reader.specs.Firm.{Firm}
+use Rattle.c_expression_reader.proofs.Firm.{firm-nothing, firm-map}
 
 -- what stands behind an expression that is read first: nothing, or behind a name the rest of a call
 abbrev pub CalledText : (names : List (List ℕ)) → (depth count : ℕ) → tree.Expression → unit.Value → List Leaf → Type 0
@@ -77,9 +77,6 @@ and-false false = refl
 alone_same : (stop : tree.Expression → Placed → Bool) (x : tree.Expression) (v : unit.Value) (text : List Leaf) (t : Placed) → is_name x ≡ false → Empty (unit.Computed x) v text → stop x t ≡ stop_called stop v t
 alone_same stop x v text t e nothing = and-false (stop x t) ∙ ap (λ b. stop x t && not (b && is_mark punctuator.LeftParenthesis t.token)) (sym e)
 
-exact-alone : (stop : tree.Expression → Placed → Bool) (x : tree.Expression) → is_name x ≡ false → Exact {K = Role} marks (stop x) (Empty (unit.Computed x)) (stop_called stop) (read_nothing (unit.Computed x))
-exact-alone stop x e = exact-stop (stop_called stop) (λ v text one t. alone_same stop x v text t e one) (exact-nothing (stop x) (unit.Computed x))
-
 named_same : (stop : tree.Expression → Placed → Bool) (n : tree.Name) (v : unit.Value) (text : List Leaf) (t : Placed) → Empty (unit.Computed (tree.Named n)) v text → both (stop (tree.Named n)) (λ t. not (is_mark punctuator.LeftParenthesis t.token)) t ≡ stop_called stop v t
 named_same stop n v text t nothing = refl
 
@@ -94,27 +91,6 @@ and-left false b h = absurd (cc)
 named_second : (stop : tree.Expression → Placed → Bool) (n : tree.Name) (v : unit.Value) (text : List Leaf) (rest : List Placed) → Empty (unit.Computed (tree.Named n)) v text → Stops (stop_called stop v) rest → Stops (λ t. not (is_mark punctuator.LeftParenthesis t.token)) (plains marks text ++ rest)
 named_second stop n v text [] nothing stops = tt
 named_second stop n v text (t ∷ rest) nothing stops = and-right (stop (tree.Named n) t) (not (is_mark punctuator.LeftParenthesis t.token)) stops
-
-pub exact-called : (names : List (List ℕ)) (inner : Readers) → AllExact names inner → (stop : tree.Expression → Placed → Bool) (depth count : ℕ) (x : tree.Expression) → Exact marks (stop x) (CalledText names depth count x) (stop_called stop) (read_called inner depth count x)
-exact-called names inner all stop depth count (tree.Named n) =
-    exact-choose (is_mark punctuator.LeftParenthesis)
-    record {
-      first_begins = λ v text m. let b = m.spells in (brackets (suc depth) (suc count) (mark punctuator.LeftParenthesis b.first), b.right, b.cut ∙ ap (λ l. l ++ b.right) (one-mark punctuator.LeftParenthesis (brackets (suc depth) (suc count)) b.first b.left b.is_first), mark-passes punctuator.LeftParenthesis (mark punctuator.LeftParenthesis b.first) b.first (mark-self punctuator.LeftParenthesis b.first));
-      second_begins = λ v text rest one stops. named_second stop n v text rest one stops;
-    }
-    (exact-map (λ call. unit.Called call) (stop_called stop) (λ call. refl) (exact-enter (both (stop (tree.Named n)) (λ t. is_mark punctuator.LeftParenthesis t.token)) (exact-call names inner all depth count n)))
-    (exact-stop (stop_called stop) (λ v text one t. named_same stop n v text t one) (exact-nothing (both (stop (tree.Named n)) (λ t. not (is_mark punctuator.LeftParenthesis t.token))) (unit.Computed (tree.Named n))))
-exact-called names inner all stop depth count (tree.Number value type place) = exact-alone stop _ refl
-exact-called names inner all stop depth count (tree.Character value place) = exact-alone stop _ refl
-exact-called names inner all stop depth count (tree.Bracketed y place) = exact-alone stop _ refl
-exact-called names inner all stop depth count (tree.Index y i place) = exact-alone stop _ refl
-exact-called names inner all stop depth count (tree.Member y a n place) = exact-alone stop _ refl
-exact-called names inner all stop depth count (tree.Unary o y place) = exact-alone stop _ refl
-exact-called names inner all stop depth count (tree.Sizeof y place) = exact-alone stop _ refl
-exact-called names inner all stop depth count (tree.SizeofType t place) = exact-alone stop _ refl
-exact-called names inner all stop depth count (tree.Cast t y place) = exact-alone stop _ refl
-exact-called names inner all stop depth count (tree.Binary o y z place) = exact-alone stop _ refl
-exact-called names inner all stop depth count (tree.Conditional y z w place) = exact-alone stop _ refl
 
 -- an expression stops where what stands behind it begins
 alone_ends : (stop : tree.Expression → Placed → Bool) (x : tree.Expression) (v : unit.Value) (right : List Leaf) (rest : List Placed) → Empty (unit.Computed x) v right → Stops (stop_called stop v) rest → Stops (stop x) (plains marks right ++ rest)
@@ -138,18 +114,44 @@ called_ends names depth count stop at (tree.Cast t y place) v right rest one sto
 called_ends names depth count stop at (tree.Binary o y z place) v right rest one stops = alone_ends stop _ v right rest one stops
 called_ends names depth count stop at (tree.Conditional y z w place) v right rest one stops = alone_ends stop _ v right rest one stops
 
-pub exact-value : (names : List (List ℕ)) (inner : Readers) → AllExact names inner → (depth count : ℕ) → Exact marks anything (grammar.Value names depth count) stop_value (read_value inner depth count)
-exact-value names inner all depth count =
-    exact-same anything (grammar.Value names depth count) (read_value inner depth count) (λ t h. h)
+-- there is a value everywhere
+pub zero_value : (names : List (List ℕ)) (depth count : ℕ) → grammar.Value names depth count (unit.Computed zero_tree) zero_text
+zero_value names depth count = grammar.computed depth count zero_tree zero_text (zero_conditional names depth count)
+
+roled-alone : (stop : tree.Expression → Placed → Bool) (x : tree.Expression) → is_name x ≡ false → Firm (stop x) (Empty (unit.Computed x)) (stop_called stop) (read_nothing (unit.Computed x))
+roled-alone stop x e = roled-stop (stop_called stop) (λ v text one t. alone_same stop x v text t e one) (firm-nothing (stop x) (unit.Computed x))
+
+pub roled-called : (names : List (List ℕ)) (inner : Readers) → AllFirm names inner → (stop : tree.Expression → Placed → Bool) (depth count : ℕ) (x : tree.Expression) → Firm (stop x) (CalledText names depth count x) (stop_called stop) (read_called inner depth count x)
+roled-called names inner all stop depth count (tree.Named n) =
+    roled-choose (is_mark punctuator.LeftParenthesis)
+    record {
+      first_begins = λ v text m. let b = m.spells in (brackets (suc depth) (suc count) (mark punctuator.LeftParenthesis b.first), b.right, b.cut ∙ ap (λ l. l ++ b.right) (one-mark punctuator.LeftParenthesis (brackets (suc depth) (suc count)) b.first b.left b.is_first), mark-passes punctuator.LeftParenthesis (mark punctuator.LeftParenthesis b.first) b.first (mark-self punctuator.LeftParenthesis b.first));
+      second_begins = λ v text rest one stops. named_second stop n v text rest one stops;
+    }
+    (λ t e. map_begins (λ call. unit.Called call) t (behind_begins (mark_place punctuator.LeftParenthesis) (brackets (suc depth) (suc count)) (λ t. refl) t t.offset (mark-some punctuator.LeftParenthesis t e) (some_call names depth count n)))
+    (map_silent (λ call. unit.Called call) (behind_silent (mark_place punctuator.LeftParenthesis) (brackets (suc depth) (suc count)) (λ t. refl)))
+    (firm-map (λ call. unit.Called call) (stop_called stop) (λ call. refl) (roled-enter (both (stop (tree.Named n)) (λ t. is_mark punctuator.LeftParenthesis t.token)) (roled-call names inner all depth count n)))
+    (roled-stop (stop_called stop) (λ v text one t. named_same stop n v text t one) (firm-nothing (both (stop (tree.Named n)) (λ t. not (is_mark punctuator.LeftParenthesis t.token))) (unit.Computed (tree.Named n))))
+roled-called names inner all stop depth count (tree.Number value type place) = roled-alone stop _ refl
+roled-called names inner all stop depth count (tree.Character value place) = roled-alone stop _ refl
+roled-called names inner all stop depth count (tree.Bracketed y place) = roled-alone stop _ refl
+roled-called names inner all stop depth count (tree.Index y i place) = roled-alone stop _ refl
+roled-called names inner all stop depth count (tree.Member y a n place) = roled-alone stop _ refl
+roled-called names inner all stop depth count (tree.Unary o y place) = roled-alone stop _ refl
+roled-called names inner all stop depth count (tree.Sizeof y place) = roled-alone stop _ refl
+roled-called names inner all stop depth count (tree.SizeofType t place) = roled-alone stop _ refl
+roled-called names inner all stop depth count (tree.Cast t y place) = roled-alone stop _ refl
+roled-called names inner all stop depth count (tree.Binary o y z place) = roled-alone stop _ refl
+roled-called names inner all stop depth count (tree.Conditional y z w place) = roled-alone stop _ refl
+
+pub roled-value : (names : List (List ℕ)) (inner : Readers) → AllFirm names inner → (depth count : ℕ) → Firm anything (grammar.Value names depth count) stop_value (read_value inner depth count)
+roled-value names inner all depth count =
+    roled-same anything (grammar.Value names depth count) (read_value inner depth count) (λ t h. h)
     (λ v text b. subst (λ l. grammar.Value names depth count v l) (sym b.cut) (called_value names depth count b.first v b.left b.right b.is_first b.is_second))
     (λ v text h. let s = value_split names depth count v text h in record { first = s.head; left = s.left; right = s.right; is_first = s.is_head; is_second = s.behind; cut = s.cut })
     (λ tokens. refl)
-    (exact-behind (all.conditional depth count) (λ x left h within. exact-called names inner all stop_conditional depth count x)
+    (roled-behind (all.conditional depth count) (λ x left h within. roled-called names inner all stop_conditional depth count x)
     record {
       ends = λ x v left right rest one two stops. called_ends names depth count stop_conditional (λ n place. refl) x v right rest two stops;
       goes_on = λ x left one. (unit.Computed x, [], called_alone names depth count x);
     })
-
--- there is a value everywhere
-pub zero_value : (names : List (List ℕ)) (depth count : ℕ) → grammar.Value names depth count (unit.Computed zero_tree) zero_text
-zero_value names depth count = grammar.computed depth count zero_tree zero_text (zero_conditional names depth count)

@@ -1,5 +1,5 @@
 -- No expression begins with a token that begins a type in brackets.
-use Rattle.std.proofs.Common.{◌≡◌, ℕ, false, List, [], ◌∷◌, ◌++◌, refl, ap}
+use Rattle.std.proofs.Common.{◌≡◌, ℕ, false, List, ◌∷◌, ◌++◌, ap, [], refl}
 use Rattle.c_tree_spec.specs.Expression as tree
 use Rattle.c_grammar_spec.specs.Leaves.{Leaf}
 use Rattle.c_grammar_spec.specs.Expressions.{Primary, name, constant, character_constant, bracketed, Postfix, primary, index, member, Unary, postfix, prefixed, sizeof_expression, sizeof_type, Cast, unary, cast, Binary, operand, tighter, operation, Conditional, logical_or, conditional}

@@ -1,18 +1,18 @@
--- Unary and cast expressions are read exactly.
-use Rattle.std.proofs.Common.{◌≡◌, ℕ, suc, ◌+◌, Bool, true, false, List, [], ◌∷◌, ◌++◌, Some, None, refl, ap, sym, subst, cond}
+-- Postfix expressions by their first token: a bracket, or an atom.
+use Rattle.std.proofs.Common.{ℕ, List, ◌≡◌, Bool, true, false, [], ◌∷◌, Some, None, refl, subst, cond, sym, ap, suc, ◌+◌, ◌++◌}
 use Rattle.c_spec.specs.declared.token.Punctuator.TheVariants as punctuator
 use Rattle.c_spec.specs.Lexical.{Token, Name as name_token, Word, Number as number_token, Character as character_token, Mark}
 use Rattle.c_tree_spec.specs.Expression as tree
 use Rattle.c_grammar_spec.specs.declared.Role.TheVariants.{OperandEnd}
 use Rattle.c_grammar_spec.specs.Leaves.{Leaf, plain, awaited, brackets, mark, named, number, character}
-use Rattle.c_grammar_spec.specs.Expressions.{is_type_name, operators, Primary, name, constant, character_constant, bracketed, Postfix, primary, index, member, Conditional}
+use Rattle.c_grammar_spec.specs.Expressions.{is_type_name, Primary, name, constant, character_constant, Conditional, bracketed, Postfix, primary, index, member, operators}
 use Rattle.exact_read.specs.Grammar.{One, Map}
 use Rattle.exact_read.specs.Folds.{base, step}
 use Rattle.c_expression_reader.specs.Classes.{atom_at, atom_of}
 use Rattle.c_expression_reader.specs.Stops.{ends_postfix}
-use Rattle.c_expression_reader.specs.Readers.{Suffix, ByIndex, ByMember, with_suffix}
+use Rattle.c_expression_reader.specs.Readers.{Suffix, with_suffix, ByIndex, ByMember}
 use Rattle.c_expression_reader.specs.Exactness.{Closed}
-use Rattle.c_expression_reader.proofs.Suffixes.{SuffixText, by_index, by_member, Suffixed}
+use Rattle.c_expression_reader.proofs.Suffixes.{by_index, by_member, Suffixed, SuffixText}
 
 -- atoms
 abbrev pub Atom : (names : List (List ℕ)) → tree.Expression → List Leaf → Type 0

@@ -1,24 +1,25 @@
--- Conditional expressions are read exactly.
-use Rattle.std.proofs.Common.{◌≡◌, ℕ, suc, ◌+◌, ◌≤◌, arith, Bool, true, false, List, [], ◌∷◌, ◌++◌, refl, ap, sym, ◌∙◌, subst, IsTrue, not, ◌&&◌, append_assoc, append-nil}
+-- Conditional expressions keep roles.
+use Rattle.std.proofs.Common.{ℕ, suc, ◌+◌, List, ◌≤◌, ◌≡◌, [], ◌∷◌, ◌++◌, ap, ◌∙◌, append_assoc, sym, subst, append-nil, refl, Bool, true, false, not, ◌&&◌, IsTrue, arith}
 use Rattle.c_spec.specs.declared.token.Punctuator.TheVariants as punctuator
 use Rattle.c_spec.specs.Lexical.{Placed}
 use Rattle.c_tree_spec.specs.Expression as tree
-use Rattle.c_grammar_spec.specs.declared.Role.TheVariants.{Nothing, OperandEnd}
+use Rattle.c_grammar_spec.specs.declared.Role.TheVariants.{OperandEnd, Nothing}
 use Rattle.c_grammar_spec.specs.Leaves.{Leaf, awaited, operates, mark, marks}
-use Rattle.c_grammar_spec.specs.Expressions.{operators, Binary, Conditional, logical_or, conditional}
-use Rattle.exact_read.specs.Reading.{plains, Stops}
-use Rattle.exact_read.specs.Exact.{Exact}
-use Rattle.exact_read.specs.Grammar.{anything, One, Map, Or, first, second, read_map, read_nothing, Nothing as Empty, nothing}
-use Rattle.exact_read.proofs.Parts.{exact-map, exact-same, exact-nothing, stops_anything, both}
-use Rattle.exact_read.proofs.Stop.{exact-stop, exact-enter}
-use Rattle.c_expression_reader.specs.Classes.{is_mark, mark_place}
-use Rattle.c_expression_reader.specs.Stops.{stop_binary, stop_conditional}
-use Rattle.c_expression_reader.specs.Readers.{Readers, token, behind, before, read_choice, read_conditional, choose}
+use Rattle.c_grammar_spec.specs.Expressions.{operators, Conditional, Binary, conditional, logical_or}
+use Rattle.exact_read.specs.Reading.{Stops, plains}
+use Rattle.exact_read.specs.Grammar.{Map, One, Or, Nothing as Empty, anything, first, second, nothing, read_map, read_nothing}
+use Rattle.exact_read.proofs.Parts.{stops_anything, both}
+use Rattle.c_expression_reader.specs.Classes.{mark_place, is_mark}
+use Rattle.c_expression_reader.specs.Stops.{stop_conditional, stop_binary}
+use Rattle.c_expression_reader.specs.Readers.{Readers, token, behind, before, read_choice, choose, read_conditional}
 use Rattle.c_expression_reader.specs.Exactness.{Closed}
-use Rattle.c_expression_reader.proofs.Marks.{mark-self, one-mark, mark-one, exact-closed, Behind, exact-behind, exact-opened, exact-choose}
+use Rattle.c_expression_reader.proofs.Marks.{Behind, one-mark, mark-one, roled-closed, roled-behind, mark-self, roled-opened, mark-some, roled-choose, behind_begins, behind_silent}
 use Rattle.c_expression_reader.proofs.Samples.{zero_tree, zero_text, zero_conditional}
 use Rattle.c_expression_reader.proofs.Suffixes.{within_operates}
-use Rattle.c_expression_reader.proofs.Levels.{Operands, exact-binary}
+use Rattle.c_expression_reader.proofs.Levels.{Operands, roled-binary}
+use Rattle.role_read.proofs.Basics.{roled-enter, roled-stop, roled-same}
+use Rattle.c_expression_reader.specs.Firm.{Firm}
+use Rattle.c_expression_reader.proofs.Firm.{firm-map, firm-nothing}
 
 -- the values behind a test
 abbrev pub ValuesText : (names : List (List ℕ)) → (depth count : ℕ) → (test : tree.Expression) → (place : ℕ) → tree.Expression → List Leaf → Type 0
@@ -34,9 +35,9 @@ MoreText names depth count test = Or (ChoiceText names depth (count + operators 
 abbrev pub ConditionalText : (names : List (List ℕ)) → (depth count : ℕ) → tree.Expression → List Leaf → Type 0
 ConditionalText names depth count = Behind (Binary names 10 depth count) (λ test. MoreText names depth count test)
 
--- conditional expressions are read exactly behind one operator more
+-- conditional expressions keep roles behind one operator more
 abbrev pub Branches : (names : List (List ℕ)) → Readers → (depth count : ℕ) → Type 0
-Branches names inner depth count = (c : ℕ) → suc count ≤ c → suc count ≤ 128 → Exact marks anything (Conditional names depth c) stop_conditional (inner.conditional depth c)
+Branches names inner depth count = (c : ℕ) → suc count ≤ c → suc count ≤ 128 → Firm anything (Conditional names depth c) stop_conditional (inner.conditional depth c)
 
 values_conditional : (names : List (List ℕ)) (depth count : ℕ) (test : tree.Expression) (left : List Leaf) (place : ℕ) (x : tree.Expression) (text : List Leaf) → Binary names 10 depth count test left → ValuesText names depth (count + operators test) test place x text
     → Conditional names depth count x (left ++ operates (suc (count + operators test)) (mark punctuator.Question place) ∷ text)
@@ -81,33 +82,6 @@ conditional_text names depth count x text (conditional d c y z w test one two pl
       cut = refl;
     }
 
-exact-values : (names : List (List ℕ)) (inner : Readers) (depth count c place : ℕ) (test : tree.Expression) → Branches names inner depth count → count ≤ c → suc c ≤ 128
-    → Exact marks anything (ValuesText names depth c test place) stop_conditional (behind (before (inner.conditional depth (suc c)) (token OperandEnd (awaited OperandEnd) (mark_place punctuator.Colon))) (λ y. read_map (λ z. tree.Conditional test y z place) (inner.conditional depth (suc c + operators y))))
-exact-values names inner depth count c place test branches least most =
-    exact-behind (exact-closed punctuator.Colon OperandEnd (awaited OperandEnd) (λ t. refl) (branches (suc c) (omega arith) (omega arith)) (λ x close. refl))
-    (λ y left one within. exact-enter anything (exact-map (λ z. tree.Conditional test y z place) stop_conditional (λ z. refl) (branches (suc c + operators y) (omega arith) (omega arith))))
-    record {
-      ends = λ y x left right rest one two stops. stops_anything (plains marks right ++ rest);
-      goes_on = λ y left one. (tree.Conditional test y zero_tree place, zero_text, record { inner = zero_tree; is = refl; spells = zero_conditional names depth (suc c + operators y) });
-    }
-
-exact-test : (names : List (List ℕ)) (inner : Readers) (depth count c : ℕ) (test : tree.Expression) → Branches names inner depth count → count ≤ c → Exact marks anything (ChoiceText names depth c test) stop_conditional (read_choice inner depth c test)
-exact-test names inner depth count c test branches least =
-    exact-opened (mark_place punctuator.Question) Nothing (operates (suc c)) (λ t. refl) (mark punctuator.Question 0) 0 (mark-self punctuator.Question 0)
-    (λ place. (
-      tree.Conditional test zero_tree zero_tree place,
-      zero_text ++ awaited OperandEnd (mark punctuator.Colon 0) ∷ zero_text,
-      record {
-        first = zero_tree;
-        left = zero_text ++ awaited OperandEnd (mark punctuator.Colon 0) ∷ [];
-        right = zero_text;
-        is_first = record { inside = zero_text; close = 0; spells = zero_conditional names depth (suc c); cut = refl };
-        is_second = record { inner = zero_tree; is = refl; spells = zero_conditional names depth (suc c + 0) };
-        cut = refl;
-      },
-    ))
-    (λ place t is within. exact-values names inner depth count c place test branches least (within_operates (suc c) t within))
-
 and-swap : (a b : Bool) → (b && not a) ≡ (not a && b)
 and-swap true true = refl
 and-swap true false = refl
@@ -143,21 +117,53 @@ more_ends : (names : List (List ℕ)) (depth count : ℕ) (test x : tree.Express
 more_ends names depth count test x text rest (first b) stops = subst (λ t. Stops (stop_binary 10 test) (plains marks t ++ rest)) (sym (question_first names depth (count + operators test) test x text b)) refl
 more_ends names depth count test x text rest (second nothing) stops = stops-right (λ t. not (is_mark punctuator.Question t.token)) (stop_binary 10 test) rest stops
 
-exact-more : (names : List (List ℕ)) (inner : Readers) (depth count : ℕ) (test : tree.Expression) → Branches names inner depth count → Exact marks (stop_binary 10 test) (MoreText names depth count test) stop_conditional (choose (is_mark punctuator.Question) (read_choice inner depth (count + operators test) test) (read_nothing test))
-exact-more names inner depth count test branches =
-    exact-choose (is_mark punctuator.Question)
+roled-values : (names : List (List ℕ)) (inner : Readers) (depth count c place : ℕ) (test : tree.Expression) → Branches names inner depth count → count ≤ c → suc c ≤ 128
+    → Firm anything (ValuesText names depth c test place) stop_conditional (behind (before (inner.conditional depth (suc c)) (token OperandEnd (awaited OperandEnd) (mark_place punctuator.Colon))) (λ y. read_map (λ z. tree.Conditional test y z place) (inner.conditional depth (suc c + operators y))))
+roled-values names inner depth count c place test branches least most =
+    roled-behind (roled-closed punctuator.Colon OperandEnd (awaited OperandEnd) (λ t. refl) (λ t. refl) (branches (suc c) (omega arith) (omega arith)) (λ x close. refl))
+    (λ y left one within. roled-enter anything (firm-map (λ z. tree.Conditional test y z place) stop_conditional (λ z. refl) (branches (suc c + operators y) (omega arith) (omega arith))))
+    record {
+      ends = λ y x left right rest one two stops. stops_anything (plains marks right ++ rest);
+      goes_on = λ y left one. (tree.Conditional test y zero_tree place, zero_text, record { inner = zero_tree; is = refl; spells = zero_conditional names depth (suc c + operators y) });
+    }
+
+some_values : (names : List (List ℕ)) (depth c : ℕ) (test : tree.Expression) (place : ℕ) → (x : tree.Expression) × (right : List Leaf) × ValuesText names depth c test place x right
+some_values names depth c test place = (
+  tree.Conditional test zero_tree zero_tree place,
+  zero_text ++ awaited OperandEnd (mark punctuator.Colon 0) ∷ zero_text,
+  record {
+    first = zero_tree;
+    left = zero_text ++ awaited OperandEnd (mark punctuator.Colon 0) ∷ [];
+    right = zero_text;
+    is_first = record { inside = zero_text; close = 0; spells = zero_conditional names depth (suc c); cut = refl };
+    is_second = record { inner = zero_tree; is = refl; spells = zero_conditional names depth (suc c + 0) };
+    cut = refl;
+  },
+)
+
+roled-test : (names : List (List ℕ)) (inner : Readers) (depth count c : ℕ) (test : tree.Expression) → Branches names inner depth count → count ≤ c → Firm anything (ChoiceText names depth c test) stop_conditional (read_choice inner depth c test)
+roled-test names inner depth count c test branches least =
+    roled-opened (mark_place punctuator.Question) Nothing (operates (suc c)) (λ t. refl) (λ t. refl) (mark punctuator.Question 0) 0 (mark-self punctuator.Question 0)
+    (some_values names depth c test)
+    (λ place t is within. roled-values names inner depth count c place test branches least (within_operates (suc c) t within))
+
+roled-more : (names : List (List ℕ)) (inner : Readers) (depth count : ℕ) (test : tree.Expression) → Branches names inner depth count → Firm (stop_binary 10 test) (MoreText names depth count test) stop_conditional (choose (is_mark punctuator.Question) (read_choice inner depth (count + operators test) test) (read_nothing test))
+roled-more names inner depth count test branches =
+    roled-choose (is_mark punctuator.Question)
     record {
       first_begins = λ x text b. (operates (suc (count + operators test)) (mark punctuator.Question b.first), b.right, question_first names depth (count + operators test) test x text b, refl);
       second_begins = λ x text rest one stops. empty_second test x text rest one stops;
     }
-    (exact-enter (both (stop_binary 10 test) (λ t. is_mark punctuator.Question t.token)) (exact-test names inner depth count (count + operators test) test branches (omega arith)))
-    (exact-stop stop_conditional (λ x text one t. empty_same test x text t one) (exact-nothing (both (stop_binary 10 test) (λ t. not (is_mark punctuator.Question t.token))) test))
+    (λ t e. behind_begins (mark_place punctuator.Question) (operates (suc (count + operators test))) (λ t. refl) t t.offset (mark-some punctuator.Question t e) (some_values names depth (count + operators test) test t.offset))
+    (behind_silent (mark_place punctuator.Question) (operates (suc (count + operators test))) (λ t. refl))
+    (roled-enter (both (stop_binary 10 test) (λ t. is_mark punctuator.Question t.token)) (roled-test names inner depth count (count + operators test) test branches (omega arith)))
+    (roled-stop stop_conditional (λ x text one t. empty_same test x text t one) (firm-nothing (both (stop_binary 10 test) (λ t. not (is_mark punctuator.Question t.token))) test))
 
-pub exact-conditional : (names : List (List ℕ)) (inner : Readers) (depth count : ℕ) → Operands names inner depth count → Branches names inner depth count → Exact marks anything (Conditional names depth count) stop_conditional (read_conditional inner depth count)
-exact-conditional names inner depth count is branches =
-    exact-same anything (Conditional names depth count) (read_conditional inner depth count) (λ t h. h) (text_conditional names depth count) (conditional_text names depth count) (λ tokens. refl)
-    (exact-behind (exact-binary names inner depth count 10 (omega arith) is count (omega arith))
-    (λ test left one within. exact-more names inner depth count test branches)
+pub roled-conditional : (names : List (List ℕ)) (inner : Readers) (depth count : ℕ) → Operands names inner depth count → Branches names inner depth count → Firm anything (Conditional names depth count) stop_conditional (read_conditional inner depth count)
+roled-conditional names inner depth count is branches =
+    roled-same anything (Conditional names depth count) (read_conditional inner depth count) (λ t h. h) (text_conditional names depth count) (conditional_text names depth count) (λ tokens. refl)
+    (roled-behind (roled-binary names inner depth count 10 (omega arith) is count (omega arith))
+    (λ test left one within. roled-more names inner depth count test branches)
     record {
       ends = λ test x left right rest one two stops. more_ends names depth count test x right rest two stops;
       goes_on = λ test left one. (test, [], second nothing);

@@ -1,31 +1,32 @@
--- Binary levels are read exactly.
-use Rattle.std.proofs.Common.{◌≡◌, ℕ, zero, suc, ◌+◌, ◌≤◌, ◌<◌, arith, Bool, true, false, List, [], ◌∷◌, ◌++◌, Option, Some, None, refl, ap, sym, ◌∙◌, subst, IsTrue, cond, not, ◌&&◌, ◌||◌, eqb-true, eq-eqb}
+-- Binary levels keep roles.
+use Rattle.std.proofs.Common.{◌≡◌, Some, ap, ℕ, refl, Bool, true, false, Option, None, cond, sym, ◌∙◌, eqb-true, eq-eqb, suc, List, [], ◌∷◌, zero, ◌<◌, arith, not, ◌&&◌, IsTrue, ◌||◌, ◌+◌, ◌++◌, subst, ◌≤◌}
 use Rattle.std.proofs.lemmas.Bool.{ne_eqb}
-use Rattle.std.specs.Prelude.{◌==◌}
+use Rattle.std.specs.Prelude.{◌==◌, option_map}
 use Rattle.c_spec.specs.declared.token.Punctuator.{Punctuator}
 use Rattle.c_spec.specs.declared.token.Punctuator.TheVariants as punctuator
-use Rattle.c_spec.specs.Lexical.{Placed, Token, Name as name_token, Word, Number as number_token, Character as character_token, Mark}
+use Rattle.c_spec.specs.Lexical.{Token, Name as name_token, Word, Number as number_token, Character as character_token, Mark, Placed}
 use Rattle.c_tree_spec.specs.declared.BinaryOperator.{BinaryOperator}
 use Rattle.c_tree_spec.specs.declared.BinaryOperator.TheVariants.{LogicalOr, LogicalAnd, BitOr, BitXor, BitAnd, Equal, NotEqual, Less, Greater, LessOrEqual, GreaterOrEqual, ShiftLeft, ShiftRight, Add, Subtract, Multiply, Divide, Remainder}
 use Rattle.c_tree_spec.specs.Expression as tree
 use Rattle.c_grammar_spec.specs.declared.Role.TheVariants.{Nothing}
-use Rattle.c_grammar_spec.specs.Leaves.{Leaf, operates, mark, marks}
-use Rattle.c_grammar_spec.specs.Expressions.{operators, binary_mark, level_of, Cast, Binary, operand, tighter, operation}
+use Rattle.c_grammar_spec.specs.Leaves.{mark, Leaf, operates, marks}
+use Rattle.c_grammar_spec.specs.Expressions.{binary_mark, level_of, Binary, operators, tighter, operation, Cast, operand}
 use Rattle.exact_read.specs.Reading.{Stops}
-use Rattle.exact_read.specs.Exact.{Exact}
-use Rattle.exact_read.specs.Grammar.{anything, One, Map, opens}
+use Rattle.exact_read.specs.Grammar.{One, opens, Map, anything}
 use Rattle.exact_read.specs.Folds.{Folded, base, step}
-use Rattle.exact_read.proofs.Parts.{exact-map, exact-same}
 use Rattle.exact_read.proofs.Many.{Items}
-use Rattle.exact_read.proofs.Folds.{exact-folded}
-use Rattle.exact_read.proofs.Stop.{exact-stop, exact-enter}
-use Rattle.c_expression_reader.specs.Classes.{is_mark, mark_place, binary_operator, with_place, is_level, of_level, is_up_to, is_suffix}
+use Rattle.c_expression_reader.specs.Classes.{binary_operator, is_level, with_place, of_level, is_up_to, is_suffix}
 use Rattle.c_expression_reader.specs.Classes as class
 use Rattle.c_expression_reader.specs.Stops.{stop_cast, stop_binary}
-use Rattle.c_expression_reader.specs.Readers.{Readers, Left, Operation, with_operation, next_left, left_of, read_operator, starts_level, starts_operation, read_binary}
-use Rattle.c_expression_reader.proofs.Marks.{Behind, exact-opened}
+use Rattle.c_expression_reader.specs.Readers.{Left, starts_operation, Operation, with_operation, left_of, Readers, starts_level, next_left, read_operator, read_binary}
+use Rattle.c_expression_reader.proofs.Marks.{Behind, some_value, behind_begins, roled-opened, behind_silent}
 use Rattle.c_expression_reader.proofs.Samples.{zero_tree, zero_text, zero_binary}
 use Rattle.c_expression_reader.proofs.Suffixes.{placed}
+use Rattle.role_read.proofs.Basics.{roled-same, roled-stop, roled-enter}
+use Rattle.role_read.proofs.Begins.{Begins}
+use Rattle.c_expression_reader.specs.Firm.{Firm}
+use Rattle.std.specs.Option.{is_some}
+use Rattle.c_expression_reader.proofs.Firm.{firm-map, firm-folded}
 
 -- the operators by their tokens
 binary-punctuator : (p : Punctuator) (o : BinaryOperator) → class.binary_mark p ≡ Some o → p ≡ binary_mark o
@@ -139,10 +140,6 @@ level-suffix level k e = by_test (is_suffix k) refl
 abbrev pub ends_level : (level : ℕ) → Left → Placed → Bool
 ends_level level left t = not (is_up_to level (binary_operator t.token)) && not (is_suffix t.token && left.1)
 
-or-left : (a b : Bool) → a ≡ true → IsTrue (a || b)
-or-left true b e = refl
-or-left false b e = absurd (cc)
-
 or-right : (a b : Bool) → IsTrue b → IsTrue (a || b)
 or-right true b e = refl
 or-right false b e = e
@@ -203,16 +200,9 @@ sample_of (suc (suc (suc (suc (suc (suc (suc (suc zero)))))))) h = (LogicalAnd, 
 sample_of (suc (suc (suc (suc (suc (suc (suc (suc (suc zero))))))))) h = (LogicalOr, refl)
 sample_of (suc (suc (suc (suc (suc (suc (suc (suc (suc (suc n)))))))))) h = absurd (omega arith)
 
--- operands are read exactly from this count on
+-- operands keep roles from this count on
 abbrev pub Operands : (names : List (List ℕ)) → Readers → (depth count : ℕ) → Type 0
-Operands names inner depth count = (c : ℕ) → count ≤ c → Exact marks anything (Cast names depth c) stop_cast (inner.cast depth c)
-
-exact-operation : (names : List (List ℕ)) (inner : Readers) (depth level c : ℕ) → level < 10 → Exact marks anything (Binary names level depth (suc c)) (stop_binary level) (read_binary inner depth level (suc c)) → Exact marks anything (OperationText names level depth c) (λ o. stop_binary level o.1) (read_operator (read_binary inner depth level) level c)
-exact-operation names inner depth level c small is =
-    let s = sample_of level small in
-    exact-opened (with_place (of_level (suc level))) Nothing (operates (suc c)) (λ t. refl) (mark (binary_mark s.0) 0) (s.0, 0) (rw (of-level-self (suc level) s.0 s.1) refl)
-    (λ o. ((o, zero_tree), zero_text, record { inner = zero_tree; is = refl; spells = zero_binary names level depth (suc c) }))
-    (λ o t at within. exact-map (λ y. (o, y)) (λ p. stop_binary level p.1) (λ y. refl) is)
+Operands names inner depth count = (c : ℕ) → count ≤ c → Firm anything (Cast names depth c) stop_cast (inner.cast depth c)
 
 operation_begins : (names : List (List ℕ)) (level depth c : ℕ) (o : Operation) (text : List Leaf) → OperationText names level depth c o text → (u : Leaf) × (more : List Leaf) × (text ≡ u ∷ more) × (starts_level (suc level) u.token.token ≡ true)
 operation_begins names level depth c o text b =
@@ -235,21 +225,45 @@ same_stops false true false = refl
 same_stops false false true = refl
 same_stops false false false = refl
 
-pub exact-binary : (names : List (List ℕ)) (inner : Readers) (depth count level : ℕ) → level ≤ 10 → Operands names inner depth count → (c : ℕ) → count ≤ c → Exact marks anything (Binary names level depth c) (stop_binary level) (read_binary inner depth level c)
-exact-binary names inner depth count zero small is c least =
-    exact-same anything (Binary names 0 depth c) (read_binary inner depth 0 c) (λ t h. h) (λ x text h. operand depth c x text h) from (λ tokens. refl) (is c least)
+some_operand : (names : List (List ℕ)) (level depth c : ℕ) (o : BinaryOperator × ℕ) → (p : Operation) × (right : List Leaf) × Map (λ y. (o, y)) (Binary names level depth (suc c)) p right
+some_operand names level depth c o = ((o, zero_tree), zero_text, record { inner = zero_tree; is = refl; spells = zero_binary names level depth (suc c) })
+
+level-found : (level : ℕ) (o : Option BinaryOperator) → is_level level o ≡ true → is_some o ≡ true
+level-found level None e = absurd (cc)
+level-found level (Some p) e = refl
+
+level-take : (level : ℕ) (o : Option BinaryOperator) (p : BinaryOperator) → is_level level o ≡ true → o ≡ Some p → cond (is_level level o) o None ≡ Some p
+level-take level o p e f = ap (λ b. cond b o None) e ∙ f
+
+begin_operation : (names : List (List ℕ)) (level depth c : ℕ) (t : Placed) → starts_level (suc level) t.token ≡ true → Begins marks (OperationText names level depth c) t
+begin_operation names level depth c t e =
+    let a = some_value (binary_operator t.token) (level-found (suc level) (binary_operator t.token) e) in
+    let found : of_level (suc level) t.token ≡ Some a.0 = level-take (suc level) (binary_operator t.token) a.0 e a.1 in
+    behind_begins (with_place (of_level (suc level))) (operates (suc c)) (λ t. refl) t (a.0, t.offset) (ap (option_map (λ o. (o, t.offset))) found) (some_operand names level depth c (a.0, t.offset))
+
+roled-operation : (names : List (List ℕ)) (inner : Readers) (depth level c : ℕ) → level < 10 → Firm anything (Binary names level depth (suc c)) (stop_binary level) (read_binary inner depth level (suc c)) → Firm anything (OperationText names level depth c) (λ o. stop_binary level o.1) (read_operator (read_binary inner depth level) level c)
+roled-operation names inner depth level c small is =
+    let s = sample_of level small in
+    roled-opened (with_place (of_level (suc level))) Nothing (operates (suc c)) (λ t. refl) (λ t. refl) (mark (binary_mark s.0) 0) (s.0, 0) (rw (of-level-self (suc level) s.0 s.1) refl)
+    (some_operand names level depth c)
+    (λ o t at within. firm-map (λ y. (o, y)) (λ p. stop_binary level p.1) (λ y. refl) is)
+
+pub roled-binary : (names : List (List ℕ)) (inner : Readers) (depth count level : ℕ) → level ≤ 10 → Operands names inner depth count → (c : ℕ) → count ≤ c → Firm anything (Binary names level depth c) (stop_binary level) (read_binary inner depth level c)
+roled-binary names inner depth count zero small is c least =
+    roled-same anything (Binary names 0 depth c) (read_binary inner depth 0 c) (λ t h. h) (λ x text h. operand depth c x text h) from (λ tokens. refl) (is c least)
   where
     from : (x : tree.Expression) (text : List Leaf) → Binary names 0 depth c x text → Cast names depth c x text
     from x text (operand d e y t h) = h
-exact-binary names inner depth count (suc level) small is c least =
-    exact-same anything (Binary names (suc level) depth c) (read_binary inner depth (suc level) c) (λ t h. h) (level_binary names level depth c) (binary_level names level depth c) (λ tokens. refl)
-    (exact-stop (stop_binary (suc level)) (λ x text h t. same_stops (is_up_to level (binary_operator t.token)) (is_level (suc level) (binary_operator t.token)) (stop_cast x t))
-    (exact-folded
+roled-binary names inner depth count (suc level) small is c least =
+    roled-same anything (Binary names (suc level) depth c) (read_binary inner depth (suc level) c) (λ t h. h) (level_binary names level depth c) (binary_level names level depth c) (λ tokens. refl)
+    (roled-stop (stop_binary (suc level)) (λ x text h t. same_stops (is_up_to level (binary_operator t.token)) (is_level (suc level) (binary_operator t.token)) (stop_cast x t))
+    (firm-folded
     record {
       steps = λ x o. refl;
       joins = λ x text one rest opened. joins_level level (left_of x) rest opened;
       leads = λ x rest stops. leads_level level (left_of x) rest stops;
     }
     (level_items names level depth c)
-    (exact-binary names inner depth count level (omega arith) is c least)
-    (λ left. exact-enter (starts_operation level left) (exact-operation names inner depth level (c + left.0) (omega arith) (exact-binary names inner depth count level (omega arith) is (suc (c + left.0)) (omega arith))))))
+    (λ left t e. begin_operation names level depth (c + left.0) t e) (λ left. behind_silent (with_place (of_level (suc level))) (operates (suc (c + left.0))) (λ t. refl))
+    (roled-binary names inner depth count level (omega arith) is c least)
+    (λ left. roled-enter (starts_operation level left) (roled-operation names inner depth level (c + left.0) (omega arith) (roled-binary names inner depth count level (omega arith) is (suc (c + left.0)) (omega arith))))))

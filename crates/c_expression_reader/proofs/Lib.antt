@@ -1,3 +1,4 @@
+pub mod Firm
 pub mod Marks
 pub mod Samples
 pub mod Suffixes

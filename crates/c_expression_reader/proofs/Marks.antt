@@ -1,27 +1,34 @@
--- Single tokens, and parts around them, are read exactly.
-use Rattle.std.proofs.Common.{◌≡◌, ℕ, Bool, true, false, List, [], ◌∷◌, ◌++◌, Ok, Err, Option, Some, None, refl, ap, sym, ◌∙◌, subst, IsTrue, cond, not}
-use denote.Enum.Bare.{sameb, same_true, true_same}
+-- Single tokens, and parts around them, keep roles.
+use Rattle.std.proofs.Common.{◌≡◌, ℕ, Some, refl, Bool, true, false, None, ap, cond, ◌∙◌, List, [], ◌∷◌, ◌++◌, Option, inl, Ok, Err, sym, subst, IsTrue, inr, not}
+use denote.Enum.Bare.{true_same, sameb, same_true}
 use Rattle.c_spec.specs.declared.token.Punctuator.{Punctuator}
 use Rattle.c_spec.specs.contracts.token.Punctuator.{the_type}
-use Rattle.c_spec.specs.Lexical.{Placed, Token, Name as name_token, Word, Number as number_token, Character as character_token, Mark}
+use Rattle.c_spec.specs.Lexical.{Token, Name as name_token, Word, Number as number_token, Character as character_token, Mark, Placed}
 use Rattle.c_grammar_spec.specs.declared.Role.{Role}
-use Rattle.c_grammar_spec.specs.Leaves.{Leaf, mark, marks, is_over}
-use Rattle.exact_read.specs.Reading.{Outcome, Reader, plains, Within, Stops}
+use Rattle.c_grammar_spec.specs.Leaves.{mark, Leaf, marks, is_over, roles}
+use Rattle.exact_read.specs.Reading.{Deep, Wrong, Outcome, Reader, plains, Stops, Within}
 use Rattle.exact_read.specs.Exact.{Exact}
-use Rattle.exact_read.specs.Grammar.{bind, anything, One, Map, Then, read_or, Or}
-use Rattle.exact_read.proofs.Parts.{exact-one, exact-map, exact-same, exact-or, stops_anything, Apart, both}
-use Rattle.exact_read.proofs.Then.{Joins, exact-then, exact-then_within}
-use Rattle.exact_read.proofs.Stop.{exact-enter}
-use Rattle.c_expression_reader.specs.Classes.{is_mark, mark_place}
-use Rattle.c_expression_reader.specs.Readers.{token, behind, before, choose}
+use Rattle.exact_read.specs.Grammar.{One, anything, bind, Map, Then, read_or, Or}
+use Rattle.exact_read.proofs.Parts.{exact-one, stops_anything, Apart, both}
+use Rattle.exact_read.proofs.Then.{Joins}
+use Rattle.c_expression_reader.specs.Classes.{mark_place, is_mark, with_place}
+use Rattle.c_expression_reader.specs.Readers.{token, before, behind, choose}
 use Rattle.c_expression_reader.specs.Exactness.{Closed}
+use Rattle.std.specs.Option.{is_some, option_map_or}
+use Rattle.std.specs.Prelude.{option_map}
+use Rattle.exact_read.proofs.Basics.{ok, err, err_parts}
+use Rattle.c_grammar_spec.specs.declared.Role.TheVariants.{Nothing}
+use Rattle.role_read.specs.Roles.{Roled}
+use Rattle.exact_read.specs.Awaited.{Next}
+use Rattle.role_read.proofs.Basics.{Meets, roled-map, roled-same, roled-enter}
+use Rattle.role_read.proofs.Then.{Follows, roled-then_within, silence}
+use Rattle.role_read.proofs.Begins.{Begins, Silent}
+use Rattle.role_read.proofs.Or.{roled-or, chooses_by}
+use Rattle.c_expression_reader.specs.Firm.{Firm, quiet}
+use Rattle.c_expression_reader.proofs.Firm.{firm-one}
 
 pub mark-self : (p : Punctuator) (place : ℕ) → mark_place p (mark p place) ≡ Some place
 mark-self p place = rw (true_same the_type p p refl) refl
-
-mark-test : (p q : Punctuator) (o place : ℕ) (b : Bool) → sameb the_type q p ≡ b → cond b (Some o) None ≡ Some place → mark q o ≡ mark p place
-mark-test p q o place true e f = let same : q ≡ p = same_true the_type tt q p e in let there : o ≡ place = cc in ap (λ r. mark r o) same ∙ ap (λ k. mark p k) there
-mark-test p q o place false e f = absurd (cc)
 
 mark-token : (p : Punctuator) (k : Token) (o place : ℕ) → cond (is_mark p k) (Some o) None ≡ Some place → (k ≡ Mark p) × (o ≡ place)
 mark-token p (Mark q) o place e = by_test (sameb the_type q p) refl e
@@ -60,12 +67,53 @@ mark-one p place x = record { token = mark p x; is = mark-self p x; cut = refl }
 pub exact-mark : (entry : Placed → Bool) (p : Punctuator) (role : Role) (place : Placed → Leaf) → Keeps place → Exact marks entry (One place (mark_place p)) (λ _. anything) (token role place (mark_place p))
 exact-mark entry p role place keeps = exact-one marks entry place (mark_place p) role keeps (mark p 0) 0 (mark-self p 0)
 
--- a part, and a punctuator behind it
-pub exact-closed : {X : Type 0} {entry : Placed → Bool} {S : X → List Leaf → Type 0} {stop : X → Placed → Bool} {read : Reader Placed Role X} (p : Punctuator) (role : Role) (place : Placed → Leaf) → Keeps place → Exact marks entry S stop read → ((x : X) (close : ℕ) → IsTrue (stop x (mark p close)))
-    → Exact marks entry (Closed place p S) (λ _. anything) (before read (token role place (mark_place p)))
-exact-closed {X} {entry} {S} {stop} {read} p role place keeps is ends =
-    exact-same entry (Closed place p S) (before read (token role place (mark_place p))) (λ t h. h) to from (λ tokens. same_read (read tokens))
-    (exact-map (λ (pair : X × ℕ). pair.0) (λ _. anything) (λ pair. refl) (exact-then is (λ x. exact-mark (stop x) p role place keeps) joins))
+-- a part, and another behind it whose value is kept
+pub record Behind {X Y : Type 0} (S1 : X → List Leaf → Type 0) (S2 : X → Y → List Leaf → Type 0) (y : Y) (text : List Leaf) : Type 0 where
+  pub first : X
+  pub left : List Leaf
+  pub right : List Leaf
+  pub is_first : S1 first left
+  pub is_second : S2 first y right
+  pub cut : text ≡ left ++ right
+
+-- a token is placed with this role
+abbrev pub Says : (Placed → Leaf) → Role → Type 0
+Says place role = (t : Placed) → (place t).role ≡ role
+
+-- a token that is a punctuator is one of its class
+pub mark-some : (p : Punctuator) (t : Placed) → is_mark p t.token ≡ true → mark_place p t ≡ Some t.offset
+mark-some p t e = rw e refl
+
+-- a class that has some value
+pub some_value : {A : Type 0} (o : Option A) → is_some o ≡ true → (a : A) × (o ≡ Some a)
+some_value None e = absurd (cc)
+some_value (Some a) e = (a, refl)
+
+pub roled-mark : (entry : Placed → Bool) (p : Punctuator) (role : Role) (place : Placed → Leaf) → Keeps place → Says place role → Firm entry (One place (mark_place p)) (λ _. anything) (token role place (mark_place p))
+roled-mark entry p role place keeps says = firm-one entry place (mark_place p) role keeps says (mark p 0) 0 (mark-self p 0)
+
+pub one_first : {X : Type 0} {place : Placed → Leaf} {class : Placed → Option X} (x : X) (u : Leaf) (more : List Leaf) (o : One place class x (u ∷ more)) → u ≡ place o.token
+one_first {place = place} x u more o = let e : u ∷ more ≡ place o.token ∷ [] = o.cut in cc
+
+-- the role by which a token is called wrong
+pub token_wrong : {X : Type 0} (role : Role) (place : Placed → Leaf) (class : Placed → Option X) (tokens : List Placed) (kind : Role) (rest : List Placed) → token role place class tokens ≡ err {X = X} (Wrong kind) rest → kind ≡ role
+token_wrong {X} role place class [] kind rest e = let f : Wrong role ≡ Wrong kind = (err_parts {X = X} e).0 in cc
+token_wrong {X} role place class (t ∷ more) kind rest e = by_class (class t) e
+  where
+    by_mark : (x : X) (b : Bool) → cond b (err Deep (t ∷ more)) (ok x more) ≡ err {X = X} (Wrong kind) rest → kind ≡ role
+    by_mark x true e = absurd (let f : Deep ≡ Wrong kind = (err_parts {X = X} e).0 in cc)
+    by_mark x false e = absurd (cc)
+
+    by_class : (o : Option X) → option_map_or (λ x. cond (is_over (place t)) (err Deep (t ∷ more)) (ok x more)) o (err (Wrong role) (t ∷ more)) ≡ err {X = X} (Wrong kind) rest → kind ≡ role
+    by_class None e = let f : Wrong role ≡ Wrong kind = (err_parts {X = X} e).0 in cc
+    by_class (Some x) e = by_mark x (is_over (place t)) e
+
+-- a part, and a punctuator behind it: what is told at its end is awaited there
+pub roled-closed_by : {X : Type 0} {entry : Placed → Bool} {S : X → List Leaf → Type 0} {stop : X → Placed → Bool} {ending : X → Role} {Loose : Type 0} {read : Reader Placed Role X} (p : Punctuator) (role : Role) (place : Placed → Leaf) → Keeps place → Says place role → ((x : X) → Meets roles (ending x) role) → (Loose → role ≡ Nothing) → Roled marks roles entry S stop ending Loose read → ((x : X) (close : ℕ) → IsTrue (stop x (mark p close)))
+    → Firm entry (Closed place p S) (λ _. anything) (before read (token role place (mark_place p)))
+roled-closed_by {X} {entry} {S} {stop} {ending} {Loose} {read} p role place keeps says meets loose is ends =
+    roled-same entry (Closed place p S) (before read (token role place (mark_place p))) (λ t h. h) to from (λ tokens. same_read (read tokens))
+    (roled-map (λ (pair : X × ℕ). pair.0) (λ _. anything) quiet (λ pair. refl) (λ pair. inl refl) (roled-then_within is (λ x left one within. roled-mark (stop x) p role place keeps says) joins follows))
   where
     same_token : (x : X) (o : Outcome Placed Role ℕ) → bind o (λ _ after. Ok (x, after)) ≡ bind {X = X × ℕ} (bind o (λ y after. Ok ((x, y), after))) (λ pair after. Ok (pair.0, after))
     same_token x (Ok found) = refl
@@ -89,21 +137,36 @@ exact-closed {X} {entry} {S} {stop} {read} p role place keeps is ends =
           goes_on = λ x left one. (0, place (mark p 0) ∷ [], mark-one p place 0);
         }
 
--- a part, and another behind it whose value is kept
-pub record Behind {X Y : Type 0} (S1 : X → List Leaf → Type 0) (S2 : X → Y → List Leaf → Type 0) (y : Y) (text : List Leaf) : Type 0 where
-  pub first : X
-  pub left : List Leaf
-  pub right : List Leaf
-  pub is_first : S1 first left
-  pub is_second : S2 first y right
-  pub cut : text ≡ left ++ right
+    no_token : (close : ℕ) → One place (mark_place p) close [] → ⊥
+    no_token close o = let e : [] ≡ place o.token ∷ [] = o.cut in cc
 
-pub exact-behind : {X Y : Type 0} {entry : Placed → Bool} {S1 : X → List Leaf → Type 0} {stop1 : X → Placed → Bool} {first : Reader Placed Role X} {S2 : X → Y → List Leaf → Type 0} {stop : Y → Placed → Bool} {second : X → Reader Placed Role Y}
-    → Exact marks entry S1 stop1 first → ((x : X) (left : List Leaf) → S1 x left → Within marks left → Exact marks (stop1 x) (S2 x) stop (second x)) → Joins marks S1 stop1 S2 (λ _. stop)
-    → Exact marks entry (Behind S1 S2) stop (behind first second)
-exact-behind {X} {Y} {entry} {S1} {stop1} {first} {S2} {stop} {second} one two joins =
-    exact-same entry (Behind S1 S2) (behind first second) (λ t h. h) to from (λ tokens. same_read (first tokens))
-    (exact-map (λ (pair : X × Y). pair.1) stop (λ pair. refl) (exact-then_within one two joins))
+    first_says : (u : Leaf) → Next marks (One place (mark_place p)) [] u → u.role ≡ role
+    first_says u n = by_before n.before n.spells n.same
+      where
+        by_before : (front : List Leaf) → One place (mark_place p) n.value (front ++ u ∷ n.more) → plains marks front ≡ [] → u.role ≡ role
+        by_before [] o same = ap (λ (l : Leaf). l.role) (one_first n.value u n.more o) ∙ says o.token
+        by_before (v ∷ front) o same = absurd (cc)
+
+    follows : Follows marks roles S stop ending Loose (λ _. One place (mark_place p)) (λ _. quiet) ⊥ (λ _. token role place (mark_place p))
+    follows =
+        record {
+          between = λ x left kind rest one stops e. subst (Meets roles (ending x)) (sym (token_wrong role place (mark_place p) rest kind rest e)) (meets x);
+          empty = λ x close left one two. absurd (no_token close two);
+          loose = λ is_loose x left u one n. first_says u n ∙ loose is_loose;
+          loose_empty = λ is_loose x close left one two. no_token close two;
+        }
+
+pub roled-closed : {X : Type 0} {entry : Placed → Bool} {S : X → List Leaf → Type 0} {stop : X → Placed → Bool} {read : Reader Placed Role X} (p : Punctuator) (role : Role) (place : Placed → Leaf) → Keeps place → Says place role → Firm entry S stop read → ((x : X) (close : ℕ) → IsTrue (stop x (mark p close)))
+    → Firm entry (Closed place p S) (λ _. anything) (before read (token role place (mark_place p)))
+roled-closed p role place keeps says is ends = roled-closed_by p role place keeps says (λ x. inl refl) (λ never. absurd never) is ends
+
+-- a part, and another behind it whose value is kept
+pub roled-behind : {X Y : Type 0} {entry : Placed → Bool} {S1 : X → List Leaf → Type 0} {stop1 : X → Placed → Bool} {first : Reader Placed Role X} {S2 : X → Y → List Leaf → Type 0} {stop : Y → Placed → Bool} {ending : Y → Role} {Loose : Type 0} {second : X → Reader Placed Role Y}
+    → Firm entry S1 stop1 first → ((x : X) (left : List Leaf) → S1 x left → Within marks left → Roled marks roles (stop1 x) (S2 x) stop ending Loose (second x)) → Joins marks S1 stop1 S2 (λ _. stop)
+    → Roled marks roles entry (Behind S1 S2) stop ending Loose (behind first second)
+roled-behind {X} {Y} {entry} {S1} {stop1} {first} {S2} {stop} {ending} {Loose} {second} one two joins =
+    roled-same entry (Behind S1 S2) (behind first second) (λ t h. h) to from (λ tokens. same_read (first tokens))
+    (roled-map (λ (pair : X × Y). pair.1) stop ending (λ pair. refl) (λ pair. inr refl) (roled-then_within one two joins (silence marks roles S1 stop1 S2 (λ _. ending) Loose second)))
   where
     same_second : (x : X) (o : Outcome Placed Role Y) → o ≡ bind {X = X × Y} (bind o (λ y after. Ok ((x, y), after))) (λ pair after. Ok (pair.1, after))
     same_second x (Ok (y, after)) = refl
@@ -121,11 +184,11 @@ exact-behind {X} {Y} {entry} {S1} {stop1} {first} {S2} {stop} {second} one two j
     from y text b = record { inner = (b.first, y); is = refl; spells = record { left = b.left; right = b.right; cut = b.cut; first = b.is_first; second = b.is_second } }
 
 -- a token, and a part behind it: where at the token not too much is open
-pub exact-opened : {X Y : Type 0} {S2 : X → Y → List Leaf → Type 0} {stop : Y → Placed → Bool} {second : X → Reader Placed Role Y} (class : Placed → Option X) (role : Role) (place : Placed → Leaf) → Keeps place → (t : Placed) (value : X) → class t ≡ Some value
-    → ((x : X) → (y : Y) × (right : List Leaf) × S2 x y right) → ((x : X) (t : Placed) → class t ≡ Some x → is_over (place t) ≡ false → Exact marks anything (S2 x) stop (second x))
-    → Exact marks anything (Behind (One place class) S2) stop (behind (token role place class) second)
-exact-opened {X} {Y} {S2} {stop} {second} class role place keeps t value is some two =
-    exact-behind (exact-one marks anything place class role keeps t value is)
+pub roled-opened : {X Y : Type 0} {S2 : X → Y → List Leaf → Type 0} {stop : Y → Placed → Bool} {ending : Y → Role} {Loose : Type 0} {second : X → Reader Placed Role Y} (class : Placed → Option X) (role : Role) (place : Placed → Leaf) → Keeps place → Says place role → (t : Placed) (value : X) → class t ≡ Some value
+    → ((x : X) → (y : Y) × (right : List Leaf) × S2 x y right) → ((x : X) (t : Placed) → class t ≡ Some x → is_over (place t) ≡ false → Roled marks roles anything (S2 x) stop ending Loose (second x))
+    → Roled marks roles anything (Behind (One place class) S2) stop ending Loose (behind (token role place class) second)
+roled-opened {X} {Y} {S2} {stop} {ending} {Loose} {second} class role place keeps says t value is some two =
+    roled-behind (firm-one anything place class role keeps says t value is)
     (λ x left one within. two x one.token one.is (first_within left (place one.token) one.cut within))
     record {
       ends = λ x y left right rest one two stops. stops_anything (plains marks right ++ rest);
@@ -135,17 +198,69 @@ exact-opened {X} {Y} {S2} {stop} {second} class role place keeps t value is some
     first_within : (left : List Leaf) (leaf : Leaf) → left ≡ leaf ∷ [] → Within marks left → is_over leaf ≡ false
     first_within left leaf cut within = (subst (Within marks) cut within).0
 
--- one of two parts by the next token
-pub exact-choose : {X : Type 0} {entry : Placed → Bool} {S1 S2 : X → List Leaf → Type 0} {stop : X → Placed → Bool} {one two : Reader Placed Role X} (test : Token → Bool) → Apart marks (λ t. test t.token) S1 S2 stop
-    → Exact marks (both entry (λ t. test t.token)) S1 stop one → Exact marks (both entry (λ t. not (test t.token))) S2 stop two → Exact marks entry (Or S1 S2) stop (choose test one two)
-exact-choose {entry = entry} {S1 = S1} {S2 = S2} {one = one} {two = two} test apart one_is two_is =
-    exact-same entry (Or S1 S2) (choose test one two) (λ t h. h) (λ x text h. h) (λ x text h. h) same (exact-or (λ t. test t.token) apart one_is two_is)
+-- what a token and a part behind it begin with
+pub behind_begins : {X Y : Type 0} {S2 : X → Y → List Leaf → Type 0} (class : Placed → Option X) (place : Placed → Leaf) → Keeps place → (t : Placed) (x : X) → class t ≡ Some x → (y : Y) × (right : List Leaf) × S2 x y right → Begins marks (Behind (One place class) S2) t
+behind_begins class place keeps t x is some =
+    record { value = some.0; first = place t; more = some.1; spells = record { first = x; left = place t ∷ []; right = some.1; is_first = record { token = t; is = is; cut = refl }; is_second = some.2; cut = refl }; is = keeps t }
+
+pub behind_silent : {X Y : Type 0} {S2 : X → Y → List Leaf → Type 0} (class : Placed → Option X) (place : Placed → Leaf) → Says place Nothing → Silent marks roles (Behind (One place class) S2)
+behind_silent class place says y u more b =
+    let e : u ∷ more ≡ place b.is_first.token ∷ b.right = b.cut ∙ ap (λ t. t ++ b.right) b.is_first.cut in
+    let head : u ≡ place b.is_first.token = cc in
+    ap (λ (l : Leaf). l.role) head ∙ says b.is_first.token
+
+-- one of two parts by the next token: each token that passes the test begins the first part, which tells nothing there
+pub roled-choose : {X : Type 0} {entry : Placed → Bool} {S1 S2 : X → List Leaf → Type 0} {stop : X → Placed → Bool} {ending : X → Role} {Loose : Type 0} {one two : Reader Placed Role X} (test : Token → Bool) → Apart marks (λ t. test t.token) S1 S2 stop
+    → ((t : Placed) → test t.token ≡ true → Begins marks S1 t) → Silent marks roles S1
+    → Roled marks roles (both entry (λ t. test t.token)) S1 stop ending Loose one → Roled marks roles (both entry (λ t. not (test t.token))) S2 stop ending Loose two → Roled marks roles entry (Or S1 S2) stop ending Loose (choose test one two)
+roled-choose {entry = entry} {S1 = S1} {S2 = S2} {one = one} {two = two} test apart begins silent one_is two_is =
+    roled-same entry (Or S1 S2) (choose test one two) (λ t h. h) (λ x text h. h) (λ x text h. h) same (roled-or (λ t. test t.token) apart (chooses_by (λ t. test t.token) one_is.exact begins silent) one_is two_is)
   where
     same : (tokens : List Placed) → choose test one two tokens ≡ read_or (λ t. test t.token) one two tokens
     same [] = refl
     same (t ∷ tokens) = refl
 
 -- the same where nothing is asked of the next token before
-pub exact-choice : {X : Type 0} {S1 S2 : X → List Leaf → Type 0} {stop : X → Placed → Bool} {one two : Reader Placed Role X} (test : Token → Bool) → Apart marks (λ t. test t.token) S1 S2 stop
-    → Exact marks anything S1 stop one → Exact marks anything S2 stop two → Exact marks anything (Or S1 S2) stop (choose test one two)
-exact-choice test apart one_is two_is = exact-choose test apart (exact-enter (both anything (λ t. test t.token)) one_is) (exact-enter (both anything (λ t. not (test t.token))) two_is)
+pub roled-choice : {X : Type 0} {S1 S2 : X → List Leaf → Type 0} {stop : X → Placed → Bool} {ending : X → Role} {Loose : Type 0} {one two : Reader Placed Role X} (test : Token → Bool) → Apart marks (λ t. test t.token) S1 S2 stop
+    → ((t : Placed) → test t.token ≡ true → Begins marks S1 t) → Silent marks roles S1
+    → Roled marks roles anything S1 stop ending Loose one → Roled marks roles anything S2 stop ending Loose two → Roled marks roles anything (Or S1 S2) stop ending Loose (choose test one two)
+roled-choice test apart begins silent one_is two_is = roled-choose test apart begins silent (roled-enter (both anything (λ t. test t.token)) one_is) (roled-enter (both anything (λ t. not (test t.token))) two_is)
+
+-- a part with its value changed begins as it does
+pub map_begins : {X Y : Type 0} {S : X → List Leaf → Type 0} (change : X → Y) (t : Placed) → Begins marks S t → Begins marks (Map change S) t
+map_begins change t b = record { value = change b.value; first = b.first; more = b.more; spells = record { inner = b.value; is = refl; spells = b.spells }; is = b.is }
+
+pub map_silent : {X Y : Type 0} {S : X → List Leaf → Type 0} (change : X → Y) → Silent marks roles S → Silent marks roles (Map change S)
+map_silent change silent y u more m = silent m.inner u more m.spells
+
+-- texts in another form begin as they do
+pub same_begins : {X : Type 0} {S S' : X → List Leaf → Type 0} → ((x : X) (text : List Leaf) → S x text → S' x text) → (t : Placed) → Begins marks S t → Begins marks S' t
+same_begins to t b = record { value = b.value; first = b.first; more = b.more; spells = to b.value (b.first ∷ b.more) b.spells; is = b.is }
+
+-- a class with the place beside it
+pub placed-some : {A : Type 0} (class : Token → Option A) (t : Placed) → is_some (class t.token) ≡ true → (found : A × ℕ) × (with_place class t ≡ Some found)
+placed-some class t e = let a = some_value (class t.token) e in ((a.0, t.offset), ap (option_map (λ b. (b, t.offset))) a.1)
+
+-- a part and another behind it begin as the first
+pub first_begins : {X Y : Type 0} {S1 : X → List Leaf → Type 0} {S2 : X → Y → List Leaf → Type 0} (t : Placed) → Begins marks S1 t → ((x : X) → (y : Y) × (right : List Leaf) × S2 x y right) → Begins marks (Behind S1 S2) t
+first_begins t b some =
+    let s = some b.value in
+    record { value = s.0; first = b.first; more = b.more ++ s.1; spells = record { first = b.value; left = b.first ∷ b.more; right = s.1; is_first = b.spells; is_second = s.2; cut = refl }; is = b.is }
+
+pub closed_begins : {X : Type 0} {S : X → List Leaf → Type 0} (place : Placed → Leaf) (p : Punctuator) (t : Placed) → Begins marks S t → Begins marks (Closed place p S) t
+closed_begins place p t b = record { value = b.value; first = b.first; more = b.more ++ place (mark p 0) ∷ []; spells = record { inside = b.first ∷ b.more; close = 0; spells = b.spells; cut = refl }; is = b.is }
+
+-- where the first part is never empty, both tell nothing where it does
+pub first_silent : {X Y : Type 0} {S1 : X → List Leaf → Type 0} {S2 : X → Y → List Leaf → Type 0} → ((x : X) → S1 x [] → ⊥) → Silent marks roles S1 → Silent marks roles (Behind S1 S2)
+first_silent {X} {Y} {S1} {S2} some silent y u more b = by_left b.left b.is_first b.cut
+  where
+    by_left : (left : List Leaf) → S1 b.first left → u ∷ more ≡ left ++ b.right → u.role ≡ Nothing
+    by_left [] one e = absurd (some b.first one)
+    by_left (v ∷ left) one e = let head : v ≡ u = cc in subst (λ (l : Leaf). l.role ≡ Nothing) head (silent b.first v left one)
+
+pub closed_silent : {X : Type 0} {S : X → List Leaf → Type 0} (place : Placed → Leaf) (p : Punctuator) → ((x : X) → S x [] → ⊥) → Silent marks roles S → Silent marks roles (Closed place p S)
+closed_silent {X} {S} place p some silent x u more c = by_inside c.inside c.spells c.cut
+  where
+    by_inside : (inside : List Leaf) → S x inside → u ∷ more ≡ inside ++ place (mark p c.close) ∷ [] → u.role ≡ Nothing
+    by_inside [] one e = absurd (some x one)
+    by_inside (v ∷ inside) one e = let head : v ≡ u = cc in subst (λ (l : Leaf). l.role ≡ Nothing) head (silent x v inside one)

@@ -1,5 +1,5 @@
 -- There is an expression everywhere: the constant 0.
-use Rattle.std.proofs.Common.{ℕ, zero, suc, List, [], ◌∷◌}
+use Rattle.std.proofs.Common.{List, [], ◌∷◌, ℕ, zero, suc}
 use Rattle.c_spec.specs.declared.token.NumberType.TheVariants.{SignedInt}
 use Rattle.c_tree_spec.specs.Expression as tree
 use Rattle.c_grammar_spec.specs.Leaves.{Leaf, plain, number}

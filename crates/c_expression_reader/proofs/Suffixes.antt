@@ -1,31 +1,33 @@
--- Postfix expressions are read exactly.
-use Rattle.std.proofs.Common.{◌≡◌, ℕ, suc, ◌+◌, ◌≤◌, arith, Bool, true, false, List, [], ◌∷◌, ◌++◌, Option, Some, None, refl, ap, sym, ◌∙◌, subst, IsTrue, not, ◌&&◌, ◌||◌, ltb-false}
+-- Postfix expressions keep roles.
+use Rattle.std.proofs.Common.{◌≡◌, ℕ, Some, ap, List, [], ◌∷◌, ◌∙◌, refl, Option, None, suc, ◌+◌, ◌++◌, ◌≤◌, Bool, true, false, ◌||◌, ltb-false, sym, subst, not, IsTrue, ◌&&◌, arith}
 use Rattle.std.specs.Prelude.{option_map, nat_lt}
 use Rattle.c_spec.specs.declared.token.Punctuator.{Punctuator}
 use Rattle.c_spec.specs.declared.token.Punctuator.TheVariants as punctuator
-use Rattle.c_spec.specs.Lexical.{Placed, Token, Name as name_token, Word, Number as number_token, Character as character_token, Mark}
+use Rattle.c_spec.specs.Lexical.{Token, Name as name_token, Word, Number as number_token, Character as character_token, Mark, Placed}
 use Rattle.c_tree_spec.specs.declared.Access.{Access}
 use Rattle.c_tree_spec.specs.declared.Access.TheVariants.{Dot, Arrow}
 use Rattle.c_tree_spec.specs.Expression as tree
 use Rattle.c_grammar_spec.specs.declared.Role.{Role}
-use Rattle.c_grammar_spec.specs.declared.Role.TheVariants.{Nothing, OperandEnd}
-use Rattle.c_grammar_spec.specs.Leaves.{Leaf, plain, awaited, operates, brackets, mark, named, marks, is_over}
-use Rattle.c_grammar_spec.specs.Expressions.{operators, access_mark, Conditional}
-use Rattle.exact_read.specs.Reading.{Reader, plains, Stops}
-use Rattle.exact_read.specs.Exact.{Exact}
-use Rattle.exact_read.specs.Grammar.{anything, One, Map, Or, first, second}
+use Rattle.c_grammar_spec.specs.declared.Role.TheVariants.{OperandEnd, Nothing}
+use Rattle.c_grammar_spec.specs.Leaves.{named, Leaf, plain, mark, awaited, operates, brackets, is_over, marks, roles}
+use Rattle.c_grammar_spec.specs.Expressions.{access_mark, Conditional, operators}
+use Rattle.exact_read.specs.Reading.{plains, Stops, Reader}
+use Rattle.exact_read.specs.Grammar.{One, anything, Map, first, Or, second}
 use Rattle.exact_read.specs.Folds.{Folded, base, step}
-use Rattle.exact_read.proofs.Parts.{exact-one, exact-map, exact-same, stops_anything, Apart, both}
+use Rattle.exact_read.proofs.Parts.{Apart, stops_anything, both}
 use Rattle.exact_read.proofs.Many.{Items}
-use Rattle.exact_read.proofs.Folds.{exact-folded}
-use Rattle.exact_read.proofs.Stop.{exact-stop, exact-enter}
-use Rattle.c_expression_reader.specs.Classes.{is_mark, mark_place, name_at, name_of, access_operator, with_place, is_suffix}
+use Rattle.c_expression_reader.specs.Classes.{name_of, name_at, access_operator, with_place, mark_place, is_mark, is_suffix}
 use Rattle.c_expression_reader.specs.Classes as class
-use Rattle.c_expression_reader.specs.Stops.{ends_postfix, stop_cast, stop_conditional}
-use Rattle.c_expression_reader.specs.Readers.{Readers, before, Suffix, ByIndex, ByMember, with_suffix, count_suffix, read_index, read_member, read_suffix, starts_suffix, read_suffixes}
+use Rattle.c_expression_reader.specs.Stops.{stop_conditional, ends_postfix, stop_cast}
+use Rattle.c_expression_reader.specs.Readers.{Suffix, ByIndex, ByMember, Readers, with_suffix, count_suffix, starts_suffix, before, read_index, read_member, read_suffix, read_suffixes}
 use Rattle.c_expression_reader.specs.Exactness.{Closed}
-use Rattle.c_expression_reader.proofs.Marks.{mark-self, mark-passes, one-mark, mark-one, exact-closed, Behind, exact-opened, exact-choose}
+use Rattle.c_expression_reader.proofs.Marks.{Behind, one-mark, mark-one, mark-passes, mark-self, roled-closed, roled-opened, mark-some, behind_begins, roled-choose, behind_silent, same_begins, placed-some}
 use Rattle.c_expression_reader.proofs.Samples.{zero_tree, zero_text, zero_conditional}
+use Rattle.role_read.proofs.Basics.{roled-same, roled-enter, roled-stop}
+use Rattle.role_read.proofs.Begins.{Begins, Silent}
+use Rattle.c_expression_reader.specs.Firm.{Firm}
+use Rattle.std.specs.Option.{is_some}
+use Rattle.c_expression_reader.proofs.Firm.{firm-map, firm-one, firm-folded}
 
 -- a name is told by its token
 name-token : (k : Token) (o : ℕ) (n : tree.Name) → name_of k o ≡ Some n → record { token = k; offset = o } ≡ named n
@@ -82,7 +84,7 @@ pub data SuffixText (names : List (List ℕ)) (depth count : ℕ) : Suffix → L
 
 -- the reader of what stands in brackets here
 abbrev pub Inside : (names : List (List ℕ)) → Readers → (depth count : ℕ) → Type 0
-Inside names inner depth count = (c : ℕ) → suc depth ≤ 128 → suc c ≤ 128 → count ≤ c → Exact marks anything (Conditional names (suc depth) (suc c)) stop_conditional (inner.conditional (suc depth) (suc c))
+Inside names inner depth count = (c : ℕ) → suc depth ≤ 128 → suc c ≤ 128 → count ≤ c → Firm anything (Conditional names (suc depth) (suc c)) stop_conditional (inner.conditional (suc depth) (suc c))
 
 or-false : (a b : Bool) → (a || b) ≡ false → (a ≡ false) × (b ≡ false)
 or-false true b e = absurd (cc)
@@ -159,27 +161,6 @@ apart_suffix names depth count =
           subst (λ t. Stops (λ t. not (is_mark punctuator.LeftBracket t.token)) (plains marks t ++ rest)) (sym (b.cut ∙ ap (λ t. t ++ b.right) b.is_first.cut)) (rw no refl);
     }
 
-exact-index : (names : List (List ℕ)) (inner : Readers) (depth count c : ℕ) → Inside names inner depth count → count ≤ c → Exact marks anything (IndexText names depth c) (λ _. anything) (read_index inner depth c)
-exact-index names inner depth count c inside least =
-    exact-opened (mark_place punctuator.LeftBracket) Nothing (brackets (suc depth) (suc c)) (λ t. refl) (mark punctuator.LeftBracket 0) 0 (mark-self punctuator.LeftBracket 0)
-    (λ place. (ByIndex zero_tree place, zero_text ++ awaited OperandEnd (mark punctuator.RightBracket 0) ∷ [], record { inner = zero_tree; is = refl; spells = record { inside = zero_text; close = 0; spells = zero_conditional names (suc depth) (suc c); cut = refl } }))
-    (λ place t is within. let h = within_brackets (suc depth) (suc c) t within in
-    exact-map (λ index. ByIndex index place) (λ _. anything) (λ index. refl)
-    (exact-closed punctuator.RightBracket OperandEnd (awaited OperandEnd) (λ t. refl) (inside c h.0 h.1 least) (λ x close. refl)))
-
-exact-member : (c : ℕ) → Exact marks anything (MemberText c) (λ _. anything) (read_member c)
-exact-member c =
-    exact-opened (with_place access_operator) Nothing (operates (suc c)) (λ t. refl) (mark punctuator.Dot 0) (Dot, 0) refl
-    (λ access. (ByMember access.0 (record { spelling = []; place = 0 }) access.1, plain (named (record { spelling = []; place = 0 })) ∷ [], record { inner = record { spelling = []; place = 0 }; is = refl; spells = name-one (record { spelling = []; place = 0 }) }))
-    (λ access t is within. exact-map (λ name. ByMember access.0 name access.1) (λ _. anything) (λ name. refl) (exact-one marks anything plain name_at Nothing (λ t. refl) (named (record { spelling = []; place = 0 })) (record { spelling = []; place = 0 }) refl))
-
-exact-suffix : (names : List (List ℕ)) (inner : Readers) (depth count c : ℕ) → Inside names inner depth count → count ≤ c → (entry : Placed → Bool) → Exact marks entry (SuffixText names depth c) (λ _. anything) (read_suffix inner depth c)
-exact-suffix names inner depth count c inside least entry =
-    exact-same entry (SuffixText names depth c) (read_suffix inner depth c) (λ t h. h) (or_suffix names depth c) (suffix_or names depth c) (λ tokens. refl)
-    (exact-choose (is_mark punctuator.LeftBracket) (apart_suffix names depth c)
-    (exact-enter (both entry (λ t. is_mark punctuator.LeftBracket t.token)) (exact-index names inner depth count c inside least))
-    (exact-enter (both entry (λ t. not (is_mark punctuator.LeftBracket t.token))) (exact-member c)))
-
 -- a part with what stands behind it
 abbrev pub Suffixed : (names : List (List ℕ)) → (depth count : ℕ) → (Base : tree.Expression → List Leaf → Type 0) → tree.Expression → List Leaf → Type 0
 Suffixed names depth count Base = Folded with_suffix operators Base (λ c. SuffixText names depth (count + c))
@@ -220,17 +201,67 @@ suffixed_ends names depth count Base ends x text (base y t one) = ends y t one
 suffixed_ends names depth count Base ends x text (step y (ByIndex index place) left right before one) = refl
 suffixed_ends names depth count Base ends x text (step y (ByMember access member place) left right before one) = refl
 
-pub exact-suffixed : (names : List (List ℕ)) (inner : Readers) (depth count : ℕ) {Base : tree.Expression → List Leaf → Type 0} {read : Reader Placed Role tree.Expression} {entry : Placed → Bool} → Inside names inner depth count → ((x : tree.Expression) (text : List Leaf) → Base x text → ends_postfix x ≡ true) → Exact marks entry Base (λ _. anything) read
-    → Exact marks entry (Suffixed names depth count Base) stop_cast (read_suffixes inner depth count read)
-exact-suffixed names inner depth count {Base} {read} {entry} inside ends is =
-    exact-stop stop_cast same_stop
-    (exact-folded {ends = λ _ _. true}
+-- there are suffixes everywhere
+some_index : (names : List (List ℕ)) (depth c place : ℕ) → (s : Suffix) × (right : List Leaf) × Map (λ index. ByIndex index place) (Closed (awaited OperandEnd) punctuator.RightBracket (Conditional names (suc depth) (suc c))) s right
+some_index names depth c place = (ByIndex zero_tree place, zero_text ++ awaited OperandEnd (mark punctuator.RightBracket 0) ∷ [], record { inner = zero_tree; is = refl; spells = record { inside = zero_text; close = 0; spells = zero_conditional names (suc depth) (suc c); cut = refl } })
+
+abbrev pub no_name : tree.Name
+no_name = record { spelling = []; place = 0 }
+
+some_member : (access : Access × ℕ) → (s : Suffix) × (right : List Leaf) × Map (λ name. ByMember access.0 name access.1) (One plain name_at) s right
+some_member access = (ByMember access.0 no_name access.1, plain (named no_name) ∷ [], record { inner = no_name; is = refl; spells = name-one no_name })
+
+roled-index : (names : List (List ℕ)) (inner : Readers) (depth count c : ℕ) → Inside names inner depth count → count ≤ c → Firm anything (IndexText names depth c) (λ _. anything) (read_index inner depth c)
+roled-index names inner depth count c inside least =
+    roled-opened (mark_place punctuator.LeftBracket) Nothing (brackets (suc depth) (suc c)) (λ t. refl) (λ t. refl) (mark punctuator.LeftBracket 0) 0 (mark-self punctuator.LeftBracket 0)
+    (some_index names depth c)
+    (λ place t is within. let h = within_brackets (suc depth) (suc c) t within in
+    firm-map (λ index. ByIndex index place) (λ _. anything) (λ index. refl)
+    (roled-closed punctuator.RightBracket OperandEnd (awaited OperandEnd) (λ t. refl) (λ t. refl) (inside c h.0 h.1 least) (λ x close. refl)))
+
+roled-member : (c : ℕ) → Firm anything (MemberText c) (λ _. anything) (read_member c)
+roled-member c =
+    roled-opened (with_place access_operator) Nothing (operates (suc c)) (λ t. refl) (λ t. refl) (mark punctuator.Dot 0) (Dot, 0) refl
+    some_member
+    (λ access t is within. firm-map (λ name. ByMember access.0 name access.1) (λ _. anything) (λ name. refl) (firm-one anything plain name_at Nothing (λ t. refl) (λ t. refl) (named no_name) no_name refl))
+
+index_begins : (names : List (List ℕ)) (depth c : ℕ) (t : Placed) → is_mark punctuator.LeftBracket t.token ≡ true → Begins marks (IndexText names depth c) t
+index_begins names depth c t e = behind_begins (mark_place punctuator.LeftBracket) (brackets (suc depth) (suc c)) (λ t. refl) t t.offset (mark-some punctuator.LeftBracket t e) (some_index names depth c t.offset)
+
+roled-suffix : (names : List (List ℕ)) (inner : Readers) (depth count c : ℕ) → Inside names inner depth count → count ≤ c → (entry : Placed → Bool) → Firm entry (SuffixText names depth c) (λ _. anything) (read_suffix inner depth c)
+roled-suffix names inner depth count c inside least entry =
+    roled-same entry (SuffixText names depth c) (read_suffix inner depth c) (λ t h. h) (or_suffix names depth c) (suffix_or names depth c) (λ tokens. refl)
+    (roled-choose (is_mark punctuator.LeftBracket) (apart_suffix names depth c) (index_begins names depth c) (behind_silent (mark_place punctuator.LeftBracket) (brackets (suc depth) (suc c)) (λ t. refl))
+    (roled-enter (both entry (λ t. is_mark punctuator.LeftBracket t.token)) (roled-index names inner depth count c inside least))
+    (roled-enter (both entry (λ t. not (is_mark punctuator.LeftBracket t.token))) (roled-member c)))
+
+begin_suffix : (names : List (List ℕ)) (depth c : ℕ) (t : Placed) → is_suffix t.token ≡ true → Begins marks (SuffixText names depth c) t
+begin_suffix names depth c t e = same_begins (or_suffix names depth c) t (by_bracket (is_mark punctuator.LeftBracket t.token) refl e)
+  where
+    by_bracket : (b : Bool) → is_mark punctuator.LeftBracket t.token ≡ b → (b || is_some (access_operator t.token)) ≡ true → Begins marks (Or (IndexText names depth c) (MemberText c)) t
+    by_bracket true f e = same_begins (λ s text h. first h) t (index_begins names depth c t f)
+    by_bracket false f e =
+        let a = placed-some access_operator t e in
+        same_begins (λ s text h. second h) t (behind_begins (with_place access_operator) (operates (suc c)) (λ t. refl) t a.0 a.1 (some_member a.0))
+
+suffix_silent : (names : List (List ℕ)) (depth c : ℕ) → Silent marks roles (SuffixText names depth c)
+suffix_silent names depth c s u more one = silent_of s (u ∷ more) one u more refl
+  where
+    silent_of : (s : Suffix) (text : List Leaf) → SuffixText names depth c s text → (u : Leaf) (more : List Leaf) → text ≡ u ∷ more → u.role ≡ Nothing
+    silent_of s text (by_index i inside place close h) u more e = let head : brackets (suc depth) (suc c) (mark punctuator.LeftBracket place) ≡ u = cc in ap (λ (l : Leaf). l.role) (sym head)
+    silent_of s text (by_member a n place) u more e = let head : operates (suc c) (mark (access_mark a) place) ≡ u = cc in ap (λ (l : Leaf). l.role) (sym head)
+
+pub roled-suffixed : (names : List (List ℕ)) (inner : Readers) (depth count : ℕ) {Base : tree.Expression → List Leaf → Type 0} {read : Reader Placed Role tree.Expression} {entry : Placed → Bool} → Inside names inner depth count → ((x : tree.Expression) (text : List Leaf) → Base x text → ends_postfix x ≡ true) → Firm entry Base (λ _. anything) read
+    → Firm entry (Suffixed names depth count Base) stop_cast (read_suffixes inner depth count read)
+roled-suffixed names inner depth count {Base} {read} {entry} inside ends is =
+    roled-stop stop_cast same_stop
+    (firm-folded {ends = λ _ _. true}
     record {
       steps = steps;
       joins = λ x text one rest opens. stops_anything rest;
       leads = λ x rest stops. stops-or_true (starts_suffix (operators x)) rest;
     }
-    (suffix_items names depth count) is (λ c. exact-suffix names inner depth count (count + c) inside (omega arith) (starts_suffix c)))
+    (suffix_items names depth count) (λ c t e. begin_suffix names depth (count + c) t e) (λ c. suffix_silent names depth (count + c)) is (λ c. roled-suffix names inner depth count (count + c) inside (omega arith) (starts_suffix c)))
   where
     same_stop : (x : tree.Expression) (text : List Leaf) → Suffixed names depth count Base x text → (t : Placed) → (true && not (is_suffix t.token)) ≡ stop_cast x t
     same_stop x text one t = ap not (sym (and-true (is_suffix t.token)) ∙ ap (λ b. is_suffix t.token && b) (sym (suffixed_ends names depth count Base ends x text one)))

@@ -1,34 +1,36 @@
--- Unary and cast expressions are read exactly.
-use Rattle.std.proofs.Common.{◌≡◌, ℕ, suc, ◌+◌, ◌≤◌, arith, Bool, true, false, List, [], ◌∷◌, ◌++◌, Some, None, refl, ap, sym, ◌∙◌, subst, cond, not, ◌&&◌, append_assoc}
+-- Unary and cast expressions keep roles.
+use Rattle.std.proofs.Common.{ℕ, List, suc, ◌+◌, ◌≤◌, arith, ◌≡◌, true, Some, ap, [], ◌∷◌, ◌∙◌, refl, false, None, cond, ◌++◌, sym, subst, Bool, not, ◌&&◌, append_assoc}
 use Rattle.std.specs.Option.{is_some}
 use Rattle.c_spec.specs.declared.token.Keyword.TheVariants.{Sizeof}
 use Rattle.c_spec.specs.declared.token.NumberType.TheVariants.{SignedInt}
 use Rattle.c_spec.specs.declared.token.Punctuator.{Punctuator}
 use Rattle.c_spec.specs.declared.token.Punctuator.TheVariants as punctuator
-use Rattle.c_spec.specs.Lexical.{Placed, Token, Name as name_token, Word, Number as number_token, Character as character_token, Mark}
+use Rattle.c_spec.specs.Lexical.{Token, Name as name_token, Word, Number as number_token, Character as character_token, Mark, Placed}
 use Rattle.c_tree_spec.specs.declared.UnaryOperator.{UnaryOperator}
 use Rattle.c_tree_spec.specs.declared.UnaryOperator.TheVariants.{AddressOf, Dereference, Plus, Minus, Complement, Not}
 use Rattle.c_tree_spec.specs.Expression as tree
-use Rattle.c_grammar_spec.specs.declared.Role.TheVariants.{Nothing, OperandEnd}
-use Rattle.c_grammar_spec.specs.Leaves.{Leaf, plain, awaited, operates, brackets, mark, word, number, marks}
-use Rattle.c_grammar_spec.specs.Expressions.{unary_mark, Unary, postfix, prefixed, sizeof_expression, sizeof_type, Cast, unary, cast, TypeName}
+use Rattle.c_grammar_spec.specs.declared.Role.TheVariants.{OperandEnd, Nothing}
+use Rattle.c_grammar_spec.specs.Leaves.{Leaf, mark, word, operates, plain, brackets, number, marks, awaited, roles}
+use Rattle.c_grammar_spec.specs.Expressions.{unary_mark, Unary, Cast, TypeName, postfix, prefixed, sizeof_expression, sizeof_type, unary, cast}
 use Rattle.exact_read.specs.Reading.{plains, Stops}
-use Rattle.exact_read.specs.Exact.{Exact}
-use Rattle.exact_read.specs.Grammar.{anything, One, Map, Or, first, second, read_map}
+use Rattle.exact_read.specs.Grammar.{One, Map, Or, first, second, anything, read_map}
 use Rattle.exact_read.specs.Folds.{base, step}
-use Rattle.exact_read.proofs.Parts.{exact-one, exact-map, exact-same, stops_anything}
-use Rattle.exact_read.proofs.Stop.{exact-stop, exact-enter}
+use Rattle.exact_read.proofs.Parts.{stops_anything}
 use Rattle.c_expression_reader.specs.Budget.{needs}
-use Rattle.c_expression_reader.specs.Exactness.{PlainUnary, Closed, AreExact, TypeFacts}
-use Rattle.c_expression_reader.specs.Classes.{is_mark, mark_place, is_sizeof, sizeof_place, atom_at, atom_of, unary_operator, with_place, begins_type, is_suffix}
+use Rattle.c_expression_reader.specs.Exactness.{AreFirm, Closed, PlainUnary, TypeFacts, TypeRoles}
+use Rattle.c_expression_reader.specs.Classes.{unary_operator, with_place, is_mark, is_sizeof, sizeof_place, mark_place, atom_of, begins_type, atom_at, is_suffix}
 use Rattle.c_expression_reader.specs.Classes as class
 use Rattle.c_expression_reader.specs.Stops.{ends_postfix, stop_cast}
-use Rattle.c_expression_reader.specs.Readers.{Readers, choose, read_postfix, read_inside, read_bracketed, read_type, read_sized, read_sizeof, read_prefixed, read_unary, read_converted, read_cast}
-use Rattle.c_expression_reader.proofs.Marks.{mark-self, one-mark, mark-one, exact-closed, Behind, exact-behind, exact-opened, exact-choice}
-use Rattle.c_expression_reader.proofs.Samples.{zero_tree, zero_text, zero_conditional, zero_cast, zero_unary}
-use Rattle.c_expression_reader.proofs.Suffixes.{Suffixed, Inside, exact-suffixed, placed, within_brackets, within_operates}
+use Rattle.c_expression_reader.specs.Readers.{Readers, read_inside, read_bracketed, read_postfix, read_type, choose, read_sized, read_prefixed, read_sizeof, read_unary, read_converted, read_cast}
+use Rattle.c_expression_reader.proofs.Marks.{Behind, one-mark, mark-one, roled-closed, closed_begins, closed_silent, roled-choice, map_begins, map_silent, first_begins, mark-self, mark-some, roled-opened, behind_begins, behind_silent, placed-some, roled-behind, first_silent}
+use Rattle.c_expression_reader.proofs.Samples.{zero_tree, zero_text, zero_unary, zero_conditional, zero_cast}
+use Rattle.c_expression_reader.proofs.Suffixes.{Suffixed, Inside, placed, roled-suffixed, within_brackets, within_operates}
 use Rattle.c_expression_reader.proofs.Begins.{NoType, no-append, conditional_no}
-use Rattle.c_expression_reader.proofs.Casts.{Atom, atom_ends_of, InsideText, opening, atom_postfix, bracket_postfix, Split, at_atom, at_bracket, postfix_split}
+use Rattle.c_expression_reader.proofs.Casts.{InsideText, Atom, atom_ends_of, opening, Split, at_atom, at_bracket, postfix_split, bracket_postfix, atom_postfix}
+use Rattle.role_read.proofs.Basics.{roled-stop, roled-same, roled-enter}
+use Rattle.role_read.proofs.Begins.{Begins, Silent}
+use Rattle.c_expression_reader.specs.Firm.{Firm}
+use Rattle.c_expression_reader.proofs.Firm.{firm-map, firm-one}
 
 -- what stands behind `(` at a place, and what stands behind that
 abbrev pub BracketText : (names : List (List ℕ)) → (depth count place : ℕ) → tree.Expression → List Leaf → Type 0
@@ -44,25 +46,11 @@ budget_type depth count turns h d = omega arith
 budget_next : (depth count turns : ℕ) → needs depth count ≤ turns → suc count ≤ 128 → needs depth (suc count) + 8 ≤ turns
 budget_next depth count turns h l = omega arith
 
-inside_by : {names : List (List ℕ)} {inner : Readers} {turns : ℕ} → AreExact names inner turns → (depth count : ℕ) → needs depth count ≤ turns → Inside names inner depth count
+inside_by : {names : List (List ℕ)} {inner : Readers} {turns : ℕ} → AreFirm names inner turns → (depth count : ℕ) → needs depth count ≤ turns → Inside names inner depth count
 inside_by {turns = turns} are depth count h c d l least = are.conditional (suc depth) (suc c) (budget_bracket depth count c turns h d least)
-
--- what stands in brackets is read exactly
-exact-inside : (names : List (List ℕ)) (inner : Readers) (depth count place : ℕ) → suc depth ≤ 128 → suc count ≤ 128 → Inside names inner depth count → Exact marks anything (InsideText names depth count place) (λ _. anything) (read_inside inner depth count place)
-exact-inside names inner depth count place d l inside =
-    exact-map (λ x. tree.Bracketed x place) (λ _. anything) (λ x. refl)
-    (exact-closed punctuator.RightParenthesis OperandEnd (awaited OperandEnd) (λ t. refl) (inside count d l (omega arith)) (λ x close. refl))
-
-exact-bracket : (names : List (List ℕ)) (inner : Readers) (depth count place : ℕ) → suc depth ≤ 128 → suc count ≤ 128 → Inside names inner depth count → Exact marks anything (BracketText names depth count place) stop_cast (read_bracketed inner depth count place)
-exact-bracket names inner depth count place d l inside =
-    exact-suffixed names inner depth count inside (λ x text m. ap ends_postfix m.is) (exact-inside names inner depth count place d l inside)
 
 atom_ends : (names : List (List ℕ)) (x : tree.Expression) (text : List Leaf) → Atom names x text → ends_postfix x ≡ true
 atom_ends names x text o = atom_ends_of names o.token.token o.token.offset x o.is
-
-exact-postfix : (names : List (List ℕ)) (inner : Readers) (depth count : ℕ) → Inside names inner depth count → Exact marks anything (Suffixed names depth count (Atom names)) stop_cast (read_postfix names inner depth count)
-exact-postfix names inner depth count inside =
-    exact-suffixed names inner depth count inside (atom_ends names) (exact-one marks anything plain (atom_at names) Nothing (λ t. refl) (number 0 SignedInt 0) zero_tree refl)
 
 -- unary operators
 unary-punctuator : (p : Punctuator) (o : UnaryOperator) → class.unary_mark p ≡ Some o → p ≡ unary_mark o
@@ -282,63 +270,9 @@ type_begins names facts depth type text c =
 open_first : (depth count : ℕ) {X : Type 0} (S2 : ℕ → X → List Leaf → Type 0) (x : X) (text : List Leaf) → Behind (One (brackets (suc depth) (suc count)) (mark_place punctuator.LeftParenthesis)) S2 x text → (u : Leaf) × (more : List Leaf) × (text ≡ u ∷ more) × (is_mark punctuator.LeftParenthesis u.token.token ≡ true)
 open_first depth count S2 x text b = (opening depth count b.first, b.right, b.cut ∙ ap (λ t. t ++ b.right) (one-mark punctuator.LeftParenthesis (brackets (suc depth) (suc count)) b.first b.left b.is_first), refl)
 
-exact-type : {names : List (List ℕ)} {inner : Readers} {turns : ℕ} → AreExact names inner turns → (depth count : ℕ) → needs depth count ≤ turns → suc depth ≤ 128 → Exact marks anything (TypeText names depth) (λ _. anything) (read_type inner depth)
-exact-type {turns = turns} are depth count h d = are.type_name (suc depth) (budget_type depth count turns h d)
-
-exact-sized_inside : {names : List (List ℕ)} {inner : Readers} {turns : ℕ} → TypeFacts names → AreExact names inner turns → (depth count place opened : ℕ) → needs depth count ≤ turns → suc depth ≤ 128 → suc count ≤ 128
-    → Exact marks anything (SizedInside names depth count place opened) stop_cast (choose (begins_type names) (read_map (λ type. tree.SizeofType type place) (read_type inner depth)) (read_map (λ x. tree.Sizeof x place) (read_bracketed inner depth count opened)))
-exact-sized_inside {names} {inner} {turns} facts are depth count place opened h d l =
-    exact-choice (begins_type names)
-    record {
-      first_begins = λ x text m. type_begins names facts depth m.inner text m.spells;
-      second_begins = λ x text rest m stops. let n = bracket_no names depth count opened m.inner text m.spells in stops_first (begins_type names) text n.leaf n.more rest n.cut n.no;
-    }
-    (exact-map (λ type. tree.SizeofType type place) stop_cast (λ type. refl) (exact-stop (λ _ t. not (is_suffix t.token && false)) (λ type text m t. true-not (is_suffix t.token)) (exact-type are depth count h d)))
-    (exact-map (λ x. tree.Sizeof x place) stop_cast (λ x. refl) (exact-bracket names inner depth count opened d l (inside_by are depth count h)))
-
-exact-sized : {names : List (List ℕ)} {inner : Readers} {turns : ℕ} → TypeFacts names → AreExact names inner turns → (depth count place : ℕ) → needs depth count + 8 ≤ turns → Exact marks anything (SizedText names depth count place) stop_cast (read_sized names inner depth count place)
-exact-sized {names} {inner} {turns} facts are depth count place h =
-    exact-choice (is_mark punctuator.LeftParenthesis)
-    record {
-      first_begins = λ x text b. open_first depth count (SizedInside names depth count place) x text b;
-      second_begins = λ x text rest m stops. stops_first (is_mark punctuator.LeftParenthesis) text m.spells.leaf m.spells.more rest m.spells.cut m.spells.no;
-    }
-    (exact-opened (mark_place punctuator.LeftParenthesis) Nothing (brackets (suc depth) (suc count)) (λ t. refl) (mark punctuator.LeftParenthesis 0) 0 (mark-self punctuator.LeftParenthesis 0)
-    (λ opened. (tree.Sizeof (tree.Bracketed zero_tree opened) place, zero_text ++ awaited OperandEnd (mark punctuator.RightParenthesis 0) ∷ [], second (record { inner = tree.Bracketed zero_tree opened; is = refl; spells = base _ _ (record { inner = zero_tree; is = refl; spells = record { inside = zero_text; close = 0; spells = zero_conditional names (suc depth) (suc count); cut = refl } }) })))
-    (λ opened t is within. let w = within_brackets (suc depth) (suc count) t within in exact-sized_inside facts are depth count place opened (omega arith) w.0 w.1))
-    (exact-map (λ x. tree.Sizeof x place) stop_cast (λ x. refl) (are.unary depth count (omega arith)))
-
-exact-prefixed : {names : List (List ℕ)} {inner : Readers} {turns : ℕ} → AreExact names inner turns → (depth count : ℕ) → needs depth count ≤ turns → Exact marks anything (OperatorText names depth count) stop_cast (read_prefixed inner depth count)
-exact-prefixed {names} {inner} {turns} are depth count h =
-    exact-opened (with_place unary_operator) Nothing (operates (suc count)) (λ t. refl) (mark punctuator.Plus 0) (Plus, 0) refl
-    (λ o. (tree.Unary o.0 zero_tree o.1, zero_text, record { inner = zero_tree; is = refl; spells = zero_cast names depth (suc count) }))
-    (λ o t is within. let next = budget_next depth count turns h (within_operates (suc count) t within) in exact-map (λ x. tree.Unary o.0 x o.1) stop_cast (λ x. refl) (are.cast depth (suc count) (omega arith)))
-
-exact-sizeof : {names : List (List ℕ)} {inner : Readers} {turns : ℕ} → TypeFacts names → AreExact names inner turns → (depth count : ℕ) → needs depth count ≤ turns → Exact marks anything (SizeofText names depth count) stop_cast (read_sizeof names inner depth count)
-exact-sizeof {names} {inner} {turns} facts are depth count h =
-    exact-opened sizeof_place Nothing (operates (suc count)) (λ t. refl) (word Sizeof 0) 0 refl
-    (λ place. (tree.Sizeof zero_tree place, zero_text, second (record { inner = zero_tree; is = refl; spells = zero_plain names depth (suc count) })))
-    (λ place t is within. exact-sized facts are depth (suc count) place (budget_next depth count turns h (within_operates (suc count) t within)))
-
 sizeof_second : (names : List (List ℕ)) (depth count : ℕ) (x : tree.Expression) (text : List Leaf) (rest : List Placed) → Or (SizeofText names depth count) (Suffixed names depth count (Atom names)) x text → Stops (λ t. not (is_some (unary_operator t.token))) (plains marks text ++ rest)
 sizeof_second names depth count x text rest (first b) = stops_first (λ k. is_some (unary_operator k)) text (operates (suc count) (word Sizeof b.first)) b.right rest (b.cut ∙ ap (λ t. t ++ b.right) (one-sizeof (operates (suc count)) b.first b.left b.is_first)) refl
 sizeof_second names depth count x text rest (second h) = let f = atom_first names depth count x text h in stops_first (λ k. is_some (unary_operator k)) text f.leaf f.more rest f.cut (ap is_some f.no.1)
-
-pub exact-unary : {names : List (List ℕ)} {inner : Readers} {turns : ℕ} → TypeFacts names → AreExact names inner turns → (depth count : ℕ) → needs depth count ≤ turns → Exact marks anything (PlainUnary names depth count) stop_cast (read_unary names inner depth count)
-exact-unary {names} {inner} {turns} facts are depth count h =
-    exact-same anything (PlainUnary names depth count) (read_unary names inner depth count) (λ t e. e) (text_plain names depth count) (plain_text names depth count) (λ tokens. refl)
-    (exact-choice (λ k. is_some (unary_operator k))
-    record {
-      first_begins = λ x text b. (operates (suc count) (mark (unary_mark b.first.0) b.first.1), b.right, b.cut ∙ ap (λ t. t ++ b.right) (one-unary (operates (suc count)) b.first b.left b.is_first), ap is_some (unary-self b.first.0));
-      second_begins = λ x text rest one stops. sizeof_second names depth count x text rest one;
-    }
-    (exact-prefixed are depth count h)
-    (exact-choice is_sizeof
-    record {
-      first_begins = λ x text b. (operates (suc count) (word Sizeof b.first), b.right, b.cut ∙ ap (λ t. t ++ b.right) (one-sizeof (operates (suc count)) b.first b.left b.is_first), refl);
-      second_begins = λ x text rest one stops. let f = atom_first names depth count x text one in stops_first is_sizeof text f.leaf f.more rest f.cut f.no.2;
-    }
-    (exact-sizeof facts are depth count h) (exact-postfix names inner depth count (inside_by are depth count h))))
 
 -- casts
 abbrev pub ConvertedText : (names : List (List ℕ)) → (depth count place : ℕ) → tree.Expression → List Leaf → Type 0
@@ -387,31 +321,144 @@ cast_text names depth count x text (cast d c ty y inside t place close h k) =
       cut = refl;
     })
 
-exact-cast_inside : {names : List (List ℕ)} {inner : Readers} {turns : ℕ} → TypeFacts names → AreExact names inner turns → (depth count place : ℕ) → needs depth count ≤ turns → suc depth ≤ 128 → suc count ≤ 128
-    → Exact marks anything (CastInside names depth count place) stop_cast (choose (begins_type names) (read_converted inner depth count place) (read_bracketed inner depth count place))
-exact-cast_inside {names} {inner} {turns} facts are depth count place h d l =
-    exact-choice (begins_type names)
+-- what stands in brackets keeps roles
+roled-inside : (names : List (List ℕ)) (inner : Readers) (depth count place : ℕ) → suc depth ≤ 128 → suc count ≤ 128 → Inside names inner depth count → Firm anything (InsideText names depth count place) (λ _. anything) (read_inside inner depth count place)
+roled-inside names inner depth count place d l inside =
+    firm-map (λ x. tree.Bracketed x place) (λ _. anything) (λ x. refl)
+    (roled-closed punctuator.RightParenthesis OperandEnd (awaited OperandEnd) (λ t. refl) (λ t. refl) (inside count d l (omega arith)) (λ x close. refl))
+
+roled-bracket : (names : List (List ℕ)) (inner : Readers) (depth count place : ℕ) → suc depth ≤ 128 → suc count ≤ 128 → Inside names inner depth count → Firm anything (BracketText names depth count place) stop_cast (read_bracketed inner depth count place)
+roled-bracket names inner depth count place d l inside =
+    roled-suffixed names inner depth count inside (λ x text m. ap ends_postfix m.is) (roled-inside names inner depth count place d l inside)
+
+roled-postfix : (names : List (List ℕ)) (inner : Readers) (depth count : ℕ) → Inside names inner depth count → Firm anything (Suffixed names depth count (Atom names)) stop_cast (read_postfix names inner depth count)
+roled-postfix names inner depth count inside =
+    roled-suffixed names inner depth count inside (atom_ends names) (firm-one anything plain (atom_at names) Nothing (λ t. refl) (λ t. refl) (number 0 SignedInt 0) zero_tree refl)
+
+roled-type : {names : List (List ℕ)} {inner : Readers} {turns : ℕ} → AreFirm names inner turns → (depth count : ℕ) → needs depth count ≤ turns → suc depth ≤ 128 → Firm anything (TypeText names depth) (λ _. anything) (read_type inner depth)
+roled-type {turns = turns} are depth count h d = are.type_name (suc depth) (budget_type depth count turns h d)
+
+begin_type : (names : List (List ℕ)) → TypeRoles names → (depth : ℕ) (t : Placed) → begins_type names t.token ≡ true → Begins marks (TypeText names depth) t
+begin_type names types depth t e =
+    let b = types.begins (suc depth) t e in
+    closed_begins plain punctuator.RightParenthesis t (record { value = b.type; first = b.first; more = b.more; spells = b.spells; is = b.is })
+
+type_some : (names : List (List ℕ)) → TypeFacts names → (depth : ℕ) (type : tree.TypeName) → TypeName names depth type [] → ⊥
+type_some names facts depth type h = let b = facts.begins depth type [] h in let e : [] ≡ b.0 ∷ b.1 = b.2 in cc
+
+type_silent : (names : List (List ℕ)) → TypeFacts names → TypeRoles names → (depth : ℕ) → Silent marks roles (TypeText names depth)
+type_silent names facts types depth = closed_silent plain punctuator.RightParenthesis (type_some names facts (suc depth)) (types.silent (suc depth))
+
+-- what stands behind the brackets and operators that begin an expression
+some_sized : (names : List (List ℕ)) (depth count place opened : ℕ) → (x : tree.Expression) × (right : List Leaf) × SizedInside names depth count place opened x right
+some_sized names depth count place opened =
+    (tree.Sizeof (tree.Bracketed zero_tree opened) place, zero_text ++ awaited OperandEnd (mark punctuator.RightParenthesis 0) ∷ [], second (record { inner = tree.Bracketed zero_tree opened; is = refl; spells = base _ _ (record { inner = zero_tree; is = refl; spells = record { inside = zero_text; close = 0; spells = zero_conditional names (suc depth) (suc count); cut = refl } }) }))
+
+some_prefixed : (names : List (List ℕ)) (depth count : ℕ) (o : UnaryOperator × ℕ) → (x : tree.Expression) × (right : List Leaf) × Map (λ x. tree.Unary o.0 x o.1) (Cast names depth (suc count)) x right
+some_prefixed names depth count o = (tree.Unary o.0 zero_tree o.1, zero_text, record { inner = zero_tree; is = refl; spells = zero_cast names depth (suc count) })
+
+some_sizeof : (names : List (List ℕ)) (depth count place : ℕ) → (x : tree.Expression) × (right : List Leaf) × SizedText names depth (suc count) place x right
+some_sizeof names depth count place = (tree.Sizeof zero_tree place, zero_text, second (record { inner = zero_tree; is = refl; spells = zero_plain names depth (suc count) }))
+
+some_converted : (names : List (List ℕ)) (depth count place : ℕ) (type : tree.TypeName) → (x : tree.Expression) × (right : List Leaf) × Map (λ x. tree.Cast type x place) (Cast names depth (suc count)) x right
+some_converted names depth count place type = (tree.Cast type zero_tree place, zero_text, record { inner = zero_tree; is = refl; spells = zero_cast names depth (suc count) })
+
+some_cast : (names : List (List ℕ)) (depth count place : ℕ) → (x : tree.Expression) × (right : List Leaf) × CastInside names depth count place x right
+some_cast names depth count place =
+    (tree.Bracketed zero_tree place, zero_text ++ awaited OperandEnd (mark punctuator.RightParenthesis 0) ∷ [], second (base _ _ (record { inner = zero_tree; is = refl; spells = record { inside = zero_text; close = 0; spells = zero_conditional names (suc depth) (suc count); cut = refl } })))
+
+sizeof-some : (k : Token) (o : ℕ) → is_sizeof k ≡ true → cond (is_sizeof k) (Some o) None ≡ Some o
+sizeof-some k o e = rw e refl
+
+roled-sized_inside : {names : List (List ℕ)} {inner : Readers} {turns : ℕ} → TypeFacts names → TypeRoles names → AreFirm names inner turns → (depth count place opened : ℕ) → needs depth count ≤ turns → suc depth ≤ 128 → suc count ≤ 128
+    → Firm anything (SizedInside names depth count place opened) stop_cast (choose (begins_type names) (read_map (λ type. tree.SizeofType type place) (read_type inner depth)) (read_map (λ x. tree.Sizeof x place) (read_bracketed inner depth count opened)))
+roled-sized_inside {names} {inner} {turns} facts types are depth count place opened h d l =
+    roled-choice (begins_type names)
+    record {
+      first_begins = λ x text m. type_begins names facts depth m.inner text m.spells;
+      second_begins = λ x text rest m stops. let n = bracket_no names depth count opened m.inner text m.spells in stops_first (begins_type names) text n.leaf n.more rest n.cut n.no;
+    }
+    (λ t e. map_begins (λ type. tree.SizeofType type place) t (begin_type names types depth t e)) (map_silent (λ type. tree.SizeofType type place) (type_silent names facts types depth))
+    (firm-map (λ type. tree.SizeofType type place) stop_cast (λ type. refl) (roled-stop (λ _ t. not (is_suffix t.token && false)) (λ type text m t. true-not (is_suffix t.token)) (roled-type are depth count h d)))
+    (firm-map (λ x. tree.Sizeof x place) stop_cast (λ x. refl) (roled-bracket names inner depth count opened d l (inside_by are depth count h)))
+
+roled-sized : {names : List (List ℕ)} {inner : Readers} {turns : ℕ} → TypeFacts names → TypeRoles names → AreFirm names inner turns → (depth count place : ℕ) → needs depth count + 8 ≤ turns → Firm anything (SizedText names depth count place) stop_cast (read_sized names inner depth count place)
+roled-sized {names} {inner} {turns} facts types are depth count place h =
+    roled-choice (is_mark punctuator.LeftParenthesis)
+    record {
+      first_begins = λ x text b. open_first depth count (SizedInside names depth count place) x text b;
+      second_begins = λ x text rest m stops. stops_first (is_mark punctuator.LeftParenthesis) text m.spells.leaf m.spells.more rest m.spells.cut m.spells.no;
+    }
+    (λ t e. behind_begins (mark_place punctuator.LeftParenthesis) (brackets (suc depth) (suc count)) (λ t. refl) t t.offset (mark-some punctuator.LeftParenthesis t e) (some_sized names depth count place t.offset))
+    (behind_silent (mark_place punctuator.LeftParenthesis) (brackets (suc depth) (suc count)) (λ t. refl))
+    (roled-opened (mark_place punctuator.LeftParenthesis) Nothing (brackets (suc depth) (suc count)) (λ t. refl) (λ t. refl) (mark punctuator.LeftParenthesis 0) 0 (mark-self punctuator.LeftParenthesis 0)
+    (some_sized names depth count place)
+    (λ opened t is within. let w = within_brackets (suc depth) (suc count) t within in roled-sized_inside facts types are depth count place opened (omega arith) w.0 w.1))
+    (firm-map (λ x. tree.Sizeof x place) stop_cast (λ x. refl) (are.unary depth count (omega arith)))
+
+roled-prefixed : {names : List (List ℕ)} {inner : Readers} {turns : ℕ} → AreFirm names inner turns → (depth count : ℕ) → needs depth count ≤ turns → Firm anything (OperatorText names depth count) stop_cast (read_prefixed inner depth count)
+roled-prefixed {names} {inner} {turns} are depth count h =
+    roled-opened (with_place unary_operator) Nothing (operates (suc count)) (λ t. refl) (λ t. refl) (mark punctuator.Plus 0) (Plus, 0) refl
+    (some_prefixed names depth count)
+    (λ o t is within. let next = budget_next depth count turns h (within_operates (suc count) t within) in firm-map (λ x. tree.Unary o.0 x o.1) stop_cast (λ x. refl) (are.cast depth (suc count) (omega arith)))
+
+roled-sizeof : {names : List (List ℕ)} {inner : Readers} {turns : ℕ} → TypeFacts names → TypeRoles names → AreFirm names inner turns → (depth count : ℕ) → needs depth count ≤ turns → Firm anything (SizeofText names depth count) stop_cast (read_sizeof names inner depth count)
+roled-sizeof {names} {inner} {turns} facts types are depth count h =
+    roled-opened sizeof_place Nothing (operates (suc count)) (λ t. refl) (λ t. refl) (word Sizeof 0) 0 refl
+    (some_sizeof names depth count)
+    (λ place t is within. roled-sized facts types are depth (suc count) place (budget_next depth count turns h (within_operates (suc count) t within)))
+
+pub roled-unary : {names : List (List ℕ)} {inner : Readers} {turns : ℕ} → TypeFacts names → TypeRoles names → AreFirm names inner turns → (depth count : ℕ) → needs depth count ≤ turns → Firm anything (PlainUnary names depth count) stop_cast (read_unary names inner depth count)
+roled-unary {names} {inner} {turns} facts types are depth count h =
+    roled-same anything (PlainUnary names depth count) (read_unary names inner depth count) (λ t e. e) (text_plain names depth count) (plain_text names depth count) (λ tokens. refl)
+    (roled-choice (λ k. is_some (unary_operator k))
+    record {
+      first_begins = λ x text b. (operates (suc count) (mark (unary_mark b.first.0) b.first.1), b.right, b.cut ∙ ap (λ t. t ++ b.right) (one-unary (operates (suc count)) b.first b.left b.is_first), ap is_some (unary-self b.first.0));
+      second_begins = λ x text rest one stops. sizeof_second names depth count x text rest one;
+    }
+    (λ t e. let o = placed-some unary_operator t e in behind_begins (with_place unary_operator) (operates (suc count)) (λ t. refl) t o.0 o.1 (some_prefixed names depth count o.0))
+    (behind_silent (with_place unary_operator) (operates (suc count)) (λ t. refl))
+    (roled-prefixed are depth count h)
+    (roled-choice is_sizeof
+    record {
+      first_begins = λ x text b. (operates (suc count) (word Sizeof b.first), b.right, b.cut ∙ ap (λ t. t ++ b.right) (one-sizeof (operates (suc count)) b.first b.left b.is_first), refl);
+      second_begins = λ x text rest one stops. let f = atom_first names depth count x text one in stops_first is_sizeof text f.leaf f.more rest f.cut f.no.2;
+    }
+    (λ t e. behind_begins sizeof_place (operates (suc count)) (λ t. refl) t t.offset (sizeof-some t.token t.offset e) (some_sizeof names depth count t.offset))
+    (behind_silent sizeof_place (operates (suc count)) (λ t. refl))
+    (roled-sizeof facts types are depth count h) (roled-postfix names inner depth count (inside_by are depth count h))))
+
+roled-cast_inside : {names : List (List ℕ)} {inner : Readers} {turns : ℕ} → TypeFacts names → TypeRoles names → AreFirm names inner turns → (depth count place : ℕ) → needs depth count ≤ turns → suc depth ≤ 128 → suc count ≤ 128
+    → Firm anything (CastInside names depth count place) stop_cast (choose (begins_type names) (read_converted inner depth count place) (read_bracketed inner depth count place))
+roled-cast_inside {names} {inner} {turns} facts types are depth count place h d l =
+    roled-choice (begins_type names)
     record {
       first_begins = λ x text b. let f = type_begins names facts depth b.first b.left b.is_first in (f.0, f.1 ++ b.right, b.cut ∙ ap (λ t. t ++ b.right) f.2, f.3);
       second_begins = λ x text rest one stops. let n = bracket_no names depth count place x text one in stops_first (begins_type names) text n.leaf n.more rest n.cut n.no;
     }
-    (exact-behind (exact-type are depth count h d)
-    (λ type left one within. exact-enter anything (exact-map (λ x. tree.Cast type x place) stop_cast (λ x. refl) (are.cast depth (suc count) (let next = budget_next depth count turns h l in omega arith))))
+    (λ t e. first_begins t (begin_type names types depth t e) (some_converted names depth count place)) (first_silent (λ type c. no_closed type c) (type_silent names facts types depth))
+    (roled-behind (roled-type are depth count h d)
+    (λ type left one within. roled-enter anything (firm-map (λ x. tree.Cast type x place) stop_cast (λ x. refl) (are.cast depth (suc count) (let next = budget_next depth count turns h l in omega arith))))
     record {
       ends = λ type x left right rest one two stops. stops_anything (plains marks right ++ rest);
-      goes_on = λ type left one. (tree.Cast type zero_tree place, zero_text, record { inner = zero_tree; is = refl; spells = zero_cast names depth (suc count) });
+      goes_on = λ type left one. some_converted names depth count place type;
     })
-    (exact-bracket names inner depth count place d l (inside_by are depth count h))
+    (roled-bracket names inner depth count place d l (inside_by are depth count h))
+  where
+    no_closed : (type : tree.TypeName) → TypeText names depth type [] → ⊥
+    no_closed type c = let b = type_begins names facts depth type [] c in let e : [] ≡ b.0 ∷ b.1 = b.2 in cc
 
-pub exact-cast : {names : List (List ℕ)} {inner : Readers} {turns : ℕ} → TypeFacts names → AreExact names inner turns → (depth count : ℕ) → needs depth count + 1 ≤ turns → Exact marks anything (Cast names depth count) stop_cast (read_cast names inner depth count)
-exact-cast {names} {inner} {turns} facts are depth count h =
-    exact-same anything (Cast names depth count) (read_cast names inner depth count) (λ t e. e) (text_cast names depth count) (cast_text names depth count) (λ tokens. refl)
-    (exact-choice (is_mark punctuator.LeftParenthesis)
+pub roled-cast : {names : List (List ℕ)} {inner : Readers} {turns : ℕ} → TypeFacts names → TypeRoles names → AreFirm names inner turns → (depth count : ℕ) → needs depth count + 1 ≤ turns → Firm anything (Cast names depth count) stop_cast (read_cast names inner depth count)
+roled-cast {names} {inner} {turns} facts types are depth count h =
+    roled-same anything (Cast names depth count) (read_cast names inner depth count) (λ t e. e) (text_cast names depth count) (cast_text names depth count) (λ tokens. refl)
+    (roled-choice (is_mark punctuator.LeftParenthesis)
     record {
       first_begins = λ x text b. open_first depth count (CastInside names depth count) x text b;
       second_begins = λ x text rest p stops. stops_first (is_mark punctuator.LeftParenthesis) text p.leaf p.more rest p.cut p.no;
     }
-    (exact-opened (mark_place punctuator.LeftParenthesis) Nothing (brackets (suc depth) (suc count)) (λ t. refl) (mark punctuator.LeftParenthesis 0) 0 (mark-self punctuator.LeftParenthesis 0)
-    (λ place. (tree.Bracketed zero_tree place, zero_text ++ awaited OperandEnd (mark punctuator.RightParenthesis 0) ∷ [], second (base _ _ (record { inner = zero_tree; is = refl; spells = record { inside = zero_text; close = 0; spells = zero_conditional names (suc depth) (suc count); cut = refl } }))))
-    (λ place t is within. let w = within_brackets (suc depth) (suc count) t within in exact-cast_inside facts are depth count place (omega arith) w.0 w.1))
+    (λ t e. behind_begins (mark_place punctuator.LeftParenthesis) (brackets (suc depth) (suc count)) (λ t. refl) t t.offset (mark-some punctuator.LeftParenthesis t e) (some_cast names depth count t.offset))
+    (behind_silent (mark_place punctuator.LeftParenthesis) (brackets (suc depth) (suc count)) (λ t. refl))
+    (roled-opened (mark_place punctuator.LeftParenthesis) Nothing (brackets (suc depth) (suc count)) (λ t. refl) (λ t. refl) (mark punctuator.LeftParenthesis 0) 0 (mark-self punctuator.LeftParenthesis 0)
+    (some_cast names depth count)
+    (λ place t is within. let w = within_brackets (suc depth) (suc count) t within in roled-cast_inside facts types are depth count place (omega arith) w.0 w.1))
     (are.unary depth count h))

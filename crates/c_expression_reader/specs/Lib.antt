@@ -4,4 +4,5 @@ pub mod Readers
 pub mod Types
 pub mod Turns
 pub mod Budget
+pub mod Firm
 pub mod Exactness

@@ -12,7 +12,7 @@ use Rattle.c_expression_reader.specs.Turns.{readers}
 use Rattle.c_statement_reader.specs.Statements.{read_statement}
 use Rattle.c_unit_reader.specs.Initializers.{read_initial}
 use Rattle.c_unit_reader.specs.Units.{read_unit}
-use Rattle.c_unit_roles.proofs.Faults.{unit-tells}
+use Rattle.c_unit_reader.proofs.Faults.{unit-tells}
 use Rattle.c_fault_examples.specs.Samples as samples
 use Rattle.c_fault_examples.specs.Samples.{IsFaultAt}
 

@@ -1,11 +1,11 @@
--- Parameters and declarators in items are read exactly.
+-- Parameters and declarators in items keep roles.
 use Rattle.std.proofs.Common.{ℕ, List}
 use Rattle.c_expression_reader.specs.Budget.{enough}
 use Rattle.c_expression_reader.specs.Turns.{readers}
-use Rattle.c_type_reader.proofs.Turned.{all-exact}
-use Rattle.c_global_reader.specs.Exactness.{GlobalsAre}
-use Rattle.c_global_reader.proofs.Inside.{exact-parameters}
-use Rattle.c_global_reader.proofs.Globals.{exact-global}
+use Rattle.c_type_reader.proofs.Turned.{all-roled}
+use Rattle.c_global_reader.specs.Exactness.{GlobalsFirm}
+use Rattle.c_global_reader.proofs.Inside.{roled-parameters}
+use Rattle.c_global_reader.proofs.Globals.{roled-global}
 
-pub globals-exact : (names : List (List ℕ)) → GlobalsAre names (readers names enough)
-globals-exact names = record { parameters = exact-parameters names (readers names enough) (all-exact names); global = exact-global names (readers names enough) (all-exact names) }
+pub globals-roled : (names : List (List ℕ)) → GlobalsFirm names (readers names enough)
+globals-roled names = record { parameters = roled-parameters names (readers names enough) (all-roled names); global = roled-global names (readers names enough) (all-roled names) }

@@ -1,15 +1,15 @@
--- Declarators of functions, and declarators in items, are read exactly.
-use Rattle.std.proofs.Common.{◌≡◌, ℕ, zero, suc, Bool, true, false, List, [], ◌∷◌, ◌++◌, Some, None, refl, ap, sym, ◌∙◌, subst, IsTrue, not}
+-- What stands in the brackets of a function, in the form in which it is read.
+use Rattle.std.proofs.Common.{◌≡◌, ℕ, zero, suc, Bool, true, false, List, Some, None, refl, IsTrue, [], not, ◌∷◌, ◌++◌, ap, sym, subst, ◌∙◌}
 use Rattle.std.specs.Prelude.{map}
 use Rattle.c_spec.specs.declared.token.Keyword.TheVariants.{Void}
 use Rattle.c_spec.specs.declared.token.Punctuator.{Punctuator}
 use Rattle.c_spec.specs.declared.token.Punctuator.TheVariants as punctuator
-use Rattle.c_spec.specs.Lexical.{Placed, Token, Name as name_token, Word, Number as number_token, Character as character_token, Mark}
+use Rattle.c_spec.specs.Lexical.{Placed, Mark, Token, Name as name_token, Word, Number as number_token, Character as character_token}
 use Rattle.c_tree_spec.specs.Expression as tree
 use Rattle.c_tree_spec.specs.Unit as unit
 use Rattle.c_grammar_spec.specs.declared.Role.{Role}
 use Rattle.c_grammar_spec.specs.declared.Role.TheVariants.{DeclaredName}
-use Rattle.c_grammar_spec.specs.Leaves.{Leaf, plain, awaited, mark}
+use Rattle.c_grammar_spec.specs.Leaves.{mark, Leaf, plain, awaited}
 use Rattle.c_grammar_spec.specs.Expressions as part
 use Rattle.c_grammar_spec.specs.Units as grammar
 use Rattle.exact_read.specs.Grammar.{One, Map, Or}
@@ -18,10 +18,10 @@ use Rattle.c_expression_reader.proofs.Marks.{Behind}
 use Rattle.c_type_reader.specs.Endings.{WordsAround, BraceToo, WordsToo}
 use Rattle.c_type_reader.proofs.TypeFirsts.{specifiers_first}
 use Rattle.c_declaration_reader.proofs.Lists.{Lists}
-use Rattle.c_declaration_reader.proofs.ListFrom.{same_part, Listed, last, more, ListText, text_listing}
-use Rattle.c_global_reader.specs.Parameters.{ParameterRest, parameter_of, void_at, end_of_parameter, is_void, void_place}
+use Rattle.c_declaration_reader.proofs.ListFrom.{same_part, ListText, Listed, last, more, text_listing}
+use Rattle.c_global_reader.specs.Parameters.{end_of_parameter, ParameterRest, parameter_of, void_at, is_void, void_place}
 use Rattle.c_global_reader.specs.Texts.{ParametersText}
-use Rattle.c_global_reader.proofs.Parameters.{stop_rest, RestText, Ended, after_specifiers, rest_of, stop_parameter, ParameterText, parameter_grammar, grammar_parameter}
+use Rattle.c_global_reader.proofs.Parameters.{Ended, stop_rest, after_specifiers, rest_of, stop_parameter, RestText, ParameterText, parameter_grammar, grammar_parameter}
 use Rattle.c_global_reader.proofs.Starting.{Starting}
 use Rattle.c_global_reader.proofs.Voids.{VoidText, void_parameter}
 
@@ -118,9 +118,6 @@ list_listed names depth list role text (grammar.more d p rest e after t right co
       is = ap (λ ps. p ∷ ps) l.is;
       spells = subst (λ (r : Role). Listed (ParameterText names d) end_of (p, b.end) (l.head ∷ l.rest) after (t ++ awaited r (mark punctuator.Comma comma) ∷ right)) (sym b.is) (more (p, b.end) l.head l.rest after t right comma b.spells l.spells);
     }
-
-longer_void : (leaf other : Leaf) (text : List Leaf) → grammar.is_void (leaf ∷ other ∷ text) ≡ false
-longer_void leaf other text = refl
 
 no_void_list : (text : List Leaf) (leaf : Leaf) (others : List Leaf) → text ≡ leaf ∷ others → is_void leaf.token.token ≡ false → grammar.is_void text ≡ false
 no_void_list text leaf [] cut e = ap grammar.is_void cut ∙ word_void leaf.token.token e

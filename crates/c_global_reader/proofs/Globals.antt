@@ -1,42 +1,38 @@
--- Declarators in items are read exactly.
-use Rattle.std.proofs.Common.{◌≡◌, ℕ, suc, Bool, true, false, List, [], ◌∷◌, ◌++◌, refl, ap, sym, ◌∙◌, subst, IsTrue, not, ◌&&◌, append_assoc}
+-- Declarators in items keep roles.
+use Rattle.std.proofs.Common.{ℕ, suc, List, Bool, not, true, false, refl, IsTrue, ◌&&◌, [], ◌∷◌, ◌++◌, ◌≡◌, sym, ◌∙◌, ap, subst, append_assoc}
 use Rattle.c_spec.specs.declared.token.Punctuator.TheVariants as punctuator
 use Rattle.c_spec.specs.Lexical.{Placed}
 use Rattle.c_tree_spec.specs.Expression as tree
 use Rattle.c_tree_spec.specs.Unit as unit
-use Rattle.c_grammar_spec.specs.declared.Role.TheVariants.{Nothing, DeclaredName}
-use Rattle.c_grammar_spec.specs.Leaves.{Leaf, awaited, opens, mark, named, marks}
+use Rattle.c_grammar_spec.specs.declared.Role.TheVariants.{DeclaredName, Nothing}
+use Rattle.c_grammar_spec.specs.Leaves.{Leaf, opens, awaited, marks, mark, named}
 use Rattle.c_grammar_spec.specs.Expressions as part
 use Rattle.c_grammar_spec.specs.Units as grammar
 use Rattle.exact_read.specs.Reading.{plains, Stops}
-use Rattle.exact_read.specs.Exact.{Exact}
-use Rattle.exact_read.specs.Grammar.{anything, One, Map, Then, Or, first, second, read_then}
-use Rattle.exact_read.proofs.Parts.{exact-one, exact-map, exact-same, stops_anything, both}
-use Rattle.exact_read.proofs.Then.{exact-then}
-use Rattle.exact_read.proofs.Stop.{exact-stop, exact-enter}
-use Rattle.c_expression_reader.specs.Classes.{is_mark, mark_place}
-use Rattle.c_expression_reader.specs.Readers.{Readers, token}
-use Rattle.c_expression_reader.specs.Types.{plain_name_at, read_pointer}
-use Rattle.c_expression_reader.proofs.Marks.{mark-self, one-mark, mark-one, Behind, exact-behind, exact-opened}
-use Rattle.c_type_reader.specs.Exactness.{AllExact}
-use Rattle.c_type_reader.proofs.Fresh.{fresh, fresh_is}
-use Rattle.c_type_reader.proofs.Pointers.{stop_pointer, exact-pointer}
-use Rattle.c_type_reader.proofs.Dimensions.{stop_dimensions, exact-dimensions_from}
-use Rattle.c_type_reader.proofs.Declarators.{declares_other, plain-self, name_leaf, leaf_name, name_stops}
-use Rattle.c_declaration_reader.proofs.Chosen.{Allowed, exact-allowed}
+use Rattle.exact_read.specs.Grammar.{One, Map, Or, Then, first, second, anything}
+use Rattle.exact_read.proofs.Parts.{both, stops_anything}
+use Rattle.c_expression_reader.specs.Classes.{mark_place, is_mark}
+use Rattle.c_expression_reader.specs.Readers.{token, Readers}
+use Rattle.c_expression_reader.specs.Types.{plain_name_at}
+use Rattle.c_expression_reader.proofs.Marks.{Behind, one-mark, mark-one, mark-self, roled-opened, mark-some, behind_begins, behind_silent, map_begins, map_silent, roled-behind}
+use Rattle.c_type_reader.specs.Exactness.{AllFirm}
+use Rattle.c_declarator_reader.proofs.Fresh.{fresh, fresh_is}
+use Rattle.c_declarator_reader.proofs.Pointers.{stop_pointer}
+use Rattle.c_declarator_reader.proofs.Dimensions.{stop_dimensions, roled-dimensions_from}
+use Rattle.c_declarator_reader.proofs.Declarators.{declares_other, name_leaf, leaf_name, plain-self, name_stops}
+use Rattle.c_declaration_reader.proofs.Chosen.{Allowed, roled-allowed}
 use Rattle.c_global_reader.specs.Parameters.{read_function, read_global}
 use Rattle.c_global_reader.specs.Texts.{ParametersText, no_function, stop_lengths, stop_global}
-use Rattle.c_global_reader.proofs.Inside.{exact-parameters}
+use Rattle.c_global_reader.proofs.Inside.{roled-parameters}
+use Rattle.role_read.proofs.Basics.{roled-stop, roled-enter, roled-same}
+use Rattle.role_read.proofs.Then.{roled-then}
+use Rattle.c_expression_reader.specs.Firm.{Firm}
+use Rattle.c_expression_reader.proofs.Firm.{firm-map, firm-one}
+use Rattle.c_declarator_reader.proofs.Plain.{roled-pointer}
 
 -- behind the name of a function
 abbrev FunctionText : (names : List (List ℕ)) → (depth pointers : ℕ) → tree.Name → unit.FunctionDeclarator → List Leaf → Type 0
 FunctionText names depth pointers name = Behind (One (opens (suc depth)) (mark_place punctuator.LeftParenthesis)) (λ _. Map (λ list. record { pointers = pointers; name = name; parameters = list }) (ParametersText names (suc depth)))
-
-exact-function : (names : List (List ℕ)) (inner : Readers) (all : AllExact names inner) (depth pointers : ℕ) (name : tree.Name) → Exact marks anything (FunctionText names depth pointers name) (λ _. anything) (read_function names inner depth pointers name)
-exact-function names inner all depth pointers name =
-    exact-opened (mark_place punctuator.LeftParenthesis) Nothing (opens (suc depth)) (λ t. refl) (mark punctuator.LeftParenthesis 0) 0 (mark-self punctuator.LeftParenthesis 0)
-    (λ place. (record { pointers = pointers; name = name; parameters = [] }, awaited Nothing (mark punctuator.RightParenthesis 0) ∷ [], record { inner = []; is = refl; spells = record { role = Nothing; inside = []; place = 0; spells = grammar.empty (suc depth); cut = refl } }))
-    (λ place t e within. exact-map (λ list. record { pointers = pointers; name = name; parameters = list }) (λ _. anything) (λ x. refl) (exact-parameters names inner all (suc depth)))
 
 abbrev Named : Type 0
 Named = ℕ × tree.Name
@@ -77,22 +73,6 @@ lengths_same : (is_typedef : Bool) (d : Bool × tree.Expressions) (t : Placed) �
 lengths_same is_typedef (true, lengths) t = refl
 lengths_same is_typedef (false, tree.no_expressions) t = refl
 lengths_same is_typedef (false, tree.expressions x rest) t = refl
-
-exact-behind_name : (names : List (List ℕ)) (inner : Readers) (all : AllExact names inner) (is_typedef : Bool) (made : Named)
-    → Exact marks anything (BehindName names is_typedef made) (stop_global is_typedef)
-    (Rattle.c_expression_reader.specs.Readers.choose (λ next. not is_typedef && is_mark punctuator.LeftParenthesis next)
-    (Rattle.exact_read.specs.Grammar.read_map (λ function. unit.Function function) (read_function names inner 0 made.0 made.1))
-    (Rattle.exact_read.specs.Grammar.read_map (λ dimensions. unit.Object (tree.Declared made.0 made.1 dimensions.0 dimensions.1)) (Rattle.c_expression_reader.specs.Types.read_dimensions inner 0)))
-exact-behind_name names inner all is_typedef made =
-    exact-allowed (not is_typedef) (is_mark punctuator.LeftParenthesis)
-    (λ g text m. let b = m.spells in (opens 1 (mark punctuator.LeftParenthesis b.first), b.right, b.cut ∙ ap (λ l. l ++ b.right) (one-mark punctuator.LeftParenthesis (opens 1) b.first b.left b.is_first), refl))
-    (λ g text rest m stops. object_second names is_typedef made m.inner text rest m.spells (stops_same m.inner rest (subst (λ (v : unit.Global). Stops (stop_global is_typedef v) rest) m.is stops)))
-    (exact-enter (both anything (λ t. is_mark punctuator.LeftParenthesis t.token)) (exact-map (λ f. unit.Function f) (stop_global is_typedef) (λ f. refl) (exact-function names inner all 0 made.0 made.1)))
-    (exact-map (object made) (stop_global is_typedef) (λ d. refl) (exact-stop (λ (d : Bool × tree.Expressions) t. stop_lengths is_typedef d.0 d.1 t) (λ d text h t. lengths_same is_typedef d t) (exact-dimensions_from names inner 0 (no_function is_typedef) (λ d. all.conditional 1 0))))
-  where
-    stops_same : (d : Bool × tree.Expressions) (rest : List Placed) → Stops (stop_lengths is_typedef d.0 d.1) rest → Stops (stop_dimensions (no_function is_typedef) d) rest
-    stops_same d [] h = tt
-    stops_same d (t ∷ rest) h = subst IsTrue (sym (lengths_same is_typedef d t)) h
 
 -- as the grammar has them
 not_true : (b : Bool) → not b ≡ true → b ≡ false
@@ -153,15 +133,42 @@ global_text : (names : List (List ℕ)) (is_typedef : Bool) (g : unit.Global) (t
 global_text names is_typedef g text (grammar.object c d t h) = object_back names c false 0 d t h refl refl
 global_text names is_typedef g text (grammar.function f t h) = function_back names 0 f t h refl
 
-pub exact-global : (names : List (List ℕ)) (inner : Readers) (all : AllExact names inner) (is_typedef : Bool) → Exact marks anything (grammar.GlobalDeclarator names is_typedef) (stop_global is_typedef) (read_global names inner is_typedef)
-exact-global names inner all is_typedef =
-    exact-same anything (grammar.GlobalDeclarator names is_typedef) (read_global names inner is_typedef) (λ t h. h) (text_global names is_typedef) (global_text names is_typedef) (λ tokens. refl)
-    (exact-behind {stop1 = λ _. anything} (exact-then {stop2 = λ _ _. anything} (exact-pointer anything) (λ p. exact-one marks (stop_pointer anything p) (awaited DeclaredName) (plain_name_at names) DeclaredName (λ t. refl) (named (fresh names)) (fresh names) (plain-self names (fresh names) (fresh_is names)))
+some_function : (names : List (List ℕ)) (depth pointers : ℕ) (name : tree.Name) → (f : unit.FunctionDeclarator) × (right : List Leaf) × Map (λ list. record { pointers = pointers; name = name; parameters = list }) (ParametersText names (suc depth)) f right
+some_function names depth pointers name = (record { pointers = pointers; name = name; parameters = [] }, awaited Nothing (mark punctuator.RightParenthesis 0) ∷ [], record { inner = []; is = refl; spells = record { role = Nothing; inside = []; place = 0; spells = grammar.empty (suc depth); cut = refl } })
+
+roled-function : (names : List (List ℕ)) (inner : Readers) (all : AllFirm names inner) (depth pointers : ℕ) (name : tree.Name) → Firm anything (FunctionText names depth pointers name) (λ _. anything) (read_function names inner depth pointers name)
+roled-function names inner all depth pointers name =
+    roled-opened (mark_place punctuator.LeftParenthesis) Nothing (opens (suc depth)) (λ t. refl) (λ t. refl) (mark punctuator.LeftParenthesis 0) 0 (mark-self punctuator.LeftParenthesis 0)
+    (λ place. some_function names depth pointers name)
+    (λ place t e within. firm-map (λ list. record { pointers = pointers; name = name; parameters = list }) (λ _. anything) (λ x. refl) (roled-parameters names inner all (suc depth)))
+
+roled-behind_name : (names : List (List ℕ)) (inner : Readers) (all : AllFirm names inner) (is_typedef : Bool) (made : Named)
+    → Firm anything (BehindName names is_typedef made) (stop_global is_typedef)
+    (Rattle.c_expression_reader.specs.Readers.choose (λ next. not is_typedef && is_mark punctuator.LeftParenthesis next)
+    (Rattle.exact_read.specs.Grammar.read_map (λ function. unit.Function function) (read_function names inner 0 made.0 made.1))
+    (Rattle.exact_read.specs.Grammar.read_map (λ dimensions. unit.Object (tree.Declared made.0 made.1 dimensions.0 dimensions.1)) (Rattle.c_expression_reader.specs.Types.read_dimensions inner 0)))
+roled-behind_name names inner all is_typedef made =
+    roled-allowed (not is_typedef) (is_mark punctuator.LeftParenthesis)
+    (λ g text m. let b = m.spells in (opens 1 (mark punctuator.LeftParenthesis b.first), b.right, b.cut ∙ ap (λ l. l ++ b.right) (one-mark punctuator.LeftParenthesis (opens 1) b.first b.left b.is_first), refl))
+    (λ g text rest m stops. object_second names is_typedef made m.inner text rest m.spells (stops_same m.inner rest (subst (λ (v : unit.Global). Stops (stop_global is_typedef v) rest) m.is stops)))
+    (λ t e. map_begins (λ f. unit.Function f) t (behind_begins (mark_place punctuator.LeftParenthesis) (opens 1) (λ t. refl) t t.offset (mark-some punctuator.LeftParenthesis t e) (some_function names 0 made.0 made.1)))
+    (map_silent (λ f. unit.Function f) (behind_silent (mark_place punctuator.LeftParenthesis) (opens 1) (λ t. refl)))
+    (roled-enter (both anything (λ t. is_mark punctuator.LeftParenthesis t.token)) (firm-map (λ f. unit.Function f) (stop_global is_typedef) (λ f. refl) (roled-function names inner all 0 made.0 made.1)))
+    (firm-map (object made) (stop_global is_typedef) (λ d. refl) (roled-stop (λ (d : Bool × tree.Expressions) t. stop_lengths is_typedef d.0 d.1 t) (λ d text h t. lengths_same is_typedef d t) (roled-dimensions_from names inner 0 (no_function is_typedef) (λ d. all.conditional 1 0))))
+  where
+    stops_same : (d : Bool × tree.Expressions) (rest : List Placed) → Stops (stop_lengths is_typedef d.0 d.1) rest → Stops (stop_dimensions (no_function is_typedef) d) rest
+    stops_same d [] h = tt
+    stops_same d (t ∷ rest) h = subst IsTrue (sym (lengths_same is_typedef d t)) h
+
+pub roled-global : (names : List (List ℕ)) (inner : Readers) (all : AllFirm names inner) (is_typedef : Bool) → Firm anything (grammar.GlobalDeclarator names is_typedef) (stop_global is_typedef) (read_global names inner is_typedef)
+roled-global names inner all is_typedef =
+    roled-same anything (grammar.GlobalDeclarator names is_typedef) (read_global names inner is_typedef) (λ t h. h) (text_global names is_typedef) (global_text names is_typedef) (λ tokens. refl)
+    (roled-behind {stop1 = λ _. anything} (roled-then {stop2 = λ _ _. anything} (roled-pointer anything) (λ p. firm-one (stop_pointer anything p) (awaited DeclaredName) (plain_name_at names) DeclaredName (λ t. refl) (λ t. refl) (named (fresh names)) (fresh names) (plain-self names (fresh names) (fresh_is names)))
     record {
       ends = λ p n left right rest one two stops. subst (λ l. Stops (stop_pointer anything p) (plains marks l ++ rest)) (sym (name_leaf (declares_other names) n right two).0) (name_stops p n rest);
       goes_on = λ p left one. (fresh names, awaited DeclaredName (named (fresh names)) ∷ [], record { token = named (fresh names); is = plain-self names (fresh names) (fresh_is names); cut = refl });
     })
-    (λ made left h w. exact-behind_name names inner all is_typedef made)
+    (λ made left h w. roled-behind_name names inner all is_typedef made)
     record {
       ends = λ made g left right rest one two stops. stops_anything (plains marks right ++ rest);
       goes_on = λ made left one. (object made (false, tree.no_expressions), [], second (record { inner = (false, tree.no_expressions); is = refl; spells = part.given 0 tree.no_expressions [] (part.no_lengths 0) }));

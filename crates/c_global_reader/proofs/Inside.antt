@@ -1,45 +1,49 @@
--- What stands in the brackets of a function is read exactly.
-use Rattle.std.proofs.Common.{◌≡◌, ℕ, suc, Bool, true, false, List, [], ◌∷◌, ◌++◌, Option, Some, None, refl, ap, sym, ◌∙◌, subst, not, ◌⊎◌, inl, inr, append_assoc, cond}
+-- What stands in the brackets of a function keeps roles.
+use Rattle.std.proofs.Common.{◌≡◌, Bool, true, false, refl, not, ℕ, List, [], ◌∷◌, ◌++◌, ap, sym, ◌∙◌, subst, append_assoc, Some, None, cond, ◌⊎◌, inl, inr, Option, suc, IsTrue, ◌&&◌}
 use Rattle.std.specs.Prelude.{map}
-use Rattle.c_spec.specs.declared.token.Keyword.TheVariants.{Const, Void}
+use Rattle.c_spec.specs.declared.token.Keyword.TheVariants.{Void, Const}
 use Rattle.c_spec.specs.declared.token.Punctuator.TheVariants as punctuator
-use Rattle.c_spec.specs.Lexical.{Placed, Token, Name as name_token, Word, Number as number_token, Character as character_token, Mark}
+use Rattle.c_spec.specs.Lexical.{Token, Name as name_token, Word, Number as number_token, Character as character_token, Mark, Placed}
 use Rattle.c_tree_spec.specs.Expression as tree
 use Rattle.c_tree_spec.specs.Unit as unit
 use Rattle.c_grammar_spec.specs.declared.Role.{Role}
 use Rattle.c_grammar_spec.specs.declared.Role.TheVariants.{Nothing, DeclaredName}
-use Rattle.c_grammar_spec.specs.Leaves.{Leaf, plain, awaited, opens, mark, word, named, marks}
+use Rattle.c_grammar_spec.specs.Leaves.{Leaf, plain, awaited, mark, word, named, opens, marks, roles}
 use Rattle.c_grammar_spec.specs.Expressions as part
 use Rattle.c_grammar_spec.specs.Units as grammar
-use Rattle.exact_read.specs.Reading.{Reader, plains, Stops}
-use Rattle.exact_read.specs.Exact.{Exact}
-use Rattle.exact_read.specs.Grammar.{anything, One, Map, Or, first, second, none, some, read_map}
-use Rattle.exact_read.proofs.Parts.{exact-map, exact-same, both}
-use Rattle.exact_read.proofs.Stop.{exact-enter}
+use Rattle.exact_read.specs.Reading.{plains, Stops, Reader}
+use Rattle.exact_read.specs.Grammar.{some, One, Map, Or, first, second, none, read_map, anything, read_or}
+use Rattle.exact_read.proofs.Parts.{both}
 use Rattle.c_expression_reader.specs.Classes.{is_mark, mark_place}
-use Rattle.c_expression_reader.specs.Readers.{Readers, token, choose}
-use Rattle.c_expression_reader.proofs.Marks.{one-mark, mark-one, exact-mark, exact-opened, exact-choose, exact-choice}
-use Rattle.c_type_reader.specs.Exactness.{AllExact}
-use Rattle.c_type_reader.proofs.Tokens.{leaves_of}
+use Rattle.c_expression_reader.specs.Readers.{token, Readers, choose}
+use Rattle.c_expression_reader.proofs.Marks.{one-mark, mark-one, one_first, mark-some, roled-mark, roled-opened, roled-choose, roled-choice, behind_begins, behind_silent, map_begins, map_silent}
+use Rattle.c_type_reader.specs.Exactness.{AllFirm}
+use Rattle.c_declarator_reader.proofs.Tokens.{leaves_of}
 use Rattle.c_type_reader.proofs.TypeFirsts.{specifiers_first}
 use Rattle.c_declaration_reader.specs.Declarations.{last_of, read_list_from}
-use Rattle.c_declaration_reader.proofs.ListFrom.{OthersText, exact-list_from, listed, list_split}
-use Rattle.c_global_reader.specs.Parameters.{ParameterRest, is_void, void_place, end_of_parameter, read_parameter, read_void_parameter, read_parameters}
+use Rattle.c_declaration_reader.proofs.ListFrom.{listed, OthersText, list_split, roled-list_from}
+use Rattle.c_global_reader.specs.Parameters.{is_void, void_place, end_of_parameter, read_parameter, read_void_parameter, read_parameters}
 use Rattle.c_global_reader.specs.Texts.{ParametersText}
 use Rattle.c_global_reader.proofs.Mapped.{list-mapped}
-use Rattle.c_global_reader.proofs.Parameters.{Ended, ParameterText, rich_parameter, exact-parameter, parameter_same}
-use Rattle.c_global_reader.proofs.Starting.{Starting, exact-starting}
-use Rattle.c_global_reader.proofs.Voids.{VoidText, void_parameter, first_void, VoidBack, parameter_void, rich_void, exact-void, void_same}
-use Rattle.c_global_reader.proofs.Functions.{tree_of, end_of, some_pair, lists, PlainList, VoidList, no_void, no_close, AloneText, AfterVoid, InsideText, listed_list, list_listed, plain_grammar}
+use Rattle.c_global_reader.proofs.Parameters.{Ended, ParameterText, rich_parameter, parameter_same, roled-parameter}
+use Rattle.c_global_reader.proofs.Starting.{Starting, AskedFirst, asked_first, roled-starting, asked_nothing}
+use Rattle.c_global_reader.proofs.Voids.{void_parameter, VoidText, VoidBack, first_void, parameter_void, roled-void, rich_void, void_same}
+use Rattle.c_global_reader.proofs.Functions.{tree_of, end_of, VoidList, no_close, listed_list, AloneText, InsideText, plain_grammar, PlainList, AfterVoid, list_listed, some_pair, no_void, lists}
+use Rattle.role_read.specs.Roles.{IsAsked}
+use Rattle.exact_read.specs.Awaited.{Next, Told}
+use Rattle.role_read.proofs.Basics.{Meets, roled-same, roled-enter}
+use Rattle.role_read.proofs.Begins.{Silent, Begins, begun_enters, silent_next}
+use Rattle.c_expression_reader.specs.Firm.{quiet, Firm}
+use Rattle.c_expression_reader.proofs.Firm.{firm-map}
+use Rattle.c_declarator_reader.proofs.Listed.{begins_meet}
+use Rattle.c_type_reader.proofs.Begins.{specifiers_silent}
+use Rattle.c_declarator_reader.proofs.Fresh.{fresh, fresh_is}
+use Rattle.c_type_reader.proofs.Ended.{specified}
+use Rattle.role_read.proofs.Or.{Chooses, roled-or}
 
 not_true : (b : Bool) → not b ≡ true → b ≡ false
 not_true true e = absurd (cc)
 not_true false e = refl
-
--- a `void` with something behind it
-void_list : (names : List (List ℕ)) (depth place : ℕ) (list : List Ended) (text : List Leaf) → VoidList names depth place list text → PlainList names depth list (plain (word Void place) ∷ text)
-void_list names depth place list text r =
-    record { head = r.head; rest = r.rest; left = plain (word Void place) ∷ r.left; right = r.right; place = r.place; is = r.is; is_head = void_parameter names depth place r.head r.left r.is_head; are_rest = r.are_rest; cut = ap (λ l. plain (word Void place) ∷ l) r.cut }
 
 void_grammar : (names : List (List ℕ)) (depth place : ℕ) (list : List Ended) (text : List Leaf) → Starting no_close (VoidList names depth place) list text → ParametersText names depth (map tree_of list) (plain (word Void place) ∷ text)
 void_grammar names depth place list text s =
@@ -189,13 +193,6 @@ grammar_inside names depth list role place inside (grammar.some d ps e t h k) = 
 text_inside : (names : List (List ℕ)) (depth : ℕ) (list : List unit.Parameter) (text : List Leaf) → ParametersText names depth list text → InsideText names depth list text
 text_inside names depth list text p = subst (λ l. InsideText names depth list l) (sym p.cut) (grammar_inside names depth list p.role p.place p.inside p.spells)
 
--- what is read
-abbrev rich_plain : (names : List (List ℕ)) (inner : Readers) (all : AllExact names inner) → (depth : ℕ) → Reader Placed Role (List Ended)
-rich_plain names inner all depth = read_list_from end_of punctuator.RightParenthesis (rich_parameter names depth inner (all.specifiers depth).both) (rich_parameter names depth inner (all.specifiers depth).both)
-
-abbrev rich_behind : (names : List (List ℕ)) (inner : Readers) (all : AllExact names inner) → (depth place : ℕ) → Reader Placed Role (List Ended)
-rich_behind names inner all depth place = read_list_from end_of punctuator.RightParenthesis (rich_void names inner depth place) (rich_parameter names depth inner (all.specifiers depth).both)
-
 list_nonempty : (names : List (List ℕ)) (depth : ℕ) (list : List Ended) (text : List Leaf) → PlainList names depth list text → (u : Leaf) × (o : List Leaf) × (text ≡ u ∷ o)
 list_nonempty names depth list text r = let h = r.is_head in let q = specifiers_first names depth r.head.0.specifiers r.head.1 h.left h.are_specifiers in (q.leaf, _, r.cut ∙ ap (λ l. l ++ (r.right ++ awaited (end_of (last_of r.head r.rest)) (mark punctuator.RightParenthesis r.place) ∷ [])) (h.cut ∙ ap (λ l. l ++ h.right) q.cut))
 
@@ -294,49 +291,155 @@ list_no_close names depth list text rest r =
     let close = awaited (end_of (last_of r.head r.rest)) (mark punctuator.RightParenthesis r.place) ∷ [] in
     subst (λ l. Stops (λ t. not (is_mark punctuator.RightParenthesis t.token)) (plains marks l ++ rest)) (sym (r.cut ∙ ap (λ l. l ++ (r.right ++ close)) (h.cut ∙ ap (λ l. l ++ h.right) q.cut))) (rw (type_no_close names q.leaf.token.token q.yes) refl)
 
-exact-after_void : (names : List (List ℕ)) (inner : Readers) (all : AllExact names inner) (depth place : ℕ)
-    → Exact marks anything (Or AloneText (Map (map tree_of) (Starting no_close (VoidList names depth place)))) (λ _. anything)
-    (choose (is_mark punctuator.RightParenthesis) (read_map (λ _. []) (token DeclaredName (awaited DeclaredName) (mark_place punctuator.RightParenthesis))) (read_list_from end_of_parameter punctuator.RightParenthesis (read_void_parameter names inner depth place) (read_parameter names inner depth)))
-exact-after_void names inner all depth place =
-    exact-choose (is_mark punctuator.RightParenthesis)
+-- behind a first `void` a name can stand, which is asked for
+name_pair : (names : List (List ℕ)) (place : ℕ) → Ended
+name_pair names place = (Rattle.c_global_reader.specs.Parameters.parameter_of (Rattle.c_global_reader.specs.Parameters.void_at place) (0, (Some (fresh names), (false, tree.no_expressions))), Rattle.c_type_reader.specs.Endings.WordsAround)
+
+named_starts : (names : List (List ℕ)) (depth place : ℕ) → Starting no_close (VoidList names depth place) (name_pair names place ∷ []) (awaited DeclaredName (named (fresh names)) ∷ ([] ++ awaited (end_of (name_pair names place)) (mark punctuator.RightParenthesis 0) ∷ []))
+unfolding name_pair
+named_starts names depth place =
+    record {
+      spells = record {
+        head = name_pair names place;
+        rest = [];
+        left = awaited DeclaredName (named (fresh names)) ∷ [];
+        right = [];
+        place = 0;
+        is = refl;
+        is_head = record {
+          consts = [];
+          right = awaited DeclaredName (named (fresh names)) ∷ [];
+          is = refl;
+          is_end = refl;
+          cut = refl;
+          is_rest = record { left = []; right = awaited DeclaredName (named (fresh names)) ∷ []; cut = refl; first = part.none; second = record { left = awaited DeclaredName (named (fresh names)) ∷ []; right = []; cut = refl; first = grammar.name (fresh names) (fresh_is names); second = part.given depth tree.no_expressions [] (part.no_lengths depth) } };
+        };
+        are_rest = none (tt, name_pair names place);
+        cut = refl;
+      };
+      leaf = awaited DeclaredName (named (fresh names));
+      more = _;
+      cut = refl;
+      passes = refl;
+    }
+
+behind_asks : (names : List (List ℕ)) (depth place : ℕ) → AskedFirst no_close (VoidList names depth place)
+behind_asks names depth place = asked_first no_close (awaited DeclaredName (named (fresh names))) (record { value = _; before = []; more = _; spells = named_starts names depth place; same = refl }) (λ e. cc)
+
+-- a list of parameters begins with a token that tells nothing
+plain_silent : (names : List (List ℕ)) (depth : ℕ) → Silent marks roles (PlainList names depth)
+plain_silent names depth list u more r =
+    let h = r.is_head in
+    let q = specifiers_first names depth r.head.0.specifiers r.head.1 h.left h.are_specifiers in
+    let close = awaited (end_of (last_of r.head r.rest)) (mark punctuator.RightParenthesis r.place) ∷ [] in
+    let e : u ∷ more ≡ q.leaf ∷ ((q.more ++ h.right) ++ (r.right ++ close)) = r.cut ∙ ap (λ l. l ++ (r.right ++ close)) (h.cut ∙ ap (λ l. l ++ h.right) q.cut) in
+    let head : u ≡ q.leaf = cc in
+    ap (λ (l : Leaf). l.role) head ∙ specifiers_silent names part.InPart depth r.head.0.specifiers h.left (specified names part.InPart depth r.head.0.specifiers r.head.1 h.left h.are_specifiers) q.leaf q.more q.cut
+
+abbrev ListedBehind : (names : List (List ℕ)) → (depth place : ℕ) → List unit.Parameter → List Leaf → Type 0
+ListedBehind names depth place = Map (map tree_of) (Starting no_close (VoidList names depth place))
+
+abbrev read_close : Reader Placed Role (List unit.Parameter)
+read_close = read_map (λ _. []) (token DeclaredName (awaited DeclaredName) (mark_place punctuator.RightParenthesis))
+
+abbrev read_listed : (names : List (List ℕ)) → Readers → (depth place : ℕ) → Reader Placed Role (List unit.Parameter)
+read_listed names inner depth place = read_list_from end_of_parameter punctuator.RightParenthesis (read_void_parameter names inner depth place) (read_parameter names inner depth)
+
+-- what closes a list of no parameters tells that a name can stand there
+alone_told : (u : Leaf) → Next marks AloneText [] u → u.role ≡ DeclaredName
+alone_told u n = by_before n.before n.spells n.same
+  where
+    by_before : (before : List Leaf) → AloneText n.value (before ++ u ∷ n.more) → plains marks before ≡ [] → u.role ≡ DeclaredName
+    by_before [] m same = ap (λ (l : Leaf). l.role) (one_first m.inner u n.more m.spells)
+    by_before (v ∷ before) m same = absurd (cc)
+
+alone_begins : (t : Placed) → is_mark punctuator.RightParenthesis t.token ≡ true → Begins marks AloneText t
+alone_begins t e = record { value = []; first = awaited DeclaredName t; more = []; spells = record { inner = t.offset; is = refl; spells = record { token = t; is = mark-some punctuator.RightParenthesis t e; cut = refl } }; is = refl }
+
+asked_at : (names : List (List ℕ)) (depth place : ℕ) (kind : Role) (rest : List Placed) → IsAsked marks roles (ListedBehind names depth place) rest kind rest → (u : Leaf) → u.role ≡ DeclaredName → Told roles u kind
+asked_at names depth place kind rest a u e = by_meets (begins_meet kind rest a (map tree_of (name_pair names place ∷ [])) (awaited DeclaredName (named (fresh names))) _ (record { inner = name_pair names place ∷ []; is = refl; spells = named_starts names depth place }))
+  where
+    by_meets : Meets roles DeclaredName kind → Told roles u kind
+    by_meets (inl h) = absurd (cc)
+    by_meets (inr h) = inl (e ∙ h)
+
+and_so : (a b : Bool) → IsTrue (a && b) → b ≡ true
+and_so true true h = refl
+and_so true false h = absurd (cc)
+and_so false b h = absurd (cc)
+
+after_chooses : (names : List (List ℕ)) (inner : Readers) (depth place : ℕ) → Firm (both anything (λ t. is_mark punctuator.RightParenthesis t.token)) AloneText (λ _. anything) read_close → Firm (both anything (λ t. not (is_mark punctuator.RightParenthesis t.token))) (ListedBehind names depth place) (λ _. anything) (read_listed names inner depth place)
+    → Chooses marks roles anything (λ t. is_mark punctuator.RightParenthesis t.token) AloneText (ListedBehind names depth place) quiet read_close (read_listed names inner depth place)
+after_chooses names inner depth place one two =
+    record {
+      enters = λ t more kind opens e. begun_enters one.exact t more kind opens (alone_begins t (and_so true (is_mark punctuator.RightParenthesis t.token) opens)) e;
+      begins = λ u before kind n opens e. asked_at names depth place kind before (two.asks before kind before opens e) u (alone_told u n);
+      empty = λ x u m n. absurd (let s = m.spells in let c : [] ≡ s.leaf ∷ s.more = s.cut in cc);
+    }
+
+roled-after_void : (names : List (List ℕ)) (inner : Readers) (all : AllFirm names inner) (depth place : ℕ)
+    → Firm anything (Or AloneText (ListedBehind names depth place)) (λ _. anything) (choose (is_mark punctuator.RightParenthesis) read_close (read_listed names inner depth place))
+roled-after_void names inner all depth place =
+    roled-same anything (Or AloneText (ListedBehind names depth place)) (choose (is_mark punctuator.RightParenthesis) read_close (read_listed names inner depth place)) (λ t h. h) (λ x text h. h) (λ x text h. h) same
+    (roled-or (λ t. is_mark punctuator.RightParenthesis t.token)
     record {
       first_begins = λ x text m. (awaited DeclaredName (mark punctuator.RightParenthesis m.inner), [], one-mark punctuator.RightParenthesis (awaited DeclaredName) m.inner text m.spells, refl);
       second_begins = λ x text rest m stops. let s = m.spells in subst (λ l. Stops (λ t. not (is_mark punctuator.RightParenthesis t.token)) (plains marks l ++ rest)) (sym s.cut) s.passes;
     }
-    (exact-enter (both anything (λ t. is_mark punctuator.RightParenthesis t.token)) (exact-map (λ (_ : ℕ). []) (λ _. anything) (λ x. refl) (exact-mark anything punctuator.RightParenthesis DeclaredName (awaited DeclaredName) (λ t. refl))))
-    (exact-same (both anything (λ t. not (is_mark punctuator.RightParenthesis t.token))) (Map (map tree_of) (Starting no_close (VoidList names depth place))) (read_list_from end_of_parameter punctuator.RightParenthesis (read_void_parameter names inner depth place) (read_parameter names inner depth)) (λ t h. h) (λ x text h. h) (λ x text h. h)
-    (list-mapped tree_of end_of_parameter punctuator.RightParenthesis (read_void_parameter names inner depth place) (read_parameter names inner depth) (rich_void names inner depth place) (rich_parameter names depth inner (all.specifiers depth).both) (void_same names inner depth place) (parameter_same names inner all depth))
-    (exact-map (map tree_of) (λ _. anything) (λ x. refl)
-    (exact-starting no_close (λ list text r. behind_nonempty text (r.left ++ r.right) _ (r.cut ∙ sym (append_assoc r.left r.right _))) (star_pair place ∷ []) _ (behind_starts names depth place)
-    (exact-list_from end_of (lists names depth) (exact-void names inner all depth place) (exact-parameter names inner all depth)))))
+    (after_chooses names inner depth place one_is two_is) one_is two_is)
+  where
+    one_is : Firm (both anything (λ t. is_mark punctuator.RightParenthesis t.token)) AloneText (λ _. anything) read_close
+    one_is = roled-enter (both anything (λ t. is_mark punctuator.RightParenthesis t.token)) (firm-map (λ (_ : ℕ). []) (λ _. anything) (λ x. refl) (roled-mark anything punctuator.RightParenthesis DeclaredName (awaited DeclaredName) (λ t. refl) (λ t. refl)))
 
-exact-plain : (names : List (List ℕ)) (inner : Readers) (all : AllExact names inner) (depth : ℕ)
-    → Exact marks (both anything (λ t. not (is_void t.token))) (Map (map tree_of) (Starting no_void (PlainList names depth))) (λ _. anything) (read_list_from end_of_parameter punctuator.RightParenthesis (read_parameter names inner depth) (read_parameter names inner depth))
-exact-plain names inner all depth =
-    exact-same (both anything (λ t. not (is_void t.token))) (Map (map tree_of) (Starting no_void (PlainList names depth))) (read_list_from end_of_parameter punctuator.RightParenthesis (read_parameter names inner depth) (read_parameter names inner depth)) (λ t h. h) (λ x text h. h) (λ x text h. h)
+    two_is : Firm (both anything (λ t. not (is_mark punctuator.RightParenthesis t.token))) (ListedBehind names depth place) (λ _. anything) (read_listed names inner depth place)
+    two_is =
+        roled-same (both anything (λ t. not (is_mark punctuator.RightParenthesis t.token))) (ListedBehind names depth place) (read_listed names inner depth place) (λ t h. h) (λ x text h. h) (λ x text h. h)
+        (list-mapped tree_of end_of_parameter punctuator.RightParenthesis (read_void_parameter names inner depth place) (read_parameter names inner depth) (rich_void names inner depth place) (rich_parameter names depth inner (all.specifiers depth).both) (void_same names inner depth place) (parameter_same names inner all depth))
+        (firm-map (map tree_of) (λ _. anything) (λ x. refl)
+        (roled-starting no_close (λ list text r. behind_nonempty text (r.left ++ r.right) _ (r.cut ∙ sym (append_assoc r.left r.right _))) (star_pair place ∷ []) _ (behind_starts names depth place) (behind_asks names depth place)
+        (roled-list_from end_of (λ x. inr refl) (lists names depth) (roled-void names inner all depth place) (roled-parameter names inner all depth))))
+
+    same : (tokens : List Placed) → choose (is_mark punctuator.RightParenthesis) read_close (read_listed names inner depth place) tokens ≡ read_or (λ t. is_mark punctuator.RightParenthesis t.token) read_close (read_listed names inner depth place) tokens
+    same [] = refl
+    same (t ∷ tokens) = refl
+
+roled-plain : (names : List (List ℕ)) (inner : Readers) (all : AllFirm names inner) (depth : ℕ)
+    → Firm (both anything (λ t. not (is_void t.token))) (Map (map tree_of) (Starting no_void (PlainList names depth))) (λ _. anything) (read_list_from end_of_parameter punctuator.RightParenthesis (read_parameter names inner depth) (read_parameter names inner depth))
+roled-plain names inner all depth =
+    roled-same (both anything (λ t. not (is_void t.token))) (Map (map tree_of) (Starting no_void (PlainList names depth))) (read_list_from end_of_parameter punctuator.RightParenthesis (read_parameter names inner depth) (read_parameter names inner depth)) (λ t h. h) (λ x text h. h) (λ x text h. h)
     (list-mapped tree_of end_of_parameter punctuator.RightParenthesis (read_parameter names inner depth) (read_parameter names inner depth) (rich_parameter names depth inner (all.specifiers depth).both) (rich_parameter names depth inner (all.specifiers depth).both) (parameter_same names inner all depth) (parameter_same names inner all depth))
-    (exact-map (map tree_of) (λ _. anything) (λ x. refl)
-    (exact-starting no_void (list_nonempty names depth) (some_pair ∷ []) _ (plain_starts names depth)
-    (exact-list_from end_of (lists names depth) (exact-parameter names inner all depth) (exact-parameter names inner all depth))))
+    (firm-map (map tree_of) (λ _. anything) (λ x. refl)
+    (roled-starting no_void (list_nonempty names depth) (some_pair ∷ []) _ (plain_starts names depth) (asked_nothing no_void (λ u n. silent_next (plain_silent names depth) u n))
+    (roled-list_from end_of (λ x. inr refl) (lists names depth) (roled-parameter names inner all depth) (roled-parameter names inner all depth))))
 
-pub exact-parameters : (names : List (List ℕ)) (inner : Readers) (all : AllExact names inner) (depth : ℕ) → Exact marks anything (ParametersText names depth) (λ _. anything) (read_parameters names inner depth)
-exact-parameters names inner all depth =
-    exact-same anything (ParametersText names depth) (read_parameters names inner depth) (λ t h. h) (inside_grammar names depth) (text_inside names depth) (λ tokens. refl)
-    (exact-choice (is_mark punctuator.RightParenthesis)
+void_found : (t : Placed) → is_void t.token ≡ true → void_place t ≡ Some t.offset
+void_found t e = ap (λ b. cond b (Some t.offset) None) e
+
+some_after : (names : List (List ℕ)) (depth place : ℕ) → (y : List unit.Parameter) × (right : List Leaf) × Or AloneText (ListedBehind names depth place) y right
+some_after names depth place = ([], awaited DeclaredName (mark punctuator.RightParenthesis 0) ∷ [], first (record { inner = 0; is = refl; spells = mark-one punctuator.RightParenthesis (awaited DeclaredName) 0 }))
+
+pub roled-parameters : (names : List (List ℕ)) (inner : Readers) (all : AllFirm names inner) (depth : ℕ) → Firm anything (ParametersText names depth) (λ _. anything) (read_parameters names inner depth)
+roled-parameters names inner all depth =
+    roled-same anything (ParametersText names depth) (read_parameters names inner depth) (λ t h. h) (inside_grammar names depth) (text_inside names depth) (λ tokens. refl)
+    (roled-choice (is_mark punctuator.RightParenthesis)
     record {
       first_begins = λ x text m. (plain (mark punctuator.RightParenthesis m.inner), [], one-mark punctuator.RightParenthesis plain m.inner text m.spells, refl);
       second_begins = λ x text rest o stops. others x text rest o;
     }
-    (exact-map (λ (_ : ℕ). []) (λ _. anything) (λ x. refl) (exact-mark anything punctuator.RightParenthesis Nothing plain (λ t. refl)))
-    (exact-choose is_void
+    (λ t e. map_begins (λ (_ : ℕ). []) t (record { value = t.offset; first = plain t; more = []; spells = record { token = t; is = mark-some punctuator.RightParenthesis t e; cut = refl }; is = refl }))
+    (map_silent (λ (_ : ℕ). []) (λ x u more o. ap (λ (l : Leaf). l.role) (one_first x u more o)))
+    (firm-map (λ (_ : ℕ). []) (λ _. anything) (λ x. refl) (roled-mark anything punctuator.RightParenthesis Nothing plain (λ t. refl) (λ t. refl)))
+    (roled-choose is_void
     record {
       first_begins = λ x text b. (plain b.is_first.token, b.right, b.cut ∙ ap (λ l. l ++ b.right) b.is_first.cut, (void_passes b.is_first.token b.first b.is_first.is).0);
       second_begins = λ x text rest m stops. let s = m.spells in subst (λ l. Stops (λ t. not (is_void t.token)) (plains marks l ++ rest)) (sym s.cut) s.passes;
     }
-    (exact-enter (both anything (λ t. is_void t.token)) (exact-opened void_place Nothing plain (λ t. refl) (word Void 0) 0 refl
+    (λ t e. behind_begins void_place plain (λ t. refl) t t.offset (void_found t e) (some_after names depth t.offset))
+    (behind_silent void_place plain (λ t. refl))
+    (roled-enter (both anything (λ t. is_void t.token)) (roled-opened void_place Nothing plain (λ t. refl) (λ t. refl) (word Void 0) 0 refl
     (λ place. ([], awaited DeclaredName (mark punctuator.RightParenthesis 0) ∷ [], first (record { inner = 0; is = refl; spells = mark-one punctuator.RightParenthesis (awaited DeclaredName) 0 })))
-    (λ place t e within. exact-after_void names inner all depth place)))
-    (exact-plain names inner all depth)))
+    (λ place t e within. roled-after_void names inner all depth place)))
+    (roled-plain names inner all depth)))
   where
     others : (x : List unit.Parameter) (text : List Leaf) (rest : List Placed) → Or (AfterVoid names depth) (Map (map tree_of) (Starting no_void (PlainList names depth))) x text → Stops (λ t. not (is_mark punctuator.RightParenthesis t.token)) (plains marks text ++ rest)
     others x text rest (first b) = subst (λ l. Stops (λ t. not (is_mark punctuator.RightParenthesis t.token)) (plains marks l ++ rest)) (sym (b.cut ∙ ap (λ l. l ++ b.right) b.is_first.cut)) (rw (void_passes b.is_first.token b.first b.is_first.is).1 refl)

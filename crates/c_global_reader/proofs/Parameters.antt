@@ -1,33 +1,40 @@
--- Parameters are read exactly.
-use Rattle.std.proofs.Common.{◌≡◌, ℕ, zero, suc, Bool, true, false, List, [], ◌∷◌, ◌++◌, Option, Some, None, Ok, Err, refl, ap, sym, ◌∙◌, subst, IsTrue, not, ◌&&◌}
+-- Parameters keep roles.
+use Rattle.std.proofs.Common.{ℕ, Bool, true, List, Option, Some, None, not, ◌&&◌, ◌≡◌, false, [], ◌∷◌, ap, ◌∙◌, refl, IsTrue, ◌++◌, zero, suc, sym, subst, Ok, Err, inl, inr}
 use Rattle.c_spec.specs.declared.token.Punctuator.TheVariants as punctuator
 use Rattle.c_spec.specs.Lexical.{Placed}
 use Rattle.c_tree_spec.specs.Expression as tree
 use Rattle.c_tree_spec.specs.Unit as unit
 use Rattle.c_grammar_spec.specs.declared.Role.{Role}
-use Rattle.c_grammar_spec.specs.declared.Role.TheVariants.{DeclaredName}
-use Rattle.c_grammar_spec.specs.Leaves.{Leaf, awaited, opens, mark, named, marks}
-use Rattle.c_grammar_spec.specs.Expressions.{is_type_name, InPart, Pointer, none, star, Dimensions, given, left_out, no_lengths, some_length, Lengths}
+use Rattle.c_grammar_spec.specs.declared.Role.TheVariants.{DeclaredName, Nothing}
+use Rattle.c_grammar_spec.specs.Leaves.{Leaf, awaited, named, marks, mark, opens, roles}
+use Rattle.c_grammar_spec.specs.Expressions.{is_type_name, none, Dimensions, Pointer, given, left_out, no_lengths, some_length, Lengths, star, InPart}
 use Rattle.c_grammar_spec.specs.Units as grammar
-use Rattle.exact_read.specs.Reading.{Outcome, Reader, plains, Stops}
-use Rattle.exact_read.specs.Exact.{Exact}
-use Rattle.exact_read.specs.Grammar.{bind, anything, One, Map, Then, Or, first, second, Nothing as Empty, nothing, read_then, read_map}
+use Rattle.exact_read.specs.Reading.{plains, Stops, Reader, Outcome}
+use Rattle.exact_read.specs.Grammar.{One, Map, Or, Nothing as Empty, first, second, nothing, Then, read_then, read_map, bind, read_nothing, read_or, anything}
 use Rattle.exact_read.proofs.Basics.{plains-two}
-use Rattle.exact_read.proofs.Parts.{exact-one, exact-map, exact-same, exact-nothing, both}
-use Rattle.exact_read.proofs.Then.{exact-then}
-use Rattle.exact_read.proofs.Stop.{exact-stop}
+use Rattle.exact_read.proofs.Parts.{both}
 use Rattle.c_expression_reader.specs.Classes.{is_mark}
-use Rattle.c_expression_reader.specs.Readers.{Readers}
-use Rattle.c_expression_reader.specs.Types.{plain_name_at, is_plain_name, is_const}
-use Rattle.c_expression_reader.proofs.Marks.{exact-choose}
-use Rattle.c_type_reader.specs.Endings.{Ending, WordsAround, BraceToo, WordsToo, goes_on_with, SpecifiersEnd}
-use Rattle.c_type_reader.specs.Exactness.{AllExact}
-use Rattle.c_type_reader.proofs.Fresh.{fresh, fresh_is}
-use Rattle.c_type_reader.proofs.Pointers.{stop_pointer, exact-pointer}
-use Rattle.c_type_reader.proofs.Dimensions.{stop_dimensions, exact-dimensions_from}
-use Rattle.c_type_reader.proofs.Declarators.{plain-is, plain-self, plain-passes}
-use Rattle.c_type_reader.proofs.Members.{specified, with_end}
-use Rattle.c_global_reader.specs.Parameters.{read_optional_name, ParameterRest, read_parameter_rest, parameter_of, read_parameter, end_of_parts, end_of_parameter}
+use Rattle.c_expression_reader.specs.Readers.{token, Readers}
+use Rattle.c_expression_reader.specs.Types.{is_plain_name, plain_name_at, is_const, read_dimensions}
+use Rattle.c_expression_reader.proofs.Marks.{one_first}
+use Rattle.c_type_reader.specs.Endings.{Ending, goes_on_with, WordsAround, BraceToo, WordsToo, SpecifiersEnd}
+use Rattle.c_type_reader.specs.Exactness.{AllFirm}
+use Rattle.c_declarator_reader.proofs.Fresh.{fresh, fresh_is}
+use Rattle.c_declarator_reader.proofs.Pointers.{stop_pointer}
+use Rattle.c_declarator_reader.proofs.Dimensions.{stop_dimensions, roled-dimensions_from}
+use Rattle.c_declarator_reader.proofs.Declarators.{plain-is, plain-self, plain-passes}
+use Rattle.c_type_reader.proofs.Ended.{specified, with_end}
+use Rattle.c_global_reader.specs.Parameters.{ParameterRest, parameter_of, read_parameter_rest, read_parameter, end_of_parts, end_of_parameter, read_optional_name}
+use Rattle.role_read.specs.Roles.{Roled}
+use Rattle.exact_read.specs.Awaited.{Next, Told}
+use Rattle.role_read.proofs.Basics.{told_as, roled-same, roled-stop, roled-map}
+use Rattle.role_read.proofs.Begins.{Begins, begun_enters}
+use Rattle.role_read.proofs.Then.{roled-then, roled-then_within}
+use Rattle.c_expression_reader.specs.Firm.{Firm}
+use Rattle.c_expression_reader.proofs.Firm.{firm-map, firm-one, firm-nothing}
+use Rattle.c_declarator_reader.proofs.Plain.{roled-pointer}
+use Rattle.c_type_reader.proofs.Begins.{plain_found}
+use Rattle.role_read.proofs.Or.{Chooses, roled-or}
 
 -- a name or none
 abbrev pub stop_name : (names : List (List ℕ)) → (entry : Placed → Bool) → Option tree.Name → Placed → Bool
@@ -62,17 +69,6 @@ and-left false b h = absurd (cc)
 none_second : (names : List (List ℕ)) (entry : Placed → Bool) (n : Option tree.Name) (text : List Leaf) (rest : List Placed) → Empty None n text → Stops (stop_name names entry n) rest → Stops (λ t. not (is_plain_name names t.token)) (plains marks text ++ rest)
 none_second names entry n text [] nothing stops = tt
 none_second names entry n text (t ∷ rest) nothing stops = and-right (entry t) (not (is_plain_name names t.token)) stops
-
-exact-optional_name : (names : List (List ℕ)) (entry : Placed → Bool) → Exact marks entry (grammar.ParameterName names) (stop_name names entry) (read_optional_name names)
-exact-optional_name names entry =
-    exact-same entry (grammar.ParameterName names) (read_optional_name names) (λ t h. h) (text_name names) (name_text names) (λ tokens. refl)
-    (exact-choose (is_plain_name names)
-    record {
-      first_begins = λ n text m. let h = name_leaf names m.inner text m.spells in (awaited DeclaredName (named m.inner), [], h.0, plain-passes names m.inner h.1);
-      second_begins = λ n text rest one stops. none_second names entry n text rest one stops;
-    }
-    (exact-map (λ n. Some n) (stop_name names entry) (λ n. refl) (exact-one marks (both entry (λ t. is_plain_name names t.token)) (awaited DeclaredName) (plain_name_at names) DeclaredName (λ t. refl) (named (fresh names)) (fresh names) (plain-self names (fresh names) (fresh_is names))))
-    (exact-stop (stop_name names entry) (λ n text one t. none_same names entry n text t one) (exact-nothing (both entry (λ t. not (is_plain_name names t.token))) None)))
 
 -- what stands behind the specifiers of a parameter
 abbrev pub stop_rest : (names : List (List ℕ)) → (entry : Placed → Bool) → ParameterRest → Placed → Bool
@@ -142,23 +138,6 @@ rest_stops names depth entry opens r text rest t stops =
     let p = pointer_stop entry opens.at_star r.0 t.left (plains marks u.left ++ (plains marks u.right ++ rest)) t.first n in
     subst (Stops entry) (sym (ap (λ l. plains marks l ++ rest) (t.cut ∙ ap (λ l. t.left ++ l) u.cut) ∙ plains-two marks t.left (u.left ++ u.right) rest ∙ ap (λ l. plains marks t.left ++ l) (plains-two marks u.left u.right rest))) p
 
-pub exact-rest : (names : List (List ℕ)) (inner : Readers) → AllExact names inner → (depth : ℕ) (entry : Placed → Bool) → Opens entry → Exact marks entry (RestText names depth) (stop_rest names entry) (read_parameter_rest names inner depth)
-exact-rest names inner all depth entry opens =
-    exact-then {stop2 = λ n y. stop_dimensions (stop_name names (stop_pointer entry n) y.0) y.1} (exact-pointer entry)
-    (λ n. exact-then {stop2 = λ name y. stop_dimensions (stop_name names (stop_pointer entry n) name) y} (exact-optional_name names (stop_pointer entry n))
-    (λ name. exact-dimensions_from names inner depth (stop_name names (stop_pointer entry n) name) (λ d. all.conditional (suc depth) 0))
-    record {
-      ends = λ name d left right rest one two stops. dimensions_stop names depth (stop_name names (stop_pointer entry n) name) (name_at_bracket names entry opens n name) d.0 d.1 right rest two stops;
-      goes_on = λ name left one. ((false, tree.no_expressions), [], given depth tree.no_expressions [] (no_lengths depth));
-    })
-    record {
-      ends = λ n y left right rest one two stops.
-          let d = dimensions_stop names depth (stop_name names (stop_pointer entry n) y.0) (name_at_bracket names entry opens n y.0) y.1.0 y.1.1 two.right rest two.second stops in
-          let m = name_stop names (stop_pointer entry n) (pointer_name entry opens n) y.0 two.left (plains marks two.right ++ rest) two.first d in
-          subst (Stops (stop_pointer entry n)) (sym (ap (λ l. plains marks l ++ rest) two.cut ∙ plains-two marks two.left two.right rest)) m;
-      goes_on = λ n left one. ((None, (false, tree.no_expressions)), [], record { left = []; right = []; cut = refl; first = grammar.none; second = given depth tree.no_expressions [] (no_lengths depth) });
-    }
-
 -- a parameter, with where its specifiers end
 abbrev pub Ended : Type 0
 Ended = unit.Parameter × Ending
@@ -201,21 +180,8 @@ parameter_text names depth pair text p = record { inner = ((pair.0.specifiers, p
 abbrev pub rich_parameter : (names : List (List ℕ)) → (depth : ℕ) → (inner : Readers) → Reader Placed Role (tree.Specifiers × Ending) → Reader Placed Role Ended
 rich_parameter names depth inner both = read_map made_parameter (read_then both (λ _. read_parameter_rest names inner depth))
 
-pub exact-parameter : (names : List (List ℕ)) (inner : Readers) (all : AllExact names inner) (depth : ℕ) → Exact marks anything (ParameterText names depth) (stop_parameter names) (rich_parameter names depth inner (all.specifiers depth).both)
-exact-parameter names inner all depth =
-    exact-same anything (ParameterText names depth) (rich_parameter names depth inner (all.specifiers depth).both) (λ t h. h) (text_parameter names depth) (parameter_text names depth) (λ tokens. refl)
-    (exact-map made_parameter (stop_parameter names) (λ made. refl)
-    (exact-then {stop2 = λ pair r. stop_rest names (after_specifiers pair.1) r} (all.specifiers depth).is (λ pair. exact-rest names inner all depth (after_specifiers pair.1) (specifiers_open pair.1))
-    record {
-      ends = λ pair r left right rest one two stops. rest_stops names depth (after_specifiers pair.1) (specifiers_open pair.1) r right rest two stops;
-      goes_on = λ pair left one. ((0, (None, (false, tree.no_expressions))), [], rest_none names depth);
-    }))
-  where
-    rest_none : (names : List (List ℕ)) (depth : ℕ) → RestText names depth (0, (None, (false, tree.no_expressions))) []
-    rest_none names depth = record { left = []; right = []; cut = refl; first = none; second = record { left = []; right = []; cut = refl; first = grammar.none; second = given depth tree.no_expressions [] (no_lengths depth) } }
-
 -- the readers give the same
-pub parameter_same : (names : List (List ℕ)) (inner : Readers) (all : AllExact names inner) (depth : ℕ) (tokens : List Placed) → read_parameter names inner depth tokens ≡ read_map (λ (pair : Ended). pair.0) (rich_parameter names depth inner (all.specifiers depth).both) tokens
+pub parameter_same : (names : List (List ℕ)) (inner : Readers) (all : AllFirm names inner) (depth : ℕ) (tokens : List Placed) → read_parameter names inner depth tokens ≡ read_map (λ (pair : Ended). pair.0) (rich_parameter names depth inner (all.specifiers depth).both) tokens
 parameter_same names inner all depth tokens =
     ap (λ (o : Outcome Placed Role tree.Specifiers). bind {Y = unit.Parameter} (bind {Y = tree.Specifiers × ParameterRest} o (λ s rest. bind (read_parameter_rest names inner depth rest) (λ r after. Ok ((s, r), after)))) (λ made r. Ok (parameter_of made.0 made.1, r))) ((all.specifiers depth).same tokens)
     ∙ by_specifiers ((all.specifiers depth).both tokens)
@@ -263,3 +229,120 @@ grammar_parameter names depth p role text (grammar.parameter d s n name is_open 
       spells = record { left = left; right = stars ++ (inside ++ dimensions); are_specifiers = w.spells; is_rest = record { left = stars; right = inside ++ dimensions; cut = refl; first = k; second = record { left = inside; right = dimensions; cut = refl; first = l; second = m } }; cut = refl };
       is = end_same names d name is_open lengths dimensions m;
     }
+
+-- what is told behind a name: where there is none, that one is declared
+abbrev name_end : Option tree.Name → Role
+name_end None = DeclaredName
+name_end (Some n) = Nothing
+
+-- where nothing is told at the end, anything may be said to be
+roled-told : {X : Type 0} {entry : Placed → Bool} {S : X → List Leaf → Type 0} {stop : X → Placed → Bool} {read : Reader Placed Role X} (ending : X → Role) → Firm entry S stop read → Roled marks roles entry S stop ending ⊥ read
+roled-told ending is =
+    record {
+      exact = is.exact;
+      asks = is.asks;
+      tells = λ x text u spells within enters n. told_as roles u Nothing (ending x) (is.tells x text u spells within enters n) (inl refl);
+      firm = is.firm;
+      alike = is.alike;
+    }
+
+abbrev SomeName : (names : List (List ℕ)) → Option tree.Name → List Leaf → Type 0
+SomeName names = Map (λ n. Some n) (One (awaited DeclaredName) (plain_name_at names))
+
+some_begins : (names : List (List ℕ)) (t : Placed) → is_plain_name names t.token ≡ true → Begins marks (SomeName names) t
+some_begins names t e = let f = plain_found names t e in record { value = Some f.0; first = awaited DeclaredName t; more = []; spells = record { inner = f.0; is = refl; spells = record { token = t; is = f.1; cut = refl } }; is = refl }
+
+some_told : (names : List (List ℕ)) (u : Leaf) → Next marks (SomeName names) [] u → u.role ≡ DeclaredName
+some_told names u n = by_before n.before n.spells n.same
+  where
+    by_before : (before : List Leaf) → SomeName names n.value (before ++ u ∷ n.more) → plains marks before ≡ [] → u.role ≡ DeclaredName
+    by_before [] m same = ap (λ (l : Leaf). l.role) (one_first m.inner u n.more m.spells)
+    by_before (v ∷ before) m same = absurd (cc)
+
+empty_told : (names : List (List ℕ)) (x : Option tree.Name) (text : List Leaf) (u : Leaf) → Empty None x text → u.role ≡ DeclaredName → Told roles u (name_end x)
+empty_told names x text u nothing e = inl e
+
+name_chooses : (names : List (List ℕ)) (entry : Placed → Bool) → Firm (both entry (λ t. is_plain_name names t.token)) (SomeName names) (stop_name names entry) (read_map (λ n. Some n) (token DeclaredName (awaited DeclaredName) (plain_name_at names)))
+    → Chooses marks roles entry (λ t. is_plain_name names t.token) (SomeName names) (Empty None) name_end (read_map (λ n. Some n) (token DeclaredName (awaited DeclaredName) (plain_name_at names))) (read_nothing None)
+name_chooses names entry is =
+    record {
+      enters = λ t more kind opens e. begun_enters is.exact t more kind opens (some_begins names t (and_so (entry t) (is_plain_name names t.token) opens)) e;
+      begins = λ u before kind n opens e. absurd (cc);
+      empty = λ x u one n. empty_told names x [] u one (some_told names u n);
+    }
+  where
+    and_so : (a b : Bool) → IsTrue (a && b) → b ≡ true
+    and_so true true h = refl
+    and_so true false h = absurd (cc)
+    and_so false b h = absurd (cc)
+
+roled-optional_name : (names : List (List ℕ)) (entry : Placed → Bool) → Roled marks roles entry (grammar.ParameterName names) (stop_name names entry) name_end ⊥ (read_optional_name names)
+roled-optional_name names entry =
+    roled-same entry (grammar.ParameterName names) (read_optional_name names) (λ t h. h) (text_name names) (name_text names) same
+    (roled-or (λ t. is_plain_name names t.token)
+    record {
+      first_begins = λ n text m. let h = name_leaf names m.inner text m.spells in (awaited DeclaredName (named m.inner), [], h.0, plain-passes names m.inner h.1);
+      second_begins = λ n text rest one stops. none_second names entry n text rest one stops;
+    }
+    (name_chooses names entry some_is)
+    (roled-told name_end some_is)
+    (roled-told name_end (roled-stop (stop_name names entry) (λ n text one t. none_same names entry n text t one) (firm-nothing (both entry (λ t. not (is_plain_name names t.token))) None))))
+  where
+    some_is : Firm (both entry (λ t. is_plain_name names t.token)) (SomeName names) (stop_name names entry) (read_map (λ n. Some n) (token DeclaredName (awaited DeclaredName) (plain_name_at names)))
+    some_is = firm-map (λ n. Some n) (stop_name names entry) (λ n. refl) (firm-one (both entry (λ t. is_plain_name names t.token)) (awaited DeclaredName) (plain_name_at names) DeclaredName (λ t. refl) (λ t. refl) (named (fresh names)) (fresh names) (plain-self names (fresh names) (fresh_is names)))
+
+    same : (tokens : List Placed) → read_optional_name names tokens ≡ read_or (λ t. is_plain_name names t.token) (read_map (λ n. Some n) (token DeclaredName (awaited DeclaredName) (plain_name_at names))) (read_nothing None) tokens
+    same [] = refl
+    same (t ∷ tokens) = refl
+
+-- what is told behind what stands behind the specifiers
+abbrev pub rest_end : ParameterRest → Role
+rest_end r = end_of_parts r.1.0 r.1.1.0 r.1.1.1
+
+no_dimensions : (names : List (List ℕ)) (depth : ℕ) (name : Option tree.Name) (is_open : Bool) (lengths : tree.Expressions) (text : List Leaf) → Dimensions names depth is_open lengths text → text ≡ [] → name_end name ≡ end_of_parts name is_open lengths
+no_dimensions names depth name is_open lengths text (given d l t h) e = by_lengths name l t h e
+  where
+    by_lengths : (name : Option tree.Name) (l : tree.Expressions) (t : List Leaf) → Lengths names depth l t → t ≡ [] → name_end name ≡ end_of_parts name false l
+    by_lengths None l t (no_lengths d) e = refl
+    by_lengths (Some n) l t (no_lengths d) e = refl
+    by_lengths name l t (some_length d x r inside right place close h k) e = absurd (cc)
+no_dimensions names depth name is_open lengths text (left_out d l t place close h) e = absurd (cc)
+
+pub roled-rest : (names : List (List ℕ)) (inner : Readers) → AllFirm names inner → (depth : ℕ) (entry : Placed → Bool) → Opens entry → Roled marks roles entry (RestText names depth) (stop_rest names entry) rest_end ⊥ (read_parameter_rest names inner depth)
+roled-rest names inner all depth entry opens =
+    roled-then {stop2 = λ n y. stop_dimensions (stop_name names (stop_pointer entry n) y.0) y.1} {ending2 = λ n y. end_of_parts y.0 y.1.0 y.1.1} (roled-pointer entry)
+    (λ n. roled-then_within {stop2 = λ name y. stop_dimensions (stop_name names (stop_pointer entry n) name) y} {ending2 = λ name y. end_of_parts name y.0 y.1} (roled-optional_name names (stop_pointer entry n))
+    (λ name left one within. roled-told (λ y. end_of_parts name y.0 y.1) (dimensions_are n name))
+    record {
+      ends = λ name d left right rest one two stops. dimensions_stop names depth (stop_name names (stop_pointer entry n) name) (name_at_bracket names entry opens n name) d.0 d.1 right rest two stops;
+      goes_on = λ name left one. ((false, tree.no_expressions), [], given depth tree.no_expressions [] (no_lengths depth));
+    }
+    record {
+      between = λ name left kind rest one stops e. absurd (((dimensions_are n name).firm (false, tree.no_expressions) [] kind rest (given depth tree.no_expressions [] (no_lengths depth)) tt stops e).0);
+      empty = λ name d left one two. inr (no_dimensions names depth name d.0 d.1 [] two refl);
+      loose = λ never x left u h k. absurd never;
+      loose_empty = λ never x y left h k. absurd never;
+    })
+    record {
+      ends = λ n y left right rest one two stops.
+          let d = dimensions_stop names depth (stop_name names (stop_pointer entry n) y.0) (name_at_bracket names entry opens n y.0) y.1.0 y.1.1 two.right rest two.second stops in
+          let m = name_stop names (stop_pointer entry n) (pointer_name entry opens n) y.0 two.left (plains marks two.right ++ rest) two.first d in
+          subst (Stops (stop_pointer entry n)) (sym (ap (λ l. plains marks l ++ rest) two.cut ∙ plains-two marks two.left two.right rest)) m;
+      goes_on = λ n left one. ((None, (false, tree.no_expressions)), [], record { left = []; right = []; cut = refl; first = grammar.none; second = given depth tree.no_expressions [] (no_lengths depth) });
+    }
+  where
+    dimensions_are : (n : ℕ) (name : Option tree.Name) → Firm (stop_name names (stop_pointer entry n) name) (DimensionsOf names depth) (stop_dimensions (stop_name names (stop_pointer entry n) name)) (read_dimensions inner depth)
+    dimensions_are n name = roled-dimensions_from names inner depth (stop_name names (stop_pointer entry n) name) (λ d. all.conditional (suc depth) 0)
+
+pub roled-parameter : (names : List (List ℕ)) (inner : Readers) (all : AllFirm names inner) (depth : ℕ) → Roled marks roles anything (ParameterText names depth) (stop_parameter names) (λ pair. end_of_parameter pair.0) ⊥ (rich_parameter names depth inner (all.specifiers depth).both)
+roled-parameter names inner all depth =
+    roled-same anything (ParameterText names depth) (rich_parameter names depth inner (all.specifiers depth).both) (λ t h. h) (text_parameter names depth) (parameter_text names depth) (λ tokens. refl)
+    (roled-map made_parameter (stop_parameter names) (λ pair. end_of_parameter pair.0) (λ made. refl) (λ made. inr refl)
+    (roled-then {stop2 = λ pair r. stop_rest names (after_specifiers pair.1) r} {ending2 = λ pair r. rest_end r} (all.specifiers depth).is (λ pair. roled-rest names inner all depth (after_specifiers pair.1) (specifiers_open pair.1))
+    record {
+      ends = λ pair r left right rest one two stops. rest_stops names depth (after_specifiers pair.1) (specifiers_open pair.1) r right rest two stops;
+      goes_on = λ pair left one. ((0, (None, (false, tree.no_expressions))), [], rest_none names depth);
+    }))
+  where
+    rest_none : (names : List (List ℕ)) (depth : ℕ) → RestText names depth (0, (None, (false, tree.no_expressions))) []
+    rest_none names depth = record { left = []; right = []; cut = refl; first = none; second = record { left = []; right = []; cut = refl; first = grammar.none; second = given depth tree.no_expressions [] (no_lengths depth) } }

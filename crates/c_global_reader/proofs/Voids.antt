@@ -1,35 +1,35 @@
--- Parameters that begin with `void` are read exactly behind it.
-use Rattle.std.proofs.Common.{◌≡◌, ℕ, zero, suc, Bool, true, false, List, [], ◌∷◌, ◌++◌, Option, Some, None, Ok, Err, refl, ap, sym, ◌∙◌, subst, not, ◌&&◌, append_assoc}
+-- Parameters that begin with `void` keep roles behind it.
+use Rattle.std.proofs.Common.{◌≡◌, ℕ, List, ◌++◌, [], ◌∷◌, refl, ap, ◌∙◌, Bool, false, true, Some, sym, append_assoc, not, ◌&&◌, zero, suc, Option, None, subst, Ok, Err, inr}
 use Rattle.std.specs.Prelude.{map}
 use Rattle.std.specs.Option.{is_some}
 use Rattle.c_spec.specs.declared.token.Keyword.{Keyword}
 use Rattle.c_spec.specs.declared.token.Keyword.TheVariants.{Const, Void, Char, Signed, Unsigned, Short, Int, Long}
 use Rattle.c_spec.specs.declared.token.Punctuator.TheVariants as punctuator
-use Rattle.c_spec.specs.Lexical.{Placed, Word}
+use Rattle.c_spec.specs.Lexical.{Word, Placed}
 use Rattle.c_tree_spec.specs.declared.IntegerType.{IntegerType}
 use Rattle.c_tree_spec.specs.Expression as tree
 use Rattle.c_tree_spec.specs.Unit as unit
 use Rattle.c_grammar_spec.specs.declared.Role.{Role}
-use Rattle.c_grammar_spec.specs.Leaves.{Leaf, plain, mark, word, marks}
+use Rattle.c_grammar_spec.specs.Leaves.{Leaf, word, plain, marks, roles}
 use Rattle.c_grammar_spec.specs.Expressions as part
 use Rattle.c_grammar_spec.specs.Units as grammar
-use Rattle.exact_read.specs.Reading.{Outcome, Reader}
-use Rattle.exact_read.specs.Exact.{Exact}
-use Rattle.exact_read.specs.Grammar.{bind, anything, Map, Then, read_then, read_map}
-use Rattle.exact_read.proofs.Parts.{exact-map, exact-same}
-use Rattle.exact_read.proofs.Then.{exact-then}
-use Rattle.exact_read.proofs.Stop.{exact-stop}
+use Rattle.exact_read.specs.Reading.{Reader, Outcome}
+use Rattle.exact_read.specs.Grammar.{anything, Then, Map, read_then, read_map, bind}
 use Rattle.c_expression_reader.specs.Classes.{is_mark}
 use Rattle.c_expression_reader.specs.Readers.{Readers}
-use Rattle.c_expression_reader.specs.Types.{is_const, no_storage, read_consts}
-use Rattle.c_type_reader.specs.Endings.{Ending, WordsAround, ending}
-use Rattle.c_type_reader.specs.Exactness.{AllExact}
+use Rattle.c_expression_reader.specs.Types.{no_storage, is_const, read_consts}
+use Rattle.c_type_reader.specs.Endings.{WordsAround, ending, Ending}
+use Rattle.c_type_reader.specs.Exactness.{AllFirm}
 use Rattle.c_type_reader.proofs.IntegerWords.{six}
-use Rattle.c_type_reader.proofs.Tokens.{leaves_of, unless_read}
-use Rattle.c_type_reader.proofs.Pointers.{stop_pointer, exact-consts}
+use Rattle.c_declarator_reader.proofs.Tokens.{leaves_of, unless_read}
+use Rattle.c_declarator_reader.proofs.Pointers.{stop_pointer}
 use Rattle.c_type_reader.proofs.TypeFirsts.{first_six}
-use Rattle.c_global_reader.specs.Parameters.{ParameterRest, read_parameter_rest, parameter_of, void_at, read_void_parameter, is_void}
-use Rattle.c_global_reader.proofs.Parameters.{stop_rest, RestText, Opens, rest_stops, exact-rest, Ended, rest_of, stop_parameter, ParameterText}
+use Rattle.c_global_reader.specs.Parameters.{void_at, is_void, ParameterRest, parameter_of, read_parameter_rest, read_void_parameter, end_of_parameter}
+use Rattle.c_global_reader.proofs.Parameters.{RestText, Ended, rest_of, ParameterText, Opens, stop_rest, rest_stops, stop_parameter, rest_end, roled-rest}
+use Rattle.role_read.specs.Roles.{Roled}
+use Rattle.role_read.proofs.Basics.{roled-same, roled-stop, roled-map}
+use Rattle.role_read.proofs.Then.{roled-then}
+use Rattle.c_declarator_reader.proofs.Plain.{roled-consts}
 
 -- what stands behind the `void`
 pub record VoidText (names : List (List ℕ)) (depth place : ℕ) (pair : Ended) (text : List Leaf) : Type 0 where
@@ -136,7 +136,7 @@ parameter_void names depth pair text p e =
     same_ending : {base : tree.Base} {middle after : List Leaf} (place : ℕ) (xs : List ℕ) → base ≡ tree.Void → middle ≡ plain (word Void place) ∷ [] → after ≡ leaves_of (word Const) xs → ending base middle after ≡ WordsAround
     same_ending place xs a b c = rw (a, b, c) (sym (void_ending place xs))
 
--- they are read exactly
+-- they keep roles
 abbrev entry_after : List ℕ → Placed → Bool
 entry_after xs t = unless_read xs anything t && not (is_const t.token)
 
@@ -192,20 +192,20 @@ void_text names depth place pair text v =
 abbrev pub rich_void : (names : List (List ℕ)) → Readers → (depth place : ℕ) → Reader Placed Role Ended
 rich_void names inner depth place = read_map (made_void place) (read_then read_consts (λ _. read_parameter_rest names inner depth))
 
-pub exact-void : (names : List (List ℕ)) (inner : Readers) → AllExact names inner → (depth place : ℕ) → Exact marks anything (VoidText names depth place) (stop_parameter names) (rich_void names inner depth place)
-exact-void names inner all depth place =
-    exact-same anything (VoidText names depth place) (rich_void names inner depth place) (λ t h. h) (text_void names depth place) (void_text names depth place) (λ tokens. refl)
-    (exact-map (made_void place) (stop_parameter names) (λ made. refl)
-    (exact-stop (λ (made : List ℕ × ParameterRest) t. stop_rest names (λ t. not (is_const t.token) && not false) made.1 t) (λ made text h t. rest_same names (entry_after made.0) (λ t. not (is_const t.token) && not false) made.1 t (entry_same made.0 t))
-    (exact-then {stop2 = λ xs r. stop_rest names (entry_after xs) r} (exact-consts anything) (λ xs. exact-rest names inner all depth (entry_after xs) (entry_opens xs))
-    record {
-      ends = λ xs r left right rest one two stops. rest_stops names depth (entry_after xs) (entry_opens xs) r right rest two stops;
-      goes_on = λ xs left one. ((0, (None, (false, tree.no_expressions))), [], record { left = []; right = []; cut = refl; first = part.none; second = record { left = []; right = []; cut = refl; first = grammar.none; second = part.given depth tree.no_expressions [] (part.no_lengths depth) } });
-    })))
-
 pub void_same : (names : List (List ℕ)) (inner : Readers) (depth place : ℕ) (tokens : List Placed) → read_void_parameter names inner depth place tokens ≡ read_map (λ (pair : Ended). pair.0) (rich_void names inner depth place) tokens
 void_same names inner depth place tokens = by_made (read_then read_consts (λ _. read_parameter_rest names inner depth) tokens)
   where
     by_made : (o : Outcome Placed Role (List ℕ × ParameterRest)) → bind {Y = unit.Parameter} o (λ made r. Ok (parameter_of (void_at place) made.1, r)) ≡ bind {Y = unit.Parameter} (bind {Y = Ended} o (λ made r. Ok (made_void place made, r))) (λ pair r. Ok (pair.0, r))
     by_made (Ok (made, rest)) = refl
     by_made (Err fault) = refl
+
+pub roled-void : (names : List (List ℕ)) (inner : Readers) → AllFirm names inner → (depth place : ℕ) → Roled marks roles anything (VoidText names depth place) (stop_parameter names) (λ pair. end_of_parameter pair.0) ⊥ (rich_void names inner depth place)
+roled-void names inner all depth place =
+    roled-same anything (VoidText names depth place) (rich_void names inner depth place) (λ t h. h) (text_void names depth place) (void_text names depth place) (λ tokens. refl)
+    (roled-map (made_void place) (stop_parameter names) (λ pair. end_of_parameter pair.0) (λ made. refl) (λ made. inr refl)
+    (roled-stop (λ (made : List ℕ × ParameterRest) t. stop_rest names (λ t. not (is_const t.token) && not false) made.1 t) (λ made text h t. rest_same names (entry_after made.0) (λ t. not (is_const t.token) && not false) made.1 t (entry_same made.0 t))
+    (roled-then {stop2 = λ xs r. stop_rest names (entry_after xs) r} {ending2 = λ xs r. rest_end r} (roled-consts anything) (λ xs. roled-rest names inner all depth (entry_after xs) (entry_opens xs))
+    record {
+      ends = λ xs r left right rest one two stops. rest_stops names depth (entry_after xs) (entry_opens xs) r right rest two stops;
+      goes_on = λ xs left one. ((0, (None, (false, tree.no_expressions))), [], record { left = []; right = []; cut = refl; first = part.none; second = record { left = []; right = []; cut = refl; first = grammar.none; second = part.given depth tree.no_expressions [] (part.no_lengths depth) } });
+    })))

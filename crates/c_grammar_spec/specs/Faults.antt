@@ -1,5 +1,5 @@
 -- The first fault of tokens that are no unit: where it stands, and its kind.
-use Rattle.std.specs.Prelude.{◌≡◌, ◌⊎◌, ℕ, Bool, true, false, if◌then◌else◌, List, [], ◌∷◌, ◌++◌, Option, Some, None}
+use Rattle.std.specs.Prelude.{◌≡◌, ℕ, Bool, true, false, if◌then◌else◌, List, [], ◌∷◌, ◌++◌, Option, Some, None}
 use Rattle.c_spec.specs.declared.token.Keyword.{Keyword}
 use Rattle.c_spec.specs.declared.token.Keyword.TheVariants as keyword
 use Rattle.c_spec.specs.declared.token.Punctuator.{Punctuator}
@@ -10,12 +10,11 @@ use Rattle.c_grammar_spec.specs.declared.LeftOut.{LeftOut}
 use Rattle.c_grammar_spec.specs.declared.LeftOut.TheVariants as left_out
 use Rattle.c_grammar_spec.specs.declared.ParseFaultKind.{ParseFaultKind}
 use Rattle.c_grammar_spec.specs.declared.ParseFaultKind.TheVariants.{Unexpected, LeftOut as LeftOutKind, Depth}
-use Rattle.exact_read.specs.Reading.{plains}
-use Rattle.exact_read.specs.Exact.{IsDeep}
-use Rattle.exact_read.specs.Whole.{IsWhole, IsWrongAt}
+use Rattle.exact_read.specs.Awaited.{Asked}
+use Rattle.exact_read.specs.Whole.{IsWhole, IsWrongAt, IsDeep}
 use Rattle.c_grammar_spec.specs.declared.Role.{Role}
-use Rattle.c_grammar_spec.specs.declared.Role.TheVariants.{Nothing, DeclaredName, MemberEnd, OperandEnd, CallEnd, StatementEnd, NameStatementEnd, CallStatementEnd}
-use Rattle.c_grammar_spec.specs.Leaves.{Leaf, marks}
+use Rattle.c_grammar_spec.specs.declared.Role.TheVariants.{DeclaredName, MemberEnd, OperandEnd, CallEnd, StatementEnd, NameStatementEnd, CallStatementEnd}
+use Rattle.c_grammar_spec.specs.Leaves.{marks, roles}
 use Rattle.c_grammar_spec.specs.Units.{Unit}
 
 -- the tokens are a unit with this tree, and nowhere is too much open
@@ -93,26 +92,14 @@ abbrev pub fault_kind : Role → List Placed → ParseFaultKind
 fault_kind role [] = Unexpected
 fault_kind role (token ∷ rest) = kind_of (first_of (left_out_token token.token) (left_out_place role token.token))
 
--- the leaf goes on with leaves that stand for these tokens to a unit
-pub record GoesOn (front : List Placed) (leaf : Leaf) : Type 0 where
-  pub unit : TranslationUnit
-  pub before : List Leaf
-  pub after : List Leaf
-  pub spells : Unit unit (before ++ leaf ∷ after)
-  pub same : plains marks before ≡ front
-
--- behind these tokens this is awaited: whatever leaf can stand there says so or says nothing, and one does
-pub record Awaits (front : List Placed) (role : Role) : Type 0 where
-  pub agreed : (leaf : Leaf) → GoesOn front leaf → (leaf.role ≡ role) ⊎ (leaf.role ≡ Nothing)
-  pub said : (role ≡ Nothing) ⊎ ((leaf : Leaf) × GoesOn front leaf × (leaf.role ≡ role))
-
 -- the offset of the first of these tokens, or of the end
 abbrev pub offset_of : (end : ℕ) → List Placed → ℕ
 offset_of end [] = end
 offset_of end (token ∷ rest) = token.offset
 
 -- Tokens that are no unit have this fault at the first of `rest`. A token with which those before begin no
--- unit is told by its kind; a token with which they begin one, where too much is open, by `Depth`.
+-- unit is told by the kind that it and the role that is awaited behind them give; a token with which they begin
+-- one, where too much is open, by `Depth`.
 pub data IsFault (tokens : List Placed) : ParseFaultKind → (rest : List Placed) → Type 0 where
-  wrong : (front rest : List Placed) (role : Role) → IsWrongAt marks Unit tokens rest → tokens ≡ front ++ rest → Awaits front role → IsFault tokens (fault_kind role rest) rest
+  wrong : (front rest : List Placed) (role : Role) → IsWrongAt marks Unit tokens rest → tokens ≡ front ++ rest → Asked marks roles Unit front role → IsFault tokens (fault_kind role rest) rest
   deep : (rest : List Placed) → IsDeep marks Unit tokens rest → IsFault tokens Depth rest

@@ -7,6 +7,7 @@ use Rattle.c_spec.specs.Lexical.{Placed, Name as name_token, Word as word_token,
 use Rattle.c_tree_spec.specs.Expression.{Name}
 use Rattle.c_grammar_spec.specs.declared.Role.{Role}
 use Rattle.c_grammar_spec.specs.declared.Role.TheVariants.{Nothing}
+use Rattle.exact_read.specs.Awaited.{Roles}
 use Rattle.exact_read.specs.Reading.{Marks}
 
 -- A leaf opens a construct or is an operator, or neither. Where it opens one, `opened` is the number of
@@ -48,6 +49,9 @@ is_over leaf = nat_lt most leaf.opened || nat_lt most leaf.operators
 
 abbrev pub marks : Marks Placed Leaf
 marks = record { plain = λ leaf. leaf.token; over = is_over }
+
+abbrev pub roles : Roles Leaf Role
+roles = record { role = λ leaf. leaf.role; none = Nothing }
 
 -- tokens at a place
 abbrev pub mark : Punctuator → (place : ℕ) → Placed

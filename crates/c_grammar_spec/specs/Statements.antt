@@ -38,11 +38,6 @@ abbrev pub value_end : tree.Value → Role
 value_end (tree.Called made) = CallEnd
 value_end (tree.Computed x) = OperandEnd
 
--- the last argument is followed by an operand's end; where there is none nothing is awaited
-abbrev pub arguments_end : Expressions → Role
-arguments_end no_expressions = Nothing
-arguments_end (expressions x rest) = OperandEnd
-
 -- arguments with `,` between them (6.5.2)
 pub data Arguments (names : List (List ℕ)) : (depth count : ℕ) → Expressions → List Leaf → Type 0 where
   last : (depth count : ℕ) (x : Expression) (text : List Leaf) → Conditional names depth count x text → Arguments names depth count (expressions x no_expressions) text

@@ -15,7 +15,7 @@ use Rattle.exact_read.specs.Reading.{Fault, Deep, Wrong, plains}
 use Rattle.exact_read.specs.Grammar.{at_end}
 use Rattle.c_unit_reader.specs.Units.{read_items, read_unit}
 use Rattle.c_unit_reader.proofs.All.{unit-is_exact}
-use Rattle.c_unit_roles.proofs.Faults.{unit-tells}
+use Rattle.c_unit_reader.proofs.Faults.{unit-tells}
 use Rattle.c_parse_token.specs.Lists.{list_of}
 use Rattle.c_parse.specs.declared.ParseError.{ParseError}
 use Rattle.c_parse.specs.declared.ParseError.TheVariants.{Fault as a_fault, NoMemory}

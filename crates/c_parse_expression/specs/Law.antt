@@ -6,7 +6,8 @@ use Rattle.c_grammar_spec.specs.declared.Role.{Role}
 use Rattle.c_grammar_spec.specs.Leaves.{marks}
 use Rattle.c_grammar_spec.specs.Expressions.{Conditional}
 use Rattle.exact_read.specs.Reading.{Outcome}
-use Rattle.exact_read.specs.Exact.{IsWrong, IsDeep}
+use Rattle.exact_read.specs.Exact.{IsWrong}
+use Rattle.exact_read.specs.Whole.{IsDeep}
 use Rattle.c_expression_reader.specs.Budget.{enough}
 use Rattle.c_expression_reader.specs.Turns.{readers}
 use Rattle.c_syntax.specs.Expressions.{expression_of}

@@ -4,7 +4,8 @@ use Rattle.c_spec.specs.Lexical.{Placed}
 use Rattle.c_grammar_spec.specs.declared.Role.{Role}
 use Rattle.c_grammar_spec.specs.Leaves.{Leaf, marks}
 use Rattle.exact_read.specs.Reading.{Reader, Outcome}
-use Rattle.exact_read.specs.Exact.{IsWrong, IsDeep}
+use Rattle.exact_read.specs.Exact.{IsWrong}
+use Rattle.exact_read.specs.Whole.{IsDeep}
 use Rattle.c_parse_token.specs.declared.outcome.Fault.TheVariants.{Deep, Wrong}
 use Rattle.c_parse_token.specs.declared.outcome.ParseError.{ParseError}
 use Rattle.c_parse_token.specs.declared.outcome.ParseError.TheVariants.{NoMemory, At}

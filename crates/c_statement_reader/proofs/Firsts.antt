@@ -1,5 +1,5 @@
 -- What statements and declarations of locals begin with.
-use Rattle.std.proofs.Common.{◌≡◌, ℕ, Bool, true, false, List, ◌∷◌, ◌++◌, refl, ap, sym, subst, not, ◌||◌}
+use Rattle.std.proofs.Common.{Bool, true, false, ℕ, List, not, ◌≡◌, ◌∷◌, refl, ◌++◌, ap, ◌||◌, sym, subst}
 use Rattle.c_spec.specs.declared.token.Keyword.{Keyword}
 use Rattle.c_spec.specs.declared.token.Keyword.TheVariants.{Break, Continue, Do, For, If, Return, Sizeof, Switch, While, Const, Static, Void, Char, Signed, Unsigned, Short, Int, Long, Struct, Enum}
 use Rattle.c_spec.specs.declared.token.Punctuator.{Punctuator}
@@ -9,14 +9,14 @@ use Rattle.c_tree_spec.specs.declared.StepOperator.{StepOperator}
 use Rattle.c_tree_spec.specs.declared.StepOperator.TheVariants.{Increment, Decrement}
 use Rattle.c_tree_spec.specs.Expression as tree
 use Rattle.c_tree_spec.specs.Unit as unit
-use Rattle.c_grammar_spec.specs.Leaves.{Leaf, plain, mark, word, named}
+use Rattle.c_grammar_spec.specs.Leaves.{mark, word, Leaf, plain, named}
 use Rattle.c_grammar_spec.specs.Expressions.{is_type_name, InLocal, Position, Words, none, const, typedef, extern, inline, static_item, static_local}
 use Rattle.c_grammar_spec.specs.Statements as grammar
 use Rattle.c_expression_reader.specs.Classes.{begins_type, begins_type_word}
-use Rattle.c_type_reader.specs.Firsts.{begins_by_mark, begins_expression}
-use Rattle.c_type_reader.proofs.Firsts.{First, conditional_first, unary_first, postfix_first}
+use Rattle.c_declarator_reader.specs.Firsts.{begins_by_mark, begins_expression}
+use Rattle.c_declarator_reader.proofs.Firsts.{First, conditional_first, unary_first, postfix_first}
 use Rattle.c_type_reader.proofs.TypeFirsts.{TypeFirst, base_first}
-use Rattle.c_type_reader.proofs.Members.{with_end}
+use Rattle.c_type_reader.proofs.Ended.{with_end}
 use Rattle.c_declaration_reader.specs.Around.{is_word, local_word}
 use Rattle.c_declaration_reader.specs.Declarations.{begins_locals}
 use Rattle.c_declaration_reader.specs.Texts.{LocalsText}
@@ -69,7 +69,7 @@ mark_statement punctuator.Tilde e = refl
 mark_statement punctuator.Exclamation e = refl
 mark_statement other e = absurd (cc)
 
-word_statement : (w : Keyword) → Rattle.c_type_reader.specs.Firsts.begins_by_word w ≡ true → statement_word w ≡ true
+word_statement : (w : Keyword) → Rattle.c_declarator_reader.specs.Firsts.begins_by_word w ≡ true → statement_word w ≡ true
 word_statement Sizeof e = refl
 word_statement other e = absurd (cc)
 

@@ -1,17 +1,27 @@
--- Keywords are read exactly.
-use Rattle.std.proofs.Common.{◌≡◌, ℕ, Bool, true, false, List, [], ◌∷◌, Some, None, refl, ap, ◌∙◌, cond}
-use denote.Enum.Bare.{sameb, same_true, true_same}
+-- Keywords keep roles.
+use Rattle.std.proofs.Common.{◌≡◌, ℕ, Some, refl, Bool, true, false, None, ap, cond, ◌∙◌, List, [], ◌∷◌, Ok, Err, sym, subst, arith, length, length-append, ◌++◌, inl, inr, IsTrue}
+use denote.Enum.Bare.{true_same, sameb, same_true}
 use Rattle.c_spec.specs.declared.token.Keyword.{Keyword}
 use Rattle.c_spec.specs.contracts.token.Keyword.{the_type}
-use Rattle.c_spec.specs.Lexical.{Placed, Token, Name as name_token, Word, Number as number_token, Character as character_token, Mark}
+use Rattle.c_spec.specs.Lexical.{Token, Name as name_token, Word, Number as number_token, Character as character_token, Mark, Placed}
 use Rattle.c_grammar_spec.specs.declared.Role.{Role}
-use Rattle.c_grammar_spec.specs.Leaves.{Leaf, word, marks}
-use Rattle.exact_read.specs.Exact.{Exact}
-use Rattle.exact_read.specs.Grammar.{anything, One}
-use Rattle.exact_read.proofs.Parts.{exact-one}
-use Rattle.c_expression_reader.specs.Readers.{token}
-use Rattle.c_expression_reader.proofs.Marks.{Keeps}
-use Rattle.c_statement_reader.specs.Statements.{is_keyword, keyword_place}
+use Rattle.c_grammar_spec.specs.Leaves.{word, Leaf, marks, roles}
+use Rattle.exact_read.specs.Grammar.{One, anything, bind, Map, Then}
+use Rattle.c_expression_reader.specs.Readers.{token, before}
+use Rattle.c_expression_reader.proofs.Marks.{Keeps, Says}
+use Rattle.c_statement_reader.specs.Statements.{keyword_place, is_keyword}
+use Rattle.role_read.specs.Roles.{Roled, IsAsked}
+use Rattle.exact_read.specs.Awaited.{Next}
+use Rattle.exact_read.specs.Reading.{Outcome, Reader, Wrong, plains}
+use Rattle.exact_read.proofs.Basics.{err}
+use Rattle.exact_read.proofs.Then.{Joins}
+use Rattle.c_declarator_reader.proofs.Tokens.{Kept}
+use Rattle.c_grammar_spec.specs.declared.Role.TheVariants.{Nothing}
+use Rattle.role_read.proofs.Basics.{roled-same}
+use Rattle.role_read.proofs.Begins.{Silent, silent_next}
+use Rattle.role_read.proofs.Then.{roled-then}
+use Rattle.c_expression_reader.specs.Firm.{Firm}
+use Rattle.c_expression_reader.proofs.Firm.{firm-one, firm-map}
 
 pub keyword-self : (w : Keyword) (place : ℕ) → keyword_place w (word w place) ≡ Some place
 keyword-self w place = rw (true_same the_type w w refl) refl
@@ -33,17 +43,52 @@ at k o = record { token = k; offset = o }
 pub keyword-is : (w : Keyword) (t : Placed) (place : ℕ) → keyword_place w t ≡ Some place → t ≡ word w place
 keyword-is w t place e = let h = keyword-token w t.token t.offset place e in ap (λ k. at k t.offset) h.0 ∙ ap (λ o. at (Word w) o) h.1
 
-pub keyword-passes : (w : Keyword) → is_keyword w (Word w) ≡ true
-keyword-passes w = true_same the_type w w refl
-
 pub one-keyword : (w : Keyword) (place : Placed → Leaf) (x : ℕ) (text : List Leaf) → One place (keyword_place w) x text → text ≡ place (word w x) ∷ []
 one-keyword w place x text o = o.cut ∙ ap (λ t. place t ∷ []) (keyword-is w o.token x o.is)
 
 pub keyword-one : (w : Keyword) (place : Placed → Leaf) (x : ℕ) → One place (keyword_place w) x (place (word w x) ∷ [])
 keyword-one w place x = record { token = word w x; is = keyword-self w x; cut = refl }
 
-pub exact-keyword : (entry : Placed → Bool) (w : Keyword) (role : Role) (place : Placed → Leaf) → Keeps place → Exact marks entry (One place (keyword_place w)) (λ _. anything) (token role place (keyword_place w))
-exact-keyword entry w role place keeps = exact-one marks entry place (keyword_place w) role keeps (word w 0) 0 (keyword-self w 0)
-
 pub keyword-known : (w : Keyword) (k : Token) → is_keyword w k ≡ true → k ≡ Word w
 keyword-known w k e = ap (λ (t : Placed). t.token) (keyword-is w (record { token = k; offset = 0 }) 0 (rw e refl))
+
+pub roled-keyword : (entry : Placed → Bool) (w : Keyword) (role : Role) (place : Placed → Leaf) → Keeps place → Says place role → Firm entry (One place (keyword_place w)) (λ _. anything) (token role place (keyword_place w))
+roled-keyword entry w role place keeps says = firm-one entry place (keyword_place w) role keeps says (word w 0) 0 (keyword-self w 0)
+
+pub keyword-some : (w : Keyword) (t : Placed) → is_keyword w t.token ≡ true → keyword_place w t ≡ Some t.offset
+keyword-some w t e = rw e refl
+
+-- a part, and another behind it that is read and left
+pub roled-kept : {X Y : Type 0} {entry : Placed → Bool} {S1 : X → List Leaf → Type 0} {stop1 : X → Placed → Bool} {first : Reader Placed Role X} {S2 : Y → List Leaf → Type 0} {stop : X → Placed → Bool} {second : Reader Placed Role Y}
+    → Firm entry S1 stop1 first → ((x : X) → Firm (stop1 x) S2 (λ _. stop x) second) → Joins marks S1 stop1 (λ _. S2) (λ x _. stop x)
+    → Firm entry (Kept S1 S2) stop (before first second)
+roled-kept {X} {Y} {entry} {S1} {stop1} {first} {S2} {stop} {second} one two joins =
+    roled-same entry (Kept S1 S2) (before first second) (λ t h. h) to from (λ tokens. same_read (first tokens))
+    (firm-map (λ (pair : X × Y). pair.0) stop (λ pair. refl) (roled-then one (λ x. two x) joins))
+  where
+    same_second : (x : X) (o : Outcome Placed Role Y) → bind o (λ _ after. Ok (x, after)) ≡ bind {X = X × Y} (bind o (λ y after. Ok ((x, y), after))) (λ pair after. Ok (pair.0, after))
+    same_second x (Ok found) = refl
+    same_second x (Err fault) = refl
+
+    same_read : (o : Outcome Placed Role X) → bind o (λ x rest. bind (second rest) (λ _ after. Ok (x, after))) ≡ bind {X = X × Y} (bind o (λ x rest. bind (second rest) (λ y after. Ok ((x, y), after)))) (λ pair after. Ok (pair.0, after))
+    same_read (Ok (x, rest)) = same_second x (second rest)
+    same_read (Err fault) = refl
+
+    to : (x : X) (text : List Leaf) → Map (λ (pair : X × Y). pair.0) (Then S1 (λ _. S2)) x text → Kept S1 S2 x text
+    to x text m = let t = m.spells in
+        record { second = m.inner.1; left = t.left; right = t.right; is_first = subst (λ (z : X). S1 z t.left) (sym m.is) t.first; is_second = t.second; cut = t.cut }
+
+    from : (x : X) (text : List Leaf) → Kept S1 S2 x text → Map (λ (pair : X × Y). pair.0) (Then S1 (λ _. S2)) x text
+    from x text k = record { inner = (x, k.second); is = refl; spells = record { left = k.left; right = k.right; cut = k.cut; first = k.is_first; second = k.is_second } }
+
+nothing_read : (front rest : List Placed) → rest ≡ front ++ rest → front ≡ []
+nothing_read [] rest e = refl
+nothing_read (t ∷ front) rest e = absurd (omega (arith, ap length e, length-append front rest))
+
+-- where nothing that begins a part tells anything, its first token is called wrong by nothing that tells more
+pub silent_wrong : {X : Type 0} {entry : Placed → Bool} {S : X → List Leaf → Type 0} {stop : X → Placed → Bool} {ending : X → Role} {Loose : Type 0} {read : Reader Placed Role X} → Roled marks roles entry S stop ending Loose read → Silent marks roles S
+    → (t : Placed) (more : List Placed) (kind : Role) → IsTrue (entry t) → read (t ∷ more) ≡ err {X = X} (Wrong kind) (t ∷ more) → kind ≡ Nothing
+silent_wrong {X} {entry} {S} is silent t more kind enters e = by_asked (is.asks (t ∷ more) kind (t ∷ more) enters e)
+  where
+    by_asked : IsAsked marks roles S (t ∷ more) kind (t ∷ more) → kind ≡ Nothing
+    by_asked a = elim a.asked.asked [ inl h ↦ h | inr m ↦ sym m.2 ∙ silent_next silent m.0 (subst (λ f. Next marks S f m.0) (nothing_read (plains marks a.front) (t ∷ more) a.cut) m.1) ]

@@ -1,5 +1,7 @@
 pub mod Keywords
 pub mod Firsts
+pub mod Locals
+pub mod Silent
 pub mod Parts
 pub mod Simpler
 pub mod Compounds

@@ -1,46 +1,50 @@
--- `for` and `switch` are read exactly, where the statements inside are.
-use Rattle.std.proofs.Common.{◌≡◌, ℕ, suc, arith, Bool, true, false, List, [], ◌∷◌, ◌++◌, Option, Some, None, refl, ap, sym, ◌∙◌, subst, not, ◌||◌, append-nil}
+-- `for` and `switch` keep roles, where the statements inside do.
+use Rattle.std.proofs.Common.{ℕ, List, refl, ◌∙◌, ◌≡◌, true, false, Bool, ◌||◌, ◌∷◌, ◌++◌, ap, [], subst, append-nil, sym, not, Option, None, Some, suc, arith}
 use Rattle.c_spec.specs.declared.token.Keyword.TheVariants.{For, Switch}
 use denote.Enum.Bare.{sameb, same_true}
 use Rattle.std.specs.Option.{is_some}
 use Rattle.c_spec.specs.declared.token.Punctuator.{Punctuator}
 use Rattle.c_spec.specs.declared.token.Punctuator.TheVariants as punctuator
 use Rattle.c_spec.specs.contracts.token.Punctuator.{the_type}
-use Rattle.c_spec.specs.Lexical.{Placed, Token, Name as name_token, Word, Number as number_token, Character as character_token, Mark}
+use Rattle.c_spec.specs.Lexical.{Token, Name as name_token, Word, Number as number_token, Character as character_token, Mark, Placed}
 use Rattle.c_tree_spec.specs.declared.StepOperator.{StepOperator}
 use Rattle.c_tree_spec.specs.declared.StepOperator.TheVariants.{Increment, Decrement}
 use Rattle.c_tree_spec.specs.Expression as tree
 use Rattle.c_tree_spec.specs.Unit as unit
-use Rattle.c_grammar_spec.specs.declared.Role.TheVariants.{Nothing, OperandEnd}
-use Rattle.c_grammar_spec.specs.Leaves.{Leaf, plain, awaited, opens, mark, word, marks}
+use Rattle.c_grammar_spec.specs.declared.Role.TheVariants.{OperandEnd, Nothing}
+use Rattle.c_grammar_spec.specs.Leaves.{Leaf, plain, marks, awaited, opens, mark, word}
 use Rattle.c_grammar_spec.specs.Expressions.{Conditional}
 use Rattle.c_grammar_spec.specs.Statements as grammar
 use Rattle.exact_read.specs.Reading.{plains, Stops}
-use Rattle.exact_read.specs.Exact.{Exact}
-use Rattle.exact_read.specs.Grammar.{anything, One, Map, Then, Or, first, second}
-use Rattle.exact_read.proofs.Parts.{exact-map, exact-same, stops_anything}
-use Rattle.exact_read.proofs.Then.{exact-then}
-use Rattle.c_expression_reader.specs.Classes.{is_mark, mark_place}
+use Rattle.exact_read.specs.Grammar.{One, Map, Or, first, second, Then, anything}
+use Rattle.exact_read.proofs.Parts.{stops_anything}
+use Rattle.c_expression_reader.specs.Classes.{mark_place, is_mark}
 use Rattle.c_expression_reader.specs.Exactness.{Closed}
 use Rattle.c_expression_reader.specs.Readers.{Readers}
-use Rattle.c_expression_reader.proofs.Marks.{mark-self, one-mark, mark-one, exact-mark, exact-closed, Behind, exact-behind, exact-opened, exact-choice}
+use Rattle.c_expression_reader.proofs.Marks.{one-mark, mark-one, Behind, roled-mark, roled-choice, map_begins, map_silent, roled-closed, mark-self, roled-opened, roled-behind}
 use Rattle.c_expression_reader.proofs.Samples.{zero_tree}
-use Rattle.c_type_reader.specs.Exactness.{AllExact}
-use Rattle.c_type_reader.specs.Firsts.{begins_by_mark, begins_expression}
-use Rattle.c_type_reader.proofs.Firsts.{First, conditional_first, unary_first, postfix_first, begins-not, first_not_mark}
-use Rattle.c_type_reader.proofs.Dimensions.{within_opens}
-use Rattle.c_declaration_reader.specs.Values.{step_mark, step_operator}
+use Rattle.c_type_reader.specs.Exactness.{AllFirm}
+use Rattle.c_declarator_reader.specs.Firsts.{begins_expression, begins_by_mark}
+use Rattle.c_declarator_reader.proofs.Firsts.{First, unary_first, postfix_first, begins-not, conditional_first, first_not_mark}
+use Rattle.c_declarator_reader.proofs.Dimensions.{within_opens}
+use Rattle.c_declaration_reader.specs.Values.{step_operator, step_mark}
 use Rattle.c_declaration_reader.specs.Declarations.{begins_locals}
 use Rattle.c_declaration_reader.specs.Texts.{LocalsText}
-use Rattle.c_declaration_reader.proofs.Locals.{exact-locals}
-use Rattle.c_declaration_reader.proofs.Simples.{exact-simple}
-use Rattle.c_statement_reader.specs.Statements.{keyword_place, Statements, read_for_start, read_for_test, read_for_step, read_for, read_switch}
+use Rattle.c_declaration_reader.proofs.Locals.{roled-locals}
+use Rattle.c_declaration_reader.proofs.Simples.{roled-simple}
+use Rattle.c_statement_reader.specs.Statements.{keyword_place, read_for_start, read_for_test, read_for_step, Statements, read_for, read_switch}
 use Rattle.c_statement_reader.specs.Ends.{stop_statement}
 use Rattle.c_statement_reader.proofs.Keywords.{keyword-self}
-use Rattle.c_statement_reader.proofs.Firsts.{StatementFirst, value_first, simple_first, statement_no_locals, locals_first}
-use Rattle.c_statement_reader.proofs.Simpler.{Ended, exact-ended, simple_stops_semicolon, simple_stops_bracket, exact-test, zero_test}
-use Rattle.c_statement_reader.proofs.Compounds.{Deeper, empty_statement}
-use Rattle.c_statement_reader.proofs.Switches.{exact-groups}
+use Rattle.c_statement_reader.proofs.Firsts.{StatementFirst, simple_first, value_first, statement_no_locals, locals_first}
+use Rattle.c_statement_reader.proofs.Simpler.{Ended, simple_stops_semicolon, roled-ended, mark_begins, mark_silent, simple_stops_bracket, zero_test, roled-test}
+use Rattle.c_statement_reader.proofs.Compounds.{empty_statement, Deeper}
+use Rattle.c_statement_reader.proofs.Switches.{roled-groups}
+use Rattle.role_read.proofs.Basics.{roled-same}
+use Rattle.role_read.proofs.Then.{roled-then}
+use Rattle.c_expression_reader.specs.Firm.{Firm}
+use Rattle.c_expression_reader.proofs.Firm.{firm-map}
+use Rattle.c_statement_reader.proofs.Silent.{locals_silent}
+use Rattle.c_statement_reader.proofs.Locals.{begin_locals}
 
 -- how a `for` begins
 abbrev EmptyStart : unit.ForStart → List Leaf → Type 0
@@ -130,27 +134,6 @@ simple_no_mark names q a b text rest f = subst (λ l. Stops (λ t. not (is_mark 
 ended_begins : (names : List (List ℕ)) (depth : ℕ) (close : Punctuator) (s : unit.Simple) (text : List Leaf) → Ended grammar.simple_end close (grammar.Simple names depth) s text → SimpleFirst names text
 ended_begins names depth close s text e = subst (SimpleFirst names) (sym e.cut) (begun_longer names e.inside _ (simple_begins names depth s e.inside e.spells))
 
-exact-for_start : (names : List (List ℕ)) (inner : Readers) → AllExact names inner → (depth : ℕ) → Exact marks anything (grammar.ForStart names depth) (λ _. anything) (read_for_start names inner depth)
-exact-for_start names inner all depth =
-    exact-same anything (grammar.ForStart names depth) (read_for_start names inner depth) (λ t h. h) (text_start names depth) (start_text names depth) (λ tokens. refl)
-    (exact-choice (is_mark punctuator.Semicolon)
-    record {
-      first_begins = λ s text m. (plain (mark punctuator.Semicolon m.inner), [], one-mark punctuator.Semicolon plain m.inner text m.spells, refl);
-      second_begins = λ s text rest o stops. others s text rest o;
-    }
-    (exact-map (λ (_ : ℕ). unit.StartsEmpty) (λ _. anything) (λ x. refl) (exact-mark anything punctuator.Semicolon Nothing plain (λ t. refl)))
-    (exact-choice (begins_locals names)
-    record {
-      first_begins = λ s text m. let f = locals_first names depth m.inner text m.spells in (f.leaf, f.more, f.cut, f.yes);
-      second_begins = λ s text rest m stops. let f = ended_first names depth m.inner text m.spells in subst (λ l. Stops (λ t. not (begins_locals names t.token)) (plains marks l ++ rest)) (sym f.cut) (rw (statement_no_locals names f.leaf.token.token f.yes) refl);
-    }
-    (exact-map (λ locals. unit.StartsLocals locals) (λ _. anything) (λ x. refl) (exact-locals names inner all depth))
-    (exact-ended grammar.simple_end punctuator.Semicolon (λ s. unit.StartsSimple s) (λ _. anything) (λ s. refl) (exact-simple names inner all depth) simple_stops_semicolon)))
-  where
-    others : (s : unit.ForStart) (text : List Leaf) (rest : List Placed) → Or (LocalsStart names depth) (SimpleStart names depth) s text → Stops (λ t. not (is_mark punctuator.Semicolon t.token)) (plains marks text ++ rest)
-    others s text rest (first m) = let f = locals_first names depth m.inner text m.spells in subst (λ l. Stops (λ t. not (is_mark punctuator.Semicolon t.token)) (plains marks l ++ rest)) (sym f.cut) (rw (locals_no_semicolon names f.leaf.token.token f.yes) refl)
-    others s text rest (second m) = simple_no_mark names punctuator.Semicolon refl refl text rest (ended_begins names depth punctuator.Semicolon m.inner text m.spells)
-
 -- its test
 abbrev NoTest : Option tree.Expression → List Leaf → Type 0
 NoTest = Map (λ (_ : ℕ). None) (One plain (mark_place punctuator.Semicolon))
@@ -166,17 +149,6 @@ for_test_text : (names : List (List ℕ)) (depth : ℕ) (x : Option tree.Express
 for_test_text names depth x text (grammar.empty d end) = first (record { inner = end; is = refl; spells = mark-one punctuator.Semicolon plain end })
 for_test_text names depth x text (grammar.test d y t end h) = second (record { inner = y; is = refl; spells = record { inside = t; close = end; spells = h; cut = refl } })
 
-exact-for_test : (names : List (List ℕ)) (inner : Readers) → AllExact names inner → (depth : ℕ) → Exact marks anything (grammar.ForTest names depth) (λ _. anything) (read_for_test inner depth)
-exact-for_test names inner all depth =
-    exact-same anything (grammar.ForTest names depth) (read_for_test inner depth) (λ t h. h) (text_for_test names depth) (for_test_text names depth) (λ tokens. refl)
-    (exact-choice (is_mark punctuator.Semicolon)
-    record {
-      first_begins = λ s text m. (plain (mark punctuator.Semicolon m.inner), [], one-mark punctuator.Semicolon plain m.inner text m.spells, refl);
-      second_begins = λ s text rest m stops. let c = m.spells in let f = conditional_first names depth 0 m.inner c.inside c.spells in first_not_mark names punctuator.Semicolon refl text rest (record { leaf = f.leaf; more = f.more ++ awaited OperandEnd (mark punctuator.Semicolon c.close) ∷ []; cut = c.cut ∙ ap (λ l. l ++ awaited OperandEnd (mark punctuator.Semicolon c.close) ∷ []) f.cut; yes = f.yes });
-    }
-    (exact-map (λ (_ : ℕ). None) (λ _. anything) (λ x. refl) (exact-mark anything punctuator.Semicolon Nothing plain (λ t. refl)))
-    (exact-map (λ x. Some x) (λ _. anything) (λ x. refl) (exact-closed punctuator.Semicolon OperandEnd (awaited OperandEnd) (λ t. refl) (all.conditional depth 0) (λ x close. refl))))
-
 -- its step
 abbrev NoStep : Option unit.Simple → List Leaf → Type 0
 NoStep = Map (λ (_ : ℕ). None) (One plain (mark_place punctuator.RightParenthesis))
@@ -191,17 +163,6 @@ text_for_step names depth x text (second m) = let e = m.spells in rw (m.is, e.cu
 for_step_text : (names : List (List ℕ)) (depth : ℕ) (x : Option unit.Simple) (text : List Leaf) → grammar.ForStep names depth x text → Or NoStep (SomeStep names depth) x text
 for_step_text names depth x text (grammar.empty d close) = first (record { inner = close; is = refl; spells = mark-one punctuator.RightParenthesis plain close })
 for_step_text names depth x text (grammar.step d s t close h) = second (record { inner = s; is = refl; spells = record { inside = t; place = close; spells = h; cut = refl } })
-
-exact-for_step : (names : List (List ℕ)) (inner : Readers) → AllExact names inner → (depth : ℕ) → Exact marks anything (grammar.ForStep names depth) (λ _. anything) (read_for_step inner depth)
-exact-for_step names inner all depth =
-    exact-same anything (grammar.ForStep names depth) (read_for_step inner depth) (λ t h. h) (text_for_step names depth) (for_step_text names depth) (λ tokens. refl)
-    (exact-choice (is_mark punctuator.RightParenthesis)
-    record {
-      first_begins = λ s text m. (plain (mark punctuator.RightParenthesis m.inner), [], one-mark punctuator.RightParenthesis plain m.inner text m.spells, refl);
-      second_begins = λ s text rest m stops. simple_no_mark names punctuator.RightParenthesis refl refl text rest (ended_begins names depth punctuator.RightParenthesis m.inner text m.spells);
-    }
-    (exact-map (λ (_ : ℕ). None) (λ _. anything) (λ x. refl) (exact-mark anything punctuator.RightParenthesis Nothing plain (λ t. refl)))
-    (exact-ended grammar.simple_end punctuator.RightParenthesis (λ s. Some s) (λ _. anything) (λ s. refl) (exact-simple names inner all depth) simple_stops_bracket))
 
 -- `for`
 abbrev MadeFor : Type 0
@@ -228,21 +189,6 @@ test_some names depth = let s = step_some names depth in ((None, s.0), plain (ma
 pieces_some : (names : List (List ℕ)) (depth : ℕ) → (x : MadeFor) × (text : List Leaf) × PiecesText names depth x text
 pieces_some names depth = let t = test_some names depth in ((unit.StartsEmpty, t.0), plain (mark punctuator.Semicolon 0) ∷ t.1, record { left = plain (mark punctuator.Semicolon 0) ∷ []; right = t.1; cut = refl; first = grammar.empty (suc (suc depth)) 0; second = t.2 })
 
-pub exact-for : (names : List (List ℕ)) (inner : Readers) → AllExact names inner → (statements : Statements) (depth : ℕ) → Deeper names statements depth → Exact marks anything (ForText names depth) stop_statement (read_for names inner statements depth)
-exact-for names inner all statements depth deeper =
-    exact-opened (keyword_place For) Nothing (opens (suc depth)) (λ t. refl) (word For 0) 0 (keyword-self For 0)
-    (λ place. let p = pieces_some names depth in (made_for place p.0, opens (suc (suc depth)) (mark punctuator.LeftParenthesis 0) ∷ p.1, record { first = 0; left = opens (suc (suc depth)) (mark punctuator.LeftParenthesis 0) ∷ []; right = p.1; is_first = mark-one punctuator.LeftParenthesis (opens (suc (suc depth))) 0; is_second = record { inner = p.0; is = refl; spells = p.2 }; cut = refl }))
-    (λ place t e within. exact-opened (mark_place punctuator.LeftParenthesis) Nothing (opens (suc (suc depth))) (λ t. refl) (mark punctuator.LeftParenthesis 0) 0 (mark-self punctuator.LeftParenthesis 0)
-    (λ k. let p = pieces_some names depth in (made_for place p.0, p.1, record { inner = p.0; is = refl; spells = p.2 }))
-    (λ k t2 e2 within2. exact-map (made_for place) stop_statement (λ made. refl)
-    (exact-then {stop2 = λ _ y. stop_statement y.1.1} (exact-for_start names inner all (suc (suc depth)))
-    (λ _. exact-then {stop2 = λ _ y. stop_statement y.1} (exact-for_test names inner all (suc (suc depth)))
-    (λ _. exact-then {stop2 = λ _ y. stop_statement y} (exact-for_step names inner all (suc (suc depth)))
-    (λ _. deeper (suc depth) (omega arith) (within_opens (suc depth) t within))
-    record { ends = λ x y left right rest one two stops. stops_anything (plains marks right ++ rest); goes_on = λ x left one. body_some names (suc depth) })
-    record { ends = λ x y left right rest one two stops. stops_anything (plains marks right ++ rest); goes_on = λ x left one. step_some names depth })
-    record { ends = λ x y left right rest one two stops. stops_anything (plains marks right ++ rest); goes_on = λ x left one. test_some names depth })))
-
 -- `switch`
 abbrev GroupsText : (names : List (List ℕ)) → (depth place : ℕ) → tree.Expression → unit.Statement → List Leaf → Type 0
 GroupsText names depth place x = Behind (One (opens (suc (suc depth))) (mark_place punctuator.LeftBrace)) (λ _. Map (λ groups. unit.Switch x groups place) (Closed plain punctuator.RightBrace (grammar.Groups names (suc (suc depth)))))
@@ -254,14 +200,82 @@ groups_some : (names : List (List ℕ)) (depth place : ℕ) (x : tree.Expression
 groups_some names depth place x =
     (unit.Switch x unit.no_groups place, opens (suc (suc depth)) (mark punctuator.LeftBrace 0) ∷ plain (mark punctuator.RightBrace 0) ∷ [], record { first = 0; left = opens (suc (suc depth)) (mark punctuator.LeftBrace 0) ∷ []; right = plain (mark punctuator.RightBrace 0) ∷ []; is_first = mark-one punctuator.LeftBrace (opens (suc (suc depth))) 0; is_second = record { inner = unit.no_groups; is = refl; spells = record { inside = []; close = 0; spells = grammar.no_groups (suc (suc depth)); cut = refl } }; cut = refl })
 
-pub exact-switch : (names : List (List ℕ)) (inner : Readers) → AllExact names inner → (statements : Statements) (depth : ℕ) → Deeper names statements depth → Exact marks anything (SwitchText names depth) stop_statement (read_switch names inner statements depth)
-exact-switch names inner all statements depth deeper =
-    exact-opened (keyword_place Switch) Nothing (opens (suc depth)) (λ t. refl) (word Switch 0) 0 (keyword-self Switch 0)
-    (λ place. let z = zero_test names (suc depth) in let g = groups_some names depth place zero_tree in (g.0, z.0 ++ g.1, record { first = zero_tree; left = z.0; right = g.1; is_first = z.1; is_second = g.2; cut = refl }))
-    (λ place t e within. exact-behind (exact-test names inner all (suc depth))
-    (λ x left h w. exact-opened (mark_place punctuator.LeftBrace) Nothing (opens (suc (suc depth))) (λ t. refl) (mark punctuator.LeftBrace 0) 0 (mark-self punctuator.LeftBrace 0)
+roled-for_start : (names : List (List ℕ)) (inner : Readers) → AllFirm names inner → (depth : ℕ) → Firm anything (grammar.ForStart names depth) (λ _. anything) (read_for_start names inner depth)
+roled-for_start names inner all depth =
+    roled-same anything (grammar.ForStart names depth) (read_for_start names inner depth) (λ t h. h) (text_start names depth) (start_text names depth) (λ tokens. refl)
+    (roled-choice (is_mark punctuator.Semicolon)
+    record {
+      first_begins = λ s text m. (plain (mark punctuator.Semicolon m.inner), [], one-mark punctuator.Semicolon plain m.inner text m.spells, refl);
+      second_begins = λ s text rest o stops. others s text rest o;
+    }
+    (λ t e. map_begins (λ (_ : ℕ). unit.StartsEmpty) t (mark_begins punctuator.Semicolon t e)) (map_silent (λ (_ : ℕ). unit.StartsEmpty) (mark_silent punctuator.Semicolon))
+    (firm-map (λ (_ : ℕ). unit.StartsEmpty) (λ _. anything) (λ x. refl) (roled-mark anything punctuator.Semicolon Nothing plain (λ t. refl) (λ t. refl)))
+    (roled-choice (begins_locals names)
+    record {
+      first_begins = λ s text m. let f = locals_first names depth m.inner text m.spells in (f.leaf, f.more, f.cut, f.yes);
+      second_begins = λ s text rest m stops. let f = ended_first names depth m.inner text m.spells in subst (λ l. Stops (λ t. not (begins_locals names t.token)) (plains marks l ++ rest)) (sym f.cut) (rw (statement_no_locals names f.leaf.token.token f.yes) refl);
+    }
+    (λ t e. map_begins (λ locals. unit.StartsLocals locals) t (begin_locals names depth t e)) (map_silent (λ locals. unit.StartsLocals locals) (locals_silent names depth))
+    (firm-map (λ locals. unit.StartsLocals locals) (λ _. anything) (λ x. refl) (roled-locals names inner all depth))
+    (roled-ended grammar.simple_end punctuator.Semicolon (λ s. unit.StartsSimple s) (λ _. anything) (λ s. refl) (roled-simple names inner all depth) simple_stops_semicolon)))
+  where
+    others : (s : unit.ForStart) (text : List Leaf) (rest : List Placed) → Or (LocalsStart names depth) (SimpleStart names depth) s text → Stops (λ t. not (is_mark punctuator.Semicolon t.token)) (plains marks text ++ rest)
+    others s text rest (first m) = let f = locals_first names depth m.inner text m.spells in subst (λ l. Stops (λ t. not (is_mark punctuator.Semicolon t.token)) (plains marks l ++ rest)) (sym f.cut) (rw (locals_no_semicolon names f.leaf.token.token f.yes) refl)
+    others s text rest (second m) = simple_no_mark names punctuator.Semicolon refl refl text rest (ended_begins names depth punctuator.Semicolon m.inner text m.spells)
+
+roled-for_test : (names : List (List ℕ)) (inner : Readers) → AllFirm names inner → (depth : ℕ) → Firm anything (grammar.ForTest names depth) (λ _. anything) (read_for_test inner depth)
+roled-for_test names inner all depth =
+    roled-same anything (grammar.ForTest names depth) (read_for_test inner depth) (λ t h. h) (text_for_test names depth) (for_test_text names depth) (λ tokens. refl)
+    (roled-choice (is_mark punctuator.Semicolon)
+    record {
+      first_begins = λ s text m. (plain (mark punctuator.Semicolon m.inner), [], one-mark punctuator.Semicolon plain m.inner text m.spells, refl);
+      second_begins = λ s text rest m stops. let c = m.spells in let f = conditional_first names depth 0 m.inner c.inside c.spells in first_not_mark names punctuator.Semicolon refl text rest (record { leaf = f.leaf; more = f.more ++ awaited OperandEnd (mark punctuator.Semicolon c.close) ∷ []; cut = c.cut ∙ ap (λ l. l ++ awaited OperandEnd (mark punctuator.Semicolon c.close) ∷ []) f.cut; yes = f.yes });
+    }
+    (λ t e. map_begins (λ (_ : ℕ). None) t (mark_begins punctuator.Semicolon t e)) (map_silent (λ (_ : ℕ). None) (mark_silent punctuator.Semicolon))
+    (firm-map (λ (_ : ℕ). None) (λ _. anything) (λ x. refl) (roled-mark anything punctuator.Semicolon Nothing plain (λ t. refl) (λ t. refl)))
+    (firm-map (λ x. Some x) (λ _. anything) (λ x. refl) (roled-closed punctuator.Semicolon OperandEnd (awaited OperandEnd) (λ t. refl) (λ t. refl) (all.conditional depth 0) (λ x close. refl))))
+
+roled-for_step : (names : List (List ℕ)) (inner : Readers) → AllFirm names inner → (depth : ℕ) → Firm anything (grammar.ForStep names depth) (λ _. anything) (read_for_step inner depth)
+roled-for_step names inner all depth =
+    roled-same anything (grammar.ForStep names depth) (read_for_step inner depth) (λ t h. h) (text_for_step names depth) (for_step_text names depth) (λ tokens. refl)
+    (roled-choice (is_mark punctuator.RightParenthesis)
+    record {
+      first_begins = λ s text m. (plain (mark punctuator.RightParenthesis m.inner), [], one-mark punctuator.RightParenthesis plain m.inner text m.spells, refl);
+      second_begins = λ s text rest m stops. simple_no_mark names punctuator.RightParenthesis refl refl text rest (ended_begins names depth punctuator.RightParenthesis m.inner text m.spells);
+    }
+    (λ t e. map_begins (λ (_ : ℕ). None) t (mark_begins punctuator.RightParenthesis t e)) (map_silent (λ (_ : ℕ). None) (mark_silent punctuator.RightParenthesis))
+    (firm-map (λ (_ : ℕ). None) (λ _. anything) (λ x. refl) (roled-mark anything punctuator.RightParenthesis Nothing plain (λ t. refl) (λ t. refl)))
+    (roled-ended grammar.simple_end punctuator.RightParenthesis (λ s. Some s) (λ _. anything) (λ s. refl) (roled-simple names inner all depth) simple_stops_bracket))
+
+pub some_for : (names : List (List ℕ)) (depth place : ℕ) → (s : unit.Statement) × (right : List Leaf) × Behind (One (opens (suc (suc depth))) (mark_place punctuator.LeftParenthesis)) (λ _. Map (made_for place) (PiecesText names depth)) s right
+some_for names depth place = let p = pieces_some names depth in (made_for place p.0, opens (suc (suc depth)) (mark punctuator.LeftParenthesis 0) ∷ p.1, record { first = 0; left = opens (suc (suc depth)) (mark punctuator.LeftParenthesis 0) ∷ []; right = p.1; is_first = mark-one punctuator.LeftParenthesis (opens (suc (suc depth))) 0; is_second = record { inner = p.0; is = refl; spells = p.2 }; cut = refl })
+
+pub roled-for : (names : List (List ℕ)) (inner : Readers) → AllFirm names inner → (statements : Statements) (depth : ℕ) → Deeper names statements depth → Firm anything (ForText names depth) stop_statement (read_for names inner statements depth)
+roled-for names inner all statements depth deeper =
+    roled-opened (keyword_place For) Nothing (opens (suc depth)) (λ t. refl) (λ t. refl) (word For 0) 0 (keyword-self For 0)
+    (some_for names depth)
+    (λ place t e within. roled-opened (mark_place punctuator.LeftParenthesis) Nothing (opens (suc (suc depth))) (λ t. refl) (λ t. refl) (mark punctuator.LeftParenthesis 0) 0 (mark-self punctuator.LeftParenthesis 0)
+    (λ k. let p = pieces_some names depth in (made_for place p.0, p.1, record { inner = p.0; is = refl; spells = p.2 }))
+    (λ k t2 e2 within2. firm-map (made_for place) stop_statement (λ made. refl)
+    (roled-then {stop2 = λ _ y. stop_statement y.1.1} (roled-for_start names inner all (suc (suc depth)))
+    (λ _. roled-then {stop2 = λ _ y. stop_statement y.1} (roled-for_test names inner all (suc (suc depth)))
+    (λ _. roled-then {stop2 = λ _ y. stop_statement y} (roled-for_step names inner all (suc (suc depth)))
+    (λ _. deeper (suc depth) (omega arith) (within_opens (suc depth) t within))
+    record { ends = λ x y left right rest one two stops. stops_anything (plains marks right ++ rest); goes_on = λ x left one. body_some names (suc depth) })
+    record { ends = λ x y left right rest one two stops. stops_anything (plains marks right ++ rest); goes_on = λ x left one. step_some names depth })
+    record { ends = λ x y left right rest one two stops. stops_anything (plains marks right ++ rest); goes_on = λ x left one. test_some names depth })))
+
+pub some_switch : (names : List (List ℕ)) (depth place : ℕ) → (s : unit.Statement) × (right : List Leaf) × Behind (grammar.Test names (suc depth)) (λ x. GroupsText names depth place x) s right
+some_switch names depth place = let z = zero_test names (suc depth) in let g = groups_some names depth place zero_tree in (g.0, z.0 ++ g.1, record { first = zero_tree; left = z.0; right = g.1; is_first = z.1; is_second = g.2; cut = refl })
+
+pub roled-switch : (names : List (List ℕ)) (inner : Readers) → AllFirm names inner → (statements : Statements) (depth : ℕ) → Deeper names statements depth → Firm anything (SwitchText names depth) stop_statement (read_switch names inner statements depth)
+roled-switch names inner all statements depth deeper =
+    roled-opened (keyword_place Switch) Nothing (opens (suc depth)) (λ t. refl) (λ t. refl) (word Switch 0) 0 (keyword-self Switch 0)
+    (some_switch names depth)
+    (λ place t e within. roled-behind (roled-test names inner all (suc depth))
+    (λ x left h w. roled-opened (mark_place punctuator.LeftBrace) Nothing (opens (suc (suc depth))) (λ t. refl) (λ t. refl) (mark punctuator.LeftBrace 0) 0 (mark-self punctuator.LeftBrace 0)
     (λ k. (unit.Switch x unit.no_groups place, plain (mark punctuator.RightBrace 0) ∷ [], record { inner = unit.no_groups; is = refl; spells = record { inside = []; close = 0; spells = grammar.no_groups (suc (suc depth)); cut = refl } }))
-    (λ k t2 e2 within2. exact-map (λ groups. unit.Switch x groups place) stop_statement (λ groups. refl) (exact-groups names inner all statements (suc (suc depth)) (deeper (suc (suc depth)) (omega arith) (within_opens (suc (suc depth)) t2 within2)))))
+    (λ k t2 e2 within2. firm-map (λ groups. unit.Switch x groups place) stop_statement (λ groups. refl) (roled-groups names inner all statements (suc (suc depth)) (deeper (suc (suc depth)) (omega arith) (within_opens (suc (suc depth)) t2 within2)))))
     record {
       ends = λ x s left right rest one two stops. stops_anything (plains marks right ++ rest);
       goes_on = λ x left one. groups_some names depth place x;

@@ -1,32 +1,35 @@
--- What stands in a block is read exactly, where the statements in it are.
-use Rattle.std.proofs.Common.{◌≡◌, ℕ, zero, suc, ◌≤◌, Bool, true, false, List, [], ◌∷◌, ◌++◌, Option, Some, None, refl, ap, sym, ◌∙◌, subst, IsTrue, not, ◌&&◌, ◌||◌, append_assoc}
+-- What stands in a block keeps roles, where the statements in it do.
+use Rattle.std.proofs.Common.{ℕ, List, Bool, false, not, ◌&&◌, ◌≡◌, ◌∷◌, true, refl, ◌||◌, subst, IsTrue, [], ap, ◌++◌, append_assoc, sym, inl}
 use Rattle.c_spec.specs.declared.token.Keyword.TheVariants.{Else}
 use Rattle.c_spec.specs.declared.token.Punctuator.TheVariants as punctuator
 use Rattle.c_spec.specs.Lexical.{Placed, Token}
 use Rattle.c_tree_spec.specs.Unit as unit
-use Rattle.c_grammar_spec.specs.Leaves.{Leaf, awaited, mark, marks}
+use Rattle.c_grammar_spec.specs.Leaves.{Leaf, marks, awaited, mark, roles}
 use Rattle.c_grammar_spec.specs.Statements as grammar
-use Rattle.exact_read.specs.Reading.{plains, Stops}
-use Rattle.exact_read.specs.Exact.{Exact}
-use Rattle.exact_read.specs.Grammar.{anything, Map, Or, first, second, Many, none, some, context_after, opens, read_many}
-use Rattle.exact_read.proofs.Parts.{exact-map, exact-same}
-use Rattle.exact_read.proofs.Many.{Items, exact-many}
-use Rattle.exact_read.proofs.Stop.{exact-enter}
+use Rattle.exact_read.specs.Reading.{Stops, plains}
+use Rattle.exact_read.specs.Grammar.{Map, Or, first, second, context_after, Many, none, some, anything}
+use Rattle.exact_read.proofs.Many.{Items}
 use Rattle.c_expression_reader.specs.Readers.{Readers}
-use Rattle.c_expression_reader.proofs.Marks.{exact-choice}
-use Rattle.c_type_reader.specs.Exactness.{AllExact}
-use Rattle.c_type_reader.proofs.Entered.{many-context_same}
-use Rattle.c_type_reader.proofs.Tokens.{or_right}
+use Rattle.c_expression_reader.proofs.Marks.{roled-choice, map_begins, map_silent}
+use Rattle.c_type_reader.specs.Exactness.{AllFirm}
+use Rattle.exact_read.proofs.Contexts.{many-context_same}
+use Rattle.c_declarator_reader.proofs.Tokens.{or_right}
 use Rattle.c_declaration_reader.specs.Declarations.{begins_locals}
 use Rattle.c_declaration_reader.specs.Texts.{LocalsText}
-use Rattle.c_declaration_reader.proofs.Locals.{exact-locals}
-use Rattle.c_statement_reader.specs.Statements.{is_keyword, Statements, ends_parts, Part, PartLocals, PartStatement, with_part, parts_of, read_part, read_parts}
-use Rattle.c_statement_reader.specs.Ends.{stop_statement, last_open, stop_parts}
-use Rattle.c_statement_reader.proofs.Firsts.{statement_first, statement_no_locals, statement_no_end, locals_first, locals_no_end}
-
--- statements are read exactly where so many constructs are open
-abbrev pub StatementsExact : (names : List (List ℕ)) → Statements → (depth : ℕ) → Type 0
-StatementsExact names statements depth = Exact marks anything (grammar.Statement names depth) stop_statement (statements depth)
+use Rattle.c_declaration_reader.proofs.Locals.{roled-locals}
+use Rattle.c_statement_reader.specs.Statements.{Part, PartLocals, PartStatement, is_keyword, Statements, ends_parts, parts_of, with_part, read_part, read_parts}
+use Rattle.c_statement_reader.specs.Ends.{last_open, stop_parts, stop_statement}
+use Rattle.c_statement_reader.proofs.Firsts.{statement_first, statement_no_end, locals_first, locals_no_end, statement_no_locals}
+use Rattle.role_read.specs.Roles.{Roled}
+use Rattle.role_read.proofs.Basics.{roled-same, roled-enter, roled-map}
+use Rattle.role_read.proofs.Begins.{Silent, silent_next}
+use Rattle.role_read.proofs.Many.{ItemRoles, roled-many}
+use Rattle.c_expression_reader.specs.Firm.{Firm, quiet}
+use Rattle.c_expression_reader.proofs.Firm.{firm-map}
+use Rattle.c_statement_reader.proofs.Keywords.{silent_wrong}
+use Rattle.c_statement_reader.proofs.Silent.{locals_silent, statement_silent}
+use Rattle.c_statement_reader.proofs.Locals.{begin_locals}
+use Rattle.c_grammar_spec.specs.declared.Role.TheVariants.{Nothing}
 
 -- a part
 abbrev pub PartText : (names : List (List ℕ)) → (depth : ℕ) → Part → List Leaf → Type 0
@@ -39,16 +42,6 @@ is_open (PartStatement statement) = grammar.takes_else statement
 
 abbrev pub stop_part : Part → Placed → Bool
 stop_part part t = not (is_open part && is_keyword Else t.token)
-
-pub exact-part : (names : List (List ℕ)) (inner : Readers) → AllExact names inner → (statements : Statements) (depth : ℕ) → StatementsExact names statements depth → Exact marks anything (PartText names depth) stop_part (read_part names inner statements depth)
-exact-part names inner all statements depth is =
-    exact-choice (begins_locals names)
-    record {
-      first_begins = λ x text m. let f = locals_first names depth m.inner text m.spells in (f.leaf, f.more, f.cut, f.yes);
-      second_begins = λ x text rest m stops. let f = statement_first names depth m.inner text m.spells in subst (λ l. Stops (λ t. not (begins_locals names t.token)) (plains marks l ++ rest)) (sym f.cut) (rw (statement_no_locals names f.leaf.token.token f.yes) refl);
-    }
-    (exact-map (λ locals. PartLocals locals) stop_part (λ x. refl) (exact-locals names inner all depth))
-    (exact-map (λ statement. PartStatement statement) stop_part (λ x. refl) is)
 
 -- the first token of a part ends none, and is no label
 pub part_first : (names : List (List ℕ)) (depth : ℕ) (p : Part) (text : List Leaf) → PartText names depth p text → (u : Leaf) × (more : List Leaf) × (text ≡ u ∷ more) × (ends_parts u.token.token ≡ false) × (Rattle.c_statement_reader.specs.Statements.begins_label u.token.token ≡ false)
@@ -131,16 +124,6 @@ parts_many names depth c parts text (grammar.statement d x rest left right h k) 
     let r = parts_many names d (grammar.takes_else x) rest right k in
     (PartStatement x ∷ r.0, (ap (unit.parts_statement x) r.1.0, some c (PartStatement x) r.0 left right (second (record { inner = x; is = refl; spells = h })) r.1.1))
 
-pub exact-parts : (names : List (List ℕ)) (inner : Readers) → AllExact names inner → (statements : Statements) (depth : ℕ) → StatementsExact names statements depth → Exact marks anything (grammar.Parts names depth) stop_parts (read_parts names inner statements depth)
-exact-parts names inner all statements depth is =
-    exact-same anything (grammar.Parts names depth) (read_parts names inner statements depth) (λ t h. or_right (not (ends_parts t.token)) (ends_open false t) refl)
-    (λ parts text m. subst (λ (v : unit.Parts). grammar.Parts names depth v text) (sym m.is) (many_parts names depth false m.inner text m.spells))
-    (λ parts text h. let r = parts_many names depth false parts text h in record { inner = r.0; is = r.1.0; spells = r.1.1 })
-    (λ tokens. ap (λ o. Rattle.exact_read.specs.Grammar.bind o (λ xs r. Rattle.std.proofs.Common.Ok (parts_of xs, r)))
-    (many-context_same (λ (_ : Unit {0}) t. not (ends_parts t.token)) (λ _. read_part names inner statements depth) (λ _ _. tt {0}) (λ (_ : Bool). tt {0}) (λ (_ : Bool) p. is_open p) (λ d x. refl) false tokens))
-    (exact-map parts_of stop_parts (λ xs. ap {B = Placed → Bool} (λ (c : Bool) (t : Placed). ends_open c t && not (not (ends_parts t.token))) (open_same false xs))
-    (exact-many (part_items names depth) (λ c. exact-enter (λ t. not (ends_parts t.token)) (exact-part names inner all statements depth is)) false))
-
 -- parts stop at a `}`
 pub parts_close : (parts : unit.Parts) (close : ℕ) → IsTrue (stop_parts parts (mark punctuator.RightBrace close))
 parts_close parts close = by_open (last_open false parts)
@@ -148,3 +131,42 @@ parts_close parts close = by_open (last_open false parts)
     by_open : (b : Bool) → IsTrue (not (b && false) && true)
     by_open true = refl
     by_open false = refl
+
+-- statements keep roles where so many constructs are open
+abbrev pub StatementsFirm : (names : List (List ℕ)) → Statements → (depth : ℕ) → Type 0
+StatementsFirm names statements depth = Firm anything (grammar.Statement names depth) stop_statement (statements depth)
+
+pub roled-part : (names : List (List ℕ)) (inner : Readers) → AllFirm names inner → (statements : Statements) (depth : ℕ) → StatementsFirm names statements depth → Firm anything (PartText names depth) stop_part (read_part names inner statements depth)
+roled-part names inner all statements depth is =
+    roled-choice (begins_locals names)
+    record {
+      first_begins = λ x text m. let f = locals_first names depth m.inner text m.spells in (f.leaf, f.more, f.cut, f.yes);
+      second_begins = λ x text rest m stops. let f = statement_first names depth m.inner text m.spells in subst (λ l. Stops (λ t. not (begins_locals names t.token)) (plains marks l ++ rest)) (sym f.cut) (rw (statement_no_locals names f.leaf.token.token f.yes) refl);
+    }
+    (λ t e. map_begins (λ locals. PartLocals locals) t (begin_locals names depth t e)) (map_silent (λ locals. PartLocals locals) (locals_silent names depth))
+    (firm-map (λ locals. PartLocals locals) stop_part (λ x. refl) (roled-locals names inner all depth))
+    (firm-map (λ statement. PartStatement statement) stop_part (λ x. refl) is)
+
+pub part_silent : (names : List (List ℕ)) (depth : ℕ) → Silent marks roles (PartText names depth)
+part_silent names depth x u more (first m) = locals_silent names depth m.inner u more m.spells
+part_silent names depth x u more (second m) = statement_silent names depth m.inner (u ∷ more) m.spells u more refl
+
+part_roles : (names : List (List ℕ)) (inner : Readers) → AllFirm names inner → (statements : Statements) (depth : ℕ) → StatementsFirm names statements depth
+    → ItemRoles marks roles (λ (_ : Bool) t. not (ends_parts t.token)) (λ _. PartText names depth) (λ (_ : Bool) p. is_open p) (λ _. quiet) (λ _. Nothing) (Unit {0}) (λ _. read_part names inner statements depth)
+part_roles names inner all statements depth is =
+    record {
+      enters = λ c t more kind s e. (tt, silent_wrong (roled-part names inner all statements depth is) (part_silent names depth) t more kind refl e);
+      loose = λ h c. refl;
+      begins = λ c u n. inl (silent_next (part_silent names depth) u n);
+      ends = λ c x text one. inl refl;
+    }
+
+pub roled-parts : (names : List (List ℕ)) (inner : Readers) → AllFirm names inner → (statements : Statements) (depth : ℕ) → StatementsFirm names statements depth → Roled marks roles anything (grammar.Parts names depth) stop_parts quiet (Unit {0}) (read_parts names inner statements depth)
+roled-parts names inner all statements depth is =
+    roled-same anything (grammar.Parts names depth) (read_parts names inner statements depth) (λ t h. or_right (not (ends_parts t.token)) (ends_open false t) refl)
+    (λ parts text m. subst (λ (v : unit.Parts). grammar.Parts names depth v text) (sym m.is) (many_parts names depth false m.inner text m.spells))
+    (λ parts text h. let r = parts_many names depth false parts text h in record { inner = r.0; is = r.1.0; spells = r.1.1 })
+    (λ tokens. ap (λ o. Rattle.exact_read.specs.Grammar.bind o (λ xs r. Rattle.std.proofs.Common.Ok (parts_of xs, r)))
+    (many-context_same (λ (_ : Unit {0}) t. not (ends_parts t.token)) (λ _. read_part names inner statements depth) (λ _ _. tt {0}) (λ (_ : Bool). tt {0}) (λ (_ : Bool) p. is_open p) (λ d x. refl) false tokens))
+    (roled-map parts_of stop_parts quiet (λ xs. ap {B = Placed → Bool} (λ (c : Bool) (t : Placed). ends_open c t && not (not (ends_parts t.token))) (open_same false xs)) (λ xs. inl refl)
+    (roled-many (part_items names depth) (part_roles names inner all statements depth is) (λ c. roled-enter (λ t. not (ends_parts t.token)) (roled-part names inner all statements depth is)) false))

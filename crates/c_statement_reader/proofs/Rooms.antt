@@ -1,29 +1,31 @@
--- Every statement is read exactly: with so much room that no more constructs may open.
-use Rattle.std.proofs.Common.{◌≡◌, ℕ, zero, suc, ◌+◌, ◌≤◌, arith, Bool, true, false, List, [], ◌∷◌, ◌++◌, Some, None, refl, ap, sym, ◌∙◌, subst, IsTrue, not, append-nil}
+-- Every statement keeps roles: with so much room that no more constructs may open.
+use Rattle.std.proofs.Common.{List, ℕ, ◌≡◌, ◌≤◌, ◌∷◌, true, refl, sym, subst, ap, ◌∙◌, [], ◌+◌, arith, ◌++◌, suc, Bool, false, IsTrue, not, append-nil, Some, None, zero}
 use Rattle.c_spec.specs.declared.token.Keyword.{Keyword}
-use Rattle.c_spec.specs.declared.token.Keyword.TheVariants.{Break, Continue, Do, Else, For, If, Return, Switch, While}
+use Rattle.c_spec.specs.declared.token.Keyword.TheVariants.{Continue, Break, Do, For, If, Return, Switch, While, Else}
 use Rattle.c_spec.specs.declared.token.Punctuator.{Punctuator}
 use Rattle.c_spec.specs.declared.token.Punctuator.TheVariants as punctuator
-use Rattle.c_spec.specs.Lexical.{Placed, Token, Name as name_token, Word, Number as number_token, Character as character_token, Mark}
+use Rattle.c_spec.specs.Lexical.{Token, Name as name_token, Word, Number as number_token, Character as character_token, Mark, Placed}
 use Rattle.c_tree_spec.specs.Expression as tree
 use Rattle.c_tree_spec.specs.Unit as unit
 use Rattle.c_grammar_spec.specs.declared.Role.TheVariants.{Nothing}
-use Rattle.c_grammar_spec.specs.Leaves.{Leaf, plain, awaited, opens, mark, word, marks}
+use Rattle.c_grammar_spec.specs.Leaves.{Leaf, plain, word, awaited, mark, opens, marks, roles}
 use Rattle.c_grammar_spec.specs.Statements as grammar
 use Rattle.exact_read.specs.Reading.{plains, Stops}
-use Rattle.exact_read.specs.Exact.{Exact}
-use Rattle.exact_read.specs.Grammar.{anything, One, Map, Or, first, second, Nothing as Empty, nothing}
-use Rattle.exact_read.proofs.Parts.{exact-map, exact-same}
-use Rattle.c_expression_reader.specs.Classes.{is_mark, mark_place}
+use Rattle.exact_read.specs.Grammar.{One, Map, Nothing as Empty, Or, first, second, nothing, anything}
+use Rattle.c_expression_reader.specs.Classes.{mark_place, is_mark}
 use Rattle.c_expression_reader.specs.Readers.{Readers}
-use Rattle.c_expression_reader.proofs.Marks.{mark-is, one-mark, mark-one, exact-mark, exact-choice}
-use Rattle.c_type_reader.specs.Exactness.{AllExact}
-use Rattle.c_statement_reader.specs.Statements.{is_keyword, Statements, read_statement_around, read_statement}
+use Rattle.c_expression_reader.proofs.Marks.{one-mark, mark-is, mark-one, map_begins, mark-some, roled-mark, roled-choice, behind_begins, behind_silent, map_silent}
+use Rattle.c_type_reader.specs.Exactness.{AllFirm}
+use Rattle.c_statement_reader.specs.Statements.{is_keyword, keyword_place, Statements, read_statement_around, read_statement}
 use Rattle.c_statement_reader.specs.Ends.{stop_statement}
-use Rattle.c_statement_reader.proofs.Keywords.{one-keyword, keyword-one, keyword-known}
-use Rattle.c_statement_reader.proofs.Simpler.{Ended, JumpText, exact-jump, jump_is, is_jump, ReturnText, exact-return, PerformText, exact-perform}
-use Rattle.c_statement_reader.proofs.Compounds.{Deeper, BehindIf, BlockText, exact-block, WhileText, exact-while, DoText, exact-do, IfText, exact-if}
-use Rattle.c_statement_reader.proofs.Loops.{begins_simple, begun_longer, simple_begins, ForText, exact-for, SwitchText, exact-switch}
+use Rattle.c_statement_reader.proofs.Keywords.{one-keyword, keyword-known, keyword-one, keyword-some}
+use Rattle.c_statement_reader.proofs.Simpler.{JumpText, PerformText, ReturnText, jump_is, Ended, is_jump, roled-jump, roled-return, roled-perform, some_return, mark_begins, mark_silent}
+use Rattle.c_statement_reader.proofs.Compounds.{DoText, WhileText, IfText, BlockText, BehindIf, Deeper, roled-block, roled-while, roled-do, roled-if, some_block, some_while, some_do, some_if}
+use Rattle.c_statement_reader.proofs.Loops.{ForText, SwitchText, begins_simple, begun_longer, simple_begins, roled-for, roled-switch, some_for, some_switch}
+use Rattle.role_read.proofs.Basics.{roled-same}
+use Rattle.role_read.proofs.Begins.{Begins, Silent}
+use Rattle.c_expression_reader.specs.Firm.{Firm}
+use Rattle.c_expression_reader.proofs.Firm.{firm-map}
 
 -- the kinds of statements, in the order in which they are looked for
 abbrev EmptyText : unit.Statement → List Leaf → Type 0
@@ -190,40 +192,6 @@ mark_known p k e = ap (λ (t : Placed). t.token) (mark-is p (record { token = k;
 
 mark_ranked : (p : Punctuator) (m : ℕ) → rank (Mark p) ≡ m → (k : Token) → is_mark p k ≡ true → rank k ≡ m
 mark_ranked p m is k e = ap rank (mark_known p k e) ∙ is
-
-exact-statement_text : (names : List (List ℕ)) (inner : Readers) → AllExact names inner → (statements : Statements) (depth : ℕ) → Deeper names statements depth → Exact marks anything (StatementText names depth) stop_statement (read_statement_around names inner statements depth)
-exact-statement_text names inner all statements depth deeper =
-    exact-choice (is_mark punctuator.LeftBrace)
-    record { first_begins = λ s text b. (opens (suc depth) (mark punctuator.LeftBrace b.first), b.right, b.cut ∙ ap (λ l. l ++ b.right) (one-mark punctuator.LeftBrace (opens (suc depth)) b.first b.left b.is_first), refl); second_begins = λ s text rest o stops. later (is_mark punctuator.LeftBrace) 0 (mark_ranked punctuator.LeftBrace 0 ranks.9) text rest (rest0 names depth 1 s text (omega arith) o) }
-    (exact-block names inner all statements depth deeper)
-    (exact-choice (is_mark punctuator.Semicolon)
-    record { first_begins = λ s text m. (plain (mark punctuator.Semicolon m.inner), [], one-mark punctuator.Semicolon plain m.inner text m.spells, refl); second_begins = λ s text rest o stops. later (is_mark punctuator.Semicolon) 1 (mark_ranked punctuator.Semicolon 1 ranks.8) text rest (rest1 names depth 2 s text (omega arith) o) }
-    (exact-map (λ place. unit.Empty place) stop_statement (λ x. refl) (exact-mark anything punctuator.Semicolon Nothing plain (λ t. refl)))
-    (exact-choice (is_keyword If)
-    record { first_begins = λ s text b. (opens (suc depth) (word If b.first), b.right, b.cut ∙ ap (λ l. l ++ b.right) (one-keyword If (opens (suc depth)) b.first b.left b.is_first), refl); second_begins = λ s text rest o stops. later (is_keyword If) 2 (keyword_rank If 2 ranks.0) text rest (rest2 names depth 3 s text (omega arith) o) }
-    (exact-if names inner all statements depth deeper)
-    (exact-choice (is_keyword Switch)
-    record { first_begins = λ s text b. (opens (suc depth) (word Switch b.first), b.right, b.cut ∙ ap (λ l. l ++ b.right) (one-keyword Switch (opens (suc depth)) b.first b.left b.is_first), refl); second_begins = λ s text rest o stops. later (is_keyword Switch) 3 (keyword_rank Switch 3 ranks.1) text rest (rest3 names depth 4 s text (omega arith) o) }
-    (exact-switch names inner all statements depth deeper)
-    (exact-choice (is_keyword While)
-    record { first_begins = λ s text b. (opens (suc depth) (word While b.first), b.right, b.cut ∙ ap (λ l. l ++ b.right) (one-keyword While (opens (suc depth)) b.first b.left b.is_first), refl); second_begins = λ s text rest o stops. later (is_keyword While) 4 (keyword_rank While 4 ranks.2) text rest (rest4 names depth 5 s text (omega arith) o) }
-    (exact-while names inner all statements depth deeper)
-    (exact-choice (is_keyword Do)
-    record { first_begins = λ s text b. (opens (suc depth) (word Do b.first), b.right, b.cut ∙ ap (λ l. l ++ b.right) (one-keyword Do (opens (suc depth)) b.first b.left b.is_first), refl); second_begins = λ s text rest o stops. later (is_keyword Do) 5 (keyword_rank Do 5 ranks.3) text rest (rest5 names depth 6 s text (omega arith) o) }
-    (exact-do names inner all statements depth deeper)
-    (exact-choice (is_keyword For)
-    record { first_begins = λ s text b. (opens (suc depth) (word For b.first), b.right, b.cut ∙ ap (λ l. l ++ b.right) (one-keyword For (opens (suc depth)) b.first b.left b.is_first), refl); second_begins = λ s text rest o stops. later (is_keyword For) 6 (keyword_rank For 6 ranks.4) text rest (rest6 names depth 7 s text (omega arith) o) }
-    (exact-for names inner all statements depth deeper)
-    (exact-choice (is_keyword Continue)
-    record { first_begins = λ s text m. let j = jump_is Continue (λ place. unit.Continue place) s text m in (plain (word Continue j.0), plain (mark punctuator.Semicolon j.1) ∷ [], j.3, refl); second_begins = λ s text rest o stops. later (is_keyword Continue) 7 (keyword_rank Continue 7 ranks.5) text rest (rest7 names depth 8 s text (omega arith) o) }
-    (exact-jump Continue (λ place. unit.Continue place) (λ place. refl))
-    (exact-choice (is_keyword Break)
-    record { first_begins = λ s text m. let j = jump_is Break (λ place. unit.Break place) s text m in (plain (word Break j.0), plain (mark punctuator.Semicolon j.1) ∷ [], j.3, refl); second_begins = λ s text rest o stops. later (is_keyword Break) 8 (keyword_rank Break 8 ranks.6) text rest (rest8 names depth 9 s text (omega arith) o) }
-    (exact-jump Break (λ place. unit.Break place) (λ place. refl))
-    (exact-choice (is_keyword Return)
-    record { first_begins = λ s text b. (plain (word Return b.first), b.right, b.cut ∙ ap (λ l. l ++ b.right) (one-keyword Return plain b.first b.left b.is_first), refl); second_begins = λ s text rest o stops. later (is_keyword Return) 9 (keyword_rank Return 9 ranks.7) text rest (rest9 names depth 10 s text (omega arith) o) }
-    (exact-return names inner all depth)
-    (exact-perform names inner all depth))))))))))
 
 -- as the grammar has them
 not_true : (b : Bool) → not b ≡ true → b ≡ false
@@ -419,12 +387,67 @@ statement_text names depth s text (grammar.return d place end) =
 statement_text names depth s text (grammar.return_value d v t place end h) =
     second (second (second (second (second (second (second (second (second (first (record { first = place; left = plain (word Return place) ∷ []; right = t ++ awaited (grammar.value_end v) (mark punctuator.Semicolon end) ∷ []; is_first = keyword-one Return plain place; is_second = second (record { inner = v; is = refl; spells = record { inside = t; place = end; spells = h; cut = refl } }); cut = refl }))))))))))
 
-exact-around : (names : List (List ℕ)) (inner : Readers) → AllExact names inner → (statements : Statements) (depth : ℕ) → Deeper names statements depth → Exact marks anything (grammar.Statement names depth) stop_statement (read_statement_around names inner statements depth)
-exact-around names inner all statements depth deeper =
-    exact-same anything (grammar.Statement names depth) (read_statement_around names inner statements depth) (λ t h. h) (text_statement names depth) (statement_text names depth) (λ tokens. refl) (exact-statement_text names inner all statements depth deeper)
+jump_begins : (w : Keyword) (made : (place : ℕ) → unit.Statement) (t : Placed) → is_keyword w t.token ≡ true → Begins marks (JumpText w made) t
+jump_begins w made t e =
+    map_begins made t (record { value = t.offset; first = plain t; more = plain (mark punctuator.Semicolon 0) ∷ []; spells = record { second = 0; left = plain t ∷ []; right = plain (mark punctuator.Semicolon 0) ∷ []; is_first = record { token = t; is = keyword-some w t e; cut = refl }; is_second = mark-one punctuator.Semicolon plain 0; cut = refl }; is = refl })
+
+jump_silent : (w : Keyword) (made : (place : ℕ) → unit.Statement) → Silent marks roles (JumpText w made)
+jump_silent w made s u more m =
+    let j = jump_is w made s (u ∷ more) m in
+    let e : u ∷ more ≡ plain (word w j.0) ∷ plain (mark punctuator.Semicolon j.1) ∷ [] = j.3 in
+    let head : u ≡ plain (word w j.0) = cc in
+    ap (λ (l : Leaf). l.role) head
+
+roled-statement_text : (names : List (List ℕ)) (inner : Readers) → AllFirm names inner → (statements : Statements) (depth : ℕ) → Deeper names statements depth → Firm anything (StatementText names depth) stop_statement (read_statement_around names inner statements depth)
+roled-statement_text names inner all statements depth deeper =
+    roled-choice (is_mark punctuator.LeftBrace)
+    record { first_begins = λ s text b. (opens (suc depth) (mark punctuator.LeftBrace b.first), b.right, b.cut ∙ ap (λ l. l ++ b.right) (one-mark punctuator.LeftBrace (opens (suc depth)) b.first b.left b.is_first), refl); second_begins = λ s text rest o stops. later (is_mark punctuator.LeftBrace) 0 (mark_ranked punctuator.LeftBrace 0 ranks.9) text rest (rest0 names depth 1 s text (omega arith) o) }
+    (λ t e. behind_begins (mark_place punctuator.LeftBrace) (opens (suc depth)) (λ t. refl) t t.offset (mark-some punctuator.LeftBrace t e) (some_block names depth t.offset)) (behind_silent (mark_place punctuator.LeftBrace) (opens (suc depth)) (λ t. refl))
+    (roled-block names inner all statements depth deeper)
+    (roled-choice (is_mark punctuator.Semicolon)
+    record { first_begins = λ s text m. (plain (mark punctuator.Semicolon m.inner), [], one-mark punctuator.Semicolon plain m.inner text m.spells, refl); second_begins = λ s text rest o stops. later (is_mark punctuator.Semicolon) 1 (mark_ranked punctuator.Semicolon 1 ranks.8) text rest (rest1 names depth 2 s text (omega arith) o) }
+    (λ t e. map_begins (λ place. unit.Empty place) t (mark_begins punctuator.Semicolon t e)) (map_silent (λ place. unit.Empty place) (mark_silent punctuator.Semicolon))
+    (firm-map (λ place. unit.Empty place) stop_statement (λ x. refl) (roled-mark anything punctuator.Semicolon Nothing plain (λ t. refl) (λ t. refl)))
+    (roled-choice (is_keyword If)
+    record { first_begins = λ s text b. (opens (suc depth) (word If b.first), b.right, b.cut ∙ ap (λ l. l ++ b.right) (one-keyword If (opens (suc depth)) b.first b.left b.is_first), refl); second_begins = λ s text rest o stops. later (is_keyword If) 2 (keyword_rank If 2 ranks.0) text rest (rest2 names depth 3 s text (omega arith) o) }
+    (λ t e. behind_begins (keyword_place If) (opens (suc depth)) (λ t. refl) t t.offset (keyword-some If t e) (some_if names depth t.offset)) (behind_silent (keyword_place If) (opens (suc depth)) (λ t. refl))
+    (roled-if names inner all statements depth deeper)
+    (roled-choice (is_keyword Switch)
+    record { first_begins = λ s text b. (opens (suc depth) (word Switch b.first), b.right, b.cut ∙ ap (λ l. l ++ b.right) (one-keyword Switch (opens (suc depth)) b.first b.left b.is_first), refl); second_begins = λ s text rest o stops. later (is_keyword Switch) 3 (keyword_rank Switch 3 ranks.1) text rest (rest3 names depth 4 s text (omega arith) o) }
+    (λ t e. behind_begins (keyword_place Switch) (opens (suc depth)) (λ t. refl) t t.offset (keyword-some Switch t e) (some_switch names depth t.offset)) (behind_silent (keyword_place Switch) (opens (suc depth)) (λ t. refl))
+    (roled-switch names inner all statements depth deeper)
+    (roled-choice (is_keyword While)
+    record { first_begins = λ s text b. (opens (suc depth) (word While b.first), b.right, b.cut ∙ ap (λ l. l ++ b.right) (one-keyword While (opens (suc depth)) b.first b.left b.is_first), refl); second_begins = λ s text rest o stops. later (is_keyword While) 4 (keyword_rank While 4 ranks.2) text rest (rest4 names depth 5 s text (omega arith) o) }
+    (λ t e. behind_begins (keyword_place While) (opens (suc depth)) (λ t. refl) t t.offset (keyword-some While t e) (some_while names depth t.offset)) (behind_silent (keyword_place While) (opens (suc depth)) (λ t. refl))
+    (roled-while names inner all statements depth deeper)
+    (roled-choice (is_keyword Do)
+    record { first_begins = λ s text b. (opens (suc depth) (word Do b.first), b.right, b.cut ∙ ap (λ l. l ++ b.right) (one-keyword Do (opens (suc depth)) b.first b.left b.is_first), refl); second_begins = λ s text rest o stops. later (is_keyword Do) 5 (keyword_rank Do 5 ranks.3) text rest (rest5 names depth 6 s text (omega arith) o) }
+    (λ t e. behind_begins (keyword_place Do) (opens (suc depth)) (λ t. refl) t t.offset (keyword-some Do t e) (some_do names depth t.offset)) (behind_silent (keyword_place Do) (opens (suc depth)) (λ t. refl))
+    (roled-do names inner all statements depth deeper)
+    (roled-choice (is_keyword For)
+    record { first_begins = λ s text b. (opens (suc depth) (word For b.first), b.right, b.cut ∙ ap (λ l. l ++ b.right) (one-keyword For (opens (suc depth)) b.first b.left b.is_first), refl); second_begins = λ s text rest o stops. later (is_keyword For) 6 (keyword_rank For 6 ranks.4) text rest (rest6 names depth 7 s text (omega arith) o) }
+    (λ t e. behind_begins (keyword_place For) (opens (suc depth)) (λ t. refl) t t.offset (keyword-some For t e) (some_for names depth t.offset)) (behind_silent (keyword_place For) (opens (suc depth)) (λ t. refl))
+    (roled-for names inner all statements depth deeper)
+    (roled-choice (is_keyword Continue)
+    record { first_begins = λ s text m. let j = jump_is Continue (λ place. unit.Continue place) s text m in (plain (word Continue j.0), plain (mark punctuator.Semicolon j.1) ∷ [], j.3, refl); second_begins = λ s text rest o stops. later (is_keyword Continue) 7 (keyword_rank Continue 7 ranks.5) text rest (rest7 names depth 8 s text (omega arith) o) }
+    (jump_begins Continue (λ place. unit.Continue place)) (jump_silent Continue (λ place. unit.Continue place))
+    (roled-jump Continue (λ place. unit.Continue place) (λ place. refl))
+    (roled-choice (is_keyword Break)
+    record { first_begins = λ s text m. let j = jump_is Break (λ place. unit.Break place) s text m in (plain (word Break j.0), plain (mark punctuator.Semicolon j.1) ∷ [], j.3, refl); second_begins = λ s text rest o stops. later (is_keyword Break) 8 (keyword_rank Break 8 ranks.6) text rest (rest8 names depth 9 s text (omega arith) o) }
+    (jump_begins Break (λ place. unit.Break place)) (jump_silent Break (λ place. unit.Break place))
+    (roled-jump Break (λ place. unit.Break place) (λ place. refl))
+    (roled-choice (is_keyword Return)
+    record { first_begins = λ s text b. (plain (word Return b.first), b.right, b.cut ∙ ap (λ l. l ++ b.right) (one-keyword Return plain b.first b.left b.is_first), refl); second_begins = λ s text rest o stops. later (is_keyword Return) 9 (keyword_rank Return 9 ranks.7) text rest (rest9 names depth 10 s text (omega arith) o) }
+    (λ t e. behind_begins (keyword_place Return) plain (λ t. refl) t t.offset (keyword-some Return t e) (some_return names depth t.offset)) (behind_silent (keyword_place Return) plain (λ t. refl))
+    (roled-return names inner all depth)
+    (roled-perform names inner all depth))))))))))
+
+roled-around : (names : List (List ℕ)) (inner : Readers) → AllFirm names inner → (statements : Statements) (depth : ℕ) → Deeper names statements depth → Firm anything (grammar.Statement names depth) stop_statement (read_statement_around names inner statements depth)
+roled-around names inner all statements depth deeper =
+    roled-same anything (grammar.Statement names depth) (read_statement_around names inner statements depth) (λ t h. h) (text_statement names depth) (statement_text names depth) (λ tokens. refl) (roled-statement_text names inner all statements depth deeper)
 
 -- with so much room that no more constructs may open
-pub exact-statement : (names : List (List ℕ)) (inner : Readers) → AllExact names inner → (room depth : ℕ) → depth ≤ 128 → 129 ≤ depth + room → Exact marks anything (grammar.Statement names depth) stop_statement (read_statement names inner room depth)
+pub roled-statement : (names : List (List ℕ)) (inner : Readers) → AllFirm names inner → (room depth : ℕ) → depth ≤ 128 → 129 ≤ depth + room → Firm anything (grammar.Statement names depth) stop_statement (read_statement names inner room depth)
 unfolding read_statement
-exact-statement names inner all zero depth small enough_room = absurd (omega arith)
-exact-statement names inner all (suc room) depth small enough_room = exact-around names inner all (read_statement names inner room) depth (λ d least most. exact-statement names inner all room d most (omega arith))
+roled-statement names inner all zero depth small enough_room = absurd (omega arith)
+roled-statement names inner all (suc room) depth small enough_room = roled-around names inner all (read_statement names inner room) depth (λ d least most. roled-statement names inner all room d most (omega arith))

@@ -1,30 +1,32 @@
--- What stands in a `switch` is read exactly, where the statements in it are.
-use Rattle.std.proofs.Common.{◌≡◌, ℕ, zero, suc, ◌≤◌, Bool, true, false, List, [], ◌∷◌, ◌++◌, Option, Some, None, Ok, refl, ap, sym, ◌∙◌, subst, IsTrue, not, ◌&&◌, ◌||◌, append_assoc, append-nil}
+-- What stands in a `switch` keeps roles, where the statements in it do.
+use Rattle.std.proofs.Common.{ℕ, List, ◌∷◌, ◌++◌, ap, sym, ◌∙◌, subst, [], refl, ◌≡◌, true, Bool, false, not, ◌&&◌, IsTrue, ◌||◌, append-nil, append_assoc, inl, Ok}
 use Rattle.c_spec.specs.declared.token.Keyword.TheVariants.{Case, Default, Else}
 use Rattle.c_spec.specs.declared.token.Punctuator.TheVariants as punctuator
 use Rattle.c_spec.specs.Lexical.{Placed, Token, Name as name_token, Word, Number as number_token, Character as character_token, Mark}
 use Rattle.c_tree_spec.specs.Unit as unit
-use Rattle.c_grammar_spec.specs.declared.Role.TheVariants.{Nothing, OperandEnd}
-use Rattle.c_grammar_spec.specs.Leaves.{Leaf, plain, awaited, mark, word, marks}
+use Rattle.c_grammar_spec.specs.declared.Role.TheVariants.{OperandEnd, Nothing}
+use Rattle.c_grammar_spec.specs.Leaves.{Leaf, plain, awaited, word, mark, marks, roles}
 use Rattle.c_grammar_spec.specs.Expressions.{Conditional}
 use Rattle.c_grammar_spec.specs.Statements as grammar
-use Rattle.exact_read.specs.Reading.{plains, Stops}
-use Rattle.exact_read.specs.Exact.{Exact}
-use Rattle.exact_read.specs.Grammar.{bind, anything, One, Map, Or, first, second, Many, none, some, context_after, read_many}
-use Rattle.exact_read.proofs.Parts.{exact-map, exact-same}
-use Rattle.exact_read.proofs.Many.{Items, exact-many}
-use Rattle.exact_read.proofs.Stop.{exact-enter}
+use Rattle.exact_read.specs.Reading.{Stops, plains}
+use Rattle.exact_read.specs.Grammar.{One, Map, Or, first, second, Many, none, some, anything, bind, context_after, read_many}
+use Rattle.exact_read.proofs.Many.{Items}
 use Rattle.c_expression_reader.specs.Classes.{mark_place}
 use Rattle.c_expression_reader.specs.Exactness.{Closed}
 use Rattle.c_expression_reader.specs.Readers.{Readers}
-use Rattle.c_expression_reader.proofs.Marks.{one-mark, mark-one, exact-mark, exact-closed, Behind, exact-opened, exact-choice}
+use Rattle.c_expression_reader.proofs.Marks.{Behind, one-mark, mark-one, behind_begins, same_begins, roled-mark, roled-closed, roled-opened, roled-choice, behind_silent, map_begins, map_silent, roled-closed_by}
 use Rattle.c_expression_reader.proofs.Samples.{zero_tree, zero_text, zero_conditional}
-use Rattle.c_type_reader.specs.Exactness.{AllExact}
-use Rattle.c_type_reader.proofs.Entered.{many-context_same}
-use Rattle.c_type_reader.proofs.Tokens.{or_right}
-use Rattle.c_statement_reader.specs.Statements.{is_keyword, keyword_place, Statements, ends_parts, begins_label, Part, PartLocals, PartStatement, with_part, parts_of, Element, ElementLabel, ElementPart, elements_start, read_label, read_element, Collected, group_of, before_part, collect, groups_of, read_groups}
-use Rattle.c_statement_reader.proofs.Keywords.{keyword-self, one-keyword, keyword-one}
-use Rattle.c_statement_reader.proofs.Parts.{StatementsExact, PartText, is_open, exact-part, part_first, goes_no_else, part_before, parts_many, PartsMany}
+use Rattle.c_type_reader.specs.Exactness.{AllFirm}
+use Rattle.exact_read.proofs.Contexts.{many-context_same}
+use Rattle.c_declarator_reader.proofs.Tokens.{or_right}
+use Rattle.c_statement_reader.specs.Statements.{keyword_place, begins_label, Element, ElementLabel, ElementPart, is_keyword, ends_parts, elements_start, Collected, Part, PartLocals, PartStatement, with_part, before_part, collect, groups_of, parts_of, group_of, read_label, Statements, read_element, read_groups}
+use Rattle.c_statement_reader.proofs.Keywords.{one-keyword, keyword-one, keyword-some, keyword-self, silent_wrong}
+use Rattle.c_statement_reader.proofs.Parts.{is_open, PartText, goes_no_else, part_first, part_before, PartsMany, parts_many, StatementsFirm, roled-part, part_silent}
+use Rattle.role_read.proofs.Basics.{roled-same, roled-enter}
+use Rattle.role_read.proofs.Begins.{Begins, Silent, silent_next}
+use Rattle.role_read.proofs.Many.{ItemRoles, roled-many}
+use Rattle.c_expression_reader.specs.Firm.{Firm, quiet}
+use Rattle.c_expression_reader.proofs.Firm.{firm-map}
 
 -- a label
 abbrev CaseText : (names : List (List ℕ)) → (depth : ℕ) → unit.Label → List Leaf → Type 0
@@ -49,21 +51,6 @@ label_text names depth l text (grammar.case d x t place colon h) =
     first (record { first = place; left = plain (word Case place) ∷ []; right = t ++ awaited OperandEnd (mark punctuator.Colon colon) ∷ []; is_first = keyword-one Case plain place; is_second = record { inner = x; is = refl; spells = record { inside = t; close = colon; spells = h; cut = refl } }; cut = refl })
 label_text names depth l text (grammar.default d place colon) =
     second (record { first = place; left = plain (word Default place) ∷ []; right = plain (mark punctuator.Colon colon) ∷ []; is_first = keyword-one Default plain place; is_second = record { inner = colon; is = refl; spells = mark-one punctuator.Colon plain colon }; cut = refl })
-
-exact-label : (names : List (List ℕ)) (inner : Readers) → AllExact names inner → (depth : ℕ) → Exact marks anything (grammar.Label names depth) (λ _. anything) (read_label inner depth)
-exact-label names inner all depth =
-    exact-same anything (grammar.Label names depth) (read_label inner depth) (λ t h. h) (text_label names depth) (label_text names depth) (λ tokens. refl)
-    (exact-choice (is_keyword Case)
-    record {
-      first_begins = λ l text b. (plain (word Case b.first), b.right, b.cut ∙ ap (λ t. t ++ b.right) (one-keyword Case plain b.first b.left b.is_first), refl);
-      second_begins = λ l text rest b stops. subst (λ t. Stops (λ t. not (is_keyword Case t.token)) (plains marks t ++ rest)) (sym (b.cut ∙ ap (λ t. t ++ b.right) (one-keyword Default plain b.first b.left b.is_first))) refl;
-    }
-    (exact-opened (keyword_place Case) Nothing plain (λ t. refl) (word Case 0) 0 (keyword-self Case 0)
-    (λ place. (unit.Case zero_tree place, zero_text ++ awaited OperandEnd (mark punctuator.Colon 0) ∷ [], record { inner = zero_tree; is = refl; spells = record { inside = zero_text; close = 0; spells = zero_conditional names depth 0; cut = refl } }))
-    (λ place t e within. exact-map (λ x. unit.Case x place) (λ _. anything) (λ x. refl) (exact-closed punctuator.Colon OperandEnd (awaited OperandEnd) (λ t. refl) (all.conditional depth 0) (λ x close. refl))))
-    (exact-opened (keyword_place Default) Nothing plain (λ t. refl) (word Default 0) 0 (keyword-self Default 0)
-    (λ place. (unit.Default place, plain (mark punctuator.Colon 0) ∷ [], record { inner = 0; is = refl; spells = mark-one punctuator.Colon plain 0 }))
-    (λ place t e within. exact-map (λ (_ : ℕ). unit.Default place) (λ _. anything) (λ x. refl) (exact-mark anything punctuator.Colon Nothing plain (λ t. refl)))))
 
 label_first : (names : List (List ℕ)) (depth : ℕ) (l : unit.Label) (text : List Leaf) → grammar.Label names depth l text → (u : Leaf) × (more : List Leaf) × (text ≡ u ∷ more) × (begins_label u.token.token ≡ true)
 label_first names depth l text (grammar.case d x t place colon h) = (plain (word Case place), _, refl, refl)
@@ -151,17 +138,6 @@ element_items names depth = record { begins = begins; opens_next = λ before e r
     ended : (e : Element) (rest : List Placed) → Stops (λ t. elements_start true t || ends_before (BehindElement (open_element e)) t) rest → Stops (stop_element e) rest
     ended e [] h = tt
     ended e (t ∷ rest) h = by_test e t (elements_start true t) refl h
-
-exact-element : (names : List (List ℕ)) (inner : Readers) → AllExact names inner → (statements : Statements) (depth : ℕ) → StatementsExact names statements depth → (before : Before) → Exact marks anything (ElementText names depth before) stop_element (read_element names inner statements depth (had_label before))
-exact-element names inner all statements depth is AtStart = exact-map (λ label. ElementLabel label) stop_element (λ x. refl) (exact-label names inner all depth)
-exact-element names inner all statements depth is (BehindElement b) =
-    exact-choice begins_label
-    record {
-      first_begins = λ e text m. label_first names depth m.inner text m.spells;
-      second_begins = λ e text rest m stops. let f = part_first names depth m.inner text m.spells in subst (λ l. Stops (λ t. not (begins_label t.token)) (plains marks l ++ rest)) (sym f.2) (rw f.4 refl);
-    }
-    (exact-map (λ label. ElementLabel label) stop_element (λ x. refl) (exact-label names inner all depth))
-    (exact-map (λ part. ElementPart part) stop_element (λ x. refl) (exact-part names inner all statements depth is))
 
 -- what elements are, as the grammar has groups
 abbrev ElementsText : (names : List (List ℕ)) → (depth : ℕ) → Before → List Element → List Leaf → Type 0
@@ -348,16 +324,82 @@ form_groups : (es : List Element) (gs : unit.Groups) → Form es gs → gs ≡ g
 form_groups es gs no_more = refl
 form_groups es gs (labelled fs label labels parts behind e) = sym (ap (λ (c : Collected). group_of c.labels c.parts c.groups) e)
 
+some_case : (names : List (List ℕ)) (depth place : ℕ) → (l : unit.Label) × (right : List Leaf) × Map (λ x. unit.Case x place) (Closed (awaited OperandEnd) punctuator.Colon (Conditional names depth 0)) l right
+some_case names depth place = (unit.Case zero_tree place, zero_text ++ awaited OperandEnd (mark punctuator.Colon 0) ∷ [], record { inner = zero_tree; is = refl; spells = record { inside = zero_text; close = 0; spells = zero_conditional names depth 0; cut = refl } })
+
+some_default : (place : ℕ) → (l : unit.Label) × (right : List Leaf) × Map (λ (_ : ℕ). unit.Default place) (One plain (mark_place punctuator.Colon)) l right
+some_default place = (unit.Default place, plain (mark punctuator.Colon 0) ∷ [], record { inner = 0; is = refl; spells = mark-one punctuator.Colon plain 0 })
+
+case_begins : (names : List (List ℕ)) (depth : ℕ) (t : Placed) → is_keyword Case t.token ≡ true → Begins marks (CaseText names depth) t
+case_begins names depth t e = behind_begins (keyword_place Case) plain (λ t. refl) t t.offset (keyword-some Case t e) (some_case names depth t.offset)
+
+label_begins : (names : List (List ℕ)) (depth : ℕ) (t : Placed) → begins_label t.token ≡ true → Begins marks (grammar.Label names depth) t
+label_begins names depth t e = same_begins (text_label names depth) t (by_case (is_keyword Case t.token) refl e)
+  where
+    by_case : (b : Bool) → is_keyword Case t.token ≡ b → (b || is_keyword Default t.token) ≡ true → Begins marks (Or (CaseText names depth) DefaultText) t
+    by_case true f e = same_begins (λ l text h. first h) t (case_begins names depth t f)
+    by_case false f e = same_begins (λ l text h. second h) t (behind_begins (keyword_place Default) plain (λ t. refl) t t.offset (keyword-some Default t e) (some_default t.offset))
+
+label_silent : (names : List (List ℕ)) (depth : ℕ) → Silent marks roles (grammar.Label names depth)
+label_silent names depth l u more h = silent_of l (u ∷ more) h refl
+  where
+    silent_of : (l : unit.Label) (text : List Leaf) → grammar.Label names depth l text → text ≡ u ∷ more → u.role ≡ Nothing
+    silent_of l text (grammar.case d x t place colon h) e = let head : plain (word Case place) ≡ u = cc in ap (λ (k : Leaf). k.role) (sym head)
+    silent_of l text (grammar.default d place colon) e = let head : plain (word Default place) ≡ u = cc in ap (λ (k : Leaf). k.role) (sym head)
+
+roled-label : (names : List (List ℕ)) (inner : Readers) → AllFirm names inner → (depth : ℕ) → Firm anything (grammar.Label names depth) (λ _. anything) (read_label inner depth)
+roled-label names inner all depth =
+    roled-same anything (grammar.Label names depth) (read_label inner depth) (λ t h. h) (text_label names depth) (label_text names depth) (λ tokens. refl)
+    (roled-choice (is_keyword Case)
+    record {
+      first_begins = λ l text b. (plain (word Case b.first), b.right, b.cut ∙ ap (λ t. t ++ b.right) (one-keyword Case plain b.first b.left b.is_first), refl);
+      second_begins = λ l text rest b stops. subst (λ t. Stops (λ t. not (is_keyword Case t.token)) (plains marks t ++ rest)) (sym (b.cut ∙ ap (λ t. t ++ b.right) (one-keyword Default plain b.first b.left b.is_first))) refl;
+    }
+    (λ t e. case_begins names depth t e) (behind_silent (keyword_place Case) plain (λ t. refl))
+    (roled-opened (keyword_place Case) Nothing plain (λ t. refl) (λ t. refl) (word Case 0) 0 (keyword-self Case 0)
+    (some_case names depth)
+    (λ place t e within. firm-map (λ x. unit.Case x place) (λ _. anything) (λ x. refl) (roled-closed punctuator.Colon OperandEnd (awaited OperandEnd) (λ t. refl) (λ t. refl) (all.conditional depth 0) (λ x close. refl))))
+    (roled-opened (keyword_place Default) Nothing plain (λ t. refl) (λ t. refl) (word Default 0) 0 (keyword-self Default 0)
+    some_default
+    (λ place t e within. firm-map (λ (_ : ℕ). unit.Default place) (λ _. anything) (λ x. refl) (roled-mark anything punctuator.Colon Nothing plain (λ t. refl) (λ t. refl)))))
+
+roled-element : (names : List (List ℕ)) (inner : Readers) → AllFirm names inner → (statements : Statements) (depth : ℕ) → StatementsFirm names statements depth → (before : Before) → Firm anything (ElementText names depth before) stop_element (read_element names inner statements depth (had_label before))
+roled-element names inner all statements depth is AtStart = firm-map (λ label. ElementLabel label) stop_element (λ x. refl) (roled-label names inner all depth)
+roled-element names inner all statements depth is (BehindElement b) =
+    roled-choice begins_label
+    record {
+      first_begins = λ e text m. label_first names depth m.inner text m.spells;
+      second_begins = λ e text rest m stops. let f = part_first names depth m.inner text m.spells in subst (λ l. Stops (λ t. not (begins_label t.token)) (plains marks l ++ rest)) (sym f.2) (rw f.4 refl);
+    }
+    (λ t e. map_begins (λ label. ElementLabel label) t (label_begins names depth t e)) (map_silent (λ label. ElementLabel label) (label_silent names depth))
+    (firm-map (λ label. ElementLabel label) stop_element (λ x. refl) (roled-label names inner all depth))
+    (firm-map (λ part. ElementPart part) stop_element (λ x. refl) (roled-part names inner all statements depth is))
+
 -- with the `}` behind them
-pub exact-groups : (names : List (List ℕ)) (inner : Readers) → AllExact names inner → (statements : Statements) (depth : ℕ) → StatementsExact names statements depth
-    → Exact marks anything (Closed plain punctuator.RightBrace (grammar.Groups names depth)) (λ _. anything) (Rattle.c_expression_reader.specs.Readers.before (read_groups names inner statements depth) (Rattle.c_expression_reader.specs.Readers.token Nothing plain (mark_place punctuator.RightBrace)))
-exact-groups names inner all statements depth is =
-    exact-same anything (Closed plain punctuator.RightBrace (grammar.Groups names depth)) (Rattle.c_expression_reader.specs.Readers.before (read_groups names inner statements depth) (Rattle.c_expression_reader.specs.Readers.token Nothing plain (mark_place punctuator.RightBrace))) (λ t h. h) to from same
-    (exact-map groups_of (λ _. anything) (λ x. refl)
-    (exact-closed {stop = Rattle.exact_read.specs.Grammar.stop_many (λ before. elements_start (had_label before)) ends_before next_before AtStart} punctuator.RightBrace Nothing plain (λ t. refl)
-    (exact-same anything (ElementsText names depth AtStart) (read_many elements_start (read_element names inner statements depth) (λ _ _. true) false) (λ t h. or_right (elements_start false t) true refl) (λ es text h. h) (λ es text h. h)
+element_silent : (names : List (List ℕ)) (depth : ℕ) (before : Before) → Silent marks roles (ElementText names depth before)
+element_silent names depth AtStart x u more m = label_silent names depth m.inner u more m.spells
+element_silent names depth (BehindElement b) x u more (first m) = label_silent names depth m.inner u more m.spells
+element_silent names depth (BehindElement b) x u more (second m) = part_silent names depth m.inner u more m.spells
+
+element_roles : (names : List (List ℕ)) (inner : Readers) → AllFirm names inner → (statements : Statements) (depth : ℕ) → StatementsFirm names statements depth
+    → ItemRoles marks roles (λ before. elements_start (had_label before)) (ElementText names depth) next_before (λ _. quiet) (λ _. Nothing) (Unit {0}) (λ before. read_element names inner statements depth (had_label before))
+element_roles names inner all statements depth is =
+    record {
+      enters = λ before t more kind s e. (tt, silent_wrong (roled-element names inner all statements depth is before) (element_silent names depth before) t more kind refl e);
+      loose = λ h before. refl;
+      begins = λ before u n. inl (silent_next (element_silent names depth before) u n);
+      ends = λ before x text one. inl refl;
+    }
+
+pub roled-groups : (names : List (List ℕ)) (inner : Readers) → AllFirm names inner → (statements : Statements) (depth : ℕ) → StatementsFirm names statements depth
+    → Firm anything (Closed plain punctuator.RightBrace (grammar.Groups names depth)) (λ _. anything) (Rattle.c_expression_reader.specs.Readers.before (read_groups names inner statements depth) (Rattle.c_expression_reader.specs.Readers.token Nothing plain (mark_place punctuator.RightBrace)))
+roled-groups names inner all statements depth is =
+    roled-same anything (Closed plain punctuator.RightBrace (grammar.Groups names depth)) (Rattle.c_expression_reader.specs.Readers.before (read_groups names inner statements depth) (Rattle.c_expression_reader.specs.Readers.token Nothing plain (mark_place punctuator.RightBrace))) (λ t h. h) to from same
+    (firm-map groups_of (λ _. anything) (λ x. refl)
+    (roled-closed_by {stop = Rattle.exact_read.specs.Grammar.stop_many (λ before. elements_start (had_label before)) ends_before next_before AtStart} punctuator.RightBrace Nothing plain (λ t. refl) (λ t. refl) (λ es. inl refl) (λ h. refl)
+    (roled-same anything (ElementsText names depth AtStart) (read_many elements_start (read_element names inner statements depth) (λ _ _. true) false) (λ t h. or_right (elements_start false t) true refl) (λ es text h. h) (λ es text h. h)
     (many-context_same elements_start (read_element names inner statements depth) (λ _ _. true) had_label next_before (λ d e. refl) AtStart)
-    (exact-many (element_items names depth) (λ before. exact-enter (elements_start (had_label before)) (exact-element names inner all statements depth is before)) AtStart))
+    (roled-many (element_items names depth) (element_roles names inner all statements depth is) (λ before. roled-enter (elements_start (had_label before)) (roled-element names inner all statements depth is before)) AtStart))
     closes))
   where
     by_before : (before : Before) (close : ℕ) → IsTrue (ends_before before (mark punctuator.RightBrace close) && not (elements_start (had_label before) (mark punctuator.RightBrace close)))

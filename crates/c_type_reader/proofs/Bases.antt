@@ -1,9 +1,9 @@
--- Bases of specifiers are read exactly, with where they end.
-use Rattle.std.proofs.Common.{◌≡◌, ℕ, suc, ◌≤◌, Bool, true, false, List, [], ◌∷◌, ◌++◌, Option, Some, None, Ok, Err, refl, ap, sym, ◌∙◌, subst, not, append_assoc, append-nil, cond}
-use Rattle.std.specs.Prelude.{map, option_map, unwrap_or}
+-- Bases of specifiers keep roles, with where they end.
+use Rattle.std.proofs.Common.{Bool, not, ℕ, List, Option, Some, None, ◌≡◌, true, ◌∷◌, false, refl, suc, ◌++◌, ap, ◌∙◌, [], subst, cond, sym, append_assoc, append-nil, Ok, Err, ◌≤◌}
+use Rattle.std.specs.Prelude.{option_map, map, unwrap_or}
 use Rattle.std.specs.Option.{is_some}
 use Rattle.c_spec.specs.declared.token.Keyword.{Keyword}
-use Rattle.c_spec.specs.declared.token.Keyword.TheVariants.{Char, Signed, Unsigned, Short, Int, Long, Void, Struct, Enum}
+use Rattle.c_spec.specs.declared.token.Keyword.TheVariants.{Void, Struct, Enum, Char, Signed, Unsigned, Short, Int, Long}
 use Rattle.c_spec.specs.declared.token.Punctuator.TheVariants as punctuator
 use Rattle.c_spec.specs.Lexical.{Placed, Token, Name as name_token, Word, Number as number_token, Character as character_token, Mark}
 use Rattle.c_tree_spec.specs.declared.IntegerType.{IntegerType}
@@ -11,29 +11,33 @@ use Rattle.c_tree_spec.specs.declared.IntegerType.TheVariants as integer
 use Rattle.c_tree_spec.specs.Expression as tree
 use Rattle.c_grammar_spec.specs.declared.Role.{Role}
 use Rattle.c_grammar_spec.specs.declared.Role.TheVariants.{Nothing}
-use Rattle.c_grammar_spec.specs.Leaves.{Leaf, plain, opens, awaited, mark, word, named, marks}
+use Rattle.c_grammar_spec.specs.Leaves.{Leaf, plain, marks, opens, mark, awaited, named, word, roles}
 use Rattle.c_grammar_spec.specs.Expressions as grammar
 use Rattle.exact_read.specs.Reading.{Outcome, Reader, plains, Stops}
-use Rattle.exact_read.specs.Exact.{Exact}
-use Rattle.exact_read.specs.Grammar.{bind, anything, One, Map, Then, Or, first, second, Nothing as Empty, nothing, read_map, read_nothing}
-use Rattle.exact_read.proofs.Parts.{exact-one, exact-map, exact-nothing, stops_anything, both}
-use Rattle.exact_read.proofs.Then.{exact-then}
-use Rattle.exact_read.proofs.Stop.{exact-stop, exact-enter}
+use Rattle.exact_read.specs.Grammar.{One, Map, Or, Nothing as Empty, Then, second, nothing, first, bind, read_map, read_nothing, anything}
+use Rattle.exact_read.proofs.Parts.{both, stops_anything}
 use Rattle.c_expression_reader.specs.Classes.{is_mark, mark_place}
 use Rattle.c_expression_reader.specs.Exactness.{Closed}
-use Rattle.c_expression_reader.specs.Readers.{Readers, token, behind, choose, next_is}
-use Rattle.c_expression_reader.specs.Types.{Head, HeadVoid, HeadInteger, HeadName, HeadStruct, HeadEnum, head_word, head_of, head_at, plain_name_at, is_plain_name, read_words, integer_of, read_members, read_constants, read_base_rest, read_base}
-use Rattle.c_expression_reader.proofs.Marks.{mark-self, one-mark, mark-one, mark-passes, Behind, exact-opened, exact-choose, exact-choice}
-use Rattle.c_type_reader.specs.Endings.{Ending, WordsAround, BraceToo, WordsToo, goes_on_with, keywords_of, base_ending, BaseEnd}
-use Rattle.c_type_reader.specs.Rich.{Ended, rich_struct, rich_enum, rich_base_rest, rich_base}
+use Rattle.c_expression_reader.specs.Readers.{token, behind, choose, next_is, Readers}
+use Rattle.c_expression_reader.specs.Types.{plain_name_at, is_plain_name, Head, HeadVoid, HeadInteger, HeadName, HeadStruct, HeadEnum, integer_of, head_at, head_word, head_of, read_words, read_members, read_constants, read_base_rest, read_base}
+use Rattle.c_expression_reader.proofs.Marks.{Behind, one-mark, mark-one, roled-opened, roled-choose, roled-choice, behind_begins, behind_silent, map_begins, map_silent, mark-self, mark-passes, mark-some}
+use Rattle.c_type_reader.specs.Endings.{goes_on_with, WordsAround, BraceToo, WordsToo, keywords_of, BaseEnd, base_ending, Ending}
+use Rattle.c_type_reader.specs.Rich.{Ended, rich_base_rest, rich_base, rich_struct, rich_enum}
 use Rattle.c_type_reader.proofs.IntegerWords.{six, first_words}
-use Rattle.c_type_reader.proofs.Fresh.{fresh, fresh_is}
-use Rattle.c_type_reader.proofs.Words.{WordsAre, none, some, exact-words}
-use Rattle.c_type_reader.proofs.Dimensions.{Whole}
-use Rattle.c_type_reader.proofs.Declarators.{plain-self, plain-passes}
+use Rattle.c_declarator_reader.proofs.Fresh.{fresh, fresh_is}
+use Rattle.c_declarator_reader.proofs.Words.{WordsAre, none, some}
+use Rattle.c_declarator_reader.proofs.Declarators.{plain-self, plain-passes}
 use Rattle.c_type_reader.proofs.TypeFirsts.{six_begins, first_six}
-use Rattle.c_type_reader.proofs.Members.{Inside, BracesText, exact-members}
-use Rattle.c_type_reader.proofs.Constants.{plain_leaf, leaf_plain, Enumeration, ConstantsText, exact-constants}
+use Rattle.c_type_reader.proofs.Members.{BracesText, Inside, roled-members}
+use Rattle.c_type_reader.proofs.Constants.{ConstantsText, plain_leaf, Enumeration, leaf_plain, roled-constants}
+use Rattle.role_read.proofs.Basics.{roled-stop, roled-enter}
+use Rattle.role_read.proofs.Begins.{Begins, Silent}
+use Rattle.role_read.proofs.Then.{roled-then}
+use Rattle.c_expression_reader.specs.Firm.{Firm}
+use Rattle.c_expression_reader.proofs.Firm.{firm-map, firm-nothing, firm-one}
+use Rattle.c_declarator_reader.specs.Exactness.{Whole}
+use Rattle.c_declarator_reader.proofs.Plain.{roled-words}
+use Rattle.c_type_reader.proofs.Begins.{plain_found}
 
 abbrev pub stop_ended : Ended → Placed → Bool
 stop_ended pair t = not (goes_on_with pair.1 t.token)
@@ -48,6 +52,8 @@ record Braced {Body : Type 0} (S : Body → List Leaf → Type 0) (full : Option
   begins : (x : Body) (text : List Leaf) → S x text → (u : Leaf) × (more : List Leaf) × (text ≡ u ∷ more) × (is_mark punctuator.LeftBrace u.token.token ≡ true)
   full_ends : (tag : Option tree.Name) (x : Body) → (full tag x).1 ≡ WordsAround
   short_ends : (tag : tree.Name) → (short tag).1 ≡ BraceToo
+  starts : (t : Placed) → is_mark punctuator.LeftBrace t.token ≡ true → Begins marks S t
+  silent : Silent marks roles S
 
 brace_no_name : (names : List (List ℕ)) (k : Token) → is_mark punctuator.LeftBrace k ≡ true → is_plain_name names k ≡ false
 brace_no_name names (Mark p) e = refl
@@ -55,35 +61,6 @@ brace_no_name names (name_token spelling) e = absurd (cc)
 brace_no_name names (Word w) e = absurd (cc)
 brace_no_name names (number_token value type) e = absurd (cc)
 brace_no_name names (character_token value) e = absurd (cc)
-
-exact-tagged : {Body : Type 0} {S : Body → List Leaf → Type 0} {full : Option tree.Name → Body → Ended} {short : tree.Name → Ended} {read : Reader Placed Role Body} (names : List (List ℕ)) → Braced S full short → Exact marks anything S (λ _. anything) read
-    → Exact marks anything (TaggedText names S full short) stop_ended
-    (choose (is_plain_name names) (behind (token Nothing plain (plain_name_at names)) (λ tag. choose (is_mark punctuator.LeftBrace) (read_map (full (Some tag)) read) (read_nothing (short tag)))) (read_map (full None) read))
-exact-tagged {Body} {S} {full} {short} {read} names braced is =
-    exact-choice (is_plain_name names)
-    record {
-      first_begins = λ x text b. let h = plain_leaf names b.first b.left b.is_first in (plain (named b.first), b.right, b.cut ∙ ap (λ l. l ++ b.right) h.0, plain-passes names b.first h.1);
-      second_begins = λ x text rest m stops. let b = braced.begins m.inner text m.spells in subst (λ t. Stops (λ t. not (is_plain_name names t.token)) (plains marks t ++ rest)) (sym b.2) (rw (brace_no_name names b.0.token.token b.3) refl);
-    }
-    (exact-opened (plain_name_at names) Nothing plain (λ t. refl) (named (fresh names)) (fresh names) (plain-self names (fresh names) (fresh_is names))
-    (λ tag. (short tag, [], second nothing))
-    (λ tag t e within. exact-choose (is_mark punctuator.LeftBrace)
-    record {
-      first_begins = λ x text m. braced.begins m.inner text m.spells;
-      second_begins = λ x text rest one stops. short_second tag x text rest one stops;
-    }
-    (exact-enter (both anything (λ t. is_mark punctuator.LeftBrace t.token)) (full_is (Some tag)))
-    (exact-stop stop_ended (λ x text one t. short_same tag x text t one) (exact-nothing (both anything (λ t. not (is_mark punctuator.LeftBrace t.token))) (short tag)))))
-    (full_is None)
-  where
-    short_same : (tag : tree.Name) (x : Ended) (text : List Leaf) (t : Placed) → Empty (short tag) x text → not (is_mark punctuator.LeftBrace t.token) ≡ stop_ended x t
-    short_same tag x text t nothing = ap (λ (e : Ending). not (goes_on_with e t.token)) (sym (braced.short_ends tag))
-
-    short_second : (tag : tree.Name) (x : Ended) (text : List Leaf) (rest : List Placed) → Empty (short tag) x text → Stops (stop_ended x) rest → Stops (λ t. not (is_mark punctuator.LeftBrace t.token)) (plains marks text ++ rest)
-    short_second tag x text rest nothing stops = subst (λ (e : Ending). Stops (λ t. not (goes_on_with e t.token)) rest) (braced.short_ends tag) stops
-
-    full_is : (tag : Option tree.Name) → Exact marks anything (Map (full tag) S) stop_ended (read_map (full tag) read)
-    full_is tag = exact-map (full tag) stop_ended (λ x. ap {B = Placed → Bool} (λ (e : Ending) (t : Placed). not (goes_on_with e t.token)) (braced.full_ends tag x)) is
 
 -- `struct` and `enum`
 abbrev full_struct : Option tree.Name → tree.Members → Ended
@@ -107,26 +84,6 @@ EnumText names depth = TaggedText names (ConstantsText names depth) full_enum sh
 brace_first : {X : Type 0} (depth : ℕ) (S2 : ℕ → X → List Leaf → Type 0) (x : X) (text : List Leaf) (b : Behind (One (opens (suc depth)) (mark_place punctuator.LeftBrace)) S2 x text) → text ≡ opens (suc depth) (mark punctuator.LeftBrace b.first) ∷ b.right
 brace_first depth S2 x text b = b.cut ∙ ap (λ l. l ++ b.right) (one-mark punctuator.LeftBrace (opens (suc depth)) b.first b.left b.is_first)
 
-exact-struct : (names : List (List ℕ)) (inner : Readers) (depth : ℕ) → (suc depth ≤ 128 → Whole names inner (suc depth)) → Inside names inner depth → Exact marks anything (StructText names depth) stop_ended (rich_struct names inner depth)
-exact-struct names inner depth whole inside =
-    exact-tagged {full = full_struct} {short = short_struct} names
-    record {
-      begins = λ x text b. (opens (suc depth) (mark punctuator.LeftBrace b.first), b.right, brace_first depth (λ _. Closed plain punctuator.RightBrace (grammar.Members names (suc depth))) x text b, mark-passes punctuator.LeftBrace (mark punctuator.LeftBrace b.first) b.first (mark-self punctuator.LeftBrace b.first));
-      full_ends = λ tag x. refl;
-      short_ends = λ tag. refl;
-    }
-    (exact-members names inner depth whole inside)
-
-exact-enum : (names : List (List ℕ)) (inner : Readers) (depth : ℕ) → Whole names inner depth → Exact marks anything (EnumText names depth) stop_ended (rich_enum names inner depth)
-exact-enum names inner depth whole =
-    exact-tagged {full = full_enum} {short = short_enum} names
-    record {
-      begins = λ x text b. (opens (suc depth) (mark punctuator.LeftBrace b.first), b.right, brace_first depth (λ _. Enumeration names (suc depth)) x text b, mark-passes punctuator.LeftBrace (mark punctuator.LeftBrace b.first) b.first (mark-self punctuator.LeftBrace b.first));
-      full_ends = λ tag x. refl;
-      short_ends = λ tag. refl;
-    }
-    (exact-constants names inner depth whole)
-
 -- what stands behind the first token of a base
 abbrev RestText : (names : List (List ℕ)) → (depth : ℕ) → Head → Ended → List Leaf → Type 0
 RestText names depth HeadVoid = Empty (tree.Void, WordsAround)
@@ -134,19 +91,6 @@ RestText names depth (HeadInteger keyword) = Map (λ words. (integer_of (keyword
 RestText names depth (HeadName name) = Empty (tree.TypedefName name, WordsAround)
 RestText names depth HeadStruct = StructText names depth
 RestText names depth HeadEnum = EnumText names depth
-
-exact-around : (x : Ended) → x.1 ≡ WordsAround → Exact {K = Role} marks anything (Empty x) stop_ended (read_nothing x)
-exact-around x e = exact-stop stop_ended (λ y text one t. same y text t one) (exact-nothing anything x)
-  where
-    same : (y : Ended) (text : List Leaf) (t : Placed) → Empty x y text → true ≡ stop_ended y t
-    same y text t nothing = ap (λ (k : Ending). not (goes_on_with k t.token)) (sym e)
-
-exact-rest : (names : List (List ℕ)) (inner : Readers) (depth : ℕ) → (suc depth ≤ 128 → Whole names inner (suc depth)) → Whole names inner depth → Inside names inner depth → (head : Head) → Exact marks anything (RestText names depth head) stop_ended (rich_base_rest names inner depth head)
-exact-rest names inner depth deeper whole inside HeadVoid = exact-around (tree.Void, WordsAround) refl
-exact-rest names inner depth deeper whole inside (HeadInteger keyword) = exact-map (λ words. (integer_of (keyword ∷ words), WordsToo (keyword ∷ words))) stop_ended (λ words. refl) (exact-words (keyword ∷ []))
-exact-rest names inner depth deeper whole inside (HeadName name) = exact-around (tree.TypedefName name, WordsAround) refl
-exact-rest names inner depth deeper whole inside HeadStruct = exact-struct names inner depth deeper inside
-exact-rest names inner depth deeper whole inside HeadEnum = exact-enum names inner depth whole
 
 abbrev pub BaseText : (names : List (List ℕ)) → (depth : ℕ) → (Head × ℕ) × Ended → List Leaf → Type 0
 BaseText names depth = Then (One plain (head_at names)) (λ head. RestText names depth head.0)
@@ -157,15 +101,6 @@ rest_some names depth (HeadInteger keyword) = (_, [], record { inner = []; is = 
 rest_some names depth (HeadName name) = (_, [], nothing)
 rest_some names depth HeadStruct = ((tree.Struct None tree.no_members, WordsAround), _, second (record { inner = tree.no_members; is = refl; spells = record { first = 0; left = opens (suc depth) (mark punctuator.LeftBrace 0) ∷ []; right = plain (mark punctuator.RightBrace 0) ∷ []; is_first = mark-one punctuator.LeftBrace (opens (suc depth)) 0; is_second = record { inside = []; close = 0; spells = grammar.no_members (suc depth); cut = refl }; cut = refl } }))
 rest_some names depth HeadEnum = ((tree.Enum None (tree.constants (fresh names) tree.no_constants), WordsAround), _, second (record { inner = tree.constants (fresh names) tree.no_constants; is = refl; spells = record { first = 0; left = opens (suc depth) (mark punctuator.LeftBrace 0) ∷ []; right = plain (named (fresh names)) ∷ awaited Nothing (mark punctuator.RightBrace 0) ∷ []; is_first = mark-one punctuator.LeftBrace (opens (suc depth)) 0; is_second = record { end = Nothing; inside = plain (named (fresh names)) ∷ []; close = 0; spells = grammar.last (suc depth) (fresh names) (fresh_is names); cut = refl }; cut = refl } }))
-
-pub exact-base : (names : List (List ℕ)) (inner : Readers) (depth : ℕ) → (entry : Placed → Bool) → (suc depth ≤ 128 → Whole names inner (suc depth)) → Whole names inner depth → Inside names inner depth
-    → Exact marks entry (BaseText names depth) (λ made. stop_ended made.1) (rich_base names inner depth)
-exact-base names inner depth entry deeper whole inside =
-    exact-then (exact-one marks entry plain (head_at names) Nothing (λ t. refl) (word Void 0) (HeadVoid, 0) refl) (λ head. exact-rest names inner depth deeper whole inside head.0)
-    record {
-      ends = λ head y left right rest one two stops. stops_anything (plains marks right ++ rest);
-      goes_on = λ head left one. rest_some names depth head.0;
-    }
 
 -- the token that a head is
 abbrev pub head_leaf : Head → ℕ → Placed
@@ -257,9 +192,6 @@ integer_base names depth keyword place words text e are =
       spells = subst (λ l. grammar.Base names depth (integer_of (keyword ∷ words)) (plain (word keyword place) ∷ l)) (sym p.1.1) (grammar.integer_type depth (unwrap_or (grammar.integer_type_of (keyword ∷ words)) integer.Int) ((keyword, place) ∷ p.0) type);
       is = ap (λ l. WordsToo (keyword ∷ l)) (sym (words_keywords (keyword ∷ []) words text are));
     }
-
-tag_leaf : (names : List (List ℕ)) (depth : ℕ) (tag : tree.Name) → grammar.is_type_name names tag.spelling ≡ false → grammar.Tag names (Some tag) (plain (named tag) ∷ [])
-tag_leaf names depth tag e = grammar.tag tag e
 
 struct_base : (names : List (List ℕ)) (depth place : ℕ) (x : Ended) (text : List Leaf) → StructText names depth x text → BaseEnd names depth x.0 x.1 (plain (word Struct place) ∷ text)
 struct_base names depth place x text (first b) =
@@ -393,9 +325,6 @@ map_map : {X Y Z : Type 0} (f : X → Y) (g : Y → Z) (o : Outcome Placed Role 
 map_map f g (Ok (x, rest)) = refl
 map_map f g (Err fault) = refl
 
-base_of : Ended → tree.Base
-base_of x = x.0
-
 tagged_same : {Body : Type 0} (names : List (List ℕ)) (full : Option tree.Name → Body → Ended) (short : tree.Name → Ended) (read : Reader Placed Role Body) (tokens : List Placed)
     → choose (is_plain_name names) (behind (token Nothing plain (plain_name_at names)) (λ tag. choose (is_mark punctuator.LeftBrace) (read_map (λ b. (full (Some tag) b).0) read) (read_nothing (short tag).0))) (read_map (λ b. (full None b).0) read) tokens
     ≡ read_map (λ (x : Ended). x.0) (choose (is_plain_name names) (behind (token Nothing plain (plain_name_at names)) (λ tag. choose (is_mark punctuator.LeftBrace) (read_map (full (Some tag)) read) (read_nothing (short tag)))) (read_map (full None) read)) tokens
@@ -434,3 +363,82 @@ base_same names inner depth tokens = by_head (token Nothing plain (head_at names
     by_head : (o : Outcome Placed Role (Head × ℕ)) → bind o (λ head rest. bind (read_base_rest names inner depth head.0 rest) (λ y after. Ok ((head, y), after))) ≡ bind {X = (Head × ℕ) × Ended} {Y = (Head × ℕ) × tree.Base} (bind o (λ head rest. bind (rich_base_rest names inner depth head.0 rest) (λ y after. Ok ((head, y), after)))) (λ made r. Ok (without_end made, r))
     by_head (Ok (head, rest)) = ap (λ (o : Outcome Placed Role tree.Base). bind o (λ y after. Ok ((head, y), after))) (rest_same names inner depth head.0 rest) ∙ by_rest head (rich_base_rest names inner depth head.0 rest)
     by_head (Err fault) = refl
+
+roled-tagged : {Body : Type 0} {S : Body → List Leaf → Type 0} {full : Option tree.Name → Body → Ended} {short : tree.Name → Ended} {read : Reader Placed Role Body} (names : List (List ℕ)) → Braced S full short → Firm anything S (λ _. anything) read
+    → Firm anything (TaggedText names S full short) stop_ended
+    (choose (is_plain_name names) (behind (token Nothing plain (plain_name_at names)) (λ tag. choose (is_mark punctuator.LeftBrace) (read_map (full (Some tag)) read) (read_nothing (short tag)))) (read_map (full None) read))
+roled-tagged {Body} {S} {full} {short} {read} names braced is =
+    roled-choice (is_plain_name names)
+    record {
+      first_begins = λ x text b. let h = plain_leaf names b.first b.left b.is_first in (plain (named b.first), b.right, b.cut ∙ ap (λ l. l ++ b.right) h.0, plain-passes names b.first h.1);
+      second_begins = λ x text rest m stops. let b = braced.begins m.inner text m.spells in subst (λ t. Stops (λ t. not (is_plain_name names t.token)) (plains marks t ++ rest)) (sym b.2) (rw (brace_no_name names b.0.token.token b.3) refl);
+    }
+    (λ t e. let n = plain_found names t e in behind_begins (plain_name_at names) plain (λ t. refl) t n.0 n.1 (short n.0, [], second nothing))
+    (behind_silent (plain_name_at names) plain (λ t. refl))
+    (roled-opened (plain_name_at names) Nothing plain (λ t. refl) (λ t. refl) (named (fresh names)) (fresh names) (plain-self names (fresh names) (fresh_is names))
+    (λ tag. (short tag, [], second nothing))
+    (λ tag t e within. roled-choose (is_mark punctuator.LeftBrace)
+    record {
+      first_begins = λ x text m. braced.begins m.inner text m.spells;
+      second_begins = λ x text rest one stops. short_second tag x text rest one stops;
+    }
+    (λ t e. map_begins (full (Some tag)) t (braced.starts t e))
+    (map_silent (full (Some tag)) braced.silent)
+    (roled-enter (both anything (λ t. is_mark punctuator.LeftBrace t.token)) (full_is (Some tag)))
+    (roled-stop stop_ended (λ x text one t. short_same tag x text t one) (firm-nothing (both anything (λ t. not (is_mark punctuator.LeftBrace t.token))) (short tag)))))
+    (full_is None)
+  where
+    short_same : (tag : tree.Name) (x : Ended) (text : List Leaf) (t : Placed) → Empty (short tag) x text → not (is_mark punctuator.LeftBrace t.token) ≡ stop_ended x t
+    short_same tag x text t nothing = ap (λ (e : Ending). not (goes_on_with e t.token)) (sym (braced.short_ends tag))
+
+    short_second : (tag : tree.Name) (x : Ended) (text : List Leaf) (rest : List Placed) → Empty (short tag) x text → Stops (stop_ended x) rest → Stops (λ t. not (is_mark punctuator.LeftBrace t.token)) (plains marks text ++ rest)
+    short_second tag x text rest nothing stops = subst (λ (e : Ending). Stops (λ t. not (goes_on_with e t.token)) rest) (braced.short_ends tag) stops
+
+    full_is : (tag : Option tree.Name) → Firm anything (Map (full tag) S) stop_ended (read_map (full tag) read)
+    full_is tag = firm-map (full tag) stop_ended (λ x. ap {B = Placed → Bool} (λ (e : Ending) (t : Placed). not (goes_on_with e t.token)) (braced.full_ends tag x)) is
+
+roled-struct : (names : List (List ℕ)) (inner : Readers) (depth : ℕ) → (suc depth ≤ 128 → Whole names inner (suc depth)) → Inside names inner depth → Firm anything (StructText names depth) stop_ended (rich_struct names inner depth)
+roled-struct names inner depth whole inside =
+    roled-tagged {full = full_struct} {short = short_struct} names
+    record {
+      begins = λ x text b. (opens (suc depth) (mark punctuator.LeftBrace b.first), b.right, brace_first depth (λ _. Closed plain punctuator.RightBrace (grammar.Members names (suc depth))) x text b, mark-passes punctuator.LeftBrace (mark punctuator.LeftBrace b.first) b.first (mark-self punctuator.LeftBrace b.first));
+      full_ends = λ tag x. refl;
+      short_ends = λ tag. refl;
+      starts = λ t e. behind_begins (mark_place punctuator.LeftBrace) (opens (suc depth)) (λ t. refl) t t.offset (mark-some punctuator.LeftBrace t e) (tree.no_members, plain (mark punctuator.RightBrace 0) ∷ [], record { inside = []; close = 0; spells = grammar.no_members (suc depth); cut = refl });
+      silent = behind_silent (mark_place punctuator.LeftBrace) (opens (suc depth)) (λ t. refl);
+    }
+    (roled-members names inner depth whole inside)
+
+roled-enum : (names : List (List ℕ)) (inner : Readers) (depth : ℕ) → Whole names inner depth → Firm anything (EnumText names depth) stop_ended (rich_enum names inner depth)
+roled-enum names inner depth whole =
+    roled-tagged {full = full_enum} {short = short_enum} names
+    record {
+      begins = λ x text b. (opens (suc depth) (mark punctuator.LeftBrace b.first), b.right, brace_first depth (λ _. Enumeration names (suc depth)) x text b, mark-passes punctuator.LeftBrace (mark punctuator.LeftBrace b.first) b.first (mark-self punctuator.LeftBrace b.first));
+      full_ends = λ tag x. refl;
+      short_ends = λ tag. refl;
+      starts = λ t e. behind_begins (mark_place punctuator.LeftBrace) (opens (suc depth)) (λ t. refl) t t.offset (mark-some punctuator.LeftBrace t e) (tree.constants (fresh names) tree.no_constants, _, record { end = Nothing; inside = plain (named (fresh names)) ∷ []; close = 0; spells = grammar.last (suc depth) (fresh names) (fresh_is names); cut = refl });
+      silent = behind_silent (mark_place punctuator.LeftBrace) (opens (suc depth)) (λ t. refl);
+    }
+    (roled-constants names inner depth whole)
+
+roled-around : (x : Ended) → x.1 ≡ WordsAround → Firm anything (Empty x) stop_ended (read_nothing x)
+roled-around x e = roled-stop stop_ended (λ y text one t. same y text t one) (firm-nothing anything x)
+  where
+    same : (y : Ended) (text : List Leaf) (t : Placed) → Empty x y text → true ≡ stop_ended y t
+    same y text t nothing = ap (λ (k : Ending). not (goes_on_with k t.token)) (sym e)
+
+roled-rest : (names : List (List ℕ)) (inner : Readers) (depth : ℕ) → (suc depth ≤ 128 → Whole names inner (suc depth)) → Whole names inner depth → Inside names inner depth → (head : Head) → Firm anything (RestText names depth head) stop_ended (rich_base_rest names inner depth head)
+roled-rest names inner depth deeper whole inside HeadVoid = roled-around (tree.Void, WordsAround) refl
+roled-rest names inner depth deeper whole inside (HeadInteger keyword) = firm-map (λ words. (integer_of (keyword ∷ words), WordsToo (keyword ∷ words))) stop_ended (λ words. refl) (roled-words (keyword ∷ []))
+roled-rest names inner depth deeper whole inside (HeadName name) = roled-around (tree.TypedefName name, WordsAround) refl
+roled-rest names inner depth deeper whole inside HeadStruct = roled-struct names inner depth deeper inside
+roled-rest names inner depth deeper whole inside HeadEnum = roled-enum names inner depth whole
+
+pub roled-base : (names : List (List ℕ)) (inner : Readers) (depth : ℕ) → (entry : Placed → Bool) → (suc depth ≤ 128 → Whole names inner (suc depth)) → Whole names inner depth → Inside names inner depth
+    → Firm entry (BaseText names depth) (λ made. stop_ended made.1) (rich_base names inner depth)
+roled-base names inner depth entry deeper whole inside =
+    roled-then (firm-one entry plain (head_at names) Nothing (λ t. refl) (λ t. refl) (word Void 0) (HeadVoid, 0) refl) (λ head. roled-rest names inner depth deeper whole inside head.0)
+    record {
+      ends = λ head y left right rest one two stops. stops_anything (plains marks right ++ rest);
+      goes_on = λ head left one. rest_some names depth head.0;
+    }

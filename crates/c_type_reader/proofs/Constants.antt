@@ -1,33 +1,36 @@
--- Enumeration constants are read exactly.
-use Rattle.std.proofs.Common.{◌≡◌, ℕ, suc, Bool, true, false, List, [], ◌∷◌, ◌++◌, Option, Some, None, refl, ap, sym, ◌∙◌, subst, IsTrue, not, ◌&&◌, ◌||◌, append_assoc, append-nil}
+-- Enumeration constants keep roles.
+use Rattle.std.proofs.Common.{Option, ◌≡◌, ℕ, false, List, [], ◌∷◌, Some, None, Bool, not, ap, ◌∙◌, refl, ◌++◌, sym, subst, true, IsTrue, ◌||◌, append-nil, append_assoc, ◌&&◌, suc}
 use Rattle.std.specs.Option.{is_some}
 use Rattle.c_spec.specs.declared.token.Punctuator.TheVariants as punctuator
 use Rattle.c_spec.specs.Lexical.{Placed}
 use Rattle.c_tree_spec.specs.Expression as tree
 use Rattle.c_grammar_spec.specs.declared.Role.{Role}
 use Rattle.c_grammar_spec.specs.declared.Role.TheVariants.{Nothing}
-use Rattle.c_grammar_spec.specs.Leaves.{Leaf, plain, awaited, opens, mark, named, marks}
+use Rattle.c_grammar_spec.specs.Leaves.{Leaf, plain, mark, named, marks, opens, awaited, roles}
 use Rattle.c_grammar_spec.specs.Expressions as grammar
 use Rattle.exact_read.specs.Reading.{plains, Stops}
-use Rattle.exact_read.specs.Exact.{Exact}
 use Rattle.exact_read.specs.Grammar as operator
-use Rattle.exact_read.specs.Grammar.{anything, One, Map, Then, Or, first, second, Nothing as Empty, nothing, Many, context_after, stop_many, read_then, read_map, read_many, read_nothing}
+use Rattle.exact_read.specs.Grammar.{One, Map, Or, Nothing as Empty, Then, first, second, nothing, Many, context_after, anything, stop_many, read_then, read_map, read_many}
 use Rattle.exact_read.proofs.Basics.{plains-two}
-use Rattle.exact_read.proofs.Parts.{exact-one, exact-map, exact-same, exact-nothing, stops_anything, both}
-use Rattle.exact_read.proofs.Then.{exact-then}
-use Rattle.exact_read.proofs.Many.{Items, exact-many, many_opens}
-use Rattle.exact_read.proofs.Stop.{exact-stop, exact-enter}
+use Rattle.exact_read.proofs.Parts.{stops_anything, both}
+use Rattle.exact_read.proofs.Many.{Items, many_opens}
 use Rattle.c_expression_reader.specs.Classes.{is_mark, mark_place}
 use Rattle.c_expression_reader.specs.Stops.{stop_conditional}
-use Rattle.c_expression_reader.specs.Readers.{Readers, token}
-use Rattle.c_expression_reader.specs.Types.{plain_name_at, read_constant, constant_end, After, AfterConstant, AfterComma, constants_start, next_after, after_role, read_constants_part, context_of, constant_before, constants_of, read_constants}
-use Rattle.c_expression_reader.proofs.Marks.{mark-self, mark-is, one-mark, mark-one, mark-passes, exact-mark, Behind, exact-opened, exact-choose}
+use Rattle.c_expression_reader.specs.Readers.{token, Readers}
+use Rattle.c_expression_reader.specs.Types.{plain_name_at, constant_end, After, AfterConstant, AfterComma, next_after, constants_start, after_role, context_of, constant_before, constants_of, read_constant, read_constants_part, read_constants}
+use Rattle.c_expression_reader.proofs.Marks.{Behind, one-mark, mark-one, mark-is, mark-passes, mark-self, mark-some, roled-opened, roled-choose, behind_begins, behind_silent, map_begins, map_silent, some_value, one_first, roled-mark}
 use Rattle.c_expression_reader.proofs.Samples.{zero_tree, zero_text, zero_conditional}
-use Rattle.c_type_reader.proofs.Entered.{many-context_same}
-use Rattle.c_type_reader.proofs.Tokens.{or_right, stops_or_true}
-use Rattle.c_type_reader.proofs.Fresh.{fresh, fresh_is}
-use Rattle.c_type_reader.proofs.Dimensions.{Whole, within_opens}
-use Rattle.c_type_reader.proofs.Declarators.{plain-is, plain-self}
+use Rattle.exact_read.proofs.Contexts.{many-context_same}
+use Rattle.c_declarator_reader.proofs.Tokens.{or_right, stops_or_true}
+use Rattle.c_declarator_reader.proofs.Fresh.{fresh, fresh_is}
+use Rattle.c_declarator_reader.proofs.Dimensions.{within_opens}
+use Rattle.c_declarator_reader.proofs.Declarators.{plain-is, plain-self}
+use Rattle.role_read.proofs.Basics.{roled-same, roled-stop, roled-enter}
+use Rattle.role_read.proofs.Begins.{Begins, Silent}
+use Rattle.role_read.proofs.Then.{roled-then}
+use Rattle.c_expression_reader.specs.Firm.{Firm}
+use Rattle.c_expression_reader.proofs.Firm.{firm-map, firm-one, firm-nothing, firm-many}
+use Rattle.c_declarator_reader.specs.Exactness.{Whole}
 
 abbrev pub Constant : Type 0
 Constant = tree.Name × Option tree.Expression
@@ -81,24 +84,6 @@ none_same x text t nothing = refl
 
 none_second : (x : Option tree.Expression) (text : List Leaf) (rest : List Placed) → Empty None x text → Stops (stop_value x) rest → Stops (λ t. not (is_mark punctuator.Assign t.token)) (plains marks text ++ rest)
 none_second x text rest nothing stops = stops
-
--- where conditional expressions are read exactly at this depth
-exact-constant : (names : List (List ℕ)) (inner : Readers) (depth : ℕ) → Exact marks anything (grammar.Conditional names depth 0) stop_conditional (inner.conditional depth 0) → Exact marks anything (ConstantIs names depth) (λ c. stop_value c.1) (read_constant names inner depth)
-exact-constant names inner depth is =
-    exact-same anything (ConstantIs names depth) (read_constant names inner depth) (λ t h. h) (text_constant names depth) (constant_text names depth) (λ tokens. refl)
-    (exact-then (exact-one marks anything plain (plain_name_at names) Nothing (λ t. refl) (named (fresh names)) (fresh names) (plain-self names (fresh names) (fresh_is names)))
-    (λ n. exact-choose (is_mark punctuator.Assign)
-    record {
-      first_begins = λ x text m. let b = m.spells in (plain (mark punctuator.Assign b.first), b.right, b.cut ∙ ap (λ l. l ++ b.right) (one-mark punctuator.Assign plain b.first b.left b.is_first), mark-passes punctuator.Assign (mark punctuator.Assign b.first) b.first (mark-self punctuator.Assign b.first));
-      second_begins = λ x text rest one stops. none_second x text rest one stops;
-    }
-    (exact-enter (both anything (λ t. is_mark punctuator.Assign t.token)) (exact-map (λ x. Some x) stop_value (λ x. refl)
-    (exact-opened (mark_place punctuator.Assign) Nothing plain (λ t. refl) (mark punctuator.Assign 0) 0 (mark-self punctuator.Assign 0) (λ x. (zero_tree, zero_text, zero_conditional names depth 0)) (λ x t e within. is))))
-    (exact-stop stop_value (λ x text one t. none_same x text t one) (exact-nothing (both anything (λ t. not (is_mark punctuator.Assign t.token))) None)))
-    record {
-      ends = λ n y left right rest one two stops. stops_anything (plains marks right ++ rest);
-      goes_on = λ n left one. (None, [], second nothing);
-    })
 
 -- what stands before: a constant or a comma
 data Last : Type 0 where
@@ -160,11 +145,6 @@ part_items names depth = record { begins = begins; opens_next = opened; stops_it
     ended last None rest h = stops_anything rest
     ended last (Some c) [] h = tt
     ended last (Some c) (t ∷ rest) h = by_test c t (is_mark punctuator.Comma t.token) refl h
-
-exact-part : (names : List (List ℕ)) (inner : Readers) (depth : ℕ) → Exact marks anything (grammar.Conditional names depth 0) stop_conditional (inner.conditional depth 0)
-    → (last : Last) → Exact marks (constants_start names (of_last last)) (PartText names depth last) stop_part (read_constants_part names inner depth (of_last last))
-exact-part names inner depth is (LastConstant c) = exact-map (λ _. None) stop_part (λ x. refl) (exact-mark (λ t. is_mark punctuator.Comma t.token) punctuator.Comma Nothing plain (λ t. refl))
-exact-part names inner depth is LastComma = exact-map (λ c. Some c) stop_part (λ x. refl) (exact-enter (λ t. is_some (plain_name_at names t)) (exact-constant names inner depth is))
 
 -- parts behind what stands before, as the grammar has them
 abbrev PartsText : (names : List (List ℕ)) → (depth : ℕ) → Last → List (Option Constant) → List Leaf → Type 0
@@ -313,16 +293,60 @@ brace_ends names (LastConstant (n, None)) place = refl
 brace_ends names (LastConstant (n, Some x)) place = refl
 brace_ends names LastComma place = refl
 
-exact-enumeration : (names : List (List ℕ)) (inner : Readers) (depth : ℕ) → Exact marks anything (grammar.Conditional names depth 0) stop_conditional (inner.conditional depth 0)
-    → Exact marks anything (Enumeration names depth) (λ _. anything)
+-- in braces
+abbrev pub ConstantsText : (names : List (List ℕ)) → (depth : ℕ) → tree.Constants → List Leaf → Type 0
+ConstantsText names depth = Behind (One (opens (suc depth)) (mark_place punctuator.LeftBrace)) (λ _. Enumeration names (suc depth))
+
+-- where conditional expressions keep roles at this depth
+roled-constant : (names : List (List ℕ)) (inner : Readers) (depth : ℕ) → Firm anything (grammar.Conditional names depth 0) stop_conditional (inner.conditional depth 0) → Firm anything (ConstantIs names depth) (λ c. stop_value c.1) (read_constant names inner depth)
+roled-constant names inner depth is =
+    roled-same anything (ConstantIs names depth) (read_constant names inner depth) (λ t h. h) (text_constant names depth) (constant_text names depth) (λ tokens. refl)
+    (roled-then (firm-one anything plain (plain_name_at names) Nothing (λ t. refl) (λ t. refl) (named (fresh names)) (fresh names) (plain-self names (fresh names) (fresh_is names)))
+    (λ n. roled-choose (is_mark punctuator.Assign)
+    record {
+      first_begins = λ x text m. let b = m.spells in (plain (mark punctuator.Assign b.first), b.right, b.cut ∙ ap (λ l. l ++ b.right) (one-mark punctuator.Assign plain b.first b.left b.is_first), mark-passes punctuator.Assign (mark punctuator.Assign b.first) b.first (mark-self punctuator.Assign b.first));
+      second_begins = λ x text rest one stops. none_second x text rest one stops;
+    }
+    (λ t e. map_begins (λ x. Some x) t (behind_begins (mark_place punctuator.Assign) plain (λ t. refl) t t.offset (mark-some punctuator.Assign t e) (zero_tree, zero_text, zero_conditional names depth 0)))
+    (map_silent (λ x. Some x) (behind_silent (mark_place punctuator.Assign) plain (λ t. refl)))
+    (roled-enter (both anything (λ t. is_mark punctuator.Assign t.token)) (firm-map (λ x. Some x) stop_value (λ x. refl)
+    (roled-opened (mark_place punctuator.Assign) Nothing plain (λ t. refl) (λ t. refl) (mark punctuator.Assign 0) 0 (mark-self punctuator.Assign 0) (λ x. (zero_tree, zero_text, zero_conditional names depth 0)) (λ x t e within. is))))
+    (roled-stop stop_value (λ x text one t. none_same x text t one) (firm-nothing (both anything (λ t. not (is_mark punctuator.Assign t.token))) None)))
+    record {
+      ends = λ n y left right rest one two stops. stops_anything (plains marks right ++ rest);
+      goes_on = λ n left one. (None, [], second nothing);
+    })
+
+part_begins : (names : List (List ℕ)) (depth : ℕ) (last : Last) (t : Placed) → constants_start names (of_last last) t ≡ true → Begins marks (PartText names depth last) t
+part_begins names depth (LastConstant c) t e = record { value = None; first = plain t; more = []; spells = record { inner = t.offset; is = refl; spells = record { token = t; is = mark-some punctuator.Comma t e; cut = refl } }; is = refl }
+part_begins names depth LastComma t e =
+    let n = some_value (plain_name_at names t) e in
+    let h = plain-is names t n.0 n.1 in
+    record { value = Some (n.0, None); first = plain (named n.0); more = []; spells = record { inner = (n.0, None); is = refl; spells = alone n.0 h.1 }; is = sym h.0 }
+
+constant_silent : (names : List (List ℕ)) (depth : ℕ) (c : Constant) (text : List Leaf) → ConstantIs names depth c text → (u : Leaf) (more : List Leaf) → text ≡ u ∷ more → u.role ≡ Nothing
+constant_silent names depth c text (alone n e) u more h = let head : plain (named n) ≡ u = cc in ap (λ (l : Leaf). l.role) (sym head)
+constant_silent names depth c text (valued n x place value e k) u more h = let head : plain (named n) ≡ u = cc in ap (λ (l : Leaf). l.role) (sym head)
+
+part_silent : (names : List (List ℕ)) (depth : ℕ) (last : Last) → Silent marks roles (PartText names depth last)
+part_silent names depth (LastConstant c) x u more m = ap (λ (l : Leaf). l.role) (one_first m.inner u more m.spells)
+part_silent names depth LastComma x u more m = constant_silent names depth m.inner (u ∷ more) m.spells u more refl
+
+roled-part : (names : List (List ℕ)) (inner : Readers) (depth : ℕ) → Firm anything (grammar.Conditional names depth 0) stop_conditional (inner.conditional depth 0)
+    → (last : Last) → Firm (constants_start names (of_last last)) (PartText names depth last) stop_part (read_constants_part names inner depth (of_last last))
+roled-part names inner depth is (LastConstant c) = firm-map (λ _. None) stop_part (λ x. refl) (roled-mark (λ t. is_mark punctuator.Comma t.token) punctuator.Comma Nothing plain (λ t. refl) (λ t. refl))
+roled-part names inner depth is LastComma = firm-map (λ c. Some c) stop_part (λ x. refl) (roled-enter (λ t. is_some (plain_name_at names t)) (roled-constant names inner depth is))
+
+roled-enumeration : (names : List (List ℕ)) (inner : Readers) (depth : ℕ) → Firm anything (grammar.Conditional names depth 0) stop_conditional (inner.conditional depth 0)
+    → Firm anything (Enumeration names depth) (λ _. anything)
     (read_map made_constants (read_then (read_constant names inner depth) (λ head. read_then (read_many (constants_start names) (read_constants_part names inner depth) next_after (AfterConstant (constant_end head)))
     (λ parts. token (after_role (context_of (AfterConstant (constant_end head)) parts)) (put_brace head parts) (mark_place punctuator.RightBrace)))))
-exact-enumeration names inner depth is =
-    exact-same anything (Enumeration names depth) (read_map made_constants (read_then (read_constant names inner depth) (λ head. read_then (read_many (constants_start names) (read_constants_part names inner depth) next_after (AfterConstant (constant_end head)))
+roled-enumeration names inner depth is =
+    roled-same anything (Enumeration names depth) (read_map made_constants (read_then (read_constant names inner depth) (λ head. read_then (read_many (constants_start names) (read_constants_part names inner depth) next_after (AfterConstant (constant_end head)))
     (λ parts. token (after_role (context_of (AfterConstant (constant_end head)) parts)) (put_brace head parts) (mark_place punctuator.RightBrace)))))
     (λ t h. h) (text_enumeration names depth) (enumeration_text names depth) (λ tokens. refl)
-    (exact-map made_constants (λ _. anything) (λ x. refl)
-    (exact-then (exact-constant names inner depth is) (λ c. exact-then (parts_exact c) (λ parts. exact-mark (stop_many (λ last. constants_start names (of_last last)) ends_last next_last (LastConstant c) parts) punctuator.RightBrace (after_role (context_of (AfterConstant (constant_end c)) parts)) (put_brace c parts) (λ t. refl))
+    (firm-map made_constants (λ _. anything) (λ x. refl)
+    (roled-then (roled-constant names inner depth is) (λ c. roled-then (parts_exact c) (λ parts. roled-mark (stop_many (λ last. constants_start names (of_last last)) ends_last next_last (LastConstant c) parts) punctuator.RightBrace (after_role (context_of (AfterConstant (constant_end c)) parts)) (put_brace c parts) (λ t. refl) (λ t. refl))
     record {
       ends = λ parts place left right rest one two stops. at_end c parts place right rest two;
       goes_on = λ parts left one. (0, put_brace c parts (mark punctuator.RightBrace 0) ∷ [], mark-one punctuator.RightBrace (put_brace c parts) 0);
@@ -332,12 +356,12 @@ exact-enumeration names inner depth is =
       goes_on = λ c left one. (([], 0), put_brace c [] (mark punctuator.RightBrace 0) ∷ [], record { left = []; right = put_brace c [] (mark punctuator.RightBrace 0) ∷ []; cut = refl; first = operator.none (LastConstant c); second = mark-one punctuator.RightBrace (put_brace c []) 0 });
     }))
   where
-    parts_exact : (c : Constant) → Exact marks (stop_value c.1) (PartsText names depth (LastConstant c)) (stop_many (λ last. constants_start names (of_last last)) ends_last next_last (LastConstant c)) (read_many (constants_start names) (read_constants_part names inner depth) next_after (AfterConstant (constant_end c)))
+    parts_exact : (c : Constant) → Firm (stop_value c.1) (PartsText names depth (LastConstant c)) (stop_many (λ last. constants_start names (of_last last)) ends_last next_last (LastConstant c)) (read_many (constants_start names) (read_constants_part names inner depth) next_after (AfterConstant (constant_end c)))
     parts_exact c =
-        exact-same (stop_value c.1) (PartsText names depth (LastConstant c)) (read_many (constants_start names) (read_constants_part names inner depth) next_after (AfterConstant (constant_end c)))
+        roled-same (stop_value c.1) (PartsText names depth (LastConstant c)) (read_many (constants_start names) (read_constants_part names inner depth) next_after (AfterConstant (constant_end c)))
         (λ t h. or_right (is_mark punctuator.Comma t.token) (stop_value c.1 t) h) (λ x text h. h) (λ x text h. h)
         (many-context_same (constants_start names) (read_constants_part names inner depth) next_after of_last next_last of-next (LastConstant c))
-        (exact-many (part_items names depth) (exact-part names inner depth is) (LastConstant c))
+        (firm-many (part_items names depth) (part_begins names depth) (part_silent names depth) (roled-part names inner depth is) (LastConstant c))
 
     at_end : (c : Constant) (parts : List (Option Constant)) (place : ℕ) (right : List Leaf) (rest : List Placed) → One (put_brace c parts) (mark_place punctuator.RightBrace) place right → Stops (stop_many (λ last. constants_start names (of_last last)) ends_last next_last (LastConstant c) parts) (plains marks right ++ rest)
     at_end c parts place right rest one =
@@ -349,12 +373,8 @@ exact-enumeration names inner depth is =
         many_opens (part_items names depth) (LastConstant c) pair.0 t.left (plains marks t.right ++ rest) t.first (at_end c pair.0 pair.1 t.right rest t.second) in
         subst (Stops (stop_value c.1)) (sym (ap (λ r. plains marks r ++ rest) t.cut ∙ plains-two marks t.left t.right rest)) ((part_items names depth).stops_item LastComma (Some c) (plains marks t.left ++ (plains marks t.right ++ rest)) opened)
 
--- in braces
-abbrev pub ConstantsText : (names : List (List ℕ)) → (depth : ℕ) → tree.Constants → List Leaf → Type 0
-ConstantsText names depth = Behind (One (opens (suc depth)) (mark_place punctuator.LeftBrace)) (λ _. Enumeration names (suc depth))
-
-pub exact-constants : (names : List (List ℕ)) (inner : Readers) (depth : ℕ) → Whole names inner depth → Exact marks anything (ConstantsText names depth) (λ _. anything) (read_constants names inner depth)
-exact-constants names inner depth whole =
-    exact-opened (mark_place punctuator.LeftBrace) Nothing (opens (suc depth)) (λ t. refl) (mark punctuator.LeftBrace 0) 0 (mark-self punctuator.LeftBrace 0)
+pub roled-constants : (names : List (List ℕ)) (inner : Readers) (depth : ℕ) → Whole names inner depth → Firm anything (ConstantsText names depth) (λ _. anything) (read_constants names inner depth)
+roled-constants names inner depth whole =
+    roled-opened (mark_place punctuator.LeftBrace) Nothing (opens (suc depth)) (λ t. refl) (λ t. refl) (mark punctuator.LeftBrace 0) 0 (mark-self punctuator.LeftBrace 0)
     (λ place. (tree.constants (fresh names) tree.no_constants, _, record { end = Nothing; inside = plain (named (fresh names)) ∷ []; close = 0; spells = grammar.last (suc depth) (fresh names) (fresh_is names); cut = refl }))
-    (λ place t is within. exact-enumeration names inner (suc depth) (whole (within_opens (suc depth) t within)))
+    (λ place t is within. roled-enumeration names inner (suc depth) (whole (within_opens (suc depth) t within)))

@@ -1,6 +1,6 @@
 -- The words of an integer type: where some name one, so do the first of them.
-use Rattle.std.proofs.Common.{◌≡◌, ℕ, suc, ◌+◌, ◌-◌, ◌≤◌, arith, length, Bool, true, false, List, [], ◌∷◌, ◌++◌, Option, Some, refl, ap, sym, ◌∙◌, subst, cond, ◌&&◌, append_assoc, append-nil, length-append, eqb-true}
-use Rattle.std.specs.Prelude.{◌==◌, nat_le, option_map, find, filter}
+use Rattle.std.proofs.Common.{ℕ, length, Bool, List, true, false, ◌&&◌, Option, ◌≡◌, refl, suc, ◌+◌, ◌-◌, arith, [], ◌∷◌, ◌++◌, ap, ◌∙◌, cond, length-append, Some, eqb-true, ◌≤◌, sym, subst, append_assoc, append-nil}
+use Rattle.std.specs.Prelude.{filter, ◌==◌, option_map, find, nat_le}
 use Rattle.std.specs.Option.{is_some}
 use Rattle.std.specs.List.{list_all}
 use Rattle.std.proofs.lemmas.List.Elements.{filter-append}
@@ -8,7 +8,7 @@ use Rattle.std.proofs.lemmas.Bool.{le-leb}
 use Rattle.c_spec.specs.declared.token.Keyword.{Keyword}
 use Rattle.c_spec.specs.declared.token.Keyword.TheVariants.{Char, Signed, Unsigned, Short, Int, Long}
 use Rattle.c_tree_spec.specs.declared.IntegerType.{IntegerType}
-use Rattle.c_grammar_spec.specs.Expressions.{combinations, integer_type_of, is_char, is_signed, is_unsigned, is_short, is_int, is_long}
+use Rattle.c_grammar_spec.specs.Expressions.{is_char, is_signed, is_unsigned, is_short, is_int, is_long, combinations, integer_type_of}
 
 -- how many words there are, and how often each of the six stands among them
 record Counts : Type 0 where

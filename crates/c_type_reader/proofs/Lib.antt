@@ -1,15 +1,7 @@
-pub mod Beside
-pub mod Entered
 pub mod IntegerWords
-pub mod Tokens
-pub mod Pointers
-pub mod Firsts
-pub mod Dimensions
-pub mod Listed
-pub mod Declarators
-pub mod Fresh
-pub mod Words
 pub mod TypeFirsts
+pub mod Ended
+pub mod Begins
 pub mod Members
 pub mod Constants
 pub mod Bases

@@ -1,31 +1,34 @@
--- Declarations of members are read exactly.
-use Rattle.std.proofs.Common.{◌≡◌, ℕ, suc, ◌≤◌, true, false, List, [], ◌∷◌, ◌++◌, refl, ap, sym, ◌∙◌, subst, not, append_assoc}
+-- Declarations of members keep roles.
+use Rattle.std.proofs.Common.{List, ℕ, true, false, [], ◌∷◌, refl, not, ◌≡◌, ◌++◌, ap, sym, ◌∙◌, subst, append_assoc, suc, ◌≤◌, inl}
 use Rattle.c_spec.specs.declared.token.Punctuator.TheVariants as punctuator
 use Rattle.c_spec.specs.Lexical.{Placed}
 use Rattle.c_tree_spec.specs.Expression as tree
-use Rattle.c_grammar_spec.specs.declared.Role.TheVariants.{Nothing, DeclaredName}
-use Rattle.c_grammar_spec.specs.Leaves.{Leaf, plain, awaited, opens, mark, named, marks}
+use Rattle.c_grammar_spec.specs.declared.Role.TheVariants.{DeclaredName, Nothing}
+use Rattle.c_grammar_spec.specs.Leaves.{Leaf, plain, awaited, named, mark, marks, opens}
 use Rattle.c_grammar_spec.specs.Expressions as grammar
 use Rattle.exact_read.specs.Reading.{plains, Stops}
-use Rattle.exact_read.specs.Exact.{Exact}
-use Rattle.exact_read.specs.Grammar.{anything, One, Map, Then, Many, none, some, read_then, read_map, read_many}
-use Rattle.exact_read.proofs.Parts.{exact-map, exact-same, stops_anything}
-use Rattle.exact_read.proofs.Many.{Items, exact-many}
-use Rattle.exact_read.proofs.Stop.{exact-enter}
-use Rattle.c_expression_reader.specs.Classes.{is_mark, mark_place, begins_type}
+use Rattle.exact_read.specs.Grammar.{none, some, Map, anything, Then, Many, One, read_then, read_map, read_many}
+use Rattle.exact_read.proofs.Parts.{stops_anything}
+use Rattle.exact_read.proofs.Many.{Items}
+use Rattle.c_expression_reader.specs.Classes.{is_mark, begins_type, mark_place}
 use Rattle.c_expression_reader.specs.Exactness.{Closed}
-use Rattle.c_expression_reader.specs.Readers.{Readers, before}
-use Rattle.c_expression_reader.specs.Types.{is_const, declarators_of, last_of, read_member_list, members_of, read_members}
-use Rattle.c_expression_reader.proofs.Marks.{mark-self, one-mark, mark-one, exact-closed, Behind, exact-opened}
-use Rattle.c_type_reader.specs.Beside.{ExactBeside, WithEnd}
-use Rattle.c_type_reader.specs.Endings.{Ending, SpecifiersEnd, stop_specifiers}
-use Rattle.c_type_reader.specs.Endings.{ending}
-use Rattle.c_type_reader.proofs.Beside.{exact-then_beside}
+use Rattle.c_expression_reader.specs.Readers.{Readers}
+use Rattle.c_expression_reader.specs.Types.{last_of, declarators_of, is_const, members_of, read_member_list, read_members}
+use Rattle.c_expression_reader.proofs.Marks.{one-mark, mark-one, Behind, mark-self, roled-closed, roled-opened}
+use Rattle.c_declarator_reader.specs.Beside.{FirmBeside, WithEnd}
+use Rattle.c_type_reader.specs.Endings.{SpecifiersEnd, stop_specifiers}
+use Rattle.c_declarator_reader.proofs.Beside.{roled-then_beside, then_begins, then_silent}
 use Rattle.c_type_reader.proofs.TypeFirsts.{specifiers_first, declarator_ends}
-use Rattle.c_type_reader.proofs.Tokens.{stops_or_true}
-use Rattle.c_type_reader.proofs.Dimensions.{Whole, within_opens}
-use Rattle.c_type_reader.proofs.Declarators.{declares_member, DeclaratorFirst, declarator_first, exact-declarator}
-use Rattle.c_type_reader.proofs.Listed.{Lists, ListText, MoreText, exact-listed}
+use Rattle.c_declarator_reader.proofs.Tokens.{stops_or_true}
+use Rattle.c_declarator_reader.proofs.Dimensions.{within_opens}
+use Rattle.c_declarator_reader.proofs.Declarators.{DeclaratorFirst, declarator_first, declares_member, roled-declarator}
+use Rattle.c_declarator_reader.proofs.Listed.{ListText, Lists, MoreText, roled-listed}
+use Rattle.c_type_reader.proofs.Ended.{specified, with_end}
+use Rattle.role_read.proofs.Basics.{roled-same, roled-enter}
+use Rattle.c_expression_reader.specs.Firm.{Firm}
+use Rattle.c_expression_reader.proofs.Firm.{firm-map, firm-many}
+use Rattle.c_declarator_reader.specs.Exactness.{Whole}
+use Rattle.c_type_reader.proofs.Begins.{ended_begins, ended_silent, ended_some}
 
 -- a list of declarators, and its `;`
 abbrev put_comma : Unit {0} → Placed → Leaf
@@ -101,15 +104,9 @@ list_text names depth d text (grammar.more_members dp x rest t right comma h mor
       };
     }
 
-pub exact-member_list : (names : List (List ℕ)) (inner : Readers) (depth : ℕ) → Whole names inner depth → Exact marks anything (grammar.MemberDeclarators names depth) (λ _. anything) (read_member_list inner depth)
-exact-member_list names inner depth whole =
-    exact-same anything (grammar.MemberDeclarators names depth) (read_member_list inner depth) (λ t h. h) (text_list names depth) (list_text names depth) (λ tokens. refl)
-    (exact-map made_list (λ _. anything) (λ x. refl)
-    (exact-listed (member_lists names depth) (exact-declarator (declares_member names) inner depth whole) (λ _. tt {0}) (λ _. Nothing) put_comma (λ c t. refl) (λ x xs. grammar.member_end (last_of x xs)) put_end (λ x xs t. refl)))
-
--- specifiers one construct deeper are read exactly, where so many may be open
+-- specifiers one construct deeper keep roles, where so many may be open
 abbrev pub Inside : (names : List (List ℕ)) → Readers → (depth : ℕ) → Type 0
-Inside names inner depth = suc depth ≤ 128 → ExactBeside marks anything (SpecifiersEnd names grammar.InPart (suc depth)) (stop_specifiers is_const) (inner.specifiers (suc depth))
+Inside names inner depth = suc depth ≤ 128 → FirmBeside anything (SpecifiersEnd names grammar.InPart (suc depth)) (stop_specifiers is_const) (inner.specifiers (suc depth))
 
 -- one declaration of members
 abbrev MemberText : (names : List (List ℕ)) → (depth : ℕ) → tree.Specifiers × tree.Declarators → List Leaf → Type 0
@@ -118,15 +115,6 @@ MemberText names depth = Then (WithEnd (SpecifiersEnd names grammar.InPart depth
 list_first : (names : List (List ℕ)) (depth : ℕ) (d : tree.Declarators) (text : List Leaf) → grammar.MemberDeclarators names depth d text → DeclaratorFirst text
 list_first names depth d text (grammar.last_member dp x t end h) = let f = declarator_first names true dp x t h in record { leaf = f.leaf; more = f.more ++ awaited (grammar.member_end x) (mark punctuator.Semicolon end) ∷ []; cut = ap (λ l. l ++ awaited (grammar.member_end x) (mark punctuator.Semicolon end) ∷ []) f.cut; yes = f.yes }
 list_first names depth d text (grammar.more_members dp x rest t right comma h more) = let f = declarator_first names true dp x t h in record { leaf = f.leaf; more = f.more ++ plain (mark punctuator.Comma comma) ∷ right; cut = ap (λ l. l ++ plain (mark punctuator.Comma comma) ∷ right) f.cut; yes = f.yes }
-
-exact-member : (names : List (List ℕ)) (inner : Readers) (depth : ℕ) → Whole names inner depth → ExactBeside marks anything (SpecifiersEnd names grammar.InPart depth) (stop_specifiers is_const) (inner.specifiers depth)
-    → Exact marks anything (MemberText names depth) (λ _. anything) (read_then (inner.specifiers depth) (λ _. read_member_list inner depth))
-exact-member names inner depth whole specifiers =
-    exact-then_beside specifiers (λ x e left h w. exact-enter (stop_specifiers is_const x e) (exact-member_list names inner depth whole))
-    record {
-      ends = λ x y left right rest one two stops. let f = list_first names depth y right two in subst (λ t. Stops (stop_specifiers is_const x.0 x.1) (plains marks t ++ rest)) (sym f.cut) (declarator_ends x.1 f.leaf.token.token f.yes);
-      goes_on = λ x left one. (_, _, grammar.last_member depth (tree.Declared 0 (record { spelling = []; place = 0 }) false tree.no_expressions) (awaited DeclaredName (named (record { spelling = []; place = 0 })) ∷ []) 0 (sample_declarator names depth));
-    }
 
 member_items : (names : List (List ℕ)) (depth : ℕ) → Items marks (λ (_ : Unit {0}) t. begins_type names t.token) (λ _ _. true) (λ _. MemberText names depth) (λ _ _. anything) (λ (_ : Unit {0}) (_ : tree.Specifiers × tree.Declarators). tt {0})
 member_items names depth =
@@ -138,13 +126,6 @@ member_items names depth =
 
 abbrev MembersText : (names : List (List ℕ)) → (depth : ℕ) → (c : Unit {0}) → List (tree.Specifiers × tree.Declarators) → List Leaf → Type 0
 MembersText names depth = Many (λ (_ : Unit {0}) (_ : tree.Specifiers × tree.Declarators). tt {0}) (λ _. MemberText names depth)
-
-pub specified : (names : List (List ℕ)) (position : grammar.Position) (depth : ℕ) (s : tree.Specifiers) (end : Ending) (text : List Leaf) → SpecifiersEnd names position depth s end text → grammar.Specifiers names position depth s text
-specified names position depth s end text h = rw (h.is, h.cut) (grammar.specifiers position depth h.one h.two h.base h.before h.middle h.after h.words_before h.is_base h.words_after)
-
-pub with_end : (names : List (List ℕ)) (position : grammar.Position) (depth : ℕ) (s : tree.Specifiers) (text : List Leaf) → grammar.Specifiers names position depth s text → WithEnd (SpecifiersEnd names position depth) s text
-with_end names position depth s text (grammar.specifiers p d one two base before middle after h k l) =
-    record { end = ending base middle after; spells = record { one = one; two = two; base = base; before = before; middle = middle; after = after; words_before = h; is_base = k; words_after = l; is = refl; cut = refl; is_end = refl } }
 
 many_members : (names : List (List ℕ)) (depth : ℕ) (c : Unit {0}) (xs : List (tree.Specifiers × tree.Declarators)) (text : List Leaf) → MembersText names depth c xs text → grammar.Members names depth (members_of xs) text
 many_members names depth c xs text (none d) = grammar.no_members depth
@@ -168,17 +149,35 @@ members_many names depth m text (grammar.members d s ds rest left middle right h
 abbrev pub BracesText : (names : List (List ℕ)) → (depth : ℕ) → tree.Members → List Leaf → Type 0
 BracesText names depth = Behind (One (opens (suc depth)) (mark_place punctuator.LeftBrace)) (λ _. Closed plain punctuator.RightBrace (grammar.Members names (suc depth)))
 
-pub exact-members : (names : List (List ℕ)) (inner : Readers) (depth : ℕ) → (suc depth ≤ 128 → Whole names inner (suc depth)) → Inside names inner depth → Exact marks anything (BracesText names depth) (λ _. anything) (read_members names inner depth)
-exact-members names inner depth whole inside =
-    exact-opened (mark_place punctuator.LeftBrace) Nothing (opens (suc depth)) (λ t. refl) (mark punctuator.LeftBrace 0) 0 (mark-self punctuator.LeftBrace 0)
+pub roled-member_list : (names : List (List ℕ)) (inner : Readers) (depth : ℕ) → Whole names inner depth → Firm anything (grammar.MemberDeclarators names depth) (λ _. anything) (read_member_list inner depth)
+roled-member_list names inner depth whole =
+    roled-same anything (grammar.MemberDeclarators names depth) (read_member_list inner depth) (λ t h. h) (text_list names depth) (list_text names depth) (λ tokens. refl)
+    (firm-map made_list (λ _. anything) (λ x. refl)
+    (roled-listed (member_lists names depth) (roled-declarator (declares_member names) inner depth whole) (λ _. tt {0}) (λ _. Nothing) put_comma (λ c t. refl) (λ c t. refl) (λ x xs. grammar.member_end (last_of x xs)) put_end (λ x xs t. refl) (λ x xs t. refl) (λ x. inl refl) (λ x xs. inl refl)))
+
+some_list : (names : List (List ℕ)) (depth : ℕ) → (d : tree.Declarators) × (right : List Leaf) × grammar.MemberDeclarators names depth d right
+some_list names depth = (_, _, grammar.last_member depth (tree.Declared 0 (record { spelling = []; place = 0 }) false tree.no_expressions) (awaited DeclaredName (named (record { spelling = []; place = 0 })) ∷ []) 0 (sample_declarator names depth))
+
+roled-member : (names : List (List ℕ)) (inner : Readers) (depth : ℕ) → Whole names inner depth → FirmBeside anything (SpecifiersEnd names grammar.InPart depth) (stop_specifiers is_const) (inner.specifiers depth)
+    → Firm anything (MemberText names depth) (λ _. anything) (read_then (inner.specifiers depth) (λ _. read_member_list inner depth))
+roled-member names inner depth whole specifiers =
+    roled-then_beside specifiers (λ x e left h w. roled-enter (stop_specifiers is_const x e) (roled-member_list names inner depth whole))
+    record {
+      ends = λ x y left right rest one two stops. let f = list_first names depth y right two in subst (λ t. Stops (stop_specifiers is_const x.0 x.1) (plains marks t ++ rest)) (sym f.cut) (declarator_ends x.1 f.leaf.token.token f.yes);
+      goes_on = λ x left one. (_, _, grammar.last_member depth (tree.Declared 0 (record { spelling = []; place = 0 }) false tree.no_expressions) (awaited DeclaredName (named (record { spelling = []; place = 0 })) ∷ []) 0 (sample_declarator names depth));
+    }
+
+pub roled-members : (names : List (List ℕ)) (inner : Readers) (depth : ℕ) → (suc depth ≤ 128 → Whole names inner (suc depth)) → Inside names inner depth → Firm anything (BracesText names depth) (λ _. anything) (read_members names inner depth)
+roled-members names inner depth whole inside =
+    roled-opened (mark_place punctuator.LeftBrace) Nothing (opens (suc depth)) (λ t. refl) (λ t. refl) (mark punctuator.LeftBrace 0) 0 (mark-self punctuator.LeftBrace 0)
     (λ place. (tree.no_members, plain (mark punctuator.RightBrace 0) ∷ [], record { inside = []; close = 0; spells = grammar.no_members (suc depth); cut = refl }))
     (λ place t is within. let small = within_opens (suc depth) t within in
-    exact-closed {stop = λ _ t. not (begins_type names t.token)} punctuator.RightBrace Nothing plain (λ t. refl)
-    (exact-same anything (grammar.Members names (suc depth)) (read_map members_of (read_many (λ (_ : Unit {0}) next. begins_type names next.token) (λ _. read_then (inner.specifiers (suc depth)) (λ _. read_member_list inner (suc depth))) (λ _ _. tt {0}) (tt {0})))
+    roled-closed {stop = λ _ t. not (begins_type names t.token)} punctuator.RightBrace Nothing plain (λ t. refl) (λ t. refl)
+    (roled-same anything (grammar.Members names (suc depth)) (read_map members_of (read_many (λ (_ : Unit {0}) next. begins_type names next.token) (λ _. read_then (inner.specifiers (suc depth)) (λ _. read_member_list inner (suc depth))) (λ _ _. tt {0}) (tt {0})))
     (λ t h. stops_or_true (λ t. begins_type names t.token) (t ∷ []))
     (λ m text h. subst (λ v. grammar.Members names (suc depth) v text) (sym h.is) (many_members names (suc depth) tt h.inner text h.spells))
     (λ m text h. let r = members_many names (suc depth) m text h in record { inner = r.0; is = r.1.0; spells = r.1.1 })
     (λ tokens. refl)
-    (exact-map members_of (λ _ t. not (begins_type names t.token)) (λ xs. refl)
-    (exact-many (member_items names (suc depth)) (λ c. exact-enter (λ t. begins_type names t.token) (exact-member names inner (suc depth) (whole small) (inside small))) tt)))
+    (firm-map members_of (λ _ t. not (begins_type names t.token)) (λ xs. refl)
+    (firm-many (member_items names (suc depth)) (λ c t e. then_begins t (ended_begins names (suc depth) t e) (λ s. some_list names (suc depth))) (λ c. then_silent (ended_some names (suc depth)) (ended_silent names grammar.InPart (suc depth))) (λ c. roled-enter (λ t. begins_type names t.token) (roled-member names inner (suc depth) (whole small) (inside small))) tt)))
     (λ x close. refl))

@@ -1,27 +1,29 @@
--- Specifiers are read exactly, with where they end.
-use Rattle.std.proofs.Common.{◌≡◌, ℕ, suc, ◌≤◌, Bool, true, false, List, [], ◌∷◌, ◌++◌, Option, Some, None, Ok, Err, refl, ap, sym, ◌∙◌, subst, IsTrue, not, ◌&&◌}
+-- Specifiers keep roles, with where they end.
+use Rattle.std.proofs.Common.{◌≡◌, ℕ, Bool, false, List, Option, Some, [], ◌∷◌, ◌++◌, refl, ap, sym, ◌∙◌, subst, true, IsTrue, ◌&&◌, not, Ok, Err, suc, ◌≤◌, None}
 use Rattle.std.specs.Prelude.{option_map}
 use Rattle.c_spec.specs.declared.token.Keyword.TheVariants.{Void}
 use Rattle.c_spec.specs.Lexical.{Placed, Token}
 use Rattle.c_tree_spec.specs.Expression as tree
 use Rattle.c_grammar_spec.specs.declared.Role.{Role}
-use Rattle.c_grammar_spec.specs.Leaves.{Leaf, plain, word, marks, first_place}
+use Rattle.c_grammar_spec.specs.Leaves.{Leaf, word, first_place, plain, marks}
 use Rattle.c_grammar_spec.specs.Expressions as grammar
 use Rattle.exact_read.specs.Reading.{Outcome, plains, Stops}
-use Rattle.exact_read.specs.Exact.{Exact}
-use Rattle.exact_read.specs.Grammar.{bind, anything, Map, Then, nothing, read_map}
-use Rattle.exact_read.proofs.Parts.{exact-map, exact-same}
-use Rattle.exact_read.proofs.Then.{exact-then}
-use Rattle.exact_read.proofs.Stop.{exact-stop}
+use Rattle.exact_read.specs.Grammar.{Then, Map, anything, bind, read_map, nothing}
 use Rattle.c_expression_reader.specs.Readers.{Readers}
-use Rattle.c_expression_reader.specs.Types.{Head, HeadVoid, head_of, read_base}
-use Rattle.c_type_reader.specs.Endings.{Ending, WordsAround, goes_on_with, base_ending, ending, SpecifiersEnd, stop_specifiers}
+use Rattle.c_expression_reader.specs.Types.{Head, head_of, read_base, HeadVoid}
+use Rattle.c_type_reader.specs.Endings.{Ending, goes_on_with, base_ending, ending, SpecifiersEnd, WordsAround, stop_specifiers}
 use Rattle.c_type_reader.specs.Rich.{Ended, rich_base}
-use Rattle.c_type_reader.specs.Specified.{read_around, first_at, read_specified, ending_behind, rich_specified}
-use Rattle.c_type_reader.proofs.Tokens.{TokenClass, leaves_of, unless_read, exact-tokens}
-use Rattle.c_type_reader.proofs.Dimensions.{Whole}
+use Rattle.c_type_reader.specs.Specified.{first_at, ending_behind, read_around, read_specified, rich_specified}
+use Rattle.c_declarator_reader.proofs.Tokens.{TokenClass, leaves_of, unless_read}
 use Rattle.c_type_reader.proofs.Members.{Inside}
-use Rattle.c_type_reader.proofs.Bases.{stop_ended, BaseText, exact-base, text_base, base_text, without_end, base_same}
+use Rattle.c_type_reader.proofs.Bases.{BaseText, text_base, base_text, without_end, base_same, stop_ended, roled-base}
+use Rattle.role_read.proofs.Basics.{roled-same, roled-stop}
+use Rattle.role_read.proofs.Then.{roled-then}
+use Rattle.c_expression_reader.specs.Firm.{Firm}
+use Rattle.c_expression_reader.proofs.Firm.{firm-map}
+use Rattle.c_declarator_reader.specs.Exactness.{Whole}
+use Rattle.c_declarator_reader.proofs.Plain.{roled-tokens}
+use Rattle.std.specs.Option.{is_some}
 
 -- a class of words around a base
 pub record Around {X : Type 0} (position : grammar.Position) (class : Placed → Option X) (test : Token → Bool) (spell : X → Placed) (storage : List X → tree.Storage) : Type 0 where
@@ -96,7 +98,7 @@ specifiers_text {X} {position} {class} {test} {spell} {storage} around names dep
     pair_same : {a b : tree.Specifiers} {e f : Ending} → a ≡ b → e ≡ f → ◌≡◌ {A = tree.Specifiers × Ending} (a, e) (b, f)
     pair_same p q = rw (p, q) refl
 
--- they are read exactly
+-- they keep roles
 and-true-left : (a b : Bool) → a ≡ true → IsTrue b → IsTrue (a && b)
 and-true-left true b e h = h
 and-true-left false b e h = absurd (cc)
@@ -119,15 +121,43 @@ raw_stop : {X : Type 0} (test : Token → Bool) (e : Ending) (xs : List X) (t : 
 raw_stop test e [] t = and-swapped (not (goes_on_with e t.token)) (not (test t.token))
 raw_stop test e (x ∷ xs) t = and-swapped true (not (test t.token))
 
-pub exact-specified : {X : Type 0} {position : grammar.Position} {class : Placed → Option X} {test : Token → Bool} {spell : X → Placed} {storage : List X → tree.Storage} → Around position class test spell storage → (names : List (List ℕ)) (inner : Readers) (depth : ℕ)
+-- the readers give the same
+pub specified_same : {X : Type 0} (class : Placed → Option X) (test : Token → Bool) (spell : X → Placed) (storage : List X → tree.Storage) (names : List (List ℕ)) (inner : Readers) (depth : ℕ) (tokens : List Placed)
+    → read_specified class test spell storage names inner depth tokens ≡ read_map (λ (pair : tree.Specifiers × Ending). pair.0) (rich_specified class test spell storage names inner depth) tokens
+specified_same {X} class test spell storage names inner depth tokens = by_words (read_around class test tokens)
+  where
+    plain_made : List X × (((Head × ℕ) × tree.Base) × List X) → tree.Specifiers
+    plain_made made = tree.Specified (grammar.both (storage made.0) (storage made.1.1)) made.1.0.1 (first_at spell made.0 made.1.0.0.1)
+
+    by_after : (xs : List X) (b : (Head × ℕ) × Ended) (o : Outcome Placed Role (List X))
+        → bind (bind {Y = List X × (((Head × ℕ) × tree.Base) × List X)} (bind {Y = ((Head × ℕ) × tree.Base) × List X} o (λ ys after. Ok ((without_end b, ys), after))) (λ y after. Ok ((xs, y), after))) (λ made r. Ok (tree.Specified (grammar.both (storage made.0) (storage made.1.1)) made.1.0.1 (first_at spell made.0 made.1.0.0.1), r))
+        ≡ bind {Y = tree.Specifiers} (bind {Y = tree.Specifiers × Ending} (bind {Y = Made X} (bind {Y = ((Head × ℕ) × Ended) × List X} o (λ ys after. Ok ((b, ys), after))) (λ y after. Ok ((xs, y), after))) (λ made r. Ok (made_specifiers spell storage made, r))) (λ pair r. Ok (pair.0, r))
+    by_after xs b (Ok (ys, rest)) = refl
+    by_after xs b (Err fault) = refl
+
+    by_base : (xs : List X) (o : Outcome Placed Role ((Head × ℕ) × Ended))
+        → bind (bind {Y = List X × (((Head × ℕ) × tree.Base) × List X)} (bind {Y = ((Head × ℕ) × tree.Base) × List X} (bind {Y = (Head × ℕ) × tree.Base} o (λ b rest. Ok (without_end b, rest))) (λ b rest. bind (read_around class test rest) (λ ys after. Ok ((b, ys), after)))) (λ y after. Ok ((xs, y), after))) (λ made r. Ok (tree.Specified (grammar.both (storage made.0) (storage made.1.1)) made.1.0.1 (first_at spell made.0 made.1.0.0.1), r))
+        ≡ bind {Y = tree.Specifiers} (bind {Y = tree.Specifiers × Ending} (bind {Y = Made X} (bind {Y = ((Head × ℕ) × Ended) × List X} o (λ b rest. bind (read_around class test rest) (λ ys after. Ok ((b, ys), after)))) (λ y after. Ok ((xs, y), after))) (λ made r. Ok (made_specifiers spell storage made, r))) (λ pair r. Ok (pair.0, r))
+    by_base xs (Ok (b, rest)) = by_after xs b (read_around class test rest)
+    by_base xs (Err fault) = refl
+
+    by_words : (o : Outcome Placed Role (List X))
+        → bind (bind {Y = List X × (((Head × ℕ) × tree.Base) × List X)} o (λ xs rest. bind (bind {Y = ((Head × ℕ) × tree.Base) × List X} (read_base names inner depth rest) (λ b more. bind (read_around class test more) (λ ys after. Ok ((b, ys), after)))) (λ y after. Ok ((xs, y), after)))) (λ made r. Ok (tree.Specified (grammar.both (storage made.0) (storage made.1.1)) made.1.0.1 (first_at spell made.0 made.1.0.0.1), r))
+        ≡ bind {Y = tree.Specifiers} (bind {Y = tree.Specifiers × Ending} (bind {Y = Made X} o (λ xs rest. bind (bind {Y = ((Head × ℕ) × Ended) × List X} (rich_base names inner depth rest) (λ b more. bind (read_around class test more) (λ ys after. Ok ((b, ys), after)))) (λ y after. Ok ((xs, y), after)))) (λ made r. Ok (made_specifiers spell storage made, r))) (λ pair r. Ok (pair.0, r))
+    by_words (Ok (xs, rest)) =
+        ap (λ (o : Outcome Placed Role ((Head × ℕ) × tree.Base)). bind (bind {Y = List X × (((Head × ℕ) × tree.Base) × List X)} (bind {Y = ((Head × ℕ) × tree.Base) × List X} o (λ b more. bind (read_around class test more) (λ ys after. Ok ((b, ys), after)))) (λ y after. Ok ((xs, y), after))) (λ made r. Ok (tree.Specified (grammar.both (storage made.0) (storage made.1.1)) made.1.0.1 (first_at spell made.0 made.1.0.0.1), r))) (base_same names inner depth rest)
+        ∙ by_base xs (rich_base names inner depth rest)
+    by_words (Err fault) = refl
+
+pub roled-specified : {X : Type 0} {position : grammar.Position} {class : Placed → Option X} {test : Token → Bool} {spell : X → Placed} {storage : List X → tree.Storage} → Around position class test spell storage → ((t : Placed) → test t.token ≡ true → is_some (class t) ≡ true) → (names : List (List ℕ)) (inner : Readers) (depth : ℕ)
     → (suc depth ≤ 128 → Whole names inner (suc depth)) → Whole names inner depth → Inside names inner depth
-    → Exact marks anything (λ (pair : tree.Specifiers × Ending). SpecifiersEnd names position depth pair.0 pair.1) (λ (pair : tree.Specifiers × Ending). stop_specifiers test pair.0 pair.1) (rich_specified class test spell storage names inner depth)
-exact-specified {X} {position} {class} {test} {spell} {storage} around names inner depth deeper whole inside =
-    exact-same anything (λ (pair : tree.Specifiers × Ending). SpecifiersEnd names position depth pair.0 pair.1) (rich_specified class test spell storage names inner depth) (λ t h. h) (text_specifiers around names depth) (specifiers_text around names depth) (λ tokens. refl)
-    (exact-map (made_specifiers spell storage) (λ (pair : tree.Specifiers × Ending). stop_specifiers test pair.0 pair.1) (λ made. refl)
-    (exact-stop (λ (made : Made X) t. not (test t.token) && not (goes_on_with (ending_behind made.1.1 made.1.0.1.1) t.token)) (λ made text one t. raw_stop test made.1.0.1.1 made.1.1 t)
-    (exact-then (exact-tokens around.kind anything)
-    (λ xs. exact-then (exact-base names inner depth (λ t. unless_read xs anything t && not (test t.token)) deeper whole inside) (λ made. exact-tokens around.kind (stop_ended made.1))
+    → Firm anything (λ (pair : tree.Specifiers × Ending). SpecifiersEnd names position depth pair.0 pair.1) (λ (pair : tree.Specifiers × Ending). stop_specifiers test pair.0 pair.1) (rich_specified class test spell storage names inner depth)
+roled-specified {X} {position} {class} {test} {spell} {storage} around found names inner depth deeper whole inside =
+    roled-same anything (λ (pair : tree.Specifiers × Ending). SpecifiersEnd names position depth pair.0 pair.1) (rich_specified class test spell storage names inner depth) (λ t h. h) (text_specifiers around names depth) (specifiers_text around names depth) (λ tokens. refl)
+    (firm-map (made_specifiers spell storage) (λ (pair : tree.Specifiers × Ending). stop_specifiers test pair.0 pair.1) (λ made. refl)
+    (roled-stop (λ (made : Made X) t. not (test t.token) && not (goes_on_with (ending_behind made.1.1 made.1.0.1.1) t.token)) (λ made text one t. raw_stop test made.1.0.1.1 made.1.1 t)
+    (roled-then (roled-tokens around.kind found anything)
+    (λ xs. roled-then (roled-base names inner depth (λ t. unless_read xs anything t && not (test t.token)) deeper whole inside) (λ made. roled-tokens around.kind found (stop_ended made.1))
     record {
       ends = λ made ys left right rest one two stops. base_ends made.1 ys right rest two stops;
       goes_on = λ made left one. ([], [], refl);
@@ -159,31 +189,3 @@ exact-specified {X} {position} {class} {test} {spell} {storage} around names inn
         let no : test o.token.token ≡ false = around.no_head names o.token.token o.token.offset h.0 h.1 in
         subst (λ r. Stops (λ t. unless_read xs anything t && not (test t.token)) (plains marks r ++ rest)) (sym (cut ∙ ap (λ l. l ++ more) (b.cut ∙ ap (λ l. l ++ b.right) o.cut)))
         (and-true-left (unless_read xs anything o.token) (not (test o.token.token)) (unless_true xs o.token) (rw no refl))
-
--- the readers give the same
-pub specified_same : {X : Type 0} (class : Placed → Option X) (test : Token → Bool) (spell : X → Placed) (storage : List X → tree.Storage) (names : List (List ℕ)) (inner : Readers) (depth : ℕ) (tokens : List Placed)
-    → read_specified class test spell storage names inner depth tokens ≡ read_map (λ (pair : tree.Specifiers × Ending). pair.0) (rich_specified class test spell storage names inner depth) tokens
-specified_same {X} class test spell storage names inner depth tokens = by_words (read_around class test tokens)
-  where
-    plain_made : List X × (((Head × ℕ) × tree.Base) × List X) → tree.Specifiers
-    plain_made made = tree.Specified (grammar.both (storage made.0) (storage made.1.1)) made.1.0.1 (first_at spell made.0 made.1.0.0.1)
-
-    by_after : (xs : List X) (b : (Head × ℕ) × Ended) (o : Outcome Placed Role (List X))
-        → bind (bind {Y = List X × (((Head × ℕ) × tree.Base) × List X)} (bind {Y = ((Head × ℕ) × tree.Base) × List X} o (λ ys after. Ok ((without_end b, ys), after))) (λ y after. Ok ((xs, y), after))) (λ made r. Ok (tree.Specified (grammar.both (storage made.0) (storage made.1.1)) made.1.0.1 (first_at spell made.0 made.1.0.0.1), r))
-        ≡ bind {Y = tree.Specifiers} (bind {Y = tree.Specifiers × Ending} (bind {Y = Made X} (bind {Y = ((Head × ℕ) × Ended) × List X} o (λ ys after. Ok ((b, ys), after))) (λ y after. Ok ((xs, y), after))) (λ made r. Ok (made_specifiers spell storage made, r))) (λ pair r. Ok (pair.0, r))
-    by_after xs b (Ok (ys, rest)) = refl
-    by_after xs b (Err fault) = refl
-
-    by_base : (xs : List X) (o : Outcome Placed Role ((Head × ℕ) × Ended))
-        → bind (bind {Y = List X × (((Head × ℕ) × tree.Base) × List X)} (bind {Y = ((Head × ℕ) × tree.Base) × List X} (bind {Y = (Head × ℕ) × tree.Base} o (λ b rest. Ok (without_end b, rest))) (λ b rest. bind (read_around class test rest) (λ ys after. Ok ((b, ys), after)))) (λ y after. Ok ((xs, y), after))) (λ made r. Ok (tree.Specified (grammar.both (storage made.0) (storage made.1.1)) made.1.0.1 (first_at spell made.0 made.1.0.0.1), r))
-        ≡ bind {Y = tree.Specifiers} (bind {Y = tree.Specifiers × Ending} (bind {Y = Made X} (bind {Y = ((Head × ℕ) × Ended) × List X} o (λ b rest. bind (read_around class test rest) (λ ys after. Ok ((b, ys), after)))) (λ y after. Ok ((xs, y), after))) (λ made r. Ok (made_specifiers spell storage made, r))) (λ pair r. Ok (pair.0, r))
-    by_base xs (Ok (b, rest)) = by_after xs b (read_around class test rest)
-    by_base xs (Err fault) = refl
-
-    by_words : (o : Outcome Placed Role (List X))
-        → bind (bind {Y = List X × (((Head × ℕ) × tree.Base) × List X)} o (λ xs rest. bind (bind {Y = ((Head × ℕ) × tree.Base) × List X} (read_base names inner depth rest) (λ b more. bind (read_around class test more) (λ ys after. Ok ((b, ys), after)))) (λ y after. Ok ((xs, y), after)))) (λ made r. Ok (tree.Specified (grammar.both (storage made.0) (storage made.1.1)) made.1.0.1 (first_at spell made.0 made.1.0.0.1), r))
-        ≡ bind {Y = tree.Specifiers} (bind {Y = tree.Specifiers × Ending} (bind {Y = Made X} o (λ xs rest. bind (bind {Y = ((Head × ℕ) × Ended) × List X} (rich_base names inner depth rest) (λ b more. bind (read_around class test more) (λ ys after. Ok ((b, ys), after)))) (λ y after. Ok ((xs, y), after)))) (λ made r. Ok (made_specifiers spell storage made, r))) (λ pair r. Ok (pair.0, r))
-    by_words (Ok (xs, rest)) =
-        ap (λ (o : Outcome Placed Role ((Head × ℕ) × tree.Base)). bind (bind {Y = List X × (((Head × ℕ) × tree.Base) × List X)} (bind {Y = ((Head × ℕ) × tree.Base) × List X} o (λ b more. bind (read_around class test more) (λ ys after. Ok ((b, ys), after)))) (λ y after. Ok ((xs, y), after))) (λ made r. Ok (tree.Specified (grammar.both (storage made.0) (storage made.1.1)) made.1.0.1 (first_at spell made.0 made.1.0.0.1), r))) (base_same names inner depth rest)
-        ∙ by_base xs (rich_base names inner depth rest)
-    by_words (Err fault) = refl

@@ -1,39 +1,40 @@
--- With enough turns every expression and every type is read exactly.
-use Rattle.std.proofs.Common.{ℕ, zero, suc, ◌+◌, ◌≤◌, arith, List}
+-- With enough turns every expression and every type keeps roles.
+use Rattle.std.proofs.Common.{ℕ, suc, ◌+◌, ◌≤◌, arith, List, zero}
 use Rattle.c_expression_reader.specs.Budget.{needs, enough}
 use Rattle.c_expression_reader.specs.Readers.{Readers}
-use Rattle.c_expression_reader.specs.Turns.{readers, around}
-use Rattle.c_expression_reader.proofs.Expressions.{around-exact}
-use Rattle.c_type_reader.specs.Exactness.{ReadersExact, AllExact}
-use Rattle.c_type_reader.proofs.Dimensions.{Whole}
+use Rattle.c_expression_reader.specs.Turns.{around, readers}
+use Rattle.c_expression_reader.proofs.Expressions.{around-roled}
+use Rattle.c_type_reader.specs.Exactness.{ReadersFirm, AllFirm, AllExact}
+use Rattle.c_declarator_reader.specs.Exactness.{Whole}
 use Rattle.c_type_reader.proofs.Members.{Inside}
-use Rattle.c_type_reader.proofs.TypeNames.{exact-specifiers, exact-type_name, type_facts}
+use Rattle.c_type_reader.proofs.TypeNames.{type_facts, roled-specifiers, roled-type_name}
+use Rattle.c_type_reader.proofs.Begins.{type_roles}
 
-deeper_by : (names : List (List ℕ)) (inner : Readers) (turns : ℕ) → ReadersExact names inner turns → (depth : ℕ) → needs depth 129 + 4 ≤ suc turns → suc depth ≤ 128 → Whole names inner (suc depth)
+deeper_by : (names : List (List ℕ)) (inner : Readers) (turns : ℕ) → ReadersFirm names inner turns → (depth : ℕ) → needs depth 129 + 4 ≤ suc turns → suc depth ≤ 128 → Whole names inner (suc depth)
 deeper_by names inner turns all depth h small smaller = all.are.conditional (suc (suc depth)) 0 (omega arith)
 
-whole_by : (names : List (List ℕ)) (inner : Readers) (turns : ℕ) → ReadersExact names inner turns → (depth : ℕ) → needs depth 129 + 4 ≤ suc turns → Whole names inner depth
+whole_by : (names : List (List ℕ)) (inner : Readers) (turns : ℕ) → ReadersFirm names inner turns → (depth : ℕ) → needs depth 129 + 4 ≤ suc turns → Whole names inner depth
 whole_by names inner turns all depth h small = all.are.conditional (suc depth) 0 (omega arith)
 
-inside_by : (names : List (List ℕ)) (inner : Readers) (turns : ℕ) → ReadersExact names inner turns → (depth : ℕ) → needs depth 129 + 4 ≤ suc turns → Inside names inner depth
+inside_by : (names : List (List ℕ)) (inner : Readers) (turns : ℕ) → ReadersFirm names inner turns → (depth : ℕ) → needs depth 129 + 4 ≤ suc turns → Inside names inner depth
 inside_by names inner turns all depth h small = all.specifiers (suc depth) (omega arith)
 
-turned : (names : List (List ℕ)) (inner : Readers) (turns : ℕ) → ReadersExact names inner turns → ReadersExact names (around names inner) (suc turns)
+turned : (names : List (List ℕ)) (inner : Readers) (turns : ℕ) → ReadersFirm names inner turns → ReadersFirm names (around names inner) (suc turns)
 turned names inner turns all =
-    let e = around-exact names (type_facts names) inner turns all.are in
+    let e = around-roled names (type_facts names) (type_roles names) inner turns all.are in
     record {
       are = record {
         cast = e.cast;
         unary = e.unary;
         conditional = e.conditional;
-        type_name = λ depth h. exact-type_name names inner depth (λ small. deeper_by names inner turns all depth h small) (whole_by names inner turns all depth h) (inside_by names inner turns all depth h);
+        type_name = λ depth h. roled-type_name names inner depth (λ small. deeper_by names inner turns all depth h small) (whole_by names inner turns all depth h) (inside_by names inner turns all depth h);
       };
-      specifiers = λ depth h. exact-specifiers names inner depth (λ small. deeper_by names inner turns all depth h small) (whole_by names inner turns all depth h) (inside_by names inner turns all depth h);
+      specifiers = λ depth h. roled-specifiers names inner depth (λ small. deeper_by names inner turns all depth h small) (whole_by names inner turns all depth h) (inside_by names inner turns all depth h);
     }
 
-pub readers-exact : (names : List (List ℕ)) (turns : ℕ) → ReadersExact names (readers names turns) turns
+pub readers-roled : (names : List (List ℕ)) (turns : ℕ) → ReadersFirm names (readers names turns) turns
 unfolding readers
-readers-exact names zero =
+readers-roled names zero =
     record {
       are = record {
         cast = λ depth count h. absurd (omega arith);
@@ -43,15 +44,27 @@ readers-exact names zero =
       };
       specifiers = λ depth h. absurd (omega arith);
     }
-readers-exact names (suc turns) = turned names (readers names turns) turns (readers-exact names turns)
+readers-roled names (suc turns) = turned names (readers names turns) turns (readers-roled names turns)
 
-pub all-exact : (names : List (List ℕ)) → AllExact names (readers names enough)
-all-exact names =
-    let r = readers-exact names enough in
+pub all-roled : (names : List (List ℕ)) → AllFirm names (readers names enough)
+all-roled names =
+    let r = readers-roled names enough in
     record {
       cast = λ depth count. r.are.cast depth count (omega arith);
       unary = λ depth count. r.are.unary depth count (omega arith);
       conditional = λ depth count. r.are.conditional depth count (omega arith);
       type_name = λ depth. r.are.type_name depth (omega arith);
       specifiers = λ depth. r.specifiers depth (omega arith);
+    }
+
+-- so each is read exactly
+pub all-exact : (names : List (List ℕ)) → AllExact names (readers names enough)
+all-exact names =
+    let all = all-roled names in
+    record {
+      cast = λ depth count. (all.cast depth count).exact;
+      unary = λ depth count. (all.unary depth count).exact;
+      conditional = λ depth count. (all.conditional depth count).exact;
+      type_name = λ depth. (all.type_name depth).exact;
+      specifiers = λ depth. let s = all.specifiers depth in record { both = s.both; is = s.is.exact; same = s.same };
     }

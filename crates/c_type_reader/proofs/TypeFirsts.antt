@@ -1,5 +1,5 @@
 -- What specifiers and types begin with.
-use Rattle.std.proofs.Common.{◌≡◌, ℕ, true, false, List, [], ◌∷◌, ◌++◌, Some, refl, ap, sym, subst, IsTrue, not, ◌&&◌}
+use Rattle.std.proofs.Common.{◌≡◌, ℕ, true, List, ◌∷◌, Some, refl, [], ap, ◌++◌, sym, subst, false, IsTrue, not, ◌&&◌}
 use Rattle.std.specs.Prelude.{map}
 use Rattle.std.specs.Option.{is_some}
 use denote.Enum.Bare.{sameb, same_true}
@@ -10,13 +10,13 @@ use Rattle.c_spec.specs.declared.token.Punctuator.TheVariants as punctuator
 use Rattle.c_spec.specs.contracts.token.Punctuator.{the_type}
 use Rattle.c_spec.specs.Lexical.{Token, Name as name_token, Word, Number as number_token, Character as character_token, Mark}
 use Rattle.c_tree_spec.specs.Expression as tree
-use Rattle.c_grammar_spec.specs.Leaves.{Leaf, plain, word, named}
+use Rattle.c_grammar_spec.specs.Leaves.{Leaf, word, plain, named}
 use Rattle.c_grammar_spec.specs.Expressions as grammar
-use Rattle.c_expression_reader.specs.Classes.{is_mark, begins_type, begins_type_word}
-use Rattle.c_expression_reader.specs.Types.{is_const, HeadInteger, head_word}
-use Rattle.c_type_reader.specs.Endings.{Ending, WordsAround, BraceToo, WordsToo, goes_on_with, SpecifiersEnd}
+use Rattle.c_expression_reader.specs.Classes.{begins_type, begins_type_word, is_mark}
+use Rattle.c_expression_reader.specs.Types.{HeadInteger, head_word, is_const}
+use Rattle.c_type_reader.specs.Endings.{Ending, SpecifiersEnd, WordsAround, BraceToo, WordsToo, goes_on_with}
 use Rattle.c_type_reader.proofs.IntegerWords.{six, word_six, first_words}
-use Rattle.c_type_reader.proofs.Declarators.{begins_declarator}
+use Rattle.c_declarator_reader.proofs.Declarators.{begins_declarator}
 
 -- a text begins with a token that begins a type
 pub record TypeFirst (names : List (List ℕ)) (text : List Leaf) : Type 0 where

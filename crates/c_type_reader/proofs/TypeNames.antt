@@ -1,34 +1,37 @@
--- Types with the bracket behind them are read exactly.
-use Rattle.std.proofs.Common.{◌≡◌, ℕ, zero, suc, ◌≤◌, Bool, true, false, List, [], ◌∷◌, ◌++◌, Some, Ok, Err, refl, ap, sym, ◌∙◌, IsTrue, not, ◌&&◌}
+-- Types with the bracket behind them keep roles.
+use Rattle.std.proofs.Common.{◌≡◌, Bool, true, false, List, refl, sym, ◌∙◌, ℕ, [], ◌∷◌, ap, Some, Ok, Err, zero, suc, IsTrue, ◌++◌, ◌≤◌, not, ◌&&◌}
 use Rattle.c_spec.specs.declared.token.Keyword.{Keyword}
-use Rattle.c_spec.specs.declared.token.Keyword.TheVariants.{Void, Const}
+use Rattle.c_spec.specs.declared.token.Keyword.TheVariants.{Const, Void}
 use Rattle.c_spec.specs.declared.token.Punctuator.TheVariants as punctuator
-use Rattle.c_spec.specs.Lexical.{Placed, Token, Name as name_token, Word, Number as number_token, Character as character_token, Mark}
+use Rattle.c_spec.specs.Lexical.{Word, Token, Name as name_token, Number as number_token, Character as character_token, Mark, Placed}
 use Rattle.c_tree_spec.specs.Expression as tree
 use Rattle.c_grammar_spec.specs.declared.Role.{Role}
 use Rattle.c_grammar_spec.specs.declared.Role.TheVariants.{Nothing}
-use Rattle.c_grammar_spec.specs.Leaves.{Leaf, plain, mark, word, marks}
+use Rattle.c_grammar_spec.specs.Leaves.{Leaf, plain, word, mark, marks}
 use Rattle.c_grammar_spec.specs.Expressions as grammar
 use Rattle.exact_read.specs.Reading.{Outcome, plains, Stops}
-use Rattle.exact_read.specs.Exact.{Exact}
-use Rattle.exact_read.specs.Grammar.{bind, anything, Map, Then, read_then, read_map}
-use Rattle.exact_read.proofs.Parts.{exact-map, exact-same}
-use Rattle.exact_read.proofs.Then.{exact-then}
-use Rattle.c_expression_reader.specs.Classes.{is_mark, mark_place, begins_type}
+use Rattle.exact_read.specs.Grammar.{bind, read_then, Then, Map, anything, read_map}
+use Rattle.c_expression_reader.specs.Classes.{begins_type, is_mark, mark_place}
 use Rattle.c_expression_reader.specs.Exactness.{Closed, TypeFacts}
 use Rattle.c_expression_reader.specs.Readers.{Readers, token, before}
-use Rattle.c_expression_reader.specs.Types.{Head, head_of, goes_on, is_const, const_place, no_storage, first_or, read_consts, read_base, read_pointer, read_specifiers, read_type_name}
-use Rattle.c_expression_reader.proofs.Marks.{exact-closed}
-use Rattle.c_type_reader.specs.Beside.{ExactBeside}
+use Rattle.c_expression_reader.specs.Types.{goes_on, no_storage, Head, head_of, is_const, const_place, first_or, read_consts, read_base, read_specifiers, read_pointer, read_type_name}
+use Rattle.c_expression_reader.proofs.Marks.{roled-closed}
+use Rattle.c_declarator_reader.specs.Beside.{FirmBeside}
 use Rattle.c_type_reader.specs.Endings.{Ending, WordsAround, BraceToo, WordsToo, goes_on_with, SpecifiersEnd, stop_specifiers}
 use Rattle.c_type_reader.specs.Specified.{first_at, read_specified, rich_specified}
 use Rattle.c_type_reader.proofs.IntegerWords.{six, word_six}
-use Rattle.c_type_reader.proofs.Tokens.{leaves_of}
-use Rattle.c_type_reader.proofs.Pointers.{const_class, stop_pointer, exact-pointer}
-use Rattle.c_type_reader.proofs.Dimensions.{Whole}
+use Rattle.c_declarator_reader.proofs.Tokens.{leaves_of}
+use Rattle.c_declarator_reader.proofs.Pointers.{const_class, stop_pointer}
 use Rattle.c_type_reader.proofs.TypeFirsts.{specifiers_first}
-use Rattle.c_type_reader.proofs.Members.{Inside, specified, with_end}
-use Rattle.c_type_reader.proofs.Specifiers.{Around, exact-specified, specified_same}
+use Rattle.c_type_reader.proofs.Members.{Inside}
+use Rattle.c_type_reader.proofs.Ended.{specified, with_end}
+use Rattle.c_type_reader.proofs.Specifiers.{Around, specified_same, roled-specified}
+use Rattle.role_read.proofs.Basics.{roled-same}
+use Rattle.role_read.proofs.Then.{roled-then}
+use Rattle.c_expression_reader.specs.Firm.{Firm}
+use Rattle.c_expression_reader.proofs.Firm.{firm-map}
+use Rattle.c_declarator_reader.specs.Exactness.{Whole}
+use Rattle.c_declarator_reader.proofs.Plain.{const_found, roled-pointer}
 
 -- a word that is none of the six goes on with no words of an integer type
 pub no_more_words : (words : List Keyword) (w : Keyword) → six w ≡ false → goes_on words (Word w) ≡ false
@@ -95,15 +98,6 @@ specifiers_same names inner depth tokens = map_pointwise first second same (read
     same : (made : List ℕ × (((Head × ℕ) × tree.Base) × List ℕ)) → first made ≡ second made
     same made = by_words made.0 made.1.0.0.1 made.1.0.1
 
-pub exact-specifiers : (names : List (List ℕ)) (inner : Readers) (depth : ℕ) → (suc depth ≤ 128 → Whole names inner (suc depth)) → Whole names inner depth → Inside names inner depth
-    → ExactBeside marks anything (SpecifiersEnd names grammar.InPart depth) (stop_specifiers is_const) (read_specifiers names inner depth)
-exact-specifiers names inner depth deeper whole inside =
-    record {
-      both = rich_specified const_place is_const (word Const) (λ _. no_storage) names inner depth;
-      is = exact-specified around_part names inner depth deeper whole inside;
-      same = λ tokens. specifiers_same names inner depth tokens ∙ specified_same const_place is_const (word Const) (λ _. no_storage) names inner depth tokens;
-    }
-
 -- a type and its bracket
 abbrev Typed : Type 0
 Typed = (tree.Specifiers × Ending) × ℕ
@@ -136,21 +130,43 @@ type_closes ((s, BraceToo), zero) close = refl
 type_closes ((s, WordsToo words), zero) close = refl
 type_closes ((s, e), suc n) close = refl
 
-pub exact-type_name : (names : List (List ℕ)) (inner : Readers) (depth : ℕ) → (suc depth ≤ 128 → Whole names inner (suc depth)) → Whole names inner depth → Inside names inner depth
-    → Exact marks anything (Closed plain punctuator.RightParenthesis (grammar.TypeName names depth)) (λ _. anything) (before (read_type_name names inner depth) (token Nothing plain (mark_place punctuator.RightParenthesis)))
-exact-type_name names inner depth deeper whole inside =
-    exact-same anything (Closed plain punctuator.RightParenthesis (grammar.TypeName names depth)) (before (read_type_name names inner depth) (token Nothing plain (mark_place punctuator.RightParenthesis))) (λ t h. h) (text_type names depth) (type_text names depth) same
-    (exact-map type_of (λ _. anything) (λ x. refl)
-    (exact-closed {stop = λ (typed : Typed). stop_pointer (stop_specifiers is_const typed.0.0 typed.0.1) typed.1} punctuator.RightParenthesis Nothing plain (λ t. refl)
-    (exact-then spec.is (λ pair. exact-pointer (stop_specifiers is_const pair.0 pair.1))
+-- what expressions ask of types
+pub type_facts : (names : List (List ℕ)) → TypeFacts names
+type_facts names = record { begins = begins; some = some_type }
+  where
+    begins : (depth : ℕ) (type : tree.TypeName) (text : List Leaf) → grammar.TypeName names depth type text → (u : Leaf) × (more : List Leaf) × (text ≡ u ∷ more) × (begins_type names u.token.token ≡ true)
+    begins depth type text (grammar.type_name d s n left stars h k) =
+        let w = with_end names grammar.InPart d s left h in
+        let f = specifiers_first names d s w.end left w.spells in
+        (f.leaf, f.more ++ stars, ap (λ l. l ++ stars) f.cut, f.yes)
+
+    some_type : (depth : ℕ) → (type : tree.TypeName) × (text : List Leaf) × grammar.TypeName names depth type text
+    some_type depth = (_, _, grammar.type_name depth _ 0 _ [] (grammar.specifiers grammar.InPart depth no_storage no_storage tree.Void [] (plain (word Void 0) ∷ []) [] (grammar.none grammar.InPart) (grammar.void depth 0) (grammar.none grammar.InPart)) grammar.none)
+
+pub roled-specifiers : (names : List (List ℕ)) (inner : Readers) (depth : ℕ) → (suc depth ≤ 128 → Whole names inner (suc depth)) → Whole names inner depth → Inside names inner depth
+    → FirmBeside anything (SpecifiersEnd names grammar.InPart depth) (stop_specifiers is_const) (read_specifiers names inner depth)
+roled-specifiers names inner depth deeper whole inside =
+    record {
+      both = rich_specified const_place is_const (word Const) (λ _. no_storage) names inner depth;
+      is = roled-specified around_part const_found names inner depth deeper whole inside;
+      same = λ tokens. specifiers_same names inner depth tokens ∙ specified_same const_place is_const (word Const) (λ _. no_storage) names inner depth tokens;
+    }
+
+pub roled-type_name : (names : List (List ℕ)) (inner : Readers) (depth : ℕ) → (suc depth ≤ 128 → Whole names inner (suc depth)) → Whole names inner depth → Inside names inner depth
+    → Firm anything (Closed plain punctuator.RightParenthesis (grammar.TypeName names depth)) (λ _. anything) (before (read_type_name names inner depth) (token Nothing plain (mark_place punctuator.RightParenthesis)))
+roled-type_name names inner depth deeper whole inside =
+    roled-same anything (Closed plain punctuator.RightParenthesis (grammar.TypeName names depth)) (before (read_type_name names inner depth) (token Nothing plain (mark_place punctuator.RightParenthesis))) (λ t h. h) (text_type names depth) (type_text names depth) same
+    (firm-map type_of (λ _. anything) (λ x. refl)
+    (roled-closed {stop = λ (typed : Typed). stop_pointer (stop_specifiers is_const typed.0.0 typed.0.1) typed.1} punctuator.RightParenthesis Nothing plain (λ t. refl) (λ t. refl)
+    (roled-then spec.is (λ pair. roled-pointer (stop_specifiers is_const pair.0 pair.1))
     record {
       ends = λ pair n left right rest one two stops. pointer_ends pair.1 n right rest two stops;
       goes_on = λ pair left one. (0, [], grammar.none);
     })
     type_closes))
   where
-    spec : ExactBeside marks anything (SpecifiersEnd names grammar.InPart depth) (stop_specifiers is_const) (read_specifiers names inner depth)
-    spec = exact-specifiers names inner depth deeper whole inside
+    spec : FirmBeside anything (SpecifiersEnd names grammar.InPart depth) (stop_specifiers is_const) (read_specifiers names inner depth)
+    spec = roled-specifiers names inner depth deeper whole inside
 
     and-first : (a b : Bool) → IsTrue (a && b) → IsTrue a
     and-first true b h = refl
@@ -186,16 +202,3 @@ exact-type_name names inner depth deeper whole inside =
     same tokens =
         ap (λ (o : Outcome Placed Role tree.Specifiers). bind {Y = tree.TypeName} (bind {X = tree.Specifiers × ℕ} (bind o (λ s rest. bind (read_pointer rest) (λ n after. Ok ((s, n), after)))) (λ pair r. Ok (tree.Pointers pair.0 pair.1, r))) (λ type rest. bind (token Nothing plain (mark_place punctuator.RightParenthesis) rest) (λ _ after. Ok (type, after)))) (spec.same tokens)
         ∙ by_specifiers (spec.both tokens)
-
--- what expressions ask of types
-pub type_facts : (names : List (List ℕ)) → TypeFacts names
-type_facts names = record { begins = begins; some = some_type }
-  where
-    begins : (depth : ℕ) (type : tree.TypeName) (text : List Leaf) → grammar.TypeName names depth type text → (u : Leaf) × (more : List Leaf) × (text ≡ u ∷ more) × (begins_type names u.token.token ≡ true)
-    begins depth type text (grammar.type_name d s n left stars h k) =
-        let w = with_end names grammar.InPart d s left h in
-        let f = specifiers_first names d s w.end left w.spells in
-        (f.leaf, f.more ++ stars, ap (λ l. l ++ stars) f.cut, f.yes)
-
-    some_type : (depth : ℕ) → (type : tree.TypeName) × (text : List Leaf) × grammar.TypeName names depth type text
-    some_type depth = (_, _, grammar.type_name depth _ 0 _ [] (grammar.specifiers grammar.InPart depth no_storage no_storage tree.Void [] (plain (word Void 0) ∷ []) [] (grammar.none grammar.InPart) (grammar.void depth 0) (grammar.none grammar.InPart)) grammar.none)

@@ -1,5 +1,3 @@
-pub mod Beside
-pub mod Firsts
 pub mod Endings
 pub mod Rich
 pub mod Specified

@@ -1,16 +1,22 @@
-//! How types are read from a list of tokens, and that expressions and types are read exactly.
+//! How types are read from a list of tokens, and that expressions and types are read exactly and tell what is
+//! awaited where a token is wrong.
 //!
 //! The readers are those of `c_expression_reader`. Where specifiers end hangs on their words and not on their
-//! tree (`specs/Endings.antt`), so they are exact with a second value beside their tree that says it
-//! (`ExactBeside` of `specs/Beside.antt`), and a type is exact with the bracket behind it. `specs/Exactness.antt`
+//! tree (`specs/Endings.antt`), so they keep roles with a second value beside their tree that says it
+//! (`FirmBeside` of `c_declarator_reader`), and a type does so with the bracket behind it. `specs/Exactness.antt`
 //! says what holds of all readers, whatever names of types are in force, however much is open and however many
-//! operators stand before.
+//! operators stand before: they keep roles (`Roled` of `role_read`), so they are exact.
 #![tactic(auto)]
 
-ghost use Rattle.c_type_reader.specs.Exactness.{ExpressionsExact};
+ghost use Rattle.c_type_reader.specs.Exactness.{AllTell, ExpressionsExact};
 ghost use Rattle.c_type_reader.specs.Samples.{ReadsCast, RefusesWord, RefusesDepth};
 
-/// The law of expressions and types: each is read exactly.
+/// The law of expressions and types: each reader is exact and tells what is awaited.
+pub fn expressions_and_types_tell()
+    ensures { AllTell }
+{}
+
+/// So each is read exactly.
 pub fn expressions_are_exact()
     ensures { ExpressionsExact }
 {}

@@ -1,30 +1,34 @@
--- Initial values are read exactly: with so much room that no more braces may open.
-use Rattle.std.proofs.Common.{◌≡◌, ℕ, zero, suc, ◌+◌, ◌≤◌, arith, List, [], ◌∷◌, ◌++◌, Option, Some, None, refl, ap, sym, ◌∙◌, subst, IsTrue, not, ◌&&◌, append_assoc}
+-- Initial values keep roles: with so much room that no more braces may open.
+use Rattle.std.proofs.Common.{◌≡◌, ℕ, ◌+◌, List, [], ◌∷◌, ◌++◌, Option, ap, sym, ◌∙◌, append_assoc, refl, Some, None, IsTrue, not, ◌&&◌, suc, subst, inr, ◌≤◌, zero, arith}
 use Rattle.c_spec.specs.declared.token.Punctuator.TheVariants as punctuator
 use Rattle.c_spec.specs.Lexical.{Placed}
 use Rattle.c_tree_spec.specs.Expression as tree
 use Rattle.c_grammar_spec.specs.declared.Role.{Role}
 use Rattle.c_grammar_spec.specs.declared.Role.TheVariants.{Nothing}
-use Rattle.c_grammar_spec.specs.Leaves.{Leaf, plain, awaited, opens, mark, marks}
+use Rattle.c_grammar_spec.specs.Leaves.{Leaf, awaited, mark, plain, opens, marks, roles}
 use Rattle.c_grammar_spec.specs.Expressions.{Conditional}
 use Rattle.c_grammar_spec.specs.Units as grammar
-use Rattle.exact_read.specs.Reading.{Reader, plains, Stops}
-use Rattle.exact_read.specs.Exact.{Exact}
+use Rattle.exact_read.specs.Reading.{plains, Stops, Reader}
 use Rattle.exact_read.specs.Grammar as operator
-use Rattle.exact_read.specs.Grammar.{anything, One, Map, Then, Or, first, second, context_after, stop_many, read_then, read_map, read_many}
+use Rattle.exact_read.specs.Grammar.{One, Then, Map, first, second, Or, anything, context_after, stop_many, read_many}
 use Rattle.exact_read.proofs.Basics.{plains-two}
-use Rattle.exact_read.proofs.Parts.{exact-map, exact-same}
-use Rattle.exact_read.proofs.Then.{exact-then}
-use Rattle.exact_read.proofs.Many.{exact-many, many_opens}
-use Rattle.c_expression_reader.specs.Classes.{is_mark, mark_place}
+use Rattle.exact_read.proofs.Many.{many_opens}
+use Rattle.c_expression_reader.specs.Classes.{mark_place, is_mark}
 use Rattle.c_expression_reader.specs.Readers.{Readers}
-use Rattle.c_expression_reader.proofs.Marks.{mark-self, one-mark, mark-one, exact-mark, Behind, exact-opened, exact-choice}
-use Rattle.c_type_reader.specs.Exactness.{AllExact}
-use Rattle.c_type_reader.proofs.Dimensions.{within_opens}
-use Rattle.c_type_reader.proofs.Firsts.{conditional_first, first_not_mark}
-use Rattle.c_type_reader.proofs.Tokens.{or_right}
-use Rattle.c_unit_reader.specs.Initializers.{Place, BehindInitial, BehindComma, initials_start, next_place, read_designated, read_initials_part, read_initials, read_initial_around, read_initial}
-use Rattle.c_unit_reader.proofs.Lists.{stop_last, InitialIs, computed, empty, list, DesignatedIs, designated_first, exact-designated, PartsText, ends_place, end_of, part_items, exact-part, made, split}
+use Rattle.c_expression_reader.proofs.Marks.{one-mark, mark-one, Behind, roled-mark, mark-self, mark-some, roled-opened, roled-choice, behind_begins, behind_silent, map_begins, map_silent, one_first}
+use Rattle.c_type_reader.specs.Exactness.{AllFirm}
+use Rattle.c_declarator_reader.proofs.Dimensions.{within_opens}
+use Rattle.c_declarator_reader.proofs.Firsts.{conditional_first, first_not_mark}
+use Rattle.c_declarator_reader.proofs.Tokens.{or_right}
+use Rattle.c_unit_reader.specs.Initializers.{BehindInitial, Place, BehindComma, initials_start, next_place, read_designated, read_initials_part, read_initials, end_of_place, read_initial_around, read_initial}
+use Rattle.c_unit_reader.proofs.Lists.{end_of, DesignatedIs, PartsText, made, split, ends_place, InitialIs, computed, empty, list, designated_first, stop_last, part_items, roled-designated, roled-part, part_roles}
+use Rattle.role_read.specs.Roles.{Roled}
+use Rattle.role_read.proofs.Basics.{roled-same}
+use Rattle.role_read.proofs.Then.{roled-then, roled-then_within}
+use Rattle.role_read.proofs.Many.{many_ending, roled-many}
+use Rattle.c_expression_reader.specs.Firm.{Firm}
+use Rattle.c_expression_reader.proofs.Firm.{firm-map}
+use Rattle.c_declarator_reader.proofs.Listed.{follows_token}
 
 -- initial values, and the `}` behind them
 record InBraces (names : List (List ℕ)) (depth : ℕ) (u : Unit {0}) (text : List Leaf) : Type 0 where
@@ -82,39 +86,6 @@ brace_ends names (BehindInitial None) close = refl
 brace_ends names (BehindInitial (Some x)) close = refl
 brace_ends names BehindComma close = refl
 
-exact-braces : (names : List (List ℕ)) (inner : Readers) → AllExact names inner → (depth : ℕ) (initial : Reader Placed Role (Option tree.Expression)) → Exact marks anything (InitialIs names depth) stop_last initial → Exact marks anything (InBraces names depth) (λ _. anything) (read_initials names inner depth initial)
-exact-braces names inner all depth initial initial_is =
-    exact-same anything (InBraces names depth) (read_initials names inner depth initial) (λ t h. h) (text_braces names depth) (braces_text names depth) (λ tokens. refl)
-    (exact-map (λ (_ : Inner). tt {0}) (λ _. anything) (λ x. refl)
-    (exact-then is (λ last. exact-then (parts_exact last) (λ parts. exact-mark (stop_many (initials_start names) ends_place next_place (BehindInitial last) parts) punctuator.RightBrace (end_of (BehindInitial last) parts) (put_brace last parts) (λ t. refl))
-    record {
-      ends = λ parts place left right rest one two stops. at_end last parts place right rest two;
-      goes_on = λ parts left one. (0, put_brace last parts (mark punctuator.RightBrace 0) ∷ [], mark-one punctuator.RightBrace (put_brace last parts) 0);
-    })
-    record {
-      ends = λ last pair left right rest one two stops. head_ends last pair right rest two;
-      goes_on = λ last left one. (([], 0), put_brace last [] (mark punctuator.RightBrace 0) ∷ [], record { left = []; right = put_brace last [] (mark punctuator.RightBrace 0) ∷ []; cut = refl; first = operator.none (BehindInitial last); second = mark-one punctuator.RightBrace (put_brace last []) 0 });
-    }))
-  where
-    is : Exact marks anything (DesignatedIs names depth) stop_last (read_designated inner depth initial)
-    is = exact-designated names inner all depth initial initial_is
-
-    parts_exact : (last : Option tree.Expression) → Exact marks (stop_last last) (PartsText names depth (BehindInitial last)) (stop_many (initials_start names) ends_place next_place (BehindInitial last)) (read_many (initials_start names) (read_initials_part inner depth initial) next_place (BehindInitial last))
-    parts_exact last =
-        exact-same (stop_last last) (PartsText names depth (BehindInitial last)) (read_many (initials_start names) (read_initials_part inner depth initial) next_place (BehindInitial last))
-        (λ t h. or_right (is_mark punctuator.Comma t.token) (stop_last last t) h) (λ x text h. h) (λ x text h. h) (λ tokens. refl)
-        (exact-many (part_items names depth) (exact-part names inner depth initial is) (BehindInitial last))
-
-    at_end : (last : Option tree.Expression) (parts : Parts) (place : ℕ) (right : List Leaf) (rest : List Placed) → One (put_brace last parts) (mark_place punctuator.RightBrace) place right → Stops (stop_many (initials_start names) ends_place next_place (BehindInitial last) parts) (plains marks right ++ rest)
-    at_end last parts place right rest one =
-        subst (λ r. Stops (stop_many (initials_start names) ends_place next_place (BehindInitial last) parts) (plains marks r ++ rest)) (sym (one-mark punctuator.RightBrace (put_brace last parts) place right one)) (brace_ends names (context_after next_place (BehindInitial last) parts) place)
-
-    head_ends : (last : Option tree.Expression) (pair : Parts × ℕ) (right : List Leaf) (rest : List Placed) → Then (PartsText names depth (BehindInitial last)) (λ parts. One (put_brace last parts) (mark_place punctuator.RightBrace)) pair right → Stops (stop_last last) (plains marks right ++ rest)
-    head_ends last pair right rest t =
-        let opened : Stops (operator.opens (initials_start names) ends_place (BehindInitial last)) (plains marks t.left ++ (plains marks t.right ++ rest)) =
-        many_opens (part_items names depth) (BehindInitial last) pair.0 t.left (plains marks t.right ++ rest) t.first (at_end last pair.0 pair.1 t.right rest t.second) in
-        subst (Stops (stop_last last)) (sym (ap (λ r. plains marks r ++ rest) t.cut ∙ plains-two marks t.left t.right rest)) ((part_items names depth).stops_item BehindComma (Some last) (plains marks t.left ++ (plains marks t.right ++ rest)) opened)
-
 -- in braces, nothing or initial values
 abbrev BracedText : (names : List (List ℕ)) → (depth : ℕ) → Option tree.Expression → List Leaf → Type 0
 BracedText names depth = Or (Map (λ (_ : ℕ). None) (One plain (mark_place punctuator.RightBrace))) (Map (λ (_ : Unit {0}). None) (InBraces names depth))
@@ -145,27 +116,68 @@ not_close names depth u text rest i =
     let close = awaited i.end (mark punctuator.RightBrace i.close) ∷ [] in
     subst (λ l. Stops (λ t. not (is_mark punctuator.RightBrace t.token)) (plains marks l ++ rest)) (sym (i.cut ∙ ap (λ l. l ++ close) (s.cut ∙ ap (λ l. l ++ s.right) f.cut))) (rw f.no_brace refl)
 
--- where initial values one construct deeper are read exactly
-exact-around : (names : List (List ℕ)) (inner : Readers) → AllExact names inner → (depth : ℕ) (initial : Reader Placed Role (Option tree.Expression)) → (suc depth ≤ 128 → Exact marks anything (InitialIs names (suc depth)) stop_last initial) → Exact marks anything (InitialIs names depth) stop_last (read_initial_around names inner depth initial)
-exact-around names inner all depth initial deeper =
-    exact-same anything (InitialIs names depth) (read_initial_around names inner depth initial) (λ t h. h) (text_around names depth) (around_text names depth) (λ tokens. refl)
-    (exact-choice (is_mark punctuator.LeftBrace)
+roled-braces : (names : List (List ℕ)) (inner : Readers) → AllFirm names inner → (depth : ℕ) (initial : Reader Placed Role (Option tree.Expression)) → Firm anything (InitialIs names depth) stop_last initial → Firm anything (InBraces names depth) (λ _. anything) (read_initials names inner depth initial)
+roled-braces names inner all depth initial initial_is =
+    roled-same anything (InBraces names depth) (read_initials names inner depth initial) (λ t h. h) (text_braces names depth) (braces_text names depth) (λ tokens. refl)
+    (firm-map (λ (_ : Inner). tt {0}) (λ _. anything) (λ x. refl)
+    (roled-then is (λ last. roled-then_within (parts_exact last) (λ parts left one within. roled-mark (stop_many (initials_start names) ends_place next_place (BehindInitial last) parts) punctuator.RightBrace (end_of (BehindInitial last) parts) (put_brace last parts) (λ t. refl) (λ t. refl))
+    record {
+      ends = λ parts place left right rest one two stops. at_end last parts place right rest two;
+      goes_on = λ parts left one. (0, put_brace last parts (mark punctuator.RightBrace 0) ∷ [], mark-one punctuator.RightBrace (put_brace last parts) 0);
+    }
+    (follows_token (mark_place punctuator.RightBrace) (λ parts. end_of (BehindInitial last) parts) (put_brace last) (λ parts left one. inr refl)))
+    record {
+      ends = λ last pair left right rest one two stops. head_ends last pair right rest two;
+      goes_on = λ last left one. (([], 0), put_brace last [] (mark punctuator.RightBrace 0) ∷ [], record { left = []; right = put_brace last [] (mark punctuator.RightBrace 0) ∷ []; cut = refl; first = operator.none (BehindInitial last); second = mark-one punctuator.RightBrace (put_brace last []) 0 });
+    }))
+  where
+    is : Firm anything (DesignatedIs names depth) stop_last (read_designated inner depth initial)
+    is = roled-designated names inner all depth initial initial_is
+
+    parts_exact : (last : Option tree.Expression) → Roled marks roles (stop_last last) (PartsText names depth (BehindInitial last)) (stop_many (initials_start names) ends_place next_place (BehindInitial last)) (many_ending next_place end_of_place (BehindInitial last)) ⊥ (read_many (initials_start names) (read_initials_part inner depth initial) next_place (BehindInitial last))
+    parts_exact last =
+        roled-same (stop_last last) (PartsText names depth (BehindInitial last)) (read_many (initials_start names) (read_initials_part inner depth initial) next_place (BehindInitial last))
+        (λ t h. or_right (is_mark punctuator.Comma t.token) (stop_last last t) h) (λ x text h. h) (λ x text h. h) (λ tokens. refl)
+        (roled-many (part_items names depth) (part_roles names inner depth initial is) (roled-part names inner depth initial is) (BehindInitial last))
+
+    at_end : (last : Option tree.Expression) (parts : Parts) (place : ℕ) (right : List Leaf) (rest : List Placed) → One (put_brace last parts) (mark_place punctuator.RightBrace) place right → Stops (stop_many (initials_start names) ends_place next_place (BehindInitial last) parts) (plains marks right ++ rest)
+    at_end last parts place right rest one =
+        subst (λ r. Stops (stop_many (initials_start names) ends_place next_place (BehindInitial last) parts) (plains marks r ++ rest)) (sym (one-mark punctuator.RightBrace (put_brace last parts) place right one)) (brace_ends names (context_after next_place (BehindInitial last) parts) place)
+
+    head_ends : (last : Option tree.Expression) (pair : Parts × ℕ) (right : List Leaf) (rest : List Placed) → Then (PartsText names depth (BehindInitial last)) (λ parts. One (put_brace last parts) (mark_place punctuator.RightBrace)) pair right → Stops (stop_last last) (plains marks right ++ rest)
+    head_ends last pair right rest t =
+        let opened : Stops (operator.opens (initials_start names) ends_place (BehindInitial last)) (plains marks t.left ++ (plains marks t.right ++ rest)) =
+        many_opens (part_items names depth) (BehindInitial last) pair.0 t.left (plains marks t.right ++ rest) t.first (at_end last pair.0 pair.1 t.right rest t.second) in
+        subst (Stops (stop_last last)) (sym (ap (λ r. plains marks r ++ rest) t.cut ∙ plains-two marks t.left t.right rest)) ((part_items names depth).stops_item BehindComma (Some last) (plains marks t.left ++ (plains marks t.right ++ rest)) opened)
+
+some_braced : (names : List (List ℕ)) (depth : ℕ) → (last : Option tree.Expression) × (right : List Leaf) × BracedText names (suc depth) last right
+some_braced names depth = (None, plain (mark punctuator.RightBrace 0) ∷ [], first (record { inner = 0; is = refl; spells = mark-one punctuator.RightBrace plain 0 }))
+
+-- where initial values one construct deeper keep roles
+roled-around : (names : List (List ℕ)) (inner : Readers) → AllFirm names inner → (depth : ℕ) (initial : Reader Placed Role (Option tree.Expression)) → (suc depth ≤ 128 → Firm anything (InitialIs names (suc depth)) stop_last initial) → Firm anything (InitialIs names depth) stop_last (read_initial_around names inner depth initial)
+roled-around names inner all depth initial deeper =
+    roled-same anything (InitialIs names depth) (read_initial_around names inner depth initial) (λ t h. h) (text_around names depth) (around_text names depth) (λ tokens. refl)
+    (roled-choice (is_mark punctuator.LeftBrace)
     record {
       first_begins = λ last text b. (opens (suc depth) (mark punctuator.LeftBrace b.first), b.right, b.cut ∙ ap (λ l. l ++ b.right) (one-mark punctuator.LeftBrace (opens (suc depth)) b.first b.left b.is_first), refl);
       second_begins = λ last text rest m stops. first_not_mark names punctuator.LeftBrace refl text rest (conditional_first names depth 0 m.inner text m.spells);
     }
-    (exact-opened (mark_place punctuator.LeftBrace) Nothing (opens (suc depth)) (λ t. refl) (mark punctuator.LeftBrace 0) 0 (mark-self punctuator.LeftBrace 0)
+    (λ t e. behind_begins (mark_place punctuator.LeftBrace) (opens (suc depth)) (λ t. refl) t t.offset (mark-some punctuator.LeftBrace t e) (some_braced names depth))
+    (behind_silent (mark_place punctuator.LeftBrace) (opens (suc depth)) (λ t. refl))
+    (roled-opened (mark_place punctuator.LeftBrace) Nothing (opens (suc depth)) (λ t. refl) (λ t. refl) (mark punctuator.LeftBrace 0) 0 (mark-self punctuator.LeftBrace 0)
     (λ place. (None, plain (mark punctuator.RightBrace 0) ∷ [], first (record { inner = 0; is = refl; spells = mark-one punctuator.RightBrace plain 0 })))
-    (λ place t e within. exact-choice (is_mark punctuator.RightBrace)
+    (λ place t e within. roled-choice (is_mark punctuator.RightBrace)
     record {
       first_begins = λ last text m. (plain (mark punctuator.RightBrace m.inner), [], one-mark punctuator.RightBrace plain m.inner text m.spells, refl);
       second_begins = λ last text rest m stops. not_close names (suc depth) m.inner text rest m.spells;
     }
-    (exact-map (λ (_ : ℕ). None) stop_last (λ x. refl) (exact-mark anything punctuator.RightBrace Nothing plain (λ t. refl)))
-    (exact-map (λ (_ : Unit {0}). None) stop_last (λ x. refl) (exact-braces names inner all (suc depth) initial (deeper (within_opens (suc depth) t within))))))
-    (exact-map (λ x. Some x) stop_last (λ x. refl) (all.conditional depth 0)))
+    (λ t e. map_begins (λ (_ : ℕ). None) t (record { value = t.offset; first = plain t; more = []; spells = record { token = t; is = mark-some punctuator.RightBrace t e; cut = refl }; is = refl }))
+    (map_silent (λ (_ : ℕ). None) (λ x u more o. ap (λ (l : Leaf). l.role) (one_first x u more o)))
+    (firm-map (λ (_ : ℕ). None) stop_last (λ x. refl) (roled-mark anything punctuator.RightBrace Nothing plain (λ t. refl) (λ t. refl)))
+    (firm-map (λ (_ : Unit {0}). None) stop_last (λ x. refl) (roled-braces names inner all (suc depth) initial (deeper (within_opens (suc depth) t within))))))
+    (firm-map (λ x. Some x) stop_last (λ x. refl) (all.conditional depth 0)))
 
-pub exact-initial : (names : List (List ℕ)) (inner : Readers) → AllExact names inner → (room depth : ℕ) → depth ≤ 128 → 129 ≤ depth + room → Exact marks anything (InitialIs names depth) stop_last (read_initial names inner room depth)
+pub roled-initial : (names : List (List ℕ)) (inner : Readers) → AllFirm names inner → (room depth : ℕ) → depth ≤ 128 → 129 ≤ depth + room → Firm anything (InitialIs names depth) stop_last (read_initial names inner room depth)
 unfolding read_initial
-exact-initial names inner all zero depth small enough_room = absurd (omega arith)
-exact-initial names inner all (suc room) depth small enough_room = exact-around names inner all depth (read_initial names inner room (suc depth)) (λ most. exact-initial names inner all room (suc depth) most (omega arith))
+roled-initial names inner all zero depth small enough_room = absurd (omega arith)
+roled-initial names inner all (suc room) depth small enough_room = roled-around names inner all depth (read_initial names inner room (suc depth)) (λ most. roled-initial names inner all room (suc depth) most (omega arith))

@@ -1,5 +1,5 @@
--- Globals with what they begin with are read exactly, the names of types in force carried from each to the next.
-use Rattle.std.proofs.Common.{◌≡◌, ℕ, arith, Bool, true, false, List, [], ◌∷◌, ◌++◌, Option, Some, None, refl, ap, sym, ◌∙◌, subst, IsTrue, not, ◌&&◌, append_assoc, append-nil}
+-- Globals with what they begin with keep roles, the names of types in force carried from each to the next.
+use Rattle.std.proofs.Common.{ℕ, Bool, List, Some, None, Option, not, ◌&&◌, ◌≡◌, true, false, refl, IsTrue, [], ◌∷◌, ◌++◌, ap, ◌∙◌, sym, subst, append-nil, append_assoc, arith, inl, inr}
 use Rattle.c_spec.specs.declared.token.Punctuator.{Punctuator}
 use Rattle.c_spec.specs.declared.token.Punctuator.TheVariants as punctuator
 use Rattle.c_spec.specs.Lexical.{Placed, Mark}
@@ -7,27 +7,28 @@ use Rattle.c_tree_spec.specs.Expression as tree
 use Rattle.c_tree_spec.specs.Unit as unit
 use Rattle.c_grammar_spec.specs.declared.Role.{Role}
 use Rattle.c_grammar_spec.specs.declared.Role.TheVariants.{Nothing, DeclaredName}
-use Rattle.c_grammar_spec.specs.Leaves.{Leaf, plain, awaited, mark, named, marks}
+use Rattle.c_grammar_spec.specs.Leaves.{Leaf, plain, mark, marks, awaited, named}
 use Rattle.c_grammar_spec.specs.Expressions as part
 use Rattle.c_grammar_spec.specs.Units as grammar
 use Rattle.c_grammar_spec.specs.Units.{names_after, is_typedef}
 use Rattle.exact_read.specs.Reading.{plains, Stops}
-use Rattle.exact_read.specs.Exact.{Exact}
-use Rattle.exact_read.specs.Grammar.{anything, One, Map, Or, first, second, Nothing as Empty, nothing, none, some}
-use Rattle.exact_read.proofs.Parts.{exact-map, exact-nothing, both}
-use Rattle.exact_read.proofs.Stop.{exact-stop, exact-enter}
-use Rattle.c_expression_reader.specs.Classes.{is_mark, mark_place}
-use Rattle.c_expression_reader.proofs.Marks.{mark-self, one-mark, mark-one, Behind, exact-behind, exact-opened, exact-choose}
+use Rattle.exact_read.specs.Grammar.{One, Map, Or, Nothing as Empty, nothing, first, second, none, some, anything, context_after}
+use Rattle.exact_read.proofs.Parts.{both}
+use Rattle.c_expression_reader.specs.Classes.{mark_place, is_mark}
+use Rattle.c_expression_reader.proofs.Marks.{Behind, one-mark, mark-one, mark-self, mark-some, roled-opened, roled-choose, behind_begins, behind_silent, roled-behind}
 use Rattle.c_expression_reader.proofs.Samples.{zero_tree, zero_text, zero_conditional}
-use Rattle.c_type_reader.proofs.Fresh.{fresh, fresh_is}
-use Rattle.c_type_reader.proofs.Turned.{all-exact}
-use Rattle.c_declaration_reader.proofs.Lists.{Before, Lists, MoreText, EndText, exact-end, end_stops, end_some}
+use Rattle.c_declarator_reader.proofs.Fresh.{fresh, fresh_is}
+use Rattle.c_type_reader.proofs.Turned.{all-roled}
+use Rattle.c_declaration_reader.proofs.Lists.{Before, MoreText, EndText, Lists, end_some, end_stops, next_before, roled-end}
 use Rattle.c_global_reader.specs.Texts.{stop_global}
-use Rattle.c_global_reader.proofs.Globals.{exact-global}
+use Rattle.c_global_reader.proofs.Globals.{roled-global}
 use Rattle.c_unit_reader.specs.Initializers.{end_of_initial}
-use Rattle.c_unit_reader.specs.Units.{room, expressions, Initial, end_of_global, read_initial_behind, read_initial_declarator, State, state_after, next_state, state_behind, Read, globals_of, read_globals}
-use Rattle.c_unit_reader.proofs.Lists.{stop_last, InitialIs, computed, initializer, initial_back}
-use Rattle.c_unit_reader.proofs.Braces.{exact-initial}
+use Rattle.c_unit_reader.specs.Units.{Initial, expressions, end_of_global, State, state_behind, state_after, Read, globals_of, room, read_initial_behind, read_initial_declarator, next_state, read_globals}
+use Rattle.c_unit_reader.proofs.Lists.{InitialIs, stop_last, initializer, initial_back, computed}
+use Rattle.c_unit_reader.proofs.Braces.{roled-initial}
+use Rattle.role_read.proofs.Basics.{roled-stop, roled-enter}
+use Rattle.c_expression_reader.specs.Firm.{Firm}
+use Rattle.c_expression_reader.proofs.Firm.{firm-map, firm-nothing}
 
 -- what stands behind the declarator of a global
 abbrev SetText : (names : List (List ℕ)) → (is_typedef : Bool) → unit.Global → Initial → List Leaf → Type 0
@@ -69,19 +70,6 @@ unset_second is_typedef g i text (t ∷ rest) nothing stops = and-right (stop_gl
 set_first : (names : List (List ℕ)) (is_typedef : Bool) (g : unit.Global) (i : Initial) (text : List Leaf) (b : SetText names is_typedef g i text) → text ≡ plain (mark punctuator.Assign b.first) ∷ b.right
 set_first names is_typedef g i text b = b.cut ∙ ap (λ l. l ++ b.right) (one-mark punctuator.Assign plain b.first b.left b.is_first)
 
-pub exact-initial_behind : (names : List (List ℕ)) (is_typedef : Bool) (g : unit.Global) → Exact marks (stop_global is_typedef g) (BehindText names is_typedef g) (stop_initial is_typedef) (read_initial_behind names is_typedef g)
-exact-initial_behind names is_typedef g =
-    let after = names_after is_typedef g names in
-    exact-choose (is_mark punctuator.Assign)
-    record {
-      first_begins = λ i text b. (plain (mark punctuator.Assign b.first), b.right, set_first names is_typedef g i text b, refl);
-      second_begins = λ i text rest one stops. unset_second is_typedef g i text rest one stops;
-    }
-    (exact-enter (both (stop_global is_typedef g) (λ t. is_mark punctuator.Assign t.token)) (exact-opened (mark_place punctuator.Assign) Nothing plain (λ t. refl) (mark punctuator.Assign 0) 0 (mark-self punctuator.Assign 0)
-    (λ x. ((g, Some (Some zero_tree)), zero_text, record { inner = Some zero_tree; is = refl; spells = computed zero_tree zero_text (zero_conditional after 0 0) }))
-    (λ x t e within. exact-map (λ last. (g, Some last)) (stop_initial is_typedef) (λ last. refl) (exact-initial after (expressions after) (all-exact after) room 0 (omega arith) (omega arith)))))
-    (exact-stop (stop_initial is_typedef) (λ i text one t. unset_same is_typedef g i text t one) (exact-nothing (both (stop_global is_typedef g) (λ t. not (is_mark punctuator.Assign t.token))) (g, None)))
-
 behind_ends : (names : List (List ℕ)) (is_typedef : Bool) (g : unit.Global) (i : Initial) (text : List Leaf) (rest : List Placed) → BehindText names is_typedef g i text → Stops (stop_initial is_typedef i) rest → Stops (stop_global is_typedef g) (plains marks text ++ rest)
 behind_ends names is_typedef g i text rest (first b) stops = subst (λ l. Stops (stop_global is_typedef g) (plains marks l ++ rest)) (sym (set_first names is_typedef g i text b)) (global_at punctuator.Assign refl refl is_typedef g b.first)
 behind_ends names is_typedef g i text [] (second nothing) stops = tt
@@ -90,14 +78,6 @@ behind_ends names is_typedef g i text (t ∷ rest) (second nothing) stops = and-
 -- a global, and what it begins with
 abbrev pub InitialOf : (names : List (List ℕ)) → (is_typedef : Bool) → Initial → List Leaf → Type 0
 InitialOf names is_typedef = Behind (grammar.GlobalDeclarator names is_typedef) (λ g. BehindText names is_typedef g)
-
-pub exact-initial_declarator : (names : List (List ℕ)) (is_typedef : Bool) → Exact marks anything (InitialOf names is_typedef) (stop_initial is_typedef) (read_initial_declarator names is_typedef)
-exact-initial_declarator names is_typedef =
-    exact-behind (exact-global names (expressions names) (all-exact names) is_typedef) (λ g left h w. exact-initial_behind names is_typedef g)
-    record {
-      ends = λ g i left right rest one two stops. behind_ends names is_typedef g i right rest two stops;
-      goes_on = λ g left one. ((g, None), [], second nothing);
-    }
 
 declared : (names : List (List ℕ)) (is_typedef : Bool) (i : Initial) (text : List Leaf) → InitialOf names is_typedef i text → grammar.InitialDeclarator names is_typedef i.0 (end_of_global i.1) text
 declared names is_typedef i text b = subst (λ l. grammar.InitialDeclarator names is_typedef i.0 (end_of_global i.1) l) (sym b.cut) (by_way i b.first b.left b.right b.is_first b.is_second)
@@ -209,18 +189,6 @@ globals_some names s g =
     let head : Initial = (g, None) in
     let e = end_some (step c) put (OneOf c) punctuator.Semicolon (put_close c) (behind_first names c head) in
     (made_declaration names s head e.0.0, e.1, record { first = head; left = []; right = e.1; is_first = second nothing; is_second = record { inner = e.0.0; is = refl; spells = record { inner = e.0; is = refl; spells = e.2 } }; cut = refl })
-
-pub exact-globals : (names : List (List ℕ)) (s : tree.Specifiers) (g : unit.Global) → Exact marks (stop_global (is_typedef s) g) (GlobalsText names s g) (λ _. anything) (read_globals names s g)
-exact-globals names s g =
-    let c = is_typedef s in
-    exact-behind (exact-initial_behind names c g)
-    (λ head left h w. exact-map (made_declaration names s head) (λ _. anything) (λ x. refl) (exact-map (λ (made : List Initial × ℕ). made.0) (λ _. anything) (λ x. refl)
-    (exact-end (lists c) (step c) of (λ now. now.1) (λ now. awaited now.1) (λ now. read_initial_declarator now.0 c) (next_state c) (λ now t. refl) (λ e y x. refl) (λ e y. exact-initial_declarator e c)
-    (λ d xs. (state_behind c (of d.0 d.1) xs).1) (put_close c) (λ d xs t. refl) (behind_first names c head))))
-    record {
-      ends = λ head read left right rest one two stops. let m = two.spells in end_stops (lists c) (step c) put (λ e x t. refl) (put_close c) (λ d xs t. refl) (behind_first names c head) m.inner right rest m.spells;
-      goes_on = λ head left one. let e = end_some (step c) put (OneOf c) punctuator.Semicolon (put_close c) (behind_first names c head) in (made_declaration names s head e.0.0, e.1, record { inner = e.0.0; is = refl; spells = record { inner = e.0; is = refl; spells = e.2 } });
-    }
 
 -- it begins with `=`, `,` or `;`
 pub globals_stop : (names : List (List ℕ)) (s : tree.Specifiers) (g : unit.Global) (read : Read) (text : List Leaf) (rest : List Placed) (test : Placed → Bool) → ((place : ℕ) → IsTrue (test (mark punctuator.Assign place))) → ((place : ℕ) → IsTrue (test (mark punctuator.Comma place))) → ((place : ℕ) → IsTrue (test (mark punctuator.Semicolon place)))
@@ -356,4 +324,47 @@ globals_back names s globals after text h =
         cut = refl;
       };
       cut = k.cut ∙ ap (λ l. l ++ (k.middle ++ end)) b.cut ∙ append_assoc b.left b.right (k.middle ++ end);
+    }
+
+some_set : (names : List (List ℕ)) (is_typedef : Bool) (g : unit.Global) → (i : Initial) × (right : List Leaf) × Map (λ last. (g, Some last)) (InitialIs (names_after is_typedef g names) 0) i right
+some_set names is_typedef g = ((g, Some (Some zero_tree)), zero_text, record { inner = Some zero_tree; is = refl; spells = computed zero_tree zero_text (zero_conditional (names_after is_typedef g names) 0 0) })
+
+pub roled-initial_behind : (names : List (List ℕ)) (is_typedef : Bool) (g : unit.Global) → Firm (stop_global is_typedef g) (BehindText names is_typedef g) (stop_initial is_typedef) (read_initial_behind names is_typedef g)
+roled-initial_behind names is_typedef g =
+    let after = names_after is_typedef g names in
+    roled-choose (is_mark punctuator.Assign)
+    record {
+      first_begins = λ i text b. (plain (mark punctuator.Assign b.first), b.right, set_first names is_typedef g i text b, refl);
+      second_begins = λ i text rest one stops. unset_second is_typedef g i text rest one stops;
+    }
+    (λ t e. behind_begins (mark_place punctuator.Assign) plain (λ t. refl) t t.offset (mark-some punctuator.Assign t e) (some_set names is_typedef g))
+    (behind_silent (mark_place punctuator.Assign) plain (λ t. refl))
+    (roled-enter (both (stop_global is_typedef g) (λ t. is_mark punctuator.Assign t.token)) (roled-opened (mark_place punctuator.Assign) Nothing plain (λ t. refl) (λ t. refl) (mark punctuator.Assign 0) 0 (mark-self punctuator.Assign 0)
+    (λ x. ((g, Some (Some zero_tree)), zero_text, record { inner = Some zero_tree; is = refl; spells = computed zero_tree zero_text (zero_conditional after 0 0) }))
+    (λ x t e within. firm-map (λ last. (g, Some last)) (stop_initial is_typedef) (λ last. refl) (roled-initial after (expressions after) (all-roled after) room 0 (omega arith) (omega arith)))))
+    (roled-stop (stop_initial is_typedef) (λ i text one t. unset_same is_typedef g i text t one) (firm-nothing (both (stop_global is_typedef g) (λ t. not (is_mark punctuator.Assign t.token))) (g, None)))
+
+pub roled-initial_declarator : (names : List (List ℕ)) (is_typedef : Bool) → Firm anything (InitialOf names is_typedef) (stop_initial is_typedef) (read_initial_declarator names is_typedef)
+roled-initial_declarator names is_typedef =
+    roled-behind (roled-global names (expressions names) (all-roled names) is_typedef) (λ g left h w. roled-initial_behind names is_typedef g)
+    record {
+      ends = λ g i left right rest one two stops. behind_ends names is_typedef g i right rest two stops;
+      goes_on = λ g left one. ((g, None), [], second nothing);
+    }
+
+-- what is awaited behind the last
+last_same : (is_typedef : Bool) (d : Before (List (List ℕ)) Initial) (xs : List Initial) → end_of_global (context_after (next_before (step is_typedef)) d xs).1.1 ≡ (state_behind is_typedef (of d.0 d.1) xs).1
+last_same is_typedef d [] = refl
+last_same is_typedef d (x ∷ xs) = last_same is_typedef (step is_typedef d.0 x, x) xs
+
+pub roled-globals : (names : List (List ℕ)) (s : tree.Specifiers) (g : unit.Global) → Firm (stop_global (is_typedef s) g) (GlobalsText names s g) (λ _. anything) (read_globals names s g)
+roled-globals names s g =
+    let c = is_typedef s in
+    roled-behind (roled-initial_behind names c g)
+    (λ head left h w. firm-map (made_declaration names s head) (λ _. anything) (λ x. refl) (firm-map (λ (made : List Initial × ℕ). made.0) (λ _. anything) (λ x. refl)
+    (roled-end (lists c) (step c) of (λ now. now.1) (λ now. awaited now.1) (λ now. read_initial_declarator now.0 c) (next_state c) (λ now t. refl) (λ now t. refl) (λ e y x. refl) (λ e y. roled-initial_declarator e c)
+    (λ d xs. (state_behind c (of d.0 d.1) xs).1) (put_close c) (λ d xs t. refl) (λ d xs t. refl) (λ e x. inl refl) (λ d xs. inr (last_same c d xs)) (behind_first names c head))))
+    record {
+      ends = λ head read left right rest one two stops. let m = two.spells in end_stops (lists c) (step c) put (λ e x t. refl) (put_close c) (λ d xs t. refl) (behind_first names c head) m.inner right rest m.spells;
+      goes_on = λ head left one. let e = end_some (step c) put (OneOf c) punctuator.Semicolon (put_close c) (behind_first names c head) in (made_declaration names s head e.0.0, e.1, record { inner = e.0.0; is = refl; spells = record { inner = e.0; is = refl; spells = e.2 } });
     }

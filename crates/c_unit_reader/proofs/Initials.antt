@@ -1,27 +1,30 @@
--- Designators of initial values are read exactly.
-use Rattle.std.proofs.Common.{◌≡◌, ℕ, suc, true, List, [], ◌∷◌, ◌++◌, refl, ap, sym, ◌∙◌, subst, not, append-nil}
+-- Designators of initial values keep roles.
+use Rattle.std.proofs.Common.{List, ℕ, suc, ◌∷◌, ◌++◌, ap, sym, ◌∙◌, subst, [], refl, ◌≡◌, true, append-nil, Bool, false, ◌||◌, not}
 use Rattle.c_spec.specs.declared.token.Punctuator.TheVariants as punctuator
 use Rattle.c_tree_spec.specs.Expression as tree
-use Rattle.c_grammar_spec.specs.declared.Role.TheVariants.{Nothing, OperandEnd}
-use Rattle.c_grammar_spec.specs.Leaves.{Leaf, plain, awaited, opens, mark, named, marks}
+use Rattle.c_grammar_spec.specs.declared.Role.TheVariants.{OperandEnd, Nothing}
+use Rattle.c_grammar_spec.specs.Leaves.{Leaf, plain, awaited, opens, mark, named, marks, roles}
 use Rattle.c_grammar_spec.specs.Expressions.{Conditional}
 use Rattle.c_grammar_spec.specs.Units as grammar
 use Rattle.exact_read.specs.Reading.{plains, Stops}
-use Rattle.exact_read.specs.Exact.{Exact}
-use Rattle.exact_read.specs.Grammar.{anything, One, Map, Then, Or, first, second, Many, none, some, read_many}
-use Rattle.exact_read.proofs.Parts.{exact-one, exact-map, exact-same, stops_anything}
-use Rattle.exact_read.proofs.Then.{exact-then}
-use Rattle.exact_read.proofs.Many.{Items, exact-many}
-use Rattle.exact_read.proofs.Stop.{exact-enter}
-use Rattle.c_expression_reader.specs.Classes.{is_mark, mark_place, name_at}
+use Rattle.exact_read.specs.Grammar.{One, Map, Or, first, second, anything, Then, Many, none, some, read_many}
+use Rattle.exact_read.proofs.Parts.{stops_anything}
+use Rattle.exact_read.proofs.Many.{Items}
+use Rattle.c_expression_reader.specs.Classes.{mark_place, name_at, is_mark}
 use Rattle.c_expression_reader.specs.Exactness.{Closed}
 use Rattle.c_expression_reader.specs.Readers.{Readers}
-use Rattle.c_expression_reader.proofs.Marks.{mark-self, one-mark, mark-one, exact-closed, Behind, exact-opened, exact-choice}
+use Rattle.c_expression_reader.proofs.Marks.{Behind, one-mark, mark-one, mark-some, behind_begins, same_begins, behind_silent, mark-self, roled-closed, roled-opened, roled-choice}
 use Rattle.c_expression_reader.proofs.Samples.{zero_tree, zero_text, zero_conditional}
 use Rattle.c_expression_reader.proofs.Suffixes.{one-name, name-one}
-use Rattle.c_type_reader.specs.Exactness.{AllExact}
-use Rattle.c_type_reader.proofs.Tokens.{stops_or_true}
-use Rattle.c_unit_reader.specs.Initializers.{read_designator, begins_designator, read_designators}
+use Rattle.c_type_reader.specs.Exactness.{AllFirm}
+use Rattle.c_declarator_reader.proofs.Tokens.{stops_or_true}
+use Rattle.c_unit_reader.specs.Initializers.{begins_designator, read_designator, read_designators}
+use Rattle.c_spec.specs.Lexical.{Placed}
+use Rattle.role_read.proofs.Basics.{roled-same, roled-enter}
+use Rattle.role_read.proofs.Begins.{Begins, Silent}
+use Rattle.role_read.proofs.Then.{roled-then}
+use Rattle.c_expression_reader.specs.Firm.{Firm}
+use Rattle.c_expression_reader.proofs.Firm.{firm-map, firm-one, firm-many}
 
 -- `.` and a member, or an index
 abbrev DotText : Unit {0} → List Leaf → Type 0
@@ -48,21 +51,6 @@ designator_text names depth u text (grammar.member d n place) =
 designator_text names depth u text (grammar.element d x inside place close h) =
     second (record { first = place; left = opens (suc d) (mark punctuator.LeftBracket place) ∷ []; right = inside ++ awaited OperandEnd (mark punctuator.RightBracket close) ∷ []; is_first = mark-one punctuator.LeftBracket (opens (suc d)) place; is_second = record { inner = x; is = refl; spells = record { inside = inside; close = close; spells = h; cut = refl } }; cut = refl })
 
-exact-designator : (names : List (List ℕ)) (inner : Readers) → AllExact names inner → (depth : ℕ) → Exact marks anything (DesignatorOf names depth) (λ _. anything) (read_designator inner depth)
-exact-designator names inner all depth =
-    exact-same anything (DesignatorOf names depth) (read_designator inner depth) (λ t h. h) (text_designator names depth) (designator_text names depth) (λ tokens. refl)
-    (exact-choice (is_mark punctuator.Dot)
-    record {
-      first_begins = λ u text b. (plain (mark punctuator.Dot b.first), b.right, b.cut ∙ ap (λ l. l ++ b.right) (one-mark punctuator.Dot plain b.first b.left b.is_first), refl);
-      second_begins = λ u text rest b stops. subst (λ l. Stops (λ t. not (is_mark punctuator.Dot t.token)) (plains marks l ++ rest)) (sym (b.cut ∙ ap (λ l. l ++ b.right) (one-mark punctuator.LeftBracket (opens (suc depth)) b.first b.left b.is_first))) refl;
-    }
-    (exact-opened (mark_place punctuator.Dot) Nothing plain (λ t. refl) (mark punctuator.Dot 0) 0 (mark-self punctuator.Dot 0)
-    (λ place. (tt, plain (named (record { spelling = []; place = 0 })) ∷ [], record { inner = record { spelling = []; place = 0 }; is = refl; spells = name-one (record { spelling = []; place = 0 }) }))
-    (λ place t e within. exact-map (λ (_ : tree.Name). tt {0}) (λ _. anything) (λ x. refl) (exact-one marks anything plain name_at Nothing (λ t. refl) (named (record { spelling = []; place = 0 })) (record { spelling = []; place = 0 }) refl)))
-    (exact-opened (mark_place punctuator.LeftBracket) Nothing (opens (suc depth)) (λ t. refl) (mark punctuator.LeftBracket 0) 0 (mark-self punctuator.LeftBracket 0)
-    (λ place. (tt, zero_text ++ awaited OperandEnd (mark punctuator.RightBracket 0) ∷ [], record { inner = zero_tree; is = refl; spells = record { inside = zero_text; close = 0; spells = zero_conditional names (suc depth) 0; cut = refl } }))
-    (λ place t e within. exact-map (λ (_ : tree.Expression). tt {0}) (λ _. anything) (λ x. refl) (exact-closed punctuator.RightBracket OperandEnd (awaited OperandEnd) (λ t. refl) (all.conditional (suc depth) 0) (λ x close. refl)))))
-
 designator_first : (names : List (List ℕ)) (depth : ℕ) (text : List Leaf) → grammar.Designator names depth text → (u : Leaf) × (others : List Leaf) × (text ≡ u ∷ others) × (begins_designator u.token.token ≡ true)
 designator_first names depth text (grammar.member d n place) = (plain (mark punctuator.Dot place), _, refl, refl)
 designator_first names depth text (grammar.element d x inside place close h) = (opens (suc d) (mark punctuator.LeftBracket place), _, refl, refl)
@@ -75,12 +63,6 @@ designator_items names depth =
       opens_next = λ c u rest stops. stops_or_true (λ t. begins_designator t.token) rest;
       stops_item = λ c u rest stops. stops_anything rest;
     }
-
-exact-more_designators : (names : List (List ℕ)) (inner : Readers) → AllExact names inner → (depth : ℕ) → Exact marks anything (Many (λ (_ _ : Unit {0}). tt {0}) (λ _. DesignatorOf names depth) tt) (λ _ t. not (begins_designator t.token)) (read_many (λ (_ : Unit {0}) next. begins_designator next.token) (λ _. read_designator inner depth) (λ _ _. tt {0}) (tt {0}))
-exact-more_designators names inner all depth =
-    exact-same anything (Many (λ (_ _ : Unit {0}). tt {0}) (λ _. DesignatorOf names depth) tt) (read_many (λ (_ : Unit {0}) next. begins_designator next.token) (λ _. read_designator inner depth) (λ _ _. tt {0}) (tt {0}))
-    (λ t h. stops_or_true (λ t. begins_designator t.token) (t ∷ [])) (λ x text h. h) (λ x text h. h) (λ tokens. refl)
-    (exact-many (designator_items names depth) (λ c. exact-enter (λ t. begins_designator t.token) (exact-designator names inner all depth)) tt)
 
 -- one designator or more, as the grammar has them
 abbrev SeveralText : (names : List (List ℕ)) → (depth : ℕ) → Unit {0} × List (Unit {0}) → List Leaf → Type 0
@@ -113,17 +95,93 @@ designators_several names depth text (grammar.more_designators d left right h k)
 designators_text : (names : List (List ℕ)) (depth : ℕ) (u : Unit {0}) (text : List Leaf) → DesignatorsOf names depth u text → Map (λ (_ : Unit {0} × List (Unit {0})). tt {0}) (SeveralText names depth) u text
 designators_text names depth u text h = let s = designators_several names depth text h in record { inner = (tt, s.us); is = refl; spells = record { left = s.left; right = s.right; cut = s.cut; first = s.head; second = s.rest } }
 
-pub exact-designators : (names : List (List ℕ)) (inner : Readers) → AllExact names inner → (depth : ℕ) → Exact marks anything (DesignatorsOf names depth) (λ _ t. not (begins_designator t.token)) (read_designators inner depth)
-exact-designators names inner all depth =
-    exact-same anything (DesignatorsOf names depth) (read_designators inner depth) (λ t h. h) (text_designators names depth) (designators_text names depth) (λ tokens. refl)
-    (exact-map (λ (_ : Unit {0} × List (Unit {0})). tt {0}) (λ _ t. not (begins_designator t.token)) (λ x. refl)
-    (exact-then {stop2 = λ _ _ t. not (begins_designator t.token)} (exact-designator names inner all depth) (λ _. exact-more_designators names inner all depth)
+-- what designators begin with, and some
+pub designators_first : (names : List (List ℕ)) (depth : ℕ) (text : List Leaf) → grammar.Designators names depth text → (u : Leaf) × (others : List Leaf) × (text ≡ u ∷ others) × (begins_designator u.token.token ≡ true)
+designators_first names depth text (grammar.one d t h) = designator_first names d t h
+designators_first names depth text (grammar.more_designators d left right h k) = let f = designator_first names d left h in (f.0, f.1 ++ right, ap (λ l. l ++ right) f.2, f.3)
+
+some_member : (u : Unit {0}) × (right : List Leaf) × Map (λ (_ : tree.Name). tt {0}) (One plain name_at) u right
+some_member = (tt, plain (named (record { spelling = []; place = 0 })) ∷ [], record { inner = record { spelling = []; place = 0 }; is = refl; spells = name-one (record { spelling = []; place = 0 }) })
+
+some_element : (names : List (List ℕ)) (depth : ℕ) → (u : Unit {0}) × (right : List Leaf) × Map (λ (_ : tree.Expression). tt {0}) (Closed (awaited OperandEnd) punctuator.RightBracket (Conditional names (suc depth) 0)) u right
+some_element names depth = (tt, zero_text ++ awaited OperandEnd (mark punctuator.RightBracket 0) ∷ [], record { inner = zero_tree; is = refl; spells = record { inside = zero_text; close = 0; spells = zero_conditional names (suc depth) 0; cut = refl } })
+
+-- what begins one of two texts begins either
+pub left_begins : {X : Type 0} {S1 S2 : X → List Leaf → Type 0} (t : Placed) → Begins marks S1 t → Begins marks (Or S1 S2) t
+left_begins t b = record { value = b.value; first = b.first; more = b.more; spells = first b.spells; is = b.is }
+
+pub right_begins : {X : Type 0} {S1 S2 : X → List Leaf → Type 0} (t : Placed) → Begins marks S2 t → Begins marks (Or S1 S2) t
+right_begins t b = record { value = b.value; first = b.first; more = b.more; spells = second b.spells; is = b.is }
+
+-- each `.` and each `[` begins a designator, and tells nothing
+designator_begins : (names : List (List ℕ)) (depth : ℕ) (t : Placed) → begins_designator t.token ≡ true → Begins marks (DesignatorOf names depth) t
+designator_begins names depth t e = same_begins (text_designator names depth) t (by_dot (is_mark punctuator.Dot t.token) refl e)
+  where
+    by_dot : (b : Bool) → is_mark punctuator.Dot t.token ≡ b → (b || is_mark punctuator.LeftBracket t.token) ≡ true → Begins marks (Or DotText (ElementText names depth)) t
+    by_dot true f e = left_begins t (behind_begins (mark_place punctuator.Dot) plain (λ t. refl) t t.offset (mark-some punctuator.Dot t f) some_member)
+    by_dot false f e = right_begins t (behind_begins (mark_place punctuator.LeftBracket) (opens (suc depth)) (λ t. refl) t t.offset (mark-some punctuator.LeftBracket t e) (some_element names depth))
+
+or_silent : (names : List (List ℕ)) (depth : ℕ) → Silent marks roles (Or DotText (ElementText names depth))
+or_silent names depth x u more (first b) = behind_silent (mark_place punctuator.Dot) plain (λ t. refl) x u more b
+or_silent names depth x u more (second b) = behind_silent (mark_place punctuator.LeftBracket) (opens (suc depth)) (λ t. refl) x u more b
+
+designator_silent : (names : List (List ℕ)) (depth : ℕ) → Silent marks roles (DesignatorOf names depth)
+designator_silent names depth x u more h = or_silent names depth x u more (designator_text names depth x (u ∷ more) h)
+
+roled-designator : (names : List (List ℕ)) (inner : Readers) → AllFirm names inner → (depth : ℕ) → Firm anything (DesignatorOf names depth) (λ _. anything) (read_designator inner depth)
+roled-designator names inner all depth =
+    roled-same anything (DesignatorOf names depth) (read_designator inner depth) (λ t h. h) (text_designator names depth) (designator_text names depth) (λ tokens. refl)
+    (roled-choice (is_mark punctuator.Dot)
+    record {
+      first_begins = λ u text b. (plain (mark punctuator.Dot b.first), b.right, b.cut ∙ ap (λ l. l ++ b.right) (one-mark punctuator.Dot plain b.first b.left b.is_first), refl);
+      second_begins = λ u text rest b stops. subst (λ l. Stops (λ t. not (is_mark punctuator.Dot t.token)) (plains marks l ++ rest)) (sym (b.cut ∙ ap (λ l. l ++ b.right) (one-mark punctuator.LeftBracket (opens (suc depth)) b.first b.left b.is_first))) refl;
+    }
+    (λ t e. behind_begins (mark_place punctuator.Dot) plain (λ t. refl) t t.offset (mark-some punctuator.Dot t e) some_member)
+    (behind_silent (mark_place punctuator.Dot) plain (λ t. refl))
+    (roled-opened (mark_place punctuator.Dot) Nothing plain (λ t. refl) (λ t. refl) (mark punctuator.Dot 0) 0 (mark-self punctuator.Dot 0)
+    (λ place. (tt, plain (named (record { spelling = []; place = 0 })) ∷ [], record { inner = record { spelling = []; place = 0 }; is = refl; spells = name-one (record { spelling = []; place = 0 }) }))
+    (λ place t e within. firm-map (λ (_ : tree.Name). tt {0}) (λ _. anything) (λ x. refl) (firm-one anything plain name_at Nothing (λ t. refl) (λ t. refl) (named (record { spelling = []; place = 0 })) (record { spelling = []; place = 0 }) refl)))
+    (roled-opened (mark_place punctuator.LeftBracket) Nothing (opens (suc depth)) (λ t. refl) (λ t. refl) (mark punctuator.LeftBracket 0) 0 (mark-self punctuator.LeftBracket 0)
+    (λ place. (tt, zero_text ++ awaited OperandEnd (mark punctuator.RightBracket 0) ∷ [], record { inner = zero_tree; is = refl; spells = record { inside = zero_text; close = 0; spells = zero_conditional names (suc depth) 0; cut = refl } }))
+    (λ place t e within. firm-map (λ (_ : tree.Expression). tt {0}) (λ _. anything) (λ x. refl) (roled-closed punctuator.RightBracket OperandEnd (awaited OperandEnd) (λ t. refl) (λ t. refl) (all.conditional (suc depth) 0) (λ x close. refl)))))
+
+roled-more_designators : (names : List (List ℕ)) (inner : Readers) → AllFirm names inner → (depth : ℕ) → Firm anything (Many (λ (_ _ : Unit {0}). tt {0}) (λ _. DesignatorOf names depth) tt) (λ _ t. not (begins_designator t.token)) (read_many (λ (_ : Unit {0}) next. begins_designator next.token) (λ _. read_designator inner depth) (λ _ _. tt {0}) (tt {0}))
+roled-more_designators names inner all depth =
+    roled-same anything (Many (λ (_ _ : Unit {0}). tt {0}) (λ _. DesignatorOf names depth) tt) (read_many (λ (_ : Unit {0}) next. begins_designator next.token) (λ _. read_designator inner depth) (λ _ _. tt {0}) (tt {0}))
+    (λ t h. stops_or_true (λ t. begins_designator t.token) (t ∷ [])) (λ x text h. h) (λ x text h. h) (λ tokens. refl)
+    (firm-many (designator_items names depth) (λ c. designator_begins names depth) (λ c. designator_silent names depth) (λ c. roled-enter (λ t. begins_designator t.token) (roled-designator names inner all depth)) tt)
+
+pub roled-designators : (names : List (List ℕ)) (inner : Readers) → AllFirm names inner → (depth : ℕ) → Firm anything (DesignatorsOf names depth) (λ _ t. not (begins_designator t.token)) (read_designators inner depth)
+roled-designators names inner all depth =
+    roled-same anything (DesignatorsOf names depth) (read_designators inner depth) (λ t h. h) (text_designators names depth) (designators_text names depth) (λ tokens. refl)
+    (firm-map (λ (_ : Unit {0} × List (Unit {0})). tt {0}) (λ _ t. not (begins_designator t.token)) (λ x. refl)
+    (roled-then {stop2 = λ _ _ t. not (begins_designator t.token)} (roled-designator names inner all depth) (λ _. roled-more_designators names inner all depth)
     record {
       ends = λ x y left right rest one two stops. stops_anything (plains marks right ++ rest);
       goes_on = λ x left one. ([], [], none tt);
     }))
 
--- what designators begin with, and some
-pub designators_first : (names : List (List ℕ)) (depth : ℕ) (text : List Leaf) → grammar.Designators names depth text → (u : Leaf) × (others : List Leaf) × (text ≡ u ∷ others) × (begins_designator u.token.token ≡ true)
-designators_first names depth text (grammar.one d t h) = designator_first names d t h
-designators_first names depth text (grammar.more_designators d left right h k) = let f = designator_first names d left h in (f.0, f.1 ++ right, ap (λ l. l ++ right) f.2, f.3)
+pub designators_begin : (names : List (List ℕ)) (depth : ℕ) (t : Placed) → begins_designator t.token ≡ true → Begins marks (DesignatorsOf names depth) t
+designators_begin names depth t e = let b = designator_begins names depth t e in record { value = tt; first = b.first; more = b.more; spells = grammar.one depth (b.first ∷ b.more) b.spells; is = b.is }
+
+pub designators_silent : (names : List (List ℕ)) (depth : ℕ) → Silent marks roles (DesignatorsOf names depth)
+designators_silent names depth x u more h = by_text (u ∷ more) h refl
+  where
+    by_left : (left right : List Leaf) → grammar.Designator names depth left → left ++ right ≡ u ∷ more → u.role ≡ Nothing
+    by_left [] right h e = let f = designator_first names depth [] h in absurd (let g : [] ≡ f.0 ∷ f.1 = f.2 in cc)
+    by_left (v ∷ left) right h e = let head : v ≡ u = cc in subst (λ (l : Leaf). l.role ≡ Nothing) head (designator_silent names depth tt v left h)
+
+    by_text : (text : List Leaf) → grammar.Designators names depth text → text ≡ u ∷ more → u.role ≡ Nothing
+    by_text text (grammar.one d t h) e = by_left t [] h (append-nil t ∙ e)
+    by_text text (grammar.more_designators d left right h k) e = by_left left right h e
+
+pub designators_some : (names : List (List ℕ)) (depth : ℕ) (x : Unit {0}) → DesignatorsOf names depth x [] → ⊥
+designators_some names depth x h = by_text [] h refl
+  where
+    by_left : (left right : List Leaf) → grammar.Designator names depth left → left ++ right ≡ [] → ⊥
+    by_left [] right h e = let f = designator_first names depth [] h in let g : [] ≡ f.0 ∷ f.1 = f.2 in cc
+    by_left (v ∷ left) right h e = cc
+
+    by_text : (text : List Leaf) → grammar.Designators names depth text → text ≡ [] → ⊥
+    by_text text (grammar.one d t h) e = by_left t [] h (append-nil t ∙ e)
+    by_text text (grammar.more_designators d left right h k) e = by_left left right h e

@@ -1,5 +1,5 @@
--- Items and units are read exactly.
-use Rattle.std.proofs.Common.{◌≡◌, ℕ, suc, arith, Bool, true, false, List, [], ◌∷◌, ◌++◌, Ok, Err, refl, ap, sym, ◌∙◌, subst, IsTrue, not, ◌&&◌, append_assoc}
+-- Items and units keep roles.
+use Rattle.std.proofs.Common.{ℕ, List, Bool, true, false, refl, IsTrue, not, ◌&&◌, ◌≡◌, ◌∷◌, ◌++◌, ap, ◌∙◌, [], suc, sym, subst, Ok, Err, append_assoc, inl, arith}
 use Rattle.std.specs.Prelude.{map}
 use denote.Enum.Bare.{same_true}
 use Rattle.c_spec.specs.declared.token.Punctuator.TheVariants as punctuator
@@ -9,37 +9,44 @@ use Rattle.c_tree_spec.specs.Expression as tree
 use Rattle.c_tree_spec.specs.Unit as unit
 use Rattle.c_grammar_spec.specs.declared.Role.{Role}
 use Rattle.c_grammar_spec.specs.declared.Role.TheVariants.{Nothing, DeclaredName}
-use Rattle.c_grammar_spec.specs.Leaves.{Leaf, plain, awaited, opens, mark, named, marks}
+use Rattle.c_grammar_spec.specs.Leaves.{Leaf, plain, opens, mark, marks, awaited, named, roles}
 use Rattle.c_grammar_spec.specs.Expressions as part
 use Rattle.c_grammar_spec.specs.Statements.{Parts, no_parts}
 use Rattle.c_grammar_spec.specs.Units as grammar
 use Rattle.c_grammar_spec.specs.Units.{is_typedef}
-use Rattle.exact_read.specs.Reading.{Outcome, Reader, plains, Stops}
-use Rattle.exact_read.specs.Exact.{Exact}
-use Rattle.exact_read.specs.Grammar.{anything, bind, read_map, One, Map, Or, first, second, Many, none, some}
-use Rattle.exact_read.proofs.Parts.{exact-map, exact-same, stops_anything}
-use Rattle.exact_read.proofs.Many.{Items, exact-many}
-use Rattle.exact_read.proofs.Stop.{exact-enter}
+use Rattle.exact_read.specs.Reading.{plains, Stops, Reader, Outcome}
+use Rattle.exact_read.specs.Grammar.{One, Map, first, Or, second, read_map, bind, none, anything, Many, some}
+use Rattle.exact_read.proofs.Parts.{stops_anything}
+use Rattle.exact_read.proofs.Many.{Items}
 use Rattle.exact_read.proofs.Whole.{ExactWhole, exact-whole}
-use Rattle.c_expression_reader.specs.Classes.{is_mark, mark_place, begins_type}
+use Rattle.c_expression_reader.specs.Classes.{mark_place, is_mark, begins_type}
 use Rattle.c_expression_reader.specs.Exactness.{Closed}
-use Rattle.c_expression_reader.specs.Readers.{token, behind, choose}
-use Rattle.c_expression_reader.proofs.Marks.{mark-self, one-mark, mark-one, exact-mark, exact-closed, Behind, exact-behind, exact-opened, exact-choice}
-use Rattle.c_type_reader.specs.Endings.{Ending, WordsAround, BraceToo, WordsToo, SpecifiersEnd, stop_specifiers, goes_on_with}
-use Rattle.c_type_reader.proofs.Declarators.{DeclaratorFirst, begins_declarator, pointer_first, declarator_first}
-use Rattle.c_type_reader.proofs.Members.{specified, with_end}
-use Rattle.c_type_reader.proofs.Turned.{all-exact}
-use Rattle.c_type_reader.proofs.TypeFirsts.{base_first, declarator_stops}
+use Rattle.c_expression_reader.specs.Readers.{behind, token, choose}
+use Rattle.c_expression_reader.proofs.Marks.{Behind, one-mark, mark-one, map_silent, one_first, first_silent, mark-some, map_begins, mark-self, roled-closed_by, roled-opened, roled-choice, behind_begins, behind_silent, roled-behind, roled-mark}
+use Rattle.c_type_reader.specs.Endings.{Ending, WordsAround, BraceToo, WordsToo, goes_on_with, stop_specifiers, SpecifiersEnd}
+use Rattle.c_declarator_reader.proofs.Declarators.{DeclaratorFirst, pointer_first, declarator_first, begins_declarator}
+use Rattle.c_type_reader.proofs.Ended.{specified, with_end}
+use Rattle.c_type_reader.proofs.Turned.{all-roled}
+use Rattle.c_type_reader.proofs.TypeFirsts.{declarator_stops, base_first}
 use Rattle.c_declaration_reader.specs.Around.{is_word, item_word, read_item_specifiers}
-use Rattle.c_declaration_reader.proofs.Around.{exact-item_specifiers}
+use Rattle.c_declaration_reader.proofs.Around.{roled-item_specifiers}
 use Rattle.c_declaration_reader.proofs.Locals.{word_no_declarator}
 use Rattle.c_global_reader.specs.Parameters.{read_global}
 use Rattle.c_global_reader.specs.Texts.{stop_global}
-use Rattle.c_global_reader.proofs.Globals.{exact-global}
+use Rattle.c_global_reader.proofs.Globals.{roled-global}
 use Rattle.c_statement_reader.specs.Ends.{last_open, stop_parts}
-use Rattle.c_statement_reader.proofs.All.{statements-exact}
-use Rattle.c_unit_reader.specs.Units.{room, expressions, Read, read_body, read_behind_global, read_item, read_items, read_unit}
-use Rattle.c_unit_reader.proofs.Globals.{global_at, GlobalsText, globals_some, exact-globals, globals_stop, globals_made, globals_back}
+use Rattle.c_statement_reader.proofs.All.{statements-roled}
+use Rattle.c_unit_reader.specs.Units.{Read, expressions, read_behind_global, room, read_body, read_item, read_items, read_unit}
+use Rattle.c_unit_reader.proofs.Globals.{GlobalsText, global_at, globals_stop, globals_some, globals_made, globals_back, roled-globals}
+use Rattle.role_read.specs.Roles.{Roled}
+use Rattle.role_read.proofs.Basics.{roled-same, roled-enter, roled-map}
+use Rattle.role_read.proofs.Begins.{Silent, Begins, silent_next}
+use Rattle.role_read.proofs.Many.{ItemRoles, roled-many}
+use Rattle.c_expression_reader.specs.Firm.{Firm, quiet}
+use Rattle.c_expression_reader.proofs.Firm.{firm-map}
+use Rattle.c_type_reader.proofs.Begins.{specifiers_silent}
+use Rattle.c_statement_reader.proofs.Keywords.{silent_wrong}
+use Rattle.c_statement_reader.proofs.Silent.{specifiers_some}
 
 -- the body of a function
 abbrev BodyText : (names : List (List ℕ)) → tree.Specifiers → unit.FunctionDeclarator → Read → List Leaf → Type 0
@@ -52,12 +59,6 @@ parts_end x close = by_test (last_open false x)
     by_test true = refl
     by_test false = refl
 
-exact-body : (names : List (List ℕ)) (s : tree.Specifiers) (f : unit.FunctionDeclarator) → Exact marks anything (BodyText names s f) (λ _. anything) (read_body names s f)
-exact-body names s f =
-    exact-opened (mark_place punctuator.LeftBrace) Nothing (opens 1) (λ t. refl) (mark punctuator.LeftBrace 0) 0 (mark-self punctuator.LeftBrace 0)
-    (λ place. ((unit.Definition s f unit.no_parts, names), plain (mark punctuator.RightBrace 0) ∷ [], record { inner = unit.no_parts; is = refl; spells = record { inside = []; close = 0; spells = no_parts 1; cut = refl } }))
-    (λ place t e within. exact-map (λ body. (unit.Definition s f body, names)) (λ _. anything) (λ x. refl) (exact-closed punctuator.RightBrace Nothing plain (λ t. refl) (statements-exact names room 1 (omega arith) (omega arith)).parts parts_end))
-
 body_first : (names : List (List ℕ)) (s : tree.Specifiers) (f : unit.FunctionDeclarator) (read : Read) (text : List Leaf) (b : BodyText names s f read text) → text ≡ opens 1 (mark punctuator.LeftBrace b.first) ∷ b.right
 body_first names s f read text b = b.cut ∙ ap (λ l. l ++ b.right) (one-mark punctuator.LeftBrace (opens 1) b.first b.left b.is_first)
 
@@ -65,17 +66,6 @@ body_first names s f read text b = b.cut ∙ ap (λ l. l ++ b.right) (one-mark p
 abbrev BehindGlobal : (names : List (List ℕ)) → tree.Specifiers → unit.Global → Read → List Leaf → Type 0
 BehindGlobal names s (unit.Object d) = GlobalsText names s (unit.Object d)
 BehindGlobal names s (unit.Function f) = Or (BodyText names s f) (GlobalsText names s (unit.Function f))
-
-exact-behind_global : (names : List (List ℕ)) (s : tree.Specifiers) (g : unit.Global) → Exact marks (stop_global (is_typedef s) g) (BehindGlobal names s g) (λ _. anything) (read_behind_global names s g)
-exact-behind_global names s (unit.Object d) = exact-globals names s (unit.Object d)
-exact-behind_global names s (unit.Function f) =
-    exact-choice (is_mark punctuator.LeftBrace)
-    record {
-      first_begins = λ read text b. (opens 1 (mark punctuator.LeftBrace b.first), b.right, body_first names s f read text b, refl);
-      second_begins = λ read text rest b stops. globals_stop names s (unit.Function f) read text rest (λ t. not (is_mark punctuator.LeftBrace t.token)) (λ place. refl) (λ place. refl) (λ place. refl) b;
-    }
-    (exact-body names s f)
-    (exact-globals names s (unit.Function f))
 
 behind_ends : (names : List (List ℕ)) (s : tree.Specifiers) (g : unit.Global) (read : Read) (text : List Leaf) (rest : List Placed) → BehindGlobal names s g read text → Stops (stop_global (is_typedef s) g) (plains marks text ++ rest)
 behind_ends names s (unit.Object d) read text rest b =
@@ -100,14 +90,6 @@ read_declaring names s = behind (read_global names (expressions names) (is_typed
 abbrev read_rest : (names : List (List ℕ)) → tree.Specifiers → Reader Placed Role Read
 read_rest names s = choose (is_mark punctuator.Semicolon) (read_map (λ _. (unit.Declaration s [], names)) (token Nothing plain (mark_place punctuator.Semicolon))) (read_declaring names s)
 
-exact-declaring : (names : List (List ℕ)) (s : tree.Specifiers) → Exact marks anything (DeclaringText names s) (λ _. anything) (read_declaring names s)
-exact-declaring names s =
-    exact-behind (exact-global names (expressions names) (all-exact names) (is_typedef s)) (λ g left h w. exact-behind_global names s g)
-    record {
-      ends = λ g read left right rest one two stops. behind_ends names s g read right rest two;
-      goes_on = λ g left one. behind_some names s g;
-    }
-
 function_first : (names : List (List ℕ)) (depth : ℕ) (f : unit.FunctionDeclarator) (text : List Leaf) → grammar.FunctionDeclarator names depth f text → DeclaratorFirst text
 function_first names depth f text (grammar.function d p n list end stars inside place close e h k) = pointer_first p stars (awaited DeclaredName (named n)) (opens (suc d) (mark punctuator.LeftParenthesis place) ∷ inside ++ awaited end (mark punctuator.RightParenthesis close) ∷ []) h refl
 
@@ -124,16 +106,6 @@ declarator_no_end (name_token spelling) e = refl
 declarator_no_end (Word w) e = refl
 declarator_no_end (number_token value type) e = refl
 declarator_no_end (character_token value) e = refl
-
-exact-rest : (names : List (List ℕ)) (s : tree.Specifiers) → Exact marks anything (RestText names s) (λ _. anything) (read_rest names s)
-exact-rest names s =
-    exact-choice (is_mark punctuator.Semicolon)
-    record {
-      first_begins = λ read text m. (plain (mark punctuator.Semicolon m.inner), [], one-mark punctuator.Semicolon plain m.inner text m.spells, refl);
-      second_begins = λ read text rest b stops. let f = declaring_first names s read text b in subst (λ l. Stops (λ t. not (is_mark punctuator.Semicolon t.token)) (plains marks l ++ rest)) (sym f.cut) (rw (declarator_no_end f.leaf.token.token f.yes) refl);
-    }
-    (exact-map (λ (_ : ℕ). (unit.Declaration s [], names)) (λ _. anything) (λ x. refl) (exact-mark anything punctuator.Semicolon Nothing plain (λ t. refl)))
-    (exact-declaring names s)
 
 -- specifiers end there
 semicolon_stops : (e : Ending) (place : ℕ) → IsTrue (not (is_word item_word (Mark punctuator.Semicolon)) && not (goes_on_with e (Mark punctuator.Semicolon)))
@@ -157,17 +129,6 @@ SpecifiedText names = Behind (λ (pair : Ended). SpecifiersEnd names part.InItem
 behind_same : {X E Y : Type 0} (next : X → Reader Placed Role Y) (o : Outcome Placed Role (X × E)) → bind (bind o (λ (pair : X × E) rest. Ok (pair.0, rest))) (λ x rest. next x rest) ≡ bind o (λ (pair : X × E) rest. next pair.0 rest)
 behind_same next (Ok ((x, e), rest)) = refl
 behind_same next (Err fault) = refl
-
-exact-specified : (names : List (List ℕ)) → Exact marks anything (SpecifiedText names) (λ _. anything) (behind (read_item_specifiers names (expressions names) 0) (λ s. read_rest names s))
-exact-specified names =
-    let one = exact-item_specifiers names (expressions names) (all-exact names) 0 in
-    exact-same anything (SpecifiedText names) (behind (read_item_specifiers names (expressions names) 0) (λ s. read_rest names s)) (λ t h. h) (λ x text h. h) (λ x text h. h)
-    (λ tokens. ap (λ o. bind o (λ s rest. read_rest names s rest)) (one.same tokens) ∙ behind_same (read_rest names) (one.both tokens))
-    (exact-behind one.is (λ pair left h w. exact-enter (stop_specifiers (is_word item_word) pair.0 pair.1) (exact-rest names pair.0))
-    record {
-      ends = λ pair read left right rest h two stops. rest_stops names pair.0 pair.1 read right rest two;
-      goes_on = λ pair left h. ((unit.Declaration pair.0 [], names), plain (mark punctuator.Semicolon 0) ∷ [], first (record { inner = 0; is = refl; spells = mark-one punctuator.Semicolon plain 0 }));
-    })
 
 -- specifiers begin with no `;`
 record Begun (text : List Leaf) : Type 0 where
@@ -260,17 +221,6 @@ item_text names item after text (grammar.definition n s f body left middle insid
     let b : BodyText n s f (unit.Definition s f body, n) right = record { first = place; left = opens 1 (mark punctuator.LeftBrace place) ∷ []; right = inside ++ plain (mark punctuator.RightBrace close) ∷ []; is_first = mark-one punctuator.LeftBrace (opens 1) place; is_second = record { inner = body; is = refl; spells = record { inside = inside; close = close; spells = parts; cut = refl } }; cut = refl } in
     second (rest_back n s (unit.Definition s f body, n) left (middle ++ right) h (second (record { first = unit.Function f; left = middle; right = right; is_first = subst (λ (c : Bool). grammar.GlobalDeclarator n c (unit.Function f) middle) (sym e) (grammar.function f middle k); is_second = first b; cut = refl })))
 
-pub exact-item : (names : List (List ℕ)) → Exact marks anything (ItemOf names) (λ _. anything) (read_item names)
-exact-item names =
-    exact-same anything (ItemOf names) (read_item names) (λ t h. h) (text_item names) (λ read text h. item_text names read.0 read.1 text h) (λ tokens. refl)
-    (exact-choice (is_mark punctuator.Semicolon)
-    record {
-      first_begins = λ read text m. (plain (mark punctuator.Semicolon m.inner), [], one-mark punctuator.Semicolon plain m.inner text m.spells, refl);
-      second_begins = λ read text rest b stops. let f = specifiers_begun names b.first.0 b.first.1 b.left b.right b.is_first in subst (λ l. Stops (λ t. not (is_mark punctuator.Semicolon t.token)) (plains marks l ++ rest)) (sym (b.cut ∙ f.cut)) (rw f.no_end refl);
-    }
-    (exact-map (λ (_ : ℕ). (unit.EmptyItem, names)) (λ _. anything) (λ x. refl) (exact-mark anything punctuator.Semicolon Nothing plain (λ t. refl)))
-    (exact-specified names))
-
 -- the items of a unit, up to the end
 abbrev next_names : List (List ℕ) → Read → List (List ℕ)
 next_names names read = read.1
@@ -306,13 +256,108 @@ items_back names items text (grammar.some n item rest after left right h k) =
 abbrev stop_items : unit.TranslationUnit → Placed → Bool
 stop_items items t = false
 
-exact-items : Exact marks anything grammar.Unit stop_items read_items
-exact-items =
-    exact-same anything grammar.Unit read_items (λ t h. refl)
+end_silent : {X : Type 0} (x : X) → Silent marks roles (Map (λ (_ : ℕ). x) (One plain (mark_place punctuator.Semicolon)))
+end_silent x = map_silent (λ (_ : ℕ). x) (λ y u more o. ap (λ (l : Leaf). l.role) (one_first y u more o))
+
+-- items begin with a token that tells nothing
+item_silent : (names : List (List ℕ)) → Silent marks roles (ItemOf names)
+item_silent names read u more h = by_text (item_text names read.0 read.1 (u ∷ more) h)
+  where
+    specified_silent : Silent marks roles (SpecifiedText names)
+    specified_silent =
+        first_silent (λ (pair : Ended) h. specifiers_some names part.InItem 0 pair.0 [] (specified names part.InItem 0 pair.0 pair.1 [] h) refl)
+        (λ (pair : Ended) u more h. specifiers_silent names part.InItem 0 pair.0 (u ∷ more) (specified names part.InItem 0 pair.0 pair.1 (u ∷ more) h) u more refl)
+
+    by_text : ItemText names read (u ∷ more) → u.role ≡ Nothing
+    by_text (first m) = end_silent (unit.EmptyItem, names) read u more m
+    by_text (second b) = specified_silent read u more b
+
+-- a `;` that tells nothing
+end_begins : {X : Type 0} (x : X) (t : Placed) → is_mark punctuator.Semicolon t.token ≡ true → Begins marks (Map (λ (_ : ℕ). x) (One plain (mark_place punctuator.Semicolon))) t
+end_begins x t e = map_begins (λ (_ : ℕ). x) t (record { value = t.offset; first = plain t; more = []; spells = record { token = t; is = mark-some punctuator.Semicolon t e; cut = refl }; is = refl })
+
+some_body : (names : List (List ℕ)) (s : tree.Specifiers) (f : unit.FunctionDeclarator) → (read : Read) × (right : List Leaf) × Map (λ body. (unit.Definition s f body, names)) (Closed plain punctuator.RightBrace (Parts names 1)) read right
+some_body names s f = ((unit.Definition s f unit.no_parts, names), plain (mark punctuator.RightBrace 0) ∷ [], record { inner = unit.no_parts; is = refl; spells = record { inside = []; close = 0; spells = no_parts 1; cut = refl } })
+
+roled-body : (names : List (List ℕ)) (s : tree.Specifiers) (f : unit.FunctionDeclarator) → Firm anything (BodyText names s f) (λ _. anything) (read_body names s f)
+roled-body names s f =
+    roled-opened (mark_place punctuator.LeftBrace) Nothing (opens 1) (λ t. refl) (λ t. refl) (mark punctuator.LeftBrace 0) 0 (mark-self punctuator.LeftBrace 0)
+    (λ place. some_body names s f)
+    (λ place t e within. firm-map (λ body. (unit.Definition s f body, names)) (λ _. anything) (λ x. refl) (roled-closed_by punctuator.RightBrace Nothing plain (λ t. refl) (λ t. refl) (λ x. inl refl) (λ loose. refl) (statements-roled names room 1 (omega arith) (omega arith)).parts parts_end))
+
+roled-behind_global : (names : List (List ℕ)) (s : tree.Specifiers) (g : unit.Global) → Firm (stop_global (is_typedef s) g) (BehindGlobal names s g) (λ _. anything) (read_behind_global names s g)
+roled-behind_global names s (unit.Object d) = roled-globals names s (unit.Object d)
+roled-behind_global names s (unit.Function f) =
+    roled-choice (is_mark punctuator.LeftBrace)
+    record {
+      first_begins = λ read text b. (opens 1 (mark punctuator.LeftBrace b.first), b.right, body_first names s f read text b, refl);
+      second_begins = λ read text rest b stops. globals_stop names s (unit.Function f) read text rest (λ t. not (is_mark punctuator.LeftBrace t.token)) (λ place. refl) (λ place. refl) (λ place. refl) b;
+    }
+    (λ t e. behind_begins (mark_place punctuator.LeftBrace) (opens 1) (λ t. refl) t t.offset (mark-some punctuator.LeftBrace t e) (some_body names s f))
+    (behind_silent (mark_place punctuator.LeftBrace) (opens 1) (λ t. refl))
+    (roled-body names s f)
+    (roled-globals names s (unit.Function f))
+
+roled-declaring : (names : List (List ℕ)) (s : tree.Specifiers) → Firm anything (DeclaringText names s) (λ _. anything) (read_declaring names s)
+roled-declaring names s =
+    roled-behind (roled-global names (expressions names) (all-roled names) (is_typedef s)) (λ g left h w. roled-behind_global names s g)
+    record {
+      ends = λ g read left right rest one two stops. behind_ends names s g read right rest two;
+      goes_on = λ g left one. behind_some names s g;
+    }
+
+roled-rest : (names : List (List ℕ)) (s : tree.Specifiers) → Firm anything (RestText names s) (λ _. anything) (read_rest names s)
+roled-rest names s =
+    roled-choice (is_mark punctuator.Semicolon)
+    record {
+      first_begins = λ read text m. (plain (mark punctuator.Semicolon m.inner), [], one-mark punctuator.Semicolon plain m.inner text m.spells, refl);
+      second_begins = λ read text rest b stops. let f = declaring_first names s read text b in subst (λ l. Stops (λ t. not (is_mark punctuator.Semicolon t.token)) (plains marks l ++ rest)) (sym f.cut) (rw (declarator_no_end f.leaf.token.token f.yes) refl);
+    }
+    (end_begins (unit.Declaration s [], names))
+    (end_silent (unit.Declaration s [], names))
+    (firm-map (λ (_ : ℕ). (unit.Declaration s [], names)) (λ _. anything) (λ x. refl) (roled-mark anything punctuator.Semicolon Nothing plain (λ t. refl) (λ t. refl)))
+    (roled-declaring names s)
+
+roled-specified : (names : List (List ℕ)) → Firm anything (SpecifiedText names) (λ _. anything) (behind (read_item_specifiers names (expressions names) 0) (λ s. read_rest names s))
+roled-specified names =
+    let one = roled-item_specifiers names (expressions names) (all-roled names) 0 in
+    roled-same anything (SpecifiedText names) (behind (read_item_specifiers names (expressions names) 0) (λ s. read_rest names s)) (λ t h. h) (λ x text h. h) (λ x text h. h)
+    (λ tokens. ap (λ o. bind o (λ s rest. read_rest names s rest)) (one.same tokens) ∙ behind_same (read_rest names) (one.both tokens))
+    (roled-behind one.is (λ pair left h w. roled-enter (stop_specifiers (is_word item_word) pair.0 pair.1) (roled-rest names pair.0))
+    record {
+      ends = λ pair read left right rest h two stops. rest_stops names pair.0 pair.1 read right rest two;
+      goes_on = λ pair left h. ((unit.Declaration pair.0 [], names), plain (mark punctuator.Semicolon 0) ∷ [], first (record { inner = 0; is = refl; spells = mark-one punctuator.Semicolon plain 0 }));
+    })
+
+pub roled-item : (names : List (List ℕ)) → Firm anything (ItemOf names) (λ _. anything) (read_item names)
+roled-item names =
+    roled-same anything (ItemOf names) (read_item names) (λ t h. h) (text_item names) (λ read text h. item_text names read.0 read.1 text h) (λ tokens. refl)
+    (roled-choice (is_mark punctuator.Semicolon)
+    record {
+      first_begins = λ read text m. (plain (mark punctuator.Semicolon m.inner), [], one-mark punctuator.Semicolon plain m.inner text m.spells, refl);
+      second_begins = λ read text rest b stops. let f = specifiers_begun names b.first.0 b.first.1 b.left b.right b.is_first in subst (λ l. Stops (λ t. not (is_mark punctuator.Semicolon t.token)) (plains marks l ++ rest)) (sym (b.cut ∙ f.cut)) (rw f.no_end refl);
+    }
+    (end_begins (unit.EmptyItem, names))
+    (end_silent (unit.EmptyItem, names))
+    (firm-map (λ (_ : ℕ). (unit.EmptyItem, names)) (λ _. anything) (λ x. refl) (roled-mark anything punctuator.Semicolon Nothing plain (λ t. refl) (λ t. refl)))
+    (roled-specified names))
+
+item_roles : ItemRoles marks roles (λ (_ : List (List ℕ)) _. true) ItemOf next_names (λ _ _. Nothing) (λ _. Nothing) (Unit {0}) read_item
+item_roles =
+    record {
+      enters = λ names t more kind s e. (tt, silent_wrong (roled-item names) (item_silent names) t more kind refl e);
+      loose = λ h names. refl;
+      begins = λ names u n. inl (silent_next (item_silent names) u n);
+      ends = λ names x text one. inl refl;
+    }
+
+pub roled-items : Roled marks roles anything grammar.Unit stop_items quiet (Unit {0}) read_items
+roled-items =
+    roled-same anything grammar.Unit read_items (λ t h. refl)
     (λ items text m. subst (λ (v : unit.TranslationUnit). grammar.Items [] v text) (sym m.is) (many_items [] m.inner text m.spells))
     (λ items text h. let b = items_back [] items text h in record { inner = b.reads; is = b.is; spells = b.spells })
     (λ tokens. refl)
-    (exact-map items_of stop_items (λ reads. refl) (exact-many item_items (λ names. exact-enter (λ _. true) (exact-item names)) []))
+    (roled-map items_of stop_items quiet (λ reads. refl) (λ reads. inl refl) (roled-many item_items item_roles (λ names. roled-enter (λ _. true) (roled-item names)) []))
 
 pub unit-exact : ExactWhole marks grammar.Unit read_unit
-unit-exact = exact-whole Nothing exact-items
+unit-exact = exact-whole Nothing roled-items.exact

@@ -1,32 +1,38 @@
--- Initial values with `,` between them, and behind the last or not, are read exactly.
-use Rattle.std.proofs.Common.{◌≡◌, ℕ, suc, Bool, true, false, List, [], ◌∷◌, ◌++◌, Option, Some, None, refl, ap, sym, ◌∙◌, subst, IsTrue, not, ◌||◌, append_assoc, append-nil}
+-- Initial values with `,` between them, and behind the last or not, keep roles.
+use Rattle.std.proofs.Common.{Bool, true, Option, Some, None, ℕ, suc, List, [], ◌∷◌, ◌++◌, ◌≡◌, refl, false, ◌||◌, ap, ◌∙◌, sym, subst, not, IsTrue, append_assoc, append-nil, inl, inr}
 use Rattle.c_spec.specs.declared.token.Punctuator.TheVariants as punctuator
 use Rattle.c_spec.specs.Lexical.{Placed, Token}
 use Rattle.c_tree_spec.specs.Expression as tree
 use Rattle.c_grammar_spec.specs.declared.Role.{Role}
 use Rattle.c_grammar_spec.specs.declared.Role.TheVariants.{Nothing}
-use Rattle.c_grammar_spec.specs.Leaves.{Leaf, plain, awaited, opens, mark, marks}
+use Rattle.c_grammar_spec.specs.Leaves.{Leaf, plain, awaited, opens, mark, marks, roles}
 use Rattle.c_grammar_spec.specs.Expressions.{Conditional}
 use Rattle.c_grammar_spec.specs.Units as grammar
-use Rattle.exact_read.specs.Reading.{Reader, plains, Stops}
-use Rattle.exact_read.specs.Exact.{Exact}
+use Rattle.exact_read.specs.Reading.{plains, Stops, Reader}
 use Rattle.exact_read.specs.Grammar as operator
-use Rattle.exact_read.specs.Grammar.{anything, One, Map, Then, Or, first, second, Many, context_after, stop_many, read_then, read_map, read_many}
-use Rattle.exact_read.proofs.Parts.{exact-map, exact-same, stops_anything}
+use Rattle.exact_read.specs.Grammar.{Or, first, second, One, Map, Many, context_after, anything}
+use Rattle.exact_read.proofs.Parts.{stops_anything}
 use Rattle.exact_read.proofs.Many.{Items}
-use Rattle.exact_read.proofs.Stop.{exact-enter}
 use Rattle.c_expression_reader.specs.Classes.{is_mark, mark_place}
 use Rattle.c_expression_reader.specs.Exactness.{Closed}
 use Rattle.c_expression_reader.specs.Stops.{stop_conditional}
 use Rattle.c_expression_reader.specs.Readers.{Readers}
-use Rattle.c_expression_reader.proofs.Marks.{mark-is, one-mark, mark-one, mark-passes, exact-mark, exact-closed, Behind, exact-behind, exact-choice}
+use Rattle.c_expression_reader.proofs.Marks.{Behind, mark-is, mark-passes, one-mark, mark-one, first_begins, closed_begins, first_silent, closed_silent, mark-some, same_begins, roled-closed, roled-behind, roled-choice, roled-mark, map_begins, one_first, map_silent}
 use Rattle.c_expression_reader.proofs.Samples.{zero_tree, zero_text, zero_conditional}
-use Rattle.c_type_reader.specs.Exactness.{AllExact}
-use Rattle.c_type_reader.specs.Firsts.{begins_expression}
-use Rattle.c_type_reader.proofs.Firsts.{conditional_first, begins-not}
-use Rattle.c_type_reader.proofs.Tokens.{or_right, stops_or_true}
-use Rattle.c_unit_reader.specs.Initializers.{begins_designator, end_of_initial, Place, BehindInitial, BehindComma, begins_initial, initials_start, next_place, end_of_place, read_designated, read_initials_part}
-use Rattle.c_unit_reader.proofs.Initials.{DesignatorsOf, designators_first, exact-designators}
+use Rattle.c_type_reader.specs.Exactness.{AllFirm}
+use Rattle.c_declarator_reader.specs.Firsts.{begins_expression}
+use Rattle.c_declarator_reader.proofs.Firsts.{conditional_first, begins-not}
+use Rattle.c_declarator_reader.proofs.Tokens.{or_right, stops_or_true}
+use Rattle.c_unit_reader.specs.Initializers.{end_of_initial, begins_initial, begins_designator, Place, BehindInitial, BehindComma, initials_start, next_place, end_of_place, read_designated, read_initials_part}
+use Rattle.c_unit_reader.proofs.Initials.{DesignatorsOf, designators_first, designators_begin, designators_silent, designators_some, left_begins, right_begins, roled-designators}
+use Rattle.exact_read.specs.Awaited.{Next, Told}
+use Rattle.role_read.proofs.Basics.{roled-same, roled-enter}
+use Rattle.role_read.proofs.Begins.{Begins, Silent, silent_next, begun_enters}
+use Rattle.role_read.proofs.Many.{ItemRoles}
+use Rattle.c_expression_reader.specs.Firm.{Firm, quiet}
+use Rattle.c_expression_reader.proofs.Firm.{firm-map}
+use Rattle.c_unit_reader.proofs.Values.{conditional_begins}
+use Rattle.c_statement_reader.proofs.Silent.{conditional_silent}
 
 -- where an initial value ends
 abbrev pub stop_last : Option tree.Expression → Placed → Bool
@@ -127,21 +133,6 @@ closed_first names depth u text right c =
     let close = plain (mark punctuator.Assign c.close) ∷ [] in
     (f.0, (f.1 ++ close) ++ right, ap (λ l. l ++ right) (c.cut ∙ ap (λ l. l ++ close) f.2), f.3)
 
-pub exact-designated : (names : List (List ℕ)) (inner : Readers) → AllExact names inner → (depth : ℕ) (initial : Reader Placed Role (Option tree.Expression)) → Exact marks anything (InitialIs names depth) stop_last initial → Exact marks anything (DesignatedIs names depth) stop_last (read_designated inner depth initial)
-exact-designated names inner all depth initial is =
-    exact-same anything (DesignatedIs names depth) (read_designated inner depth initial) (λ t h. h) (text_designated names depth) (designated_text names depth) (λ tokens. refl)
-    (exact-choice begins_designator
-    record {
-      first_begins = λ last text b. let f = closed_first names depth b.first b.left b.right b.is_first in (f.0, f.1, b.cut ∙ f.2, f.3);
-      second_begins = λ last text rest h stops. not_designator names depth last text rest h;
-    }
-    (exact-behind {stop1 = λ _. anything} (exact-closed punctuator.Assign Nothing plain (λ t. refl) (exact-designators names inner all depth) (λ x close. refl)) (λ x left h w. is)
-    record {
-      ends = λ x y left right rest one two stops. stops_anything (plains marks right ++ rest);
-      goes_on = λ x left one. (Some zero_tree, zero_text, computed zero_tree zero_text (zero_conditional names depth 0));
-    })
-    is)
-
 pub designated_first : (names : List (List ℕ)) (depth : ℕ) (last : Option tree.Expression) (text : List Leaf) → DesignatedIs names depth last text → InitialFirst names text
 designated_first names depth last text d = subst (InitialFirst names) (sym d.cut) (by_designation d.front d.designation)
   where
@@ -201,11 +192,6 @@ part_items names depth = record { begins = begins; opens_next = opened; stops_it
     ended place None rest h = stops_anything rest
     ended place (Some last) [] h = tt
     ended place (Some last) (t ∷ rest) h = by_test last t (is_mark punctuator.Comma t.token) refl h
-
-pub exact-part : (names : List (List ℕ)) (inner : Readers) (depth : ℕ) (initial : Reader Placed Role (Option tree.Expression)) → Exact marks anything (DesignatedIs names depth) stop_last (read_designated inner depth initial)
-    → (place : Place) → Exact marks (initials_start names place) (PartText names depth place) stop_part (read_initials_part inner depth initial place)
-exact-part names inner depth initial is (BehindInitial last) = exact-map (λ _. None) stop_part (λ x. refl) (exact-mark (λ t. is_mark punctuator.Comma t.token) punctuator.Comma (end_of_initial last) (awaited (end_of_initial last)) (λ t. refl))
-exact-part names inner depth initial is BehindComma = exact-map (λ last. Some last) stop_part (λ x. refl) (exact-enter (λ t. begins_initial names t.token) is)
 
 -- parts behind what stands before, as the grammar has them
 abbrev pub PartsText : (names : List (List ℕ)) → (depth : ℕ) → Place → List (Option (Option tree.Expression)) → List Leaf → Type 0
@@ -302,4 +288,91 @@ split names depth end text (grammar.more d e after front t right comma k h rest)
           (operator.some BehindComma (Some s.head) s.parts s.left s.right (record { inner = s.head; is = refl; spells = s.is_head }) s.are_parts);
       is_end = s.is_end;
       cut = behind_comma e (end_of_initial b.last) b.is_end front t right comma ∙ ap (λ l. (front ++ t) ++ awaited (end_of_initial b.last) (mark punctuator.Comma comma) ∷ l) s.cut;
+    }
+
+abbrev ClosedText : (names : List (List ℕ)) → (depth : ℕ) → Option tree.Expression → List Leaf → Type 0
+ClosedText names depth = Behind (Closed plain punctuator.Assign (DesignatorsOf names depth)) (λ _. InitialIs names depth)
+
+closed_begin : (names : List (List ℕ)) (depth : ℕ) (t : Placed) → begins_designator t.token ≡ true → Begins marks (ClosedText names depth) t
+closed_begin names depth t e = first_begins t (closed_begins plain punctuator.Assign t (designators_begin names depth t e)) (λ x. (Some zero_tree, zero_text, computed zero_tree zero_text (zero_conditional names depth 0)))
+
+closed_quiet : (names : List (List ℕ)) (depth : ℕ) → Silent marks roles (ClosedText names depth)
+closed_quiet names depth = first_silent (λ x c. no_closed c.inside c.close c.cut) (closed_silent plain punctuator.Assign (designators_some names depth) (designators_silent names depth))
+  where
+    no_closed : (inside : List Leaf) (close : ℕ) → [] ≡ inside ++ plain (mark punctuator.Assign close) ∷ [] → ⊥
+    no_closed [] close e = cc
+    no_closed (v ∷ inside) close e = cc
+
+-- where an initial value begins nothing is told
+initial_silent : (names : List (List ℕ)) (depth : ℕ) → Silent marks roles (InitialIs names depth)
+initial_silent names depth x u more h = by_text x (u ∷ more) h refl
+  where
+    by_text : (x : Option tree.Expression) (text : List Leaf) → InitialIs names depth x text → text ≡ u ∷ more → u.role ≡ Nothing
+    by_text x text (computed y t h) e = conditional_silent names depth 0 y u more (subst (λ l. Conditional names depth 0 y l) e h)
+    by_text x text (empty place close) e = let head : opens (suc depth) (mark punctuator.LeftBrace place) ≡ u = cc in sym (ap (λ (l : Leaf). l.role) head)
+    by_text x text (list end inside place close h) e = let head : opens (suc depth) (mark punctuator.LeftBrace place) ≡ u = cc in sym (ap (λ (l : Leaf). l.role) head)
+
+designated_silent : (names : List (List ℕ)) (depth : ℕ) → Silent marks roles (DesignatedIs names depth)
+designated_silent names depth x u more d = by_way (designated_text names depth x (u ∷ more) d)
+  where
+    by_way : DesignatedText names depth x (u ∷ more) → u.role ≡ Nothing
+    by_way (first b) = closed_quiet names depth x u more b
+    by_way (second h) = initial_silent names depth x u more h
+
+initial_begins : (names : List (List ℕ)) (depth : ℕ) (t : Placed) → (is_mark punctuator.LeftBrace t.token || begins_designator t.token || begins_expression names t.token) ≡ true → Begins marks (DesignatedIs names depth) t
+initial_begins names depth t e = same_begins (text_designated names depth) t (by_brace (is_mark punctuator.LeftBrace t.token) refl e)
+  where
+    by_designator : (b : Bool) → begins_designator t.token ≡ b → (b || begins_expression names t.token) ≡ true → Begins marks (DesignatedText names depth) t
+    by_designator true f e = left_begins t (closed_begin names depth t f)
+    by_designator false f e = let b = conditional_begins names depth t e in right_begins t (record { value = Some b.value; first = b.first; more = b.more; spells = computed b.value (b.first ∷ b.more) b.spells; is = b.is })
+
+    by_brace : (b : Bool) → is_mark punctuator.LeftBrace t.token ≡ b → (b || begins_designator t.token || begins_expression names t.token) ≡ true → Begins marks (DesignatedText names depth) t
+    by_brace true f e = right_begins t (record { value = None; first = opens (suc depth) (mark punctuator.LeftBrace t.offset); more = plain (mark punctuator.RightBrace 0) ∷ []; spells = empty t.offset 0; is = sym (mark-is punctuator.LeftBrace t t.offset (mark-some punctuator.LeftBrace t f)) })
+    by_brace false f e = by_designator (begins_designator t.token) refl e
+
+pub roled-designated : (names : List (List ℕ)) (inner : Readers) → AllFirm names inner → (depth : ℕ) (initial : Reader Placed Role (Option tree.Expression)) → Firm anything (InitialIs names depth) stop_last initial → Firm anything (DesignatedIs names depth) stop_last (read_designated inner depth initial)
+roled-designated names inner all depth initial is =
+    roled-same anything (DesignatedIs names depth) (read_designated inner depth initial) (λ t h. h) (text_designated names depth) (designated_text names depth) (λ tokens. refl)
+    (roled-choice begins_designator
+    record {
+      first_begins = λ last text b. let f = closed_first names depth b.first b.left b.right b.is_first in (f.0, f.1, b.cut ∙ f.2, f.3);
+      second_begins = λ last text rest h stops. not_designator names depth last text rest h;
+    }
+    (closed_begin names depth)
+    (closed_quiet names depth)
+    (roled-behind {stop1 = λ _. anything} (roled-closed punctuator.Assign Nothing plain (λ t. refl) (λ t. refl) (roled-designators names inner all depth) (λ x close. refl)) (λ x left h w. is)
+    record {
+      ends = λ x y left right rest one two stops. stops_anything (plains marks right ++ rest);
+      goes_on = λ x left one. (Some zero_tree, zero_text, computed zero_tree zero_text (zero_conditional names depth 0));
+    })
+    is)
+
+pub roled-part : (names : List (List ℕ)) (inner : Readers) (depth : ℕ) (initial : Reader Placed Role (Option tree.Expression)) → Firm anything (DesignatedIs names depth) stop_last (read_designated inner depth initial)
+    → (place : Place) → Firm (initials_start names place) (PartText names depth place) stop_part (read_initials_part inner depth initial place)
+roled-part names inner depth initial is (BehindInitial last) = firm-map (λ _. None) stop_part (λ x. refl) (roled-mark (λ t. is_mark punctuator.Comma t.token) punctuator.Comma (end_of_initial last) (awaited (end_of_initial last)) (λ t. refl) (λ t. refl))
+roled-part names inner depth initial is BehindComma = firm-map (λ last. Some last) stop_part (λ x. refl) (roled-enter (λ t. begins_initial names t.token) is)
+
+part_begins : (names : List (List ℕ)) (depth : ℕ) (place : Place) (t : Placed) → initials_start names place t ≡ true → Begins marks (PartText names depth place) t
+part_begins names depth (BehindInitial last) t e = record { value = None; first = awaited (end_of_initial last) t; more = []; spells = record { inner = t.offset; is = refl; spells = record { token = t; is = mark-some punctuator.Comma t e; cut = refl } }; is = refl }
+part_begins names depth BehindComma t e = map_begins (λ last. Some last) t (initial_begins names depth t e)
+
+comma_told : (names : List (List ℕ)) (depth : ℕ) (last : Option tree.Expression) (u : Leaf) → Next marks (PartText names depth (BehindInitial last)) [] u → u.role ≡ end_of_initial last
+comma_told names depth last u n = by_before n.before n.spells n.same
+  where
+    by_before : (before : List Leaf) → PartText names depth (BehindInitial last) n.value (before ++ u ∷ n.more) → plains marks before ≡ [] → u.role ≡ end_of_initial last
+    by_before [] m same = ap (λ (l : Leaf). l.role) (one_first m.inner u n.more m.spells)
+    by_before (v ∷ before) m same = absurd (cc)
+
+part_told : (names : List (List ℕ)) (depth : ℕ) (place : Place) (u : Leaf) → Next marks (PartText names depth place) [] u → Told roles u (end_of_place place)
+part_told names depth (BehindInitial last) u n = inl (comma_told names depth last u n)
+part_told names depth BehindComma u n = inr (silent_next (map_silent (λ last. Some last) (designated_silent names depth)) u n)
+
+pub part_roles : (names : List (List ℕ)) (inner : Readers) (depth : ℕ) (initial : Reader Placed Role (Option tree.Expression)) → Firm anything (DesignatedIs names depth) stop_last (read_designated inner depth initial)
+    → ItemRoles marks roles (initials_start names) (PartText names depth) next_place (λ _. quiet) end_of_place ⊥ (read_initials_part inner depth initial)
+part_roles names inner depth initial is =
+    record {
+      enters = λ place t more kind s e. absurd (begun_enters (roled-part names inner depth initial is place).exact t more kind s (part_begins names depth place t s) e);
+      loose = λ never place. absurd never;
+      begins = λ place u n. part_told names depth place u n;
+      ends = λ place x text one. inl refl;
     }

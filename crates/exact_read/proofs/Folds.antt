@@ -1,13 +1,9 @@
 -- A part with items behind it that are taken into its value is read exactly.
-use Rattle.std.proofs.Common.{◌≡◌, Bool, List, [], ◌∷◌, ◌++◌, refl, ap, sym, ◌∙◌, subst, append_assoc, append-nil, ◌&&◌, not, Ok, Err}
+use Rattle.std.proofs.Common.{◌≡◌, Bool, List, [], ◌∷◌, ◌++◌, refl, ap, sym, ◌∙◌, subst, append_assoc, append-nil}
 use Rattle.std.specs.Prelude.{fold}
-use Rattle.exact_read.specs.Reading.{Outcome, Reader, Marks, plains, Stops}
-use Rattle.exact_read.specs.Exact.{Exact}
-use Rattle.exact_read.specs.Grammar.{bind, read_map, read_then, Map, Then, read_many, Many, none, some, context_after, stop_many, opens}
-use Rattle.exact_read.specs.Folds.{read_behind, read_folded, Folded, base, step}
-use Rattle.exact_read.proofs.Parts.{exact-map, exact-same}
-use Rattle.exact_read.proofs.Then.{Joins, exact-then_within}
-use Rattle.exact_read.proofs.Many.{Items, exact-many, many_opens}
+use Rattle.exact_read.specs.Reading.{Marks, Stops}
+use Rattle.exact_read.specs.Grammar.{Many, none, some, context_after, opens}
+use Rattle.exact_read.specs.Folds.{Folded, base, step}
 
 -- the context of a value that has taken an item in is the next
 abbrev pub Steps : {X I C : Type 0} → (next : C → I → C) → (apply : X → I → X) → (context : X → C) → Type 0
@@ -68,43 +64,3 @@ pub record Foldable {T U X I C : Type 0} (marks : Marks T U) (starts ends : C �
   -- the base stops where an item or the end of the items can stand
   pub joins : (x : X) (text : List U) → Base x text → (rest : List T) → Stops (opens starts ends (context x)) rest → Stops (stop_base x) rest
   pub leads : (x : X) (rest : List T) → Stops (stop_base x) rest → Stops (opens starts ends (context x)) rest
-
-pub exact-folded : {T U K X I C : Type 0} {marks : Marks T U} {entry : T → Bool} {starts ends : C → T → Bool} {next : C → I → C} {apply : X → I → X} {context : X → C} {Base : X → List U → Type 0} {stop_base : X → T → Bool} {Item : C → I → List U → Type 0} {stop_item : C → I → T → Bool} {read_base : Reader T K X} {item : C → Reader T K I}
-    → Foldable marks starts ends next apply context Base stop_base → Items marks starts ends Item stop_item next → Exact marks entry Base stop_base read_base → ((c : C) → Exact marks (starts c) (Item c) (stop_item c) (item c))
-    → Exact marks entry (Folded apply context Base Item) (λ x token. ends (context x) token && not (starts (context x) token)) (read_folded starts item next apply context read_base)
-exact-folded {T} {U} {K} {X} {I} {C} {marks} {entry} {starts} {ends} {next} {apply} {context} {Base} {stop_base} {Item} {stop_item} {read_base} {item} fold_is items base_is item_is =
-    exact-same entry (Folded apply context Base Item) (read_folded starts item next apply context read_base) (λ token h. h) to from same_read
-    (exact-map (λ (pair : X × List I). fold apply pair.0 pair.1) (λ x token. ends (context x) token && not (starts (context x) token)) same_stop
-    (exact-then_within base_is (λ x left one within. exact-same (stop_base x) (Many next Item (context x)) (read_many starts item next (context x)) (λ token h. fold_is.leads x (token ∷ []) h) (λ xs text h. h) (λ xs text h. h) (λ before. refl) (exact-many items item_is (context x))) joins))
-  where
-    same_outcome : (o : Outcome T K X) → bind o (λ x rest. read_behind starts item next apply context x rest) ≡ bind {X = X × List I} (bind o (λ x rest. bind (read_many starts item next (context x) rest) (λ items after. Ok ((x, items), after)))) (λ pair rest. Ok (fold apply pair.0 pair.1, rest))
-    same_outcome (Err fault) = refl
-    same_outcome (Ok (x, rest)) = by_items x (read_many starts item next (context x) rest)
-      where
-        by_items : (x : X) (o : Outcome T K (List I)) → bind o (λ items after. Ok (fold apply x items, after)) ≡ bind {X = X × List I} (bind o (λ items after. Ok ((x, items), after))) (λ pair rest. Ok (fold apply pair.0 pair.1, rest))
-        by_items x (Ok (items, after)) = refl
-        by_items x (Err fault) = refl
-
-    same_read : (before : List T) → read_folded starts item next apply context read_base before ≡ read_map (λ (pair : X × List I). fold apply pair.0 pair.1) (read_then read_base (λ x. read_many starts item next (context x))) before
-    same_read before = same_outcome (read_base before)
-
-    same_stop : (pair : X × List I) → (λ (token : T). ends (context (fold apply pair.0 pair.1)) token && not (starts (context (fold apply pair.0 pair.1)) token)) ≡ stop_many starts ends next (context pair.0) pair.1
-    same_stop pair = ap {B = T → Bool} (λ (c : C) (token : T). ends c token && not (starts c token)) (sym (context_after-fold next apply context fold_is.steps pair.0 pair.1))
-
-    joins : Joins marks Base stop_base (λ x. Many next Item (context x)) (λ x. stop_many starts ends next (context x))
-    joins =
-        record {
-          ends = λ x xs left right rest one many stops. fold_is.joins x left one (plains marks right ++ rest) (many_opens items (context x) xs right rest many stops);
-          goes_on = λ x left one. ([], [], none (context x));
-        }
-
-    to : (x : X) (text : List U) → Map (λ (pair : X × List I). fold apply pair.0 pair.1) (Then Base (λ x. Many next Item (context x))) x text → Folded apply context Base Item x text
-    to x text m =
-        let pair = m.inner in
-        let t = m.spells in
-        rw (m.is, t.cut) (folded_by next apply context Base Item fold_is.steps pair.0 t.left (base pair.0 t.left t.first) (context pair.0) pair.1 t.right t.second refl)
-
-    from : (x : X) (text : List U) → Folded apply context Base Item x text → Map (λ (pair : X × List I). fold apply pair.0 pair.1) (Then Base (λ x. Many next Item (context x))) x text
-    from x text f =
-        let p = parts_of next apply context Base Item fold_is.steps x text f in
-        record { inner = (p.first, p.items); is = p.is; spells = record { left = p.left; right = p.right; cut = p.cut; first = p.is_base; second = p.are_items } }

@@ -4,10 +4,7 @@ pub mod Then
 pub mod Parts
 pub mod Whole
 pub mod Many
+pub mod Contexts
 pub mod Stop
 pub mod Folds
-pub mod Times
-pub mod Lists
-pub mod Trailing
-pub mod OneOf
 pub mod Example

@@ -1,7 +1,8 @@
 -- Items one behind the other are read exactly.
 use Rattle.std.proofs.Common.{◌≡◌, ℕ, suc, zero, ◌≤◌, arith, length, Bool, true, false, List, [], ◌∷◌, ◌++◌, Ok, Err, refl, ap, sym, ◌∙◌, subst, append_assoc, IsTrue, cond, not, ◌&&◌, ◌||◌, length-append}
 use Rattle.exact_read.specs.Reading.{Fault, Deep, Wrong, Outcome, Reader, Marks, plains, Within, limit, Stops}
-use Rattle.exact_read.specs.Exact.{IsTaken, IsDeep, Exact}
+use Rattle.exact_read.specs.Exact.{IsTaken, Exact}
+use Rattle.exact_read.specs.Whole.{IsDeep}
 use Rattle.exact_read.specs.Grammar.{bind, read_at_most, read_many, Many, none, some, opens, stop_many}
 use Rattle.exact_read.proofs.Basics.{plains-two, Within-append, limit-within, bind-limit, limit-bind, Stops-other, ok, ok_parts}
 
@@ -55,10 +56,6 @@ first_same marks (u ∷ front) token old new t more e = let same : marks.plain u
 or_left : (a b : Bool) → a ≡ true → IsTrue (a || b)
 or_left true b e = refl
 or_left false b e = absurd (cc)
-
-or_right : (a b : Bool) → IsTrue b → IsTrue (a || b)
-or_right true b e = refl
-or_right false b e = e
 
 -- what the tests at an end say together
 end_tests : (s e : Bool) → s ≡ false → IsTrue (s || e) → IsTrue (e && not s)

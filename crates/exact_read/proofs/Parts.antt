@@ -1,9 +1,10 @@
 -- The smaller operators are read exactly: nothing, one token, a changed value, one of two parts.
 use Rattle.std.proofs.Common.{◌≡◌, Bool, true, false, List, [], ◌∷◌, ◌++◌, Ok, Err, Option, Some, None, refl, ap, sym, ◌∙◌, subst, IsTrue, cond, ◌⊎◌, inl, inr, ◌&&◌, not}
 use Rattle.exact_read.specs.Reading.{Deep, Wrong, Outcome, Reader, Marks, plains, limit, Stops}
-use Rattle.exact_read.specs.Exact.{IsTaken, IsWrong, IsDeep, Exact}
+use Rattle.exact_read.specs.Exact.{IsTaken, IsWrong, Exact}
+use Rattle.exact_read.specs.Whole.{IsDeep}
 use Rattle.std.specs.Option.{option_map_or}
-use Rattle.exact_read.specs.Grammar.{bind, anything, read_nothing, Nothing, nothing, read_one, One, read_map, Map, read_or, Or, first, second, saw, read_peek, Peek}
+use Rattle.exact_read.specs.Grammar.{bind, anything, read_nothing, Nothing, nothing, read_one, One, read_map, Map, read_or, Or, first, second}
 use Rattle.exact_read.proofs.Basics.{limit-bind, ok, err, ok_parts, err_again}
 
 pub stops_anything : {T : Type 0} (rest : List T) → Stops anything rest
@@ -247,8 +248,3 @@ exact-or {T} {U} {K} {X} {marks} {entry} {S1} {S2} {stop} {one} {two} test apart
         record { front = i.front; last = i.last; behind = i.behind; here = i.here; cut = i.cut; within = i.within; over = i.over; value = i.value; more = i.more; spells = first i.spells }
     deep before rest (inr p) e = let i = two_is.deeps before rest p.0 (sym p.1 ∙ e) in
         record { front = i.front; last = i.last; behind = i.behind; here = i.here; cut = i.cut; within = i.within; over = i.over; value = i.value; more = i.more; spells = second i.spells }
-
--- each way is exact where the next token was seen so; the texts of the two ways are apart
-pub exact-peek : {T U K X : Type 0} {marks : Marks T U} {entry : T → Bool} {S : Bool → X → List U → Type 0} {stop : X → T → Bool} {way : Bool → Reader T K X} (test : T → Bool) → Apart marks test (S true) (S false) stop
-    → ((seen : Bool) → Exact marks (both entry (λ token. saw seen (test token))) (S seen) stop (way seen)) → Exact marks entry (Peek S) stop (read_peek test way)
-exact-peek test apart ways = exact-or test apart (ways true) (ways false)

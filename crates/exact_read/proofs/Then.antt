@@ -1,7 +1,8 @@
 -- One part and then another are read exactly where each is.
 use Rattle.std.proofs.Common.{◌≡◌, Bool, List, [], ◌∷◌, ◌++◌, Ok, Err, refl, ap, sym, ◌∙◌, subst, append_assoc, append-nil, ◌⊎◌, inl, inr}
 use Rattle.exact_read.specs.Reading.{Fault, Deep, Wrong, Outcome, Reader, Marks, plains, Within, limit, Stops}
-use Rattle.exact_read.specs.Exact.{IsTaken, IsWrong, IsDeep, Exact}
+use Rattle.exact_read.specs.Exact.{IsTaken, IsWrong, Exact}
+use Rattle.exact_read.specs.Whole.{IsDeep}
 use Rattle.exact_read.specs.Grammar.{bind, read_then, Then, stop_then}
 use Rattle.exact_read.proofs.Basics.{plains-two, Within-append, limit-within, bind-limit, limit-bind, Stops-other, ok}
 use Rattle.exact_read.proofs.Within.{FirstOver, within_or_over, over-limit}

@@ -1,8 +1,8 @@
 -- Whole inputs are read exactly.
 use Rattle.std.proofs.Common.{◌≡◌, Bool, true, false, List, [], ◌∷◌, ◌++◌, Result, Ok, Err, refl, ap, sym, ◌∙◌, subst, append-nil, cond}
 use Rattle.exact_read.specs.Reading.{Fault, Deep, Wrong, Outcome, Reader, Marks, plains, limit}
-use Rattle.exact_read.specs.Exact.{IsDeep, Exact}
-use Rattle.exact_read.specs.Whole.{IsWhole, IsWrongAt}
+use Rattle.exact_read.specs.Exact.{Exact}
+use Rattle.exact_read.specs.Whole.{IsWhole, IsWrongAt, IsDeep}
 use Rattle.exact_read.specs.Grammar.{anything, at_end, read_whole}
 use Rattle.exact_read.proofs.Parts.{stops_anything}
 use Rattle.exact_read.proofs.Basics.{limit-within, ok, err, ok_parts, err_parts}

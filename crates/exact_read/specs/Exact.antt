@@ -1,6 +1,7 @@
 -- The law of exactness: how a reader relates to a grammar.
-use Rattle.std.specs.Prelude.{◌≡◌, Bool, true, List, ◌∷◌, ◌++◌, Ok, Err}
+use Rattle.std.specs.Prelude.{◌≡◌, Bool, List, ◌∷◌, ◌++◌, Ok, Err}
 use Rattle.exact_read.specs.Reading.{Deep, Wrong, Reader, Marks, plains, Within, limit, Stops}
+use Rattle.exact_read.specs.Whole.{IsDeep}
 
 -- what was read: a whole text of the grammar, and behind it a place where the value ends
 pub record IsTaken {T U X : Type 0} (marks : Marks T U) (S : X → List U → Type 0) (stop : X → T → Bool) (before : List T) (value : X) (rest : List T) : Type 0 where
@@ -19,19 +20,6 @@ pub record IsWrong {T U K X : Type 0} (marks : Marks T U) (S : X → List U → 
   pub more : List U
   pub spells : S value (front ++ more)
   pub whatever : (token : T) (old new : List T) → rest ≡ token ∷ old → read (plains marks front ++ token ∷ new) ≡ Err (Wrong kind, token ∷ new)
-
--- too much is open: what stands before the token, and the token, begin a text of the grammar
-pub record IsDeep {T U X : Type 0} (marks : Marks T U) (S : X → List U → Type 0) (before rest : List T) : Type 0 where
-  pub front : List U
-  pub last : U
-  pub behind : List T
-  pub here : rest ≡ marks.plain last ∷ behind
-  pub cut : before ≡ plains marks front ++ rest
-  pub within : Within marks front
-  pub over : marks.over last ≡ true
-  pub value : X
-  pub more : List U
-  pub spells : S value (front ++ last ∷ more)
 
 -- the reader reads the grammar exactly, where the next token passes the test of entry
 pub record Exact {T U K X : Type 0} (marks : Marks T U) (entry : T → Bool) (S : X → List U → Type 0) (stop : X → T → Bool) (read : Reader T K X) : Type 0 where

@@ -1,5 +1,6 @@
 pub mod Reading
+pub mod Whole
 pub mod Exact
 pub mod Grammar
-pub mod Whole
 pub mod Folds
+pub mod Awaited

@@ -1,5 +1,5 @@
--- What is said of a whole input.
-use Rattle.std.specs.Prelude.{◌≡◌, List, [], ◌∷◌, ◌++◌}
+-- What is said of tokens apart from any reader: that they are a whole text, where one is wrong, and where too much is open.
+use Rattle.std.specs.Prelude.{◌≡◌, true, List, [], ◌∷◌, ◌++◌}
 use Rattle.exact_read.specs.Reading.{Marks, plains, Within}
 
 -- the tokens are a text of the grammar, and too much is open nowhere
@@ -23,3 +23,16 @@ pub record IsWrongAt {T U X : Type 0} (marks : Marks T U) (S : X → List U → 
   pub more : List U
   pub spells : S value (front ++ more)
   pub none : NoneGoesOn marks S (plains marks front) rest
+
+-- too much is open: what stands before the token, and the token, begin a text of the grammar
+pub record IsDeep {T U X : Type 0} (marks : Marks T U) (S : X → List U → Type 0) (before rest : List T) : Type 0 where
+  pub front : List U
+  pub last : U
+  pub behind : List T
+  pub here : rest ≡ marks.plain last ∷ behind
+  pub cut : before ≡ plains marks front ++ rest
+  pub within : Within marks front
+  pub over : marks.over last ≡ true
+  pub value : X
+  pub more : List U
+  pub spells : S value (front ++ last ∷ more)

@@ -13,6 +13,9 @@
 //! A token that a text places carries marks (`Marks` of `specs/Reading.antt`): the token itself, and whether
 //! too much is open there. `S` knows no limit; `limit` in *again* is what puts it in.
 //!
+//! Of whole inputs `specs/Whole.antt` says where a token is wrong and where too much is open, and `specs/Awaited.antt`
+//! what is awaited at a place, apart from any reader.
+//!
 //! `specs/Grammar.antt` has the operators from which formats and their readers are made, and `proofs/` has for
 //! each the lemma that keeps exactness:
 //!
@@ -23,13 +26,8 @@
 //! | one part and then another, which may depend on the first value | `read_then` | `Then` | `exact-then` |
 //! | a part with its value changed | `read_map` | `Map` | `exact-map` |
 //! | one of two parts, by the next token | `read_or` | `Or` | `exact-or` |
-//! | a look at the next token, which stays and chooses how it goes on | `read_peek` | `Peek` | `exact-peek` |
 //! | items, as long as the next token begins one; a context goes from each to the next | `read_many` | `Many` | `exact-many` |
-//! | a number of parts of one kind | `read_times` | `Times` | `exact-times` |
-//! | one word of a table, where words may begin alike and none begins another | `read_one_of` | `OneOf` | `exact-one_of` |
-//! | items with a separator between them | `read_separated` | `Separated` | `exact-separated` |
-//! | the same, with a separator behind the last item or none | `read_list` | `Listed` | `exact-list` |
-//! | a part, and items behind it that are taken into its value from the left | `read_folded` | `Folded` | `exact-folded` |
+//! | a part, and items behind it that are taken into its value from the left | `read_folded` | `Folded` | `roled-folded` of `role_read` |
 //! | another way to say the texts, the reader or the test at entry | | | `exact-same` |
 //! | a whole input | `read_whole` | `IsWhole`, `IsWrongAt` | `exact-whole` |
 //!

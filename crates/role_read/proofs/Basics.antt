@@ -6,7 +6,8 @@ use Rattle.exact_read.specs.Grammar.{bind, anything, read_nothing, Nothing, noth
 use Rattle.exact_read.proofs.Basics.{ok, err, err_parts, err_again}
 use Rattle.exact_read.proofs.Parts.{exact-nothing, exact-one, exact-map, exact-same}
 use Rattle.exact_read.proofs.Stop.{exact-stop}
-use Rattle.role_read.specs.Roles.{Roles, Next, Told, Asked, IsAsked, Roled, silent}
+use Rattle.role_read.specs.Roles.{IsAsked, Roled, silent}
+use Rattle.exact_read.specs.Awaited.{Roles, Next, Told, Asked}
 
 -- one kind is told where another is, or nothing is
 abbrev pub Meets : {U K : Type 0} → Roles U K → (told wanted : K) → Type 0

@@ -3,7 +3,7 @@ use Rattle.std.proofs.Common.{◌≡◌, Bool, List, [], ◌∷◌, ◌++◌, re
 use Rattle.exact_read.specs.Reading.{Wrong, Reader, Marks, plains}
 use Rattle.exact_read.specs.Exact.{Exact}
 use Rattle.exact_read.proofs.Basics.{err}
-use Rattle.role_read.specs.Roles.{Roles, Next}
+use Rattle.exact_read.specs.Awaited.{Roles, Next}
 use Rattle.role_read.proofs.Fronts.{limit_wrong}
 
 -- the token begins a text

@@ -7,7 +7,8 @@ use Rattle.exact_read.specs.Folds.{read_behind, read_folded, Folded, base}
 use Rattle.exact_read.proofs.Then.{Joins}
 use Rattle.exact_read.proofs.Many.{Items, many_opens}
 use Rattle.exact_read.proofs.Folds.{Foldable, context_after-fold, parts_of, folded_by}
-use Rattle.role_read.specs.Roles.{Roles, Roled}
+use Rattle.role_read.specs.Roles.{Roled}
+use Rattle.exact_read.specs.Awaited.{Roles}
 use Rattle.role_read.proofs.Basics.{Meets, roled-map, roled-same}
 use Rattle.role_read.proofs.Then.{Follows, roled-then_within}
 use Rattle.role_read.proofs.Many.{ItemRoles, many_ending, many_enters, no_items, roled-many}

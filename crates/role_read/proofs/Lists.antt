@@ -26,10 +26,6 @@ nothing_between [] [] (v ∷ more) e = absurd (cc)
 nothing_between [] (v ∷ middle) more e = absurd (cc)
 nothing_between (u ∷ left) middle more e = nothing_between left middle more (let tail : left ≡ (left ++ middle) ++ more = cc in tail)
 
-pub both_empty : {U : Type 0} (left right : List U) → [] ≡ left ++ right → (left ≡ []) × (right ≡ [])
-both_empty [] right e = (refl, sym e)
-both_empty (u ∷ left) right e = absurd (cc)
-
 -- where the tokens of a text are cut, so is the text
 pub record PlainCut {T U : Type 0} (marks : Marks T U) (text : List U) (left right : List T) : Type 0 where
   pub first : List U

@@ -5,7 +5,8 @@ use Rattle.exact_read.specs.Grammar.{bind, read_at_most, read_many, Many, none, 
 use Rattle.exact_read.proofs.Basics.{ok, err, err_again}
 use Rattle.exact_read.proofs.Then.{Joins}
 use Rattle.exact_read.proofs.Many.{Items, exact-many, many_opens}
-use Rattle.role_read.specs.Roles.{Roles, Next, Told, IsAsked, Roled}
+use Rattle.role_read.specs.Roles.{IsAsked, Roled}
+use Rattle.exact_read.specs.Awaited.{Roles, Next, Told}
 use Rattle.role_read.proofs.Lists.{cut_of, within_right}
 use Rattle.role_read.proofs.Basics.{Meets}
 use Rattle.role_read.proofs.Then.{Follows, WrongIn, early, late, pair_of, asks_then, tells_then, firm_then, alike_then}

@@ -5,7 +5,8 @@ use Rattle.exact_read.specs.Exact.{Exact}
 use Rattle.exact_read.specs.Grammar.{read_or, Or, first, second}
 use Rattle.exact_read.proofs.Basics.{err}
 use Rattle.exact_read.proofs.Parts.{Apart, both, exact-or}
-use Rattle.role_read.specs.Roles.{Roles, Next, Told, Asked, IsAsked, Roled}
+use Rattle.role_read.specs.Roles.{IsAsked, Roled}
+use Rattle.exact_read.specs.Awaited.{Roles, Next, Told, Asked}
 use Rattle.role_read.proofs.Lists.{no_tokens}
 use Rattle.role_read.proofs.Begins.{Begins, Silent, begun_enters, silent_next}
 

@@ -5,7 +5,8 @@ use Rattle.exact_read.specs.Reading.{Wrong, Outcome, Reader, Marks, plains, With
 use Rattle.exact_read.specs.Grammar.{bind, read_then, Then, stop_then}
 use Rattle.exact_read.proofs.Basics.{plains-append, plains-two, Within-append, ok, err, err_again}
 use Rattle.exact_read.proofs.Then.{Joins, exact-then_within}
-use Rattle.role_read.specs.Roles.{Roles, Next, Told, Asked, IsAsked, Roled, silent}
+use Rattle.role_read.specs.Roles.{IsAsked, Roled, silent}
+use Rattle.exact_read.specs.Awaited.{Roles, Next, Told, Asked}
 use Rattle.role_read.proofs.Lists.{Cut, inside, beyond, cut_of, nothing_between, within_left, within_right, stops_left}
 use Rattle.role_read.proofs.Fronts.{Pair, Beyond, still, also, where_beyond, where_inside, front_stops, limit_wrong}
 use Rattle.role_read.proofs.Basics.{Meets, told_as}

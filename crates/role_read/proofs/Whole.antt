@@ -1,13 +1,12 @@
 -- Whole inputs: what is asked where one is wrong, and that a fault is unique.
 use Rattle.std.proofs.Common.{◌≡◌, inl, inr, Bool, true, false, List, [], ◌∷◌, ◌++◌, Result, Ok, Err, refl, ap, sym, ◌∙◌, subst, append-nil, append_assoc}
-use Rattle.std.proofs.lemmas.List.{append_cancel_right}
 use Rattle.exact_read.specs.Reading.{Fault, Wrong, Outcome, Reader, Marks, plains, Within}
-use Rattle.exact_read.specs.Exact.{IsDeep}
-use Rattle.exact_read.specs.Whole.{IsWrongAt}
+use Rattle.exact_read.specs.Whole.{IsWrongAt, IsDeep}
 use Rattle.exact_read.specs.Grammar.{anything, at_end, read_whole}
 use Rattle.exact_read.proofs.Basics.{plains-append, ok, err, err_parts}
 use Rattle.exact_read.proofs.Parts.{stops_anything}
-use Rattle.role_read.specs.Roles.{Roles, Asked, IsAsked, Roled, silent}
+use Rattle.role_read.specs.Roles.{IsAsked, Roled, silent}
+use Rattle.exact_read.specs.Awaited.{Roles}
 use Rattle.role_read.proofs.Lists.{Cut, inside, beyond, cut_of, plain_cut, within_left, within_right}
 use Rattle.role_read.proofs.Fronts.{Alike}
 
@@ -57,13 +56,6 @@ whole_asks {T} {U} {K} {X} {marks} {roles} {S} {stop} {Loose} {read} is tokens k
           };
         }
     by_wrong (in_part f) = is.asks tokens kind rest (stops_anything tokens) f
-
--- the same, for the tokens before
-pub whole_asked : {T U K X : Type 0} {marks : Marks T U} {roles : Roles U K} {S : X → List U → Type 0} {stop : X → T → Bool} {Loose : Type 0} {read : Reader T K X} → Roled marks roles anything S stop (silent roles) Loose read
-    → (front : List T) (kind : K) (rest : List T) → read_whole roles.none read (front ++ rest) ≡ Err (Wrong kind, rest) → Asked marks roles S front kind
-whole_asked {marks = marks} {roles = roles} {S = S} is front kind rest e =
-    let a = whole_asks is (front ++ rest) kind rest e in
-    subst (λ f. Asked marks roles S f kind) (sym (append_cancel_right front (plains marks a.front) rest a.cut)) a.asked
 
 -- where a token is wrong, and where too much is open: one place
 pub wrong_once : {T U X : Type 0} {marks : Marks T U} {S : X → List U → Type 0} (tokens one two : List T) → IsWrongAt marks S tokens one → IsWrongAt marks S tokens two → one ≡ two

@@ -1,7 +1,7 @@
 //! What a text format awaits at a place, and that its readers tell it.
 //!
 //! A token that a text places has a *role*: what the format asks there. Most roles tell nothing. Behind some
-//! tokens a role is *asked* (`Asked` of `specs/Roles.antt`) where whatever can stand next has this role or tells
+//! tokens a role is *asked* (`Asked` of `exact_read`) where whatever can stand next has this role or tells
 //! nothing, and something with this role can. A reader that is exact (`Exact` of `exact_read`) keeps roles where,
 //! further, the kind that it calls a wrong token by is what is asked there: `Roled` says so, with three laws more,
 //! by which it is shown one operator at a time:

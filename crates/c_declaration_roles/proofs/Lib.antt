@@ -1,9 +1,0 @@
-pub mod Lists
-pub mod ListFrom
-pub mod Calls
-pub mod Values
-pub mod Chosen
-pub mod Simples
-pub mod Around
-pub mod Locals
-pub mod All

@@ -1,0 +1,10 @@
+pub mod Fresh
+pub mod Words
+pub mod Tokens
+pub mod Pointers
+pub mod Plain
+pub mod Firsts
+pub mod Dimensions
+pub mod Declarators
+pub mod Listed
+pub mod Beside

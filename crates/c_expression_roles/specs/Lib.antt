@@ -1,2 +1,0 @@
-pub mod Firm
-pub mod Exactness
