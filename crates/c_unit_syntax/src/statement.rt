@@ -95,7 +95,7 @@ pub enum Part<'a> {
     Statement(Box<Statement<'a>>),
 }
 
-/// Labels of a `switch`, one at least, and what stands behind them, one part at least.
+/// Labels of a `switch`, one at least, and what stands behind them, which only in the last group may be nothing.
 #[derive(Drop)]
 #[cycle(statements)]
 pub struct Group<'a> {
