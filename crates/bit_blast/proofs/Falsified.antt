@@ -16,7 +16,7 @@ use Rattle.term_bank.specs.Nodes.{build}
 use Rattle.blast_spec.specs.Goal.{Table, visit, loads_of, goal_gates, cnf_of}
 use Rattle.blast_laws.proofs.Gates.{all_stand}
 use Rattle.goal_laws.proofs.Whole.{goal_is_false}
-use Rattle.goal_read.specs.Back.{read_back, LoadsFromVariables}
+use Rattle.goal_read.specs.Back.{read_back, TableLoadsFromVariables}
 use Rattle.goal_read.proofs.Reading.{is_assignment}
 use Rattle.goal_read.proofs.Whole.{goal_reads}
 use Rattle.bit_blast.specs.Loads.{variable_of}
@@ -28,7 +28,7 @@ unfolding cnf_of goal_gates
 one_holds values goal met = (all_stand values 0 (goal_gates goal 0).gates met).0
 
 pub falsified : (values : Valuation) (t : Table) (assignment : Assignment) → (values 1 ≡ true → AreShort (loads_of t t) → (v : Variable) → assignment v ≡ read_back values t v)
-    → (goal : Term) → sort_of goal ≡ Some sort.Truth → LoadsFromVariables (visit goal [] 1).out → t ≡ (visit goal [] 1).out → are_met values (cnf_of goal).clauses ≡ true
+    → (goal : Term) → sort_of goal ≡ Some sort.Truth → TableLoadsFromVariables (visit goal [] 1).out → t ≡ (visit goal [] 1).out → are_met values (cnf_of goal).clauses ≡ true
     → value assignment goal ≡ Truth false
 falsified values t assignment reads goal e from same met =
     let table : Table = (visit goal [] 1).out in

@@ -156,7 +156,7 @@ pub fn read_back(
     values: &[bool],
 ) -> Result<Assignment, AllocError>
     ensures reads { IfOk result (λ assignment. valuation values.now 1 ≡ true → AreShort (goal.loads_of blasted.now.table blasted.now.table) → (variable : Variable) → assignment_of assignment variable ≡ back.read_back (valuation values.now) blasted.now.table variable) }
-    ensures falsifies { IfOk result (λ assignment. (term : Term) → sort_of term ≡ Some sort.Truth → back.LoadsFromVariables (goal.visit term [] 1).out → blasted.now.table ≡ (goal.visit term [] 1).out → clause.are_met (valuation values.now) (goal.cnf_of term).clauses ≡ true → term_value.value (assignment_of assignment) term ≡ term_value.Truth false) }
+    ensures falsifies { IfOk result (λ assignment. (term : Term) → sort_of term ≡ Some sort.Truth → back.TableLoadsFromVariables (goal.visit term [] 1).out → blasted.now.table ≡ (goal.visit term [] 1).out → clause.are_met (valuation values.now) (goal.cnf_of term).clauses ≡ true → term_value.value (assignment_of assignment) term ≡ term_value.Truth false) }
 {
     let table = &blasted.table;
     table.is_distinct();

@@ -22,7 +22,7 @@ use Rattle.goal_laws.specs.Shows.{AllShow}
 use Rattle.goal_laws.specs.Reads.{Reads}
 use Rattle.goal_laws.proofs.Tables.{Visited, shown_there}
 use Rattle.goal_laws.proofs.Visits.{Takes, all_taken}
-use Rattle.goal_read.specs.Back.{read_back, LoadsFromVariables}
+use Rattle.goal_read.specs.Back.{read_back, TableLoadsFromVariables}
 use Rattle.goal_read.proofs.Silent.{NoReads, silent_reads, reads_both, silent-append, silent_new, silent_division, silent_unary, silent_binary, silent_ternary, silent_quaternary}
 use Rattle.goal_read.proofs.Fronts.{Front, front_front, Growing, then_grows, binary_grows}
 use Rattle.goal_read.proofs.Reading.{is_assignment, Found, leaf_reads, load_reads}
@@ -76,7 +76,7 @@ divided_backs values whole x y table last =
     (silent-append rests.gates (gates.gates ++ []) (silent_new (remainder x y) 0 (length xs) first (λ e. cc))
     (silent-append gates.gates [] (silent_division quotients.out rests.out xs (bits_in table y) second) tt)))
 
-binary_backs : (values : Valuation) (whole : Table) → LoadsFromVariables whole → Found values whole
+binary_backs : (values : Valuation) (whole : Table) → TableLoadsFromVariables whole → Found values whole
     → (operator : BinaryOperator) (x y : Term) (p q s : Sort) (table : Table) (last : ℕ) → sort_of_binary operator p q ≡ Some s
     → sort_of x ≡ Some p → sort_of y ≡ Some q → AllShow values (read_back values whole) table → is_there y table ≡ true
     → Front (with_binary operator x y table last).out whole → Reads (read_back values whole) values last (with_binary operator x y table last).gates
@@ -135,7 +135,7 @@ byte_parts : (o : Option Sort) (rest : List (Option Sort)) → all_bytes (o ∷ 
 byte_parts (Some s) rest e = let parts = and_parts (is_byte s) (all_bytes rest) e in (ap Some (same_sort-true s (sort.Word W8) parts.0), parts.1)
 byte_parts None rest e = absurd (cc)
 
-pub all_back : (values : Valuation) (whole : Table) → values 1 ≡ true → LoadsFromVariables whole → Found values whole → (t : Term) → Backs values whole t
+pub all_back : (values : Valuation) (whole : Table) → values 1 ≡ true → TableLoadsFromVariables whole → Found values whole → (t : Term) → Backs values whole t
 unfolding Backs visit sort_of
 all_back values whole truth from known (Leaf leaf) s e table last shows front stand =
     once_backs values whole (Leaf leaf) table (enter (Leaf leaf) table (atom_bits leaf)) last (is_there (Leaf leaf) table) refl front stand

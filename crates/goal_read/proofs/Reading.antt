@@ -26,7 +26,8 @@ use Rattle.goal_laws.specs.Shows.{Shows}
 use Rattle.goal_laws.specs.Reads.{bit_of_value, Reads}
 use Rattle.goal_laws.proofs.Leaves.{new_length, one_more}
 use Rattle.goal_models.proofs.Divisions.{same_head}
-use Rattle.goal_read.specs.Back.{first_byte, loads_from, value_back, read_back, IsVariable, IfFromVariable, LoadsFromVariables}
+use Rattle.flat_spec.specs.Back.{IsVariable}
+use Rattle.goal_read.specs.Back.{first_byte, loads_from, value_back, read_back, IfFromVariable, TableLoadsFromVariables}
 use Rattle.goal_read.proofs.Silent.{reads_both}
 use Rattle.goal_read.proofs.Fronts.{Front, front_bits, new_there}
 
@@ -116,7 +117,7 @@ at_variable P (Ternary operator x y z) h f = absurd h
 at_variable P (Quaternary operator a b c d) h f = absurd h
 at_variable P (Octonary a b c d e f1 g i) h f = absurd h
 
-entry_from : (before more : Table) (term : Term) (found : Bits) → LoadsFromVariables (before ++ (term, found) ∷ more) → IfFromVariable term
+entry_from : (before more : Table) (term : Term) (found : Bits) → TableLoadsFromVariables (before ++ (term, found) ∷ more) → IfFromVariable term
 entry_from [] more term found all = all.0
 entry_from (entry ∷ before) more term found all = entry_from before more term found all.1
 
@@ -128,7 +129,7 @@ byte_value values whole v x found e h shows =
     ≡ Number W8 (low_bits 8 (first_byte values (number_of values found) (loads_from (Leaf (atom.Open v)) whole)))) W32 x h
     (λ a below here. ap (λ n. Number W8 (low_bits 8 (first_byte values n (loads_from (Leaf (atom.Open v)) whole)))) (mod-eq_of_lt below ∙ sym here.1)) shows
 
-pub load_reads : (values : Valuation) (whole : Table) → LoadsFromVariables whole → Found values whole
+pub load_reads : (values : Valuation) (whole : Table) → TableLoadsFromVariables whole → Found values whole
     → (m x : Term) (table : Table) (last : ℕ) → sort_of m ≡ Some sort.Memory → IsOfSort (sort.Word W32) (value (read_back values whole) x)
     → is_there x table ≡ true → Shows values (value (read_back values whole) x) (bits_in table x)
     → Front (enter (Binary binary.Load m x) table (new_bits (Binary binary.Load m x) 0 8) last).out whole
@@ -138,7 +139,7 @@ load_reads values whole from known m x table last of_memory of_word there shows 
     let term = Binary binary.Load m x in
     let made = new_bits term 0 8 last in
     let at : whole ≡ table ++ (term, made.out) ∷ front.0 = front.1 ∙ append_assoc table ((term, made.out) ∷ []) front.0 in
-    let variable : IsVariable m = entry_from table front.0 term made.out (subst (λ t. LoadsFromVariables t) at from) in
+    let variable : IsVariable m = entry_from table front.0 term made.out (subst (λ t. TableLoadsFromVariables t) at from) in
     let grown : Front table whole = ((term, made.out) ∷ front.0, at) in
     let same = front_bits x table whole grown there in
     let byte : first_byte values (number_of values (bits_in table x)) (loads_from m whole) ≡ number_of values made.out =

@@ -21,7 +21,7 @@ use Rattle.goal_laws.proofs.Whole.{goal_is_false}
 use Rattle.goal_models.proofs.Models.{terms_stand}
 use Rattle.goal_models.proofs.Loaded.{AllLoaded}
 use Rattle.goal_models.proofs.Gathered.{goal_loaded}
-use Rattle.goal_read.specs.Back.{read_back, LoadsFromVariables}
+use Rattle.goal_read.specs.Back.{read_back, TableLoadsFromVariables}
 use Rattle.goal_read.proofs.Silent.{NoReads, silent_reads, reads_both, silent-append, silent_claims, silent_equal}
 use Rattle.goal_read.proofs.Alike.{AllLong, byte_found}
 use Rattle.goal_read.proofs.Reading.{is_assignment, Found}
@@ -93,7 +93,7 @@ goal_long goal e =
     let model = terms_stand assignment goal h e in
     loads_long model.0 assignment h table table model.3 (goal_loaded goal sort.Truth e) model.3
 
-pub goal_reads : (values : Valuation) (goal : Term) → sort_of goal ≡ Some sort.Truth → LoadsFromVariables (visit goal [] 1).out
+pub goal_reads : (values : Valuation) (goal : Term) → sort_of goal ≡ Some sort.Truth → TableLoadsFromVariables (visit goal [] 1).out
     → are_met values (cnf_of goal).clauses ≡ true → Reads (read_back values (visit goal [] 1).out) values 0 (goal_gates goal 0).gates
 unfolding cnf_of goal_gates Backs
 goal_reads values goal e from met =
@@ -116,12 +116,12 @@ goal_reads values goal e from met =
           (silent-append tied.gates last (silent_memories (memories_of loads) loads second) (silent_claims ((negation (bit_of (bits_in table goal)) ∷ []) ∷ [])))),
     )
 
-pub read_both : (values : Valuation) (goal : Term) → sort_of goal ≡ Some sort.Truth → LoadsFromVariables (visit goal [] 1).out
+pub read_both : (values : Valuation) (goal : Term) → sort_of goal ≡ Some sort.Truth → TableLoadsFromVariables (visit goal [] 1).out
     → are_met values (cnf_of goal).clauses ≡ true
     → IsAssignment (read_back values (visit goal [] 1).out) × Reads (read_back values (visit goal [] 1).out) values 0 (goal_gates goal 0).gates
 read_both values goal e from met = (is_assignment values (visit goal [] 1).out, goal_reads values goal e from met)
 
-pub false_by_met : (values : Valuation) (goal : Term) → sort_of goal ≡ Some sort.Truth → LoadsFromVariables (visit goal [] 1).out
+pub false_by_met : (values : Valuation) (goal : Term) → sort_of goal ≡ Some sort.Truth → TableLoadsFromVariables (visit goal [] 1).out
     → are_met values (cnf_of goal).clauses ≡ true → (assignment : Assignment) × IsAssignment assignment × (value assignment goal ≡ Truth false)
 false_by_met values goal e from met =
     let back = read_back values (visit goal [] 1).out in

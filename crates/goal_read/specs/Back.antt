@@ -5,10 +5,10 @@ use Rattle.term_spec.specs.declared.Sort.{Sort}
 use Rattle.term_spec.specs.declared.Sort.TheVariants as sort
 use Rattle.term_spec.specs.declared.Variable.{Variable}
 use Rattle.term_spec.specs.declared.Atom.TheVariants as atom
-use Rattle.term_spec.specs.declared.BinaryOperator.TheVariants as binary
 use Rattle.term_spec.specs.Term.{Term, Leaf, Binary}
 use Rattle.term_spec.specs.Sort.{bits}
 use Rattle.term_spec.specs.Value.{Value, Truth, Number, Bytes, Assignment, low_bits}
+use Rattle.flat_spec.specs.Back.{IfOfVariable}
 use Rattle.blast_spec.specs.Goal.{Table, Load, bits_in, bit_of, loads_of, is_of_memory}
 use Rattle.blast_laws.specs.Meaning.{number_of}
 
@@ -29,15 +29,12 @@ value_back values table v sort.Memory = Bytes (λ address. low_bits 8 (first_byt
 abbrev pub read_back : Valuation → Table → Assignment
 read_back values table = λ v. value_back values table v v.sort
 
-abbrev pub IsVariable : Term → Type 0
-IsVariable (Leaf (atom.Open v)) = Unit {0}
-IsVariable term = ⊥
-
+-- a load is from a variable
 abbrev pub IfFromVariable : Term → Type 0
-IfFromVariable (Binary binary.Load memory address) = IsVariable memory
+IfFromVariable (Binary operator a b) = IfOfVariable operator a
 IfFromVariable term = Unit {0}
 
 -- each load among some entries of a table is from a variable: no memory that is stored to or chosen
-abbrev pub LoadsFromVariables : Table → Type 0
-LoadsFromVariables [] = Unit {0}
-LoadsFromVariables (entry ∷ table) = IfFromVariable entry.0 × LoadsFromVariables table
+abbrev pub TableLoadsFromVariables : Table → Type 0
+TableLoadsFromVariables [] = Unit {0}
+TableLoadsFromVariables (entry ∷ table) = IfFromVariable entry.0 × TableLoadsFromVariables table

@@ -11,16 +11,16 @@ use Rattle.normal_spec.specs.Normal.{normal}
 use Rattle.normal_spec.proofs.Whole.{keeps_normal}
 use Rattle.normal_laws.proofs.Settled.{is_normal}
 use Rattle.blast_spec.specs.Goal.{visit, cnf_of}
-use Rattle.goal_read.specs.Back.{LoadsFromVariables}
+use Rattle.goal_read.specs.Back.{TableLoadsFromVariables}
 use Rattle.goal_read.proofs.Whole.{false_by_met}
-use Rattle.normal_loads.specs.Loads.{AllFromVariables}
-use Rattle.normal_loads.proofs.Rule.{from_variables}
-use Rattle.normal_loads.proofs.Visits.{visit_from}
+use Rattle.flat_spec.specs.Back.{LoadsFromVariables}
+use Rattle.normal_goals.proofs.Rule.{from_variables}
+use Rattle.normal_goals.proofs.Visits.{visit_from}
 
-pub normal_from : (runs : List Run) → AreBytes runs → (t : Term) (s : Sort) → sort_of t ≡ Some s → AllFromVariables (normal runs t)
+pub normal_from : (runs : List Run) → AreBytes runs → (t : Term) (s : Sort) → sort_of t ≡ Some s → LoadsFromVariables (normal runs t)
 normal_from runs small t s h = from_variables runs (normal runs t) s (keeps_normal runs small t s h).sorted (is_normal runs t)
 
-pub goal_from : (runs : List Run) → AreBytes runs → (goal : Term) → sort_of goal ≡ Some sort.Truth → LoadsFromVariables (visit (normal runs goal) [] 1).out
+pub goal_from : (runs : List Run) → AreBytes runs → (goal : Term) → sort_of goal ≡ Some sort.Truth → TableLoadsFromVariables (visit (normal runs goal) [] 1).out
 goal_from runs small goal h = visit_from (normal runs goal) (normal_from runs small goal sort.Truth h) [] 1 tt
 
 pub false_by_met_normal : (runs : List Run) → AreBytes runs → (values : Valuation) (goal : Term) → sort_of goal ≡ Some sort.Truth

@@ -8,27 +8,27 @@ use Rattle.term_spec.specs.Term.{Term, Leaf, Unary, Binary, Ternary, Quaternary,
 use Rattle.blast_spec.specs.Gates.{Build, give, ◌>>=◌}
 use Rattle.blast_spec.specs.Circuits.{Bits}
 use Rattle.blast_spec.specs.Goal.{Table, is_there, bits_in, enter, atom_bits, unary_bits, ternary_bits, quaternary_bits, divided, with_binary, visit}
-use Rattle.goal_read.specs.Back.{IfFromVariable, LoadsFromVariables}
-use Rattle.normal_loads.specs.Loads.{AllFromVariables}
+use Rattle.goal_read.specs.Back.{IfFromVariable, TableLoadsFromVariables}
+use Rattle.flat_spec.specs.Back.{LoadsFromVariables}
 
-both : (table more : Table) → LoadsFromVariables table → LoadsFromVariables more → LoadsFromVariables (table ++ more)
+both : (table more : Table) → TableLoadsFromVariables table → TableLoadsFromVariables more → TableLoadsFromVariables (table ++ more)
 both [] more ft fm = fm
 both (entry ∷ table) more ft fm = (ft.0, both table more ft.1 fm)
 
-once_from : (test : Bool) (table : Table) (build : Build Table) (last : ℕ) → LoadsFromVariables table → LoadsFromVariables (build last).out
-    → LoadsFromVariables ((if test then give table else build) last).out
+once_from : (test : Bool) (table : Table) (build : Build Table) (last : ℕ) → TableLoadsFromVariables table → TableLoadsFromVariables (build last).out
+    → TableLoadsFromVariables ((if test then give table else build) last).out
 once_from true table build last ft fb = ft
 once_from false table build last ft fb = fb
 
-added : (term : Term) (found : Bits) (table : Table) → IfFromVariable term → LoadsFromVariables table → LoadsFromVariables (table ++ (term, found) ∷ [])
+added : (term : Term) (found : Bits) (table : Table) → IfFromVariable term → TableLoadsFromVariables table → TableLoadsFromVariables (table ++ (term, found) ∷ [])
 added term found table f ft = both table ((term, found) ∷ []) ft (f, tt)
 
-divided_from : (x y : Term) (table : Table) (last : ℕ) → LoadsFromVariables table → LoadsFromVariables (divided x y table last).out
+divided_from : (x y : Term) (table : Table) (last : ℕ) → TableLoadsFromVariables table → TableLoadsFromVariables (divided x y table last).out
 unfolding divided
 divided_from x y table last ft = both table _ ft (tt, (tt, tt))
 
-binary_from : (operator : BinaryOperator) (x y : Term) (table : Table) (last : ℕ) → IfFromVariable (Binary operator x y) → LoadsFromVariables table
-    → LoadsFromVariables (with_binary operator x y table last).out
+binary_from : (operator : BinaryOperator) (x y : Term) (table : Table) (last : ℕ) → IfFromVariable (Binary operator x y) → TableLoadsFromVariables table
+    → TableLoadsFromVariables (with_binary operator x y table last).out
 binary_from (binary.Word word.Divide) x y table last f ft = divided_from x y table last ft
 binary_from (binary.Word word.Remainder) x y table last f ft = divided_from x y table last ft
 binary_from (binary.Word word.Add) x y table last f ft = added _ _ table f ft
@@ -47,8 +47,8 @@ binary_from binary.Less x y table last f ft = added _ _ table f ft
 binary_from binary.Load x y table last f ft = added _ _ table f ft
 binary_from binary.Join x y table last f ft = added _ _ table f ft
 
-pub visit_from : (t : Term) → AllFromVariables t → (table : Table) (last : ℕ) → LoadsFromVariables table → LoadsFromVariables (visit t table last).out
-unfolding AllFromVariables visit
+pub visit_from : (t : Term) → LoadsFromVariables t → (table : Table) (last : ℕ) → TableLoadsFromVariables table → TableLoadsFromVariables (visit t table last).out
+unfolding LoadsFromVariables visit
 visit_from (Leaf leaf) all table last ft =
     once_from (is_there (Leaf leaf) table) table (enter (Leaf leaf) table (atom_bits leaf)) last ft (added (Leaf leaf) _ table tt ft)
 visit_from (Unary operator x) all table last ft =

@@ -13,13 +13,12 @@ use Rattle.goal_laws.proofs.Whole.{goal_is_false}
 use Rattle.goal_read.specs.Back.{read_back}
 use Rattle.goal_read.proofs.Reading.{is_assignment}
 use Rattle.goal_read.proofs.Whole.{goal_reads}
-use Rattle.normal_loads.proofs.Whole.{normal_from, goal_from}
+use Rattle.normal_goals.proofs.Whole.{normal_from, goal_from}
 use Rattle.flat_spec.specs.Flat.{loads_of}
 use Rattle.flat_spec.proofs.Loads.{are_in-with_loads}
 use Rattle.flat_spec.proofs.Forms.{truth_readable}
-use Rattle.flat_normal.proofs.Loads.{from_variables}
-use Rattle.goal_fixed.specs.Held.{held, ReadsFixed}
-use Rattle.goal_fixed.proofs.Held.{held_assigns, held_holds, same}
+use Rattle.normal_goals.specs.Held.{held, ReadsFixed}
+use Rattle.normal_goals.proofs.Held.{held_assigns, held_holds, same}
 
 pub laid_over : (runs : List Run) → AreBytes runs → (assignment : Assignment) → IsAssignment assignment
     → IsAssignment (held runs assignment) × HoldsFixed runs (held runs assignment)
@@ -36,6 +35,6 @@ falsified runs small values goal h met fixed =
     let assigns = is_assignment values (visit form [] 1).out in
     let own = keeps_normal runs small goal sort.Truth h in
     let is_false = goal_is_false values back form assigns own.sorted met (goal_reads values form own.sorted (goal_from runs small goal h) met) in
-    let readable = truth_readable form own.sorted (from_variables form (normal_from runs small goal sort.Truth h)) in
+    let readable = truth_readable form own.sorted (normal_from runs small goal sort.Truth h) in
     let kept = same runs back assigns (loads_of form) fixed form readable (are_in-with_loads form []) in
     sym (own.worth (held runs back) (held_assigns runs small back assigns) (held_holds runs back)) ∙ kept ∙ is_false

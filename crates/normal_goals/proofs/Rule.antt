@@ -23,11 +23,11 @@ use Rattle.normal_spec.proofs.Equals.{words, keeps_equal}
 use Rattle.normal_spec.proofs.Loads.{choose_is}
 use Rattle.normal_laws.proofs.Forms.{IsNormal}
 use Rattle.goal_read.specs.Back.{IfFromVariable}
-use Rattle.normal_loads.specs.Loads.{AllFromVariables}
-use Rattle.normal_loads.proofs.Sorts.{byte_parts, no_memory, unary_no_memory, binary_no_memory, store_is, over_is}
+use Rattle.flat_spec.specs.Back.{LoadsFromVariables}
+use Rattle.normal_goals.proofs.Sorts.{byte_parts, no_memory, unary_no_memory, binary_no_memory, store_is, over_is}
 
-root : (t : Term) → AllFromVariables t → IfFromVariable t
-unfolding AllFromVariables
+root : (t : Term) → LoadsFromVariables t → IfFromVariable t
+unfolding LoadsFromVariables
 root (Leaf leaf) all = tt
 root (Unary operator a) all = tt
 root (Binary operator a b) all = all.0
@@ -69,8 +69,8 @@ byte_root (Some number) t f = tt
 byte_root None t f = f
 
 module _ (runs : List Run) where
-  loaded : (m d : Term) → AllFromVariables m → sort_of m ≡ Some sort.Memory → sort_of d ≡ Some (sort.Word W32) → IfFromVariable (normal_load runs m d)
-  unfolding normal_load load_of_variable AllFromVariables sort_of sort_of_atom sort_of_quaternary
+  loaded : (m d : Term) → LoadsFromVariables m → sort_of m ≡ Some sort.Memory → sort_of d ≡ Some (sort.Word W32) → IfFromVariable (normal_load runs m d)
+  unfolding normal_load load_of_variable LoadsFromVariables sort_of sort_of_atom sort_of_quaternary
   loaded (Ternary ternary.Store m a b) d all hm hd =
       let is = store_is m a b hm in
       chosen (normal_equal d a) b (normal_load runs m d) (keeps_equal runs d a (words W32 hd is.1)).sorted (root b all.2) (loaded m d all.0 is.0 hd)
@@ -96,7 +96,7 @@ module _ (runs : List Run) where
       absurd (no_memory _ _ (λ t. refl) parts.8)
   loaded (Octonary a b c e f g h i) d all hm hd = absurd (no_memory _ _ (λ t. refl) hm)
 
-  binary_root : (operator : BinaryOperator) (x y : Term) (s : Sort) → sort_of (Binary operator x y) ≡ Some s → AllFromVariables x
+  binary_root : (operator : BinaryOperator) (x y : Term) (s : Sort) → sort_of (Binary operator x y) ≡ Some s → LoadsFromVariables x
       → normal_binary runs operator x y ≡ Binary operator x y → IfFromVariable (Binary operator x y)
   unfolding normal_binary
   binary_root binary.Load m d s h all e = let is = load_is m d s h in subst IfFromVariable e (loaded m d all is.1 is.2)
@@ -107,8 +107,8 @@ module _ (runs : List Run) where
   binary_root (binary.Word operator) x y s h all e = tt
   binary_root binary.Join x y s h all e = tt
 
-  pub from_variables : (t : Term) (s : Sort) → sort_of t ≡ Some s → IsNormal runs t → AllFromVariables t
-  unfolding AllFromVariables IsNormal sort_of
+  pub from_variables : (t : Term) (s : Sort) → sort_of t ≡ Some s → IsNormal runs t → LoadsFromVariables t
+  unfolding LoadsFromVariables IsNormal sort_of
   from_variables (Leaf leaf) s h n = tt
   from_variables (Unary operator a) s h n =
       let parts = with_one-some (sort_of_unary operator) (sort_of a) s h in from_variables a parts.0 parts.1 n.0

@@ -17,7 +17,7 @@ use Rattle.flat_spec.specs.Flat.{Load, load_of, is_in}
 use Rattle.flat_spec.specs.Back.{IsNoMemory, term_of, number_of}
 use Rattle.flat_spec.proofs.Loads.{IfIn, AreIn}
 use Rattle.flat_spec.proofs.Readable.{IsLoad, Reads, IsReadable, IsTheLoad, is_the_load}
-use Rattle.goal_fixed.specs.Held.{with_fixed, held}
+use Rattle.normal_goals.specs.Held.{with_fixed, held}
 
 module _ (runs : List Run) where
   -- ---- what they make of memories
