@@ -3,7 +3,7 @@
 //! Values of the variables that meet the clauses, and whose bits of the goal's variables and loads are those of an
 //! assignment (`specs/Reads.antt`), give each of its terms the bits of its value (`specs/Shows.antt`), and the
 //! goal is false under the assignment. That each assignment under which the goal is false has such values, and
-//! that such values always have an assignment, is not stated here.
+//! that such values have an assignment, `goal_models` and `goal_read` say.
 #![tactic(auto)]
 
 ghost use Rattle.std.specs.Prelude.{◌≡◌, true, false, [], Some};

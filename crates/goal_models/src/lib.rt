@@ -6,8 +6,8 @@
 //! variables under which all gates of a goal's terms have their values, the claims of divisions included, and each
 //! term's bits are those of its value. Where a well-sorted goal is false under an assignment, there are values that
 //! meet all its clauses, those that tie the loads of one memory included, whatever its memories are; so where no values
-//! meet them, the goal is true under each assignment. That values which meet the clauses always have an assignment is
-//! not stated here.
+//! meet them, the goal is true under each assignment. That values which meet the clauses have an assignment, where all
+//! loads are from memory variables, `goal_read` says.
 #![tactic(auto)]
 
 ghost use Rattle.std.specs.Prelude.{◌≡◌, true, false, [], Some};
