@@ -28,8 +28,8 @@ use Rattle.goal_laws.proofs.Operators.{at_words}
 use Rattle.goal_laws.proofs.Tables.{Visited, shown_there}
 use Rattle.goal_laws.proofs.Visits.{Takes, all_taken}
 use Rattle.goal_models.proofs.Settled.{AllSettle}
-use Rattle.goal_models.proofs.Claims.{NoClaims}
-use Rattle.goal_models.proofs.Bare.{bare_stand, settled_reads, settled_parts, stand_both, bare_atom, bare_unary, bare_binary, bare_ternary, bare_quaternary, bare_new}
+use Rattle.goal_models.proofs.Every.{every_atom, every_unary, every_binary, every_ternary, every_quaternary, every_new}
+use Rattle.goal_models.proofs.Bare.{IsNoClaim, NoClaims, bare, bare_stand, settled_reads, settled_parts, stand_both}
 use Rattle.goal_models.proofs.Divisions.{settled_number, division_settles}
 
 -- what settles for a term has its values, further clauses included
@@ -115,8 +115,8 @@ divided_complete assignment values truth h x y p q table last of_words same sx s
     (settled_number assignment values (remainder x y) w (operation word.Remainder (bits w) a b) 0 (length xs) first (quotient_value assignment word.Remainder x y w a b e f) two.0))
     three.0) refl refl (shown_there values assignment x table all tx) (shown_there values assignment y table all ty)
     in
-    stand_both values last quotients.gates (rests.gates ++ (gates.gates ++ [])) (bare_stand assignment values last quotients.gates (bare_new (divide x y) 0 (length xs) last) one.0)
-    (stand_both values first rests.gates (gates.gates ++ []) (bare_stand assignment values first rests.gates (bare_new (remainder x y) 0 (length xs) first) two.0)
+    stand_both values last quotients.gates (rests.gates ++ (gates.gates ++ [])) (bare_stand assignment values last quotients.gates (every_new IsNoClaim bare (divide x y) 0 (length xs) last (λ at. tt)) one.0)
+    (stand_both values first rests.gates (gates.gates ++ []) (bare_stand assignment values first rests.gates (every_new IsNoClaim bare (remainder x y) 0 (length xs) first (λ at. tt)) two.0)
     (stand_both values second gates.gates [] own tt))
 
 binary_complete : (assignment : Assignment) (values : Valuation) → values 1 ≡ true → IsAssignment assignment
@@ -126,49 +126,49 @@ binary_complete : (assignment : Assignment) (values : Valuation) → values 1 �
 unfolding sort_of_binary
 binary_complete assignment values truth h binary.And x y p q s table last e sx sy all tx ty settle =
     enter_complete assignment values (Binary binary.And x y) table (binary_bits (Binary binary.And x y) binary.And (bits_in table x) (bits_in table y)) last
-    (bare_binary (Binary binary.And x y) binary.And (bits_in table x) (bits_in table y) last) settle
+    (every_binary IsNoClaim bare (Binary binary.And x y) binary.And (bits_in table x) (bits_in table y) last (λ at. tt)) settle
 binary_complete assignment values truth h binary.Or x y p q s table last e sx sy all tx ty settle =
     enter_complete assignment values (Binary binary.Or x y) table (binary_bits (Binary binary.Or x y) binary.Or (bits_in table x) (bits_in table y)) last
-    (bare_binary (Binary binary.Or x y) binary.Or (bits_in table x) (bits_in table y) last) settle
+    (every_binary IsNoClaim bare (Binary binary.Or x y) binary.Or (bits_in table x) (bits_in table y) last (λ at. tt)) settle
 binary_complete assignment values truth h binary.Equal x y p q s table last e sx sy all tx ty settle =
     enter_complete assignment values (Binary binary.Equal x y) table (binary_bits (Binary binary.Equal x y) binary.Equal (bits_in table x) (bits_in table y)) last
-    (bare_binary (Binary binary.Equal x y) binary.Equal (bits_in table x) (bits_in table y) last) settle
+    (every_binary IsNoClaim bare (Binary binary.Equal x y) binary.Equal (bits_in table x) (bits_in table y) last (λ at. tt)) settle
 binary_complete assignment values truth h binary.Less x y p q s table last e sx sy all tx ty settle =
     enter_complete assignment values (Binary binary.Less x y) table (binary_bits (Binary binary.Less x y) binary.Less (bits_in table x) (bits_in table y)) last
-    (bare_binary (Binary binary.Less x y) binary.Less (bits_in table x) (bits_in table y) last) settle
+    (every_binary IsNoClaim bare (Binary binary.Less x y) binary.Less (bits_in table x) (bits_in table y) last (λ at. tt)) settle
 binary_complete assignment values truth h binary.Join x y p q s table last e sx sy all tx ty settle =
     enter_complete assignment values (Binary binary.Join x y) table (binary_bits (Binary binary.Join x y) binary.Join (bits_in table x) (bits_in table y)) last
-    (bare_binary (Binary binary.Join x y) binary.Join (bits_in table x) (bits_in table y) last) settle
+    (every_binary IsNoClaim bare (Binary binary.Join x y) binary.Join (bits_in table x) (bits_in table y) last (λ at. tt)) settle
 binary_complete assignment values truth h binary.Load x y p q s table last e sx sy all tx ty settle =
     enter_complete assignment values (Binary binary.Load x y) table (binary_bits (Binary binary.Load x y) binary.Load (bits_in table x) (bits_in table y)) last
-    (bare_binary (Binary binary.Load x y) binary.Load (bits_in table x) (bits_in table y) last) settle
+    (every_binary IsNoClaim bare (Binary binary.Load x y) binary.Load (bits_in table x) (bits_in table y) last (λ at. tt)) settle
 binary_complete assignment values truth h (binary.Word word.Add) x y p q s table last e sx sy all tx ty settle =
     enter_complete assignment values (Binary (binary.Word word.Add) x y) table (binary_bits (Binary (binary.Word word.Add) x y) (binary.Word word.Add) (bits_in table x) (bits_in table y)) last
-    (bare_binary (Binary (binary.Word word.Add) x y) (binary.Word word.Add) (bits_in table x) (bits_in table y) last) settle
+    (every_binary IsNoClaim bare (Binary (binary.Word word.Add) x y) (binary.Word word.Add) (bits_in table x) (bits_in table y) last (λ at. tt)) settle
 binary_complete assignment values truth h (binary.Word word.Subtract) x y p q s table last e sx sy all tx ty settle =
     enter_complete assignment values (Binary (binary.Word word.Subtract) x y) table (binary_bits (Binary (binary.Word word.Subtract) x y) (binary.Word word.Subtract) (bits_in table x) (bits_in table y)) last
-    (bare_binary (Binary (binary.Word word.Subtract) x y) (binary.Word word.Subtract) (bits_in table x) (bits_in table y) last) settle
+    (every_binary IsNoClaim bare (Binary (binary.Word word.Subtract) x y) (binary.Word word.Subtract) (bits_in table x) (bits_in table y) last (λ at. tt)) settle
 binary_complete assignment values truth h (binary.Word word.Multiply) x y p q s table last e sx sy all tx ty settle =
     enter_complete assignment values (Binary (binary.Word word.Multiply) x y) table (binary_bits (Binary (binary.Word word.Multiply) x y) (binary.Word word.Multiply) (bits_in table x) (bits_in table y)) last
-    (bare_binary (Binary (binary.Word word.Multiply) x y) (binary.Word word.Multiply) (bits_in table x) (bits_in table y) last) settle
+    (every_binary IsNoClaim bare (Binary (binary.Word word.Multiply) x y) (binary.Word word.Multiply) (bits_in table x) (bits_in table y) last (λ at. tt)) settle
 binary_complete assignment values truth h (binary.Word word.And) x y p q s table last e sx sy all tx ty settle =
     enter_complete assignment values (Binary (binary.Word word.And) x y) table (binary_bits (Binary (binary.Word word.And) x y) (binary.Word word.And) (bits_in table x) (bits_in table y)) last
-    (bare_binary (Binary (binary.Word word.And) x y) (binary.Word word.And) (bits_in table x) (bits_in table y) last) settle
+    (every_binary IsNoClaim bare (Binary (binary.Word word.And) x y) (binary.Word word.And) (bits_in table x) (bits_in table y) last (λ at. tt)) settle
 binary_complete assignment values truth h (binary.Word word.Or) x y p q s table last e sx sy all tx ty settle =
     enter_complete assignment values (Binary (binary.Word word.Or) x y) table (binary_bits (Binary (binary.Word word.Or) x y) (binary.Word word.Or) (bits_in table x) (bits_in table y)) last
-    (bare_binary (Binary (binary.Word word.Or) x y) (binary.Word word.Or) (bits_in table x) (bits_in table y) last) settle
+    (every_binary IsNoClaim bare (Binary (binary.Word word.Or) x y) (binary.Word word.Or) (bits_in table x) (bits_in table y) last (λ at. tt)) settle
 binary_complete assignment values truth h (binary.Word word.Xor) x y p q s table last e sx sy all tx ty settle =
     enter_complete assignment values (Binary (binary.Word word.Xor) x y) table (binary_bits (Binary (binary.Word word.Xor) x y) (binary.Word word.Xor) (bits_in table x) (bits_in table y)) last
-    (bare_binary (Binary (binary.Word word.Xor) x y) (binary.Word word.Xor) (bits_in table x) (bits_in table y) last) settle
+    (every_binary IsNoClaim bare (Binary (binary.Word word.Xor) x y) (binary.Word word.Xor) (bits_in table x) (bits_in table y) last (λ at. tt)) settle
 binary_complete assignment values truth h (binary.Word word.ShiftLeft) x y p q s table last e sx sy all tx ty settle =
     enter_complete assignment values (Binary (binary.Word word.ShiftLeft) x y) table (binary_bits (Binary (binary.Word word.ShiftLeft) x y) (binary.Word word.ShiftLeft) (bits_in table x) (bits_in table y)) last
-    (bare_binary (Binary (binary.Word word.ShiftLeft) x y) (binary.Word word.ShiftLeft) (bits_in table x) (bits_in table y) last) settle
+    (every_binary IsNoClaim bare (Binary (binary.Word word.ShiftLeft) x y) (binary.Word word.ShiftLeft) (bits_in table x) (bits_in table y) last (λ at. tt)) settle
 binary_complete assignment values truth h (binary.Word word.ShiftRight) x y p q s table last e sx sy all tx ty settle =
     enter_complete assignment values (Binary (binary.Word word.ShiftRight) x y) table (binary_bits (Binary (binary.Word word.ShiftRight) x y) (binary.Word word.ShiftRight) (bits_in table x) (bits_in table y)) last
-    (bare_binary (Binary (binary.Word word.ShiftRight) x y) (binary.Word word.ShiftRight) (bits_in table x) (bits_in table y) last) settle
+    (every_binary IsNoClaim bare (Binary (binary.Word word.ShiftRight) x y) (binary.Word word.ShiftRight) (bits_in table x) (bits_in table y) last (λ at. tt)) settle
 binary_complete assignment values truth h (binary.Word word.ShiftRightSigned) x y p q s table last e sx sy all tx ty settle =
     enter_complete assignment values (Binary (binary.Word word.ShiftRightSigned) x y) table (binary_bits (Binary (binary.Word word.ShiftRightSigned) x y) (binary.Word word.ShiftRightSigned) (bits_in table x) (bits_in table y)) last
-    (bare_binary (Binary (binary.Word word.ShiftRightSigned) x y) (binary.Word word.ShiftRightSigned) (bits_in table x) (bits_in table y) last) settle
+    (every_binary IsNoClaim bare (Binary (binary.Word word.ShiftRightSigned) x y) (binary.Word word.ShiftRightSigned) (bits_in table x) (bits_in table y) last (λ at. tt)) settle
 binary_complete assignment values truth h (binary.Word word.Divide) x y p q s table last e sx sy all tx ty settle =
     let tests = and_parts (is_word p) (same_sort p q) (sort_if-some (is_word p && same_sort p q) p s e).0 in
     divided_complete assignment values truth h x y p q table last tests.0 tests.1 sx sy all tx ty settle
@@ -184,12 +184,12 @@ pub all_complete : (assignment : Assignment) (values : Valuation) → values 1 �
 unfolding Completes visit sort_of
 all_complete assignment values truth h (Leaf leaf) s e table last shows all =
     once_complete assignment values table (enter (Leaf leaf) table (atom_bits leaf)) last (is_there (Leaf leaf) table) all
-    (λ own. enter_complete assignment values (Leaf leaf) table (atom_bits leaf) last (bare_atom leaf last) own)
+    (λ own. enter_complete assignment values (Leaf leaf) table (atom_bits leaf) last (every_atom IsNoClaim bare leaf last (λ at. tt)) own)
 all_complete assignment values truth h (Unary operator x) s e table last shows all =
     let sorts = with_one-some (sort_of_unary operator) (sort_of x) s e in
     once_complete assignment values table (visit x table >>= λ t. enter (Unary operator x) t (unary_bits operator (bits_in t x))) last (is_there (Unary operator x) table) all
     (λ own. after_complete assignment values truth h x (all_complete assignment values truth h x) sorts.0 sorts.1 (λ t. enter (Unary operator x) t (unary_bits operator (bits_in t x))) table last shows own
-    (λ n1 e1 v1 a1. enter_complete assignment values (Unary operator x) n1 (unary_bits operator (bits_in n1 x)) e1 (bare_unary operator (bits_in n1 x) e1) a1))
+    (λ n1 e1 v1 a1. enter_complete assignment values (Unary operator x) n1 (unary_bits operator (bits_in n1 x)) e1 (every_unary IsNoClaim bare operator (bits_in n1 x) e1) a1))
 all_complete assignment values truth h (Binary operator x y) s e table last shows all =
     let sorts = with_two-some (sort_of_binary operator) (sort_of x) (sort_of y) s e in
     once_complete assignment values table (visit x table >>= λ t. visit y t >>= λ t. with_binary operator x y t) last (is_there (Binary operator x y) table) all
@@ -202,7 +202,7 @@ all_complete assignment values truth h (Ternary operator x y z) s e table last s
     (λ own. after_complete assignment values truth h x (all_complete assignment values truth h x) sorts.0 sorts.3 (λ t. visit y t >>= λ t. visit z t >>= λ t. enter (Ternary operator x y z) t (ternary_bits operator (bits_in t x) (bits_in t y) (bits_in t z))) table last shows own
     (λ n1 e1 v1 a1. after_complete assignment values truth h y (all_complete assignment values truth h y) sorts.1 sorts.4 (λ t. visit z t >>= λ t. enter (Ternary operator x y z) t (ternary_bits operator (bits_in t x) (bits_in t y) (bits_in t z))) n1 e1 v1.shows a1
     (λ n2 e2 v2 a2. after_complete assignment values truth h z (all_complete assignment values truth h z) sorts.2 sorts.5 (λ t. enter (Ternary operator x y z) t (ternary_bits operator (bits_in t x) (bits_in t y) (bits_in t z))) n2 e2 v2.shows a2
-    (λ n3 e3 v3 a3. enter_complete assignment values (Ternary operator x y z) n3 (ternary_bits operator (bits_in n3 x) (bits_in n3 y) (bits_in n3 z)) e3 (bare_ternary operator (bits_in n3 x) (bits_in n3 y) (bits_in n3 z) e3) a3))))
+    (λ n3 e3 v3 a3. enter_complete assignment values (Ternary operator x y z) n3 (ternary_bits operator (bits_in n3 x) (bits_in n3 y) (bits_in n3 z)) e3 (every_ternary IsNoClaim bare operator (bits_in n3 x) (bits_in n3 y) (bits_in n3 z) e3) a3))))
 all_complete assignment values truth h (Quaternary operator x y z k) s e table last shows all =
     let sorts = with_four-some (sort_of_quaternary operator) (sort_of x) (sort_of y) (sort_of z) (sort_of k) s e in
     once_complete assignment values table (visit x table >>= λ t. visit y t >>= λ t. visit z t >>= λ t. visit k t >>= λ t. enter (Quaternary operator x y z k) t (quaternary_bits operator (bits_in t x) (bits_in t y) (bits_in t z) (bits_in t k))) last (is_there (Quaternary operator x y z k) table) all
@@ -210,7 +210,7 @@ all_complete assignment values truth h (Quaternary operator x y z k) s e table l
     (λ n1 e1 v1 a1. after_complete assignment values truth h y (all_complete assignment values truth h y) sorts.1 sorts.5 (λ t. visit z t >>= λ t. visit k t >>= λ t. enter (Quaternary operator x y z k) t (quaternary_bits operator (bits_in t x) (bits_in t y) (bits_in t z) (bits_in t k))) n1 e1 v1.shows a1
     (λ n2 e2 v2 a2. after_complete assignment values truth h z (all_complete assignment values truth h z) sorts.2 sorts.6 (λ t. visit k t >>= λ t. enter (Quaternary operator x y z k) t (quaternary_bits operator (bits_in t x) (bits_in t y) (bits_in t z) (bits_in t k))) n2 e2 v2.shows a2
     (λ n3 e3 v3 a3. after_complete assignment values truth h k (all_complete assignment values truth h k) sorts.3 sorts.7 (λ t. enter (Quaternary operator x y z k) t (quaternary_bits operator (bits_in t x) (bits_in t y) (bits_in t z) (bits_in t k))) n3 e3 v3.shows a3
-    (λ n4 e4 v4 a4. enter_complete assignment values (Quaternary operator x y z k) n4 (quaternary_bits operator (bits_in n4 x) (bits_in n4 y) (bits_in n4 z) (bits_in n4 k)) e4 (bare_quaternary operator (bits_in n4 x) (bits_in n4 y) (bits_in n4 z) (bits_in n4 k) e4) a4)))))
+    (λ n4 e4 v4 a4. enter_complete assignment values (Quaternary operator x y z k) n4 (quaternary_bits operator (bits_in n4 x) (bits_in n4 y) (bits_in n4 z) (bits_in n4 k)) e4 (every_quaternary IsNoClaim bare operator (bits_in n4 x) (bits_in n4 y) (bits_in n4 z) (bits_in n4 k) e4) a4)))))
 all_complete assignment values truth h (Octonary t1 t2 t3 t4 t5 t6 t7 t8) s e table last shows all =
     let parts = sort_if-some (all_bytes (sort_of t1 ∷ sort_of t2 ∷ sort_of t3 ∷ sort_of t4 ∷ sort_of t5 ∷ sort_of t6 ∷ sort_of t7 ∷ sort_of t8 ∷ [])) (sort.Word W64) s e in
     let of1 = byte_parts (sort_of t1) (sort_of t2 ∷ sort_of t3 ∷ sort_of t4 ∷ sort_of t5 ∷ sort_of t6 ∷ sort_of t7 ∷ sort_of t8 ∷ []) parts.0 in

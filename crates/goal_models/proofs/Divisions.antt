@@ -20,7 +20,8 @@ use Rattle.blast_laws.proofs.Division.{whole_numbers}
 use Rattle.goal_laws.specs.Reads.{bit_of_value}
 use Rattle.goal_laws.proofs.Leaves.{one_more}
 use Rattle.goal_models.proofs.Settled.{AllSettle}
-use Rattle.goal_models.proofs.Bare.{bare_stand, settled_parts, stand_both, bare_or_all, bare_product, bare_sum, bare_equal, bare_less}
+use Rattle.goal_models.proofs.Every.{every_or_all, every_product, every_sum, every_equal, every_less}
+use Rattle.goal_models.proofs.Bare.{IsNoClaim, bare, bare_stand, settled_parts, stand_both}
 
 -- ---- bits by numbers
 
@@ -51,7 +52,7 @@ settled_number assignment values term width n place (suc count) last is all =
 
 -- ---- clauses that are met
 
-pub Met : Valuation → List Clause → Type 0
+unfoldable pub Met : Valuation → List Clause → Type 0
 Met values [] = Unit {0}
 Met values (clause ∷ clauses) = (is_met values clause ≡ true) × Met values clauses
 
@@ -60,7 +61,7 @@ unfolding Met
 claims_stand values last [] met = tt
 claims_stand values last (clause ∷ clauses) met = (met.0, claims_stand values last clauses met.1)
 
-by_first : (a b : Bool) → a ≡ true → (a || b) ≡ true
+pub by_first : (a b : Bool) → a ≡ true → (a || b) ≡ true
 by_first true b e = refl
 by_first false b e = cc
 
@@ -170,11 +171,11 @@ division_settles assignment values qs rs xs ys last truth long_q long_r long_y q
     let p3 = settled_parts assignment values second sum.gates (same.gates ++ (less.gates ++ claims rules)) p2.1 in
     let p4 = settled_parts assignment values third same.gates (less.gates ++ claims rules) p3.1 in
     let p5 = settled_parts assignment values fourth less.gates (claims rules) p4.1 in
-    let s1 = bare_stand assignment values last some.gates (bare_or_all ys last) p1.0 in
-    let s2 = bare_stand assignment values first product.gates (bare_product (twice_as_wide qs) (twice_as_wide ys) first) p2.0 in
-    let s3 = bare_stand assignment values second sum.gates (bare_sum product.out (twice_as_wide rs) none second) p3.0 in
-    let s4 = bare_stand assignment values third same.gates (bare_equal sum.out (twice_as_wide xs) third) p4.0 in
-    let s5 = bare_stand assignment values fourth less.gates (bare_less rs ys fourth) p5.0 in
+    let s1 = bare_stand assignment values last some.gates (every_or_all IsNoClaim bare ys last) p1.0 in
+    let s2 = bare_stand assignment values first product.gates (every_product IsNoClaim bare (twice_as_wide qs) (twice_as_wide ys) first) p2.0 in
+    let s3 = bare_stand assignment values second sum.gates (every_sum IsNoClaim bare product.out (twice_as_wide rs) none second) p3.0 in
+    let s4 = bare_stand assignment values third same.gates (every_equal IsNoClaim bare sum.out (twice_as_wide xs) third) p4.0 in
+    let s5 = bare_stand assignment values fourth less.gates (every_less IsNoClaim bare rs ys fourth) p5.0 in
     let x = number_of values xs in
     let y = number_of values ys in
     let whole = whole_numbers values qs rs xs ys first second truth long_q long_r long_y s2 s3 in

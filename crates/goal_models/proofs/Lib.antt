@@ -3,7 +3,7 @@ pub mod Circuits
 pub mod Goals
 pub mod Settled
 pub mod Settling
-pub mod Claims
+pub mod Every
 pub mod Bare
 pub mod Divisions
 pub mod Complete

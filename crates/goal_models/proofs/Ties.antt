@@ -20,25 +20,26 @@ use Rattle.blast_laws.proofs.Bitwise.{equal_stands}
 use Rattle.goal_laws.specs.Shows.{Shows, AllShow}
 use Rattle.goal_laws.proofs.Tables.{shown_there}
 use Rattle.goal_models.proofs.Settled.{AllSettle}
-use Rattle.goal_models.proofs.Bare.{bare_stand, settled_parts, stand_both, bare_equal}
-use Rattle.goal_models.proofs.Divisions.{same_head}
+use Rattle.goal_models.proofs.Every.{every_equal}
+use Rattle.goal_models.proofs.Bare.{IsNoClaim, bare, bare_stand, settled_parts, stand_both}
+use Rattle.goal_models.proofs.Divisions.{same_head, Met, claims_stand, by_first}
 use Rattle.goal_models.proofs.Loaded.{Loaded, AllLoaded}
 
 -- ---- what a load is worth
 
 -- the byte at an address of a memory
-byte_at : Value → (address : ℕ) → ℕ
+pub byte_at : Value → (address : ℕ) → ℕ
 byte_at (Bytes bytes) address = bytes (low_bits 32 address)
 byte_at (Truth truth) address = 0
 byte_at (Number width number) address = 0
 
 -- the address has 32 bits, and the byte has the 8 of the memory there
 pub record Means (values : Valuation) (assignment : Assignment) (load : Load) : Type 0 where
-  long_address : length load.address ≡ 32
-  long_byte : length load.byte ≡ 8
-  is : number_of values load.byte ≡ byte_at (value assignment load.memory) (number_of values load.address)
+  pub long_address : length load.address ≡ 32
+  pub long_byte : length load.byte ≡ 8
+  pub is : number_of values load.byte ≡ byte_at (value assignment load.memory) (number_of values load.address)
 
-pub AllMean : Valuation → Assignment → List Load → Type 0
+unfoldable pub AllMean : Valuation → Assignment → List Load → Type 0
 AllMean values assignment [] = Unit {0}
 AllMean values assignment (load ∷ loads) = Means values assignment load × AllMean values assignment loads
 
@@ -85,20 +86,6 @@ loads_mean values assignment h table ((Quaternary operator a b c d, found) ∷ e
 loads_mean values assignment h table ((Octonary a b c d e f g i, found) ∷ entries) all known shows = loads_mean values assignment h table entries all known.1 shows.1
 
 -- ---- clauses where addresses are equal
-
--- each of these clauses is met
-Met : Valuation → List Clause → Type 0
-Met values [] = Unit {0}
-Met values (clause ∷ clauses) = (is_met values clause ≡ true) × Met values clauses
-
-claims_stand : (values : Valuation) (last : ℕ) (clauses : List Clause) → Met values clauses → AllStand values last (claims clauses)
-unfolding Met
-claims_stand values last [] met = tt
-claims_stand values last (clause ∷ clauses) met = (met.0, claims_stand values last clauses met.1)
-
-by_first : (a b : Bool) → a ≡ true → (a || b) ≡ true
-by_first true b e = refl
-by_first false b e = cc
 
 first_rule : (s x y : Bool) → x ≡ y → (s || (not x || (y || false))) ≡ true
 first_rule true x y e = refl
@@ -183,7 +170,7 @@ tie_settles values assignment truth memory load (later ∷ loads) last e means a
     let rest = tie load loads second in
     let one = settled_parts assignment values last same.gates (claims rules ++ rest.gates) settle in
     let two = settled_parts assignment values first (claims rules) rest.gates one.1 in
-    let own = bare_stand assignment values last same.gates (bare_equal load.address later.address last) one.0 in
+    let own = bare_stand assignment values last same.gates (every_equal IsNoClaim bare load.address later.address last) one.0 in
     let compared = equal_stands values load.address later.address last (means.long_address ∙ sym all.1.long_address) truth own in
     let met =
     where_met values same.out load.byte later.byte (number_of values load.address == number_of values later.address) compared

@@ -23,7 +23,8 @@ use Rattle.goal_laws.specs.Reads.{Reads}
 use Rattle.goal_laws.proofs.Tables.{Visited, shown_there}
 use Rattle.goal_laws.proofs.Visits.{Takes, all_taken}
 use Rattle.goal_read.specs.Back.{read_back, TableLoadsFromVariables}
-use Rattle.goal_read.proofs.Silent.{NoReads, silent_reads, reads_both, silent-append, silent_new, silent_division, silent_unary, silent_binary, silent_ternary, silent_quaternary}
+use Rattle.goal_models.proofs.Every.{every-append, every_new, every_division, every_unary, every_binary, every_ternary, every_quaternary}
+use Rattle.goal_read.proofs.Silent.{IsSilent, NoReads, silent, silent_reads, reads_both}
 use Rattle.goal_read.proofs.Fronts.{Front, front_front, Growing, then_grows, binary_grows}
 use Rattle.goal_read.proofs.Reading.{is_assignment, Found, leaf_reads, load_reads}
 
@@ -72,9 +73,9 @@ divided_backs values whole x y table last =
     let second = last_of first rests.gates in
     let gates = division quotients.out rests.out xs (bits_in table y) second in
     silent_reads (read_back values whole) values last (quotients.gates ++ (rests.gates ++ (gates.gates ++ [])))
-    (silent-append quotients.gates (rests.gates ++ (gates.gates ++ [])) (silent_new (divide x y) 0 (length xs) last (λ e. cc))
-    (silent-append rests.gates (gates.gates ++ []) (silent_new (remainder x y) 0 (length xs) first (λ e. cc))
-    (silent-append gates.gates [] (silent_division quotients.out rests.out xs (bits_in table y) second) tt)))
+    (every-append IsSilent quotients.gates (rests.gates ++ (gates.gates ++ [])) (every_new IsSilent silent (divide x y) 0 (length xs) last (λ at e. cc))
+    (every-append IsSilent rests.gates (gates.gates ++ []) (every_new IsSilent silent (remainder x y) 0 (length xs) first (λ at e. cc))
+    (every-append IsSilent gates.gates [] (every_division IsSilent silent quotients.out rests.out xs (bits_in table y) second (λ clause. tt)) tt)))
 
 binary_backs : (values : Valuation) (whole : Table) → TableLoadsFromVariables whole → Found values whole
     → (operator : BinaryOperator) (x y : Term) (p q s : Sort) (table : Table) (last : ℕ) → sort_of_binary operator p q ≡ Some s
@@ -90,46 +91,46 @@ binary_backs values whole from known (binary.Word word.Divide) x y p q s table l
 binary_backs values whole from known (binary.Word word.Remainder) x y p q s table last e sx sy all there front = divided_backs values whole x y table last
 binary_backs values whole from known binary.And x y p q s table last e sx sy all there front =
     enter_backs values whole (Binary binary.And x y) table (binary_bits (Binary binary.And x y) binary.And (bits_in table x) (bits_in table y)) last
-    (silent_binary (Binary binary.And x y) binary.And (bits_in table x) (bits_in table y) last (λ e. cc))
+    (every_binary IsSilent silent (Binary binary.And x y) binary.And (bits_in table x) (bits_in table y) last (λ at e. cc))
 binary_backs values whole from known binary.Or x y p q s table last e sx sy all there front =
     enter_backs values whole (Binary binary.Or x y) table (binary_bits (Binary binary.Or x y) binary.Or (bits_in table x) (bits_in table y)) last
-    (silent_binary (Binary binary.Or x y) binary.Or (bits_in table x) (bits_in table y) last (λ e. cc))
+    (every_binary IsSilent silent (Binary binary.Or x y) binary.Or (bits_in table x) (bits_in table y) last (λ at e. cc))
 binary_backs values whole from known binary.Equal x y p q s table last e sx sy all there front =
     enter_backs values whole (Binary binary.Equal x y) table (binary_bits (Binary binary.Equal x y) binary.Equal (bits_in table x) (bits_in table y)) last
-    (silent_binary (Binary binary.Equal x y) binary.Equal (bits_in table x) (bits_in table y) last (λ e. cc))
+    (every_binary IsSilent silent (Binary binary.Equal x y) binary.Equal (bits_in table x) (bits_in table y) last (λ at e. cc))
 binary_backs values whole from known binary.Less x y p q s table last e sx sy all there front =
     enter_backs values whole (Binary binary.Less x y) table (binary_bits (Binary binary.Less x y) binary.Less (bits_in table x) (bits_in table y)) last
-    (silent_binary (Binary binary.Less x y) binary.Less (bits_in table x) (bits_in table y) last (λ e. cc))
+    (every_binary IsSilent silent (Binary binary.Less x y) binary.Less (bits_in table x) (bits_in table y) last (λ at e. cc))
 binary_backs values whole from known binary.Join x y p q s table last e sx sy all there front =
     enter_backs values whole (Binary binary.Join x y) table (binary_bits (Binary binary.Join x y) binary.Join (bits_in table x) (bits_in table y)) last
-    (silent_binary (Binary binary.Join x y) binary.Join (bits_in table x) (bits_in table y) last (λ e. cc))
+    (every_binary IsSilent silent (Binary binary.Join x y) binary.Join (bits_in table x) (bits_in table y) last (λ at e. cc))
 binary_backs values whole from known (binary.Word word.Add) x y p q s table last e sx sy all there front =
     enter_backs values whole (Binary (binary.Word word.Add) x y) table (binary_bits (Binary (binary.Word word.Add) x y) (binary.Word word.Add) (bits_in table x) (bits_in table y)) last
-    (silent_binary (Binary (binary.Word word.Add) x y) (binary.Word word.Add) (bits_in table x) (bits_in table y) last (λ e. cc))
+    (every_binary IsSilent silent (Binary (binary.Word word.Add) x y) (binary.Word word.Add) (bits_in table x) (bits_in table y) last (λ at e. cc))
 binary_backs values whole from known (binary.Word word.Subtract) x y p q s table last e sx sy all there front =
     enter_backs values whole (Binary (binary.Word word.Subtract) x y) table (binary_bits (Binary (binary.Word word.Subtract) x y) (binary.Word word.Subtract) (bits_in table x) (bits_in table y)) last
-    (silent_binary (Binary (binary.Word word.Subtract) x y) (binary.Word word.Subtract) (bits_in table x) (bits_in table y) last (λ e. cc))
+    (every_binary IsSilent silent (Binary (binary.Word word.Subtract) x y) (binary.Word word.Subtract) (bits_in table x) (bits_in table y) last (λ at e. cc))
 binary_backs values whole from known (binary.Word word.Multiply) x y p q s table last e sx sy all there front =
     enter_backs values whole (Binary (binary.Word word.Multiply) x y) table (binary_bits (Binary (binary.Word word.Multiply) x y) (binary.Word word.Multiply) (bits_in table x) (bits_in table y)) last
-    (silent_binary (Binary (binary.Word word.Multiply) x y) (binary.Word word.Multiply) (bits_in table x) (bits_in table y) last (λ e. cc))
+    (every_binary IsSilent silent (Binary (binary.Word word.Multiply) x y) (binary.Word word.Multiply) (bits_in table x) (bits_in table y) last (λ at e. cc))
 binary_backs values whole from known (binary.Word word.And) x y p q s table last e sx sy all there front =
     enter_backs values whole (Binary (binary.Word word.And) x y) table (binary_bits (Binary (binary.Word word.And) x y) (binary.Word word.And) (bits_in table x) (bits_in table y)) last
-    (silent_binary (Binary (binary.Word word.And) x y) (binary.Word word.And) (bits_in table x) (bits_in table y) last (λ e. cc))
+    (every_binary IsSilent silent (Binary (binary.Word word.And) x y) (binary.Word word.And) (bits_in table x) (bits_in table y) last (λ at e. cc))
 binary_backs values whole from known (binary.Word word.Or) x y p q s table last e sx sy all there front =
     enter_backs values whole (Binary (binary.Word word.Or) x y) table (binary_bits (Binary (binary.Word word.Or) x y) (binary.Word word.Or) (bits_in table x) (bits_in table y)) last
-    (silent_binary (Binary (binary.Word word.Or) x y) (binary.Word word.Or) (bits_in table x) (bits_in table y) last (λ e. cc))
+    (every_binary IsSilent silent (Binary (binary.Word word.Or) x y) (binary.Word word.Or) (bits_in table x) (bits_in table y) last (λ at e. cc))
 binary_backs values whole from known (binary.Word word.Xor) x y p q s table last e sx sy all there front =
     enter_backs values whole (Binary (binary.Word word.Xor) x y) table (binary_bits (Binary (binary.Word word.Xor) x y) (binary.Word word.Xor) (bits_in table x) (bits_in table y)) last
-    (silent_binary (Binary (binary.Word word.Xor) x y) (binary.Word word.Xor) (bits_in table x) (bits_in table y) last (λ e. cc))
+    (every_binary IsSilent silent (Binary (binary.Word word.Xor) x y) (binary.Word word.Xor) (bits_in table x) (bits_in table y) last (λ at e. cc))
 binary_backs values whole from known (binary.Word word.ShiftLeft) x y p q s table last e sx sy all there front =
     enter_backs values whole (Binary (binary.Word word.ShiftLeft) x y) table (binary_bits (Binary (binary.Word word.ShiftLeft) x y) (binary.Word word.ShiftLeft) (bits_in table x) (bits_in table y)) last
-    (silent_binary (Binary (binary.Word word.ShiftLeft) x y) (binary.Word word.ShiftLeft) (bits_in table x) (bits_in table y) last (λ e. cc))
+    (every_binary IsSilent silent (Binary (binary.Word word.ShiftLeft) x y) (binary.Word word.ShiftLeft) (bits_in table x) (bits_in table y) last (λ at e. cc))
 binary_backs values whole from known (binary.Word word.ShiftRight) x y p q s table last e sx sy all there front =
     enter_backs values whole (Binary (binary.Word word.ShiftRight) x y) table (binary_bits (Binary (binary.Word word.ShiftRight) x y) (binary.Word word.ShiftRight) (bits_in table x) (bits_in table y)) last
-    (silent_binary (Binary (binary.Word word.ShiftRight) x y) (binary.Word word.ShiftRight) (bits_in table x) (bits_in table y) last (λ e. cc))
+    (every_binary IsSilent silent (Binary (binary.Word word.ShiftRight) x y) (binary.Word word.ShiftRight) (bits_in table x) (bits_in table y) last (λ at e. cc))
 binary_backs values whole from known (binary.Word word.ShiftRightSigned) x y p q s table last e sx sy all there front =
     enter_backs values whole (Binary (binary.Word word.ShiftRightSigned) x y) table (binary_bits (Binary (binary.Word word.ShiftRightSigned) x y) (binary.Word word.ShiftRightSigned) (bits_in table x) (bits_in table y)) last
-    (silent_binary (Binary (binary.Word word.ShiftRightSigned) x y) (binary.Word word.ShiftRightSigned) (bits_in table x) (bits_in table y) last (λ e. cc))
+    (every_binary IsSilent silent (Binary (binary.Word word.ShiftRightSigned) x y) (binary.Word word.ShiftRightSigned) (bits_in table x) (bits_in table y) last (λ at e. cc))
 
 byte_parts : (o : Option Sort) (rest : List (Option Sort)) → all_bytes (o ∷ rest) ≡ true → (o ≡ Some (sort.Word W8)) × (all_bytes rest ≡ true)
 byte_parts (Some s) rest e = let parts = and_parts (is_byte s) (all_bytes rest) e in (ap Some (same_sort-true s (sort.Word W8) parts.0), parts.1)
@@ -145,7 +146,7 @@ all_back values whole truth from known (Unary operator x) s e table last shows f
     let g1 : Growing (λ t. enter (Unary operator x) t (unary_bits operator (bits_in t x))) = (λ table last. (_, refl)) in
     once_backs values whole (Unary operator x) table (visit x table >>= λ t. enter (Unary operator x) t (unary_bits operator (bits_in t x))) last (is_there (Unary operator x) table) refl front stand
     (λ new f0 a0. after_backs values whole truth x (all_back values whole truth from known x) sorts.0 sorts.1 (λ t. enter (Unary operator x) t (unary_bits operator (bits_in t x))) g1 table last shows f0 a0
-    (λ n1 e1 v1 f1 a1. enter_backs values whole (Unary operator x) n1 (unary_bits operator (bits_in n1 x)) e1 (silent_unary operator (bits_in n1 x) e1)))
+    (λ n1 e1 v1 f1 a1. enter_backs values whole (Unary operator x) n1 (unary_bits operator (bits_in n1 x)) e1 (every_unary IsSilent silent operator (bits_in n1 x) e1)))
 all_back values whole truth from known (Binary operator x y) s e table last shows front stand =
     let sorts = with_two-some (sort_of_binary operator) (sort_of x) (sort_of y) s e in
     let g2 : Growing (λ t. with_binary operator x y t) = binary_grows operator x y in
@@ -163,7 +164,7 @@ all_back values whole truth from known (Ternary operator x y z) s e table last s
     (λ new f0 a0. after_backs values whole truth x (all_back values whole truth from known x) sorts.0 sorts.3 (λ t. visit y t >>= λ t. visit z t >>= λ t. enter (Ternary operator x y z) t (ternary_bits operator (bits_in t x) (bits_in t y) (bits_in t z))) g1 table last shows f0 a0
     (λ n1 e1 v1 f1 a1. after_backs values whole truth y (all_back values whole truth from known y) sorts.1 sorts.4 (λ t. visit z t >>= λ t. enter (Ternary operator x y z) t (ternary_bits operator (bits_in t x) (bits_in t y) (bits_in t z))) g2 n1 e1 v1.shows f1 a1
     (λ n2 e2 v2 f2 a2. after_backs values whole truth z (all_back values whole truth from known z) sorts.2 sorts.5 (λ t. enter (Ternary operator x y z) t (ternary_bits operator (bits_in t x) (bits_in t y) (bits_in t z))) g3 n2 e2 v2.shows f2 a2
-    (λ n3 e3 v3 f3 a3. enter_backs values whole (Ternary operator x y z) n3 (ternary_bits operator (bits_in n3 x) (bits_in n3 y) (bits_in n3 z)) e3 (silent_ternary operator (bits_in n3 x) (bits_in n3 y) (bits_in n3 z) e3)))))
+    (λ n3 e3 v3 f3 a3. enter_backs values whole (Ternary operator x y z) n3 (ternary_bits operator (bits_in n3 x) (bits_in n3 y) (bits_in n3 z)) e3 (every_ternary IsSilent silent operator (bits_in n3 x) (bits_in n3 y) (bits_in n3 z) e3)))))
 all_back values whole truth from known (Quaternary operator x y z k) s e table last shows front stand =
     let sorts = with_four-some (sort_of_quaternary operator) (sort_of x) (sort_of y) (sort_of z) (sort_of k) s e in
     let g4 : Growing (λ t. enter (Quaternary operator x y z k) t (quaternary_bits operator (bits_in t x) (bits_in t y) (bits_in t z) (bits_in t k))) = (λ table last. (_, refl)) in
@@ -175,7 +176,7 @@ all_back values whole truth from known (Quaternary operator x y z k) s e table l
     (λ n1 e1 v1 f1 a1. after_backs values whole truth y (all_back values whole truth from known y) sorts.1 sorts.5 (λ t. visit z t >>= λ t. visit k t >>= λ t. enter (Quaternary operator x y z k) t (quaternary_bits operator (bits_in t x) (bits_in t y) (bits_in t z) (bits_in t k))) g2 n1 e1 v1.shows f1 a1
     (λ n2 e2 v2 f2 a2. after_backs values whole truth z (all_back values whole truth from known z) sorts.2 sorts.6 (λ t. visit k t >>= λ t. enter (Quaternary operator x y z k) t (quaternary_bits operator (bits_in t x) (bits_in t y) (bits_in t z) (bits_in t k))) g3 n2 e2 v2.shows f2 a2
     (λ n3 e3 v3 f3 a3. after_backs values whole truth k (all_back values whole truth from known k) sorts.3 sorts.7 (λ t. enter (Quaternary operator x y z k) t (quaternary_bits operator (bits_in t x) (bits_in t y) (bits_in t z) (bits_in t k))) g4 n3 e3 v3.shows f3 a3
-    (λ n4 e4 v4 f4 a4. enter_backs values whole (Quaternary operator x y z k) n4 (quaternary_bits operator (bits_in n4 x) (bits_in n4 y) (bits_in n4 z) (bits_in n4 k)) e4 (silent_quaternary operator (bits_in n4 x) (bits_in n4 y) (bits_in n4 z) (bits_in n4 k) e4))))))
+    (λ n4 e4 v4 f4 a4. enter_backs values whole (Quaternary operator x y z k) n4 (quaternary_bits operator (bits_in n4 x) (bits_in n4 y) (bits_in n4 z) (bits_in n4 k)) e4 (every_quaternary IsSilent silent operator (bits_in n4 x) (bits_in n4 y) (bits_in n4 z) (bits_in n4 k) e4))))))
 all_back values whole truth from known (Octonary t1 t2 t3 t4 t5 t6 t7 t8) s e table last shows front stand =
     let parts = sort_if-some (all_bytes (sort_of t1 ∷ sort_of t2 ∷ sort_of t3 ∷ sort_of t4 ∷ sort_of t5 ∷ sort_of t6 ∷ sort_of t7 ∷ sort_of t8 ∷ [])) (sort.Word W64) s e in
     let of1 = byte_parts (sort_of t1) (sort_of t2 ∷ sort_of t3 ∷ sort_of t4 ∷ sort_of t5 ∷ sort_of t6 ∷ sort_of t7 ∷ sort_of t8 ∷ []) parts.0 in
