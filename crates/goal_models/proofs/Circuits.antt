@@ -1,13 +1,13 @@
 -- Circuits name only variables made before them.
-use Rattle.std.proofs.Common.{◌≡◌, ◌≤◌, ◌<◌, ◌+◌, ◌-◌, ◌*◌, ℕ, zero, suc, Bool, true, false, List, [], ◌∷◌, ◌++◌, length, map, take, drop, replicate, refl, ap, sym, ◌∙◌, subst, arith}
+use Rattle.std.proofs.Common.{◌≡◌, ◌≤◌, ◌+◌, ◌-◌, ◌*◌, ℕ, zero, suc, Bool, true, false, List, [], ◌∷◌, ◌++◌, length, map, take, drop, replicate, refl, arith}
 use Rattle.std.specs.Prelude.{nat_lt, if◌then◌else◌}
 use Rattle.clause_spec.specs.declared.Literal.{Literal}
 use Rattle.clause_spec.specs.Clause.{Clause, negation}
 use Rattle.term_spec.specs.Term.{Term}
-use Rattle.blast_spec.specs.Gates.{Gate, Bit, Claim, next, last_of, literal_of, Made, Build, give, ◌>>=◌, make, claims, claim}
-use Rattle.blast_spec.specs.Circuits.{Bits, one, none, zeros, and_gate, or_gate, xor_gate, mux_gate, majority_gate, each, each_two, and_all, or_all, choose_bits, equal_bits, sum_bits, difference_bits, carry_bit, less_bit, and_each, add_rows, product_bits, moved_up, moved_down, shift_stages, shift_bits, sign_of, shift_signed_bits, new_bits, twice_as_wide, without_divisor, division}
-use Rattle.goal_models.specs.Named.{IsNamed, AreNamed, AllNamed, GateNames, GatesName, WellMade}
-use Rattle.goal_models.proofs.Made.{last_rises, still_named, still_all, names_negation, names_negations, names-append, names-take, names-drop, names-replicate, names_one, names_none, names_sign, then_made, give_made, TwoMade, and_made, xor_made, mux_made, majority_made, each_made, each_two_made, and_all_made, or_all_made}
+use Rattle.blast_spec.specs.Gates.{Bit, last_of, literal_of, give, ◌>>=◌, make, claims, claim}
+use Rattle.blast_spec.specs.Circuits.{Bits, one, none, zeros, and_gate, xor_gate, mux_gate, majority_gate, each, each_two, and_all, or_all, choose_bits, equal_bits, sum_bits, difference_bits, carry_bit, less_bit, and_each, add_rows, product_bits, moved_up, moved_down, shift_stages, shift_bits, sign_of, shift_signed_bits, new_bits, twice_as_wide, without_divisor, division}
+use Rattle.goal_models.specs.Named.{IsNamed, AreNamed, AllNamed, GatesName, WellMade}
+use Rattle.goal_models.proofs.Made.{still_named, still_all, names_negation, names_negations, names-append, names-take, names-drop, names-replicate, names_one, names_none, names_sign, then_made, give_made, TwoMade, and_made, xor_made, mux_made, majority_made, each_made, each_two_made, and_all_made, or_all_made}
 
 -- ---- equality, sums and comparison
 

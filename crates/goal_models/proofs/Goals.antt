@@ -1,8 +1,7 @@
 -- The gates of a goal name only variables made before them.
-use Rattle.std.proofs.Common.{◌≡◌, ◌≤◌, ◌<◌, ◌+◌, ◌-◌, ◌*◌, ℕ, zero, suc, Bool, true, false, List, [], ◌∷◌, ◌++◌, length, map, take, drop, replicate, Option, Some, None, refl, ap, sym, ◌∙◌, subst, arith}
+use Rattle.std.proofs.Common.{◌≡◌, ◌≤◌, ◌+◌, ◌-◌, ◌*◌, ℕ, zero, suc, Bool, true, false, List, [], ◌∷◌, ◌++◌, length, map, take, drop, replicate, Option, Some, refl, arith}
 use Rattle.std.specs.Prelude.{◌&&◌, nat_le, if◌then◌else◌, filter}
-use Rattle.std.specs.List.{find, list_all}
-use Rattle.std.proofs.lemmas.List.Folds.{list_all-append}
+use Rattle.std.specs.List.{list_all}
 use Rattle.clause_spec.specs.declared.Literal.{Literal}
 use Rattle.clause_spec.specs.Clause.{Clause, negation, is_of, are_of}
 use Rattle.term_spec.specs.declared.Atom.{Atom}
@@ -20,12 +19,12 @@ use Rattle.term_spec.specs.declared.QuaternaryOperator.TheVariants as quaternary
 use Rattle.term_spec.specs.Term.{Term, Leaf, Unary, Binary, Ternary, Quaternary, Octonary, divide, remainder}
 use Rattle.term_spec.specs.Sort.{bits}
 use Rattle.term_spec.specs.Same.{same_term}
-use Rattle.blast_spec.specs.Gates.{Gate, Truth, Bit, And, Xor, Mux, Majority, Claim, gate_clauses, next, last_of, literal_of, clauses_from, Made, Build, give, ◌>>=◌, make, claims, claim}
-use Rattle.blast_spec.specs.Circuits.{Bits, one, none, zeros, and_gate, or_gate, xor_gate, each_two, choose_bits, equal_bits, sum_bits, difference_bits, less_bit, product_bits, moved_up, moved_down, shift_bits, shift_signed_bits, sign_of, new_bits, division}
-use Rattle.blast_spec.specs.Goal.{single, bit_of, known, known_bits, size_of, atom_bits, unary_bits, word_bits, binary_bits, ternary_bits, quaternary_bits, Table, entry_of, is_there, found_bits, bits_in, enter, divided, with_binary, once, visit, Load, with_load, loads_of, equal_where, tie, tie_all, is_of_memory, memories_of, tie_memories, goal_gates, cnf_of}
+use Rattle.blast_spec.specs.Gates.{Gate, Truth, Bit, And, Xor, Mux, Majority, Claim, gate_clauses, next, last_of, literal_of, clauses_from, Build, give, ◌>>=◌, make, claims, claim}
+use Rattle.blast_spec.specs.Circuits.{Bits, none, zeros, and_gate, or_gate, xor_gate, equal_bits, less_bit, moved_up, moved_down, sign_of, new_bits, division}
+use Rattle.blast_spec.specs.Goal.{single, bit_of, known, known_bits, size_of, atom_bits, unary_bits, word_bits, binary_bits, ternary_bits, quaternary_bits, Table, entry_of, is_there, found_bits, bits_in, enter, divided, with_binary, visit, Load, with_load, loads_of, equal_where, tie, tie_all, is_of_memory, memories_of, tie_memories, goal_gates, cnf_of}
 use Rattle.goal_models.specs.Named.{IsNamed, AreNamed, AllNamed, GateNames, GatesName, WellMade, TableNames}
 use Rattle.goal_models.proofs.Made.{last_rises, still_named, still_all, names_negation, names_negations, names-append, names-take, names-drop, names-replicate, names_one, names_none, names_sign, then_made, give_made, TwoMade, and_made, or_made, xor_made, each_two_made}
-use Rattle.goal_models.proofs.Circuits.{equal_made, sum_made, less_made, difference_made, choose_made, product_made, shift_made, keeps_up, keeps_down, shift_signed_made, new_made, claims_named, claim_made, division_made}
+use Rattle.goal_models.proofs.Circuits.{equal_made, sum_made, less_made, difference_made, choose_made, product_made, shift_made, keeps_up, keeps_down, shift_signed_made, new_made, claim_made, division_made}
 
 -- ---- operators
 

@@ -1,12 +1,10 @@
 -- What is made one after the other.
-use Rattle.std.proofs.Common.{◌≡◌, ◌≤◌, ◌<◌, ◌+◌, ◌-◌, ◌*◌, ℕ, zero, suc, Bool, true, false, List, [], ◌∷◌, ◌++◌, length, map, take, drop, replicate, refl, ap, sym, ◌∙◌, subst, arith}
-use Rattle.std.specs.Prelude.{nat_lt, if◌then◌else◌}
+use Rattle.std.proofs.Common.{◌≡◌, ◌≤◌, ◌+◌, ℕ, zero, suc, List, [], ◌∷◌, ◌++◌, map, take, drop, replicate, refl, sym, subst, arith}
 use Rattle.clause_spec.specs.declared.Literal.{Literal}
-use Rattle.clause_spec.specs.Clause.{Clause, negation}
-use Rattle.term_spec.specs.Term.{Term}
-use Rattle.blast_spec.specs.Gates.{Gate, Truth, Bit, And, Xor, Mux, Majority, Claim, next, last_of, literal_of, Made, Build, behind, give, ◌>>=◌, make, claims, claim}
-use Rattle.blast_spec.specs.Circuits.{Bits, one, none, zeros, and_gate, or_gate, xor_gate, mux_gate, majority_gate, each, each_two, fold_gates, and_all, or_all, choose_bits, equal_bits, sum_bits, difference_bits, carry_bit, less_bit, and_each, add_rows, product_bits, moved_up, moved_down, shift_stages, shift_bits, sign_of, shift_signed_bits, new_bits, twice_as_wide, without_divisor, division}
-use Rattle.goal_models.specs.Named.{IsNamed, AreNamed, AllNamed, GateNames, GatesName, WellMade}
+use Rattle.clause_spec.specs.Clause.{negation}
+use Rattle.blast_spec.specs.Gates.{Gate, Truth, Bit, And, Xor, Mux, Majority, Claim, next, last_of, literal_of, Build, give, ◌>>=◌}
+use Rattle.blast_spec.specs.Circuits.{Bits, one, none, and_gate, or_gate, xor_gate, mux_gate, majority_gate, each, each_two, fold_gates, and_all, or_all, sign_of}
+use Rattle.goal_models.specs.Named.{IsNamed, AreNamed, GatesName, WellMade}
 
 -- ---- names stay
 

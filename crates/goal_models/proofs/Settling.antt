@@ -1,11 +1,11 @@
 -- Gates that name earlier variables alone settle one after the other.
-use Rattle.std.proofs.Common.{◌≡◌, ◌≤◌, ◌<◌, ◌+◌, ℕ, Bool, true, false, List, [], ◌∷◌, refl, ap, sym, ◌∙◌, subst, arith}
+use Rattle.std.proofs.Common.{◌≡◌, ◌≤◌, ◌<◌, ◌+◌, ℕ, Bool, true, false, List, [], ◌∷◌, refl, ap, sym, ◌∙◌, arith}
 use Rattle.std.specs.Prelude.{◌==◌, ◌&&◌, not, if◌then◌else◌}
 use Rattle.clause_spec.specs.declared.Literal.{Literal}
 use Rattle.clause_spec.specs.Clause.{Valuation, holds}
 use Rattle.term_spec.specs.Value.{Assignment, value}
 use Rattle.blast_spec.specs.Gates.{Gate, Truth, Bit, And, Xor, Mux, Majority, Claim, next}
-use Rattle.blast_laws.specs.Meaning.{differ, majority, Stands}
+use Rattle.blast_laws.specs.Meaning.{differ, majority}
 use Rattle.goal_laws.specs.Reads.{bit_of_value}
 use Rattle.goal_models.specs.Named.{IsNamed, GateNames, GatesName}
 use Rattle.goal_models.proofs.Settled.{with_value, given, settled, Settles, AllSettle}

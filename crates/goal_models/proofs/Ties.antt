@@ -2,7 +2,7 @@
 use Rattle.std.proofs.Common.{◌≡◌, ℕ, Bool, true, false, List, [], ◌∷◌, ◌++◌, length, refl, ap, sym, ◌∙◌, arith}
 use Rattle.std.specs.Prelude.{◌==◌, ◌||◌, not, if◌then◌else◌, filter}
 use Rattle.clause_spec.specs.declared.Literal.{Literal}
-use Rattle.clause_spec.specs.Clause.{Clause, Valuation, holds, is_met, negation}
+use Rattle.clause_spec.specs.Clause.{Valuation, holds, negation}
 use Rattle.term_spec.specs.declared.Width.TheVariants.{W32}
 use Rattle.term_spec.specs.declared.Sort.TheVariants as sort
 use Rattle.term_spec.specs.declared.BinaryOperator.TheVariants as binary
