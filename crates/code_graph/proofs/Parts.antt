@@ -52,7 +52,3 @@ module _ (f : Setting) (address : ℕ) (i : Instr) where
   pub stop_block : block f (record { address = address; form = i; flow = Stops }) ≡ Basic [] next.Err ∷ []
   unfolding nodes_at chain tests_of ending_of landing_of
   stop_block = refl
-
-pub test_of_branch : (test : BranchTest) (left right : ℕ) (offset : ℤ) → branch_test (Branch test left right offset) ≡ taken test (operand left) (operand right)
-unfolding branch_test
-test_of_branch test left right offset = refl

@@ -8,7 +8,7 @@ use Rattle.std.proofs.lemmas.Option.{same_Some}
 use Rattle.std.proofs.lemmas.List.Elements.{All-head, All-tail}
 use Rattle.rv_instr.specs.declared.Instr.{Instr}
 use Rattle.elf_spec.specs.Image.{Image, size_at}
-use Rattle.elf_spec.specs.Runs.{Run, AreRuns}
+use Rattle.elf_spec.specs.Runs.{Run}
 use Rattle.elf_read.specs.declared.parts.Extent.{Extent}
 use Rattle.code_spec.specs.Code.{InRange, Flow, Falls, Branches, Jumps, Calls, Leads, Returns, Stops, flow_of, instr_at, flow_at, IsReachable}
 use Rattle.code_spec.specs.Faults.{HasNoFault, goes_to}
@@ -24,6 +24,7 @@ use Rattle.code_graph.specs.Answer.{first_in, setting, IsFunctionGraph}
 use Rattle.code_graph.specs.Counts.{numbered}
 use Rattle.code_graph.specs.Settings.{run_of, blanked, HaveExtents, Stays}
 use Rattle.code_graph.proofs.Blanks.{blank_setting, same_laid}
+use Rattle.code_graph.proofs.Rising.{one_list}
 use Rattle.code_graph.proofs.Numbered.{key, same_keys, keys-numbered, are_numbered, are_first_nodes}
 
 -- ---- nothing jumps out of the range
@@ -124,6 +125,7 @@ module _ (image : Image) (entry size : ℕ) (entries : List ℕ) (items : List I
     size = size;
     size_is = size_is;
     runs = have.runs;
+    only_runs = λ others are_too. one_list image others have.runs are_too have.are_runs;
     sound = sound;
     graph_is = is_graph layout;
     firsts_are = are_first_nodes image own (length extents) items firsts are numbers (λ address index. refl);

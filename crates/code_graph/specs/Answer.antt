@@ -3,7 +3,7 @@ use Rattle.std.specs.Prelude.{◌≡◌, ◌==◌, ℕ, List, Some, nat_eq, unwr
 use Rattle.std.specs.List.{position_or_len}
 use Rattle.std.specs.Map.{lookup}
 use Rattle.elf_spec.specs.Image.{Image, size_at}
-use Rattle.elf_spec.specs.Runs.{Run}
+use Rattle.elf_spec.specs.Runs.{Run, AreRuns}
 use Rattle.code_spec.specs.Faults.{HasNoFault}
 use Rattle.graph_spec.specs.Graph.{Graph, IsValid}
 use Rattle.code_graph_spec.specs.Blocks.{Setting}
@@ -28,12 +28,13 @@ setting entry size runs entries firsts = record {
   at = numbers_by (first_in firsts);
 }
 
--- the function at an entry has no fault; this is its graph, whose stores meet none of the runs of fixed bytes, and
--- these are the first nodes of its instructions
+-- the function at an entry has no fault; this is its graph, whose stores avoid these runs of fixed bytes, the only list
+-- of all of the file's, and these are the first nodes of its instructions
 pub record IsFunctionGraph (image : Image) (entry : ℕ) (entries : List ℕ) (graph : Graph) (firsts : List (ℕ × ℕ)) : Type 0 where
   pub size : ℕ
   pub size_is : size_at image entry ≡ Some size
   pub runs : List Run
+  pub only_runs : (others : List Run) → AreRuns image others → others ≡ runs
   pub sound : HasNoFault image entry size
   pub graph_is : IsCodeGraph image (setting entry size runs entries firsts) graph
   pub firsts_are : AreFirstNodes image (setting entry size runs entries firsts) firsts
