@@ -9,7 +9,7 @@ use Rattle.c_grammar_spec.specs.Leaves.{plain, awaited, opens}
 use Rattle.exact_read.specs.Reading.{Outcome, Reader}
 use Rattle.exact_read.specs.Grammar.{bind, context_after, read_many, read_map}
 use Rattle.read_loop.specs.Going.{begins, Going}
-use Rattle.read_loop.proofs.Loops.{bind-ok, bind-bind, going-start, going-step, going-end}
+use Rattle.read_loop.proofs.Loops.{bind-ok, bind-bind, going-start, going-step, going-end, map-ok, map-err}
 use Rattle.c_expression_reader.specs.Classes.{is_mark, mark_place}
 use Rattle.c_expression_reader.specs.Readers.{Readers, token, behind, choose, next_is}
 use Rattle.c_unit_reader.specs.Initializers as initializers
@@ -52,9 +52,19 @@ initials_close place parts after =
 pub Initials : (names : List (List ℕ)) → (inner : Readers) → (depth : ℕ) → (initial : Reader Placed Role (Option tree.Expression)) → (whole : Outcome Placed Role (Unit {0})) → Place → List Placed → Type 0
 Initials names inner depth initial whole place rest = Going (initials_start names) (read_initials_part inner depth initial) next_place whole (initials_close place) place rest
 
-pub initials-start : (names : List (List ℕ)) (inner : Readers) (depth : ℕ) (initial : Reader Placed Role (Option tree.Expression)) (last : Option tree.Expression) (tokens : List Placed) → Initials names inner depth initial (read_initials_behind names inner depth initial last tokens) (BehindInitial last) tokens
+-- they are, and this is awaited behind the last of them
+pub record Awaiting (names : List (List ℕ)) (inner : Readers) (depth : ℕ) (initial : Reader Placed Role (Option tree.Expression)) (whole : Outcome Placed Role (Unit {0})) (end : Role) (rest : List Placed) : Type 0 where
+  pub last : Option tree.Expression
+  pub same : end ≡ end_of_initial last
+  pub going : Initials names inner depth initial whole (BehindInitial last) rest
+
+-- they are, and a `,` stands before
+pub record AfterComma (names : List (List ℕ)) (inner : Readers) (depth : ℕ) (initial : Reader Placed Role (Option tree.Expression)) (whole : Outcome Placed Role (Unit {0})) (rest : List Placed) : Type 0 where
+  pub going : Initials names inner depth initial whole BehindComma rest
+
+pub initials-start : (names : List (List ℕ)) (inner : Readers) (depth : ℕ) (initial : Reader Placed Role (Option tree.Expression)) (last : Option tree.Expression) (end : Role) (tokens : List Placed) → end ≡ end_of_initial last → Awaiting names inner depth initial (read_initials_behind names inner depth initial last tokens) end tokens
 unfolding Initials
-initials-start names inner depth initial last tokens = going-start
+initials-start names inner depth initial last end tokens same = record { last = last; same = same; going = going-start }
 
 begins-comma : (names : List (List ℕ)) (last : Option tree.Expression) (tokens : List Placed) → begins (initials_start names) (BehindInitial last) tokens ≡ next_is (is_mark punctuator.Comma) tokens
 begins-comma names last [] = refl
@@ -64,66 +74,61 @@ begins-initial : (names : List (List ℕ)) (tokens : List Placed) → begins (in
 begins-initial names [] = refl
 begins-initial names (token ∷ more) = refl
 
-pub initials-comma : (names : List (List ℕ)) (inner : Readers) (depth : ℕ) (initial : Reader Placed Role (Option tree.Expression)) (whole : Outcome Placed Role (Unit {0})) (last : Option tree.Expression) (role : Role) (place : ℕ) (tokens rest : List Placed) → role ≡ end_of_initial last → Initials names inner depth initial whole (BehindInitial last) tokens
-    → next_is (is_mark punctuator.Comma) tokens ≡ true → token role (awaited role) (mark_place punctuator.Comma) tokens ≡ Ok (place, rest) → length rest < length tokens → Initials names inner depth initial whole BehindComma rest
+pub initials-comma : {names : List (List ℕ)} {inner : Readers} {depth : ℕ} {initial : Reader Placed Role (Option tree.Expression)} {whole : Outcome Placed Role (Unit {0})} {end : Role} {place : ℕ} {tokens rest : List Placed} → Awaiting names inner depth initial whole end tokens → next_is (is_mark punctuator.Comma) tokens ≡ true → token end (awaited end) (mark_place punctuator.Comma) tokens ≡ Ok (place, rest) → length rest < length tokens → AfterComma names inner depth initial whole rest
 unfolding Initials
-initials-comma names inner depth initial whole last role place tokens rest same going was e less =
-    let comma : token (end_of_initial last) (awaited (end_of_initial last)) (mark_place punctuator.Comma) tokens ≡ Ok (place, rest) = subst (λ r. token r (awaited r) (mark_place punctuator.Comma) tokens ≡ Ok (place, rest)) same e in
-    going-step going (begins-comma names last tokens ∙ was) None rest (bind-ok (token (end_of_initial last) (awaited (end_of_initial last)) (mark_place punctuator.Comma) tokens) (λ _ after. Ok (None, after)) place rest comma) less
+initials-comma {names} {inner} {depth} {initial} {whole} {end} {place} {tokens} {rest} a was e less =
+    let comma : token (end_of_initial a.last) (awaited (end_of_initial a.last)) (mark_place punctuator.Comma) tokens ≡ Ok (place, rest) = subst (λ r. token r (awaited r) (mark_place punctuator.Comma) tokens ≡ Ok (place, rest)) a.same e in
+    record { going = going-step a.going (begins-comma names a.last tokens ∙ was) None rest (bind-ok (token (end_of_initial a.last) (awaited (end_of_initial a.last)) (mark_place punctuator.Comma) tokens) (λ _ after. Ok (None, after)) place rest comma) less }
 
-pub initials-comma_error : (names : List (List ℕ)) (inner : Readers) (depth : ℕ) (initial : Reader Placed Role (Option tree.Expression)) (whole : Outcome Placed Role (Unit {0})) (last : Option tree.Expression) (role : Role) (tokens : List Placed) (error : ParseError) → role ≡ end_of_initial last → Initials names inner depth initial whole (BehindInitial last) tokens
-    → next_is (is_mark punctuator.Comma) tokens ≡ true → IsErrorOf (token role (awaited role) (mark_place punctuator.Comma) tokens) error → IsErrorOf whole error
+pub initials-comma_error : {names : List (List ℕ)} {inner : Readers} {depth : ℕ} {initial : Reader Placed Role (Option tree.Expression)} {whole : Outcome Placed Role (Unit {0})} {end : Role} {tokens : List Placed} (error : ParseError) → Awaiting names inner depth initial whole end tokens → next_is (is_mark punctuator.Comma) tokens ≡ true → IsErrorOf (token end (awaited end) (mark_place punctuator.Comma) tokens) error → IsErrorOf whole error
 unfolding Initials
-initials-comma_error names inner depth initial whole last role tokens error same going was g =
-    let h : IsErrorOf (token (end_of_initial last) (awaited (end_of_initial last)) (mark_place punctuator.Comma) tokens) error = subst (λ r. IsErrorOf (token r (awaited r) (mark_place punctuator.Comma) tokens) error) same g in
-    going-error going (begins-comma names last tokens ∙ was) error
-    (error-from (token (end_of_initial last) (awaited (end_of_initial last)) (mark_place punctuator.Comma) tokens) (read_initials_part inner depth initial (BehindInitial last) tokens) error (λ fault e. ap (λ o. bind {Y = Option (Option tree.Expression)} o (λ _ after. Ok (None, after))) e) h)
+initials-comma_error {names} {inner} {depth} {initial} {whole} {end} {tokens} error a was g =
+    let h : IsErrorOf (token (end_of_initial a.last) (awaited (end_of_initial a.last)) (mark_place punctuator.Comma) tokens) error = subst (λ r. IsErrorOf (token r (awaited r) (mark_place punctuator.Comma) tokens) error) a.same g in
+    going-error a.going (begins-comma names a.last tokens ∙ was) error
+    (error-from (token (end_of_initial a.last) (awaited (end_of_initial a.last)) (mark_place punctuator.Comma) tokens) (read_initials_part inner depth initial (BehindInitial a.last) tokens) error (λ fault e. ap (λ o. bind {Y = Option (Option tree.Expression)} o (λ _ after. Ok (None, after))) e) h)
 
-pub initials-step : (names : List (List ℕ)) (inner : Readers) (depth : ℕ) (initial : Reader Placed Role (Option tree.Expression)) (whole : Outcome Placed Role (Unit {0})) (last : Option tree.Expression) (tokens rest : List Placed) → Initials names inner depth initial whole BehindComma tokens
-    → next_is (begins_initial names) tokens ≡ true → read_designated inner depth initial tokens ≡ Ok (last, rest) → length rest < length tokens → Initials names inner depth initial whole (BehindInitial last) rest
+pub initials-step : {names : List (List ℕ)} {inner : Readers} {depth : ℕ} {initial : Reader Placed Role (Option tree.Expression)} {whole : Outcome Placed Role (Unit {0})} {end : Role} {tokens rest : List Placed} → AfterComma names inner depth initial whole tokens → next_is (begins_initial names) tokens ≡ true → read_map end_of_initial (read_designated inner depth initial) tokens ≡ Ok (end, rest) → length rest < length tokens → Awaiting names inner depth initial whole end rest
 unfolding Initials
-initials-step names inner depth initial whole last tokens rest going was e less =
-    going-step going (begins-initial names tokens ∙ was) (Some last) rest (bind-ok (read_designated inner depth initial tokens) (λ x after. Ok (Some x, after)) last rest e) less
+initials-step {names} {inner} {depth} {initial} {whole} {end} {tokens} {rest} b was e less =
+    let m = map-ok end_of_initial (read_designated inner depth initial) tokens end rest e in
+    record {
+      last = m.0;
+      same = sym m.2;
+      going = going-step b.going (begins-initial names tokens ∙ was) (Some m.0) rest (bind-ok (read_designated inner depth initial tokens) (λ x after. Ok (Some x, after)) m.0 rest m.1) less;
+    }
 
-pub initials-error : (names : List (List ℕ)) (inner : Readers) (depth : ℕ) (initial : Reader Placed Role (Option tree.Expression)) (whole : Outcome Placed Role (Unit {0})) (tokens : List Placed) (error : ParseError) → Initials names inner depth initial whole BehindComma tokens
-    → next_is (begins_initial names) tokens ≡ true → IsErrorOf (read_designated inner depth initial tokens) error → IsErrorOf whole error
+pub initials-error : {names : List (List ℕ)} {inner : Readers} {depth : ℕ} {initial : Reader Placed Role (Option tree.Expression)} {whole : Outcome Placed Role (Unit {0})} {tokens : List Placed} (error : ParseError) → AfterComma names inner depth initial whole tokens → next_is (begins_initial names) tokens ≡ true → IsErrorOf (read_map end_of_initial (read_designated inner depth initial) tokens) error → IsErrorOf whole error
 unfolding Initials
-initials-error names inner depth initial whole tokens error going was h =
-    going-error going (begins-initial names tokens ∙ was) error
-    (error-from (read_designated inner depth initial tokens) (read_initials_part inner depth initial BehindComma tokens) error (λ fault e. ap (λ o. bind {Y = Option (Option tree.Expression)} o (λ x after. Ok (Some x, after))) e) h)
+initials-error {names} {inner} {depth} {initial} {whole} {tokens} error b was h =
+    going-error b.going (begins-initial names tokens ∙ was) error
+    (error-from (read_map end_of_initial (read_designated inner depth initial) tokens) (read_initials_part inner depth initial BehindComma tokens) error (λ fault e. ap (λ o. bind {Y = Option (Option tree.Expression)} o (λ x after. Ok (Some x, after))) (map-err end_of_initial (read_designated inner depth initial) tokens fault e)) h)
 
 -- the list ends behind a value
-ended : (names : List (List ℕ)) (inner : Readers) (depth : ℕ) (initial : Reader Placed Role (Option tree.Expression)) (whole : Outcome Placed Role (Unit {0})) (last : Option tree.Expression) (tokens : List Placed) → Initials names inner depth initial whole (BehindInitial last) tokens → next_is (is_mark punctuator.Comma) tokens ≡ false
-    → whole ≡ bind (token (end_of_initial last) (awaited (end_of_initial last)) (mark_place punctuator.RightBrace) tokens) (λ _ rest. Ok (tt {0}, rest))
+ended : {names : List (List ℕ)} {inner : Readers} {depth : ℕ} {initial : Reader Placed Role (Option tree.Expression)} {whole : Outcome Placed Role (Unit {0})} {end : Role} {tokens : List Placed} → (a : Awaiting names inner depth initial whole end tokens) → next_is (is_mark punctuator.Comma) tokens ≡ false → whole ≡ bind (token (end_of_initial a.last) (awaited (end_of_initial a.last)) (mark_place punctuator.RightBrace) tokens) (λ _ rest. Ok (tt {0}, rest))
 unfolding Initials
-ended names inner depth initial whole last tokens going ends = going-end going (begins-comma names last tokens ∙ ends)
+ended {names} {inner} {depth} {initial} {whole} {end} {tokens} a ends = going-end a.going (begins-comma names a.last tokens ∙ ends)
 
-pub initials-end : (names : List (List ℕ)) (inner : Readers) (depth : ℕ) (initial : Reader Placed Role (Option tree.Expression)) (whole : Outcome Placed Role (Unit {0})) (last : Option tree.Expression) (role : Role) (place : ℕ) (tokens rest : List Placed) → role ≡ end_of_initial last → Initials names inner depth initial whole (BehindInitial last) tokens → next_is (is_mark punctuator.Comma) tokens ≡ false
-    → token role (awaited role) (mark_place punctuator.RightBrace) tokens ≡ Ok (place, rest) → whole ≡ Ok (tt {0}, rest)
-initials-end names inner depth initial whole last role place tokens rest same going ends e =
-    let close : token (end_of_initial last) (awaited (end_of_initial last)) (mark_place punctuator.RightBrace) tokens ≡ Ok (place, rest) = subst (λ r. token r (awaited r) (mark_place punctuator.RightBrace) tokens ≡ Ok (place, rest)) same e in
-    ended names inner depth initial whole last tokens going ends ∙ bind-ok (token (end_of_initial last) (awaited (end_of_initial last)) (mark_place punctuator.RightBrace) tokens) (λ _ after. Ok (tt {0}, after)) place rest close
+pub initials-end : {names : List (List ℕ)} {inner : Readers} {depth : ℕ} {initial : Reader Placed Role (Option tree.Expression)} {whole : Outcome Placed Role (Unit {0})} {end : Role} {place : ℕ} {tokens rest : List Placed} → Awaiting names inner depth initial whole end tokens → next_is (is_mark punctuator.Comma) tokens ≡ false → token end (awaited end) (mark_place punctuator.RightBrace) tokens ≡ Ok (place, rest) → whole ≡ Ok (tt {0}, rest)
+initials-end {names} {inner} {depth} {initial} {whole} {end} {place} {tokens} {rest} a ends e =
+    let close : token (end_of_initial a.last) (awaited (end_of_initial a.last)) (mark_place punctuator.RightBrace) tokens ≡ Ok (place, rest) = subst (λ r. token r (awaited r) (mark_place punctuator.RightBrace) tokens ≡ Ok (place, rest)) a.same e in
+    ended a ends ∙ bind-ok (token (end_of_initial a.last) (awaited (end_of_initial a.last)) (mark_place punctuator.RightBrace) tokens) (λ _ after. Ok (tt {0}, after)) place rest close
 
-pub initials-unclosed : (names : List (List ℕ)) (inner : Readers) (depth : ℕ) (initial : Reader Placed Role (Option tree.Expression)) (whole : Outcome Placed Role (Unit {0})) (last : Option tree.Expression) (role : Role) (tokens : List Placed) (error : ParseError) → role ≡ end_of_initial last → Initials names inner depth initial whole (BehindInitial last) tokens → next_is (is_mark punctuator.Comma) tokens ≡ false
-    → IsErrorOf (token role (awaited role) (mark_place punctuator.RightBrace) tokens) error → IsErrorOf whole error
-initials-unclosed names inner depth initial whole last role tokens error same going ends g =
-    let h : IsErrorOf (token (end_of_initial last) (awaited (end_of_initial last)) (mark_place punctuator.RightBrace) tokens) error = subst (λ r. IsErrorOf (token r (awaited r) (mark_place punctuator.RightBrace) tokens) error) same g in
-    error-from (token (end_of_initial last) (awaited (end_of_initial last)) (mark_place punctuator.RightBrace) tokens) whole error (λ fault e. ended names inner depth initial whole last tokens going ends ∙ ap (λ o. bind o (λ _ after. Ok (tt {0}, after))) e) h
+pub initials-unclosed : {names : List (List ℕ)} {inner : Readers} {depth : ℕ} {initial : Reader Placed Role (Option tree.Expression)} {whole : Outcome Placed Role (Unit {0})} {end : Role} {tokens : List Placed} (error : ParseError) → Awaiting names inner depth initial whole end tokens → next_is (is_mark punctuator.Comma) tokens ≡ false → IsErrorOf (token end (awaited end) (mark_place punctuator.RightBrace) tokens) error → IsErrorOf whole error
+initials-unclosed {names} {inner} {depth} {initial} {whole} {end} {tokens} error a ends g =
+    let h : IsErrorOf (token (end_of_initial a.last) (awaited (end_of_initial a.last)) (mark_place punctuator.RightBrace) tokens) error = subst (λ r. IsErrorOf (token r (awaited r) (mark_place punctuator.RightBrace) tokens) error) a.same g in
+    error-from (token (end_of_initial a.last) (awaited (end_of_initial a.last)) (mark_place punctuator.RightBrace) tokens) whole error (λ fault e. ended a ends ∙ ap (λ o. bind o (λ _ after. Ok (tt {0}, after))) e) h
 
 -- the list ends behind a `,`
-ended_comma : (names : List (List ℕ)) (inner : Readers) (depth : ℕ) (initial : Reader Placed Role (Option tree.Expression)) (whole : Outcome Placed Role (Unit {0})) (tokens : List Placed) → Initials names inner depth initial whole BehindComma tokens → next_is (begins_initial names) tokens ≡ false
-    → whole ≡ bind (token Nothing (awaited Nothing) (mark_place punctuator.RightBrace) tokens) (λ _ rest. Ok (tt {0}, rest))
+ended_comma : {names : List (List ℕ)} {inner : Readers} {depth : ℕ} {initial : Reader Placed Role (Option tree.Expression)} {whole : Outcome Placed Role (Unit {0})} {tokens : List Placed} → AfterComma names inner depth initial whole tokens → next_is (begins_initial names) tokens ≡ false → whole ≡ bind (token Nothing (awaited Nothing) (mark_place punctuator.RightBrace) tokens) (λ _ rest. Ok (tt {0}, rest))
 unfolding Initials
-ended_comma names inner depth initial whole tokens going ends = going-end going (begins-initial names tokens ∙ ends)
+ended_comma {names} {inner} {depth} {initial} {whole} {tokens} b ends = going-end b.going (begins-initial names tokens ∙ ends)
 
-pub initials-end_comma : (names : List (List ℕ)) (inner : Readers) (depth : ℕ) (initial : Reader Placed Role (Option tree.Expression)) (whole : Outcome Placed Role (Unit {0})) (place : ℕ) (tokens rest : List Placed) → Initials names inner depth initial whole BehindComma tokens → next_is (begins_initial names) tokens ≡ false
-    → token Nothing (awaited Nothing) (mark_place punctuator.RightBrace) tokens ≡ Ok (place, rest) → whole ≡ Ok (tt {0}, rest)
-initials-end_comma names inner depth initial whole place tokens rest going ends e = ended_comma names inner depth initial whole tokens going ends ∙ bind-ok (token Nothing (awaited Nothing) (mark_place punctuator.RightBrace) tokens) (λ _ after. Ok (tt {0}, after)) place rest e
+pub initials-end_comma : {names : List (List ℕ)} {inner : Readers} {depth : ℕ} {initial : Reader Placed Role (Option tree.Expression)} {whole : Outcome Placed Role (Unit {0})} {place : ℕ} {tokens rest : List Placed} → AfterComma names inner depth initial whole tokens → next_is (begins_initial names) tokens ≡ false → token Nothing (awaited Nothing) (mark_place punctuator.RightBrace) tokens ≡ Ok (place, rest) → whole ≡ Ok (tt {0}, rest)
+initials-end_comma {names} {inner} {depth} {initial} {whole} {place} {tokens} {rest} b ends e = ended_comma b ends ∙ bind-ok (token Nothing (awaited Nothing) (mark_place punctuator.RightBrace) tokens) (λ _ after. Ok (tt {0}, after)) place rest e
 
-pub initials-unclosed_comma : (names : List (List ℕ)) (inner : Readers) (depth : ℕ) (initial : Reader Placed Role (Option tree.Expression)) (whole : Outcome Placed Role (Unit {0})) (tokens : List Placed) (error : ParseError) → Initials names inner depth initial whole BehindComma tokens → next_is (begins_initial names) tokens ≡ false
-    → IsErrorOf (token Nothing (awaited Nothing) (mark_place punctuator.RightBrace) tokens) error → IsErrorOf whole error
-initials-unclosed_comma names inner depth initial whole tokens error going ends h =
-    error-from (token Nothing (awaited Nothing) (mark_place punctuator.RightBrace) tokens) whole error (λ fault e. ended_comma names inner depth initial whole tokens going ends ∙ ap (λ o. bind o (λ _ after. Ok (tt {0}, after))) e) h
+pub initials-unclosed_comma : {names : List (List ℕ)} {inner : Readers} {depth : ℕ} {initial : Reader Placed Role (Option tree.Expression)} {whole : Outcome Placed Role (Unit {0})} {tokens : List Placed} (error : ParseError) → AfterComma names inner depth initial whole tokens → next_is (begins_initial names) tokens ≡ false → IsErrorOf (token Nothing (awaited Nothing) (mark_place punctuator.RightBrace) tokens) error → IsErrorOf whole error
+initials-unclosed_comma {names} {inner} {depth} {initial} {whole} {tokens} error b ends h =
+    error-from (token Nothing (awaited Nothing) (mark_place punctuator.RightBrace) tokens) whole error (λ fault e. ended_comma b ends ∙ ap (λ o. bind o (λ _ after. Ok (tt {0}, after))) e) h
 
 -- a fault in what stands behind a `{`
 pub braced-error : (names : List (List ℕ)) (inner : Readers) (room depth opened place : ℕ) (error : ParseError) (tokens rest : List Placed) → opened ≡ suc depth → next_is (is_mark punctuator.LeftBrace) tokens ≡ true → token Nothing (opens opened) (mark_place punctuator.LeftBrace) tokens ≡ Ok (place, rest) → next_is (is_mark punctuator.RightBrace) rest ≡ false

@@ -42,7 +42,8 @@ fn designator<'t, 'n, I: Fn(&'t [Token<'t>], Wanted, usize, usize) -> Outcome<'t
         return Ok(());
     }
     tokens.counted(Punctuator::LeftBracket, depth + 1, 0)?;
-    inner.conditional(tokens, depth + 1, 0)?;
+    let index = inner.conditional(tokens, depth + 1, 0)?;
+    drop(index);
     tokens.mark(Punctuator::RightBracket, Role::OperandEnd)?;
     Ok(())
 }
@@ -117,6 +118,33 @@ fn designated<
     Ok(value)
 }
 
+// What is awaited behind a further initial value, of which no tree is kept.
+fn next_end<
+    't,
+    'n,
+    'i,
+    I: Fn(&'t [Token<'t>], Wanted, usize, usize) -> Outcome<'t>,
+    V: Fn(&'t [Token<'t>], usize) -> Valued<'t>,
+>(
+    alloc: Global,
+    tokens: &mut Tokens<'t, 't>,
+    enclosed: &Enclosed<'t, 'n, 'i, I, V>,
+    depth: usize,
+) -> Result<Role, ParseError<'t, 't>>
+    requires callable { IsCallable 11 (I.pre enclosed.now.inner.now.read) }
+    requires exact { IsExact (inside enclosed.now.inner.now.names.now enclosed.now.inner.now.turns) (I.post enclosed.now.inner.now.read) }
+    requires enclosable { IsEnclosable (V.pre enclosed.now.read) }
+    requires enclosed { IsEnclosed (names_of enclosed.now.inner.now.names.now) (inside enclosed.now.inner.now.names.now enclosed.now.inner.now.turns) enclosed.now.room (V.post enclosed.now.read) }
+    requires enough { enclosed.now.inner.now.turns ≡ 135195 }
+    requires depth { depth ≤ 128 }
+    ensures found { IfOk result (λ x. read_map initializers.end_of_initial (initializers.read_designated (inside enclosed.now.inner.now.names.now enclosed.now.inner.now.turns) depth (initializers.read_initial (names_of enclosed.now.inner.now.names.now) (inside enclosed.now.inner.now.names.now enclosed.now.inner.now.turns) enclosed.now.room depth)) (list_of tokens.old.rest.now) ≡ Ok (x, list_of tokens.new.rest.now)) }
+    ensures shorter { IfOk result (λ _. length tokens.new.rest.now < length tokens.old.rest.now) }
+    ensures fault { IfErr result (λ e. IsErrorOf (read_map initializers.end_of_initial (initializers.read_designated (inside enclosed.now.inner.now.names.now enclosed.now.inner.now.turns) depth (initializers.read_initial (names_of enclosed.now.inner.now.names.now) (inside enclosed.now.inner.now.names.now enclosed.now.inner.now.turns) enclosed.now.room depth)) (list_of tokens.old.rest.now)) e) }
+{
+    let value = designated(alloc, tokens, enclosed, depth)?;
+    Ok(initial_end(&value))
+}
+
 // Further initial values behind one that ends so, and the `}`.
 fn more_initials<
     't,
@@ -141,16 +169,17 @@ fn more_initials<
     ensures shorter { IfOk result (λ _. length tokens.new.rest.now < length tokens.old.rest.now) }
     ensures fault { IfErr result (λ e. IsErrorOf (read_initials_behind (names_of enclosed.now.inner.now.names.now) (inside enclosed.now.inner.now.names.now enclosed.now.inner.now.turns) depth (initializers.read_initial (names_of enclosed.now.inner.now.names.now) (inside enclosed.now.inner.now.names.now enclosed.now.inner.now.turns) enclosed.now.room depth) (option_map expression_of first.entry) (list_of tokens.old.rest.now)) e) }
 {
-    let mut last = first;
+    let mut end = initial_end(&first);
+    drop(first);
     'items: while tokens.next_is(Punctuator::Comma) {
-        tokens.mark(Punctuator::Comma, initial_end(&last))?;
+        tokens.mark(Punctuator::Comma, end)?;
         if !starts_initial(tokens, enclosed.inner.names) {
             tokens.mark(Punctuator::RightBrace, Role::Nothing)?;
             return Ok(());
         }
-        last = designated(alloc, tokens, enclosed, depth)?;
+        end = next_end(alloc, tokens, enclosed, depth)?;
     }
-    tokens.mark(Punctuator::RightBrace, initial_end(&last))?;
+    tokens.mark(Punctuator::RightBrace, end)?;
     Ok(())
 }
 
