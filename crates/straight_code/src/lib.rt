@@ -48,6 +48,3 @@ pub fn decide(
     let accepted = registers.are_accepted(alloc, unit)?;
     Ok(accepted)
 }
-
-#[cfg(test)]
-mod tests;

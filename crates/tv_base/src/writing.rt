@@ -43,7 +43,8 @@ pub trait Store: Sink {
         ensures no_memory { IsErrOf result NoMemory → Self.faults self.new ≡ Self.faults self.old };
 }
 
-/// Writes all of `bytes`, in as many calls as it takes. After a refusal some front of them is written.
+/// Writes all of `bytes`, in as many calls as it takes. After a refusal some front of them is written, and never
+/// all of them.
 pub fn write_all<S: Sink>(sink: &mut S, bytes: &[u8]) -> Result<(), OutsideFault>
     ensures grows { OnOk result (Grows (S.held sink.old) (S.begun sink.old) bytes.now (S.held sink.new)) }
     ensures part { OnErr result (GrowsPartly (S.held sink.old) (S.begun sink.old) bytes.now (S.held sink.new)) }

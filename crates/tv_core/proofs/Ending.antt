@@ -1,11 +1,13 @@
 -- The validity theorem, from how a run ends.
-use Rattle.std.proofs.Common.{◌≡◌, ◌≢◌, ◌⊎◌, ℕ, Bool, true, false, List, [], ◌∷◌, map, Option, Some, None, refl, arith, sym, ◌∙◌, subst, inl, inr}
-use Rattle.std.specs.Prelude.{if◌then◌else◌}
+use Rattle.std.proofs.Common.{◌≡◌, ◌≢◌, ◌⊎◌, ◌≤◌, ℕ, Bool, true, false, List, [], ◌∷◌, map, Option, Some, None, refl, arith, ap, sym, ◌∙◌, subst, inl, inr}
+use Rattle.std.specs.Prelude.{◌↔◌, if◌then◌else◌}
 use Rattle.claim_spec.specs.Verdict.{Verdict, RefusedWords, TooLarge, RefusedElf, RefusedC, RefusedSyntax, RefusedPair, RefusedCode, Judged, Judgement, status_of, report_of, judgements_text, certificate_of}
 use Rattle.tv_base.specs.Writing.{Grows}
-use Rattle.tv_words.specs.Commands.{Prove, Proving, IsCommand}
-use Rattle.tv_core.specs.Verdicts.{Judges, elf_refused, no_tokens, no_unit, c_refused, too_many, nothing_listed, pair_refused, code_refused, judged, IsVerdict, elf_large, c_large, within}
-use Rattle.tv_core.specs.Ends.{Told, AskFor, IsReached, IsOutcome, no_command, commanded, Becomes, LeavesUnder, certificate_name, EndsWith, EndsValid}
+use Rattle.tv_words.specs.Commands.{Command, Prove, Proving, IsCommand}
+use Rattle.tv_words.proofs.Commands.{same_command}
+use Rattle.verdict_spec.specs.Verdicts.{Judges, elf_refused, no_tokens, no_unit, c_refused, too_many, nothing_listed, pair_refused, code_refused, judged, IsVerdict, elf_large, c_large, within}
+use Rattle.verdict_spec.proofs.Once.{one-verdict}
+use Rattle.tv_core.specs.Ends.{Told, AskFor, IsNoCommand, IsReached, IsOutcome, no_command, commanded, Becomes, LeavesUnder, certificate_name, EndsBy, EndsWith, EndsAsTold, EndsValid}
 
 -- what comes of a job, and without one
 pub outcome_of_some : (words : List (List ℕ)) (bytes : Told) (asked : Option Proving) (job : Proving) (verdict : Verdict) → asked ≡ Some job
@@ -65,7 +67,7 @@ judged_valid words bytes report_name report_before report_now store_before store
   job_is = job_is;
   judgements = js;
   all_called_valid = called_valid _ zero;
-  valid = λ elf c e f. let r = reached elf c e f in (not_empty elf c job.functions (Judged js) js r.0 refl, r.1);
+  valid = λ elf c e f. let r = reached.1 elf c e f in (not_empty elf c job.functions (Judged js) js r.0 refl, r.1);
   reported = reported;
   stored = stored;
 }
@@ -95,8 +97,64 @@ pub ends_valid : (words : List (List ℕ)) (bytes : Told) (report_name : List �
     → EndsWith words bytes code report_name report_before report_now store_before store_now → code ≡ 0
     → EndsValid words bytes report_name report_before report_now store_before store_now
 ends_valid words bytes rn rb r sb s code ends none =
-    let zero : status_of ends.verdict ≡ 0 = sym ends.status_is ∙ none in
+    let zero : status_of ends.verdict ≡ 0 = sym ends.ends.status_is ∙ none in
     let found = judgements_in ends.verdict zero in
     of_judged words bytes rn rb r sb s ends.name found.0 (subst (IsOutcome words bytes ends.name) found.1 ends.outcome) (subst (λ v. status_of v ≡ 0) found.1 zero)
-    (subst (λ v. Grows rb rn (report_of v) r) found.1 ends.reported)
-    (subst (λ v. LeavesUnder ends.name v sb s) found.1 ends.stored)
+    (subst (λ v. Grows rb rn (report_of v) r) found.1 ends.ends.reported)
+    (subst (λ v. LeavesUnder ends.name v sb s) found.1 ends.ends.stored)
+
+-- ---- the causes
+
+abbrev job_in : Command → Proving
+job_in (Prove job) = job
+
+told_by : (words : List (List ℕ)) (bytes : Told) (name : List ℕ) (verdict : Verdict) (code : ℕ) (report_name : List ℕ) (report_before report_now store_before store_now : Told)
+    → IsOutcome words bytes name verdict → EndsBy name verdict code report_name report_before report_now store_before store_now
+    → EndsAsTold words bytes code report_name report_before report_now store_before store_now
+told_by words bytes _ _ code rn rb r sb s (no_command none) ends = λ job elf c other is e f has. absurd (none (Prove job) is)
+told_by words bytes _ _ code rn rb r sb s (commanded job verdict is status reached) ends =
+    λ wanted elf c other wanted_is e f has.
+    let same : job ≡ wanted = ap job_in (same_command words (Prove job) (Prove wanted) is wanted_is) in
+    let reached_wanted = subst (λ j. IsReached bytes j verdict) same reached in
+    let one : verdict ≡ other = one-verdict elf c wanted.functions verdict other (reached_wanted.1 elf c e f).0 has in
+    subst (λ v. EndsBy wanted.certificate v code rn rb r sb s) one (subst (λ j. EndsBy j.certificate verdict code rn rb r sb s) same ends)
+
+-- it ends by whatever verdict the files have
+pub ends_as_told : (words : List (List ℕ)) (bytes : Told) (code : ℕ) (report_name : List ℕ) (report_before report_now store_before store_now : Told)
+    → EndsWith words bytes code report_name report_before report_now store_before store_now
+    → EndsAsTold words bytes code report_name report_before report_now store_before store_now
+ends_as_told words bytes code rn rb r sb s ends = told_by words bytes ends.name ends.verdict code rn rb r sb s ends.outcome ends.ends
+
+refused_words : (words : List (List ℕ)) (bytes : Told) (name : List ℕ) (verdict : Verdict) (code : ℕ) → IsOutcome words bytes name verdict → code ≡ status_of verdict
+    → code ≡ 2 ↔ IsNoCommand words
+refused_words words bytes _ _ code (no_command none) e = (λ two. none, λ again. e)
+refused_words words bytes _ _ code (commanded job verdict is status reached) e = (λ two. absurd (status (sym e ∙ two)), λ none. absurd (none (Prove job) is))
+
+-- it ends with 2 exactly without a command
+pub ends_without_command : (words : List (List ℕ)) (bytes : Told) (code : ℕ) (report_name : List ℕ) (report_before report_now store_before store_now : Told)
+    → EndsWith words bytes code report_name report_before report_now store_before store_now → code ≡ 2 ↔ IsNoCommand words
+ends_without_command words bytes code rn rb r sb s ends = refused_words words bytes ends.name ends.verdict code ends.outcome ends.ends.status_is
+
+code_small : (all : Bool) → code_of all ≤ 3
+code_small true = omega arith
+code_small false = omega arith
+
+status_small : (verdict : Verdict) → (status_of verdict ≤ 3) ⊎ (status_of verdict ≡ 7)
+status_small RefusedWords = inl (omega arith)
+status_small (TooLarge quantity) = inr refl
+status_small (RefusedElf fault offset) = inl (omega arith)
+status_small (RefusedC kind offset) = inl (omega arith)
+status_small (RefusedSyntax kind offset) = inl (omega arith)
+status_small (RefusedPair kind name) = inl (omega arith)
+status_small (RefusedCode kind name address) = inl (omega arith)
+status_small (Judged js) = inl (code_small _)
+
+-- and not with 4 or 5
+pub not_cut : {A : Type 0} (words : List (List ℕ)) (bytes : Told) (code : ℕ) (report_name : List ℕ) (report_before report_now store_before store_now : Told)
+    → EndsWith words bytes code report_name report_before report_now store_before store_now → (code ≡ 4) ⊎ (code ≡ 5) → A
+not_cut words bytes code rn rb r sb s ends cut =
+    let e = ends.ends.status_is in
+    elim (status_small ends.verdict) [
+      | inl small ↦ elim cut [ inl four ↦ absurd (omega (arith, small, e, four)) | inr five ↦ absurd (omega (arith, small, e, five)) ]
+      | inr seven ↦ elim cut [ inl four ↦ absurd (omega (arith, seven, e, four)) | inr five ↦ absurd (omega (arith, seven, e, five)) ]
+    ]

@@ -15,7 +15,7 @@ use Rattle.report_text.specs.Judgements.{judgement_of, judgements_of}
 use Rattle.report_text.specs.Verdicts.{verdict_of}
 use Rattle.report_text.specs.declared.verdicts.Judgement.{Judgement}
 use Rattle.report_text.specs.declared.verdicts.Verdict.{Verdict}
-use Rattle.tv_core.specs.Verdicts.{Lists, Pairs, Judges, judged, code_refused, nothing_listed, too_many, pair_refused, AreSound, IsJudgement, IsSoundCode, IsFirstCodeFault, HasCodeFault}
+use Rattle.verdict_spec.specs.Verdicts.{Lists, Pairs, Judges, judged, code_refused, nothing_listed, too_many, pair_refused, AreSound, IsJudgement, IsSoundCode, IsFirstCodeFault, HasCodeFault}
 
 -- the first names have these judgements
 pub record AreJudged (image : Image) (unit : Unit) (names : List (List ℕ)) (i : ℕ) (judgements : List claim.Judgement) : Type 0 where

@@ -1,36 +1,42 @@
 -- How a run ends: what it says, what it leaves, and what was the cause.
-use Rattle.std.specs.Prelude.{◌≡◌, ◌≢◌, ◌≤◌, ◌+◌, ◌⊎◌, ℕ, List, [], length, take, drop, Option, Some, None, IfSome, option_map, Result, IsTrue, IsErrOf}
+use Rattle.std.specs.Prelude.{◌≡◌, ◌≢◌, ◌≤◌, ◌<◌, ◌+◌, ◌⊎◌, ℕ, List, [], length, take, drop, Option, Some, None, IfSome, option_map, Result, IsTrue, IsErrOf}
 use Rattle.claim_spec.specs.declared.Quantity.TheVariants.{Elf, C}
-use Rattle.claim_spec.specs.Verdict.{Verdict, RefusedWords, Judged, Judgement, all_valid, status_of, report_of, judgements_text, certificate_of, maximum_of}
+use Rattle.claim_spec.specs.Verdict.{Verdict, RefusedWords, TooLarge, Judged, Judgement, all_valid, status_of, report_of, judgements_text, certificate_of, maximum_of}
 use Rattle.tv_base.specs.declared.faults.OutsideFault.{OutsideFault}
 use Rattle.tv_base.specs.declared.faults.OutsideFault.TheVariants.{Failed}
 use Rattle.tv_base.specs.Faults.{Rose}
 use Rattle.tv_base.specs.Reading.{with_name}
 use Rattle.tv_base.specs.Writing.{Grows, GrowsPartly}
 use Rattle.tv_words.specs.Commands.{Command, Prove, Proving, IsCommand}
-use Rattle.tv_core.specs.Verdicts.{IsVerdict, IsSound, AreSound}
+use Rattle.verdict_spec.specs.Verdicts.{IsVerdict, IsSound, AreSound}
 
 -- bytes by name, where they are told
 abbrev pub Told : Type 0
 Told = List ℕ → Option (List ℕ)
 
--- what the two files of a desk come to, where it tells them; and what is called valid there is valid
+-- what the two files of a desk come to, where it tells them; and what is called valid there is valid. Of an executable
+-- that is too long nothing else is asked, also not whether there is a source
 abbrev pub IsReached : Told → Proving → Verdict → Type 0
 IsReached bytes job verdict =
-    (elf c : List ℕ) → bytes job.elf ≡ Some elf → bytes job.source ≡ Some c
-    → IsVerdict elf c job.functions verdict × IsSound elf c job.functions verdict
+    ((elf : List ℕ) → bytes job.elf ≡ Some elf → maximum_of Elf < length elf → verdict ≡ TooLarge Elf)
+    × ((elf c : List ℕ) → bytes job.elf ≡ Some elf → bytes job.source ≡ Some c
+    → IsVerdict elf c job.functions verdict × IsSound elf c job.functions verdict)
+
+-- the words are no command
+abbrev pub IsNoCommand : List (List ℕ) → Type 0
+IsNoCommand words = (command : Command) → IsCommand words command → ⊥
 
 -- what the words and the files of a desk come to, and under which name a certificate is written; a run without a
 -- command has the empty name
 pub data IsOutcome (words : List (List ℕ)) (bytes : Told) : (name : List ℕ) → Verdict → Type 0 where
-  no_command : ((command : Command) → IsCommand words command → ⊥) → IsOutcome words bytes [] RefusedWords
+  no_command : IsNoCommand words → IsOutcome words bytes [] RefusedWords
   commanded : (job : Proving) (verdict : Verdict) → IsCommand words (Prove job) → status_of verdict ≢ 2
       → IsReached bytes job verdict → IsOutcome words bytes job.certificate verdict
 
 -- the words ask for this, or are no command
 abbrev pub AskFor : (words : List (List ℕ)) → Option Proving → Type 0
 AskFor words (Some job) = IsCommand words (Prove job)
-AskFor words None = (command : Command) → IsCommand words command → ⊥
+AskFor words None = IsNoCommand words
 
 -- the name of the certificate that is asked for; without a command the empty one
 abbrev pub certificate_name : Option Proving → List ℕ
@@ -60,7 +66,7 @@ LeavesPartly name verdict before now = now ≡ before
 
 -- ---- the report
 
--- the report has grown by a front of its text, and by nothing before the store is done
+-- the report has grown by a front of its text that isn't the whole, and by nothing before the store is done
 abbrev pub PublishesPartly : (name : List ℕ) → Verdict → (report_name : List ℕ) → (report_before report_now store_before store_now : Told) → Type 0
 PublishesPartly name verdict report_name report_before report_now store_before store_now =
     (report_now ≡ report_before) ⊎ (LeavesUnder name verdict store_before store_now × GrowsPartly report_before report_name (report_of verdict) report_now)
@@ -73,18 +79,30 @@ pub record IsCausedByEither {T : Type 0} (one_before one_now other_before other_
 
 -- ---- the ends of a run
 
--- a run that was cut off neither by a fault nor by want of memory: its status, its report and its certificate are
--- those of the verdict
+-- the status, the report and the certificate are those of this verdict
+pub record EndsBy (name : List ℕ) (verdict : Verdict) (status : ℕ) (report_name : List ℕ) (report_before report_now store_before store_now : Told)
+    : Type 0 where
+  pub status_is : status ≡ status_of verdict
+  pub reported : Grows report_before report_name (report_of verdict) report_now
+  pub stored : LeavesUnder name verdict store_before store_now
+
+-- a run that was cut off neither by a fault nor by want of memory ends by a verdict that the words and the files come to
 pub record EndsWith (words : List (List ℕ)) (bytes : Told) (status : ℕ) (report_name : List ℕ) (report_before report_now store_before store_now : Told)
     : Type 0 where
   pub name : List ℕ
   pub verdict : Verdict
   pub outcome : IsOutcome words bytes name verdict
-  pub status_is : status ≡ status_of verdict
-  pub reported : Grows report_before report_name (report_of verdict) report_now
-  pub stored : LeavesUnder name verdict store_before store_now
+  pub ends : EndsBy name verdict status report_name report_before report_now store_before store_now
 
--- at every end the report is a front of its text, which is written when the store is done
+-- where the words are a command and the desk tells both files, it ends by whatever verdict they have; they have one at
+-- most, so status, report and certificate each come exactly with their cause
+abbrev pub EndsAsTold : List (List ℕ) → Told → (status : ℕ) → (report_name : List ℕ) → (report_before report_now store_before store_now : Told) → Type 0
+EndsAsTold words bytes status report_name report_before report_now store_before store_now =
+    (job : Proving) (elf c : List ℕ) (verdict : Verdict) → IsCommand words (Prove job) → bytes job.elf ≡ Some elf → bytes job.source ≡ Some c
+    → IsVerdict elf c job.functions verdict → EndsBy job.certificate verdict status report_name report_before report_now store_before store_now
+
+-- where a run was cut off the report is as before, or a front of its text that isn't the whole, written when the store is
+-- done
 abbrev pub EndsPartly : List (List ℕ) → Told → (report_name : List ℕ) → (report_before report_now store_before store_now : Told) → Type 0
 EndsPartly words bytes report_name report_before report_now store_before store_now =
     (report_now ≡ report_before)

@@ -9,8 +9,8 @@ ghost use Rattle.tv_base.specs.declared.faults.OutsideFault.TheVariants.{NoMemor
 ghost use Rattle.report_text.specs.Judgements.{judgement_of};
 ghost use Rattle.report_text.specs.Verdicts.{verdict_of};
 ghost use Rattle.claim_spec.specs.declared.PairKind.{PairKind as pair_kind};
-ghost use Rattle.tv_core.specs.Verdicts as spec;
-ghost use Rattle.tv_core.specs.Verdicts.{Lists, Pairs, Judges, IsSound, HasCodeFault, HasSoundCode, IsJudgement};
+ghost use Rattle.verdict_spec.specs.Verdicts as spec;
+ghost use Rattle.verdict_spec.specs.Verdicts.{Lists, Pairs, Judges, IsSound, HasCodeFault, HasSoundCode, IsJudgement};
 
 use crate::listing::{first_unpaired, pair_fault};
 use claim_spec::{PairKind, Quantity};

@@ -6,7 +6,7 @@ ghost use Rattle.thin_source.specs.Refused.{IsFaultOf};
 ghost use Rattle.tv_base.specs.declared.faults.OutsideFault.TheVariants.{NoMemory};
 ghost use Rattle.report_text.specs.Verdicts.{verdict_of};
 ghost use Rattle.tv_words.specs.Jobs.{proving_of};
-ghost use Rattle.tv_core.specs.Verdicts.{IsInGrammar, Judges, IsSound};
+ghost use Rattle.verdict_spec.specs.Verdicts.{IsInGrammar, Judges, IsSound};
 ghost use Rattle.c_spec.specs.Lexical.{AreTokens};
 ghost use Rattle.c_parse_token.specs.Lists.{list_of};
 ghost use Rattle.c_parse.specs.Refused as syntax;

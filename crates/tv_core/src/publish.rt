@@ -1,4 +1,4 @@
-ghost use Rattle.std.specs.Prelude.{◌≡◌, ◌⊎◌, ℕ, OnOk, IsErrOf};
+ghost use Rattle.std.specs.Prelude.{◌≡◌, ◌⊎◌, ℕ, OnOk, OnErr, IsErrOf};
 ghost use Rattle.claim_spec.specs.Verdict.{certificate_of, report_of};
 ghost use Rattle.tv_base.specs.declared.faults.OutsideFault.TheVariants.{NoMemory};
 ghost use Rattle.tv_base.specs.Faults.{HasCause};
@@ -62,7 +62,7 @@ pub(crate) fn publish<R: Sink, K: Store>(
 ) -> Result<(), OutsideFault>
     ensures reported { OnOk result (Grows (R.held out.old) (R.begun out.old) (report_of (verdict_of verdict.now)) (R.held out.new)) }
     ensures stored { OnOk result (LeavesUnder name.now (verdict_of verdict.now) (K.held store.old) (K.held store.new)) }
-    ensures part { PublishesPartly name.now (verdict_of verdict.now) (R.begun out.old) (R.held out.old) (R.held out.new) (K.held store.old) (K.held store.new) }
+    ensures part { OnErr result (PublishesPartly name.now (verdict_of verdict.now) (R.begun out.old) (R.held out.old) (R.held out.new) (K.held store.old) (K.held store.new)) }
     ensures store_part { LeavesPartly name.now (verdict_of verdict.now) (K.held store.old) (K.held store.new) }
     ensures store_first { (K.faults store.new ≡ K.faults store.old) ⊎ (R.held out.new ≡ R.held out.old) }
     ensures cause { IsCausedByEither (R.faults out.old) (R.faults out.new) (K.faults store.old) (K.faults store.new) result }

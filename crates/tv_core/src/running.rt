@@ -1,9 +1,9 @@
-ghost use Rattle.std.specs.Prelude.{◌≡◌, ◌≢◌, ◌⊎◌, ℕ, List, IfOk, OnOk, OnErr, IsErrOf, map, option_map, string_bytes};
+ghost use Rattle.std.specs.Prelude.{◌≡◌, ◌≢◌, ◌⊎◌, ◌↔◌, ℕ, List, IfOk, OnOk, OnErr, IsErrOf, map, option_map, string_bytes};
 ghost use Rattle.tv_base.specs.declared.faults.OutsideFault.TheVariants.{Failed, NoMemory};
 ghost use Rattle.tv_base.specs.Faults.{HasCause, Rose};
 ghost use Rattle.report_text.specs.Verdicts.{verdict_of};
 ghost use Rattle.tv_words.specs.Jobs.{proving_of};
-ghost use Rattle.tv_core.specs.Ends.{AskFor, IsOutcome, EndsWith, EndsPartly, EndsValid, StoresPartly, TakesLittle, OpensInOrder, certificate_name};
+ghost use Rattle.tv_core.specs.Ends.{AskFor, IsNoCommand, IsOutcome, EndsWith, EndsAsTold, EndsPartly, EndsValid, StoresPartly, TakesLittle, OpensInOrder, certificate_name};
 
 use crate::publish::publish;
 use crate::reach::reach;
@@ -67,8 +67,8 @@ fn try_run<D: Desk, R: Sink, K: Store>(
 ) -> Result<u8, OutsideFault>
     ensures ended { IfOk result (λ code. EndsWith (map string_bytes words.now) (D.bytes desk.old) code (R.begun report.old)
         (R.held report.old) (R.held report.new) (K.held certificate.old) (K.held certificate.new)) }
-    ensures part { EndsPartly (map string_bytes words.now) (D.bytes desk.old) (R.begun report.old)
-        (R.held report.old) (R.held report.new) (K.held certificate.old) (K.held certificate.new) }
+    ensures part { OnErr result (EndsPartly (map string_bytes words.now) (D.bytes desk.old) (R.begun report.old)
+        (R.held report.old) (R.held report.new) (K.held certificate.old) (K.held certificate.new)) }
     ensures store_part { StoresPartly (map string_bytes words.now) (D.bytes desk.old) (K.held certificate.old) (K.held certificate.new) }
     ensures store_first { (K.faults certificate.new ≡ K.faults certificate.old) ⊎ (R.held report.new ≡ R.held report.old) }
     ensures taken { TakesLittle (map string_bytes words.now) (D.bytes desk.old) (D.left desk.old) (D.left desk.new) }
@@ -117,9 +117,16 @@ pub fn run<D: Desk, R: Sink, K: Store>(
     // Where nothing cut the run off, its status, its report and its certificate are those of the verdict.
     ensures ended { result ≢ 4 → result ≢ 5 → EndsWith (map string_bytes words.now) (D.bytes desk.old) result (R.begun report.old)
         (R.held report.old) (R.held report.new) (K.held certificate.old) (K.held certificate.new) }
-    // At every end the report is a front of its text, and begins only when the certificate is whole.
-    ensures part { EndsPartly (map string_bytes words.now) (D.bytes desk.old) (R.begun report.old)
+    // Status 2 comes exactly where the words are no command.
+    ensures no_command { result ≢ 4 → result ≢ 5 → (result ≡ 2 ↔ IsNoCommand (map string_bytes words.now)) }
+    // Each other status comes exactly with its cause: the run ends by whatever verdict the two files have.
+    ensures told { result ≢ 4 → result ≢ 5 → EndsAsTold (map string_bytes words.now) (D.bytes desk.old) result (R.begun report.old)
         (R.held report.old) (R.held report.new) (K.held certificate.old) (K.held certificate.new) }
+    // Where it was cut off, the report is a front of its text and not the whole, and begins only when the certificate is
+    // whole.
+    ensures part { (result ≡ 4) ⊎ (result ≡ 5) → EndsPartly (map string_bytes words.now) (D.bytes desk.old) (R.begun report.old)
+        (R.held report.old) (R.held report.new) (K.held certificate.old) (K.held certificate.new) }
+    // At every end the store is as before, or has a front of the certificate.
     ensures store_part { StoresPartly (map string_bytes words.now) (D.bytes desk.old) (K.held certificate.old) (K.held certificate.new) }
     // Where the store failed, nothing is reported.
     ensures store_first { (K.faults certificate.new ≡ K.faults certificate.old) ⊎ (R.held report.new ≡ R.held report.old) }

@@ -22,6 +22,78 @@ const ADD_TWO_ARGUMENTS: [u8; 248] = [
 
 const ADD: &[u32] = &[0x00b5_0533, 0x0000_8067];
 
+/// Chains of doublings, in whose terms, as trees, one register stands 2^27 and 2^31 times: the first cancel out
+/// before the arguments are added.
+const CANCELLED_DOUBLINGS: &[u32] = &[
+    0x0005_02b3,
+    0x0052_82b3,
+    0x0052_82b3,
+    0x0052_82b3,
+    0x0052_82b3,
+    0x0052_82b3,
+    0x0052_82b3,
+    0x0052_82b3,
+    0x0052_82b3,
+    0x0052_82b3,
+    0x0052_82b3,
+    0x0052_82b3,
+    0x0052_82b3,
+    0x0052_82b3,
+    0x0052_82b3,
+    0x0052_82b3,
+    0x0052_82b3,
+    0x0052_82b3,
+    0x0052_82b3,
+    0x0052_82b3,
+    0x0052_82b3,
+    0x0052_82b3,
+    0x0052_82b3,
+    0x0052_82b3,
+    0x0052_82b3,
+    0x0052_82b3,
+    0x0052_82b3,
+    0x0052_82b3,
+    0x4052_82b3,
+    0x0055_0533,
+    0x00b5_0533,
+    0x0000_8067,
+];
+
+const DOUBLINGS: &[u32] = &[
+    0x00a5_0533,
+    0x00a5_0533,
+    0x00a5_0533,
+    0x00a5_0533,
+    0x00a5_0533,
+    0x00a5_0533,
+    0x00a5_0533,
+    0x00a5_0533,
+    0x00a5_0533,
+    0x00a5_0533,
+    0x00a5_0533,
+    0x00a5_0533,
+    0x00a5_0533,
+    0x00a5_0533,
+    0x00a5_0533,
+    0x00a5_0533,
+    0x00a5_0533,
+    0x00a5_0533,
+    0x00a5_0533,
+    0x00a5_0533,
+    0x00a5_0533,
+    0x00a5_0533,
+    0x00a5_0533,
+    0x00a5_0533,
+    0x00a5_0533,
+    0x00a5_0533,
+    0x00a5_0533,
+    0x00a5_0533,
+    0x00a5_0533,
+    0x00a5_0533,
+    0x00a5_0533,
+    0x0000_8067,
+];
+
 const SUM: &[u8] = b"unsigned f(unsigned a,unsigned b){return a+b;}";
 
 const COMMAND: &[&str] = &["tv", "prove", "e", "c", "--cert", "o"];
@@ -151,7 +223,7 @@ type Row = (
 
 const REFUSED_WORDS: &[u8] = b"refused words\n";
 
-const ROWS: [Row; 21] = [
+const ROWS: [Row; 23] = [
     (COMMAND, SUM, ADD, 0, VALID, CERTIFICATE),
     (
         COMMAND,
@@ -232,6 +304,8 @@ const ROWS: [Row; 21] = [
         VALID,
         CERTIFICATE,
     ),
+    (COMMAND, SUM, CANCELLED_DOUBLINGS, 0, VALID, CERTIFICATE),
+    (COMMAND, SUM, DOUBLINGS, 1, UNPROVED, b"tv-cert 1\nend\n"),
     // The stack pointer is changed.
     (
         COMMAND,

@@ -1,2 +1,2 @@
 mod Lists
-mod Commands
+pub mod Commands

@@ -1,6 +1,6 @@
 use Rattle.std.proofs.Common.{rules}
 use Rattle.elf_spec.proofs.Functions.{entry_has_size}
-use Rattle.tv_core.specs.Verdicts.{ambiguous, of_reach}
+use Rattle.verdict_spec.specs.Verdicts.{ambiguous, of_reach}
 use Rattle.tv_core.proofs.Naming.{one_entry}
 use Rattle.tv_core.proofs.functions.find_code.Goals as goal
 

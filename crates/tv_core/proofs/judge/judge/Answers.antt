@@ -6,7 +6,7 @@ use Rattle.c_grammar_spec.specs.Faults.{IsUnit}
 use Rattle.c_parse_token.specs.Lists.{list_of}
 use Rattle.c_parse.specs.Refused.{IsFaultOf}
 use Rattle.tv_words.specs.Jobs.{proving_of}
-use Rattle.tv_core.specs.Verdicts.{IsInGrammar}
+use Rattle.verdict_spec.specs.Verdicts.{IsInGrammar}
 use Rattle.tv_core.proofs.judge.judge.Goals as goal
 
 in_grammar : (text : List ℕ) (lexed parsed : List Token) (unit : TranslationUnit) → AreTokens text (list_of lexed) → parsed ≡ lexed → IsUnit (list_of parsed) unit → IsInGrammar text

@@ -1,4 +1,4 @@
-use Rattle.tv_core.specs.Verdicts.{c_refused}
+use Rattle.verdict_spec.specs.Verdicts.{c_refused}
 use Rattle.tv_core.proofs.judge.refused_source.Goals as goal
 
 pub returns-in-Fault-clause-exact : goal.returns-in-Fault-clause-exact

@@ -1,4 +1,4 @@
-use Rattle.tv_core.specs.Verdicts.{no_tokens}
+use Rattle.verdict_spec.specs.Verdicts.{no_tokens}
 use Rattle.tv_core.proofs.judge.without_tokens.Goals as goal
 
 pub returns-in-Fault-clause-exact : goal.returns-in-Fault-clause-exact

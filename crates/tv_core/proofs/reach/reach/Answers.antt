@@ -2,7 +2,7 @@ use Rattle.std.proofs.Common.{◌+◌, ◌≡◌, take, arith, subst}
 use Rattle.std.specs.Prelude.{IfSome}
 use Rattle.report_text.specs.Verdicts.{verdict_of}
 use Rattle.tv_words.specs.Jobs.{proving_of}
-use Rattle.tv_core.specs.Verdicts.{Judges, IsSound}
+use Rattle.verdict_spec.specs.Verdicts.{Judges, IsSound}
 use Rattle.tv_core.specs.Ends.{TakesAtMost}
 use Rattle.tv_core.proofs.Reaching.{elf_too_large, c_too_large, files_judged, taken_of_two, opened_of_two}
 use Rattle.tv_core.proofs.reach.reach.Goals as goal

@@ -1,5 +1,5 @@
 -- Which verdict two files come to, and that what it calls valid is valid.
-use Rattle.std.specs.Prelude.{◌≡◌, ◌≢◌, ◌<◌, ◌≤◌, ◌++◌, ◌&&◌, not, is_some, ℕ, Bool, List, [], ◌∷◌, length, map, All, codes, IsTrue, Option, Some, None, ⊤}
+use Rattle.std.specs.Prelude.{◌≡◌, ◌≢◌, ◌<◌, ◌≤◌, ◌++◌, ◌&&◌, not, is_some, ℕ, Bool, false, List, [], ◌∷◌, length, map, All, codes, IsTrue, Option, Some, None, ⊤}
 use Rattle.elf_spec.specs.Image.{Image, function_named, size_at}
 use Rattle.elf_spec.specs.File.{IsElf, IsRefusedFile}
 use Rattle.elf_spec.specs.declared.ElfKind.{ElfKind}
@@ -57,7 +57,7 @@ pub record IsFirstCodeFault (image : Image) (names : List (List ℕ)) (kind : Co
 abbrev pub is_proved : Image → Unit → (entry size : ℕ) → Bool
 is_proved image unit entry size = not (is_some (crooked_at image entry size)) && accepts image unit entry size
 
--- what is said of a function with sound code; how much stack it takes is said of a valid one
+-- what is said of a function with sound code; how much stack it takes is said of a valid one, and of another one 0
 pub record IsJudgement (image : Image) (unit : Unit) (judgement : Judgement) : Type 0 where
   pub entry : ℕ
   pub size : ℕ
@@ -65,6 +65,7 @@ pub record IsJudgement (image : Image) (unit : Unit) (judgement : Judgement) : T
   pub sized : size_at image entry ≡ Some size
   pub decided : judgement.valid ≡ is_proved image unit entry size
   pub stack : IsTrue judgement.valid → IsStack image entry judgement.stack
+  pub no_stack : judgement.valid ≡ false → judgement.stack ≡ 0
 
 -- ---- two files
 

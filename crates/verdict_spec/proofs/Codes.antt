@@ -1,0 +1,114 @@
+-- The first of several names whose code has a fault is one, and so is its fault; and so are the judgements on names.
+use Rattle.std.proofs.Common.{◌≡◌, ℕ, suc, Bool, true, false, List, [], ◌∷◌, ◌++◌, map, All, Some, refl, ap, sym, ◌∙◌, subst, arith}
+use Rattle.std.proofs.lemmas.List.Elements.{All-map}
+use Rattle.elf_spec.specs.Image.{Image, function_named, size_at}
+use Rattle.elf_spec.specs.declared.Named.TheVariants.{One}
+use Rattle.c_spec.specs.Unit.{Unit}
+use Rattle.code_spec.specs.declared.CodeKind.{CodeKind}
+use Rattle.code_spec.specs.Code.{IsStack}
+use Rattle.code_spec.specs.Faults.{IsReachFault, IsFirst}
+use Rattle.code_spec.proofs.Direct.{same_first}
+use Rattle.claim_spec.specs.Verdict.{Judgement}
+use Rattle.verdict_spec.specs.Verdicts.{HasCodeFault, ambiguous, of_reach, IsSoundCode, IsFirstCodeFault, IsJudgement, is_proved}
+use Rattle.verdict_spec.proofs.Stacks.{one_stack}
+
+-- ---- the fault of a name
+
+sound_or_faulty : (image : Image) (name : List ℕ) (kind : CodeKind) (address : ℕ) → IsSoundCode image name → HasCodeFault image name kind address → ⊥
+sound_or_faulty image name _ _ (entry, code) (ambiguous first second named) = let other = code.named in absurd (cc)
+sound_or_faulty image name _ _ (entry, code) (of_reach at kind address named first) =
+    let other = code.named in
+    let same : at ≡ entry = cc in
+    code.sound kind address (subst (λ e. IsReachFault image e kind address) same first.fault)
+
+one_fault : (image : Image) (name : List ℕ) (kind other : CodeKind) (address place : ℕ) → HasCodeFault image name kind address → HasCodeFault image name other place
+    → (kind ≡ other) × (address ≡ place)
+one_fault image name _ _ _ _ (ambiguous first second named) (ambiguous third fourth renamed) = let same : second ≡ fourth = cc in (refl, same)
+one_fault image name _ _ _ _ (ambiguous first second named) (of_reach entry kind address renamed fault) = absurd (cc)
+one_fault image name _ _ _ _ (of_reach entry kind address named fault) (ambiguous first second renamed) = absurd (cc)
+one_fault image name _ _ _ _ (of_reach entry kind address named fault) (of_reach at other place renamed found) =
+    let same : at ≡ entry = cc in
+    same_first (IsReachFault image entry) kind other address place fault (subst (λ e. IsFirst (IsReachFault image e) other place) same found)
+
+-- ---- the first name with a fault
+
+at_front : (P : List ℕ → Type 0) (name : List ℕ) (names : List (List ℕ)) → All P (name ∷ names) → P name
+at_front P name names all = all 0 name (omega arith)
+
+behind : (P : List ℕ → Type 0) (name : List ℕ) (names : List (List ℕ)) → All P (name ∷ names) → All P names
+behind P name names all = λ k d inside. all (suc k) d (omega arith)
+
+at_middle : (P : List ℕ → Type 0) (front : List (List ℕ)) (name : List ℕ) (rest : List (List ℕ)) → All P (front ++ (name ∷ rest)) → P name
+at_middle P [] name rest all = at_front P name rest all
+at_middle P (other ∷ front) name rest all = at_middle P front name rest (behind P other (front ++ (name ∷ rest)) all)
+
+first_same : (P : List ℕ → Type 0) (front back rest more : List (List ℕ)) (one two : List ℕ) → front ++ (one ∷ rest) ≡ back ++ (two ∷ more) → All P front → All P back
+    → (P one → ⊥) → (P two → ⊥) → one ≡ two
+first_same P [] [] rest more one two e all others first second = cc
+first_same P [] (b ∷ back) rest more one two e all others first second =
+    let same : b ≡ one = cc in absurd (first (subst P same (at_front P b back others)))
+first_same P (a ∷ front) [] rest more one two e all others first second =
+    let same : a ≡ two = cc in absurd (second (subst P same (at_front P a front all)))
+first_same P (a ∷ front) (b ∷ back) rest more one two e all others first second =
+    let tails : front ++ (one ∷ rest) ≡ back ++ (two ∷ more) = cc in
+    first_same P front back rest more one two tails (behind P a front all) (behind P b back others) first second
+
+pub record Same (kind other : CodeKind) (one two : List ℕ) (address place : ℕ) : Type 0 where
+  pub kind_is : kind ≡ other
+  pub name_is : one ≡ two
+  pub address_is : address ≡ place
+
+pub one_first : (image : Image) (names : List (List ℕ)) (kind other : CodeKind) (one two : List ℕ) (address place : ℕ)
+    → IsFirstCodeFault image names kind one address → IsFirstCodeFault image names other two place → Same kind other one two address place
+one_first image names kind other one two address place x y =
+    let name_is = first_same (IsSoundCode image) x.front y.front x.rest y.rest one two (sym x.split ∙ y.split) x.earlier y.earlier
+    (λ sound. sound_or_faulty image one kind address sound x.fault) (λ sound. sound_or_faulty image two other place sound y.fault) in
+    let faults = one_fault image one kind other address place x.fault (subst (λ n. HasCodeFault image n other place) (sym name_is) y.fault) in
+    record { kind_is = faults.0; name_is = name_is; address_is = faults.1 }
+
+-- ---- judgements
+
+one_judgement : (image : Image) (unit : Unit) (one two : Judgement) → IsJudgement image unit one → IsJudgement image unit two → one.name ≡ two.name → one ≡ two
+one_judgement image unit one two x y names =
+    let named = x.code.named in
+    let renamed : function_named image one.name ≡ One y.entry = ap (function_named image) names ∙ y.code.named in
+    let entries : x.entry ≡ y.entry = cc in
+    let sized = x.sized in
+    let resized : size_at image x.entry ≡ Some y.size = ap (size_at image) entries ∙ y.sized in
+    let sizes : x.size ≡ y.size = cc in
+    let valid : one.valid ≡ two.valid = x.decided ∙ ap (λ e. is_proved image unit e x.size) entries ∙ ap (is_proved image unit y.entry) sizes ∙ sym y.decided in
+    let stack = by_valid one.valid refl (sym valid) entries in
+    λ i. record { name = names i; valid = valid i; stack = stack i }
+  where
+    by_valid : (b : Bool) → one.valid ≡ b → two.valid ≡ one.valid → x.entry ≡ y.entry → one.stack ≡ two.stack
+    by_valid true e same entries =
+        one_stack image y.entry one.stack two.stack (subst (λ a. IsStack image a one.stack) entries (x.stack e)) (y.stack (same ∙ e))
+    by_valid false e same entries = x.no_stack e ∙ sym (y.no_stack (same ∙ e))
+
+one_list : (image : Image) (unit : Unit) (ones twos : List Judgement) → map (λ j. j.name) ones ≡ map (λ j. j.name) twos → All (IsJudgement image unit) ones
+    → All (IsJudgement image unit) twos → ones ≡ twos
+one_list image unit [] [] e x y = refl
+one_list image unit [] (two ∷ twos) e x y = absurd (cc)
+one_list image unit (one ∷ ones) [] e x y = absurd (cc)
+one_list image unit (one ∷ ones) (two ∷ twos) e x y =
+    let head : one.name ≡ two.name = cc in
+    let tail : map (λ j. j.name) ones ≡ map (λ j. j.name) twos = cc in
+    let first = one_judgement image unit one two (x 0 one (omega arith)) (y 0 two (omega arith)) head in
+    let others = one_list image unit ones twos tail (λ k d inside. x (suc k) d (omega arith)) (λ k d inside. y (suc k) d (omega arith)) in
+    λ i. first i ∷ others i
+
+pub one_judged : (image : Image) (unit : Unit) (names : List (List ℕ)) (ones twos : List Judgement) → map (λ j. j.name) ones ≡ names → map (λ j. j.name) twos ≡ names
+    → All (IsJudgement image unit) ones → All (IsJudgement image unit) twos → ones ≡ twos
+one_judged image unit names ones twos e f x y = one_list image unit ones twos (e ∙ sym f) x y
+
+-- ---- no name of a list that is judged has a fault
+
+sound_names : (image : Image) (unit : Unit) (judgements : List Judgement) → All (IsJudgement image unit) judgements → All (IsSoundCode image) (map (λ j. j.name) judgements)
+sound_names image unit judgements each =
+    All-map (IsSoundCode image) (λ j. j.name) judgements (λ k d inside. let j = each k d inside in (j.entry, j.code))
+
+pub judged_or_faulty : (image : Image) (unit : Unit) (names : List (List ℕ)) (judgements : List Judgement) (kind : CodeKind) (name : List ℕ) (address : ℕ)
+    → map (λ j. j.name) judgements ≡ names → All (IsJudgement image unit) judgements → IsFirstCodeFault image names kind name address → ⊥
+judged_or_faulty image unit names judgements kind name address e each first =
+    let all = subst (All (IsSoundCode image)) (e ∙ first.split) (sound_names image unit judgements each) in
+    sound_or_faulty image name kind address (at_middle (IsSoundCode image) first.front name first.rest all) first.fault

@@ -1,0 +1,5 @@
+use Rattle.verdict_spec.proofs.Once.{one-verdict}
+use Rattle.verdict_spec.proofs.one_verdict.Goals as goal
+
+pub returns : goal.returns
+returns c = one-verdict
