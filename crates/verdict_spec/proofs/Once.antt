@@ -19,8 +19,8 @@ use Rattle.claim_spec.specs.declared.PairKind.TheVariants.{NothingListed}
 use Rattle.claim_spec.specs.declared.Quantity.TheVariants.{Functions}
 use Rattle.claim_spec.specs.Verdict.{Verdict, TooLarge, RefusedElf, RefusedC, RefusedSyntax, RefusedPair, RefusedCode, Judged, Judgement, names_of, pair_fault, first_unpaired}
 use Rattle.verdict_spec.specs.Verdicts.{IsInGrammar, IsFirstCodeFault, IsJudgement, Lists, Pairs, Judges, elf_refused, no_tokens, no_unit, c_refused, too_many, nothing_listed, pair_refused, code_refused, judged, IsVerdict, elf_large, c_large, within}
-use Rattle.c_unit_roles.specs.Exactness.{UnitTells}
-use Rattle.c_unit_roles.proofs.Faults.{unit-tells}
+use Rattle.c_unit_reader.specs.Exactness.{UnitTells}
+use Rattle.c_unit_reader.proofs.Faults.{unit-tells}
 use Rattle.verdict_spec.specs.Laws.{OneVerdict}
 use Rattle.verdict_spec.proofs.Texts.{one_tokens, tokens_or_fault, one_token_fault}
 use Rattle.verdict_spec.proofs.Sources.{one_unit}
