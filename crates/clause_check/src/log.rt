@@ -89,6 +89,7 @@ impl Log {
     /// Makes room: steps that have with one for each so many literals are then added without taking memory.
     pub fn reserve(&mut self, room: usize) -> Result<(), AllocError>
         ensures room { OnOk result (room ≤ self.new.spare) }
+        ensures kept { self.old.spare ≤ self.new.spare }
         ensures cnf { self.new.cnf ≡ self.old.cnf }
         ensures added { self.new.added ≡ self.old.added }
     {
@@ -111,6 +112,7 @@ impl Log {
         ensures fits { length literals.now + 1 ≤ self.old.spare
             → outcome self.old.cnf.variables (clauses_of self.old) literals.now hints.now ≡ Follows → IsOk result }
         ensures spare { OnOk result (self.old.spare ≤ self.new.spare + (length literals.now + 1)) }
+        ensures kept { OnErr result (self.old.spare ≤ self.new.spare) }
     {
         follows(&self.clauses, &mut self.marks, literals, hints)?;
         self.clauses.push(literals)?;

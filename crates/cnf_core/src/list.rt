@@ -65,6 +65,7 @@ impl ClauseList {
     /// Makes room: clauses that have with one for each so many literals are then added without taking memory.
     pub fn reserve(&mut self, room: usize) -> Result<(), AllocError>
         ensures room { OnOk result (room ≤ self.new.spare) }
+        ensures kept { self.old.spare ≤ self.new.spare }
         ensures same { self.new.clauses ≡ self.old.clauses }
     {
         self.literals.reserve(room)?;
@@ -72,12 +73,13 @@ impl ClauseList {
         Ok(())
     }
 
-    /// Adds a clause behind the others. After a refusal the clauses are as before.
+    /// Adds a clause behind the others. After a refusal the clauses are as before, and no room is lost.
     pub fn push(&mut self, clause: &[Literal]) -> Result<(), AllocError>
         ensures added { OnOk result (self.new.clauses ≡ self.old.clauses ++ clause.now ∷ []) }
         ensures refused { OnErr result (self.new.clauses ≡ self.old.clauses) }
         ensures fits { length clause.now + 1 ≤ self.old.spare → IsOk result }
         ensures spare { OnOk result (self.old.spare ≤ self.new.spare + (length clause.now + 1)) }
+        ensures kept { OnErr result (self.old.spare ≤ self.new.spare) }
     {
         self.ends.reserve(1)?;
         self.literals.extend_from_slice(clause)?;
