@@ -45,12 +45,6 @@ impl Gates {
         self.variables
     }
 
-    /// The clause at a place, counted from 0.
-    #[cfg(test)]
-    pub(crate) fn clause(&self, place: usize) -> Option<&[Literal]> {
-        self.clauses.get(place)
-    }
-
     /// The clauses of all gates, copied. They may name only variables that were made.
     pub fn into_cnf(self, alloc: Global) -> Result<Cnf, AllocError>
         requires { are_of self.variables self.clauses ≡ true }
