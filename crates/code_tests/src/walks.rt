@@ -105,10 +105,12 @@ fn callee(alloc: Global) -> Result<Graph, AllocError> {
 #[test]
 fn puts_graphs_together(rt: HostRuntime) -> Result<(), Fail> {
     let alloc = rt.alloc();
+    let (first, second) = (caller(alloc)?, callee(alloc)?);
+    assert!(rt; validate(&first));
+    assert!(rt; validate(&second));
     let mut graphs = Vec::new(alloc);
-    graphs.push(caller(alloc)?)?;
-    graphs.push(callee(alloc)?)?;
-    assert!(rt; graphs.iter().all(validate));
+    graphs.push(first)?;
+    graphs.push(second)?;
     let run = GraphRun {
         graphs: graphs.as_slice(),
         outermost: 0,
