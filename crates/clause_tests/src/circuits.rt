@@ -1,67 +1,7 @@
 use clause_spec::Literal;
-use cnf_core::Cnf;
 use std::alloc::{AllocError, Global};
 use std::test::Fail;
 use word_circuits::{Connective, Gates, Shift, none, one};
-
-/// The sum of 3 and a word of 8 bits, which has the variables 2 to 9.
-fn sum_with_three(gates: &mut Gates, alloc: Global) -> Result<(), AllocError> {
-    gates.truth()?;
-    let x = gates.new_bits(alloc, 8)?;
-    let n = none();
-    gates.sum_bits(alloc, &x, &[one(), one(), n, n, n, n, n, n], n)?;
-    Ok(())
-}
-
-/// The clauses of the adder for its lowest bit, by the numbers of their variables, those of negations below 0.
-static LOWEST: [[i32; 3]; 14] = [
-    [-10, 2, 1],
-    [-10, -2, -1],
-    [10, -2, 1],
-    [10, 2, -1],
-    [-11, 10, -1],
-    [-11, -10, 1],
-    [11, -10, -1],
-    [11, 10, 1],
-    [-2, -1, 12],
-    [-2, 1, 12],
-    [-1, 1, 12],
-    [2, 1, -12],
-    [2, -1, -12],
-    [1, -1, -12],
-];
-
-fn has_number(literal: &Literal, number: i32) -> bool {
-    literal.is_negated == (number < 0) && literal.variable == number.unsigned_abs() as usize
-}
-
-fn has_numbers(clause: Option<&[Literal]>, numbers: &[i32; 3]) -> bool {
-    match clause {
-        Some([a, b, c]) => {
-            has_number(a, numbers[0]) && has_number(b, numbers[1]) && has_number(c, numbers[2])
-        }
-        _ => false,
-    }
-}
-
-/// Whether these clauses stand behind that of truth.
-fn are_there(cnf: &Cnf) -> bool {
-    for (place, numbers) in LOWEST.iter().enumerate() {
-        if !has_numbers(cnf.clause(place + 1), numbers) {
-            return false;
-        }
-    }
-    true
-}
-
-#[test]
-fn an_adder_has_fourteen_clauses_for_its_lowest_bit(rt: HostRuntime) -> Result<(), Fail> {
-    let mut gates = Gates::new(rt.alloc());
-    sum_with_three(&mut gates, rt.alloc())?;
-    let cnf = gates.into_cnf(rt.alloc())?;
-    assert!(rt; are_there(&cnf));
-    Ok(())
-}
 
 /// 8 gates, 8, 16 - 1 and 7, where both words have 8 bits.
 fn bit_by_bit(
