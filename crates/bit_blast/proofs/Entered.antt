@@ -1,5 +1,5 @@
 -- Terms that are entered.
-use Rattle.std.proofs.Common.{◌≡◌, ◌<◌, ◌+◌, ℕ, true, false, Bool, List, [], ◌∷◌, ◌++◌, length, Some, refl, ap, sym, ◌∙◌, subst, arith, length-append}
+use Rattle.std.proofs.Common.{◌≡◌, ◌<◌, ◌+◌, ℕ, true, false, Bool, [], ◌∷◌, ◌++◌, length, Some, refl, ap, sym, ◌∙◌, subst, arith, length-append}
 use Rattle.std.specs.Prelude.{slice_get, if◌then◌else◌, is_some}
 use Rattle.std.specs.List.{find}
 use Rattle.std.proofs.lemmas.List.{append_assoc, map-append, length-map}
@@ -10,17 +10,16 @@ use Rattle.term_spec.specs.Term.{Term, divide, remainder}
 use Rattle.term_spec.specs.Same.{same_term}
 use Rattle.term_spec.proofs.Same.{same_is}
 use Rattle.term_bank.specs.declared.node.TermNode.{TermNode}
-use Rattle.term_bank.specs.declared.node.TermNode.TheVariants.{Leaf, Unary, Binary, Ternary, Quaternary, Octonary}
-use Rattle.term_bank.specs.Nodes.{tree_at, build, Holds}
+use Rattle.term_bank.specs.declared.node.TermNode.TheVariants.{Binary}
+use Rattle.term_bank.specs.Nodes.{tree_at, Holds}
 use Rattle.term_bank.proofs.Growth.{slice_get-seam, tree_at-front}
-use Rattle.blast_spec.specs.Gates.{Build, give, ◌>>=◌}
+use Rattle.blast_spec.specs.Gates.{give, ◌>>=◌}
 use Rattle.blast_spec.specs.Circuits.{Bits, new_bits, division}
-use Rattle.blast_spec.specs.Goal.{Table, is_there, bits_in, enter, divided}
-use Rattle.visit_steps.specs.Steps.{own_bits, finish}
+use Rattle.blast_spec.specs.Goal.{Table, is_there, bits_in, divided}
 use Rattle.word_circuits.specs.Gives.{Gives}
 use Rattle.word_circuits.proofs.Gives.{give_gives, then_gives}
 use Rattle.term_table.specs.Terms.{terms_in}
-use Rattle.bit_blast.specs.declared.entry.Division.TheVariants.{Quotient, Remainder, Neither}
+use Rattle.bit_blast.specs.declared.entry.Division.TheVariants.{Quotient, Remainder}
 use Rattle.bit_blast.specs.Entries.{division_of}
 
 -- ---- places
@@ -47,39 +46,6 @@ same_terms t more place below =
     ap (λ list. tree_at list place) (map-append (λ (e : Term × Bits). e.0) t more) ∙ tree_at-front (terms_in t) (terms_in more) place within
 
 -- ---- one term
-
-pub finish_own : (trees : List Term) (node : TermNode) (t : Table) → division_of node ≡ Neither
-    → finish (build trees node) t ≡ enter (build trees node) t (own_bits (build trees node) t)
-finish_own trees (Leaf leaf) t e = refl
-finish_own trees (Unary operator a) t e = refl
-finish_own trees (Binary binary.And a b) t e = refl
-finish_own trees (Binary binary.Or a b) t e = refl
-finish_own trees (Binary binary.Equal a b) t e = refl
-finish_own trees (Binary binary.Less a b) t e = refl
-finish_own trees (Binary binary.Load a b) t e = refl
-finish_own trees (Binary binary.Join a b) t e = refl
-finish_own trees (Binary (binary.Word word.Add) a b) t e = refl
-finish_own trees (Binary (binary.Word word.Subtract) a b) t e = refl
-finish_own trees (Binary (binary.Word word.Multiply) a b) t e = refl
-finish_own trees (Binary (binary.Word word.And) a b) t e = refl
-finish_own trees (Binary (binary.Word word.Or) a b) t e = refl
-finish_own trees (Binary (binary.Word word.Xor) a b) t e = refl
-finish_own trees (Binary (binary.Word word.ShiftLeft) a b) t e = refl
-finish_own trees (Binary (binary.Word word.ShiftRight) a b) t e = refl
-finish_own trees (Binary (binary.Word word.ShiftRightSigned) a b) t e = refl
-finish_own trees (Binary (binary.Word word.Divide) a b) t e = absurd (cc)
-finish_own trees (Binary (binary.Word word.Remainder) a b) t e = absurd (cc)
-finish_own trees (Ternary operator a b c) t e = refl
-finish_own trees (Quaternary operator a b c d) t e = refl
-finish_own trees (Octonary a b c d f g h i) t e = refl
-
--- its own bits are entered
-pub own_gives : (trees : List Term) (node : TermNode) (t u : Table) (old new : Cnf) (found : Bits) → division_of node ≡ Neither
-    → Gives (own_bits (build trees node) t) old found new → u ≡ t ++ (build trees node, found) ∷ [] → Gives (finish (build trees node) t) old u new
-own_gives trees node t u old new found neither made grown =
-    subst (λ (after : Table). Gives (finish (build trees node) t) old after new) (sym grown)
-    (subst (λ (build' : Build Table). Gives build' old (t ++ (build trees node, found) ∷ []) new) (sym (finish_own trees node t neither))
-    (then_gives (λ bits. give (t ++ (build trees node, bits) ∷ [])) made (give_gives (t ++ (build trees node, found) ∷ []) new)))
 
 -- ---- a quotient and its remainder
 

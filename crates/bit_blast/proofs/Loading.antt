@@ -111,9 +111,6 @@ loaded_more t loads more place node distinct before below fits holds grown =
       within = subst (AreWithin t) (sym grown) (within_both t loads (option_to_list (load_of place node)) before.within (within_load t node place fits below));
     }
 
-pub loaded_none : (t : Table) → Loaded t [] 0
-loaded_none t = record { are = refl; within = tt }
-
 -- ---- memories
 
 eqb_itself : (n : ℕ) → (n == n) ≡ true

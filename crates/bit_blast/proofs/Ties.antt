@@ -1,13 +1,13 @@
 -- The ties of loads, one after the other.
 use Rattle.std.proofs.Common.{◌≡◌, ◌<◌, ◌+◌, ℕ, zero, suc, List, [], ◌∷◌, length, map, drop, get_or, refl, ap, sym, ◌∙◌, arith, filter}
 use Rattle.clause_spec.specs.declared.Literal.{Literal}
-use Rattle.clause_spec.specs.Clause.{Cnf, negation}
+use Rattle.clause_spec.specs.Clause.{Cnf}
 use Rattle.term_spec.specs.Term.{Term}
 use Rattle.blast_spec.specs.Gates.{Build, ◌>>=◌, claim}
-use Rattle.blast_spec.specs.Circuits.{Bits, equal_bits}
+use Rattle.blast_spec.specs.Circuits.{equal_bits}
 use Rattle.blast_spec.specs.Goal.{Load, equal_where, tie, tie_all, is_of_memory, tie_memories}
 use Rattle.word_circuits.specs.Gives.{Gives, Leads}
-use Rattle.word_circuits.proofs.Gives.{leads_then, leads_end, claims_more}
+use Rattle.word_circuits.proofs.Gives.{leads_then, leads_end}
 
 -- ---- a load and later ones
 
@@ -61,10 +61,3 @@ from_end [] = refl
 from_end (x ∷ xs) = from_end xs
 
 -- ---- two bits that are equal
-
-pub equal_one : (same a b : Literal) (xs ys : Bits) (old m1 m2 new : Cnf)
-    → Gives (claim ((negation same ∷ negation a ∷ b ∷ []) ∷ [])) old tt m1 → Gives (claim ((negation same ∷ a ∷ negation b ∷ []) ∷ [])) m1 tt m2
-    → Gives (claim (equal_where same xs ys)) m2 tt new → Gives (claim (equal_where same (a ∷ xs) (b ∷ ys))) old tt new
-equal_one same a b xs ys old m1 m2 new first second rest =
-    claims_more ((negation same ∷ negation a ∷ b ∷ []) ∷ []) ((negation same ∷ a ∷ negation b ∷ []) ∷ equal_where same xs ys) first
-    (claims_more ((negation same ∷ a ∷ negation b ∷ []) ∷ []) (equal_where same xs ys) second rest)

@@ -1,12 +1,12 @@
 -- What is done bit by bit, and folds.
-use Rattle.std.proofs.Common.{◌≡◌, ◌<◌, ◌≤◌, ◌+◌, ◌-◌, ◌*◌, ◌/◌, ◌%◌, ◌^◌, ℕ, zero, suc, Bool, true, false, List, [], ◌∷◌, ◌++◌, length, map, refl, ap, sym, ◌∙◌, subst, arith}
-use Rattle.std.specs.Prelude.{◌==◌, ◌&&◌, ◌||◌, not, nat_le, nat_lt, if◌then◌else◌, bit_and, bit_or, bit_xor}
+use Rattle.std.proofs.Common.{◌≡◌, ◌<◌, ◌+◌, ◌-◌, ◌*◌, ◌^◌, ℕ, suc, Bool, true, false, [], ◌∷◌, ◌++◌, length, map, refl, ap, sym, ◌∙◌, arith}
+use Rattle.std.specs.Prelude.{◌==◌, ◌&&◌, ◌||◌, not, if◌then◌else◌, bit_and, bit_or, bit_xor}
 use Rattle.std.specs.List.{list_any, list_all}
 use Rattle.std.proofs.lemmas.Nat.{and_block, or_block, xor_block}
 use Rattle.clause_spec.specs.declared.Literal.{Literal}
 use Rattle.clause_spec.specs.Clause.{Valuation, holds, negation}
-use Rattle.blast_spec.specs.Gates.{Gate, Made, Build, literal_of, last_of, make}
-use Rattle.blast_spec.specs.Circuits.{Bits, one, none, and_gate, or_gate, xor_gate, mux_gate, each, each_two, fold_gates, and_all, or_all, choose_bits, equal_bits, and_each}
+use Rattle.blast_spec.specs.Gates.{Build, literal_of, last_of}
+use Rattle.blast_spec.specs.Circuits.{Bits, and_gate, or_gate, xor_gate, mux_gate, each, each_two, fold_gates, and_all, or_all, choose_bits, equal_bits, and_each}
 use Rattle.blast_laws.specs.Meaning.{digit, number_of, differ, AllStand}
 use Rattle.blast_laws.proofs.Gates.{stand_parts, holds-negation}
 
@@ -70,14 +70,7 @@ zips_number values operation on base block [] (y ∷ ys) os zips = absurd zips
 zips_number values operation on base block (x ∷ xs) [] os zips = absurd zips
 zips_number values operation on base block (x ∷ xs) (y ∷ ys) [] zips = absurd zips
 
-pub zips_length : (values : Valuation) (operation : Bool → Bool → Bool) (xs ys os : Bits) → Zips values operation xs ys os → length os ≡ length xs
 unfolding Zips
-zips_length values operation [] [] [] zips = refl
-zips_length values operation (x ∷ xs) (y ∷ ys) (o ∷ os) zips = ap (λ n. suc n) (zips_length values operation xs ys os zips.1)
-zips_length values operation [] [] (o ∷ os) zips = absurd zips
-zips_length values operation [] (y ∷ ys) os zips = absurd zips
-zips_length values operation (x ∷ xs) [] os zips = absurd zips
-zips_length values operation (x ∷ xs) (y ∷ ys) [] zips = absurd zips
 
 reordered : (a b : Bool) (x y : ℕ) (on : ℕ → ℕ → ℕ) (c : Bool) → on (x * 2 ^ 1 + digit a) (y * 2 ^ 1 + digit b) ≡ on x y * 2 ^ 1 + digit c
     → on (digit a + 2 * x) (digit b + 2 * y) ≡ digit c + 2 * on x y
@@ -125,9 +118,6 @@ xor_bits a b x y =
     (xor_block 1 x y (digit a) (digit b) (digit_below a) (digit_below b) ∙ ap (λ n. bit_xor x y * 2 ^ 1 + n) (xor_digit a b))
 
 -- ---- choices
-
-abbrev if_bit : Bool → Bool → Bool → Bool
-if_bit c a b = if c then a else b
 
 pub mux_gate_stands : (values : Valuation) (c : Literal) → GateStands values (mux_gate c) (λ a b. if holds values c then a else b)
 unfolding GateStands

@@ -1,14 +1,14 @@
 -- The numbers of words that are put together, cut and moved.
-use Rattle.std.proofs.Common.{◌≡◌, ◌<◌, ◌≤◌, ◌+◌, ◌-◌, ◌*◌, ◌/◌, ◌%◌, ◌^◌, ℕ, zero, suc, Bool, true, false, List, [], ◌∷◌, ◌++◌, length, map, take, drop, replicate, refl, ap, sym, ◌∙◌, subst, arith}
+use Rattle.std.proofs.Common.{◌≡◌, ◌<◌, ◌≤◌, ◌+◌, ◌-◌, ◌*◌, ◌/◌, ◌%◌, ◌^◌, ℕ, zero, suc, Bool, true, false, [], ◌∷◌, ◌++◌, length, take, drop, replicate, refl, ap, sym, ◌∙◌, arith}
 use Rattle.std.specs.Prelude.{not, if◌then◌else◌}
-use Rattle.std.proofs.Math.Nat.{add-mul-mod_self_left, mod-eq_of_lt, div-add-mod, mod-lt, pow-suc, mod-one, zero-mod, add-mul-div_left, div-eq_of_lt}
+use Rattle.std.proofs.Math.Nat.{add-mul-mod_self_left, div-add-mod, pow-suc, mod-one, zero-mod, div-eq_of_lt}
 use Rattle.std.proofs.lemmas.Nat.{pow_pos, shr-shr}
-use Rattle.std.proofs.lemmas.List.{length-replicate, length-append, length-take, length-drop}
+use Rattle.std.proofs.lemmas.List.{length-replicate, length-append}
 use Rattle.clause_spec.specs.declared.Literal.{Literal}
-use Rattle.clause_spec.specs.Clause.{Valuation, holds, negation}
-use Rattle.blast_spec.specs.Circuits.{Bits, one, none, zeros, sign_of, moved_up, moved_down, twice_as_wide}
+use Rattle.clause_spec.specs.Clause.{Valuation, holds}
+use Rattle.blast_spec.specs.Circuits.{Bits, none, zeros, twice_as_wide}
 use Rattle.blast_laws.specs.Meaning.{digit, number_of}
-use Rattle.blast_laws.proofs.Adders.{with_digit, digit_small, below_width}
+use Rattle.blast_laws.proofs.Adders.{with_digit, digit_small}
 
 -- ---- numbers modulo another
 
@@ -17,12 +17,6 @@ sum_mod_first a b m =
     let split = div-add-mod a m in
     let whole : (a % m + b) + m * (a / m) ≡ a + b = omega (arith, split) in
     sym (ap (λ n. n % m) (sym whole) ∙ add-mul-mod_self_left (a % m + b) m (a / m))
-
-pub sum_mod_second : (a b m : ℕ) → (a + b % m) % m ≡ (a + b) % m
-sum_mod_second a b m =
-    let split = div-add-mod b m in
-    let whole : (a + b % m) + m * (b / m) ≡ a + b = omega (arith, split) in
-    sym (ap (λ n. n % m) (sym whole) ∙ add-mul-mod_self_left (a + b % m) m (b / m))
 
 -- ---- put together and cut
 

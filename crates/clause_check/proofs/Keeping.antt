@@ -1,17 +1,15 @@
 -- What stays true of the clauses of a log.
-use Rattle.std.proofs.Common.{◌≡◌, ◌≤◌, ◌+◌, ℕ, Bool, true, false, List, [], ◌∷◌, ◌++◌, length, get_or, take, drop, Result, Err, Some, refl, ap, sym, ◌∙◌, subst, arith, length-append, take_all}
+use Rattle.std.proofs.Common.{◌≡◌, ◌+◌, ℕ, Bool, true, false, List, [], ◌∷◌, ◌++◌, length, get_or, take, drop, Some, refl, ap, sym, ◌∙◌, subst, arith, length-append, take_all}
 use Rattle.std.specs.Prelude.{◌&&◌, slice_get}
 use Rattle.std.specs.List.{list_all}
-use Rattle.std.proofs.lemmas.List.{take_more, take-append-le, drop-append-le, take-append-drop}
+use Rattle.std.proofs.lemmas.List.{take_more, take-append-le, take-append-drop}
 use Rattle.std.proofs.lemmas.List.Folds.{list_all-append, list_all_more}
 use Rattle.std.proofs.lemmas.List.Sums.{AllPass-from_list_all}
 use Rattle.std.proofs.lemmas.Option.{slice_get_within, get_or_from_slice_get}
 use Rattle.clause_spec.specs.declared.Literal.{Literal}
 use Rattle.clause_spec.specs.Clause.{Clause, Cnf, Valuation, is_of, are_of, is_met, are_met}
-use Rattle.clause_spec.specs.Step.{Outcome, Refused, Follows, are_fit, are_apart, outcome}
+use Rattle.clause_spec.specs.Step.{Follows, are_fit, are_apart, outcome}
 use Rattle.clause_spec.proofs.Sound.{outcome_sound}
-use Rattle.clause_check.specs.declared.hints.StepFault.{StepFault}
-use Rattle.clause_check.specs.Answers.{outcome_of}
 use Rattle.clause_check.specs.Logged.{Logged, clauses_of}
 use Rattle.clause_check.specs.Kept.{IsKept}
 use Rattle.clause_check.proofs.Walks.{unfit_outcome}
@@ -73,14 +71,6 @@ kept_more variables given clauses literals hints kept follows = record {
       ∙ both_and (are_met values clauses) (is_met values literals) all (outcome_sound variables clauses literals hints follows values all);
 }
 
-pub added_more : (given : ℕ) (clauses : List Clause) (literals : List Literal) → given ≤ length clauses
-    → drop given (clauses ++ literals ∷ []) ≡ drop given clauses ++ literals ∷ []
-added_more given clauses literals within = drop-append-le given clauses (literals ∷ []) within
-
-pub given_same : (given : ℕ) (clauses : List Clause) (literals : List Literal) → given ≤ length clauses
-    → take given (clauses ++ literals ∷ []) ≡ take given clauses
-given_same given clauses literals within = take-append-le given clauses (literals ∷ []) within
-
 -- ---- a clause without literals
 
 pub unmet_by_empty : (variables given : ℕ) (clauses : List Clause) (place : ℕ) → IsKept variables given clauses → slice_get clauses place ≡ Some []
@@ -110,8 +100,3 @@ outcome_of_parts log variables given clauses literals hints e f g =
     ∙ ap (λ c. outcome variables (c ++ log.added) literals hints) (sym f)
     ∙ ap (λ c. outcome variables (take given clauses ++ c) literals hints) (sym g)
     ∙ ap (λ c. outcome variables c literals hints) (take-append-drop given clauses)
-
--- an answer tells exactly one fault
-pub fault_by_outcome : (answer : Result (Unit {0}) StepFault) (fault : StepFault) (outcome : Outcome) → answer ≡ Err fault → outcome_of answer ≡ outcome
-    → outcome ≡ Refused fault.hint fault.kind
-fault_by_outcome answer fault outcome e f = sym f ∙ ap outcome_of e

@@ -1,14 +1,14 @@
 -- Signs that tell which literals are true.
 use Rattle.std.proofs.Common.{◌≡◌, Bool, true, false, List, [], ◌∷◌, ◌++◌, length, Option, Some, None, refl, ap, sym, ◌∙◌, filter}
 use Rattle.std.specs.Prelude.{◌||◌, not, if◌then◌else◌}
-use Rattle.std.specs.List.{list_any, list_all}
+use Rattle.std.specs.List.{list_any}
 use Rattle.std.proofs.lemmas.List.Folds.{list_any-append}
 use Rattle.std.proofs.lemmas.List.{append-nil}
 use Rattle.std.proofs.lemmas.List.Elements.{filter-append}
 use mathlib.Core.Bool.{beq}
 use Rattle.clause_spec.specs.declared.Literal.{Literal}
-use Rattle.clause_spec.specs.Clause.{Clause, is_of, negation, same_sign, same_literal}
-use Rattle.clause_spec.specs.Step.{is_true, is_false, Finding, Holds, Several, Forces, found_among, finding}
+use Rattle.clause_spec.specs.Clause.{Clause, is_of, negation, same_sign}
+use Rattle.clause_spec.specs.Step.{is_true, is_false, Finding, Holds, found_among, finding}
 use Rattle.clause_check.specs.Signs.{is_sign, sign_of, Tells}
 
 abbrev pub not_false : List Literal → Literal → Bool
@@ -64,14 +64,6 @@ or_right : (a b : Bool) → b ≡ true → (a || (b || false)) ≡ true
 or_right true b e = refl
 or_right false true e = refl
 or_right false false e = cc
-
-among_is_not_held : (literals : List Literal) → found_among literals ≡ Holds → ⊥
-among_is_not_held [] e = cc
-among_is_not_held (l ∷ others) e = by_same (list_all (same_literal l) others) e
-  where
-    by_same : (b : Bool) → (if b then Forces l else Several) ≡ Holds → ⊥
-    by_same true e = cc
-    by_same false e = cc
 
 -- a clause with a true literal, and one with none
 held : (truths : List Literal) (clause : Clause) → list_any (is_true truths) clause ≡ true → finding truths clause ≡ Holds

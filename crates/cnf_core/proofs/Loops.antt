@@ -1,9 +1,9 @@
 -- Tests of the elements of a list, one after the other.
-use Rattle.std.proofs.Common.{rules, ◌≡◌, ◌<◌, ◌≤◌, ◌+◌, ◌++◌, ℕ, Bool, true, false, List, [], ◌∷◌, length, get_or, take, drop, refl, ap, sym, ◌∙◌, subst, take_all}
+use Rattle.std.proofs.Common.{rules, ◌≡◌, ◌<◌, ◌+◌, ◌++◌, ℕ, Bool, true, false, List, [], ◌∷◌, length, get_or, take, refl, ap, ◌∙◌, subst}
 use Rattle.std.specs.Prelude.{◌&&◌, ◌||◌}
 use Rattle.std.specs.List.{list_any, list_all}
-use Rattle.std.proofs.lemmas.List.{take_more, take-append-drop}
-use Rattle.std.proofs.lemmas.List.Folds.{list_all-append, list_any-from_Any}
+use Rattle.std.proofs.lemmas.List.{take_more}
+use Rattle.std.proofs.lemmas.List.Folds.{list_all-append}
 use Rattle.std.proofs.lemmas.List.Sums.{AllPass-from_list_all}
 
 any_push : {X : Type 0} (p : X → Bool) (xs : List X) (x : X) → list_any p xs ≡ false → p x ≡ false → list_any p (xs ++ x ∷ []) ≡ false
@@ -19,10 +19,6 @@ pub none_more : {X : Type 0} (p : X → Bool) (xs : List X) (i : ℕ) (x : X) �
     → list_any p (take i xs) ≡ false → list_any p (take (i + 1) xs) ≡ false
 none_more p xs i x below here fails before =
     ap (list_any p) (take_more xs i x below) ∙ any_push p (take i xs) (get_or xs i x) before (subst (λ y. p y ≡ false) here fails)
-
--- one that passes
-pub some_passes : {X : Type 0} (p : X → Bool) (xs : List X) (i : ℕ) (x : X) → i < length xs → x ≡ get_or xs i x → p x ≡ true → list_any p xs ≡ true
-some_passes p xs i x below here passes = list_any-from_Any p xs (i, x, below, sym here, passes)
 
 and_both : (a b : Bool) → a ≡ true → b ≡ true → (a && (b && true)) ≡ true
 and_both true true e f = refl

@@ -1,9 +1,8 @@
 -- The variables of clauses.
-use Rattle.std.proofs.Common.{◌≡◌, ◌+◌, ◌++◌, ℕ, Bool, true, false, List, [], ◌∷◌, Option, Some, None, refl, sym, ◌∙◌, subst, arith}
+use Rattle.std.proofs.Common.{◌≡◌, ◌+◌, ℕ, Bool, true, false, List, [], ◌∷◌, Option, Some, None, refl, sym, subst, arith}
 use Rattle.std.specs.Prelude.{◌&&◌, slice_get, IfSome}
 use Rattle.std.specs.List.{list_all}
 use Rattle.std.specs.Option.{option_map}
-use Rattle.std.proofs.lemmas.List.Folds.{list_all-append}
 use Rattle.std.proofs.lemmas.List.Sums.{AllPass-from_list_all}
 use Rattle.std.proofs.lemmas.Option.{slice_get_within, get_or_from_slice_get}
 use Rattle.clause_spec.specs.declared.Literal.{Literal}
@@ -38,13 +37,6 @@ wider_clauses variables (c ∷ clauses) named =
     two_true (list_all (is_of (variables + 1)) c) (are_of (variables + 1) clauses)
     (wider_clause variables c (left_true (list_all (is_of variables) c) (are_of variables clauses) named))
     (wider_clauses variables clauses (right_true (list_all (is_of variables) c) (are_of variables clauses) named))
-
--- with one clause more
-pub named_more : (variables : ℕ) (clauses : List Clause) (clause : Clause) → are_of variables clauses ≡ true → list_all (is_of variables) clause ≡ true
-    → are_of variables (clauses ++ clause ∷ []) ≡ true
-named_more variables clauses clause named also =
-    list_all-append (list_all (is_of variables)) clauses (clause ∷ [])
-    ∙ two_true (are_of variables clauses) (list_all (is_of variables) clause && true) named (two_true (list_all (is_of variables) clause) true also refl)
 
 -- of the clause at a place
 named_at : (variables : ℕ) (clauses : List Clause) (place : ℕ) (clause : Clause) → are_of variables clauses ≡ true

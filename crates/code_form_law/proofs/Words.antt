@@ -165,12 +165,6 @@ rest a b = cond (b == 0) a (a % b)
 abbrev pub same_sign : ℕ → ℕ → Bool
 same_sign a b = cond (positive a) (positive b) (not (positive b))
 
-size_low : (a : ℕ) → a < 2 ^ 31 → size_of a ≡ a
-size_low a la = rw (lt-ltb a (2 ^ 31) la) refl
-
-size_high : (a : ℕ) → 2 ^ 31 ≤ a → a < 2 ^ 32 → size_of a ≡ suc (2 ^ 32 - 1 - a)
-size_high a ha below = rw (le-ltb a (2 ^ 31) ha) (omega arith)
-
 negated_is : (q : ℕ) → q < 2 ^ 32 → negative_of q ≡ word (neg_ℤ (pos q))
 negated_is zero below = refl
 negated_is (suc q) below = omega arith
@@ -188,19 +182,6 @@ over_zero a b e = subst (λ z. signed_quotient_of a z ≡ 2 ^ 32 - 1) (sym e) (e
     either_sign : (p : Bool) (s : ℕ) → cond (not (cond p true false) && false) (negative_of (2 ^ 32 - 1)) (2 ^ 32 - 1) ≡ 2 ^ 32 - 1
     either_sign true s = refl
     either_sign false s = refl
-
--- a quotient by what is not 0
-some_quotient : (a b : ℕ) → 0 < b → quotient a b ≡ a / b
-some_quotient a b some = rw (some_test b some) refl
-  where
-    some_test : (b : ℕ) → 0 < b → (b == 0) ≡ false
-    some_test b some = grind (arith, nat_tests)
-
-some_rest : (a b : ℕ) → 0 < b → rest a b ≡ a % b
-some_rest a b some = rw (some_test b some) refl
-  where
-    some_test : (b : ℕ) → 0 < b → (b == 0) ≡ false
-    some_test b some = grind (arith, nat_tests)
 
 some_test : (b : ℕ) → 0 < b → (b == 0) ≡ false
 some_test b some = grind (arith, nat_tests)

@@ -6,7 +6,6 @@ use Rattle.rv_spec.proofs.Registers.{read-write_same, read-write_other, memory-w
 use Rattle.term_spec.specs.declared.Width.TheVariants.{W32}
 use Rattle.term_spec.specs.Term.{Term}
 use Rattle.term_spec.specs.Value.{Number, Bytes, Assignment, value}
-use Rattle.term_spec.specs.Same.{same_variable}
 use Rattle.graph_spec.specs.Graph.{Binding}
 use Rattle.graph_spec.specs.Run.{bound, entered, resumed, is_shared, unset}
 use Rattle.code_graph_spec.specs.State.{register, entry_register, memory, Alike}
@@ -15,10 +14,6 @@ use Rattle.code_graph_spec.specs.Blocks.{entry_binding, other_registers, call_in
 use Rattle.code_graph_law.specs.Together.{Began}
 
 -- ---- one register
-
--- whether two registers are the same is whether their numbers are
-same_registers : (r q : ℕ) → same_variable (register q) (register r) ≡ (q == r) && true
-same_registers r q = refl
 
 module _ (s : Assignment) (r : ℕ) (term : Term) (worth : ℕ) (is : value s term ≡ Number W32 worth) where
   abbrev one : List Binding

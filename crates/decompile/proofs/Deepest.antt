@@ -1,5 +1,5 @@
 -- The greatest known stack of some entries, and the stack of a function.
-use Rattle.std.proofs.Common.{◌≡◌, ◌⊎◌, ◌+◌, ◌<◌, ◌≤◌, ◌^◌, ℕ, List, [], ◌++◌, length, get_or, max, refl, sym, ◌∙◌, ap, subst, inl, inr, arith}
+use Rattle.std.proofs.Common.{◌≡◌, ◌⊎◌, ◌+◌, ◌<◌, ◌≤◌, ◌^◌, ℕ, List, [], length, get_or, max, refl, sym, ◌∙◌, ap, subst, inl, inr, arith}
 use Rattle.std.specs.Prelude.{Contains, All}
 use Rattle.std.proofs.lemmas.Bool.{cases_lt}
 use Rattle.std.proofs.lemmas.List.{get_or_default}
@@ -7,7 +7,7 @@ use Rattle.std.proofs.lemmas.List.Elements.{Contains-get_or}
 use Rattle.elf_spec.specs.Image.{Image}
 use Rattle.code_spec.specs.declared.CodeKind.{CodeKind}
 use Rattle.code_spec.specs.Code.{IsGreatest, IsRangeFault}
-use Rattle.decompile.specs.Growth.{Grows, AreReached}
+use Rattle.decompile.specs.Growth.{AreReached}
 use Rattle.decompile.specs.Surveys.{CallsOut}
 use Rattle.decompile.specs.Stacks.{Known, known_or_zero, AreCalls, IsDeepest}
 use Rattle.decompile.proofs.Growing.{none_contained}
@@ -76,12 +76,6 @@ reached-none image entry size kind keys fault e = subst (AreReached image entry 
     λ reached. absurd (no-range-fault image entry size kind (has-code image entry size a reached) fault),
   );
 })
-
-pub calls-are : (image : Image) (entry : ℕ) (old new : List ℕ) → old ≡ [] → Grows (CallsOut image entry) old new → AreCalls image entry new
-calls-are image entry old new e g t = (
-  λ among. g.only t (subst (λ l. Contains l t) (g.grown ∙ ap (λ l. l ++ g.more) e) among),
-  λ out. g.all t out,
-)
 
 pub words-whole : (image : Image) (entry size : ℕ) (places : List ℕ) → AreReached image entry size places → All (λ address. address + 4 ≤ 2 ^ 32) places
 words-whole image entry size places are = λ k d below. (place image entry size (get_or places k d) ((are.exactly (get_or places k d)).0 (Contains-get_or places k d below))).whole

@@ -6,7 +6,7 @@ use Rattle.std.proofs.lemmas.List.{append-nil, reverse-append, length-append, le
 use Rattle.std.proofs.lemmas.List.Folds.{list_any_at}
 use Rattle.std.proofs.lemmas.List.Elements.{Contains-append_cases, Contains-append_right}
 use Rattle.elf_spec.specs.Image.{Image, size_at}
-use Rattle.code_spec.specs.Code.{AreReachable, CallsOn, Reaches, IsStack, IsCyclic, deep, IsGreatest, opening_of, instr_at}
+use Rattle.code_spec.specs.Code.{CallsOn, Reaches, IsStack, IsCyclic, deep}
 use Rattle.code_spec.specs.Code as code
 use Rattle.code_spec.specs.Faults.{CallsDirectly, ReachesDirectly, itself, further, ReachesNoFault, HasNoFault}
 use Rattle.code_spec.proofs.Direct.{reachable-direct, direct-reachable, calls-direct, direct-calls, reaches-direct, each_without}
@@ -285,10 +285,6 @@ module _ (image : Image) (root : ℕ) where
 
 pub popped : (old new : List Task) (task : Task) → old ≡ new ++ task ∷ [] → reverse old ≡ task ∷ reverse new
 popped old new task e = ap reverse e ∙ reverse-append new (task ∷ [])
-
-pub none-left : (tasks : List Task) → length tasks ≡ 0 → reverse tasks ≡ []
-none-left [] e = refl
-none-left (task ∷ tasks) e = absurd (omega (arith, e))
 
 pushed-reverse : (xs : List Task) (cs : List ℕ) → reverse (xs ++ map Enter cs) ≡ pushed cs (reverse xs)
 pushed-reverse xs [] = ap reverse (append-nil xs)

@@ -8,7 +8,7 @@ use Rattle.elf_spec.specs.Image.{Symbol}
 use Rattle.elf_spec.specs.File as spec
 use Rattle.elf_make.specs.Layout as layout
 use Rattle.elf_make.specs.Parts.{IsSymbolOfWords, IsNamed}
-use Rattle.elf_make.proofs.Read.{front_word, word_at, half_at}
+use Rattle.elf_make.proofs.Read.{front_word, word_at, half_at, filter_taken}
 use Rattle.elf_make.proofs.Places.{after, length_entry}
 
 -- the fields of an entry
@@ -105,9 +105,6 @@ symbol_read file strings table base place s symbols strings_are so =
     ∙ named_in strings place so.behind_empty ∙ ap (λ xs. before_first (λ b. b == 0) xs) so.names
     ∙ name_before s.name (layout.names symbols) named.no_zero)
     e.value e.size (ap (λ n. n % 16) e.info ∙ kind)
-
-filter_taken : (p : ℕ → Bool) (x : ℕ) (xs : List ℕ) → p x ≡ true → filter p (x ∷ xs) ≡ x ∷ filter p xs
-filter_taken p x xs e = rw e refl
 
 -- the symbols of the entries are those that were written
 pub symbols_read : (file strings : List ℕ) (table base place : ℕ) (symbols : List Symbol)

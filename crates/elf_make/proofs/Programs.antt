@@ -1,12 +1,12 @@
 -- The program headers of a written file.
-use Rattle.std.proofs.Common.{◌≡◌, ◌==◌, ◌+◌, ◌*◌, ◌^◌, ◌<◌, ◌≤◌, ◌++◌, ◌∙◌, ℕ, zero, suc, Bool, true, List, [], ◌∷◌, All, length, length-append, get_or, take, drop, filter, map, append_assoc, ap, refl, arith, subst, eq-eqb, lit<}
+use Rattle.std.proofs.Common.{◌≡◌, ◌==◌, ◌+◌, ◌*◌, ◌^◌, ◌<◌, ◌≤◌, ◌++◌, ◌∙◌, ℕ, zero, suc, List, [], ◌∷◌, All, length, length-append, get_or, take, drop, filter, map, append_assoc, ap, refl, arith, subst, eq-eqb, lit<}
 use Rattle.std.proofs.Math.Seq.{take-append_seam}
 use Rattle.std.proofs.lemmas.List.{length-drop}
 use Rattle.elf_spec.specs.Image.{Segment}
 use Rattle.elf_spec.specs.File as spec
 use Rattle.elf_make.specs.Layout as layout
 use Rattle.elf_make.specs.Parts.{IsSegmentOfWords}
-use Rattle.elf_make.proofs.Read.{front_word, word_at}
+use Rattle.elf_make.proofs.Read.{front_word, word_at, filter_taken}
 use Rattle.elf_make.proofs.Places.{after, length_program}
 
 -- the fields of a program header
@@ -82,9 +82,6 @@ segment_read file base offset s segments so =
     segment_eq (spec.segment_at file base) s p.vaddr p.memsz p.flags
     (ap (λ n. take n (drop (spec.u32_at file (base + 4)) file)) p.filesz ∙ ap (λ n. take (length s.bytes) (drop n file)) p.offset_is
     ∙ bytes_read file base offset s segments so)
-
-filter_taken : (p : ℕ → Bool) (x : ℕ) (xs : List ℕ) → p x ≡ true → filter p (x ∷ xs) ≡ x ∷ filter p xs
-filter_taken p x xs e = rw e refl
 
 -- the segments of the headers are those that were written
 pub segments_read : (file : List ℕ) (base offset : ℕ) (segments : List Segment) → HasPrograms file base offset segments

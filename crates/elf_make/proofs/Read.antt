@@ -1,10 +1,10 @@
--- Reading back the numbers of a file, from where they were written.
-use Rattle.std.proofs.Common.{◌≡◌, ◌+◌, ◌^◌, ◌<◌, ◌++◌, ◌∙◌, ℕ, List, drop, ap, sym, refl}
+-- Reading back the numbers and the tables of a file, from where they were written.
+use Rattle.std.proofs.Common.{◌≡◌, ◌+◌, ◌^◌, ◌<◌, ◌++◌, ◌∙◌, ℕ, Bool, true, List, ◌∷◌, drop, filter, ap, sym, refl}
 use Rattle.std.proofs.lemmas.List.{drop-drop}
 use Rattle.byteorder.specs.Endian.{little_number}
 use Rattle.byteorder.specs.Numbers.{little_number-reads_back}
 use Rattle.elf_spec.specs.File.{u16_at, u32_at}
-use Rattle.elf_make.specs.Layout.{half, word, ident, header}
+use Rattle.elf_make.specs.Layout.{half, word}
 
 pub read_word : (n : ℕ) (rest : List ℕ) → n < 2 ^ 32 → little_number 4 (word n ++ rest) ≡ n
 unfolding word
@@ -36,11 +36,6 @@ pub front_half : (file rest : List ℕ) (k n : ℕ) → drop k file ≡ half n +
 unfolding u16_at
 front_half file rest k n there small = ap (λ xs. little_number 2 xs) there ∙ read_half n rest small
 
--- the ELF header's fields
-pub header_words : (programs sections flags : ℕ) (rest : List ℕ) → programs < 2 ^ 16 → sections < 2 ^ 32 → flags < 2 ^ 32
-    → (u32_at (header programs sections flags ++ rest) 32 ≡ sections) × (u32_at (header programs sections flags ++ rest) 36 ≡ flags)
-unfolding word half ident
-header_words programs sections flags rest p s f = (
-  front_word (header programs sections flags ++ rest) _ 32 sections refl s,
-  front_word (header programs sections flags ++ rest) _ 36 flags refl f,
-)
+-- the first entry of a table passes a test
+pub filter_taken : (p : ℕ → Bool) (x : ℕ) (xs : List ℕ) → p x ≡ true → filter p (x ∷ xs) ≡ x ∷ filter p xs
+filter_taken p x xs e = rw e refl

@@ -4,7 +4,7 @@ use Rattle.std.proofs.Math.Nat.{eq-or-lt_of_le}
 use Rattle.std.proofs.lemmas.Bool.{eqb-false}
 use Rattle.std.proofs.lemmas.List.{get_or_default, get_or-set_same, get_or-set_other, length-set, get_or-replicate, length-replicate}
 use Rattle.elf_read.specs.declared.parts.Symbol.{Symbol}
-use Rattle.elf_read.specs.Buckets.{AreChained, bucket_of, next_in}
+use Rattle.elf_read.specs.Buckets.{bucket_of, next_in}
 use Rattle.elf_read.proofs.Chained.{next_after, next_end}
 
 -- the chains of the symbols from a place on
@@ -73,15 +73,6 @@ chains_begin symbols heads nexts at end buckets places empty = record {
       λ bucket w.
       empty bucket w ∙ sym (next_end symbols (length heads) bucket) ∙ ap (λ n. next_in symbols (length heads) bucket n) (sym end);
   nexts_are = λ i d from w. absurd (omega arith);
-}
-
-pub chains_whole : (symbols : List Symbol) (heads nexts : List ℕ) (at : ℕ) → at ≡ 0 → AreChainedFrom symbols heads nexts at
-    → AreChained symbols heads nexts
-chains_whole symbols heads nexts at start so = record {
-  buckets = so.buckets;
-  places = so.places;
-  heads_are = λ bucket w. so.heads_are bucket w ∙ ap (λ n. next_in symbols (length heads) bucket n) start;
-  nexts_are = λ i d w. so.nexts_are i d (omega arith) w;
 }
 
 -- one more symbol, at the front, where the code reads the place before `at`

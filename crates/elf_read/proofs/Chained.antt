@@ -1,6 +1,6 @@
 -- Following the chain of a bucket passes over symbols of other names only.
-use Rattle.std.proofs.Common.{◌≡◌, ◌≢◌, ◌==◌, ◌+◌, ◌<◌, ◌≤◌, ◌∙◌, ◌&&◌, ℕ, suc, Bool, true, false, not, List, [], ◌∷◌, length, get_or, drop, map, filter, bytes_eq, ap, sym, refl, arith, subst, add-one, eqb-true, eq-eqb, ne_eqb, find, Some, if◌then◌else◌}
-use Rattle.elf_spec.specs.declared.Named.TheVariants.{One, Two}
+use Rattle.std.proofs.Common.{◌≡◌, ◌==◌, ◌+◌, ◌<◌, ◌≤◌, ◌∙◌, ◌&&◌, ℕ, suc, Bool, true, false, not, List, [], ◌∷◌, length, get_or, drop, map, filter, bytes_eq, ap, sym, refl, arith, subst, add-one, eqb-true, eq-eqb, find, Some, if◌then◌else◌}
+use Rattle.elf_spec.specs.declared.Named.TheVariants.{One}
 use Rattle.std.specs.List.{position_or_len}
 use Rattle.std.proofs.Math.Seq.{drop-cons}
 use Rattle.std.proofs.lemmas.List.{length-drop, drop-drop, drop_all, get_or-drop}
@@ -250,20 +250,6 @@ beside_goes_on symbols heads nexts kind name first value at d chained h so alike
           (λ named. ap not (eq-eqb (get_or symbols at d).value value (alike named)))
           ∙ ap (λ xs. find (differs value) (map (λ s. s.value) xs)) next.skips;
     }
-
--- another value of the name is found
-pub two_values : (symbols : List Symbol) (kind count : ℕ) (name : List ℕ) (first at : ℕ) (d e : Symbol) → first < length symbols
-    → spec.has_name kind name (symbol_of (get_or symbols first d)) ≡ true
-    → IsBeside symbols kind count name first (get_or symbols first d).value at → at < length symbols
-    → spec.has_name kind name (symbol_of (get_or symbols at e)) ≡ true → (get_or symbols at e).value ≢ (get_or symbols first d).value
-    → spec.named_of (values_from symbols kind name first) ≡ Two (get_or symbols first d).value (get_or symbols at e).value
-two_values symbols kind count name first at d e h named so w other apart =
-    let value = (get_or symbols first d).value in
-    ap spec.named_of (values_hit symbols kind name first d h named)
-    ∙ ap (λ o. spec.named_beside value o)
-    (so.same ∙ ap (λ xs. find (differs value) xs) (values_hit symbols kind name at e w other)
-    ∙ find_hit (differs value) (get_or symbols at e).value (values_from symbols kind name (at + 1))
-    (ap not (ne_eqb (get_or symbols at e).value value apart)))
 
 -- there is no other value
 pub one_value : (symbols : List Symbol) (kind count : ℕ) (name : List ℕ) (first at : ℕ) (d : Symbol) → first < length symbols

@@ -1,5 +1,5 @@
 -- The entries of a table, one after the other.
-use Rattle.std.proofs.Common.{◌≡◌, ◌+◌, ◌*◌, ◌-◌, ◌<◌, ℕ, zero, suc, [], ◌∷◌, length, get_or, refl, ap, sym, ◌∙◌, arith, Bool, false, find, length, get_or, mul-suc, subst, Contains, All}
+use Rattle.std.proofs.Common.{◌≡◌, ◌+◌, ◌*◌, ◌-◌, ◌<◌, ℕ, zero, suc, ◌∷◌, length, get_or, refl, ap, sym, ◌∙◌, arith, Bool, false, find, length, get_or, mul-suc, subst, Contains, All}
 use Rattle.std.proofs.lemmas.List.{get_or_default}
 use Rattle.elf_spec.specs.File.{entries}
 
@@ -14,17 +14,6 @@ entries_next from size count i h =
     let place : from + size * i + size ≡ from + size * (i + 1) = omega arith in
     entries_front (from + size * i) size (count - (i + 1)) (count - i) left
     ∙ ap (λ n. (from + size * i) ∷ entries n size (count - (i + 1))) place
-
--- behind the last entry there is none
-pub entries_end : (from size count : ℕ) → entries from size (count - count) ≡ []
-entries_end from size count =
-    let none : count - count ≡ 0 = omega arith in ap (λ n. entries from size n) none
-
-pub entries_start : (from size count : ℕ) → entries (from + size * 0) size (count - 0) ≡ entries from size count
-entries_start from size count =
-    let none : count - 0 ≡ count = omega arith in
-    let place : from + size * 0 ≡ from = omega arith in
-    ap (λ n. entries (from + size * 0) size n) none ∙ ap (λ n. entries n size count) place
 
 -- the first entry that passes is looked for behind one that fails
 pub find_passed : (p : ℕ → Bool) (from size count i : ℕ) → i < count → p (from + size * i) ≡ false

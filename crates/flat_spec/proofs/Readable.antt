@@ -77,9 +77,6 @@ word_and sort.Truth = refl
 word_and (sort.Word w) = refl
 word_and sort.Memory = refl
 
-equal_and : (s : Sort) → (is_truth s && is_truth sort.Memory) ≡ false
-equal_and s = and_false (is_truth s)
-
 binary_second : (operator : BinaryOperator) (r s : Sort) → sort_of_binary operator r sort.Memory ≡ Some s → ⊥
 unfolding sort_of_binary
 binary_second binary.And r s e = no_some _ sort.Truth s (and_false (is_truth r)) e

@@ -29,9 +29,6 @@ use Rattle.flat_spec.proofs.Ties.{IsWorth, HasWorth, IsRead, AllTrue, all_of-par
 byte_below : (w : Value) (n : ℕ) → w ≡ Number W8 n → IsOfSort (sort.Word W8) w → n < 2 ^ 8
 byte_below w n e h = (subst (IsOfSort (sort.Word W8)) e h).1
 
-byte_number : (a b : ℕ) → Number W8 a ≡ Number W8 b → a ≡ b
-byte_number a b e = ap number_of e
-
 -- a load of a memory at an address gives a byte
 loaded_byte : (m : Value) (address : ℕ) → IsOfSort sort.Memory m → (byte : ℕ) × (loaded m (Number W32 address) ≡ Number W8 byte) × (byte < 2 ^ 8)
 loaded_byte m address h =

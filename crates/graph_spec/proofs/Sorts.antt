@@ -64,9 +64,6 @@ chosen : (b : Bool) (s : Sort) (x y : Value) → (b ≡ true → IsOfSort s x) �
 chosen true s x y yes_is other = yes_is refl
 chosen false s x y yes_is other = other
 
-none_binds : AreBindings []
-none_binds k d less = absurd (omega arith)
-
 first_binds : (b : Binding) (bindings : List Binding) → AreBindings (b ∷ bindings) → IsBinding b
 first_binds b bindings are = are 0 b (omega arith)
 

@@ -8,7 +8,7 @@ use Rattle.mem_terms.proofs.Trees.{load_later, loads_later}
 use Rattle.term_spec.specs.declared.Variable.{Variable}
 use Rattle.term_spec.specs.Same.{same_variable}
 use Rattle.term_spec.specs.Term.{Term, and_term}
-use Rattle.flat_spec.specs.Flat.{FlatLoad, agree, pairs, is_among, with_memories, is_from, pairs_of, all_of}
+use Rattle.flat_spec.specs.Flat.{FlatLoad, agree, pairs, is_from, pairs_of, all_of}
 use Rattle.mem_terms.specs.declared.places.LoadPlaces.{LoadPlaces}
 use Rattle.mem_terms.specs.Places.{load_at, is_load_from, AreWithin, IsWithin}
 
@@ -87,13 +87,6 @@ pairs_step a b loads i otherwise u v e within below made =
     let whole : pairs (map g (drop i loads)) ≡ map (agree (g y)) (map g rest) ++ pairs (map g rest) = ap (λ l. pairs (map g l)) (drop_here loads i otherwise below) in
     let tree : v ≡ all_of u (map (agree (g y)) (map g rest)) = made ∙ ap (λ x. all_of u (map (agree x) (map (load_at b) rest))) e1 ∙ ap (λ l. all_of u (map (agree (g y)) l)) e2 in
     ap (λ w. all_of w (pairs (map g rest))) tree ∙ sym (ap (all_of u) whole ∙ all_of-append u (map (agree (g y)) (map g rest)) (pairs (map g rest)))
-
--- one load's memory
-pub memories_step : (trees : List Term) (loads : List LoadPlaces) (i : ℕ) (otherwise : LoadPlaces) (memories next : List Variable) → i < length loads
-    → next ≡ cond (is_among (get_or loads i otherwise).memory memories) memories (memories ++ (get_or loads i otherwise).memory ∷ [])
-    → with_memories next (map (load_at trees) (drop (i + 1) loads)) ≡ with_memories memories (map (load_at trees) (drop i loads))
-memories_step trees loads i otherwise memories next below e =
-    ap (λ ms. with_memories ms (map (load_at trees) (drop (i + 1) loads))) e ∙ sym (ap (λ l. with_memories memories (map (load_at trees) l)) (drop_here loads i otherwise below))
 
 -- one memory's pairs
 pub consistent_step : (a b : List Term) (loads own : List LoadPlaces) (memories : List Variable) (i : ℕ) (otherwise : Variable) (u v : Term) → Extends a b → AreWithin (length a) loads

@@ -1,5 +1,5 @@
 -- Memories that are rebuilt by the values of a bank's terms.
-use Rattle.std.proofs.Common.{◌≡◌, ◌≢◌, ℕ, zero, suc, ◌+◌, ◌<◌, ◌≤◌, Bool, true, false, cond, List, [], ◌∷◌, ◌++◌, map, take, drop, length, get_or, Some, refl, sym, ap, ◌∙◌, subst, arith, eqb-true, eq-eqb}
+use Rattle.std.proofs.Common.{◌≡◌, ℕ, ◌+◌, ◌<◌, ◌≤◌, Bool, true, false, cond, List, [], ◌∷◌, ◌++◌, map, take, drop, length, get_or, Some, refl, sym, ap, ◌∙◌, subst, eqb-true, eq-eqb}
 use Rattle.std.specs.Prelude.{◌==◌, ◌&&◌, filter}
 use Rattle.std.proofs.Math.Path.{fun_ext}
 use Rattle.std.proofs.Math.ListN.{get_or-map}
@@ -15,13 +15,12 @@ use Rattle.term_spec.specs.Same.{same_variable}
 use Rattle.term_spec.specs.Value as spec
 use Rattle.term_spec.specs.Value.{Assignment, IsAssignment, value, low_bits, with_byte}
 use Rattle.term_spec.proofs.Same.{variable-same}
-use Rattle.term_spec.proofs.Sorts.{same_sort-true}
 use Rattle.term_core.specs.declared.value.Value.TheVariants as code
 use Rattle.term_core.specs.declared.memory.Memory.{Memory}
 use Rattle.term_core.specs.Memory.{bytes_of}
 use Rattle.term_core.specs.Assignment.{given_or_default}
 use Rattle.term_bank.specs.Nodes.{tree_at, value_at}
-use Rattle.flat_spec.specs.Flat.{FlatLoad, is_from, is_among, memories_of, flat_loads, flat_of}
+use Rattle.flat_spec.specs.Flat.{is_among, memories_of}
 use Rattle.flat_spec.specs.Back.{LoadsFromVariables, number_of, first_byte, memory_back, rebuilt}
 use Rattle.flat_spec.proofs.Lists.{variable_itself}
 use Rattle.flat_spec.proofs.Whole.{term_false}
@@ -94,16 +93,6 @@ restored memory v old bytes values loads own s own_is bytes_are = step (same_var
     step false false e f = sym (unchosen (is_memory v.sort) (memory_among values loads v))
     step true false e f = let k = turned memory v e in absurd (cc)
     step false true e f = let k = turned v memory f in absurd (cc)
-
--- a variable that is no memory changes nothing
-pub unrestored : (memory v : Variable) (old : spec.Value) (values : List spec.Value) (loads : List LoadPlaces) → memory.sort ≢ sort.Memory
-    → old ≡ cond (is_memory v.sort && same_variable v memory) (memory_among values loads v) old
-unrestored memory v old values loads other = step (is_memory v.sort) (same_variable v memory) refl refl
-  where
-    step : (p q : Bool) → is_memory v.sort ≡ p → same_variable v memory ≡ q → old ≡ cond (p && q) (memory_among values loads v) old
-    step true true e f = absurd (other (ap (λ w. w.sort) (sym (variable-same v memory f)) ∙ same_sort-true v.sort sort.Memory e))
-    step true false e f = refl
-    step false q e f = refl
 
 -- ---- all memories restored
 

@@ -1,5 +1,5 @@
 -- Trees at places of a bank that grows.
-use Rattle.std.proofs.Common.{◌≡◌, ℕ, ◌+◌, ◌<◌, ◌≤◌, false, List, [], ◌∷◌, ◌++◌, length, map, get_or, Some, refl, sym, ap, ◌∙◌, subst, arith, append_assoc, append-nil, length-append}
+use Rattle.std.proofs.Common.{◌≡◌, ℕ, ◌+◌, ◌<◌, ◌≤◌, false, List, [], ◌∷◌, ◌++◌, length, map, Some, refl, sym, ap, ◌∙◌, arith, append_assoc, append-nil, length-append}
 use Rattle.std.proofs.lemmas.Option.{slice_get_within, get_or_from_slice_get, slice_get-get_or}
 use Rattle.term_spec.specs.declared.Atom.TheVariants as atom
 use Rattle.term_spec.specs.declared.Variable.{Variable}
@@ -39,9 +39,6 @@ holds_tree trees i t h = record { within = slice_get_within trees i t h; tree = 
 
 pub tree_holds : (trees : List Term) (i : ℕ) (t : Term) → IsTreeAt trees i t → Holds trees i t
 tree_holds trees i t h = slice_get-get_or trees i (tree.Leaf (atom.Truth false)) h.within ∙ ap Some h.tree
-
-pub tree_later : (a b : List Term) (i : ℕ) (t : Term) → Extends a b → IsTreeAt a i t → IsTreeAt b i t
-tree_later a b i t e h = record { within = within_longer a b i e h.within; tree = kept_tree a b i e h.within ∙ h.tree }
 
 pub tree_as : (trees : List Term) (i : ℕ) (s t : Term) → s ≡ t → IsTreeAt trees i s → IsTreeAt trees i t
 tree_as trees i s t e h = record { within = h.within; tree = h.tree ∙ e }

@@ -11,7 +11,7 @@ use Rattle.mem_terms.specs.declared.walk.LoadNode.{LoadNode}
 use Rattle.term_bank.specs.declared.node.TermNode.{TermNode}
 use Rattle.mem_terms.specs.Walk.{load_in, flat_place, IsEntered, IsReplaced, IsWalk, IsSomeWalk}
 use Rattle.mem_terms.proofs.Steps.{finish_node, entered}
-use Rattle.mem_terms.proofs.Trees.{extends_itself, extends_then}
+use Rattle.mem_terms.proofs.Trees.{extends_then}
 
 -- each walk that begins so goes on so
 pub record IsTurned (old : List Term) (done : List (Option ℕ)) (places : List LoadPlaces) (tasks : List Task)
@@ -19,10 +19,6 @@ pub record IsTurned (old : List Term) (done : List (Option ℕ)) (places : List 
   pub walked : (base : List Term) (goal : ℕ) → IsWalk base old goal done places tasks → IsWalk base now goal done_now places_now tasks_now
   pub extends : Extends old now
   pub some : IsSomeWalk now done_now places_now tasks_now
-
-pub not_turned : (old : List Term) (done : List (Option ℕ)) (places : List LoadPlaces) (tasks : List Task) → IsSomeWalk old done places tasks
-    → IsTurned old done places tasks old done places tasks
-not_turned old done places tasks some = record { walked = λ base goal w. w; extends = extends_itself old; some = some }
 
 module _ (old : List Term) (done : List (Option ℕ)) (places : List LoadPlaces) (tasks : List Task)
     (now : List Term) (done_now : List (Option ℕ)) (places_now : List LoadPlaces) (tasks_now left : List Task) (task : Task)

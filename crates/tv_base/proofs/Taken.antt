@@ -9,12 +9,6 @@ map-append-twice : (xs ys : List ℕ) (now : Option (List ℕ))
 map-append-twice xs ys None = refl
 map-append-twice xs ys (Some r) = ap Some (sym (append_assoc xs ys r))
 
--- two reads are one
-pub hands_over_both : (before middle now : Option (List ℕ)) (xs ys : List ℕ)
-    → HandsOver before xs middle → HandsOver middle ys now → HandsOver before (xs ++ ys) now
-hands_over_both before middle now xs ys first second =
-    first ∙ ap (option_map (λ r. xs ++ r)) second ∙ map-append-twice xs ys now
-
 no_rest : (xs ys : List ℕ) → xs ++ ys ≡ [] → ys ≡ []
 no_rest [] ys e = e
 no_rest (x ∷ xs) ys e = cc

@@ -1,5 +1,5 @@
 -- Judgements on the names of a list, one after the other.
-use Rattle.std.proofs.Common.{◌≡◌, ◌≢◌, ◌<◌, ◌≤◌, ◌+◌, ◌++◌, ℕ, List, [], ◌∷◌, length, get_or, take, drop, map, All, Option, Result, Ok, Err, Some, None, ap, sym, ◌∙◌, subst, append_assoc, take_all}
+use Rattle.std.proofs.Common.{◌≡◌, ◌<◌, ◌≤◌, ◌+◌, ◌++◌, ℕ, List, [], ◌∷◌, length, get_or, take, drop, map, All, Option, Result, Ok, Err, Some, ap, sym, ◌∙◌, subst, append_assoc, take_all}
 use Rattle.std.specs.Prelude.{IsTrue, IfOk, codes}
 use Rattle.std.proofs.lemmas.List.{take_more, take-append-drop, map-append}
 use Rattle.std.proofs.lemmas.List.Elements.{All-push, All-map}
@@ -116,10 +116,3 @@ pub refused_unpaired : {E : Type 0} (image : Image) (unit : Unit) (names : List 
 refused_unpaired image unit names name (Ok verdict) e few found = λ elf c functions lists.
     subst (Judges elf c functions) (sym e.1) (pair_refused image unit names e.0 name lists few found e.2)
 refused_unpaired image unit names name (Err error) e few found = tt
-
-pub paired_pairs : {E : Type 0} (image : Image) (unit : Unit) (names : List (List ℕ)) (r : Result Verdict E)
-    → IfOk r (λ verdict. (elf c : List ℕ) (functions : Option (List (List ℕ))) → Pairs elf c functions image unit names → Judges elf c functions (verdict_of verdict))
-    → length names ≤ 4096 → names ≢ [] → claim.first_unpaired image unit names ≡ None → IfOk r (λ verdict. Refuses image unit names (verdict_of verdict))
-paired_pairs image unit names (Ok verdict) e few some none = λ elf c functions lists.
-    e elf c functions (record { lists = lists; within = few; some = some; paired = none })
-paired_pairs image unit names (Err error) e few some none = tt

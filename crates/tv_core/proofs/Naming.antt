@@ -84,10 +84,6 @@ differs : (xs ys : List ℕ) (b : Bool) → bytes_eq xs ys ≡ b → (xs ≡ ys 
 differs xs ys true e apart = absurd (apart ((bytes_eq-Decides xs ys).0 e))
 differs xs ys false e apart = refl
 
-pub no_source : (image : Image) (unit : Unit) (name : List ℕ) → (name ≡ unit.name → ⊥) → pair_fault image unit name ≡ Some NoSource
-no_source image unit name apart =
-    fault_is image unit name false (is_some (entry_of image name)) (differs name unit.name (bytes_eq name unit.name) refl apart) refl
-
 pub no_symbol : (image : Image) (unit : Unit) (name : List ℕ) → name ≡ unit.name → function_named image name ≡ Absent
     → pair_fault image unit name ≡ Some NoSymbol
 no_symbol image unit name e absent = fault_is image unit name true false ((bytes_eq-Decides name unit.name).1 e) (entry_absent image name absent)
@@ -101,12 +97,6 @@ faultless : (image : Image) (unit : Unit) (name : List ℕ) (body symbol : Bool)
 faultless image unit name true true e f none = ((bytes_eq-Decides name unit.name).0 e, f)
 faultless image unit name true false e f none = cc
 faultless image unit name false symbol e f none = cc
-
--- a name without such a fault is the unit's, and has a function
-pub name_of_faultless : (image : Image) (unit : Unit) (name : List ℕ) → pair_fault image unit name ≡ None → name ≡ unit.name
-name_of_faultless image unit name none =
-    let e = fault_is image unit name (bytes_eq name unit.name) (is_some (entry_of image name)) refl refl in
-    (faultless image unit name (bytes_eq name unit.name) (is_some (entry_of image name)) refl refl (sym e ∙ none)).0
 
 pub function_of_faultless : (image : Image) (unit : Unit) (name : List ℕ) → pair_fault image unit name ≡ None → function_named image name ≢ Absent
 function_of_faultless image unit name none absent =

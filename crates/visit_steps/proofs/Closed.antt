@@ -98,18 +98,3 @@ closed_two table x y q r closed at_x at_y =
         subst (λ t. AllThere (needs t) (table ++ (divide x y, q) ∷ (remainder x y, r) ∷ [])) (sym same)
         (stays x table ((divide x y, q) ∷ (remainder x y, r) ∷ []) at_x, (stays y table ((divide x y, q) ∷ (remainder x y, r) ∷ []) at_y, (rest, tt)))
     here other (inr later) = last other (first_or_later other (remainder x y, r) [] later)
-
--- neither is there without the other
-pub twin_absent : (table : Table) (x y : Term) → IsClosed table → is_there (divide x y) table ≡ false → is_there (remainder x y) table ≡ false
-twin_absent table x y closed absent = by (is_there (remainder x y) table) refl
-  where
-    by : (b : Bool) → is_there (remainder x y) table ≡ b → b ≡ false
-    by true e = let twin = (closed (remainder x y) e).1.1.0 in absurd (cc)
-    by false e = refl
-
-pub twin_absent_too : (table : Table) (x y : Term) → IsClosed table → is_there (remainder x y) table ≡ false → is_there (divide x y) table ≡ false
-twin_absent_too table x y closed absent = by (is_there (divide x y) table) refl
-  where
-    by : (b : Bool) → is_there (divide x y) table ≡ b → b ≡ false
-    by true e = let twin = (closed (divide x y) e).1.1.0 in absurd (cc)
-    by false e = refl

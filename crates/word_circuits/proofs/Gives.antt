@@ -131,10 +131,6 @@ leads_join {whole = whole} {old = old} join other same on = record {
 pub leads_end : {A B : Type 0} {whole : Build A} {old now : Cnf} {join : B → A} (x : B) → Leads whole old now (give x) join → Gives whole old (join x) now
 leads_end {now = now} x on = on.ends x now (give_gives x now)
 
-pub leads_done : {A B : Type 0} {whole : Build A} {old now new : Cnf} {rest : Build B} {join : B → A} {b : B}
-    → Leads whole old now rest join → Gives rest now b new → Gives whole old (join b) new
-leads_done {new = new} {b = b} on last = on.ends b new last
-
 -- ---- a last call whose answer is handed on
 
 pub then_ok : {T E A B : Type 0} {build : Build A} {old mid : Cnf} {a : A} (new : Cnf) (r : Result T E) (seen : T → B) (more : A → Build B)
