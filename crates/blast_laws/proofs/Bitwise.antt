@@ -70,8 +70,6 @@ zips_number values operation on base block [] (y ∷ ys) os zips = absurd zips
 zips_number values operation on base block (x ∷ xs) [] os zips = absurd zips
 zips_number values operation on base block (x ∷ xs) (y ∷ ys) [] zips = absurd zips
 
-unfolding Zips
-
 reordered : (a b : Bool) (x y : ℕ) (on : ℕ → ℕ → ℕ) (c : Bool) → on (x * 2 ^ 1 + digit a) (y * 2 ^ 1 + digit b) ≡ on x y * 2 ^ 1 + digit c
     → on (digit a + 2 * x) (digit b + 2 * y) ≡ digit c + 2 * on x y
 reordered a b x y on c e =

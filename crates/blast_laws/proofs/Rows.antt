@@ -13,7 +13,7 @@ use Rattle.blast_laws.specs.Meaning.{digit, number_of, AllStand}
 use Rattle.blast_laws.proofs.Gates.{stand_parts}
 use Rattle.blast_laws.proofs.Adders.{below_width, sum_stands, sum_length}
 use Rattle.blast_laws.proofs.Bitwise.{and_each_number, each_length}
-use Rattle.blast_laws.proofs.Widths.{number-append, number-take, number-zeros, holds-none, sum_mod_first, sum_mod_second}
+use Rattle.blast_laws.proofs.Widths.{number-append, number-take, number-zeros, holds-none, sum_mod_first}
 
 times_digit : (b : Bool) (n : ℕ) → (if b then n else 0) ≡ n * digit b
 times_digit true n = omega arith
