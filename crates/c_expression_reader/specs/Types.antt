@@ -1,5 +1,5 @@
 -- Readers of the types that stand in casts and behind `sizeof`, on lists of tokens (ISO C11, 6.7.2, 6.7.6, 6.7.7).
-use Rattle.std.specs.Prelude.{ℕ, suc, Bool, true, false, if◌then◌else◌, List, [], ◌∷◌, ◌++◌, length, Option, Some, None, option_map, unwrap_or}
+use Rattle.std.specs.Prelude.{ℕ, suc, ◌+◌, Bool, true, false, if◌then◌else◌, List, [], ◌∷◌, ◌++◌, length, Option, Some, None, option_map, unwrap_or}
 use Rattle.std.specs.Option.{is_some, option_map_or}
 use Rattle.c_spec.specs.declared.token.Keyword.{Keyword}
 use Rattle.c_spec.specs.declared.token.Keyword.TheVariants.{Const, Void, Char, Signed, Unsigned, Short, Int, Long, Struct, Enum}
