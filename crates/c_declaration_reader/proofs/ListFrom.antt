@@ -10,7 +10,7 @@ use Rattle.exact_read.specs.Grammar.{Then, Map, One, none, some, anything, conte
 use Rattle.c_expression_reader.specs.Classes.{mark_place}
 use Rattle.c_expression_reader.proofs.Marks.{one-mark, mark-one, Behind}
 use Rattle.c_declaration_reader.specs.Declarations.{last_of, read_list_from}
-use Rattle.c_declaration_reader.proofs.Lists.{Before, MoreText, EndText, read_end, next_before, Lists, end_stops, end_some, roled-end, end_meets, end_not_empty}
+use Rattle.c_declarator_reader.proofs.Lists.{Before, MoreText, EndText, read_end, next_before, Lists, end_stops, end_some, roled-end, end_meets, end_not_empty}
 use Rattle.role_read.specs.Roles.{Roled}
 use Rattle.role_read.proofs.Basics.{Meets, roled-same}
 use Rattle.role_read.proofs.Then.{roled-then_within}

@@ -29,7 +29,7 @@ use Rattle.c_declaration_reader.specs.Declarations.{end_of_local, read_local, re
 use Rattle.c_declaration_reader.specs.Ends.{stop_value}
 use Rattle.c_declaration_reader.specs.Texts.{LocalsText}
 use Rattle.c_declaration_reader.proofs.Around.{roled-local_specifiers}
-use Rattle.c_declaration_reader.proofs.Lists.{Lists}
+use Rattle.c_declarator_reader.proofs.Lists.{Lists}
 use Rattle.c_declaration_reader.proofs.ListFrom.{same_part, Listed, last, more, Listing, text_listing, listing_text, roled-list_from}
 use Rattle.c_declaration_reader.proofs.Values.{zero_value, roled-value}
 use Rattle.role_read.proofs.Basics.{roled-stop, roled-enter, roled-same}

@@ -4,7 +4,9 @@ pub mod Tokens
 pub mod Pointers
 pub mod Plain
 pub mod Firsts
+pub mod Counts
 pub mod Dimensions
 pub mod Declarators
 pub mod Listed
+pub mod Lists
 pub mod Beside

@@ -126,7 +126,7 @@ void_first names depth place pair text v =
     (subst NoneOrNoClose (sym t.cut) (then_first t.left t.right (pointer_first _ t.left t.first)
     (subst NoneOrNoClose (sym u.cut) (then_first u.left u.right (name_first names _ u.left u.first) (dimensions_first names depth _ _ u.right u.second))))))
 
-others_first : (names : List (List ℕ)) (depth : ℕ) (d : Rattle.c_declaration_reader.proofs.Lists.Before (Unit {0}) Ended) (xs : List Ended) (text : List Leaf) → OthersText (ParameterText names depth) end_of d xs text → NoneOrNoClose text
+others_first : (names : List (List ℕ)) (depth : ℕ) (d : Rattle.c_declarator_reader.proofs.Lists.Before (Unit {0}) Ended) (xs : List Ended) (text : List Leaf) → OthersText (ParameterText names depth) end_of d xs text → NoneOrNoClose text
 others_first names depth d xs text (none k) = inl refl
 others_first names depth d xs text (some k y ys one two b rest) = inr (awaited (end_of k.1) (mark punctuator.Comma b.first), b.right ++ two, ap (λ l. l ++ two) (b.cut ∙ ap (λ l. l ++ b.right) (one-mark punctuator.Comma (awaited (end_of k.1)) b.first b.left b.is_first)), refl)
 
