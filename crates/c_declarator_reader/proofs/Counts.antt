@@ -1,5 +1,5 @@
 -- Contexts of parts that stand one behind the other: how operators are counted there, from a least count on.
-use Rattle.std.proofs.Common.{ℕ, ◌≤◌, ◌+◌, arith}
+use Rattle.std.proofs.Common.{ℕ, ◌≤◌, ◌+◌, arith, ◌≡◌, refl, ap}
 use Rattle.c_grammar_spec.specs.Expressions.{Counting, Alone, Within, count_at, advance}
 
 pub record From (least : ℕ) : Type 0 where
@@ -16,3 +16,8 @@ onwards {least} from more = record { counting = advance from.counting more; enou
 
 pub itself : (counting : Counting) → count_at counting ≤ count_at counting
 itself counting = omega arith
+
+-- no operator changes nothing
+pub no_more : (counting : Counting) → advance counting 0 ≡ counting
+no_more Alone = refl
+no_more (Within count) = let same : count + 0 ≡ count = omega arith in ap Within same
