@@ -142,7 +142,7 @@ sample names is_typedef =
       first = unit.Object d;
       left = t;
       right = [];
-      is_first = grammar.object is_typedef d t (part.declarator false 0 0 (fresh names) false tree.no_expressions [] [] (rw (fresh_is names) refl) part.none (part.given 0 tree.no_expressions [] (part.no_lengths 0)));
+      is_first = grammar.object is_typedef d t (part.declarator false 0 part.Alone 0 (fresh names) false tree.no_expressions [] [] (rw (fresh_is names) refl) part.none (part.given 0 part.Alone tree.no_expressions [] (part.no_lengths 0 part.Alone)));
       is_second = second nothing;
       cut = refl;
     }
