@@ -9,7 +9,7 @@
 #![tactic(auto)]
 
 ghost use Rattle.c_type_reader.specs.Exactness.{AllTell, ExpressionsExact};
-ghost use Rattle.c_type_reader.specs.Samples.{ReadsCast, RefusesWord, RefusesDepth};
+ghost use Rattle.c_type_reader.specs.Samples.{ReadsCast, RefusesWord, RefusesDepth, ReadsValue, RefusesValue};
 
 /// The law of expressions and types: each reader is exact and tells what is awaited.
 pub fn expressions_and_types_tell()
@@ -34,4 +34,14 @@ pub fn refuses_word()
 /// A worked sample: with 128 constructs open around it, the `(` of `(int)0` is one too deep.
 pub fn refuses_depth()
     ensures { RefusesDepth }
+{}
+
+/// A worked sample: with 126 operators before it, `(enum{A=1+1})0` is read: its `(` is the 127th, its `+` the 128th.
+pub fn reads_value()
+    ensures { ReadsValue }
+{}
+
+/// A worked sample: with 127 operators before it, its `+` is one too many.
+pub fn refuses_value()
+    ensures { RefusesValue }
 {}
