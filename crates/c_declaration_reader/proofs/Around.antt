@@ -11,12 +11,12 @@ use Rattle.c_grammar_spec.specs.Expressions as grammar
 use Rattle.exact_read.specs.Grammar.{anything}
 use Rattle.c_expression_reader.specs.Readers.{Readers}
 use Rattle.c_expression_reader.specs.Types.{Head, head_word, head_of}
-use Rattle.c_declarator_reader.specs.Beside.{FirmBeside}
+use Rattle.c_type_reader.specs.Beside.{FirmBeside}
 use Rattle.c_type_reader.specs.Endings.{SpecifiersEnd, stop_specifiers}
 use Rattle.c_type_reader.specs.Exactness.{AllFirm}
 use Rattle.c_type_reader.specs.Specified.{rich_specified}
 use Rattle.c_type_reader.proofs.IntegerWords.{six}
-use Rattle.c_declarator_reader.proofs.Tokens.{leaves_of, TokenClass}
+use Rattle.c_type_reader.proofs.Tokens.{leaves_of, TokenClass}
 use Rattle.c_type_reader.proofs.TypeNames.{word_ends}
 use Rattle.c_type_reader.proofs.Specifiers.{Around, specified_same, roled-specified}
 use Rattle.c_declaration_reader.specs.Around.{spell_word, storage_of, word_of, is_word, word_at, LocalWord, LocalConst, LocalStatic, local_word, local_keyword, with_local, ItemWord, ItemConst, ItemTypedef, ItemExtern, ItemStatic, ItemInline, item_word, item_keyword, with_item, read_local_specifiers, read_item_specifiers}

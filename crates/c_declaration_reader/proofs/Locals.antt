@@ -16,12 +16,12 @@ use Rattle.c_expression_reader.specs.Classes.{is_mark, mark_place}
 use Rattle.c_expression_reader.specs.Readers.{token, Readers, behind, choose}
 use Rattle.c_expression_reader.proofs.Marks.{Behind, one-mark, mark-one, mark-self, mark-passes, mark-some, roled-opened, roled-choose, behind_begins, behind_silent}
 use Rattle.c_expression_reader.proofs.Samples.{zero_tree, zero_text}
-use Rattle.c_declarator_reader.specs.Beside.{WithEnd}
+use Rattle.c_type_reader.specs.Beside.{WithEnd}
 use Rattle.c_type_reader.specs.Endings.{SpecifiersEnd, Ending, goes_on_with, stop_specifiers}
 use Rattle.c_type_reader.specs.Exactness.{AllFirm}
-use Rattle.c_declarator_reader.proofs.Beside.{roled-then_beside}
-use Rattle.c_declarator_reader.proofs.Fresh.{fresh, fresh_is}
-use Rattle.c_declarator_reader.proofs.Declarators.{DeclaratorFirst, declarator_first, begins_declarator, declares_other, roled-declarator}
+use Rattle.c_type_reader.proofs.Beside.{roled-then_beside}
+use Rattle.c_type_reader.proofs.Fresh.{fresh, fresh_is}
+use Rattle.c_type_reader.proofs.Declarators.{DeclaratorFirst, declarator_first, begins_declarator, declares_other, roled-declarator}
 use Rattle.c_type_reader.proofs.TypeFirsts.{declarator_stops}
 use Rattle.c_type_reader.proofs.Ended.{specified, with_end}
 use Rattle.c_declaration_reader.specs.Around.{is_word, local_word}
@@ -29,7 +29,7 @@ use Rattle.c_declaration_reader.specs.Declarations.{end_of_local, read_local, re
 use Rattle.c_declaration_reader.specs.Ends.{stop_value}
 use Rattle.c_declaration_reader.specs.Texts.{LocalsText}
 use Rattle.c_declaration_reader.proofs.Around.{roled-local_specifiers}
-use Rattle.c_declarator_reader.proofs.Lists.{Lists}
+use Rattle.c_type_reader.proofs.Lists.{Lists}
 use Rattle.c_declaration_reader.proofs.ListFrom.{same_part, Listed, last, more, Listing, text_listing, listing_text, roled-list_from}
 use Rattle.c_declaration_reader.proofs.Values.{zero_value, roled-value}
 use Rattle.role_read.proofs.Basics.{roled-stop, roled-enter, roled-same}

@@ -17,7 +17,7 @@ use Rattle.c_expression_reader.specs.Classes.{is_mark, mark_place}
 use Rattle.c_expression_reader.proofs.Marks.{Behind}
 use Rattle.c_type_reader.specs.Endings.{WordsAround, BraceToo, WordsToo}
 use Rattle.c_type_reader.proofs.TypeFirsts.{specifiers_first}
-use Rattle.c_declarator_reader.proofs.Lists.{Lists}
+use Rattle.c_type_reader.proofs.Lists.{Lists}
 use Rattle.c_declaration_reader.proofs.ListFrom.{same_part, ListText, Listed, last, more, text_listing}
 use Rattle.c_global_reader.specs.Parameters.{end_of_parameter, ParameterRest, parameter_of, void_at, is_void, void_place}
 use Rattle.c_global_reader.specs.Texts.{ParametersText}

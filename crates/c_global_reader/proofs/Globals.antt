@@ -16,10 +16,10 @@ use Rattle.c_expression_reader.specs.Readers.{token, Readers}
 use Rattle.c_expression_reader.specs.Types.{plain_name_at}
 use Rattle.c_expression_reader.proofs.Marks.{Behind, one-mark, mark-one, mark-self, roled-opened, mark-some, behind_begins, behind_silent, map_begins, map_silent, roled-behind}
 use Rattle.c_type_reader.specs.Exactness.{AllFirm}
-use Rattle.c_declarator_reader.proofs.Fresh.{fresh, fresh_is}
-use Rattle.c_declarator_reader.proofs.Pointers.{stop_pointer}
-use Rattle.c_declarator_reader.proofs.Dimensions.{stop_dimensions, roled-dimensions_from}
-use Rattle.c_declarator_reader.proofs.Declarators.{declares_other, name_leaf, leaf_name, plain-self, name_stops}
+use Rattle.c_type_reader.proofs.Fresh.{fresh, fresh_is}
+use Rattle.c_type_reader.proofs.Pointers.{stop_pointer}
+use Rattle.c_type_reader.proofs.Dimensions.{stop_dimensions, roled-dimensions_from}
+use Rattle.c_type_reader.proofs.Declarators.{declares_other, name_leaf, leaf_name, plain-self, name_stops}
 use Rattle.c_declaration_reader.proofs.Chosen.{Allowed, roled-allowed}
 use Rattle.c_global_reader.specs.Parameters.{read_function, read_global}
 use Rattle.c_global_reader.specs.Texts.{ParametersText, no_function, stop_lengths, stop_global}
@@ -28,7 +28,7 @@ use Rattle.role_read.proofs.Basics.{roled-stop, roled-enter, roled-same}
 use Rattle.role_read.proofs.Then.{roled-then}
 use Rattle.c_expression_reader.specs.Firm.{Firm}
 use Rattle.c_expression_reader.proofs.Firm.{firm-map, firm-one}
-use Rattle.c_declarator_reader.proofs.Plain.{roled-pointer}
+use Rattle.c_type_reader.proofs.Plain.{roled-pointer}
 
 -- behind the name of a function
 abbrev FunctionText : (names : List (List ℕ)) → (depth pointers : ℕ) → tree.Name → unit.FunctionDeclarator → List Leaf → Type 0

@@ -18,7 +18,7 @@ use Rattle.c_expression_reader.specs.Classes.{is_mark, mark_place}
 use Rattle.c_expression_reader.specs.Readers.{token, Readers, choose}
 use Rattle.c_expression_reader.proofs.Marks.{one-mark, mark-one, one_first, mark-some, roled-mark, roled-opened, roled-choose, roled-choice, behind_begins, behind_silent, map_begins, map_silent}
 use Rattle.c_type_reader.specs.Exactness.{AllFirm}
-use Rattle.c_declarator_reader.proofs.Tokens.{leaves_of}
+use Rattle.c_type_reader.proofs.Tokens.{leaves_of}
 use Rattle.c_type_reader.proofs.TypeFirsts.{specifiers_first}
 use Rattle.c_declaration_reader.specs.Declarations.{last_of, read_list_from}
 use Rattle.c_declaration_reader.proofs.ListFrom.{listed, OthersText, list_split, roled-list_from}
@@ -35,9 +35,9 @@ use Rattle.role_read.proofs.Basics.{Meets, roled-same, roled-enter}
 use Rattle.role_read.proofs.Begins.{Silent, Begins, begun_enters, silent_next}
 use Rattle.c_expression_reader.specs.Firm.{quiet, Firm}
 use Rattle.c_expression_reader.proofs.Firm.{firm-map}
-use Rattle.c_declarator_reader.proofs.Listed.{begins_meet}
+use Rattle.c_type_reader.proofs.Listed.{begins_meet}
 use Rattle.c_type_reader.proofs.Begins.{specifiers_silent}
-use Rattle.c_declarator_reader.proofs.Fresh.{fresh, fresh_is}
+use Rattle.c_type_reader.proofs.Fresh.{fresh, fresh_is}
 use Rattle.c_type_reader.proofs.Ended.{specified}
 use Rattle.role_read.proofs.Or.{Chooses, roled-or}
 
@@ -126,7 +126,7 @@ void_first names depth place pair text v =
     (subst NoneOrNoClose (sym t.cut) (then_first t.left t.right (pointer_first _ t.left t.first)
     (subst NoneOrNoClose (sym u.cut) (then_first u.left u.right (name_first names _ u.left u.first) (dimensions_first names depth _ _ u.right u.second))))))
 
-others_first : (names : List (List ℕ)) (depth : ℕ) (d : Rattle.c_declarator_reader.proofs.Lists.Before (Unit {0}) Ended) (xs : List Ended) (text : List Leaf) → OthersText (ParameterText names depth) end_of d xs text → NoneOrNoClose text
+others_first : (names : List (List ℕ)) (depth : ℕ) (d : Rattle.c_type_reader.proofs.Lists.Before (Unit {0}) Ended) (xs : List Ended) (text : List Leaf) → OthersText (ParameterText names depth) end_of d xs text → NoneOrNoClose text
 others_first names depth d xs text (none k) = inl refl
 others_first names depth d xs text (some k y ys one two b rest) = inr (awaited (end_of k.1) (mark punctuator.Comma b.first), b.right ++ two, ap (λ l. l ++ two) (b.cut ∙ ap (λ l. l ++ b.right) (one-mark punctuator.Comma (awaited (end_of k.1)) b.first b.left b.is_first)), refl)
 

@@ -19,10 +19,10 @@ use Rattle.c_expression_reader.specs.Types.{is_plain_name, plain_name_at, is_con
 use Rattle.c_expression_reader.proofs.Marks.{one_first}
 use Rattle.c_type_reader.specs.Endings.{Ending, goes_on_with, WordsAround, BraceToo, WordsToo, SpecifiersEnd}
 use Rattle.c_type_reader.specs.Exactness.{AllFirm}
-use Rattle.c_declarator_reader.proofs.Fresh.{fresh, fresh_is}
-use Rattle.c_declarator_reader.proofs.Pointers.{stop_pointer}
-use Rattle.c_declarator_reader.proofs.Dimensions.{stop_dimensions, roled-dimensions_from}
-use Rattle.c_declarator_reader.proofs.Declarators.{plain-is, plain-self, plain-passes}
+use Rattle.c_type_reader.proofs.Fresh.{fresh, fresh_is}
+use Rattle.c_type_reader.proofs.Pointers.{stop_pointer}
+use Rattle.c_type_reader.proofs.Dimensions.{stop_dimensions, roled-dimensions_from}
+use Rattle.c_type_reader.proofs.Declarators.{plain-is, plain-self, plain-passes}
 use Rattle.c_type_reader.proofs.Ended.{specified, with_end}
 use Rattle.c_global_reader.specs.Parameters.{ParameterRest, parameter_of, read_parameter_rest, read_parameter, end_of_parts, end_of_parameter, read_optional_name}
 use Rattle.role_read.specs.Roles.{Roled}
@@ -32,7 +32,7 @@ use Rattle.role_read.proofs.Begins.{Begins, begun_enters}
 use Rattle.role_read.proofs.Then.{roled-then, roled-then_within}
 use Rattle.c_expression_reader.specs.Firm.{Firm}
 use Rattle.c_expression_reader.proofs.Firm.{firm-map, firm-one, firm-nothing}
-use Rattle.c_declarator_reader.proofs.Plain.{roled-pointer}
+use Rattle.c_type_reader.proofs.Plain.{roled-pointer}
 use Rattle.c_type_reader.proofs.Begins.{plain_found}
 use Rattle.role_read.proofs.Or.{Chooses, roled-or}
 

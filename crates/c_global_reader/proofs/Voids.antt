@@ -21,15 +21,15 @@ use Rattle.c_expression_reader.specs.Types.{no_storage, is_const, read_consts}
 use Rattle.c_type_reader.specs.Endings.{WordsAround, ending, Ending}
 use Rattle.c_type_reader.specs.Exactness.{AllFirm}
 use Rattle.c_type_reader.proofs.IntegerWords.{six}
-use Rattle.c_declarator_reader.proofs.Tokens.{leaves_of, unless_read}
-use Rattle.c_declarator_reader.proofs.Pointers.{stop_pointer}
+use Rattle.c_type_reader.proofs.Tokens.{leaves_of, unless_read}
+use Rattle.c_type_reader.proofs.Pointers.{stop_pointer}
 use Rattle.c_type_reader.proofs.TypeFirsts.{first_six}
 use Rattle.c_global_reader.specs.Parameters.{void_at, is_void, ParameterRest, parameter_of, read_parameter_rest, read_void_parameter, end_of_parameter}
 use Rattle.c_global_reader.proofs.Parameters.{RestText, Ended, rest_of, ParameterText, Opens, stop_rest, rest_stops, stop_parameter, rest_end, roled-rest}
 use Rattle.role_read.specs.Roles.{Roled}
 use Rattle.role_read.proofs.Basics.{roled-same, roled-stop, roled-map}
 use Rattle.role_read.proofs.Then.{roled-then}
-use Rattle.c_declarator_reader.proofs.Plain.{roled-consts}
+use Rattle.c_type_reader.proofs.Plain.{roled-consts}
 
 -- what stands behind the `void`
 pub record VoidText (names : List (List ℕ)) (depth place : ℕ) (pair : Ended) (text : List Leaf) : Type 0 where

@@ -13,8 +13,8 @@ use Rattle.c_grammar_spec.specs.Leaves.{mark, word, Leaf, plain, named}
 use Rattle.c_grammar_spec.specs.Expressions.{Alone, is_type_name, InLocal, Position, Words, none, const, typedef, extern, inline, static_item, static_local}
 use Rattle.c_grammar_spec.specs.Statements as grammar
 use Rattle.c_expression_reader.specs.Classes.{begins_type, begins_type_word}
-use Rattle.c_declarator_reader.specs.Firsts.{begins_by_mark, begins_expression}
-use Rattle.c_declarator_reader.proofs.Firsts.{First, conditional_first, unary_first, postfix_first}
+use Rattle.c_type_reader.specs.Firsts.{begins_by_mark, begins_expression}
+use Rattle.c_type_reader.proofs.Firsts.{First, conditional_first, unary_first, postfix_first}
 use Rattle.c_type_reader.proofs.TypeFirsts.{TypeFirst, base_first}
 use Rattle.c_type_reader.proofs.Ended.{with_end}
 use Rattle.c_declaration_reader.specs.Around.{is_word, local_word}
@@ -69,7 +69,7 @@ mark_statement punctuator.Tilde e = refl
 mark_statement punctuator.Exclamation e = refl
 mark_statement other e = absurd (cc)
 
-word_statement : (w : Keyword) → Rattle.c_declarator_reader.specs.Firsts.begins_by_word w ≡ true → statement_word w ≡ true
+word_statement : (w : Keyword) → Rattle.c_type_reader.specs.Firsts.begins_by_word w ≡ true → statement_word w ≡ true
 word_statement Sizeof e = refl
 word_statement other e = absurd (cc)
 

@@ -13,7 +13,7 @@ use Rattle.c_grammar_spec.specs.Statements as grammar
 use Rattle.role_read.proofs.Begins.{Begins}
 use Rattle.c_expression_reader.specs.Classes.{begins_type}
 use Rattle.c_expression_reader.specs.Types.{no_storage}
-use Rattle.c_declarator_reader.proofs.Fresh.{fresh, fresh_is}
+use Rattle.c_type_reader.proofs.Fresh.{fresh, fresh_is}
 use Rattle.c_declaration_reader.specs.Around.{is_word, local_word}
 use Rattle.c_declaration_reader.specs.Declarations.{begins_locals}
 use Rattle.c_declaration_reader.specs.Texts.{LocalsText}

@@ -24,9 +24,9 @@ use Rattle.c_expression_reader.proofs.Marks.{Behind, one-mark, mark-one, roled-o
 use Rattle.c_type_reader.specs.Endings.{goes_on_with, WordsAround, BraceToo, WordsToo, keywords_of, BaseEnd, base_ending, Ending}
 use Rattle.c_type_reader.specs.Rich.{Ended, rich_base_rest, rich_base, rich_struct, rich_enum}
 use Rattle.c_type_reader.proofs.IntegerWords.{six, first_words}
-use Rattle.c_declarator_reader.proofs.Fresh.{fresh, fresh_is}
-use Rattle.c_declarator_reader.proofs.Words.{WordsAre, none, some}
-use Rattle.c_declarator_reader.proofs.Declarators.{plain-self, plain-passes}
+use Rattle.c_type_reader.proofs.Fresh.{fresh, fresh_is}
+use Rattle.c_type_reader.proofs.Words.{WordsAre, none, some}
+use Rattle.c_type_reader.proofs.Declarators.{plain-self, plain-passes}
 use Rattle.c_type_reader.proofs.TypeFirsts.{six_begins, first_six}
 use Rattle.c_type_reader.proofs.Members.{BracesText, Inside, roled-members}
 use Rattle.c_type_reader.proofs.Constants.{ConstantsText, plain_leaf, Enumeration, leaf_plain, roled-constants}
@@ -35,8 +35,8 @@ use Rattle.role_read.proofs.Begins.{Begins, Silent}
 use Rattle.role_read.proofs.Then.{roled-then}
 use Rattle.c_expression_reader.specs.Firm.{Firm}
 use Rattle.c_expression_reader.proofs.Firm.{firm-map, firm-nothing, firm-one}
-use Rattle.c_declarator_reader.specs.Exactness.{Whole}
-use Rattle.c_declarator_reader.proofs.Plain.{roled-words}
+use Rattle.c_type_reader.specs.Declarators.{Whole}
+use Rattle.c_type_reader.proofs.Plain.{roled-words}
 use Rattle.c_type_reader.proofs.Begins.{plain_found}
 
 abbrev pub stop_ended : Ended → Placed → Bool

@@ -15,9 +15,9 @@ use Rattle.role_read.proofs.Begins.{Begins, Silent}
 use Rattle.c_expression_reader.specs.Classes.{begins_type_word, begins_type}
 use Rattle.c_expression_reader.specs.Types.{no_storage, plain_name_of, plain_name_at, is_plain_name}
 use Rattle.std.specs.Option.{is_some}
-use Rattle.c_declarator_reader.specs.Beside.{WithEnd}
+use Rattle.c_type_reader.specs.Beside.{WithEnd}
 use Rattle.c_type_reader.specs.Endings.{SpecifiersEnd}
-use Rattle.c_declarator_reader.proofs.Fresh.{fresh, fresh_is}
+use Rattle.c_type_reader.proofs.Fresh.{fresh, fresh_is}
 use Rattle.c_type_reader.proofs.Ended.{with_end, specified}
 use Rattle.c_type_reader.proofs.TypeFirsts.{base_first, specifiers_first}
 use Rattle.c_expression_reader.specs.Exactness.{TypeRoles, BeginsTypeName}

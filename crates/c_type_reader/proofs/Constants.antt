@@ -21,17 +21,17 @@ use Rattle.c_expression_reader.specs.Types.{plain_name_at, constant_end, After, 
 use Rattle.c_expression_reader.proofs.Marks.{Behind, one-mark, mark-one, mark-is, mark-passes, mark-self, mark-some, roled-opened, roled-choose, behind_begins, behind_silent, map_begins, map_silent, some_value, one_first, roled-mark}
 use Rattle.c_expression_reader.proofs.Samples.{zero_tree, zero_text, zero_conditional}
 use Rattle.exact_read.proofs.Contexts.{many-context_same}
-use Rattle.c_declarator_reader.proofs.Counts.{From, onwards, no_more, itself}
-use Rattle.c_declarator_reader.proofs.Tokens.{or_right, stops_or_true}
-use Rattle.c_declarator_reader.proofs.Fresh.{fresh, fresh_is}
-use Rattle.c_declarator_reader.proofs.Dimensions.{within_opens}
-use Rattle.c_declarator_reader.proofs.Declarators.{plain-is, plain-self}
+use Rattle.c_type_reader.proofs.Counts.{From, onwards, no_more, itself}
+use Rattle.c_type_reader.proofs.Tokens.{or_right, stops_or_true}
+use Rattle.c_type_reader.proofs.Fresh.{fresh, fresh_is}
+use Rattle.c_type_reader.proofs.Dimensions.{within_opens}
+use Rattle.c_type_reader.proofs.Declarators.{plain-is, plain-self}
 use Rattle.role_read.proofs.Basics.{roled-same, roled-stop, roled-enter}
 use Rattle.role_read.proofs.Begins.{Begins, Silent}
 use Rattle.role_read.proofs.Then.{roled-then}
 use Rattle.c_expression_reader.specs.Firm.{Firm}
 use Rattle.c_expression_reader.proofs.Firm.{firm-map, firm-one, firm-nothing, firm-many}
-use Rattle.c_declarator_reader.specs.Exactness.{Whole}
+use Rattle.c_type_reader.specs.Declarators.{Whole}
 
 abbrev pub Constant : Type 0
 Constant = tree.Name × Option tree.Expression

@@ -4,7 +4,7 @@ use Rattle.c_tree_spec.specs.Expression as tree
 use Rattle.c_grammar_spec.specs.Leaves.{Leaf}
 use Rattle.c_grammar_spec.specs.Expressions as grammar
 use Rattle.c_expression_reader.specs.Readers.{before}
-use Rattle.c_declarator_reader.specs.Beside.{WithEnd}
+use Rattle.c_type_reader.specs.Beside.{WithEnd}
 use Rattle.c_type_reader.specs.Endings.{Ending, SpecifiersEnd, ending}
 
 pub specified : (names : List (List ℕ)) (position : grammar.Position) (depth : ℕ) (counting : grammar.Counting) (s : tree.Specifiers) (end : Ending) (text : List Leaf) → SpecifiersEnd names position depth counting s end text → grammar.Specifiers names position depth counting s text

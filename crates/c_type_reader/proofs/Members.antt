@@ -16,22 +16,22 @@ use Rattle.c_expression_reader.specs.Exactness.{Closed}
 use Rattle.c_expression_reader.specs.Readers.{Readers}
 use Rattle.c_expression_reader.specs.Types.{last_of, declarators_of, is_const, members_of, operators_of_member, read_declarator, read_member_list, read_members}
 use Rattle.c_expression_reader.proofs.Marks.{one-mark, mark-one, Behind, mark-self, roled-closed, roled-opened}
-use Rattle.c_declarator_reader.specs.Beside.{FirmBeside, WithEnd}
+use Rattle.c_type_reader.specs.Beside.{FirmBeside, WithEnd}
 use Rattle.c_type_reader.specs.Endings.{SpecifiersEnd, stop_specifiers}
-use Rattle.c_declarator_reader.proofs.Beside.{roled-then_beside, then_begins, then_silent}
+use Rattle.c_type_reader.proofs.Beside.{roled-then_beside, then_begins, then_silent}
 use Rattle.c_type_reader.proofs.TypeFirsts.{specifiers_first, declarator_ends}
-use Rattle.c_declarator_reader.proofs.Tokens.{stops_or_true}
-use Rattle.c_declarator_reader.proofs.Dimensions.{within_opens}
-use Rattle.c_declarator_reader.proofs.Declarators.{DeclaratorFirst, declarator_first, declares_member, roled-declarator}
-use Rattle.c_declarator_reader.proofs.Counts.{From, onwards, more_enough, itself}
-use Rattle.c_declarator_reader.proofs.Lists.{Before, MoreText, EndText, Lists, end_stops, end_some, roled-end}
+use Rattle.c_type_reader.proofs.Tokens.{stops_or_true}
+use Rattle.c_type_reader.proofs.Dimensions.{within_opens}
+use Rattle.c_type_reader.proofs.Declarators.{DeclaratorFirst, declarator_first, declares_member, roled-declarator}
+use Rattle.c_type_reader.proofs.Counts.{From, onwards, more_enough, itself}
+use Rattle.c_type_reader.proofs.Lists.{Before, MoreText, EndText, Lists, end_stops, end_some, roled-end}
 use Rattle.exact_read.proofs.Contexts.{many-context_same}
 use Rattle.role_read.proofs.Then.{roled-then}
 use Rattle.c_type_reader.proofs.Ended.{specified, with_end}
 use Rattle.role_read.proofs.Basics.{roled-same, roled-enter}
 use Rattle.c_expression_reader.specs.Firm.{Firm}
 use Rattle.c_expression_reader.proofs.Firm.{firm-map, firm-many}
-use Rattle.c_declarator_reader.specs.Exactness.{Whole}
+use Rattle.c_type_reader.specs.Declarators.{Whole}
 use Rattle.c_type_reader.proofs.Begins.{ended_begins, ended_silent, ended_some}
 
 -- from a least count of operators on

@@ -14,15 +14,15 @@ use Rattle.c_expression_reader.specs.Types.{Head, head_of, read_base, HeadVoid}
 use Rattle.c_type_reader.specs.Endings.{Ending, goes_on_with, base_ending, ending, SpecifiersEnd, WordsAround, stop_specifiers}
 use Rattle.c_type_reader.specs.Rich.{Ended, rich_base}
 use Rattle.c_type_reader.specs.Specified.{first_at, ending_behind, read_around, read_specified, rich_specified}
-use Rattle.c_declarator_reader.proofs.Tokens.{TokenClass, leaves_of, unless_read}
+use Rattle.c_type_reader.proofs.Tokens.{TokenClass, leaves_of, unless_read}
 use Rattle.c_type_reader.proofs.Members.{Inside}
 use Rattle.c_type_reader.proofs.Bases.{BaseText, text_base, base_text, without_end, base_same, stop_ended, roled-base}
 use Rattle.role_read.proofs.Basics.{roled-same, roled-stop}
 use Rattle.role_read.proofs.Then.{roled-then}
 use Rattle.c_expression_reader.specs.Firm.{Firm}
 use Rattle.c_expression_reader.proofs.Firm.{firm-map}
-use Rattle.c_declarator_reader.specs.Exactness.{Whole}
-use Rattle.c_declarator_reader.proofs.Plain.{roled-tokens}
+use Rattle.c_type_reader.specs.Declarators.{Whole}
+use Rattle.c_type_reader.proofs.Plain.{roled-tokens}
 use Rattle.std.specs.Option.{is_some}
 
 -- a class of words around a base

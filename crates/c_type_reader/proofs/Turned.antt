@@ -6,7 +6,7 @@ use Rattle.c_expression_reader.specs.Readers.{Readers}
 use Rattle.c_expression_reader.specs.Turns.{around, readers}
 use Rattle.c_expression_reader.proofs.Expressions.{around-roled}
 use Rattle.c_type_reader.specs.Exactness.{ReadersFirm, AllFirm, AllExact}
-use Rattle.c_declarator_reader.specs.Exactness.{Whole}
+use Rattle.c_type_reader.specs.Declarators.{Whole}
 use Rattle.c_type_reader.proofs.Members.{Inside}
 use Rattle.c_type_reader.proofs.TypeNames.{type_facts, roled-specifiers, roled-type_name}
 use Rattle.c_type_reader.proofs.Begins.{type_roles}

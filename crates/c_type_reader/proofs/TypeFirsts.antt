@@ -16,7 +16,7 @@ use Rattle.c_expression_reader.specs.Classes.{begins_type, begins_type_word, is_
 use Rattle.c_expression_reader.specs.Types.{HeadInteger, head_word, is_const}
 use Rattle.c_type_reader.specs.Endings.{Ending, SpecifiersEnd, WordsAround, BraceToo, WordsToo, goes_on_with}
 use Rattle.c_type_reader.proofs.IntegerWords.{six, word_six, first_words}
-use Rattle.c_declarator_reader.proofs.Declarators.{begins_declarator}
+use Rattle.c_type_reader.proofs.Declarators.{begins_declarator}
 
 -- a text begins with a token that begins a type
 pub record TypeFirst (names : List (List ℕ)) (text : List Leaf) : Type 0 where

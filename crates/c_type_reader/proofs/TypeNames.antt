@@ -16,12 +16,12 @@ use Rattle.c_expression_reader.specs.Exactness.{Closed, TypeFacts}
 use Rattle.c_expression_reader.specs.Readers.{Readers, token, before}
 use Rattle.c_expression_reader.specs.Types.{goes_on, no_storage, Head, head_of, is_const, const_place, first_or, read_consts, read_base, read_specifiers, read_pointer, read_type_name}
 use Rattle.c_expression_reader.proofs.Marks.{roled-closed}
-use Rattle.c_declarator_reader.specs.Beside.{FirmBeside}
+use Rattle.c_type_reader.specs.Beside.{FirmBeside}
 use Rattle.c_type_reader.specs.Endings.{Ending, WordsAround, BraceToo, WordsToo, goes_on_with, SpecifiersEnd, stop_specifiers}
 use Rattle.c_type_reader.specs.Specified.{first_at, read_specified, rich_specified}
 use Rattle.c_type_reader.proofs.IntegerWords.{six, word_six}
-use Rattle.c_declarator_reader.proofs.Tokens.{leaves_of}
-use Rattle.c_declarator_reader.proofs.Pointers.{const_class, stop_pointer}
+use Rattle.c_type_reader.proofs.Tokens.{leaves_of}
+use Rattle.c_type_reader.proofs.Pointers.{const_class, stop_pointer}
 use Rattle.c_type_reader.proofs.TypeFirsts.{specifiers_first}
 use Rattle.c_type_reader.proofs.Members.{Inside}
 use Rattle.c_type_reader.proofs.Ended.{specified, with_end}
@@ -30,8 +30,8 @@ use Rattle.role_read.proofs.Basics.{roled-same}
 use Rattle.role_read.proofs.Then.{roled-then}
 use Rattle.c_expression_reader.specs.Firm.{Firm}
 use Rattle.c_expression_reader.proofs.Firm.{firm-map}
-use Rattle.c_declarator_reader.specs.Exactness.{Whole}
-use Rattle.c_declarator_reader.proofs.Plain.{const_found, roled-pointer}
+use Rattle.c_type_reader.specs.Declarators.{Whole}
+use Rattle.c_type_reader.proofs.Plain.{const_found, roled-pointer}
 
 -- a word that is none of the six goes on with no words of an integer type
 pub no_more_words : (words : List Keyword) (w : Keyword) → six w ≡ false → goes_on words (Word w) ≡ false

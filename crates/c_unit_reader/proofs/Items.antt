@@ -24,7 +24,7 @@ use Rattle.c_expression_reader.specs.Exactness.{Closed}
 use Rattle.c_expression_reader.specs.Readers.{behind, token, choose}
 use Rattle.c_expression_reader.proofs.Marks.{Behind, one-mark, mark-one, map_silent, one_first, first_silent, mark-some, map_begins, mark-self, roled-closed_by, roled-opened, roled-choice, behind_begins, behind_silent, roled-behind, roled-mark}
 use Rattle.c_type_reader.specs.Endings.{Ending, WordsAround, BraceToo, WordsToo, goes_on_with, stop_specifiers, SpecifiersEnd}
-use Rattle.c_declarator_reader.proofs.Declarators.{DeclaratorFirst, pointer_first, declarator_first, begins_declarator}
+use Rattle.c_type_reader.proofs.Declarators.{DeclaratorFirst, pointer_first, declarator_first, begins_declarator}
 use Rattle.c_type_reader.proofs.Ended.{specified, with_end}
 use Rattle.c_type_reader.proofs.Turned.{all-roled}
 use Rattle.c_type_reader.proofs.TypeFirsts.{declarator_stops, base_first}

@@ -18,15 +18,15 @@ use Rattle.c_expression_reader.specs.Readers.{token, Readers, before, behind, ch
 use Rattle.c_expression_reader.specs.Types.{expressions_of, read_length, read_lengths, read_dimensions}
 use Rattle.c_expression_reader.proofs.Marks.{Behind, mark-passes, one-mark, mark-one, roled-closed, mark-self, roled-opened, mark-some, behind_begins, behind_silent, roled-choose, roled-choice, map_begins, map_silent}
 use Rattle.c_expression_reader.proofs.Samples.{zero_tree, zero_text, zero_conditional}
-use Rattle.c_declarator_reader.proofs.Counts.{From, more_enough, onwards, itself}
-use Rattle.c_declarator_reader.proofs.Tokens.{stops_or_true}
-use Rattle.c_declarator_reader.proofs.Firsts.{conditional_first, first_not_mark}
+use Rattle.c_type_reader.proofs.Counts.{From, more_enough, onwards, itself}
+use Rattle.c_type_reader.proofs.Tokens.{stops_or_true}
+use Rattle.c_type_reader.proofs.Firsts.{conditional_first, first_not_mark}
 use Rattle.role_read.proofs.Basics.{roled-same, roled-enter, roled-stop}
 use Rattle.role_read.proofs.Begins.{Begins}
 use Rattle.role_read.proofs.Then.{roled-then}
 use Rattle.c_expression_reader.specs.Firm.{Firm}
 use Rattle.c_expression_reader.proofs.Firm.{firm-map, firm-many, firm-nothing}
-use Rattle.c_declarator_reader.specs.Exactness.{Whole}
+use Rattle.c_type_reader.specs.Declarators.{Whole}
 
 or-false : (a : Bool) → (a || false) ≡ false → a ≡ false
 or-false true e = absurd (cc)

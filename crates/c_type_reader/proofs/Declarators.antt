@@ -12,15 +12,15 @@ use Rattle.exact_read.proofs.Parts.{stops_anything}
 use Rattle.c_expression_reader.specs.Classes.{name_of, name_at, is_mark}
 use Rattle.c_expression_reader.specs.Readers.{Readers}
 use Rattle.c_expression_reader.specs.Types.{plain_name_of, plain_name_at, is_plain_name, read_declarator}
-use Rattle.c_declarator_reader.proofs.Fresh.{fresh, fresh_is}
-use Rattle.c_declarator_reader.proofs.Pointers.{stop_pointer}
-use Rattle.c_declarator_reader.proofs.Dimensions.{roled-dimensions}
+use Rattle.c_type_reader.proofs.Fresh.{fresh, fresh_is}
+use Rattle.c_type_reader.proofs.Pointers.{stop_pointer}
+use Rattle.c_type_reader.proofs.Dimensions.{roled-dimensions}
 use Rattle.role_read.proofs.Basics.{roled-same}
 use Rattle.role_read.proofs.Then.{roled-then}
 use Rattle.c_expression_reader.specs.Firm.{Firm}
 use Rattle.c_expression_reader.proofs.Firm.{firm-map, firm-one}
-use Rattle.c_declarator_reader.specs.Exactness.{Whole}
-use Rattle.c_declarator_reader.proofs.Plain.{roled-pointer}
+use Rattle.c_type_reader.specs.Declarators.{Whole}
+use Rattle.c_type_reader.proofs.Plain.{roled-pointer}
 
 -- a class of names that can be declared
 pub record Declares (names : List (List ℕ)) (is_member : Bool) (class : Placed → Option tree.Name) : Type 0 where
