@@ -7,6 +7,7 @@ use Rattle.c_spec.specs.Lexical.{Placed, Token, Name as name_token, Word, Number
 use Rattle.c_tree_spec.specs.Expression as tree
 use Rattle.c_grammar_spec.specs.declared.Role.{Role}
 use Rattle.c_grammar_spec.specs.Leaves.{word}
+use Rattle.c_grammar_spec.specs.Expressions.{Alone}
 use Rattle.exact_read.specs.Reading.{Reader}
 use Rattle.c_expression_reader.specs.Readers.{Readers}
 use Rattle.c_expression_reader.specs.Types.{no_storage}
@@ -84,7 +85,7 @@ storage_of with [] = no_storage
 storage_of with (pair ∷ words) = with pair.0 (storage_of with words)
 
 abbrev pub read_local_specifiers : (names : List (List ℕ)) → Readers → (depth : ℕ) → Reader Placed Role tree.Specifiers
-read_local_specifiers = read_specified (word_at local_word) (is_word local_word) (spell_word local_keyword) (storage_of with_local)
+read_local_specifiers names inner depth = read_specified (word_at local_word) (is_word local_word) (spell_word local_keyword) (storage_of with_local) names inner depth Alone
 
 abbrev pub read_item_specifiers : (names : List (List ℕ)) → Readers → (depth : ℕ) → Reader Placed Role tree.Specifiers
-read_item_specifiers = read_specified (word_at item_word) (is_word item_word) (spell_word item_keyword) (storage_of with_item)
+read_item_specifiers names inner depth = read_specified (word_at item_word) (is_word item_word) (spell_word item_keyword) (storage_of with_item) names inner depth Alone

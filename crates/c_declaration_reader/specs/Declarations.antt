@@ -7,6 +7,7 @@ use Rattle.c_spec.specs.Lexical.{Placed, Token}
 use Rattle.c_tree_spec.specs.Unit as unit
 use Rattle.c_grammar_spec.specs.declared.Role.{Role}
 use Rattle.c_grammar_spec.specs.declared.Role.TheVariants.{Nothing}
+use Rattle.c_grammar_spec.specs.Expressions.{Alone}
 use Rattle.c_grammar_spec.specs.Leaves.{plain, awaited}
 use Rattle.c_grammar_spec.specs.Statements.{value_end}
 use Rattle.exact_read.specs.Reading.{Reader}
@@ -33,7 +34,7 @@ read_list_from end close first item =
 -- a local, and what it begins with
 abbrev pub read_local : (names : List (List ℕ)) → Readers → (depth : ℕ) → Reader Placed Role unit.Local
 read_local names inner depth =
-    read_map (λ made. record { declarator = made.0; value = made.1 }) (read_then (read_declarator (plain_name_at names) inner depth) (λ _. choose (is_mark punctuator.Assign)
+    read_map (λ made. record { declarator = made.0; value = made.1 }) (read_then (read_declarator (plain_name_at names) inner depth Alone) (λ _. choose (is_mark punctuator.Assign)
     (behind (token Nothing plain (mark_place punctuator.Assign)) (λ _. read_map (λ value. Some value) (read_value inner depth 0))) (read_nothing None)))
 
 abbrev pub end_of_local : unit.Local → Role

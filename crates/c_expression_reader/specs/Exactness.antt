@@ -7,7 +7,7 @@ use Rattle.c_spec.specs.Lexical.{Placed}
 use Rattle.c_tree_spec.specs.Expression as tree
 use Rattle.c_grammar_spec.specs.declared.Role.TheVariants.{Nothing}
 use Rattle.c_grammar_spec.specs.Leaves.{Leaf, mark, plain}
-use Rattle.c_grammar_spec.specs.Expressions.{Unary, TypeName, Cast, Conditional}
+use Rattle.c_grammar_spec.specs.Expressions.{Unary, TypeName, Cast, Conditional, Counting, count_at}
 use Rattle.exact_read.specs.Grammar.{anything}
 use Rattle.c_expression_reader.specs.Budget.{needs}
 use Rattle.c_expression_reader.specs.Classes.{is_mark, begins_type, mark_place}
@@ -33,28 +33,28 @@ pub record Closed {X : Type 0} (place : Placed → Leaf) (p : Punctuator) (S : X
 
 -- what is asked of types
 pub record TypeFacts (names : List (List ℕ)) : Type 0 where
-  pub begins : (depth : ℕ) (type : tree.TypeName) (text : List Leaf) → TypeName names depth type text → (u : Leaf) × (more : List Leaf) × (text ≡ u ∷ more) × (begins_type names u.token.token ≡ true)
-  pub some : (depth : ℕ) → (type : tree.TypeName) × (text : List Leaf) × TypeName names depth type text
+  pub begins : (depth : ℕ) (counting : Counting) (type : tree.TypeName) (text : List Leaf) → TypeName names depth counting type text → (u : Leaf) × (more : List Leaf) × (text ≡ u ∷ more) × (begins_type names u.token.token ≡ true)
+  pub some : (depth : ℕ) (counting : Counting) → (type : tree.TypeName) × (text : List Leaf) × TypeName names depth counting type text
 
 -- what is asked of the readers inside; a type is said with its bracket
 pub record AreFirm (names : List (List ℕ)) (inner : Readers) (turns : ℕ) : Type 0 where
   pub cast : (depth count : ℕ) → needs depth count + 2 ≤ turns → Firm anything (Cast names depth count) stop_cast (inner.cast depth count)
   pub unary : (depth count : ℕ) → needs depth count + 1 ≤ turns → Firm anything (PlainUnary names depth count) stop_cast (inner.unary depth count)
   pub conditional : (depth count : ℕ) → needs depth count + 3 ≤ turns → Firm anything (Conditional names depth count) stop_conditional (inner.conditional depth count)
-  pub type_name : (depth : ℕ) → needs depth 129 + 4 ≤ turns → Firm anything (Closed plain punctuator.RightParenthesis (TypeName names depth)) (λ _. anything) (before (inner.type_name depth) (token Nothing plain (mark_place punctuator.RightParenthesis)))
+  pub type_name : (depth : ℕ) (counting : Counting) → needs depth (count_at counting) + 4 ≤ turns → Firm anything (Closed plain punctuator.RightParenthesis (TypeName names depth counting)) (λ _. anything) (before (inner.type_name depth counting) (token Nothing plain (mark_place punctuator.RightParenthesis)))
 
 -- the token begins a type
-pub record BeginsTypeName (names : List (List ℕ)) (depth : ℕ) (token : Placed) : Type 0 where
+pub record BeginsTypeName (names : List (List ℕ)) (depth : ℕ) (counting : Counting) (token : Placed) : Type 0 where
   pub type : tree.TypeName
   pub first : Leaf
   pub more : List Leaf
-  pub spells : TypeName names depth type (first ∷ more)
+  pub spells : TypeName names depth counting type (first ∷ more)
   pub is : first.token ≡ token
 
 -- what is asked of types: a token that can begin one does, and what begins one tells nothing
 pub record TypeRoles (names : List (List ℕ)) : Type 0 where
-  pub begins : (depth : ℕ) (token : Placed) → begins_type names token.token ≡ true → BeginsTypeName names depth token
-  pub silent : (depth : ℕ) (type : tree.TypeName) (first : Leaf) (more : List Leaf) → TypeName names depth type (first ∷ more) → first.role ≡ Nothing
+  pub begins : (depth : ℕ) (counting : Counting) (token : Placed) → begins_type names token.token ≡ true → BeginsTypeName names depth counting token
+  pub silent : (depth : ℕ) (counting : Counting) (type : tree.TypeName) (first : Leaf) (more : List Leaf) → TypeName names depth counting type (first ∷ more) → first.role ≡ Nothing
 
 -- the same of the readers of expressions alone
 pub record ExpressionsFirm (names : List (List ℕ)) (inner : Readers) (turns : ℕ) : Type 0 where

@@ -10,7 +10,7 @@ use Rattle.c_tree_spec.specs.Expression as tree
 use Rattle.c_grammar_spec.specs.declared.Role.{Role}
 use Rattle.c_grammar_spec.specs.declared.Role.TheVariants.{Nothing, OperandEnd}
 use Rattle.c_grammar_spec.specs.Leaves.{Leaf, plain, awaited, operates, brackets, marks}
-use Rattle.c_grammar_spec.specs.Expressions.{operators}
+use Rattle.c_grammar_spec.specs.Expressions.{operators, operators_of_type, Counting, Within}
 use Rattle.exact_read.specs.Reading.{Reader}
 use Rattle.exact_read.specs.Grammar.{bind, read_one, read_map, read_nothing}
 use Rattle.exact_read.specs.Folds.{read_behind, read_folded}
@@ -23,8 +23,8 @@ pub record Readers : Type 0 where
   -- a unary expression that begins with no bracket
   pub unary : (depth count : ℕ) → Reader Placed Role tree.Expression
   pub conditional : (depth count : ℕ) → Reader Placed Role tree.Expression
-  pub specifiers : (depth : ℕ) → Reader Placed Role tree.Specifiers
-  pub type_name : (depth : ℕ) → Reader Placed Role tree.TypeName
+  pub specifiers : (depth : ℕ) → (counting : Counting) → Reader Placed Role tree.Specifiers
+  pub type_name : (depth : ℕ) → (counting : Counting) → Reader Placed Role tree.TypeName
 
 -- one token of a class
 abbrev pub token : {X : Type 0} → (role : Role) → (place : Placed → Leaf) → (class : Placed → Option X) → Reader Placed Role X
@@ -99,15 +99,15 @@ abbrev pub read_open : (depth count : ℕ) → Reader Placed Role ℕ
 read_open depth count = token Nothing (brackets (suc depth) (suc count)) (mark_place punctuator.LeftParenthesis)
 
 -- a type behind `(`, and its bracket
-abbrev pub read_type : Readers → (depth : ℕ) → Reader Placed Role tree.TypeName
-read_type inner depth = before (inner.type_name (suc depth)) (token Nothing plain (mark_place punctuator.RightParenthesis))
+abbrev pub read_type : Readers → (depth count : ℕ) → Reader Placed Role tree.TypeName
+read_type inner depth count = before (inner.type_name (suc depth) (Within count)) (token Nothing plain (mark_place punctuator.RightParenthesis))
 
 -- 6.5.3: what stands behind `sizeof` at this place
 abbrev pub read_sized : (names : List (List ℕ)) → Readers → (depth count place : ℕ) → Reader Placed Role tree.Expression
 read_sized names inner depth count place =
     choose (is_mark punctuator.LeftParenthesis)
     (behind (read_open depth count) (λ opened. choose (begins_type names)
-    (read_map (λ type. tree.SizeofType type place) (read_type inner depth))
+    (read_map (λ type. tree.SizeofType type place) (read_type inner depth (suc count)))
     (read_map (λ x. tree.Sizeof x place) (read_bracketed inner depth count opened))))
     (read_map (λ x. tree.Sizeof x place) (inner.unary depth count))
 
@@ -126,7 +126,7 @@ read_unary names inner depth count =
 
 -- 6.5.4: behind `(` at this place a type, its bracket and an operand
 abbrev pub read_converted : Readers → (depth count place : ℕ) → Reader Placed Role tree.Expression
-read_converted inner depth count place = behind (read_type inner depth) (λ type. read_map (λ x. tree.Cast type x place) (inner.cast depth (suc count)))
+read_converted inner depth count place = behind (read_type inner depth (suc count)) (λ type. read_map (λ x. tree.Cast type x place) (inner.cast depth (suc count + operators_of_type type)))
 
 abbrev pub read_cast : (names : List (List ℕ)) → Readers → (depth count : ℕ) → Reader Placed Role tree.Expression
 read_cast names inner depth count =

@@ -14,5 +14,5 @@ abbrev pub around : (names : List (List ℕ)) → Readers → Readers
 around names inner = record { cast = read_cast names inner; unary = read_unary names inner; conditional = read_conditional inner; specifiers = read_specifiers names inner; type_name = read_type_name names inner }
 
 unfoldable pub readers : (names : List (List ℕ)) → (turns : ℕ) → Readers
-readers names zero = record { cast = λ depth count. too_deep; unary = λ depth count. too_deep; conditional = λ depth count. too_deep; specifiers = λ depth. too_deep; type_name = λ depth. too_deep }
+readers names zero = record { cast = λ depth count. too_deep; unary = λ depth count. too_deep; conditional = λ depth count. too_deep; specifiers = λ depth counting. too_deep; type_name = λ depth counting. too_deep }
 readers names (suc turns) = around names (readers names turns)

@@ -1,5 +1,5 @@
 -- Readers of the types that stand in casts and behind `sizeof`, on lists of tokens (ISO C11, 6.7.2, 6.7.6, 6.7.7).
-use Rattle.std.specs.Prelude.{ℕ, suc, Bool, true, false, if◌then◌else◌, List, [], ◌∷◌, ◌++◌, length, Option, Some, None, option_map, unwrap_or}
+use Rattle.std.specs.Prelude.{ℕ, suc, ◌+◌, Bool, true, false, if◌then◌else◌, List, [], ◌∷◌, ◌++◌, length, Option, Some, None, option_map, unwrap_or}
 use Rattle.std.specs.Option.{is_some, option_map_or}
 use Rattle.c_spec.specs.declared.token.Keyword.{Keyword}
 use Rattle.c_spec.specs.declared.token.Keyword.TheVariants.{Const, Void, Char, Signed, Unsigned, Short, Int, Long, Struct, Enum}
@@ -10,7 +10,7 @@ use Rattle.c_tree_spec.specs.Expression as tree
 use Rattle.c_grammar_spec.specs.declared.Role.{Role}
 use Rattle.c_grammar_spec.specs.declared.Role.TheVariants.{Nothing, DeclaredName, OperandEnd}
 use Rattle.c_grammar_spec.specs.Leaves.{plain, awaited, opens}
-use Rattle.c_grammar_spec.specs.Expressions.{is_type_name, integer_type_of, member_end}
+use Rattle.c_grammar_spec.specs.Expressions.{is_type_name, integer_type_of, member_end, operators, operators_of_specifiers, operators_of_declarators, operators_of_declarator, Counting, count_at, advance}
 use Rattle.exact_read.specs.Reading.{Reader}
 use Rattle.exact_read.specs.Grammar.{read_then, read_map, read_many, read_nothing}
 use Rattle.c_expression_reader.specs.Classes.{is_mark, mark_place, name_at, begins_type}
@@ -87,33 +87,34 @@ abbrev pub integer_of : (words : List Keyword) → tree.Base
 integer_of words = tree.Integer (unwrap_or (integer_type_of words) integer.Int)
 
 -- a length in brackets
-abbrev pub read_length : Readers → (depth : ℕ) → Reader Placed Role tree.Expression
-read_length inner depth =
+abbrev pub read_length : Readers → (depth : ℕ) → (counting : Counting) → Reader Placed Role tree.Expression
+read_length inner depth counting =
     behind (token Nothing (opens (suc depth)) (mark_place punctuator.LeftBracket))
-    (λ _. before (inner.conditional (suc depth) 0) (token OperandEnd (awaited OperandEnd) (mark_place punctuator.RightBracket)))
+    (λ _. before (inner.conditional (suc depth) (count_at counting)) (token OperandEnd (awaited OperandEnd) (mark_place punctuator.RightBracket)))
 
 abbrev pub expressions_of : List tree.Expression → tree.Expressions
 expressions_of [] = tree.no_expressions
 expressions_of (x ∷ xs) = tree.expressions x (expressions_of xs)
 
-abbrev pub read_lengths : Readers → (depth : ℕ) → Reader Placed Role tree.Expressions
-read_lengths inner depth = read_map expressions_of (read_many (λ (_ : Unit {0}) next. is_mark punctuator.LeftBracket next.token) (λ _. read_length inner depth) (λ _ _. tt {0}) (tt {0}))
+abbrev pub read_lengths : Readers → (depth : ℕ) → (counting : Counting) → Reader Placed Role tree.Expressions
+read_lengths inner depth counting =
+    read_map expressions_of (read_many (λ (_ : Counting) next. is_mark punctuator.LeftBracket next.token) (λ so_far. read_length inner depth so_far) (λ so_far length. advance so_far (operators length)) counting)
 
 -- the lengths of an array, and whether the first is left out
-abbrev pub read_dimensions : Readers → (depth : ℕ) → Reader Placed Role (Bool × tree.Expressions)
-read_dimensions inner depth =
+abbrev pub read_dimensions : Readers → (depth : ℕ) → (counting : Counting) → Reader Placed Role (Bool × tree.Expressions)
+read_dimensions inner depth counting =
     choose (is_mark punctuator.LeftBracket)
     (behind (token Nothing (opens (suc depth)) (mark_place punctuator.LeftBracket))
     (λ _. choose (is_mark punctuator.RightBracket)
-    (read_map (λ lengths. (true, lengths)) (behind (token Nothing plain (mark_place punctuator.RightBracket)) (λ _. read_lengths inner depth)))
+    (read_map (λ lengths. (true, lengths)) (behind (token Nothing plain (mark_place punctuator.RightBracket)) (λ _. read_lengths inner depth counting)))
     (read_map (λ pair. (false, tree.expressions pair.0 pair.1))
-    (read_then (before (inner.conditional (suc depth) 0) (token OperandEnd (awaited OperandEnd) (mark_place punctuator.RightBracket))) (λ _. read_lengths inner depth)))))
+    (read_then (before (inner.conditional (suc depth) (count_at counting)) (token OperandEnd (awaited OperandEnd) (mark_place punctuator.RightBracket))) (λ first. read_lengths inner depth (advance counting (operators first)))))))
     (read_nothing (false, tree.no_expressions))
 
-abbrev pub read_declarator : (name : Placed → Option tree.Name) → Readers → (depth : ℕ) → Reader Placed Role tree.Declarator
-read_declarator name inner depth =
+abbrev pub read_declarator : (name : Placed → Option tree.Name) → Readers → (depth : ℕ) → (counting : Counting) → Reader Placed Role tree.Declarator
+read_declarator name inner depth counting =
     read_map (λ made. tree.Declared made.0 made.1.0 made.1.1.0 made.1.1.1)
-    (read_then read_pointer (λ _. read_then (token DeclaredName (awaited DeclaredName) name) (λ _. read_dimensions inner depth)))
+    (read_then read_pointer (λ _. read_then (token DeclaredName (awaited DeclaredName) name) (λ _. read_dimensions inner depth counting)))
 
 abbrev pub declarators_of : List tree.Declarator → tree.Declarators
 declarators_of [] = tree.no_declarators
@@ -125,62 +126,79 @@ last_of x [] = x
 last_of x (y ∷ ys) = last_of y ys
 
 -- declarators of members with `,` between them, and the `;` behind
-abbrev pub read_member_list : Readers → (depth : ℕ) → Reader Placed Role tree.Declarators
-read_member_list inner depth =
+abbrev pub read_member_list : Readers → (depth : ℕ) → (counting : Counting) → Reader Placed Role tree.Declarators
+read_member_list inner depth counting =
     read_map (λ pair. tree.declarators pair.0 (declarators_of pair.1.0))
-    (read_then (read_declarator name_at inner depth)
-    (λ first. read_then (read_many (λ (_ : Unit {0}) next. is_mark punctuator.Comma next.token) (λ _. behind (token Nothing plain (mark_place punctuator.Comma)) (λ _. read_declarator name_at inner depth)) (λ _ _. tt {0}) (tt {0}))
+    (read_then (read_declarator name_at inner depth counting)
+    (λ first. read_then (read_many (λ (_ : Counting) next. is_mark punctuator.Comma next.token) (λ so_far. behind (token Nothing plain (mark_place punctuator.Comma)) (λ _. read_declarator name_at inner depth so_far)) (λ so_far declarator. advance so_far (operators_of_declarator declarator)) (advance counting (operators_of_declarator first)))
     (λ more. token (member_end (last_of first more)) (awaited (member_end (last_of first more))) (mark_place punctuator.Semicolon))))
 
 abbrev pub members_of : List (tree.Specifiers × tree.Declarators) → tree.Members
 members_of [] = tree.no_members
 members_of (x ∷ xs) = tree.members x.0 x.1 (members_of xs)
 
+-- how many operators stand in the declarations of some members
+abbrev pub operators_of_member : tree.Specifiers × tree.Declarators → ℕ
+operators_of_member member = operators_of_specifiers member.0 + operators_of_declarators member.1
+
 -- members in braces
-abbrev pub read_members : (names : List (List ℕ)) → Readers → (depth : ℕ) → Reader Placed Role tree.Members
-read_members names inner depth =
+abbrev pub read_members : (names : List (List ℕ)) → Readers → (depth : ℕ) → (counting : Counting) → Reader Placed Role tree.Members
+read_members names inner depth counting =
     behind (token Nothing (opens (suc depth)) (mark_place punctuator.LeftBrace))
-    (λ _. before (read_map members_of (read_many (λ (_ : Unit {0}) next. begins_type names next.token)
-    (λ _. read_then (inner.specifiers (suc depth)) (λ _. read_member_list inner (suc depth))) (λ _ _. tt {0}) (tt {0})))
+    (λ _. before (read_map members_of (read_many (λ (_ : Counting) next. begins_type names next.token)
+    (λ so_far. read_then (inner.specifiers (suc depth) so_far) (λ specifiers. read_member_list inner (suc depth) (advance so_far (operators_of_specifiers specifiers))))
+    (λ so_far member. advance so_far (operators_of_member member)) counting))
     (token Nothing plain (mark_place punctuator.RightBrace)))
 
-abbrev pub read_struct : (names : List (List ℕ)) → Readers → (depth : ℕ) → Reader Placed Role tree.Base
-read_struct names inner depth =
+abbrev pub read_struct : (names : List (List ℕ)) → Readers → (depth : ℕ) → (counting : Counting) → Reader Placed Role tree.Base
+read_struct names inner depth counting =
     choose (is_plain_name names)
     (behind (token Nothing plain (plain_name_at names)) (λ tag. choose (is_mark punctuator.LeftBrace)
-    (read_map (λ members. tree.Struct (Some tag) members) (read_members names inner depth)) (read_nothing (tree.StructTag tag))))
-    (read_map (λ members. tree.Struct None members) (read_members names inner depth))
+    (read_map (λ members. tree.Struct (Some tag) members) (read_members names inner depth counting)) (read_nothing (tree.StructTag tag))))
+    (read_map (λ members. tree.Struct None members) (read_members names inner depth counting))
 
 -- a constant, and its value where it has one
-abbrev pub read_constant : (names : List (List ℕ)) → Readers → (depth : ℕ) → Reader Placed Role (tree.Name × Option tree.Expression)
-read_constant names inner depth =
+abbrev pub read_constant : (names : List (List ℕ)) → Readers → (depth : ℕ) → (counting : Counting) → Reader Placed Role (tree.Name × Option tree.Expression)
+read_constant names inner depth counting =
     read_then (token Nothing plain (plain_name_at names)) (λ _. choose (is_mark punctuator.Assign)
-    (read_map Some (behind (token Nothing plain (mark_place punctuator.Assign)) (λ _. inner.conditional depth 0))) (read_nothing None))
+    (read_map Some (behind (token Nothing plain (mark_place punctuator.Assign)) (λ _. inner.conditional depth (count_at counting)))) (read_nothing None))
 
 -- what is awaited behind a constant
 abbrev pub constant_end : tree.Name × Option tree.Expression → Role
 constant_end constant = option_map_or (λ _. OperandEnd) constant.1 Nothing
 
--- behind a constant a `,` can stand, and behind that a constant: `after` is what is awaited
+-- behind a constant a `,` can stand, and behind that a constant: `end` is what is awaited; with the count there
 pub data After : Type 0 where
-  AfterConstant : (end : Role) → After
-  AfterComma : After
+  AfterConstant : (end : Role) → (counting : Counting) → After
+  AfterComma : (counting : Counting) → After
+
+abbrev pub counting_after : After → Counting
+counting_after (AfterConstant end counting) = counting
+counting_after (AfterComma counting) = counting
+
+-- how many operators the value of a constant has
+abbrev pub operators_of_constant : tree.Name × Option tree.Expression → ℕ
+operators_of_constant constant = option_map_or operators constant.1 0
 
 abbrev pub constants_start : (names : List (List ℕ)) → After → Placed → Bool
-constants_start names (AfterConstant end) next = is_mark punctuator.Comma next.token
-constants_start names AfterComma next = is_some (plain_name_at names next)
+constants_start names (AfterConstant end counting) next = is_mark punctuator.Comma next.token
+constants_start names (AfterComma counting) next = is_some (plain_name_at names next)
 
 abbrev pub next_after : After → Option (tree.Name × Option tree.Expression) → After
-next_after after None = AfterComma
-next_after after (Some constant) = AfterConstant (constant_end constant)
+next_after after None = AfterComma (counting_after after)
+next_after after (Some constant) = AfterConstant (constant_end constant) (advance (counting_after after) (operators_of_constant constant))
 
 abbrev pub after_role : After → Role
-after_role (AfterConstant end) = end
-after_role AfterComma = Nothing
+after_role (AfterConstant end counting) = end
+after_role (AfterComma counting) = Nothing
 
 abbrev pub read_constants_part : (names : List (List ℕ)) → Readers → (depth : ℕ) → After → Reader Placed Role (Option (tree.Name × Option tree.Expression))
-read_constants_part names inner depth (AfterConstant end) = read_map (λ _. None) (token Nothing plain (mark_place punctuator.Comma))
-read_constants_part names inner depth AfterComma = read_map Some (read_constant names inner depth)
+read_constants_part names inner depth (AfterConstant end counting) = read_map (λ _. None) (token Nothing plain (mark_place punctuator.Comma))
+read_constants_part names inner depth (AfterComma counting) = read_map Some (read_constant names inner depth counting)
+
+-- behind a first constant
+abbrev pub first_after : Counting → tree.Name × Option tree.Expression → After
+first_after counting constant = AfterConstant (constant_end constant) (advance counting (operators_of_constant constant))
 
 abbrev pub context_of : After → List (Option (tree.Name × Option tree.Expression)) → After
 context_of after [] = after
@@ -196,30 +214,30 @@ constants_of (None ∷ parts) = constants_of parts
 constants_of (Some constant ∷ parts) = constant_before constant (constants_of parts)
 
 -- constants in braces
-abbrev pub read_constants : (names : List (List ℕ)) → Readers → (depth : ℕ) → Reader Placed Role tree.Constants
-read_constants names inner depth =
+abbrev pub read_constants : (names : List (List ℕ)) → Readers → (depth : ℕ) → (counting : Counting) → Reader Placed Role tree.Constants
+read_constants names inner depth counting =
     behind (token Nothing (opens (suc depth)) (mark_place punctuator.LeftBrace))
-    (λ _. read_map (λ pair. constant_before pair.0 (constants_of pair.1.0)) (read_then (read_constant names inner (suc depth))
-    (λ first. read_then (read_many (constants_start names) (read_constants_part names inner (suc depth)) next_after (AfterConstant (constant_end first)))
-    (λ parts. token (after_role (context_of (AfterConstant (constant_end first)) parts)) (awaited (after_role (context_of (AfterConstant (constant_end first)) parts))) (mark_place punctuator.RightBrace)))))
+    (λ _. read_map (λ pair. constant_before pair.0 (constants_of pair.1.0)) (read_then (read_constant names inner (suc depth) counting)
+    (λ first. read_then (read_many (constants_start names) (read_constants_part names inner (suc depth)) next_after (first_after counting first))
+    (λ parts. token (after_role (context_of (first_after counting first) parts)) (awaited (after_role (context_of (first_after counting first) parts))) (mark_place punctuator.RightBrace)))))
 
-abbrev pub read_enum : (names : List (List ℕ)) → Readers → (depth : ℕ) → Reader Placed Role tree.Base
-read_enum names inner depth =
+abbrev pub read_enum : (names : List (List ℕ)) → Readers → (depth : ℕ) → (counting : Counting) → Reader Placed Role tree.Base
+read_enum names inner depth counting =
     choose (is_plain_name names)
     (behind (token Nothing plain (plain_name_at names)) (λ tag. choose (is_mark punctuator.LeftBrace)
-    (read_map (λ constants. tree.Enum (Some tag) constants) (read_constants names inner depth)) (read_nothing (tree.EnumTag tag))))
-    (read_map (λ constants. tree.Enum None constants) (read_constants names inner depth))
+    (read_map (λ constants. tree.Enum (Some tag) constants) (read_constants names inner depth counting)) (read_nothing (tree.EnumTag tag))))
+    (read_map (λ constants. tree.Enum None constants) (read_constants names inner depth counting))
 
 -- what stands behind the first token of a base
-abbrev pub read_base_rest : (names : List (List ℕ)) → Readers → (depth : ℕ) → Head → Reader Placed Role tree.Base
-read_base_rest names inner depth HeadVoid = read_nothing tree.Void
-read_base_rest names inner depth (HeadInteger keyword) = read_map (λ words. integer_of (keyword ∷ words)) (read_words (keyword ∷ []))
-read_base_rest names inner depth (HeadName name) = read_nothing (tree.TypedefName name)
-read_base_rest names inner depth HeadStruct = read_struct names inner depth
-read_base_rest names inner depth HeadEnum = read_enum names inner depth
+abbrev pub read_base_rest : (names : List (List ℕ)) → Readers → (depth : ℕ) → (counting : Counting) → Head → Reader Placed Role tree.Base
+read_base_rest names inner depth counting HeadVoid = read_nothing tree.Void
+read_base_rest names inner depth counting (HeadInteger keyword) = read_map (λ words. integer_of (keyword ∷ words)) (read_words (keyword ∷ []))
+read_base_rest names inner depth counting (HeadName name) = read_nothing (tree.TypedefName name)
+read_base_rest names inner depth counting HeadStruct = read_struct names inner depth counting
+read_base_rest names inner depth counting HeadEnum = read_enum names inner depth counting
 
-abbrev pub read_base : (names : List (List ℕ)) → Readers → (depth : ℕ) → Reader Placed Role ((Head × ℕ) × tree.Base)
-read_base names inner depth = read_then (token Nothing plain (head_at names)) (λ head. read_base_rest names inner depth head.0)
+abbrev pub read_base : (names : List (List ℕ)) → Readers → (depth : ℕ) → (counting : Counting) → Reader Placed Role ((Head × ℕ) × tree.Base)
+read_base names inner depth counting = read_then (token Nothing plain (head_at names)) (λ head. read_base_rest names inner depth counting head.0)
 
 abbrev pub no_storage : tree.Storage
 no_storage = record { is_typedef = false; is_static = false }
@@ -230,10 +248,10 @@ first_or [] place = place
 first_or (first ∷ rest) place = first
 
 -- specifiers that stand in no item and in no declaration of locals
-abbrev pub read_specifiers : (names : List (List ℕ)) → Readers → (depth : ℕ) → Reader Placed Role tree.Specifiers
-read_specifiers names inner depth =
+abbrev pub read_specifiers : (names : List (List ℕ)) → Readers → (depth : ℕ) → (counting : Counting) → Reader Placed Role tree.Specifiers
+read_specifiers names inner depth counting =
     read_map (λ made. tree.Specified no_storage made.1.0.1 (first_or made.0 made.1.0.0.1))
-    (read_then read_consts (λ _. read_then (read_base names inner depth) (λ _. read_consts)))
+    (read_then read_consts (λ _. read_then (read_base names inner depth counting) (λ _. read_consts)))
 
-abbrev pub read_type_name : (names : List (List ℕ)) → Readers → (depth : ℕ) → Reader Placed Role tree.TypeName
-read_type_name names inner depth = read_map (λ pair. tree.Pointers pair.0 pair.1) (read_then (read_specifiers names inner depth) (λ _. read_pointer))
+abbrev pub read_type_name : (names : List (List ℕ)) → Readers → (depth : ℕ) → (counting : Counting) → Reader Placed Role tree.TypeName
+read_type_name names inner depth counting = read_map (λ pair. tree.Pointers pair.0 pair.1) (read_then (read_specifiers names inner depth counting) (λ _. read_pointer))

@@ -7,6 +7,7 @@ use Rattle.c_tree_spec.specs.Expression as tree
 use Rattle.c_tree_spec.specs.Unit as unit
 use Rattle.c_grammar_spec.specs.declared.Role.{Role}
 use Rattle.c_grammar_spec.specs.declared.Role.TheVariants.{Nothing, DeclaredName}
+use Rattle.c_grammar_spec.specs.Expressions.{Alone}
 use Rattle.c_grammar_spec.specs.Leaves.{plain, awaited, opens}
 use Rattle.exact_read.specs.Reading.{Reader}
 use Rattle.exact_read.specs.Grammar.{read_then, read_map, read_nothing}
@@ -24,13 +25,13 @@ abbrev pub ParameterRest : Type 0
 ParameterRest = ℕ × (Option tree.Name × (Bool × tree.Expressions))
 
 abbrev pub read_parameter_rest : (names : List (List ℕ)) → Readers → (depth : ℕ) → Reader Placed Role ParameterRest
-read_parameter_rest names inner depth = read_then read_pointer (λ _. read_then (read_optional_name names) (λ _. read_dimensions inner depth))
+read_parameter_rest names inner depth = read_then read_pointer (λ _. read_then (read_optional_name names) (λ _. read_dimensions inner depth Alone))
 
 abbrev pub parameter_of : tree.Specifiers → ParameterRest → unit.Parameter
 parameter_of specifiers rest = record { specifiers = specifiers; pointers = rest.0; name = rest.1.0; is_open = rest.1.1.0; lengths = rest.1.1.1 }
 
 abbrev pub read_parameter : (names : List (List ℕ)) → Readers → (depth : ℕ) → Reader Placed Role unit.Parameter
-read_parameter names inner depth = read_map (λ made. parameter_of made.0 made.1) (read_then (inner.specifiers depth) (λ _. read_parameter_rest names inner depth))
+read_parameter names inner depth = read_map (λ made. parameter_of made.0 made.1) (read_then (inner.specifiers depth Alone) (λ _. read_parameter_rest names inner depth))
 
 -- a parameter of which `void` at this place was read
 abbrev pub void_at : (place : ℕ) → tree.Specifiers
@@ -77,4 +78,4 @@ read_global names inner is_typedef =
     behind (read_then read_pointer (λ _. token DeclaredName (awaited DeclaredName) (plain_name_at names)))
     (λ made. choose (λ next. not is_typedef && is_mark punctuator.LeftParenthesis next)
     (read_map (λ function. unit.Function function) (read_function names inner 0 made.0 made.1))
-    (read_map (λ dimensions. unit.Object (tree.Declared made.0 made.1 dimensions.0 dimensions.1)) (read_dimensions inner 0)))
+    (read_map (λ dimensions. unit.Object (tree.Declared made.0 made.1 dimensions.0 dimensions.1)) (read_dimensions inner 0 Alone)))

@@ -81,20 +81,73 @@ level_of LogicalAnd = 9
 level_of LogicalOr = 10
 
 -- How many operators an expression has: its operator tokens, with the brackets `(` and `[`, `?` and `sizeof`.
--- What stands inside a type is no part of it.
-abbrev pub operators : tree.Expression → ℕ
-operators (tree.Named name) = 0
-operators (tree.Number value type place) = 0
-operators (tree.Character value place) = 0
-operators (tree.Bracketed inner place) = suc (operators inner)
-operators (tree.Index base index place) = operators base + suc (operators index)
-operators (tree.Member base access member place) = suc (operators base)
-operators (tree.Unary operator operand place) = suc (operators operand)
-operators (tree.Sizeof operand place) = suc (operators operand)
-operators (tree.SizeofType type place) = 2
-operators (tree.Cast type operand place) = suc (operators operand)
-operators (tree.Binary operator left right place) = operators left + suc (operators right)
-operators (tree.Conditional test first second place) = operators test + suc (operators first + operators second)
+-- Those of the lengths and values that its types give are among them.
+abbrev mutual
+  pub operators : tree.Expression → ℕ
+  operators (tree.Named name) = 0
+  operators (tree.Number value type place) = 0
+  operators (tree.Character value place) = 0
+  operators (tree.Bracketed inner place) = suc (operators inner)
+  operators (tree.Index base index place) = operators base + suc (operators index)
+  operators (tree.Member base access member place) = suc (operators base)
+  operators (tree.Unary operator operand place) = suc (operators operand)
+  operators (tree.Sizeof operand place) = suc (operators operand)
+  operators (tree.SizeofType type place) = suc (suc (operators_of_type type))
+  operators (tree.Cast type operand place) = suc (operators_of_type type + operators operand)
+  operators (tree.Binary operator left right place) = operators left + suc (operators right)
+  operators (tree.Conditional test first second place) = operators test + suc (operators first + operators second)
+
+  pub operators_of_type : tree.TypeName → ℕ
+  operators_of_type (tree.Pointers specifiers pointers) = operators_of_specifiers specifiers
+
+  pub operators_of_specifiers : tree.Specifiers → ℕ
+  operators_of_specifiers (tree.Specified storage base place) = operators_of_base base
+
+  pub operators_of_base : tree.Base → ℕ
+  operators_of_base tree.Void = 0
+  operators_of_base (tree.Integer type) = 0
+  operators_of_base (tree.TypedefName name) = 0
+  operators_of_base (tree.StructTag tag) = 0
+  operators_of_base (tree.Struct tag inside) = operators_of_members inside
+  operators_of_base (tree.EnumTag tag) = 0
+  operators_of_base (tree.Enum tag inside) = operators_of_constants inside
+
+  pub operators_of_members : tree.Members → ℕ
+  operators_of_members tree.no_members = 0
+  operators_of_members (tree.members specifiers declared rest) = operators_of_specifiers specifiers + operators_of_declarators declared + operators_of_members rest
+
+  pub operators_of_declarators : tree.Declarators → ℕ
+  operators_of_declarators tree.no_declarators = 0
+  operators_of_declarators (tree.declarators declarator rest) = operators_of_declarator declarator + operators_of_declarators rest
+
+  pub operators_of_declarator : tree.Declarator → ℕ
+  operators_of_declarator (tree.Declared pointers name is_open lengths) = operators_of_lengths lengths
+
+  pub operators_of_lengths : tree.Expressions → ℕ
+  operators_of_lengths tree.no_expressions = 0
+  operators_of_lengths (tree.expressions length rest) = operators length + operators_of_lengths rest
+
+  pub operators_of_constants : tree.Constants → ℕ
+  operators_of_constants tree.no_constants = 0
+  operators_of_constants (tree.constants name rest) = operators_of_constants rest
+  operators_of_constants (tree.constants_with name value rest) = operators value + operators_of_constants rest
+
+-- Which whole expression the lengths and enumeration values of a type belong to: in a declaration each is one of
+-- its own; in the type of a cast or of `sizeof` they belong to the expression around, of which so many operators
+-- stand before.
+pub data Counting : Type 0 where
+  Alone : Counting
+  Within : (count : ℕ) → Counting
+
+-- how many operators stand before, in the same whole expression
+abbrev pub count_at : Counting → ℕ
+count_at Alone = 0
+count_at (Within count) = count
+
+-- with so many more before
+abbrev pub advance : Counting → (more : ℕ) → Counting
+advance Alone more = Alone
+advance (Within count) more = Within (count + more)
 
 -- where specifiers stand: directly in an item of the unit, directly in a declaration of locals, or elsewhere
 pub data Position : Type 0 where
@@ -225,13 +278,13 @@ mutual
         → Unary names depth count (tree.Unary operator x place) (operates (suc count) (mark (unary_mark operator) place) ∷ text)
     sizeof_expression : (depth count : ℕ) (x : tree.Expression) (text : List Leaf) (place : ℕ) → Unary names depth (suc count) x text
         → Unary names depth count (tree.Sizeof x place) (operates (suc count) (word Sizeof place) ∷ text)
-    sizeof_type : (depth count : ℕ) (type : tree.TypeName) (text : List Leaf) (place open_place close : ℕ) → TypeName names (suc depth) type text
+    sizeof_type : (depth count : ℕ) (type : tree.TypeName) (text : List Leaf) (place open_place close : ℕ) → TypeName names (suc depth) (Within (suc (suc count))) type text
         → Unary names depth count (tree.SizeofType type place) (operates (suc count) (word Sizeof place) ∷ brackets (suc depth) (suc (suc count)) (mark punctuator.LeftParenthesis open_place) ∷ text ++ plain (mark punctuator.RightParenthesis close) ∷ [])
 
   -- 6.5.4
   pub data Cast (names : List (List ℕ)) : (depth count : ℕ) → tree.Expression → List Leaf → Type 0 where
     unary : (depth count : ℕ) (x : tree.Expression) (text : List Leaf) → Unary names depth count x text → Cast names depth count x text
-    cast : (depth count : ℕ) (type : tree.TypeName) (x : tree.Expression) (inside text : List Leaf) (place close : ℕ) → TypeName names (suc depth) type inside → Cast names depth (suc count) x text
+    cast : (depth count : ℕ) (type : tree.TypeName) (x : tree.Expression) (inside text : List Leaf) (place close : ℕ) → TypeName names (suc depth) (Within (suc count)) type inside → Cast names depth (suc count + operators_of_type type) x text
         → Cast names depth count (tree.Cast type x place) (brackets (suc depth) (suc count) (mark punctuator.LeftParenthesis place) ∷ inside ++ plain (mark punctuator.RightParenthesis close) ∷ text)
 
   -- 6.5.5 to 6.5.14: the operands and operators of the levels up to this one, each level from the left
@@ -250,67 +303,67 @@ mutual
         → Conditional names depth count (tree.Conditional x y z place) (test ++ (operates (suc (count + operators x)) (mark punctuator.Question place) ∷ first ++ awaited OperandEnd (mark punctuator.Colon colon) ∷ second))
 
   -- 6.7.7: the type of a cast or of `sizeof`
-  pub data TypeName (names : List (List ℕ)) : (depth : ℕ) → tree.TypeName → List Leaf → Type 0 where
-    type_name : (depth : ℕ) (specifiers : tree.Specifiers) (pointers : ℕ) (left stars : List Leaf) → Specifiers names InPart depth specifiers left → Pointer pointers stars
-        → TypeName names depth (tree.Pointers specifiers pointers) (left ++ stars)
+  pub data TypeName (names : List (List ℕ)) : (depth : ℕ) → (counting : Counting) → tree.TypeName → List Leaf → Type 0 where
+    type_name : (depth : ℕ) (counting : Counting) (specifiers : tree.Specifiers) (pointers : ℕ) (left stars : List Leaf) → Specifiers names InPart depth counting specifiers left → Pointer pointers stars
+        → TypeName names depth counting (tree.Pointers specifiers pointers) (left ++ stars)
 
   -- 6.7: one base, and words before and after it
-  pub data Specifiers (names : List (List ℕ)) : Position → (depth : ℕ) → tree.Specifiers → List Leaf → Type 0 where
-    specifiers : (position : Position) (depth : ℕ) (one two : tree.Storage) (base : tree.Base) (before middle after : List Leaf) → Words position one before → Base names depth base middle → Words position two after
-        → Specifiers names position depth (tree.Specified (both one two) base (first_place (before ++ middle))) (before ++ (middle ++ after))
+  pub data Specifiers (names : List (List ℕ)) : Position → (depth : ℕ) → (counting : Counting) → tree.Specifiers → List Leaf → Type 0 where
+    specifiers : (position : Position) (depth : ℕ) (counting : Counting) (one two : tree.Storage) (base : tree.Base) (before middle after : List Leaf) → Words position one before → Base names depth counting base middle → Words position two after
+        → Specifiers names position depth counting (tree.Specified (both one two) base (first_place (before ++ middle))) (before ++ (middle ++ after))
 
   -- 6.7.2
-  pub data Base (names : List (List ℕ)) : (depth : ℕ) → tree.Base → List Leaf → Type 0 where
-    void : (depth place : ℕ) → Base names depth tree.Void (plain (word Void place) ∷ [])
-    integer_type : (depth : ℕ) (type : IntegerType) (words : List (Keyword × ℕ)) → integer_type_of (map (λ w. w.0) words) ≡ Some type
-        → Base names depth (tree.Integer type) (map (λ w. plain (word w.0 w.1)) words)
-    typedef_name : (depth : ℕ) (n : tree.Name) → is_type_name names n.spelling ≡ true → Base names depth (tree.TypedefName n) (plain (named n) ∷ [])
-    struct_tag : (depth : ℕ) (n : tree.Name) (place : ℕ) → is_type_name names n.spelling ≡ false → Base names depth (tree.StructTag n) (plain (word Struct place) ∷ plain (named n) ∷ [])
-    struct : (depth : ℕ) (tag : Option tree.Name) (members : tree.Members) (name inside : List Leaf) (place open_place close : ℕ) → Tag names tag name → Members names (suc depth) members inside
-        → Base names depth (tree.Struct tag members) (plain (word Struct place) ∷ name ++ (opens (suc depth) (mark punctuator.LeftBrace open_place) ∷ inside ++ plain (mark punctuator.RightBrace close) ∷ []))
-    enum_tag : (depth : ℕ) (n : tree.Name) (place : ℕ) → is_type_name names n.spelling ≡ false → Base names depth (tree.EnumTag n) (plain (word Enum place) ∷ plain (named n) ∷ [])
-    enum : (depth : ℕ) (tag : Option tree.Name) (constants : tree.Constants) (name inside : List Leaf) (end : Role) (place open_place close : ℕ) → Tag names tag name → Constants names (suc depth) constants end inside
-        → Base names depth (tree.Enum tag constants) (plain (word Enum place) ∷ name ++ (opens (suc depth) (mark punctuator.LeftBrace open_place) ∷ inside ++ awaited end (mark punctuator.RightBrace close) ∷ []))
+  pub data Base (names : List (List ℕ)) : (depth : ℕ) → (counting : Counting) → tree.Base → List Leaf → Type 0 where
+    void : (depth : ℕ) (counting : Counting) (place : ℕ) → Base names depth counting tree.Void (plain (word Void place) ∷ [])
+    integer_type : (depth : ℕ) (counting : Counting) (type : IntegerType) (words : List (Keyword × ℕ)) → integer_type_of (map (λ w. w.0) words) ≡ Some type
+        → Base names depth counting (tree.Integer type) (map (λ w. plain (word w.0 w.1)) words)
+    typedef_name : (depth : ℕ) (counting : Counting) (n : tree.Name) → is_type_name names n.spelling ≡ true → Base names depth counting (tree.TypedefName n) (plain (named n) ∷ [])
+    struct_tag : (depth : ℕ) (counting : Counting) (n : tree.Name) (place : ℕ) → is_type_name names n.spelling ≡ false → Base names depth counting (tree.StructTag n) (plain (word Struct place) ∷ plain (named n) ∷ [])
+    struct : (depth : ℕ) (counting : Counting) (tag : Option tree.Name) (members : tree.Members) (name inside : List Leaf) (place open_place close : ℕ) → Tag names tag name → Members names (suc depth) counting members inside
+        → Base names depth counting (tree.Struct tag members) (plain (word Struct place) ∷ name ++ (opens (suc depth) (mark punctuator.LeftBrace open_place) ∷ inside ++ plain (mark punctuator.RightBrace close) ∷ []))
+    enum_tag : (depth : ℕ) (counting : Counting) (n : tree.Name) (place : ℕ) → is_type_name names n.spelling ≡ false → Base names depth counting (tree.EnumTag n) (plain (word Enum place) ∷ plain (named n) ∷ [])
+    enum : (depth : ℕ) (counting : Counting) (tag : Option tree.Name) (constants : tree.Constants) (name inside : List Leaf) (end : Role) (place open_place close : ℕ) → Tag names tag name → Constants names (suc depth) counting constants end inside
+        → Base names depth counting (tree.Enum tag constants) (plain (word Enum place) ∷ name ++ (opens (suc depth) (mark punctuator.LeftBrace open_place) ∷ inside ++ awaited end (mark punctuator.RightBrace close) ∷ []))
 
   -- 6.7.2.1: declarations of members
-  pub data Members (names : List (List ℕ)) : (depth : ℕ) → tree.Members → List Leaf → Type 0 where
-    no_members : (depth : ℕ) → Members names depth tree.no_members []
-    members : (depth : ℕ) (specifiers : tree.Specifiers) (declarators : tree.Declarators) (rest : tree.Members) (left middle right : List Leaf) → Specifiers names InPart depth specifiers left → MemberDeclarators names depth declarators middle → Members names depth rest right
-        → Members names depth (tree.members specifiers declarators rest) (left ++ (middle ++ right))
+  pub data Members (names : List (List ℕ)) : (depth : ℕ) → (counting : Counting) → tree.Members → List Leaf → Type 0 where
+    no_members : (depth : ℕ) (counting : Counting) → Members names depth counting tree.no_members []
+    members : (depth : ℕ) (counting : Counting) (specifiers : tree.Specifiers) (declarators : tree.Declarators) (rest : tree.Members) (left middle right : List Leaf) → Specifiers names InPart depth counting specifiers left → MemberDeclarators names depth (advance counting (operators_of_specifiers specifiers)) declarators middle
+        → Members names depth (advance counting (operators_of_specifiers specifiers + operators_of_declarators declarators)) rest right
+        → Members names depth counting (tree.members specifiers declarators rest) (left ++ (middle ++ right))
 
   -- declarators of members with `,` between them, and the `;` behind
-  pub data MemberDeclarators (names : List (List ℕ)) : (depth : ℕ) → tree.Declarators → List Leaf → Type 0 where
-    last_member : (depth : ℕ) (declarator : tree.Declarator) (text : List Leaf) (end : ℕ) → Declarator names true depth declarator text
-        → MemberDeclarators names depth (tree.declarators declarator tree.no_declarators) (text ++ awaited (member_end declarator) (mark punctuator.Semicolon end) ∷ [])
-    more_members : (depth : ℕ) (declarator : tree.Declarator) (rest : tree.Declarators) (text right : List Leaf) (comma : ℕ) → Declarator names true depth declarator text → MemberDeclarators names depth rest right
-        → MemberDeclarators names depth (tree.declarators declarator rest) (text ++ plain (mark punctuator.Comma comma) ∷ right)
+  pub data MemberDeclarators (names : List (List ℕ)) : (depth : ℕ) → (counting : Counting) → tree.Declarators → List Leaf → Type 0 where
+    last_member : (depth : ℕ) (counting : Counting) (declarator : tree.Declarator) (text : List Leaf) (end : ℕ) → Declarator names true depth counting declarator text
+        → MemberDeclarators names depth counting (tree.declarators declarator tree.no_declarators) (text ++ awaited (member_end declarator) (mark punctuator.Semicolon end) ∷ [])
+    more_members : (depth : ℕ) (counting : Counting) (declarator : tree.Declarator) (rest : tree.Declarators) (text right : List Leaf) (comma : ℕ) → Declarator names true depth counting declarator text → MemberDeclarators names depth (advance counting (operators_of_declarator declarator)) rest right
+        → MemberDeclarators names depth counting (tree.declarators declarator rest) (text ++ plain (mark punctuator.Comma comma) ∷ right)
 
   -- 6.7.6: a name and its type, which is no function's
-  pub data Declarator (names : List (List ℕ)) : (is_member : Bool) → (depth : ℕ) → tree.Declarator → List Leaf → Type 0 where
-    declarator : (is_member : Bool) (depth pointers : ℕ) (n : tree.Name) (is_open : Bool) (lengths : tree.Expressions) (stars dimensions : List Leaf) → can_declare is_member names n.spelling ≡ true → Pointer pointers stars → Dimensions names depth is_open lengths dimensions
-        → Declarator names is_member depth (tree.Declared pointers n is_open lengths) (stars ++ awaited DeclaredName (named n) ∷ dimensions)
+  pub data Declarator (names : List (List ℕ)) : (is_member : Bool) → (depth : ℕ) → (counting : Counting) → tree.Declarator → List Leaf → Type 0 where
+    declarator : (is_member : Bool) (depth : ℕ) (counting : Counting) (pointers : ℕ) (n : tree.Name) (is_open : Bool) (lengths : tree.Expressions) (stars dimensions : List Leaf) → can_declare is_member names n.spelling ≡ true → Pointer pointers stars → Dimensions names depth counting is_open lengths dimensions
+        → Declarator names is_member depth counting (tree.Declared pointers n is_open lengths) (stars ++ awaited DeclaredName (named n) ∷ dimensions)
 
   -- the lengths of an array: none, or each in brackets, of which the first may be left out
-  pub data Dimensions (names : List (List ℕ)) : (depth : ℕ) → (is_open : Bool) → tree.Expressions → List Leaf → Type 0 where
-    given : (depth : ℕ) (lengths : tree.Expressions) (text : List Leaf) → Lengths names depth lengths text → Dimensions names depth false lengths text
-    left_out : (depth : ℕ) (lengths : tree.Expressions) (text : List Leaf) (place close : ℕ) → Lengths names depth lengths text
-        → Dimensions names depth true lengths (opens (suc depth) (mark punctuator.LeftBracket place) ∷ plain (mark punctuator.RightBracket close) ∷ text)
+  pub data Dimensions (names : List (List ℕ)) : (depth : ℕ) → (counting : Counting) → (is_open : Bool) → tree.Expressions → List Leaf → Type 0 where
+    given : (depth : ℕ) (counting : Counting) (lengths : tree.Expressions) (text : List Leaf) → Lengths names depth counting lengths text → Dimensions names depth counting false lengths text
+    left_out : (depth : ℕ) (counting : Counting) (lengths : tree.Expressions) (text : List Leaf) (place close : ℕ) → Lengths names depth counting lengths text
+        → Dimensions names depth counting true lengths (opens (suc depth) (mark punctuator.LeftBracket place) ∷ plain (mark punctuator.RightBracket close) ∷ text)
 
-  -- a length is a whole expression
-  pub data Lengths (names : List (List ℕ)) : (depth : ℕ) → tree.Expressions → List Leaf → Type 0 where
-    no_lengths : (depth : ℕ) → Lengths names depth tree.no_expressions []
-    some_length : (depth : ℕ) (x : tree.Expression) (rest : tree.Expressions) (inside right : List Leaf) (place close : ℕ) → Conditional names (suc depth) 0 x inside → Lengths names depth rest right
-        → Lengths names depth (tree.expressions x rest) (opens (suc depth) (mark punctuator.LeftBracket place) ∷ inside ++ awaited OperandEnd (mark punctuator.RightBracket close) ∷ right)
+  pub data Lengths (names : List (List ℕ)) : (depth : ℕ) → (counting : Counting) → tree.Expressions → List Leaf → Type 0 where
+    no_lengths : (depth : ℕ) (counting : Counting) → Lengths names depth counting tree.no_expressions []
+    some_length : (depth : ℕ) (counting : Counting) (x : tree.Expression) (rest : tree.Expressions) (inside right : List Leaf) (place close : ℕ) → Conditional names (suc depth) (count_at counting) x inside → Lengths names depth (advance counting (operators x)) rest right
+        → Lengths names depth counting (tree.expressions x rest) (opens (suc depth) (mark punctuator.LeftBracket place) ∷ inside ++ awaited OperandEnd (mark punctuator.RightBracket close) ∷ right)
 
   -- 6.7.2.2: constants with `,` between them and behind the last or not, and what is awaited behind them
-  pub data Constants (names : List (List ℕ)) : (depth : ℕ) → tree.Constants → (end : Role) → List Leaf → Type 0 where
-    last : (depth : ℕ) (n : tree.Name) → is_type_name names n.spelling ≡ false → Constants names depth (tree.constants n tree.no_constants) Nothing (plain (named n) ∷ [])
-    last_comma : (depth : ℕ) (n : tree.Name) (comma : ℕ) → is_type_name names n.spelling ≡ false → Constants names depth (tree.constants n tree.no_constants) Nothing (plain (named n) ∷ plain (mark punctuator.Comma comma) ∷ [])
-    more : (depth : ℕ) (n : tree.Name) (rest : tree.Constants) (end : Role) (right : List Leaf) (comma : ℕ) → is_type_name names n.spelling ≡ false → Constants names depth rest end right
-        → Constants names depth (tree.constants n rest) end (plain (named n) ∷ plain (mark punctuator.Comma comma) ∷ right)
-    last_with : (depth : ℕ) (n : tree.Name) (x : tree.Expression) (value : List Leaf) (place : ℕ) → is_type_name names n.spelling ≡ false → Conditional names depth 0 x value
-        → Constants names depth (tree.constants_with n x tree.no_constants) OperandEnd (plain (named n) ∷ plain (mark punctuator.Assign place) ∷ value)
-    last_with_comma : (depth : ℕ) (n : tree.Name) (x : tree.Expression) (value : List Leaf) (place comma : ℕ) → is_type_name names n.spelling ≡ false → Conditional names depth 0 x value
-        → Constants names depth (tree.constants_with n x tree.no_constants) Nothing (plain (named n) ∷ plain (mark punctuator.Assign place) ∷ value ++ plain (mark punctuator.Comma comma) ∷ [])
-    more_with : (depth : ℕ) (n : tree.Name) (x : tree.Expression) (rest : tree.Constants) (end : Role) (value right : List Leaf) (place comma : ℕ) → is_type_name names n.spelling ≡ false → Conditional names depth 0 x value → Constants names depth rest end right
-        → Constants names depth (tree.constants_with n x rest) end (plain (named n) ∷ plain (mark punctuator.Assign place) ∷ value ++ plain (mark punctuator.Comma comma) ∷ right)
+  pub data Constants (names : List (List ℕ)) : (depth : ℕ) → (counting : Counting) → tree.Constants → (end : Role) → List Leaf → Type 0 where
+    last : (depth : ℕ) (counting : Counting) (n : tree.Name) → is_type_name names n.spelling ≡ false → Constants names depth counting (tree.constants n tree.no_constants) Nothing (plain (named n) ∷ [])
+    last_comma : (depth : ℕ) (counting : Counting) (n : tree.Name) (comma : ℕ) → is_type_name names n.spelling ≡ false → Constants names depth counting (tree.constants n tree.no_constants) Nothing (plain (named n) ∷ plain (mark punctuator.Comma comma) ∷ [])
+    more : (depth : ℕ) (counting : Counting) (n : tree.Name) (rest : tree.Constants) (end : Role) (right : List Leaf) (comma : ℕ) → is_type_name names n.spelling ≡ false → Constants names depth counting rest end right
+        → Constants names depth counting (tree.constants n rest) end (plain (named n) ∷ plain (mark punctuator.Comma comma) ∷ right)
+    last_with : (depth : ℕ) (counting : Counting) (n : tree.Name) (x : tree.Expression) (value : List Leaf) (place : ℕ) → is_type_name names n.spelling ≡ false → Conditional names depth (count_at counting) x value
+        → Constants names depth counting (tree.constants_with n x tree.no_constants) OperandEnd (plain (named n) ∷ plain (mark punctuator.Assign place) ∷ value)
+    last_with_comma : (depth : ℕ) (counting : Counting) (n : tree.Name) (x : tree.Expression) (value : List Leaf) (place comma : ℕ) → is_type_name names n.spelling ≡ false → Conditional names depth (count_at counting) x value
+        → Constants names depth counting (tree.constants_with n x tree.no_constants) Nothing (plain (named n) ∷ plain (mark punctuator.Assign place) ∷ value ++ plain (mark punctuator.Comma comma) ∷ [])
+    more_with : (depth : ℕ) (counting : Counting) (n : tree.Name) (x : tree.Expression) (rest : tree.Constants) (end : Role) (value right : List Leaf) (place comma : ℕ) → is_type_name names n.spelling ≡ false → Conditional names depth (count_at counting) x value → Constants names depth (advance counting (operators x)) rest end right
+        → Constants names depth counting (tree.constants_with n x rest) end (plain (named n) ∷ plain (mark punctuator.Assign place) ∷ value ++ plain (mark punctuator.Comma comma) ∷ right)

@@ -14,7 +14,7 @@ use Rattle.c_tree_spec.specs.Unit as tree
 use Rattle.c_grammar_spec.specs.declared.Role.{Role}
 use Rattle.c_grammar_spec.specs.declared.Role.TheVariants.{Nothing, OperandEnd, CallEnd, StatementEnd, NameStatementEnd, CallStatementEnd}
 use Rattle.c_grammar_spec.specs.Leaves.{Leaf, plain, awaited, opens, operates, brackets, mark, word, named}
-use Rattle.c_grammar_spec.specs.Expressions.{is_type_name, operators, Postfix, Unary, Conditional, Specifiers, InLocal, Declarator}
+use Rattle.c_grammar_spec.specs.Expressions.{is_type_name, operators, Postfix, Unary, Conditional, Specifiers, InLocal, Declarator, Alone}
 
 abbrev pub step_mark : StepOperator → Punctuator
 step_mark Increment = punctuator.Increment
@@ -95,8 +95,8 @@ statement_end (tree.Evaluate value) = value_statement_end value
 
 -- a declared local, and what is awaited behind it (6.7)
 pub data Local (names : List (List ℕ)) : (depth : ℕ) → tree.Local → (end : Role) → List Leaf → Type 0 where
-  unset : (depth : ℕ) (declarator : declarator_tree) (text : List Leaf) → Declarator names false depth declarator text → Local names depth (record { declarator = declarator; value = None }) Nothing text
-  set : (depth : ℕ) (declarator : declarator_tree) (value : tree.Value) (text right : List Leaf) (place : ℕ) → Declarator names false depth declarator text → Value names depth 0 value right
+  unset : (depth : ℕ) (declarator : declarator_tree) (text : List Leaf) → Declarator names false depth Alone declarator text → Local names depth (record { declarator = declarator; value = None }) Nothing text
+  set : (depth : ℕ) (declarator : declarator_tree) (value : tree.Value) (text right : List Leaf) (place : ℕ) → Declarator names false depth Alone declarator text → Value names depth 0 value right
       → Local names depth (record { declarator = declarator; value = Some value }) (value_end value) (text ++ plain (mark punctuator.Assign place) ∷ right)
 
 -- locals with `,` between them, and what is awaited behind the last
@@ -106,7 +106,7 @@ pub data LocalList (names : List (List ℕ)) : (depth : ℕ) → List tree.Local
       → LocalList names depth (local ∷ rest) after (text ++ awaited end (mark punctuator.Comma comma) ∷ right)
 
 pub data Locals (names : List (List ℕ)) : (depth : ℕ) → tree.Locals → (end : Role) → List Leaf → Type 0 where
-  locals : (depth : ℕ) (specifiers : specifiers_tree) (list : List tree.Local) (end : Role) (left right : List Leaf) → Specifiers names InLocal depth specifiers left → LocalList names depth list end right
+  locals : (depth : ℕ) (specifiers : specifiers_tree) (list : List tree.Local) (end : Role) (left right : List Leaf) → Specifiers names InLocal depth Alone specifiers left → LocalList names depth list end right
       → Locals names depth (record { specifiers = specifiers; locals = list }) end (left ++ right)
 
 -- how a `for` begins, with its first `;` (6.8.5.3)

@@ -9,7 +9,7 @@ use Rattle.c_tree_spec.specs.Unit as tree
 use Rattle.c_grammar_spec.specs.declared.Role.{Role}
 use Rattle.c_grammar_spec.specs.declared.Role.TheVariants.{Nothing, DeclaredName, OperandEnd}
 use Rattle.c_grammar_spec.specs.Leaves.{Leaf, plain, awaited, opens, mark, word, named}
-use Rattle.c_grammar_spec.specs.Expressions.{is_type_name, Conditional, Specifiers, InItem, InPart, Pointer, Declarator, Dimensions}
+use Rattle.c_grammar_spec.specs.Expressions.{is_type_name, Conditional, Specifiers, InItem, InPart, Alone, Pointer, Declarator, Dimensions}
 use Rattle.c_grammar_spec.specs.Statements.{Parts}
 
 -- a parameter's name, or none
@@ -26,7 +26,7 @@ parameter_end (Some n) dimensions = Nothing
 -- a parameter, and what is awaited behind it (6.7.6.3)
 pub data Parameter (names : List (List ℕ)) : (depth : ℕ) → tree.Parameter → (end : Role) → List Leaf → Type 0 where
   parameter : (depth : ℕ) (specifiers : specifiers_tree) (pointers : ℕ) (n : Option Name) (is_open : Bool) (lengths : Expressions) (left stars name dimensions : List Leaf)
-      → Specifiers names InPart depth specifiers left → Pointer pointers stars → ParameterName names n name → Dimensions names depth is_open lengths dimensions
+      → Specifiers names InPart depth Alone specifiers left → Pointer pointers stars → ParameterName names n name → Dimensions names depth Alone is_open lengths dimensions
       → Parameter names depth (record { specifiers = specifiers; pointers = pointers; name = n; is_open = is_open; lengths = lengths }) (parameter_end n dimensions) (left ++ (stars ++ (name ++ dimensions)))
 
 -- parameters with `,` between them, and what is awaited behind the last
@@ -90,7 +90,7 @@ mutual
 
 -- a declarator in an item: a function's is no typedef's
 pub data GlobalDeclarator (names : List (List ℕ)) : (is_typedef : Bool) → tree.Global → List Leaf → Type 0 where
-  object : (is_typedef : Bool) (declarator : declarator_tree) (text : List Leaf) → Declarator names false 0 declarator text → GlobalDeclarator names is_typedef (tree.Object declarator) text
+  object : (is_typedef : Bool) (declarator : declarator_tree) (text : List Leaf) → Declarator names false 0 Alone declarator text → GlobalDeclarator names is_typedef (tree.Object declarator) text
   function : (declarator : tree.FunctionDeclarator) (text : List Leaf) → FunctionDeclarator names 0 declarator text → GlobalDeclarator names false (tree.Function declarator) text
 
 abbrev pub name_of_declarator : declarator_tree → List ℕ
@@ -124,11 +124,11 @@ is_typedef (Specified storage base place) = storage.is_typedef
 -- an item, and the names of types behind it (6.9)
 pub data Item : (names : List (List ℕ)) → tree.Item → (after : List (List ℕ)) → List Leaf → Type 0 where
   empty : (names : List (List ℕ)) (place : ℕ) → Item names tree.EmptyItem names (plain (mark punctuator.Semicolon place) ∷ [])
-  nameless : (names : List (List ℕ)) (specifiers : specifiers_tree) (text : List Leaf) (end : ℕ) → Specifiers names InItem 0 specifiers text
+  nameless : (names : List (List ℕ)) (specifiers : specifiers_tree) (text : List Leaf) (end : ℕ) → Specifiers names InItem 0 Alone specifiers text
       → Item names (tree.Declaration specifiers []) names (text ++ plain (mark punctuator.Semicolon end) ∷ [])
-  declaration : (names : List (List ℕ)) (specifiers : specifiers_tree) (globals : List tree.Global) (after : List (List ℕ)) (left right : List Leaf) → Specifiers names InItem 0 specifiers left → Globals names (is_typedef specifiers) globals after right
+  declaration : (names : List (List ℕ)) (specifiers : specifiers_tree) (globals : List tree.Global) (after : List (List ℕ)) (left right : List Leaf) → Specifiers names InItem 0 Alone specifiers left → Globals names (is_typedef specifiers) globals after right
       → Item names (tree.Declaration specifiers globals) after (left ++ right)
-  definition : (names : List (List ℕ)) (specifiers : specifiers_tree) (declarator : tree.FunctionDeclarator) (body : tree.Parts) (left middle inside : List Leaf) (place close : ℕ) → Specifiers names InItem 0 specifiers left → is_typedef specifiers ≡ false → FunctionDeclarator names 0 declarator middle → Parts names 1 body inside
+  definition : (names : List (List ℕ)) (specifiers : specifiers_tree) (declarator : tree.FunctionDeclarator) (body : tree.Parts) (left middle inside : List Leaf) (place close : ℕ) → Specifiers names InItem 0 Alone specifiers left → is_typedef specifiers ≡ false → FunctionDeclarator names 0 declarator middle → Parts names 1 body inside
       → Item names (tree.Definition specifiers declarator body) names (left ++ (middle ++ (opens 1 (mark punctuator.LeftBrace place) ∷ inside ++ plain (mark punctuator.RightBrace close) ∷ [])))
 
 -- the items of a unit

@@ -42,12 +42,12 @@ ending base middle [] = base_ending base middle
 ending base middle (leaf ∷ after) = WordsAround
 
 -- a base, and where it ends
-pub record BaseEnd (names : List (List ℕ)) (depth : ℕ) (base : tree.Base) (end : Ending) (text : List Leaf) : Type 0 where
-  pub spells : grammar.Base names depth base text
+pub record BaseEnd (names : List (List ℕ)) (depth : ℕ) (counting : grammar.Counting) (base : tree.Base) (end : Ending) (text : List Leaf) : Type 0 where
+  pub spells : grammar.Base names depth counting base text
   pub is : end ≡ base_ending base text
 
 -- specifiers, and where they end
-pub record SpecifiersEnd (names : List (List ℕ)) (position : grammar.Position) (depth : ℕ) (specifiers : tree.Specifiers) (end : Ending) (text : List Leaf) : Type 0 where
+pub record SpecifiersEnd (names : List (List ℕ)) (position : grammar.Position) (depth : ℕ) (counting : grammar.Counting) (specifiers : tree.Specifiers) (end : Ending) (text : List Leaf) : Type 0 where
   pub one : tree.Storage
   pub two : tree.Storage
   pub base : tree.Base
@@ -55,7 +55,7 @@ pub record SpecifiersEnd (names : List (List ℕ)) (position : grammar.Position)
   pub middle : List Leaf
   pub after : List Leaf
   pub words_before : grammar.Words position one before
-  pub is_base : grammar.Base names depth base middle
+  pub is_base : grammar.Base names depth counting base middle
   pub words_after : grammar.Words position two after
   pub is : specifiers ≡ tree.Specified (grammar.both one two) base (first_place (before ++ middle))
   pub cut : text ≡ before ++ (middle ++ after)

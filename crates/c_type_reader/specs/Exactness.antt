@@ -3,7 +3,7 @@ use Rattle.std.specs.Prelude.{ℕ, List, ◌≤◌, ◌+◌}
 use Rattle.c_spec.specs.declared.token.Punctuator.TheVariants as punctuator
 use Rattle.c_grammar_spec.specs.declared.Role.TheVariants.{Nothing}
 use Rattle.c_grammar_spec.specs.Leaves.{plain, marks}
-use Rattle.c_grammar_spec.specs.Expressions.{Cast, Conditional, TypeName, InPart}
+use Rattle.c_grammar_spec.specs.Expressions.{Cast, Conditional, TypeName, InPart, Counting, count_at}
 use Rattle.exact_read.specs.Exact.{Exact}
 use Rattle.exact_read.specs.Grammar.{anything}
 use Rattle.c_expression_reader.specs.Budget.{enough, needs}
@@ -13,7 +13,7 @@ use Rattle.c_expression_reader.specs.Readers.{Readers, token, before}
 use Rattle.c_expression_reader.specs.Stops.{stop_cast, stop_conditional}
 use Rattle.c_expression_reader.specs.Turns.{readers}
 use Rattle.c_expression_reader.specs.Types.{is_const}
-use Rattle.c_declarator_reader.specs.Beside.{ExactBeside, FirmBeside}
+use Rattle.c_type_reader.specs.Beside.{ExactBeside, FirmBeside}
 use Rattle.c_type_reader.specs.Endings.{SpecifiersEnd, stop_specifiers}
 use Rattle.c_expression_reader.specs.Firm.{Firm}
 
@@ -22,8 +22,8 @@ pub record AllExact (names : List (List ℕ)) (all : Readers) : Type 0 where
   pub cast : (depth count : ℕ) → Exact marks anything (Cast names depth count) stop_cast (all.cast depth count)
   pub unary : (depth count : ℕ) → Exact marks anything (PlainUnary names depth count) stop_cast (all.unary depth count)
   pub conditional : (depth count : ℕ) → Exact marks anything (Conditional names depth count) stop_conditional (all.conditional depth count)
-  pub type_name : (depth : ℕ) → Exact marks anything (Closed plain punctuator.RightParenthesis (TypeName names depth)) (λ _. anything) (before (all.type_name depth) (token Nothing plain (mark_place punctuator.RightParenthesis)))
-  pub specifiers : (depth : ℕ) → ExactBeside marks anything (SpecifiersEnd names InPart depth) (stop_specifiers is_const) (all.specifiers depth)
+  pub type_name : (depth : ℕ) (counting : Counting) → Exact marks anything (Closed plain punctuator.RightParenthesis (TypeName names depth counting)) (λ _. anything) (before (all.type_name depth counting) (token Nothing plain (mark_place punctuator.RightParenthesis)))
+  pub specifiers : (depth : ℕ) (counting : Counting) → ExactBeside marks anything (SpecifiersEnd names InPart depth counting) (stop_specifiers is_const) (all.specifiers depth counting)
 
 -- whatever names of types are in force
 abbrev pub ExpressionsExact : Type 0
@@ -32,15 +32,15 @@ ExpressionsExact = (names : List (List ℕ)) → AllExact names (readers names e
 -- readers with so many turns, types among them
 pub record ReadersFirm (names : List (List ℕ)) (inner : Readers) (turns : ℕ) : Type 0 where
   pub are : AreFirm names inner turns
-  pub specifiers : (depth : ℕ) → needs depth 129 + 4 ≤ turns → FirmBeside anything (SpecifiersEnd names InPart depth) (stop_specifiers is_const) (inner.specifiers depth)
+  pub specifiers : (depth : ℕ) (counting : Counting) → needs depth (count_at counting) + 4 ≤ turns → FirmBeside anything (SpecifiersEnd names InPart depth counting) (stop_specifiers is_const) (inner.specifiers depth counting)
 
 -- readers for whatever is open and however many operators stand before; a type with the bracket behind it
 pub record AllFirm (names : List (List ℕ)) (all : Readers) : Type 0 where
   pub cast : (depth count : ℕ) → Firm anything (Cast names depth count) stop_cast (all.cast depth count)
   pub unary : (depth count : ℕ) → Firm anything (PlainUnary names depth count) stop_cast (all.unary depth count)
   pub conditional : (depth count : ℕ) → Firm anything (Conditional names depth count) stop_conditional (all.conditional depth count)
-  pub type_name : (depth : ℕ) → Firm anything (Closed plain punctuator.RightParenthesis (TypeName names depth)) (λ _. anything) (before (all.type_name depth) (token Nothing plain (mark_place punctuator.RightParenthesis)))
-  pub specifiers : (depth : ℕ) → FirmBeside anything (SpecifiersEnd names InPart depth) (stop_specifiers is_const) (all.specifiers depth)
+  pub type_name : (depth : ℕ) (counting : Counting) → Firm anything (Closed plain punctuator.RightParenthesis (TypeName names depth counting)) (λ _. anything) (before (all.type_name depth counting) (token Nothing plain (mark_place punctuator.RightParenthesis)))
+  pub specifiers : (depth : ℕ) (counting : Counting) → FirmBeside anything (SpecifiersEnd names InPart depth counting) (stop_specifiers is_const) (all.specifiers depth counting)
 
 -- whatever names of types are in force
 abbrev pub AllTell : Type 0

@@ -6,6 +6,7 @@ use Rattle.c_tree_spec.specs.Expression as tree
 use Rattle.c_grammar_spec.specs.declared.Role.{Role}
 use Rattle.c_grammar_spec.specs.declared.Role.TheVariants.{Nothing}
 use Rattle.c_grammar_spec.specs.Leaves.{plain}
+use Rattle.c_grammar_spec.specs.Expressions.{Counting}
 use Rattle.exact_read.specs.Reading.{Reader}
 use Rattle.exact_read.specs.Grammar.{read_then, read_map, read_nothing}
 use Rattle.c_expression_reader.specs.Classes.{is_mark}
@@ -16,26 +17,26 @@ use Rattle.c_type_reader.specs.Endings.{Ending, WordsAround, BraceToo, WordsToo}
 abbrev pub Ended : Type 0
 Ended = tree.Base × Ending
 
-abbrev pub rich_struct : (names : List (List ℕ)) → Readers → (depth : ℕ) → Reader Placed Role Ended
-rich_struct names inner depth =
+abbrev pub rich_struct : (names : List (List ℕ)) → Readers → (depth : ℕ) → (counting : Counting) → Reader Placed Role Ended
+rich_struct names inner depth counting =
     choose (is_plain_name names)
     (behind (token Nothing plain (plain_name_at names)) (λ tag. choose (is_mark punctuator.LeftBrace)
-    (read_map (λ members. (tree.Struct (Some tag) members, WordsAround)) (read_members names inner depth)) (read_nothing (tree.StructTag tag, BraceToo))))
-    (read_map (λ members. (tree.Struct None members, WordsAround)) (read_members names inner depth))
+    (read_map (λ members. (tree.Struct (Some tag) members, WordsAround)) (read_members names inner depth counting)) (read_nothing (tree.StructTag tag, BraceToo))))
+    (read_map (λ members. (tree.Struct None members, WordsAround)) (read_members names inner depth counting))
 
-abbrev pub rich_enum : (names : List (List ℕ)) → Readers → (depth : ℕ) → Reader Placed Role Ended
-rich_enum names inner depth =
+abbrev pub rich_enum : (names : List (List ℕ)) → Readers → (depth : ℕ) → (counting : Counting) → Reader Placed Role Ended
+rich_enum names inner depth counting =
     choose (is_plain_name names)
     (behind (token Nothing plain (plain_name_at names)) (λ tag. choose (is_mark punctuator.LeftBrace)
-    (read_map (λ constants. (tree.Enum (Some tag) constants, WordsAround)) (read_constants names inner depth)) (read_nothing (tree.EnumTag tag, BraceToo))))
-    (read_map (λ constants. (tree.Enum None constants, WordsAround)) (read_constants names inner depth))
+    (read_map (λ constants. (tree.Enum (Some tag) constants, WordsAround)) (read_constants names inner depth counting)) (read_nothing (tree.EnumTag tag, BraceToo))))
+    (read_map (λ constants. (tree.Enum None constants, WordsAround)) (read_constants names inner depth counting))
 
-abbrev pub rich_base_rest : (names : List (List ℕ)) → Readers → (depth : ℕ) → Head → Reader Placed Role Ended
-rich_base_rest names inner depth HeadVoid = read_nothing (tree.Void, WordsAround)
-rich_base_rest names inner depth (HeadInteger keyword) = read_map (λ words. (integer_of (keyword ∷ words), WordsToo (keyword ∷ words))) (read_words (keyword ∷ []))
-rich_base_rest names inner depth (HeadName name) = read_nothing (tree.TypedefName name, WordsAround)
-rich_base_rest names inner depth HeadStruct = rich_struct names inner depth
-rich_base_rest names inner depth HeadEnum = rich_enum names inner depth
+abbrev pub rich_base_rest : (names : List (List ℕ)) → Readers → (depth : ℕ) → (counting : Counting) → Head → Reader Placed Role Ended
+rich_base_rest names inner depth counting HeadVoid = read_nothing (tree.Void, WordsAround)
+rich_base_rest names inner depth counting (HeadInteger keyword) = read_map (λ words. (integer_of (keyword ∷ words), WordsToo (keyword ∷ words))) (read_words (keyword ∷ []))
+rich_base_rest names inner depth counting (HeadName name) = read_nothing (tree.TypedefName name, WordsAround)
+rich_base_rest names inner depth counting HeadStruct = rich_struct names inner depth counting
+rich_base_rest names inner depth counting HeadEnum = rich_enum names inner depth counting
 
-abbrev pub rich_base : (names : List (List ℕ)) → Readers → (depth : ℕ) → Reader Placed Role ((Head × ℕ) × Ended)
-rich_base names inner depth = read_then (token Nothing plain (head_at names)) (λ head. rich_base_rest names inner depth head.0)
+abbrev pub rich_base : (names : List (List ℕ)) → Readers → (depth : ℕ) → (counting : Counting) → Reader Placed Role ((Head × ℕ) × Ended)
+rich_base names inner depth counting = read_then (token Nothing plain (head_at names)) (λ head. rich_base_rest names inner depth counting head.0)
