@@ -1,5 +1,5 @@
--- What the program's tokens, names of types and errors are as lists and outcomes.
-use Rattle.std.specs.Prelude.{◌≡◌, ℕ, List, ◌∷◌, map, reverse, if◌then◌else◌, Err}
+-- What the program's tokens, typedef names and errors are as lists and outcomes, and what a parser ensures.
+use Rattle.std.specs.Prelude.{◌≡◌, ◌+◌, ◌≤◌, ℕ, List, ◌∷◌, map, reverse, if◌then◌else◌, Result, Ok, Err}
 use Rattle.c_spec.specs.Lexical.{Placed}
 use Rattle.c_token.specs.Pieces.{placed_of}
 use Rattle.c_token.specs.declared.Token.{Token}
@@ -28,7 +28,13 @@ abbrev pub fault_of : FaultRow → Fault Role
 fault_of a_deep = Deep
 fault_of (a_wrong role) = Wrong role
 
--- a reader gave this error: want of memory may always come
-abbrev pub IsErrorOf : {X : Type 0} → Outcome Placed Role X → ParseError → Type 0
-IsErrorOf outcome NoMemory = Unit {0}
-IsErrorOf outcome (At fault rest) = outcome ≡ Err (fault_of fault, list_of rest.now)
+-- What a parser gives is the outcome that the reference parser has: the value, and the tokens after it that are
+-- left; or the fault, and the tokens from the one at fault on are left. Out of memory can always come.
+abbrev pub Gives : {X Y : Type 0} → Outcome Placed Role Y → (view : X → Y) → (left : List Token) → Result X ParseError → Type 0
+Gives outcome view left (Ok x) = outcome ≡ Ok (view x, list_of left)
+Gives outcome view left (Err NoMemory) = Unit {0}
+Gives outcome view left (Err (At fault)) = outcome ≡ Err (fault_of fault, list_of left)
+
+-- so many operators more were read, and they are not too many
+abbrev pub IsCounted : (before more after : ℕ) → Type 0
+IsCounted before more after = (after ≡ before + more) × (after ≤ 128)

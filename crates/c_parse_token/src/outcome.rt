@@ -1,28 +1,27 @@
-//! How a reader stops.
+//! How a parser stops.
 
 use c_grammar_spec::Role;
-use c_token::Token;
 use std::alloc::{AllocError, AllocFailed};
 
-/// Why a token is at fault.
+/// Why the next token is at fault.
 #[derive(Clone, Copy)]
 pub enum Fault {
-    /// Too much is open there, or too many operators stand in one expression.
+    /// The nesting limit is exceeded there, or too many operators stand in one expression.
     Deep,
-    /// It goes on with nothing, where this was awaited.
+    /// It goes on with nothing, where this was expected.
     Wrong(Role),
 }
 
-/// Why a reader gives no value.
+/// Why a parser gives no value.
 #[derive(Clone, Copy)]
-pub enum ParseError<'a, 't> {
-    /// There was no memory.
+pub enum ParseError {
+    /// Out of memory.
     NoMemory,
-    /// The first of these tokens is at fault, or the end.
-    At(Fault, &'t [Token<'a>]),
+    /// The first of the tokens that are left is at fault, or their end.
+    At(Fault),
 }
 
-impl From<AllocError> for ParseError<'_, '_> {
+impl From<AllocError> for ParseError {
     ghost use Rattle.std.specs.Prelude.{◌≡◌};
     ghost use Rattle.c_parse_token.specs.declared.outcome.ParseError.TheVariants.{NoMemory};
 
@@ -33,7 +32,7 @@ impl From<AllocError> for ParseError<'_, '_> {
     }
 }
 
-impl<X: Drop> From<AllocFailed<X>> for ParseError<'_, '_> {
+impl<X: Drop> From<AllocFailed<X>> for ParseError {
     ghost use Rattle.std.specs.Prelude.{◌≡◌};
     ghost use Rattle.c_parse_token.specs.declared.outcome.ParseError.TheVariants.{NoMemory};
 

@@ -1,11 +1,14 @@
 -- The tree of an expression, a type and their parts without the program's pointers.
-use Rattle.std.specs.Prelude.{List, [], ◌∷◌, Option, Some, None, option_map, map}
+use Rattle.std.specs.Prelude.{List, [], ◌∷◌, Bool, Option, Some, None, option_map, map, Vec}
+use Rattle.std.specs.declared.alloc.Global.{Global}
+use Rattle.std.specs.declared.boxed.Box.{Box}
 use Rattle.c_tree_spec.specs.Expression as tree
 use Rattle.c_syntax.specs.declared.expression.Base.{Base, Base-F, fold-Base}
 use Rattle.c_syntax.specs.declared.expression.Base.TheOpen as open_tree
 use Rattle.c_syntax.specs.declared.expression.Expression.{Expression, Expression-F, fold-Expression}
 use Rattle.c_syntax.specs.declared.expression.Constant.{Constant, Constant-F, fold-Constant}
 use Rattle.c_syntax.specs.declared.expression.Declarator.{Declarator, Declarator-F, fold-Declarator}
+use Rattle.c_syntax.specs.declared.expression.Dimensions.{Dimensions, Dimensions-F, fold-Dimensions}
 use Rattle.c_syntax.specs.declared.expression.Member.{Member, Member-F, fold-Member}
 use Rattle.c_syntax.specs.declared.expression.Specifiers.{Specifiers, Specifiers-F, fold-Specifiers}
 use Rattle.c_syntax.specs.declared.expression.TypeName.{TypeName, TypeName-F, fold-TypeName}
@@ -32,17 +35,21 @@ abbrev pub constants_of : List (tree.Name × Option tree.Expression) → tree.Co
 constants_of [] = tree.no_constants
 constants_of (x ∷ xs) = constant_before x (constants_of xs)
 
+-- what boxes hold
+abbrev pub unboxed : {X : Type 0} → Vec (Box X Global) Global → List X
+unboxed boxes = map (λ b. b.value) boxes.items
+
 -- one level, with what stands inside already seen as its tree
-abbrev pub base_step : Base-F tree.Base tree.Expression (tree.Name × Option tree.Expression) tree.Declarator (tree.Specifiers × tree.Declarators) tree.Specifiers tree.TypeName → tree.Base
+abbrev pub base_step : Base-F tree.Base tree.Expression (tree.Name × Option tree.Expression) tree.Declarator (Bool × tree.Expressions) (tree.Specifiers × tree.Declarators) tree.Specifiers tree.TypeName → tree.Base
 base_step open_tree.Void = tree.Void
 base_step (open_tree.Integer type) = tree.Integer type
 base_step (open_tree.TypedefName name) = tree.TypedefName (name_of name)
 base_step (open_tree.StructTag tag) = tree.StructTag (name_of tag)
-base_step (open_tree.Struct tag members) = tree.Struct (option_map name_of tag) (members_of members.items)
+base_step (open_tree.Struct tag members) = tree.Struct (option_map name_of tag) (members_of (unboxed members))
 base_step (open_tree.EnumTag tag) = tree.EnumTag (name_of tag)
-base_step (open_tree.Enum tag constants) = tree.Enum (option_map name_of tag) (constants_of constants.items)
+base_step (open_tree.Enum tag constants) = tree.Enum (option_map name_of tag) (constants_of (unboxed constants))
 
-abbrev pub expression_step : Expression-F tree.Base tree.Expression (tree.Name × Option tree.Expression) tree.Declarator (tree.Specifiers × tree.Declarators) tree.Specifiers tree.TypeName → tree.Expression
+abbrev pub expression_step : Expression-F tree.Base tree.Expression (tree.Name × Option tree.Expression) tree.Declarator (Bool × tree.Expressions) (tree.Specifiers × tree.Declarators) tree.Specifiers tree.TypeName → tree.Expression
 expression_step (open_tree.Named name) = tree.Named (name_of name)
 expression_step (open_tree.Number value type place) = tree.Number value type place
 expression_step (open_tree.Character value place) = tree.Character value place
@@ -56,29 +63,60 @@ expression_step (open_tree.Cast type operand place) = tree.Cast type.value opera
 expression_step (open_tree.Binary operator left right place) = tree.Binary operator left.value right.value place
 expression_step (open_tree.Conditional test first second place) = tree.Conditional test.value first.value second.value place
 
-abbrev pub constant_step : Constant-F tree.Base tree.Expression (tree.Name × Option tree.Expression) tree.Declarator (tree.Specifiers × tree.Declarators) tree.Specifiers tree.TypeName → tree.Name × Option tree.Expression
-constant_step constant = (name_of constant.name, constant.value)
+abbrev pub constant_step : Constant-F tree.Base tree.Expression (tree.Name × Option tree.Expression) tree.Declarator (Bool × tree.Expressions) (tree.Specifiers × tree.Declarators) tree.Specifiers tree.TypeName → tree.Name × Option tree.Expression
+constant_step constant = (name_of constant.name, option_map (λ b. b.value) constant.value)
 
-abbrev pub declarator_step : Declarator-F tree.Base tree.Expression (tree.Name × Option tree.Expression) tree.Declarator (tree.Specifiers × tree.Declarators) tree.Specifiers tree.TypeName → tree.Declarator
-declarator_step declarator = tree.Declared declarator.pointers (name_of declarator.name) declarator.is_open (expressions_of declarator.lengths.items)
+abbrev pub declarator_step : Declarator-F tree.Base tree.Expression (tree.Name × Option tree.Expression) tree.Declarator (Bool × tree.Expressions) (tree.Specifiers × tree.Declarators) tree.Specifiers tree.TypeName → tree.Declarator
+declarator_step declarator = tree.Declared declarator.pointers (name_of declarator.name) declarator.dimensions.value.0 declarator.dimensions.value.1
 
-abbrev pub member_step : Member-F tree.Base tree.Expression (tree.Name × Option tree.Expression) tree.Declarator (tree.Specifiers × tree.Declarators) tree.Specifiers tree.TypeName → tree.Specifiers × tree.Declarators
-member_step member = (member.specifiers, declarators_of member.declarators.items)
+abbrev pub dimensions_step : Dimensions-F tree.Base tree.Expression (tree.Name × Option tree.Expression) tree.Declarator (Bool × tree.Expressions) (tree.Specifiers × tree.Declarators) tree.Specifiers tree.TypeName → Bool × tree.Expressions
+dimensions_step dimensions = (dimensions.is_open, expressions_of (unboxed dimensions.lengths))
 
-abbrev pub specifiers_step : Specifiers-F tree.Base tree.Expression (tree.Name × Option tree.Expression) tree.Declarator (tree.Specifiers × tree.Declarators) tree.Specifiers tree.TypeName → tree.Specifiers
-specifiers_step specifiers = tree.Specified (storage_of specifiers.storage) specifiers.base specifiers.place
+abbrev pub member_step : Member-F tree.Base tree.Expression (tree.Name × Option tree.Expression) tree.Declarator (Bool × tree.Expressions) (tree.Specifiers × tree.Declarators) tree.Specifiers tree.TypeName → tree.Specifiers × tree.Declarators
+member_step member = (member.specifiers.value, declarators_of (unboxed member.declarators))
 
-abbrev pub type_name_step : TypeName-F tree.Base tree.Expression (tree.Name × Option tree.Expression) tree.Declarator (tree.Specifiers × tree.Declarators) tree.Specifiers tree.TypeName → tree.TypeName
-type_name_step type = tree.Pointers type.specifiers type.pointers
+abbrev pub specifiers_step : Specifiers-F tree.Base tree.Expression (tree.Name × Option tree.Expression) tree.Declarator (Bool × tree.Expressions) (tree.Specifiers × tree.Declarators) tree.Specifiers tree.TypeName → tree.Specifiers
+specifiers_step specifiers = tree.Specified (storage_of specifiers.storage) specifiers.base.value specifiers.place
+
+abbrev pub type_name_step : TypeName-F tree.Base tree.Expression (tree.Name × Option tree.Expression) tree.Declarator (Bool × tree.Expressions) (tree.Specifiers × tree.Declarators) tree.Specifiers tree.TypeName → tree.TypeName
+type_name_step type = tree.Pointers type.specifiers.value type.pointers
+
+unfoldable pub base_of : Base → tree.Base
+base_of = fold-Base tree.Base tree.Expression (tree.Name × Option tree.Expression) tree.Declarator (Bool × tree.Expressions) (tree.Specifiers × tree.Declarators) tree.Specifiers tree.TypeName base_step expression_step constant_step declarator_step dimensions_step member_step specifiers_step type_name_step
 
 unfoldable pub expression_of : Expression → tree.Expression
-expression_of = fold-Expression tree.Base tree.Expression (tree.Name × Option tree.Expression) tree.Declarator (tree.Specifiers × tree.Declarators) tree.Specifiers tree.TypeName base_step expression_step constant_step declarator_step member_step specifiers_step type_name_step
+expression_of = fold-Expression tree.Base tree.Expression (tree.Name × Option tree.Expression) tree.Declarator (Bool × tree.Expressions) (tree.Specifiers × tree.Declarators) tree.Specifiers tree.TypeName base_step expression_step constant_step declarator_step dimensions_step member_step specifiers_step type_name_step
 
-unfoldable pub type_name_of : TypeName → tree.TypeName
-type_name_of = fold-TypeName tree.Base tree.Expression (tree.Name × Option tree.Expression) tree.Declarator (tree.Specifiers × tree.Declarators) tree.Specifiers tree.TypeName base_step expression_step constant_step declarator_step member_step specifiers_step type_name_step
-
-unfoldable pub specifiers_of : Specifiers → tree.Specifiers
-specifiers_of = fold-Specifiers tree.Base tree.Expression (tree.Name × Option tree.Expression) tree.Declarator (tree.Specifiers × tree.Declarators) tree.Specifiers tree.TypeName base_step expression_step constant_step declarator_step member_step specifiers_step type_name_step
+unfoldable pub constant_of : Constant → tree.Name × Option tree.Expression
+constant_of = fold-Constant tree.Base tree.Expression (tree.Name × Option tree.Expression) tree.Declarator (Bool × tree.Expressions) (tree.Specifiers × tree.Declarators) tree.Specifiers tree.TypeName base_step expression_step constant_step declarator_step dimensions_step member_step specifiers_step type_name_step
 
 unfoldable pub declarator_of : Declarator → tree.Declarator
-declarator_of = fold-Declarator tree.Base tree.Expression (tree.Name × Option tree.Expression) tree.Declarator (tree.Specifiers × tree.Declarators) tree.Specifiers tree.TypeName base_step expression_step constant_step declarator_step member_step specifiers_step type_name_step
+declarator_of = fold-Declarator tree.Base tree.Expression (tree.Name × Option tree.Expression) tree.Declarator (Bool × tree.Expressions) (tree.Specifiers × tree.Declarators) tree.Specifiers tree.TypeName base_step expression_step constant_step declarator_step dimensions_step member_step specifiers_step type_name_step
+
+unfoldable pub dimensions_of : Dimensions → Bool × tree.Expressions
+dimensions_of = fold-Dimensions tree.Base tree.Expression (tree.Name × Option tree.Expression) tree.Declarator (Bool × tree.Expressions) (tree.Specifiers × tree.Declarators) tree.Specifiers tree.TypeName base_step expression_step constant_step declarator_step dimensions_step member_step specifiers_step type_name_step
+
+unfoldable pub member_of : Member → tree.Specifiers × tree.Declarators
+member_of = fold-Member tree.Base tree.Expression (tree.Name × Option tree.Expression) tree.Declarator (Bool × tree.Expressions) (tree.Specifiers × tree.Declarators) tree.Specifiers tree.TypeName base_step expression_step constant_step declarator_step dimensions_step member_step specifiers_step type_name_step
+
+unfoldable pub specifiers_of : Specifiers → tree.Specifiers
+specifiers_of = fold-Specifiers tree.Base tree.Expression (tree.Name × Option tree.Expression) tree.Declarator (Bool × tree.Expressions) (tree.Specifiers × tree.Declarators) tree.Specifiers tree.TypeName base_step expression_step constant_step declarator_step dimensions_step member_step specifiers_step type_name_step
+
+unfoldable pub type_name_of : TypeName → tree.TypeName
+type_name_of = fold-TypeName tree.Base tree.Expression (tree.Name × Option tree.Expression) tree.Declarator (Bool × tree.Expressions) (tree.Specifiers × tree.Declarators) tree.Specifiers tree.TypeName base_step expression_step constant_step declarator_step dimensions_step member_step specifiers_step type_name_step
+
+-- what stands in boxes
+abbrev pub expressions_in : Vec (Box Expression Global) Global → tree.Expressions
+expressions_in boxes = expressions_of (map expression_of (unboxed boxes))
+
+abbrev pub declarators_in : Vec (Box Declarator Global) Global → tree.Declarators
+declarators_in boxes = declarators_of (map declarator_of (unboxed boxes))
+
+abbrev pub members_in : Vec (Box Member Global) Global → tree.Members
+members_in boxes = members_of (map member_of (unboxed boxes))
+
+abbrev pub constants_in : Vec (Box Constant Global) Global → tree.Constants
+constants_in boxes = constants_of (map constant_of (unboxed boxes))
+
+abbrev pub value_in : Option (Box Expression Global) → Option tree.Expression
+value_in value = option_map (λ b. expression_of b.value) value

@@ -1,5 +1,4 @@
 -- The tree of a call, a value and an expression statement without the program's pointers.
-use Rattle.std.specs.Prelude.{map}
 use Rattle.c_tree_spec.specs.Unit as tree
 use Rattle.c_syntax.specs.declared.simple.Call.{Call}
 use Rattle.c_syntax.specs.declared.simple.Value.{Value}
@@ -7,18 +6,18 @@ use Rattle.c_syntax.specs.declared.simple.Value.TheVariants.{Called, Computed}
 use Rattle.c_syntax.specs.declared.simple.Simple.{Simple}
 use Rattle.c_syntax.specs.declared.simple.Simple.TheVariants.{Assign, AssignBy, StepAfter, StepBefore, Evaluate}
 use Rattle.c_syntax.specs.Names.{name_of}
-use Rattle.c_syntax.specs.Expressions.{expression_of, expressions_of}
+use Rattle.c_syntax.specs.Expressions.{expression_of, expressions_in}
 
 abbrev pub call_of : Call → tree.Call
-call_of call = record { callee = name_of call.callee; arguments = expressions_of (map expression_of call.arguments.items) }
+call_of call = record { callee = name_of call.callee; arguments = expressions_in call.arguments }
 
 abbrev pub value_of : Value → tree.Value
-value_of (Called call) = tree.Called (call_of call)
-value_of (Computed x) = tree.Computed (expression_of x)
+value_of (Called call) = tree.Called (call_of call.value)
+value_of (Computed x) = tree.Computed (expression_of x.value)
 
 abbrev pub simple_of : Simple → tree.Simple
-simple_of (Assign target value place) = tree.Assign (expression_of target) (value_of value) place
-simple_of (AssignBy operator target value place) = tree.AssignBy operator (expression_of target) (expression_of value) place
-simple_of (StepAfter operator target place) = tree.StepAfter operator (expression_of target) place
-simple_of (StepBefore operator target place) = tree.StepBefore operator (expression_of target) place
-simple_of (Evaluate value) = tree.Evaluate (value_of value)
+simple_of (Assign target value place) = tree.Assign (expression_of target.value) (value_of value.value) place
+simple_of (AssignBy operator target value place) = tree.AssignBy operator (expression_of target.value) (expression_of value.value) place
+simple_of (StepAfter operator target place) = tree.StepAfter operator (expression_of target.value) place
+simple_of (StepBefore operator target place) = tree.StepBefore operator (expression_of target.value) place
+simple_of (Evaluate value) = tree.Evaluate (value_of value.value)

@@ -1,9 +1,9 @@
 //! Expressions and types (6.5 to 6.7).
 
-ghost use Rattle.std.specs.Prelude.{◌≡◌, IfOk};
+ghost use Rattle.std.specs.Prelude.{◌≡◌, IfOk, option_map};
 ghost use Rattle.c_tree_spec.specs.Expression as tree;
-ghost use Rattle.c_syntax.specs.Names.{name_of};
-ghost use Rattle.c_syntax.specs.Expressions.{expression_of, type_name_of};
+ghost use Rattle.c_syntax.specs.Names.{name_of, storage_of};
+ghost use Rattle.c_syntax.specs.Expressions.{expression_of, type_name_of, specifiers_of, base_of, member_of, constant_of, declarator_of, dimensions_of, expressions_in, declarators_in, members_in, constants_in, value_in};
 
 use c_spec::token::NumberType;
 use c_tree_spec::{Access, BinaryOperator, IntegerType, UnaryOperator};
@@ -62,7 +62,7 @@ pub enum Expression<'a> {
 #[cycle(tree)]
 pub struct TypeName<'a> {
     /// What stands before the `*`.
-    pub specifiers: Specifiers<'a>,
+    pub specifiers: Box<Specifiers<'a>>,
     /// How many `*` stand.
     pub pointers: usize,
 }
@@ -74,7 +74,7 @@ pub struct Specifiers<'a> {
     /// The words of storage.
     pub storage: Storage,
     /// The one base.
-    pub base: Base<'a>,
+    pub base: Box<Base<'a>>,
     /// The place of the first word.
     pub place: usize,
 }
@@ -92,11 +92,11 @@ pub enum Base<'a> {
     /// `struct tag`
     StructTag(Name<'a>),
     /// `struct tag { .. }`, with its declarations of members in order.
-    Struct(Option<Name<'a>>, Vec<Member<'a>>),
+    Struct(Option<Name<'a>>, Vec<Box<Member<'a>>>),
     /// `enum tag`
     EnumTag(Name<'a>),
     /// `enum tag { .. }`, with its constants in order.
-    Enum(Option<Name<'a>>, Vec<Constant<'a>>),
+    Enum(Option<Name<'a>>, Vec<Box<Constant<'a>>>),
 }
 
 /// A declaration of members (6.7.2.1).
@@ -104,9 +104,9 @@ pub enum Base<'a> {
 #[cycle(tree)]
 pub struct Member<'a> {
     /// Its specifiers.
-    pub specifiers: Specifiers<'a>,
+    pub specifiers: Box<Specifiers<'a>>,
     /// Its declarators in order.
-    pub declarators: Vec<Declarator<'a>>,
+    pub declarators: Vec<Box<Declarator<'a>>>,
 }
 
 /// A declared name and its type, which is no function's (6.7.6).
@@ -117,10 +117,18 @@ pub struct Declarator<'a> {
     pub pointers: usize,
     /// The name.
     pub name: Name<'a>,
+    /// The lengths of an array.
+    pub dimensions: Box<Dimensions<'a>>,
+}
+
+/// The lengths of an array; no array has none (6.7.6.2).
+#[derive(Drop)]
+#[cycle(tree)]
+pub struct Dimensions<'a> {
     /// It is an array whose first length is left out.
     pub is_open: bool,
     /// The lengths that are given, in order.
-    pub lengths: Vec<Expression<'a>>,
+    pub lengths: Vec<Box<Expression<'a>>>,
 }
 
 /// A constant of an enumeration (6.7.2.2).
@@ -130,136 +138,325 @@ pub struct Constant<'a> {
     /// Its name.
     pub name: Name<'a>,
     /// The value that is given, or none.
-    pub value: Option<Expression<'a>>,
+    pub value: Option<Box<Expression<'a>>>,
 }
 
-// An expression in memory of its own.
-fn boxed<'a>(alloc: Global, inner: Expression<'a>) -> Result<Box<Expression<'a>>, AllocError>
-    ensures { IfOk result (λ x. x.value ≡ inner.entry) }
+/// A value in memory of its own.
+pub fn boxed<T: Drop>(alloc: Global, value: T) -> Result<Box<T>, AllocError>
+    ensures { IfOk result (λ x. x.value ≡ value) }
 {
-    Ok(Box::new(alloc, inner)?)
+    Ok(Box::new(alloc, value)?)
 }
 
 #[tactic(auto, using(crate::proofs::Views::views))]
 impl<'a> Expression<'a> {
+    /// `name`
+    pub fn named(alloc: Global, name: Name<'a>) -> Result<Box<Expression<'a>>, AllocError>
+        ensures { IfOk result (λ x. expression_of x.value ≡ tree.Named (name_of name.entry)) }
+    {
+        boxed(alloc, Expression::Named(name))
+    }
+
+    /// A number.
+    pub fn number(
+        alloc: Global,
+        value: u64,
+        of: NumberType,
+        place: usize,
+    ) -> Result<Box<Expression<'a>>, AllocError>
+        ensures { IfOk result (λ x. expression_of x.value ≡ tree.Number value of place) }
+    {
+        boxed(alloc, Expression::Number(value, of, place))
+    }
+
+    /// A character constant.
+    pub fn character(
+        alloc: Global,
+        value: u8,
+        place: usize,
+    ) -> Result<Box<Expression<'a>>, AllocError>
+        ensures { IfOk result (λ x. expression_of x.value ≡ tree.Character value place) }
+    {
+        boxed(alloc, Expression::Character(value, place))
+    }
+
     /// `(inner)`
     pub fn bracketed(
         alloc: Global,
-        inner: Expression<'a>,
+        inner: Box<Expression<'a>>,
         place: usize,
-    ) -> Result<Expression<'a>, AllocError>
-        ensures { IfOk result (λ x. expression_of x ≡ tree.Bracketed (expression_of inner.entry) place) }
+    ) -> Result<Box<Expression<'a>>, AllocError>
+        ensures { IfOk result (λ x. expression_of x.value ≡ tree.Bracketed (expression_of inner.entry.value) place) }
     {
-        let inner = boxed(alloc, inner)?;
-        Ok(Expression::Bracketed(inner, place))
+        boxed(alloc, Expression::Bracketed(inner, place))
     }
 
     /// `base[index]`
     pub fn index(
         alloc: Global,
-        base: Expression<'a>,
-        index: Expression<'a>,
+        base: Box<Expression<'a>>,
+        index: Box<Expression<'a>>,
         place: usize,
-    ) -> Result<Expression<'a>, AllocError>
-        ensures { IfOk result (λ x. expression_of x ≡ tree.Index (expression_of base.entry) (expression_of index.entry) place) }
+    ) -> Result<Box<Expression<'a>>, AllocError>
+        ensures { IfOk result (λ x. expression_of x.value ≡ tree.Index (expression_of base.entry.value) (expression_of index.entry.value) place) }
     {
-        let base = boxed(alloc, base)?;
-        let index = boxed(alloc, index)?;
-        Ok(Expression::Index(base, index, place))
+        boxed(alloc, Expression::Index(base, index, place))
     }
 
     /// `base.member`, `base->member`
     pub fn member(
         alloc: Global,
-        base: Expression<'a>,
+        base: Box<Expression<'a>>,
         access: Access,
         member: Name<'a>,
         place: usize,
-    ) -> Result<Expression<'a>, AllocError>
-        ensures { IfOk result (λ x. expression_of x ≡ tree.Member (expression_of base.entry) access (name_of member.entry) place) }
+    ) -> Result<Box<Expression<'a>>, AllocError>
+        ensures { IfOk result (λ x. expression_of x.value ≡ tree.Member (expression_of base.entry.value) access (name_of member.entry) place) }
     {
-        let base = boxed(alloc, base)?;
-        Ok(Expression::Member(base, access, member, place))
+        boxed(alloc, Expression::Member(base, access, member, place))
     }
 
     /// An operator before its operand.
     pub fn unary(
         alloc: Global,
         operator: UnaryOperator,
-        operand: Expression<'a>,
+        operand: Box<Expression<'a>>,
         place: usize,
-    ) -> Result<Expression<'a>, AllocError>
-        ensures { IfOk result (λ x. expression_of x ≡ tree.Unary operator (expression_of operand.entry) place) }
+    ) -> Result<Box<Expression<'a>>, AllocError>
+        ensures { IfOk result (λ x. expression_of x.value ≡ tree.Unary operator (expression_of operand.entry.value) place) }
     {
-        Ok(Expression::Unary(operator, boxed(alloc, operand)?, place))
+        boxed(alloc, Expression::Unary(operator, operand, place))
     }
 
     /// `sizeof operand`
     pub fn sizeof(
         alloc: Global,
-        operand: Expression<'a>,
+        operand: Box<Expression<'a>>,
         place: usize,
-    ) -> Result<Expression<'a>, AllocError>
-        ensures { IfOk result (λ x. expression_of x ≡ tree.Sizeof (expression_of operand.entry) place) }
+    ) -> Result<Box<Expression<'a>>, AllocError>
+        ensures { IfOk result (λ x. expression_of x.value ≡ tree.Sizeof (expression_of operand.entry.value) place) }
     {
-        let operand = boxed(alloc, operand)?;
-        Ok(Expression::Sizeof(operand, place))
+        boxed(alloc, Expression::Sizeof(operand, place))
     }
 
     /// `sizeof (type)`
     pub fn sizeof_type(
         alloc: Global,
-        of: TypeName<'a>,
+        of: Box<TypeName<'a>>,
         place: usize,
-    ) -> Result<Expression<'a>, AllocError>
-        ensures { IfOk result (λ x. expression_of x ≡ tree.SizeofType (type_name_of of.entry) place) }
+    ) -> Result<Box<Expression<'a>>, AllocError>
+        ensures { IfOk result (λ x. expression_of x.value ≡ tree.SizeofType (type_name_of of.entry.value) place) }
     {
-        let of = Box::new(alloc, of)?;
-        Ok(Expression::SizeofType(of, place))
+        boxed(alloc, Expression::SizeofType(of, place))
     }
 
     /// `(type) operand`
     pub fn cast(
         alloc: Global,
-        to: TypeName<'a>,
-        operand: Expression<'a>,
+        to: Box<TypeName<'a>>,
+        operand: Box<Expression<'a>>,
         place: usize,
-    ) -> Result<Expression<'a>, AllocError>
-        ensures { IfOk result (λ x. expression_of x ≡ tree.Cast (type_name_of to.entry) (expression_of operand.entry) place) }
+    ) -> Result<Box<Expression<'a>>, AllocError>
+        ensures { IfOk result (λ x. expression_of x.value ≡ tree.Cast (type_name_of to.entry.value) (expression_of operand.entry.value) place) }
     {
-        let to = Box::new(alloc, to)?;
-        let operand = boxed(alloc, operand)?;
-        Ok(Expression::Cast(to, operand, place))
+        boxed(alloc, Expression::Cast(to, operand, place))
     }
 
     /// An operator between its operands.
     pub fn binary(
         alloc: Global,
         operator: BinaryOperator,
-        left: Expression<'a>,
-        right: Expression<'a>,
+        left: Box<Expression<'a>>,
+        right: Box<Expression<'a>>,
         place: usize,
-    ) -> Result<Expression<'a>, AllocError>
-        ensures { IfOk result (λ x. expression_of x ≡ tree.Binary operator (expression_of left.entry) (expression_of right.entry) place) }
+    ) -> Result<Box<Expression<'a>>, AllocError>
+        ensures { IfOk result (λ x. expression_of x.value ≡ tree.Binary operator (expression_of left.entry.value) (expression_of right.entry.value) place) }
     {
-        let left = boxed(alloc, left)?;
-        let right = boxed(alloc, right)?;
-        Ok(Expression::Binary(operator, left, right, place))
+        boxed(alloc, Expression::Binary(operator, left, right, place))
     }
 
     /// `test ? first : second`
     pub fn conditional(
         alloc: Global,
-        test: Expression<'a>,
-        first: Expression<'a>,
-        second: Expression<'a>,
+        test: Box<Expression<'a>>,
+        first: Box<Expression<'a>>,
+        second: Box<Expression<'a>>,
         place: usize,
-    ) -> Result<Expression<'a>, AllocError>
-        ensures { IfOk result (λ x. expression_of x ≡ tree.Conditional (expression_of test.entry) (expression_of first.entry) (expression_of second.entry) place) }
+    ) -> Result<Box<Expression<'a>>, AllocError>
+        ensures { IfOk result (λ x. expression_of x.value ≡ tree.Conditional (expression_of test.entry.value) (expression_of first.entry.value) (expression_of second.entry.value) place) }
     {
-        let test = boxed(alloc, test)?;
-        let first = boxed(alloc, first)?;
-        let second = boxed(alloc, second)?;
-        Ok(Expression::Conditional(test, first, second, place))
+        boxed(alloc, Expression::Conditional(test, first, second, place))
+    }
+}
+
+#[tactic(auto, using(crate::proofs::Views::views))]
+impl<'a> Base<'a> {
+    /// `void`
+    pub fn void(alloc: Global) -> Result<Box<Base<'a>>, AllocError>
+        ensures { IfOk result (λ x. base_of x.value ≡ tree.Void) }
+    {
+        boxed(alloc, Base::Void)
+    }
+
+    /// An integer type.
+    pub fn integer(alloc: Global, of: IntegerType) -> Result<Box<Base<'a>>, AllocError>
+        ensures { IfOk result (λ x. base_of x.value ≡ tree.Integer of) }
+    {
+        boxed(alloc, Base::Integer(of))
+    }
+
+    /// A typedef name.
+    pub fn typedef_name(alloc: Global, name: Name<'a>) -> Result<Box<Base<'a>>, AllocError>
+        ensures { IfOk result (λ x. base_of x.value ≡ tree.TypedefName (name_of name.entry)) }
+    {
+        boxed(alloc, Base::TypedefName(name))
+    }
+
+    /// `struct tag`
+    pub fn struct_tag(alloc: Global, tag: Name<'a>) -> Result<Box<Base<'a>>, AllocError>
+        ensures { IfOk result (λ x. base_of x.value ≡ tree.StructTag (name_of tag.entry)) }
+    {
+        boxed(alloc, Base::StructTag(tag))
+    }
+
+    /// `struct tag { .. }`
+    pub fn structure(
+        alloc: Global,
+        tag: Option<Name<'a>>,
+        members: Vec<Box<Member<'a>>>,
+    ) -> Result<Box<Base<'a>>, AllocError>
+        ensures { IfOk result (λ x. base_of x.value ≡ tree.Struct (option_map name_of tag.entry) (members_in members.entry)) }
+    {
+        boxed(alloc, Base::Struct(tag, members))
+    }
+
+    /// `enum tag`
+    pub fn enum_tag(alloc: Global, tag: Name<'a>) -> Result<Box<Base<'a>>, AllocError>
+        ensures { IfOk result (λ x. base_of x.value ≡ tree.EnumTag (name_of tag.entry)) }
+    {
+        boxed(alloc, Base::EnumTag(tag))
+    }
+
+    /// `enum tag { .. }`
+    pub fn enumeration(
+        alloc: Global,
+        tag: Option<Name<'a>>,
+        constants: Vec<Box<Constant<'a>>>,
+    ) -> Result<Box<Base<'a>>, AllocError>
+        ensures { IfOk result (λ x. base_of x.value ≡ tree.Enum (option_map name_of tag.entry) (constants_in constants.entry)) }
+    {
+        boxed(alloc, Base::Enum(tag, constants))
+    }
+}
+
+#[tactic(auto, using(crate::proofs::Views::views))]
+impl<'a> TypeName<'a> {
+    /// Made of its parts.
+    pub fn new(
+        alloc: Global,
+        specifiers: Box<Specifiers<'a>>,
+        pointers: usize,
+    ) -> Result<Box<TypeName<'a>>, AllocError>
+        ensures { IfOk result (λ x. type_name_of x.value ≡ tree.Pointers (specifiers_of specifiers.entry.value) pointers) }
+    {
+        boxed(
+            alloc,
+            TypeName {
+                specifiers,
+                pointers,
+            },
+        )
+    }
+}
+
+#[tactic(auto, using(crate::proofs::Views::views))]
+impl<'a> Specifiers<'a> {
+    /// Made of its parts.
+    pub fn new(
+        alloc: Global,
+        storage: Storage,
+        base: Box<Base<'a>>,
+        place: usize,
+    ) -> Result<Box<Specifiers<'a>>, AllocError>
+        ensures { IfOk result (λ x. specifiers_of x.value ≡ tree.Specified (storage_of storage) (base_of base.entry.value) place) }
+    {
+        boxed(
+            alloc,
+            Specifiers {
+                storage,
+                base,
+                place,
+            },
+        )
+    }
+}
+
+#[tactic(auto, using(crate::proofs::Views::views))]
+impl<'a> Member<'a> {
+    /// Made of its parts.
+    pub fn new(
+        alloc: Global,
+        specifiers: Box<Specifiers<'a>>,
+        declarators: Vec<Box<Declarator<'a>>>,
+    ) -> Result<Box<Member<'a>>, AllocError>
+        ensures { IfOk result (λ x. member_of x.value ≡ (specifiers_of specifiers.entry.value, declarators_in declarators.entry)) }
+    {
+        boxed(
+            alloc,
+            Member {
+                specifiers,
+                declarators,
+            },
+        )
+    }
+}
+
+#[tactic(auto, using(crate::proofs::Views::views))]
+impl<'a> Declarator<'a> {
+    /// Made of its parts.
+    pub fn new(
+        alloc: Global,
+        pointers: usize,
+        name: Name<'a>,
+        dimensions: Box<Dimensions<'a>>,
+    ) -> Result<Box<Declarator<'a>>, AllocError>
+        ensures { IfOk result (λ x. declarator_of x.value ≡ tree.Declared pointers (name_of name.entry) (dimensions_of dimensions.entry.value).0 (dimensions_of dimensions.entry.value).1) }
+    {
+        boxed(
+            alloc,
+            Declarator {
+                pointers,
+                name,
+                dimensions,
+            },
+        )
+    }
+}
+
+#[tactic(auto, using(crate::proofs::Views::views))]
+impl<'a> Dimensions<'a> {
+    /// Made of its parts.
+    pub fn new(
+        alloc: Global,
+        is_open: bool,
+        lengths: Vec<Box<Expression<'a>>>,
+    ) -> Result<Box<Dimensions<'a>>, AllocError>
+        ensures { IfOk result (λ x. dimensions_of x.value ≡ (is_open, expressions_in lengths.entry)) }
+    {
+        boxed(alloc, Dimensions { is_open, lengths })
+    }
+}
+
+#[tactic(auto, using(crate::proofs::Views::views))]
+impl<'a> Constant<'a> {
+    /// Made of its parts.
+    pub fn new(
+        alloc: Global,
+        name: Name<'a>,
+        value: Option<Box<Expression<'a>>>,
+    ) -> Result<Box<Constant<'a>>, AllocError>
+        ensures { IfOk result (λ x. constant_of x.value ≡ (name_of name.entry, value_in value.entry)) }
+    {
+        boxed(alloc, Constant { name, value })
     }
 }

@@ -9,29 +9,29 @@ pub struct Call<'a> {
     /// The function's name.
     pub callee: Name<'a>,
     /// The arguments in order.
-    pub arguments: Vec<Expression<'a>>,
+    pub arguments: Vec<Box<Expression<'a>>>,
 }
 
 /// What is assigned or returned.
 #[derive(Drop)]
 pub enum Value<'a> {
     /// The result of a call.
-    Called(Call<'a>),
+    Called(Box<Call<'a>>),
     /// An expression.
-    Computed(Expression<'a>),
+    Computed(Box<Expression<'a>>),
 }
 
 /// An expression statement without its semicolon, or a piece of a `for`.
 #[derive(Drop)]
 pub enum Simple<'a> {
     /// `target = value`, and the place of the operator.
-    Assign(Expression<'a>, Value<'a>, usize),
+    Assign(Box<Expression<'a>>, Box<Value<'a>>, usize),
     /// `target op= value`, and the place of the operator.
-    AssignBy(BinaryOperator, Expression<'a>, Expression<'a>, usize),
+    AssignBy(BinaryOperator, Box<Expression<'a>>, Box<Expression<'a>>, usize),
     /// `target++`, `target--`, and the place of the operator.
-    StepAfter(StepOperator, Expression<'a>, usize),
+    StepAfter(StepOperator, Box<Expression<'a>>, usize),
     /// `++target`, `--target`, and the place of the operator.
-    StepBefore(StepOperator, Expression<'a>, usize),
+    StepBefore(StepOperator, Box<Expression<'a>>, usize),
     /// A value that is dropped.
-    Evaluate(Value<'a>),
+    Evaluate(Box<Value<'a>>),
 }

@@ -2,20 +2,20 @@
 use Rattle.std.specs.Prelude.{map}
 use Rattle.std.specs.Option.{option_map}
 use Rattle.c_tree_spec.specs.Unit as tree
-use Rattle.c_syntax.specs.Expressions.{expression_of, specifiers_of, declarator_of}
+use Rattle.c_syntax.specs.Expressions.{expression_of, specifiers_of, declarator_of, unboxed}
 use Rattle.c_syntax.specs.Simples.{value_of, simple_of}
-use Rattle.c_unit_syntax.specs.declared.statement.Local.{Local}
-use Rattle.c_unit_syntax.specs.declared.statement.Locals.{Locals}
-use Rattle.c_unit_syntax.specs.declared.statement.ForStart.{ForStart}
-use Rattle.c_unit_syntax.specs.declared.statement.ForStart.TheVariants as start
-use Rattle.c_unit_syntax.specs.declared.statement.Label.{Label}
-use Rattle.c_unit_syntax.specs.declared.statement.Label.TheVariants as label
+use Rattle.c_syntax.specs.declared.statement.Local.{Local}
+use Rattle.c_syntax.specs.declared.statement.Locals.{Locals}
+use Rattle.c_syntax.specs.declared.statement.ForStart.{ForStart}
+use Rattle.c_syntax.specs.declared.statement.ForStart.TheVariants as start
+use Rattle.c_syntax.specs.declared.statement.Label.{Label}
+use Rattle.c_syntax.specs.declared.statement.Label.TheVariants as label
 
 abbrev pub local_of : Local → tree.Local
-local_of local = record { declarator = declarator_of local.declarator; value = option_map value_of local.value }
+local_of local = record { declarator = declarator_of local.declarator.value; value = option_map (λ v. value_of v.value) local.value }
 
 abbrev pub locals_of : Locals → tree.Locals
-locals_of locals = record { specifiers = specifiers_of locals.specifiers; locals = map local_of locals.locals.items }
+locals_of locals = record { specifiers = specifiers_of locals.specifiers.value; locals = map local_of (unboxed locals.locals) }
 
 abbrev pub start_of : ForStart → tree.ForStart
 start_of start.Empty = tree.StartsEmpty

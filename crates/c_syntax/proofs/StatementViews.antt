@@ -1,5 +1,5 @@
 -- The tree of each statement, by the trees of what stands in it.
-use Rattle.std.proofs.Common.{◌≡◌, ℕ, map, ap, sym, ◌∙◌, Option, Vec}
+use Rattle.std.proofs.Common.{◌≡◌, ℕ, map, ap, sym, refl, ◌∙◌, Option, Vec}
 use Rattle.std.specs.Option.{option_map}
 use Rattle.std.specs.declared.alloc.Global.{Global}
 use Rattle.std.specs.declared.boxed.Box.{Box}
@@ -9,16 +9,32 @@ use Rattle.c_syntax.specs.declared.simple.Simple.{Simple}
 use Rattle.c_syntax.specs.declared.simple.Value.{Value}
 use Rattle.c_syntax.specs.Expressions.{expression_of}
 use Rattle.c_syntax.specs.Simples.{value_of, simple_of}
-use Rattle.c_unit_syntax.specs.declared.statement.ForStart.{ForStart}
-use Rattle.c_unit_syntax.specs.declared.statement.Statement.{Statement, fold-roll-Statement}
-use Rattle.c_unit_syntax.specs.declared.statement.Part.TheOpen as layer
-use Rattle.c_unit_syntax.specs.declared.statement.Statement.TheVariants as made
-use Rattle.c_unit_syntax.specs.declared.statement.Part.{Part}
-use Rattle.c_unit_syntax.specs.declared.statement.Group.{Group}
-use Rattle.c_unit_syntax.specs.Locals.{start_of}
-use Rattle.c_unit_syntax.specs.Statements.{statement_of, part_of, group_of, parts_of, groups_of, part_step, statement_step, group_step}
+use Rattle.c_syntax.specs.declared.statement.ForStart.{ForStart}
+use Rattle.c_syntax.specs.declared.statement.Statement.{Statement, fold-roll-Statement}
+use Rattle.c_syntax.specs.declared.statement.Part.TheOpen as layer
+use Rattle.c_syntax.specs.declared.statement.Statement.TheVariants as made
+use Rattle.c_syntax.specs.declared.statement.Part.{Part, fold-roll-Part}
+use Rattle.c_syntax.specs.declared.statement.Part.TheVariants as part_made
+use Rattle.c_syntax.specs.declared.statement.Group.{Group, roll-Group, fold-roll-Group}
+use Rattle.c_syntax.specs.declared.statement.Label.{Label}
+use Rattle.c_syntax.specs.declared.statement.Locals.{Locals}
+use Rattle.c_syntax.proofs.Views.{unboxed-mapped}
+use Rattle.c_syntax.specs.Locals.{start_of, locals_of, label_of}
+use Rattle.c_syntax.specs.Statements.{statement_of, part_of, group_of, parts_of, groups_of, parts_in, groups_in, Declares, States, Piece, part_step, statement_step, group_step}
 
-pub Block-view : (parts : Vec Part Global) (place : ℕ) → statement_of (made.Block parts place) ≡ tree.Block (parts_of (map part_of parts.items)) place
+pub Declared-view : (locals : Box Locals Global) → part_of (part_made.Locals locals) ≡ Declares (locals_of locals.value)
+unfolding statement_of part_of group_of
+Declared-view locals = ap part_of (sym (part_made.rolls-Locals locals)) ∙ fold-roll-Part _ _ _ part_step statement_step group_step (layer.Locals locals)
+
+pub Stated-view : (statement : Box Statement Global) → part_of (part_made.Statement statement) ≡ States (statement_of statement.value)
+unfolding statement_of part_of group_of
+Stated-view statement = ap part_of (sym (part_made.rolls-Statement statement)) ∙ fold-roll-Part _ _ _ part_step statement_step group_step (layer.Statement statement)
+
+pub Group-view : (labels : Vec Label Global) (parts : Vec Part Global) → group_of (roll-Group (record { labels = labels; parts = parts })) ≡ (map label_of labels.items, parts_in parts)
+unfolding statement_of part_of group_of
+Group-view labels parts = fold-roll-Group _ _ _ part_step statement_step group_step (record { labels = labels; parts = parts })
+
+pub Block-view : (parts : Vec Part Global) (place : ℕ) → statement_of (made.Block parts place) ≡ tree.Block (parts_in parts) place
 unfolding statement_of part_of group_of
 Block-view parts place = ap statement_of (sym (made.rolls-Block parts place)) ∙ fold-roll-Statement _ _ _ part_step statement_step group_step (layer.Block parts place)
 
@@ -58,12 +74,12 @@ pub Do-view : (body : Box Statement Global) (test : Box Expression Global) (plac
 unfolding statement_of part_of group_of
 Do-view body test place = ap statement_of (sym (made.rolls-Do body test place)) ∙ fold-roll-Statement _ _ _ part_step statement_step group_step (layer.Do body test place)
 
-pub For-view : (start : ForStart) (test : Option (Box Expression Global)) (step : Option (Box Simple Global)) (body : Box Statement Global) (place : ℕ) → statement_of (made.For start test step body place) ≡ tree.For (start_of start) (option_map (λ x. expression_of x.value) test) (option_map (λ x. simple_of x.value) step) (statement_of body.value) place
+pub For-view : (start : Box ForStart Global) (test : Option (Box Expression Global)) (step : Option (Box Simple Global)) (body : Box Statement Global) (place : ℕ) → statement_of (made.For start test step body place) ≡ tree.For (start_of start.value) (option_map (λ x. expression_of x.value) test) (option_map (λ x. simple_of x.value) step) (statement_of body.value) place
 unfolding statement_of part_of group_of
 For-view start test step body place = ap statement_of (sym (made.rolls-For start test step body place)) ∙ fold-roll-Statement _ _ _ part_step statement_step group_step (layer.For start test step body place)
 
-pub Switch-view : (test : Box Expression Global) (groups : Vec Group Global) (place : ℕ) → statement_of (made.Switch test groups place) ≡ tree.Switch (expression_of test.value) (groups_of (map group_of groups.items)) place
+pub Switch-view : (test : Box Expression Global) (groups : Vec (Box Group Global) Global) (place : ℕ) → statement_of (made.Switch test groups place) ≡ tree.Switch (expression_of test.value) (groups_in groups) place
 unfolding statement_of part_of group_of
-Switch-view test groups place = ap statement_of (sym (made.rolls-Switch test groups place)) ∙ fold-roll-Statement _ _ _ part_step statement_step group_step (layer.Switch test groups place)
+Switch-view test groups place = ap statement_of (sym (made.rolls-Switch test groups place)) ∙ fold-roll-Statement _ _ _ part_step statement_step group_step (layer.Switch test groups place) ∙ ap (λ l. tree.Switch (expression_of test.value) (groups_of l) place) (unboxed-mapped _ group_of (λ b. refl) groups.items)
 
-pub ruleset views = (Block-view, Empty-view, Perform-view, Break-view, Continue-view, Return-view, If-view, IfElse-view, While-view, Do-view, For-view, Switch-view)
+pub ruleset statement_views = (Declared-view, Stated-view, Group-view, Block-view, Empty-view, Perform-view, Break-view, Continue-view, Return-view, If-view, IfElse-view, While-view, Do-view, For-view, Switch-view)

@@ -1,14 +1,16 @@
 -- The tree of a statement without the program's pointers.
-use Rattle.std.specs.Prelude.{List, [], ◌∷◌, map}
+use Rattle.std.specs.Prelude.{List, [], ◌∷◌, map, Vec}
+use Rattle.std.specs.declared.alloc.Global.{Global}
+use Rattle.std.specs.declared.boxed.Box.{Box}
 use Rattle.std.specs.Option.{option_map}
 use Rattle.c_tree_spec.specs.Unit as tree
-use Rattle.c_syntax.specs.Expressions.{expression_of}
+use Rattle.c_syntax.specs.Expressions.{expression_of, unboxed}
 use Rattle.c_syntax.specs.Simples.{value_of, simple_of}
-use Rattle.c_unit_syntax.specs.declared.statement.Statement.{Statement, Statement-F, fold-Statement}
-use Rattle.c_unit_syntax.specs.declared.statement.Part.{Part, Part-F, fold-Part}
-use Rattle.c_unit_syntax.specs.declared.statement.Part.TheOpen as open_tree
-use Rattle.c_unit_syntax.specs.declared.statement.Group.{Group, Group-F, fold-Group}
-use Rattle.c_unit_syntax.specs.Locals.{locals_of, start_of, label_of}
+use Rattle.c_syntax.specs.declared.statement.Statement.{Statement, Statement-F, fold-Statement}
+use Rattle.c_syntax.specs.declared.statement.Part.{Part, Part-F, fold-Part}
+use Rattle.c_syntax.specs.declared.statement.Part.TheOpen as open_tree
+use Rattle.c_syntax.specs.declared.statement.Group.{Group, Group-F, fold-Group}
+use Rattle.c_syntax.specs.Locals.{locals_of, start_of, label_of}
 
 -- what stands in a block, alone
 pub data Piece : Type 0 where
@@ -42,8 +44,8 @@ statement_step (open_tree.IfElse test body otherwise place) = tree.IfElse (expre
 statement_step (open_tree.While test body place) = tree.While (expression_of test.value) body.value place
 statement_step (open_tree.Do body test place) = tree.Do body.value (expression_of test.value) place
 statement_step (open_tree.For start test step body place) =
-    tree.For (start_of start) (option_map (λ x. expression_of x.value) test) (option_map (λ x. simple_of x.value) step) body.value place
-statement_step (open_tree.Switch test groups place) = tree.Switch (expression_of test.value) (groups_of groups.items) place
+    tree.For (start_of start.value) (option_map (λ x. expression_of x.value) test) (option_map (λ x. simple_of x.value) step) body.value place
+statement_step (open_tree.Switch test groups place) = tree.Switch (expression_of test.value) (groups_of (unboxed groups)) place
 
 abbrev pub group_step : Group-F Piece tree.Statement (List tree.Label × tree.Parts) → List tree.Label × tree.Parts
 group_step group = (map label_of group.labels.items, parts_of group.parts.items)
@@ -56,3 +58,10 @@ part_of = fold-Part Piece tree.Statement (List tree.Label × tree.Parts) part_st
 
 unfoldable pub group_of : Group → List tree.Label × tree.Parts
 group_of = fold-Group Piece tree.Statement (List tree.Label × tree.Parts) part_step statement_step group_step
+
+-- what stands in lists of the program
+abbrev pub parts_in : Vec Part Global → tree.Parts
+parts_in parts = parts_of (map part_of parts.items)
+
+abbrev pub groups_in : Vec (Box Group Global) Global → tree.Groups
+groups_in groups = groups_of (map group_of (unboxed groups))

@@ -1,3 +1,0 @@
-pub mod Locals
-pub mod Statements
-pub mod Units
