@@ -19,3 +19,8 @@ pub failed : {A B X Y : Type 0} (part : Outcome Placed Role X) (whole : Outcome 
     → IsErrAnd result (λ e. e ≡ error) → Gives {X = A} part view left (Err error) → ((fault : Fault Role × List Placed) → part ≡ Err fault → whole ≡ Err fault) → Gives whole seen left result
 failed part whole view seen left (Ok x) error same gives passes = absurd same
 failed {B = B} part whole view seen left (Err other) error same gives passes = subst (λ e. Gives {X = B} whole seen left (Err e)) (sym same) (fault-from part whole view seen left error gives passes)
+
+-- nothing is said where there is no memory
+pub no_memory : {B Y : Type 0} (whole : Outcome Placed Role Y) (seen : B → Y) (left : List Token) (result : Result B ParseError) → IsErrAnd result (λ e. e ≡ NoMemory) → Gives whole seen left result
+no_memory whole seen left (Ok x) same = absurd same
+no_memory {B = B} whole seen left (Err other) same = subst (λ e. Gives {X = B} whole seen left (Err e)) (sym same) (tt {0})

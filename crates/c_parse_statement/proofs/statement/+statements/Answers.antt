@@ -1,4 +1,4 @@
-use Rattle.std.proofs.Common.{arith, ℕ, ◌≡◌, ◌∙◌, sym, subst, ap, map, ◌++◌, ◌∷◌, [], ◌+◌, Ok, Err}
+use Rattle.std.proofs.Common.{arith, ℕ, suc, refl, ◌≡◌, ◌∙◌, sym, subst, ap, map, ◌++◌, ◌∷◌, [], ◌+◌, Ok, Err}
 use Rattle.std.proofs.lemmas.List.{map-append}
 use Rattle.std.specs.Option.{option_map}
 use Rattle.std.specs.declared.alloc.Global.{Global}
@@ -7,19 +7,21 @@ use Rattle.c_syntax.specs.declared.expression.Expression.{Expression}
 use Rattle.c_syntax.specs.declared.simple.Simple.{Simple}
 use Rattle.c_syntax.specs.declared.statement.ForStart.{ForStart}
 use Rattle.c_syntax.specs.declared.statement.Statement.{Statement}
+use Rattle.c_syntax.specs.declared.statement.Locals.{Locals}
 use Rattle.c_tree_spec.specs.Unit as unit
 use Rattle.exact_read.specs.Grammar.{bind}
+use Rattle.c_statement_reader.specs.Statements as statements
 use Rattle.c_statement_reader.specs.Statements.{read_parts, read_groups}
 use Rattle.c_syntax.specs.Expressions.{expression_of, unboxed}
 use Rattle.c_syntax.specs.Simples.{simple_of}
-use Rattle.c_syntax.specs.Locals.{start_of, label_of}
+use Rattle.c_syntax.specs.Locals.{locals_of, start_of, label_of}
 use Rattle.c_syntax.specs.Statements.{part_of, parts_of, parts_in, statement_of, group_of, groups_of, groups_in}
 use Rattle.c_parse_token.specs.Lists.{list_of, names_of, Gives}
 use Rattle.c_parse_token.proofs.Steps.{fewer}
 use Rattle.c_parse_expression.specs.Whole.{expressions}
 use Rattle.c_parse_statement.specs.Grouped.{grouping_of}
-use Rattle.c_parse_statement.specs.Pieces.{within, read_of}
-use Rattle.c_parse_statement.proofs.Steps.{failed}
+use Rattle.c_parse_statement.specs.Pieces.{within, read_of, read_plain}
+use Rattle.c_parse_statement.proofs.Steps.{failed, no_memory}
 use Rattle.c_parse_statement.proofs.Loops.{Parts, parts-start, parts-more, parts-error, parts-end, Gathering, gathering-start, gathering-none, gathering-label_error, gathering-step, gathering-error, gathering-end}
 use Rattle.c_parse_statement.proofs.Split.{do-parts, if-parts}
 use Rattle.c_parse_statement.proofs.Chain.{for-found, for-start_error, for-test_error, for-step_error, for-body_error, switch-found, switch-open_error, switch-groups_error, switch-close_error, block-unclosed}
@@ -79,6 +81,14 @@ do_statement-returns-in_err-test-clause-gives t c =
     let inside = within c.args.names.now c.args.room in
     failed _ _ (λ (x : Box Expression Global). expression_of x.value) _ _ _ c.in_err-test.field-0.0 c.from_residual-in_err-test.ensures.1 c.in_err-test.ensures.gives
     (λ fault e. do-parts inner inside c.args.depth (c.args.depth + 1) c.in_ok-place.place (statement_of c.in_ok-body.body.value) (list_of c.args.tokens.now.rest.now) (list_of c.opening.new.tokens.rest.now) (list_of c.statement.new.tokens.rest.now) (omega arith) c.in_ok-place.ensures.gives c.in_ok-body.ensures.gives ∙ ap (λ o. bind o (λ x rest. Ok (unit.Do (statement_of c.in_ok-body.body.value) x c.in_ok-place.place, rest))) e)
+
+pub do_statement-returns-clause-gives : goal.do_statement-returns-clause-gives
+do_statement-returns-clause-gives t c =
+    let names = names_of c.args.names.now in
+    let inner = expressions c.args.names.now in
+    let inside = within c.args.names.now c.args.room in
+    do-parts inner inside c.args.depth (c.args.depth + 1) c.in_ok-place.place (statement_of c.in_ok-body.body.value) (list_of c.args.tokens.now.rest.now) (list_of c.opening.new.tokens.rest.now) (list_of c.statement.new.tokens.rest.now) (omega arith) c.in_ok-place.ensures.gives c.in_ok-body.ensures.gives ∙ ap (λ o. bind o (λ x rest. Ok (unit.Do (statement_of c.in_ok-body.body.value) x c.in_ok-place.place, rest))) c.in_ok-test.ensures.gives
+    ∙ ap (λ made. Ok (made, list_of c.do_test.new.tokens.rest.now)) (sym c.in_ok-do_loop.ensures)
 
 pub for_statement-returns-in_err-start-clause-gives : goal.for_statement-returns-in_err-start-clause-gives
 for_statement-returns-in_err-start-clause-gives t c =
@@ -145,6 +155,14 @@ groups-items-preserved t c =
       fewer = omega (arith, c.in_ok-element.ensures.shorter, c.items.invariant.fewer);
     }
 
+pub groups-returns-in_err-first-clause-gives : goal.groups-returns-in_err-first-clause-gives
+groups-returns-in_err-first-clause-gives t c =
+    let names = names_of c.args.names.now in
+    let inner = expressions c.args.names.now in
+    let inside = within c.args.names.now c.args.room in
+    failed _ _ label_of _ _ _ c.in_err-first.field-0.0 c.from_residual.ensures.1 c.in_err-first.ensures.gives
+    (λ fault e. gathering-label_error names inner inside c.args.depth (list_of c.args.tokens.now.rest.now) fault (sym c.starts_label.ensures ∙ c.if-not-starts_label.false) e)
+
 pub groups-returns-in_err-element-clause-gives : goal.groups-returns-in_err-element-clause-gives
 groups-returns-in_err-element-clause-gives t c =
     let names = names_of c.args.names.now in
@@ -161,6 +179,13 @@ groups-returns-clause-gives t c =
     gathering-end names inner inside c.args.depth (read_groups names inner inside c.args.depth (list_of c.args.tokens.now.rest.now)) (grouping_of c.items.gathered) (list_of c.items.tokens.rest.now) c.items.invariant.going (sym c.starts_element.ensures ∙ c.items-test.false)
     ∙ ap (λ groups. Ok (groups, list_of c.items.tokens.rest.now)) (sym c.in_ok-groups.ensures)
 
+pub groups-returns-then-not-starts_label-clause-gives : goal.groups-returns-then-not-starts_label-clause-gives
+groups-returns-then-not-starts_label-clause-gives t c =
+    let names = names_of c.args.names.now in
+    let inner = expressions c.args.names.now in
+    let inside = within c.args.names.now c.args.room in
+    gathering-none names inner inside c.args.depth (list_of c.args.tokens.now.rest.now) (sym c.starts_label.ensures ∙ c.if-not-starts_label.true) ∙ ap (λ items. Ok (groups_of (map group_of (map (λ b. b.value) items)), list_of c.args.tokens.now.rest.now)) (sym c.new.ensures.items)
+
 pub if_statement-returns-clause-gives : goal.if_statement-returns-clause-gives
 if_statement-returns-clause-gives t c =
     let names = names_of c.args.names.now in
@@ -168,6 +193,14 @@ if_statement-returns-clause-gives t c =
     let inside = within c.args.names.now c.args.room in
     let same = if-parts inner inside c.args.depth (c.args.depth + 1) c.in_ok-place.place (expression_of c.in_ok-test.test.value) (statement_of c.in_ok-body.body.value) (list_of c.args.tokens.now.rest.now) (list_of c.opening.new.tokens.rest.now) (list_of c.test.new.tokens.rest.now) (list_of c.statement.new.tokens.rest.now) (omega arith) c.in_ok-place.ensures.gives c.in_ok-test.ensures.gives c.in_ok-body.ensures.gives in
     subst (λ o. Gives o (λ x. statement_of x.value) c.else_part.new.tokens.rest.now c.else_part.result) (sym same) c.else_part.ensures.gives
+
+pub switch_statement-returns-in_err-opening-clause-gives : goal.switch_statement-returns-in_err-opening-clause-gives
+switch_statement-returns-in_err-opening-clause-gives t c =
+    let names = names_of c.args.names.now in
+    let inner = expressions c.args.names.now in
+    let inside = within c.args.names.now c.args.room in
+    failed _ _ (λ (x : ℕ). x) _ _ _ c.in_err-opening.field-0.0 c.from_residual-in_err-opening.ensures.1 c.in_err-opening.ensures.gives
+    (λ fault e. switch-open_error names inner inside c.args.depth (c.args.depth + 1) (c.args.depth + 2) c.in_ok-place.place (expression_of c.in_ok-test.test.value) fault (list_of c.args.tokens.now.rest.now) (list_of c.opening.new.tokens.rest.now) (list_of c.test.new.tokens.rest.now) (omega arith) (omega arith) c.in_ok-place.ensures.gives c.in_ok-test.ensures.gives e)
 
 pub switch_statement-returns-in_err-groups-clause-gives : goal.switch_statement-returns-in_err-groups-clause-gives
 switch_statement-returns-in_err-groups-clause-gives t c =
@@ -192,3 +225,193 @@ switch_statement-returns-clause-gives t c =
     let inside = within c.args.names.now c.args.room in
     switch-found names inner inside c.args.depth (c.args.depth + 1) (c.args.depth + 2) c.in_ok-place.place (expression_of c.in_ok-test.test.value) c.in_ok-opening.field-0 (groups_in c.in_ok-groups.groups) c.in_ok-mark.field-0 (list_of c.args.tokens.now.rest.now) (list_of c.opening.new.tokens.rest.now) (list_of c.test.new.tokens.rest.now) (list_of c.opening-2.new.self.rest.now) (list_of c.groups.new.tokens.rest.now) (list_of c.mark.new.self.rest.now) (omega arith) (omega arith) c.in_ok-place.ensures.gives c.in_ok-test.ensures.gives c.in_ok-opening.ensures.gives c.in_ok-groups.ensures.gives c.in_ok-mark.ensures.gives
     ∙ ap (λ made. Ok (made, list_of c.mark.new.self.rest.now)) (sym c.in_ok-switch.ensures)
+
+pub part-returns-in_err-locals-clause-gives : goal.part-returns-in_err-locals-clause-gives
+part-returns-in_err-locals-clause-gives t c =
+    failed _ _ (λ (x : Box Locals Global). locals_of x.value) _ _ _ c.in_err-locals.field-0.0 c.from_residual.ensures.1 c.in_err-locals.ensures.gives (λ fault e. rw (sym c.starts_locals.ensures ∙ c.if-starts_locals.true, e) refl)
+
+pub part-returns-in_err-statement-clause-gives : goal.part-returns-in_err-statement-clause-gives
+part-returns-in_err-statement-clause-gives t c =
+    failed _ _ (λ (x : Box Statement Global). statement_of x.value) _ _ _ c.in_err-statement.field-0.0 c.from_residual-in_err-statement.ensures.1 c.in_err-statement.ensures.gives (λ fault e. rw (sym c.starts_locals.ensures ∙ c.if-starts_locals.false, e) refl)
+
+pub part-returns-then-starts_locals-clause-gives : goal.part-returns-then-starts_locals-clause-gives
+part-returns-then-starts_locals-clause-gives t c =
+    rw (sym c.starts_locals.ensures ∙ c.if-starts_locals.true, c.in_ok-locals.ensures.gives) (ap (λ p. Ok (read_of p, list_of c.locals.new.tokens.rest.now)) (sym c.declared.ensures))
+
+pub part-returns-clause-gives : goal.part-returns-clause-gives
+part-returns-clause-gives t c =
+    rw (sym c.starts_locals.ensures ∙ c.if-starts_locals.false, c.in_ok-statement.ensures.gives) (ap (λ p. Ok (read_of p, list_of c.statement.new.tokens.rest.now)) (sym c.stated.ensures))
+
+pub all_parts-returns-in_err-push-clause-gives : goal.all_parts-returns-in_err-push-clause-gives
+all_parts-returns-in_err-push-clause-gives t c =
+    no_memory _ _ _ _ c.from_residual-in_err-push.ensures.1
+
+pub block-returns-in_err-place-clause-gives : goal.block-returns-in_err-place-clause-gives
+block-returns-in_err-place-clause-gives t c =
+    failed _ _ (λ (x : ℕ). x) _ _ _ c.in_err-place.field-0.0 c.from_residual.ensures.1 c.in_err-place.ensures.gives (λ fault e. rw (e) refl)
+
+pub block-returns-in_err-parts-clause-gives : goal.block-returns-in_err-parts-clause-gives
+block-returns-in_err-parts-clause-gives t c =
+    let one : c.args.depth + 1 ≡ suc c.args.depth = omega arith in
+    failed _ _ parts_in _ _ _ c.in_err-parts.field-0.0 c.from_residual-in_err-parts.ensures.1 c.in_err-parts.ensures.gives (λ fault e. rw (c.in_ok-place.ensures.gives, rw one at e) refl)
+
+pub block-returns-in_err-block-clause-gives : goal.block-returns-in_err-block-clause-gives
+block-returns-in_err-block-clause-gives t c =
+    no_memory _ _ _ _ c.from_residual-in_err-block.ensures.1
+
+pub block-returns-clause-gives : goal.block-returns-clause-gives
+block-returns-clause-gives t c =
+    let one : c.args.depth + 1 ≡ suc c.args.depth = omega arith in
+    rw (c.in_ok-place.ensures.gives, rw one at c.in_ok-parts.ensures.gives, c.in_ok-mark.ensures.gives) (ap (λ x. Ok (x, list_of c.mark.new.self.rest.now)) (sym c.in_ok-block.ensures))
+
+pub if_statement-returns-in_err-place-clause-gives : goal.if_statement-returns-in_err-place-clause-gives
+if_statement-returns-in_err-place-clause-gives t c =
+    failed _ _ (λ (x : ℕ). x) _ _ _ c.in_err-place.field-0.0 c.from_residual.ensures.1 c.in_err-place.ensures.gives (λ fault e. rw (e) refl)
+
+pub if_statement-returns-in_err-test-clause-gives : goal.if_statement-returns-in_err-test-clause-gives
+if_statement-returns-in_err-test-clause-gives t c =
+    let one : c.args.depth + 1 ≡ suc c.args.depth = omega arith in
+    failed _ _ (λ (x : Box Expression Global). expression_of x.value) _ _ _ c.in_err-test.field-0.0 c.from_residual-in_err-test.ensures.1 c.in_err-test.ensures.gives (λ fault e. rw (c.in_ok-place.ensures.gives, rw one at e) refl)
+
+pub if_statement-returns-in_err-body-clause-gives : goal.if_statement-returns-in_err-body-clause-gives
+if_statement-returns-in_err-body-clause-gives t c =
+    let one : c.args.depth + 1 ≡ suc c.args.depth = omega arith in
+    failed _ _ (λ (x : Box Statement Global). statement_of x.value) _ _ _ c.in_err-body.field-0.0 c.from_residual-in_err-body.ensures.1 c.in_err-body.ensures.gives (λ fault e. rw (c.in_ok-place.ensures.gives, rw one at c.in_ok-test.ensures.gives, rw one at e) refl)
+
+pub while_statement-returns-in_err-place-clause-gives : goal.while_statement-returns-in_err-place-clause-gives
+while_statement-returns-in_err-place-clause-gives t c =
+    failed _ _ (λ (x : ℕ). x) _ _ _ c.in_err-place.field-0.0 c.from_residual.ensures.1 c.in_err-place.ensures.gives (λ fault e. rw (e) refl)
+
+pub while_statement-returns-in_err-test-clause-gives : goal.while_statement-returns-in_err-test-clause-gives
+while_statement-returns-in_err-test-clause-gives t c =
+    let one : c.args.depth + 1 ≡ suc c.args.depth = omega arith in
+    failed _ _ (λ (x : Box Expression Global). expression_of x.value) _ _ _ c.in_err-test.field-0.0 c.from_residual-in_err-test.ensures.1 c.in_err-test.ensures.gives (λ fault e. rw (c.in_ok-place.ensures.gives, rw one at e) refl)
+
+pub while_statement-returns-in_err-body-clause-gives : goal.while_statement-returns-in_err-body-clause-gives
+while_statement-returns-in_err-body-clause-gives t c =
+    let one : c.args.depth + 1 ≡ suc c.args.depth = omega arith in
+    failed _ _ (λ (x : Box Statement Global). statement_of x.value) _ _ _ c.in_err-body.field-0.0 c.from_residual-in_err-body.ensures.1 c.in_err-body.ensures.gives (λ fault e. rw (c.in_ok-place.ensures.gives, rw one at c.in_ok-test.ensures.gives, rw one at e) refl)
+
+pub while_statement-returns-in_err-while_loop-clause-gives : goal.while_statement-returns-in_err-while_loop-clause-gives
+while_statement-returns-in_err-while_loop-clause-gives t c =
+    no_memory _ _ _ _ c.from_residual-in_err-while_loop.ensures.1
+
+pub while_statement-returns-clause-gives : goal.while_statement-returns-clause-gives
+while_statement-returns-clause-gives t c =
+    let one : c.args.depth + 1 ≡ suc c.args.depth = omega arith in
+    rw (c.in_ok-place.ensures.gives, rw one at c.in_ok-test.ensures.gives, rw one at c.in_ok-body.ensures.gives) (ap (λ x. Ok (x, list_of c.statement.new.tokens.rest.now)) (sym c.in_ok-while_loop.ensures))
+
+pub do_statement-returns-in_err-place-clause-gives : goal.do_statement-returns-in_err-place-clause-gives
+do_statement-returns-in_err-place-clause-gives t c =
+    failed _ _ (λ (x : ℕ). x) _ _ _ c.in_err-place.field-0.0 c.from_residual.ensures.1 c.in_err-place.ensures.gives (λ fault e. rw (e) refl)
+
+pub do_statement-returns-in_err-body-clause-gives : goal.do_statement-returns-in_err-body-clause-gives
+do_statement-returns-in_err-body-clause-gives t c =
+    let one : c.args.depth + 1 ≡ suc c.args.depth = omega arith in
+    failed _ _ (λ (x : Box Statement Global). statement_of x.value) _ _ _ c.in_err-body.field-0.0 c.from_residual-in_err-body.ensures.1 c.in_err-body.ensures.gives (λ fault e. rw (c.in_ok-place.ensures.gives, rw one at e) refl)
+
+pub do_statement-returns-in_err-do_loop-clause-gives : goal.do_statement-returns-in_err-do_loop-clause-gives
+do_statement-returns-in_err-do_loop-clause-gives t c =
+    no_memory _ _ _ _ c.from_residual-in_err-do_loop.ensures.1
+
+pub for_statement-returns-in_err-place-clause-gives : goal.for_statement-returns-in_err-place-clause-gives
+for_statement-returns-in_err-place-clause-gives t c =
+    failed _ _ (λ (x : ℕ). x) _ _ _ c.in_err-place.field-0.0 c.from_residual.ensures.1 c.in_err-place.ensures.gives (λ fault e. rw (e) refl)
+
+pub for_statement-returns-in_err-opening-clause-gives : goal.for_statement-returns-in_err-opening-clause-gives
+for_statement-returns-in_err-opening-clause-gives t c =
+    let one : c.args.depth + 1 ≡ suc c.args.depth = omega arith in
+    failed _ _ (λ (x : ℕ). x) _ _ _ c.in_err-opening.field-0.0 c.from_residual-in_err-opening.ensures.1 c.in_err-opening.ensures.gives (λ fault e. rw (c.in_ok-place.ensures.gives, rw one at e) refl)
+
+pub for_statement-returns-in_err-for_loop-clause-gives : goal.for_statement-returns-in_err-for_loop-clause-gives
+for_statement-returns-in_err-for_loop-clause-gives t c =
+    no_memory _ _ _ _ c.from_residual-in_err-for_loop.ensures.1
+
+pub switch_statement-returns-in_err-place-clause-gives : goal.switch_statement-returns-in_err-place-clause-gives
+switch_statement-returns-in_err-place-clause-gives t c =
+    failed _ _ (λ (x : ℕ). x) _ _ _ c.in_err-place.field-0.0 c.from_residual.ensures.1 c.in_err-place.ensures.gives (λ fault e. rw (e) refl)
+
+pub switch_statement-returns-in_err-test-clause-gives : goal.switch_statement-returns-in_err-test-clause-gives
+switch_statement-returns-in_err-test-clause-gives t c =
+    let one : c.args.depth + 1 ≡ suc c.args.depth = omega arith in
+    failed _ _ (λ (x : Box Expression Global). expression_of x.value) _ _ _ c.in_err-test.field-0.0 c.from_residual-in_err-test.ensures.1 c.in_err-test.ensures.gives (λ fault e. rw (c.in_ok-place.ensures.gives, rw one at e) refl)
+
+pub switch_statement-returns-in_err-switch-clause-gives : goal.switch_statement-returns-in_err-switch-clause-gives
+switch_statement-returns-in_err-switch-clause-gives t c =
+    no_memory _ _ _ _ c.from_residual-in_err-switch.ensures.1
+
+pub groups-returns-in_err-gathered-clause-gives : goal.groups-returns-in_err-gathered-clause-gives
+groups-returns-in_err-gathered-clause-gives t c =
+    no_memory _ _ _ _ c.from_residual-in_err-gathered.ensures.1
+
+pub groups-returns-in_err-groups-clause-gives : goal.groups-returns-in_err-groups-clause-gives
+groups-returns-in_err-groups-clause-gives t c =
+    no_memory _ _ _ _ c.from_residual-in_err-groups.ensures.1
+
+pub any_statement-returns-then-next_is-clause-gives : goal.any_statement-returns-then-next_is-clause-gives
+any_statement-returns-then-next_is-clause-gives t c =
+    let names = names_of c.args.names.now in
+    let inner = expressions c.args.names.now in
+    let inside = within c.args.names.now c.args.room in
+    let same : statements.read_statement_around names inner inside c.args.depth (list_of c.args.tokens.now.rest.now) ≡ statements.read_block names inner inside c.args.depth (list_of c.args.tokens.now.rest.now) = rw (sym c.next_is.ensures ∙ c.if-next_is.true) refl in
+    subst (λ o. Gives o (λ x. statement_of x.value) c.block.new.tokens.rest.now c.block.result) (sym same) c.block.ensures.gives
+
+pub any_statement-returns-then-next_is-2-clause-gives : goal.any_statement-returns-then-next_is-2-clause-gives
+any_statement-returns-then-next_is-2-clause-gives t c =
+    rw (sym c.next_is.ensures ∙ c.if-next_is.false, sym c.next_is-2.ensures ∙ c.if-next_is-2.true, c.in_ok-place.ensures.gives) (ap (λ x. Ok (x, list_of c.mark.new.self.rest.now)) (sym c.in_ok-empty.ensures))
+
+pub any_statement-returns-in_err-place-clause-gives : goal.any_statement-returns-in_err-place-clause-gives
+any_statement-returns-in_err-place-clause-gives t c =
+    failed _ _ (λ (x : ℕ). x) _ _ _ c.in_err-place.field-0.0 c.from_residual.ensures.1 c.in_err-place.ensures.gives (λ fault e. rw (sym c.next_is.ensures ∙ c.if-next_is.false, sym c.next_is-2.ensures ∙ c.if-next_is-2.true, e) refl)
+
+pub any_statement-returns-in_err-empty-clause-gives : goal.any_statement-returns-in_err-empty-clause-gives
+any_statement-returns-in_err-empty-clause-gives t c =
+    no_memory _ _ _ _ c.from_residual-in_err-empty.ensures.1
+
+pub any_statement-returns-then-next_keyword-clause-gives : goal.any_statement-returns-then-next_keyword-clause-gives
+any_statement-returns-then-next_keyword-clause-gives t c =
+    let names = names_of c.args.names.now in
+    let inner = expressions c.args.names.now in
+    let inside = within c.args.names.now c.args.room in
+    let same : statements.read_statement_around names inner inside c.args.depth (list_of c.args.tokens.now.rest.now) ≡ statements.read_if inner inside c.args.depth (list_of c.args.tokens.now.rest.now) = rw (sym c.next_is.ensures ∙ c.if-next_is.false, sym c.next_is-2.ensures ∙ c.if-next_is-2.false, sym c.next_keyword.ensures ∙ c.if-next_keyword.true) refl in
+    subst (λ o. Gives o (λ x. statement_of x.value) c.if_statement.new.tokens.rest.now c.if_statement.result) (sym same) c.if_statement.ensures.gives
+
+pub any_statement-returns-then-next_keyword-2-clause-gives : goal.any_statement-returns-then-next_keyword-2-clause-gives
+any_statement-returns-then-next_keyword-2-clause-gives t c =
+    let names = names_of c.args.names.now in
+    let inner = expressions c.args.names.now in
+    let inside = within c.args.names.now c.args.room in
+    let same : statements.read_statement_around names inner inside c.args.depth (list_of c.args.tokens.now.rest.now) ≡ statements.read_switch names inner inside c.args.depth (list_of c.args.tokens.now.rest.now) = rw (sym c.next_is.ensures ∙ c.if-next_is.false, sym c.next_is-2.ensures ∙ c.if-next_is-2.false, sym c.next_keyword.ensures ∙ c.if-next_keyword.false, sym c.next_keyword-2.ensures ∙ c.if-next_keyword-2.true) refl in
+    subst (λ o. Gives o (λ x. statement_of x.value) c.switch_statement.new.tokens.rest.now c.switch_statement.result) (sym same) c.switch_statement.ensures.gives
+
+pub any_statement-returns-then-next_keyword-3-clause-gives : goal.any_statement-returns-then-next_keyword-3-clause-gives
+any_statement-returns-then-next_keyword-3-clause-gives t c =
+    let names = names_of c.args.names.now in
+    let inner = expressions c.args.names.now in
+    let inside = within c.args.names.now c.args.room in
+    let same : statements.read_statement_around names inner inside c.args.depth (list_of c.args.tokens.now.rest.now) ≡ statements.read_while inner inside c.args.depth (list_of c.args.tokens.now.rest.now) = rw (sym c.next_is.ensures ∙ c.if-next_is.false, sym c.next_is-2.ensures ∙ c.if-next_is-2.false, sym c.next_keyword.ensures ∙ c.if-next_keyword.false, sym c.next_keyword-2.ensures ∙ c.if-next_keyword-2.false, sym c.next_keyword-3.ensures ∙ c.if-next_keyword-3.true) refl in
+    subst (λ o. Gives o (λ x. statement_of x.value) c.while_statement.new.tokens.rest.now c.while_statement.result) (sym same) c.while_statement.ensures.gives
+
+pub any_statement-returns-then-next_keyword-4-clause-gives : goal.any_statement-returns-then-next_keyword-4-clause-gives
+any_statement-returns-then-next_keyword-4-clause-gives t c =
+    let names = names_of c.args.names.now in
+    let inner = expressions c.args.names.now in
+    let inside = within c.args.names.now c.args.room in
+    let same : statements.read_statement_around names inner inside c.args.depth (list_of c.args.tokens.now.rest.now) ≡ statements.read_do inner inside c.args.depth (list_of c.args.tokens.now.rest.now) = rw (sym c.next_is.ensures ∙ c.if-next_is.false, sym c.next_is-2.ensures ∙ c.if-next_is-2.false, sym c.next_keyword.ensures ∙ c.if-next_keyword.false, sym c.next_keyword-2.ensures ∙ c.if-next_keyword-2.false, sym c.next_keyword-3.ensures ∙ c.if-next_keyword-3.false, sym c.next_keyword-4.ensures ∙ c.if-next_keyword-4.true) refl in
+    subst (λ o. Gives o (λ x. statement_of x.value) c.do_statement.new.tokens.rest.now c.do_statement.result) (sym same) c.do_statement.ensures.gives
+
+pub any_statement-returns-then-next_keyword-5-clause-gives : goal.any_statement-returns-then-next_keyword-5-clause-gives
+any_statement-returns-then-next_keyword-5-clause-gives t c =
+    let names = names_of c.args.names.now in
+    let inner = expressions c.args.names.now in
+    let inside = within c.args.names.now c.args.room in
+    let same : statements.read_statement_around names inner inside c.args.depth (list_of c.args.tokens.now.rest.now) ≡ statements.read_for names inner inside c.args.depth (list_of c.args.tokens.now.rest.now) = rw (sym c.next_is.ensures ∙ c.if-next_is.false, sym c.next_is-2.ensures ∙ c.if-next_is-2.false, sym c.next_keyword.ensures ∙ c.if-next_keyword.false, sym c.next_keyword-2.ensures ∙ c.if-next_keyword-2.false, sym c.next_keyword-3.ensures ∙ c.if-next_keyword-3.false, sym c.next_keyword-4.ensures ∙ c.if-next_keyword-4.false, sym c.next_keyword-5.ensures ∙ c.if-next_keyword-5.true) refl in
+    subst (λ o. Gives o (λ x. statement_of x.value) c.for_statement.new.tokens.rest.now c.for_statement.result) (sym same) c.for_statement.ensures.gives
+
+pub any_statement-returns-clause-gives : goal.any_statement-returns-clause-gives
+any_statement-returns-clause-gives t c =
+    let names = names_of c.args.names.now in
+    let inner = expressions c.args.names.now in
+    let inside = within c.args.names.now c.args.room in
+    let same : statements.read_statement_around names inner inside c.args.depth (list_of c.args.tokens.now.rest.now) ≡ read_plain inner c.args.depth (list_of c.args.tokens.now.rest.now) = rw (sym c.next_is.ensures ∙ c.if-next_is.false, sym c.next_is-2.ensures ∙ c.if-next_is-2.false, sym c.next_keyword.ensures ∙ c.if-next_keyword.false, sym c.next_keyword-2.ensures ∙ c.if-next_keyword-2.false, sym c.next_keyword-3.ensures ∙ c.if-next_keyword-3.false, sym c.next_keyword-4.ensures ∙ c.if-next_keyword-4.false, sym c.next_keyword-5.ensures ∙ c.if-next_keyword-5.false) refl in
+    subst (λ o. Gives o (λ x. statement_of x.value) c.plain_statement.new.tokens.rest.now c.plain_statement.result) (sym same) c.plain_statement.ensures.gives
