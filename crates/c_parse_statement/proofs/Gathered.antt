@@ -5,7 +5,7 @@ use Rattle.std.proofs.lemmas.List.{append_assoc, append-nil}
 use Rattle.c_tree_spec.specs.Unit as unit
 use Rattle.c_statement_reader.specs.Statements as statements
 use Rattle.c_statement_reader.specs.Statements.{Collected, collect, before_part}
-use Rattle.c_unit_syntax.specs.Statements.{Piece, Declares, States, parts_of, groups_of}
+use Rattle.c_syntax.specs.Statements.{Piece, Declares, States, parts_of, groups_of}
 use Rattle.c_parse_statement.specs.Grouping.{begun, groups, with_element, piece_of}
 
 -- parts, and groups, before others

@@ -1,7 +1,6 @@
 pub mod Rooms
-pub mod Groups
+pub mod Steps
 pub mod Gathered
 pub mod Loops
 pub mod Split
 pub mod Chain
-pub mod Unclosed

@@ -1,20 +1,17 @@
 -- The loops over what stands in a block, and over labels and parts of a `switch`.
 use Rattle.std.specs.Prelude.{fold}
-use Rattle.std.proofs.Common.{◌≡◌, ℕ, ◌<◌, true, false, not, List, [], ◌∷◌, ◌++◌, length, refl, ap, sym, ◌∙◌, subst, Ok}
+use Rattle.std.proofs.Common.{◌≡◌, ℕ, ◌<◌, true, false, not, List, [], ◌∷◌, ◌++◌, length, refl, ap, sym, ◌∙◌, subst, Ok, Err}
 use Rattle.c_spec.specs.Lexical.{Placed}
 use Rattle.c_tree_spec.specs.Unit as unit
 use Rattle.c_grammar_spec.specs.declared.Role.{Role}
-use Rattle.exact_read.specs.Reading.{Outcome}
+use Rattle.exact_read.specs.Reading.{Fault, Outcome}
 use Rattle.exact_read.specs.Grammar.{bind, read_map}
 use Rattle.read_loop.specs.Going.{begins, Going}
-use Rattle.read_loop.proofs.Loops.{bind-ok, going-start, going-step, going-end, going-same, map-ok, map-err}
+use Rattle.read_loop.proofs.Loops.{bind-ok, going-start, going-step, going-fault, going-end, going-same, map-ok, map-err}
 use Rattle.c_expression_reader.specs.Readers.{Readers, next_is}
 use Rattle.c_statement_reader.specs.Statements as statements
-use Rattle.c_unit_syntax.specs.Statements.{Piece, Declares, States, parts_of}
-use Rattle.c_parse_token.specs.declared.outcome.ParseError.{ParseError}
-use Rattle.c_parse_token.specs.Lists.{IsErrorOf}
-use Rattle.c_parse_word.proofs.Steps.{begins-next}
-use Rattle.c_parse_steps.proofs.Steps.{error-from, going-error}
+use Rattle.c_syntax.specs.Statements.{Piece, Declares, States, parts_of}
+use Rattle.c_parse_token.proofs.Steps.{begins-next}
 use Rattle.c_parse_statement.specs.Pieces.{read_of, starts_element}
 use Rattle.c_parse_statement.specs.Grouping.{Grouping, begun, groups, with_element, piece_of}
 use Rattle.c_parse_statement.proofs.Gathered.{before, before-alone, before-last, gathered-all}
@@ -43,10 +40,10 @@ pub parts-more : (names : List (List ℕ)) (inner : Readers) (inside : statement
     → next_is (λ next. not (statements.ends_parts next)) tokens ≡ true → statements.read_part names inner inside depth tokens ≡ Ok (read_of piece, rest) → length rest < length tokens → Parts names inner inside depth whole all rest
 parts-more names inner inside depth whole read all piece tokens rest is going was e less = subst (λ xs. Parts names inner inside depth whole xs rest) (sym is) (parts-step names inner inside depth whole read piece tokens rest going was e less)
 
-pub parts-error : (names : List (List ℕ)) (inner : Readers) (inside : statements.Statements) (depth : ℕ) (whole : Outcome Placed Role unit.Parts) (read : List Piece) (tokens : List Placed) (error : ParseError) → Parts names inner inside depth whole read tokens → next_is (λ next. not (statements.ends_parts next)) tokens ≡ true
-    → IsErrorOf (statements.read_part names inner inside depth tokens) error → IsErrorOf whole error
+pub parts-error : (names : List (List ℕ)) (inner : Readers) (inside : statements.Statements) (depth : ℕ) (whole : Outcome Placed Role unit.Parts) (read : List Piece) (tokens : List Placed) (fault : Fault Role × List Placed) → Parts names inner inside depth whole read tokens → next_is (λ next. not (statements.ends_parts next)) tokens ≡ true
+    → statements.read_part names inner inside depth tokens ≡ Err fault → whole ≡ Err fault
 unfolding Parts
-parts-error names inner inside depth whole read tokens error going was h = going-error going (begins-next (λ (_ : Unit {0}) next. not (statements.ends_parts next)) (tt {0}) tokens ∙ was) error h
+parts-error names inner inside depth whole read tokens fault going was e = going-fault going (begins-next (λ (_ : Unit {0}) next. not (statements.ends_parts next)) (tt {0}) tokens ∙ was) fault e
 
 pub parts-end : (names : List (List ℕ)) (inner : Readers) (inside : statements.Statements) (depth : ℕ) (whole : Outcome Placed Role unit.Parts) (read : List Piece) (tokens : List Placed) → Parts names inner inside depth whole read tokens → next_is (λ next. not (statements.ends_parts next)) tokens ≡ false → whole ≡ Ok (parts_of read, tokens)
 unfolding Parts
@@ -77,10 +74,9 @@ gathering-start names inner inside depth label tokens rest was e less =
 pub gathering-none : (names : List (List ℕ)) (inner : Readers) (inside : statements.Statements) (depth : ℕ) (tokens : List Placed) → next_is statements.begins_label tokens ≡ false → statements.read_groups names inner inside depth tokens ≡ Ok (unit.no_groups, tokens)
 gathering-none names inner inside depth tokens ends = going-end (first-going names inner inside depth tokens) (begins-first tokens ∙ ends)
 
-pub gathering-label_error : (names : List (List ℕ)) (inner : Readers) (inside : statements.Statements) (depth : ℕ) (tokens : List Placed) (error : ParseError) → next_is statements.begins_label tokens ≡ true → IsErrorOf (statements.read_label inner depth tokens) error → IsErrorOf (statements.read_groups names inner inside depth tokens) error
-gathering-label_error names inner inside depth tokens error was h =
-    going-error (first-going names inner inside depth tokens) (begins-first tokens ∙ was) error
-    (error-from (statements.read_label inner depth tokens) (statements.read_element names inner inside depth false tokens) error (λ fault e. ap (λ o. bind o (λ x after. Ok (statements.ElementLabel x, after))) e) h)
+pub gathering-label_error : (names : List (List ℕ)) (inner : Readers) (inside : statements.Statements) (depth : ℕ) (tokens : List Placed) (fault : Fault Role × List Placed) → next_is statements.begins_label tokens ≡ true → statements.read_label inner depth tokens ≡ Err fault → statements.read_groups names inner inside depth tokens ≡ Err fault
+gathering-label_error names inner inside depth tokens fault was e =
+    going-fault (first-going names inner inside depth tokens) (begins-first tokens ∙ was) fault (ap (λ o. bind o (λ x after. Ok (statements.ElementLabel x, after))) e)
 
 pub gathering-step : (names : List (List ℕ)) (inner : Readers) (inside : statements.Statements) (depth : ℕ) (whole : Outcome Placed Role unit.Groups) (gathered more : Grouping) (tokens rest : List Placed) → Gathering names inner inside depth whole gathered tokens → next_is starts_element tokens ≡ true
     → read_map (with_element gathered) (statements.read_element names inner inside depth true) tokens ≡ Ok (more, rest) → length rest < length tokens → Gathering names inner inside depth whole more rest
@@ -90,12 +86,11 @@ gathering-step names inner inside depth whole gathered more tokens rest going wa
     let g : Gathering names inner inside depth whole (with_element gathered i.0) rest = going-step going (begins-more tokens ∙ was) i.0 rest i.1 less in
     subst (λ z. Gathering names inner inside depth whole z rest) i.2 g
 
-pub gathering-error : (names : List (List ℕ)) (inner : Readers) (inside : statements.Statements) (depth : ℕ) (whole : Outcome Placed Role unit.Groups) (gathered : Grouping) (tokens : List Placed) (error : ParseError) → Gathering names inner inside depth whole gathered tokens → next_is starts_element tokens ≡ true
-    → IsErrorOf (read_map (with_element gathered) (statements.read_element names inner inside depth true) tokens) error → IsErrorOf whole error
+pub gathering-error : (names : List (List ℕ)) (inner : Readers) (inside : statements.Statements) (depth : ℕ) (whole : Outcome Placed Role unit.Groups) (gathered : Grouping) (tokens : List Placed) (fault : Fault Role × List Placed) → Gathering names inner inside depth whole gathered tokens → next_is starts_element tokens ≡ true
+    → read_map (with_element gathered) (statements.read_element names inner inside depth true) tokens ≡ Err fault → whole ≡ Err fault
 unfolding Gathering
-gathering-error names inner inside depth whole gathered tokens error going was h =
-    going-error going (begins-more tokens ∙ was) error
-    (error-from (read_map (with_element gathered) (statements.read_element names inner inside depth true) tokens) (statements.read_element names inner inside depth true tokens) error (λ fault e. map-err (with_element gathered) (statements.read_element names inner inside depth true) tokens fault e) h)
+gathering-error names inner inside depth whole gathered tokens fault going was e =
+    going-fault going (begins-more tokens ∙ was) fault (map-err (with_element gathered) (statements.read_element names inner inside depth true) tokens fault e)
 
 pub gathering-end : (names : List (List ℕ)) (inner : Readers) (inside : statements.Statements) (depth : ℕ) (whole : Outcome Placed Role unit.Groups) (gathered : Grouping) (tokens : List Placed) → Gathering names inner inside depth whole gathered tokens → next_is starts_element tokens ≡ false → whole ≡ Ok (groups gathered, tokens)
 unfolding Gathering

@@ -2,7 +2,7 @@
 use Rattle.std.specs.Prelude.{List, [], ◌∷◌, ◌++◌}
 use Rattle.c_tree_spec.specs.Unit as unit
 use Rattle.c_statement_reader.specs.Statements as statements
-use Rattle.c_unit_syntax.specs.Statements.{Piece, Declares, States, parts_of, groups_of}
+use Rattle.c_syntax.specs.Statements.{Piece, Declares, States, parts_of, groups_of}
 
 -- groups that are finished, and the labels and the parts of the one that is being read
 pub record Grouping : Type 0 where
@@ -17,7 +17,11 @@ group_by labels parts = (labels, parts_of parts)
 abbrev pub begun : unit.Label → Grouping
 begun label = record { finished = []; labels = label ∷ []; parts = [] }
 
--- a label behind parts begins a group
+-- the group that is being read is finished
+abbrev pub finished_group : Grouping → Grouping
+finished_group gathered = record { finished = gathered.finished ++ group_by gathered.labels gathered.parts ∷ []; labels = []; parts = [] }
+
+-- a label after parts begins a group
 abbrev pub with_label : Grouping → unit.Label → Grouping
 with_label gathered label = behind gathered.parts
   where
@@ -32,7 +36,7 @@ with_part gathered part = record { finished = gathered.finished; labels = gather
 abbrev pub groups : Grouping → unit.Groups
 groups gathered = groups_of (gathered.finished ++ group_by gathered.labels gathered.parts ∷ [])
 
--- a part, as the reader on lists gives it, alone
+-- a part, as the reference parser gives it, alone
 abbrev pub piece_of : statements.Part → Piece
 piece_of (statements.PartLocals locals) = Declares locals
 piece_of (statements.PartStatement statement) = States statement

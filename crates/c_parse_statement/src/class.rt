@@ -1,11 +1,11 @@
-//! What a token is where a statement is read, and readers of keywords.
+//! What a token is where a statement is read, and parsers of keywords.
 
-ghost use Rattle.std.specs.Prelude.{◌≡◌, ◌≤◌, ◌||◌, not, Bool, IfOk, IfErr, Ok, length, suc};
+ghost use Rattle.std.specs.Prelude.{◌≡◌, ◌<◌, ◌||◌, not, Bool, IfOk, length, suc};
 ghost use Rattle.c_grammar_spec.specs.declared.Role.TheVariants.{Nothing};
 ghost use Rattle.c_grammar_spec.specs.Leaves.{plain, opens};
 ghost use Rattle.c_expression_reader.specs.Readers.{token, next_is};
 ghost use Rattle.c_statement_reader.specs.Statements as statements;
-ghost use Rattle.c_parse_token.specs.Lists.{list_of, IsErrorOf};
+ghost use Rattle.c_parse_token.specs.Lists.{list_of, Gives};
 ghost use Rattle.c_parse_statement.specs.Pieces.{starts_element};
 ghost use Rattle.c_token.specs.Pieces.{token_of};
 
@@ -15,7 +15,7 @@ use c_parse_token::{Fault, ParseError, Tokens};
 use c_spec::token::{Keyword, Punctuator};
 use c_token::Kind;
 
-// How much may be open.
+// How many constructs may be open.
 const MOST: usize = 128;
 
 // The token is this keyword.
@@ -46,7 +46,7 @@ fn ends_parts(kind: Kind<'_>) -> bool
 }
 
 /// The next token is this keyword.
-pub fn next_keyword(tokens: &Tokens<'_, '_>, wanted: Keyword) -> bool
+pub fn next_keyword(tokens: &Tokens<'_>, wanted: Keyword) -> bool
     ensures { result ≡ next_is (statements.is_keyword wanted) (list_of tokens.now.rest.now) }
 {
     match tokens.rest {
@@ -56,7 +56,7 @@ pub fn next_keyword(tokens: &Tokens<'_, '_>, wanted: Keyword) -> bool
 }
 
 /// A part of a block can begin with the next token.
-pub fn starts_part(tokens: &Tokens<'_, '_>) -> bool
+pub fn starts_part(tokens: &Tokens<'_>) -> bool
     ensures { result ≡ next_is (λ next. not (statements.ends_parts next)) (list_of tokens.now.rest.now) }
 {
     match tokens.rest {
@@ -66,7 +66,7 @@ pub fn starts_part(tokens: &Tokens<'_, '_>) -> bool
 }
 
 /// The next token begins a label.
-pub fn starts_label(tokens: &Tokens<'_, '_>) -> bool
+pub fn starts_label(tokens: &Tokens<'_>) -> bool
     ensures { result ≡ next_is statements.begins_label (list_of tokens.now.rest.now) }
 {
     match tokens.rest {
@@ -76,7 +76,7 @@ pub fn starts_label(tokens: &Tokens<'_, '_>) -> bool
 }
 
 /// A label or a part begins with the next token.
-pub fn starts_element(tokens: &Tokens<'_, '_>) -> bool
+pub fn starts_element(tokens: &Tokens<'_>) -> bool
     ensures { result ≡ next_is starts_element (list_of tokens.now.rest.now) }
 {
     match tokens.rest {
@@ -86,44 +86,33 @@ pub fn starts_element(tokens: &Tokens<'_, '_>) -> bool
 }
 
 /// A keyword: its place.
-pub fn keyword<'t>(
-    tokens: &mut Tokens<'t, 't>,
-    wanted: Keyword,
-) -> Result<usize, ParseError<'t, 't>>
-    ensures found { IfOk result (λ x. token Nothing plain (statements.keyword_place wanted) (list_of tokens.old.rest.now) ≡ Ok (x, list_of tokens.new.rest.now)) }
+pub fn keyword(tokens: &mut Tokens<'_>, wanted: Keyword) -> Result<usize, ParseError>
+    ensures gives { Gives (token Nothing plain (statements.keyword_place wanted) (list_of tokens.old.rest.now)) (λ x. x) tokens.new.rest.now result }
     ensures shorter { IfOk result (λ _. length tokens.old.rest.now ≡ suc (length tokens.new.rest.now)) }
-    ensures fault { IfErr result (λ e. IsErrorOf (token Nothing plain (statements.keyword_place wanted) (list_of tokens.old.rest.now)) e) }
 {
-    let [first, rest @ ..] = tokens.rest else {
-        return Err(ParseError::At(Fault::Wrong(Role::Nothing), tokens.rest));
-    };
-    if !is_keyword(first.kind, wanted) {
-        return Err(ParseError::At(Fault::Wrong(Role::Nothing), tokens.rest));
+    match tokens.rest {
+        [first, rest @ ..] if is_keyword(first.kind, wanted) => {
+            tokens.rest = rest;
+            Ok(first.offset)
+        }
+        _ => Err(ParseError::At(Fault::Wrong(Role::Nothing))),
     }
-    tokens.rest = rest;
-    Ok(first.offset)
 }
 
-/// A keyword with which so much is open: its place.
-pub fn opening<'t>(
-    tokens: &mut Tokens<'t, 't>,
-    wanted: Keyword,
-    opened: usize,
-) -> Result<usize, ParseError<'t, 't>>
-    ensures found { IfOk result (λ x. token Nothing (opens opened) (statements.keyword_place wanted) (list_of tokens.old.rest.now) ≡ Ok (x, list_of tokens.new.rest.now)) }
-    ensures within { IfOk result (λ _. opened ≤ 128) }
+/// A keyword with which a construct more is open: its place.
+pub fn opening(tokens: &mut Tokens<'_>, wanted: Keyword, depth: usize) -> Result<usize, ParseError>
+    ensures gives { Gives (token Nothing (opens (suc depth)) (statements.keyword_place wanted) (list_of tokens.old.rest.now)) (λ x. x) tokens.new.rest.now result }
+    ensures within { IfOk result (λ _. depth < 128) }
     ensures shorter { IfOk result (λ _. length tokens.old.rest.now ≡ suc (length tokens.new.rest.now)) }
-    ensures fault { IfErr result (λ e. IsErrorOf (token Nothing (opens opened) (statements.keyword_place wanted) (list_of tokens.old.rest.now)) e) }
 {
-    let [first, rest @ ..] = tokens.rest else {
-        return Err(ParseError::At(Fault::Wrong(Role::Nothing), tokens.rest));
-    };
-    if !is_keyword(first.kind, wanted) {
-        return Err(ParseError::At(Fault::Wrong(Role::Nothing), tokens.rest));
+    match tokens.rest {
+        [first, rest @ ..] if is_keyword(first.kind, wanted) => {
+            if MOST <= depth {
+                return Err(ParseError::At(Fault::Deep));
+            }
+            tokens.rest = rest;
+            Ok(first.offset)
+        }
+        _ => Err(ParseError::At(Fault::Wrong(Role::Nothing))),
     }
-    if MOST < opened {
-        return Err(ParseError::At(Fault::Deep, tokens.rest));
-    }
-    tokens.rest = rest;
-    Ok(first.offset)
 }

@@ -1,18 +1,18 @@
-//! What is awaited behind values and expression statements, and what an `else` belongs to.
+//! What is expected after values and expression statements, and what an `else` belongs to.
 
 ghost use Rattle.std.specs.Prelude.{◌≡◌};
 ghost use Rattle.c_grammar_spec.specs.Statements as grammar;
 ghost use Rattle.c_tree_spec.specs.Unit as tree;
 ghost use Rattle.c_syntax.specs.Expressions.{expression_of};
 ghost use Rattle.c_syntax.specs.Simples.{value_of, simple_of};
-ghost use Rattle.c_unit_syntax.specs.Statements.{statement_of};
+ghost use Rattle.c_syntax.specs.Statements.{statement_of};
 
 use c_grammar_spec::Role;
 use c_syntax::expression::Expression;
 use c_syntax::simple::{Simple, Value};
-use c_unit_syntax::statement::Statement;
+use c_syntax::statement::Statement;
 
-/// What is awaited behind a value.
+/// What is expected after a value.
 pub fn value_end(value: &Value<'_>) -> Role
     ensures { result ≡ grammar.value_end (value_of value.now) }
 {
@@ -22,7 +22,7 @@ pub fn value_end(value: &Value<'_>) -> Role
     }
 }
 
-/// What is awaited behind a piece of a `for`.
+/// What is expected after a part of a `for`.
 pub fn simple_end(simple: &Simple<'_>) -> Role
     ensures { result ≡ grammar.simple_end (simple_of simple.now) }
 {
@@ -33,7 +33,7 @@ pub fn simple_end(simple: &Simple<'_>) -> Role
     }
 }
 
-// What is awaited behind an assignment that is a whole statement.
+// What is expected after an assignment that is a whole statement.
 fn assigned_end(value: &Value<'_>) -> Role
     ensures { result ≡ grammar.assigned_end (value_of value.now) }
 {
@@ -43,7 +43,7 @@ fn assigned_end(value: &Value<'_>) -> Role
     }
 }
 
-// What is awaited behind an expression that is a whole statement.
+// What is expected after an expression that is a whole statement.
 #[tactic(auto, using(c_syntax::proofs::Views::views))]
 fn computed_statement_end(x: &Expression<'_>) -> Role
     ensures { result ≡ grammar.value_statement_end (tree.Computed (expression_of x.now)) }
@@ -64,7 +64,7 @@ fn computed_statement_end(x: &Expression<'_>) -> Role
     }
 }
 
-// What is awaited behind a value that is a whole statement.
+// What is expected after a value that is a whole statement.
 fn value_statement_end(value: &Value<'_>) -> Role
     ensures { result ≡ grammar.value_statement_end (value_of value.now) }
 {
@@ -74,7 +74,7 @@ fn value_statement_end(value: &Value<'_>) -> Role
     }
 }
 
-/// What is awaited behind a whole expression statement.
+/// What is expected after a whole expression statement.
 pub fn statement_end(simple: &Simple<'_>) -> Role
     ensures { result ≡ grammar.statement_end (simple_of simple.now) }
 {
@@ -85,8 +85,8 @@ pub fn statement_end(simple: &Simple<'_>) -> Role
     }
 }
 
-/// An `else` behind the statement would belong to an `if` inside it.
-#[tactic(auto, using(c_unit_syntax::proofs::Views::views))]
+/// An `else` after the statement would belong to an `if` inside it.
+#[tactic(auto, using(c_syntax::proofs::StatementViews::statement_views))]
 pub fn takes_else(statement: &Statement<'_>) -> bool
     ensures { result ≡ grammar.takes_else (statement_of statement.now) }
 {

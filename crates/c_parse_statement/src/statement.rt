@@ -1,88 +1,69 @@
 //! Statements (6.8), and what stands in a block.
 
-ghost use Rattle.std.specs.Prelude.{◌≡◌, ◌≤◌, ◌<◌, IfOk, IfErr, Ok, length, map, true};
+ghost use Rattle.std.specs.Prelude.{◌≡◌, ◌≤◌, ◌<◌, IfOk, length, true};
 ghost use Rattle.exact_read.specs.Grammar.{read_map};
-ghost use Rattle.c_tree_spec.specs.Unit as tree;
 ghost use Rattle.c_statement_reader.specs.Statements as statements;
 ghost use Rattle.c_syntax.specs.Expressions.{expression_of};
-ghost use Rattle.c_unit_syntax.specs.Locals.{locals_of};
-ghost use Rattle.c_unit_syntax.specs.Statements.{Declares, States, statement_of, part_of, parts_of, group_of, groups_of};
-ghost use Rattle.c_parse_token.specs.Lists.{list_of, names_of, IsErrorOf};
-ghost use Rattle.c_parse_steps.specs.Inside.{inside};
-ghost use Rattle.c_parse_statement.specs.Pieces.{read_of, read_else, read_else_body};
+ghost use Rattle.c_syntax.specs.Statements.{statement_of, part_of, parts_in, groups_in};
+ghost use Rattle.c_parse_token.specs.Lists.{list_of, names_of, Gives};
+ghost use Rattle.c_parse_expression.specs.Whole.{expressions};
+ghost use Rattle.c_parse_statement.specs.Pieces.{room, within, read_of, read_else};
 ghost use Rattle.c_parse_statement.specs.Grouping.{with_element};
 ghost use Rattle.c_parse_statement.specs.Grouped.{grouping_of};
 
-use crate::boxed::boxed;
 use crate::class::{next_keyword, opening, starts_element, starts_label, starts_part};
 use crate::ends::takes_else;
 use crate::grouping::Grouping;
-use crate::whole::{do_test, for_start, for_step, for_test, label, locals, plain_statement, test};
+use crate::pieces::{do_test, for_start, for_step, for_test, label, test};
+use crate::plain::plain_statement;
 use c_grammar_spec::Role;
-use c_parse_declaration::starts_locals;
+use c_parse_declaration::{locals, starts_locals};
 use c_parse_token::{Fault, ParseError, Tokens, TypeNames};
 use c_spec::token::{Keyword, Punctuator};
 use c_syntax::expression::Expression;
-use c_unit_syntax::statement::{Group, Locals, Part, Statement};
+use c_syntax::statement::{Group, Part, Statement};
 use std::alloc::Global;
 
-// A declaration as a part.
-#[tactic(auto, using(crate::proofs::Groups::views))]
-fn declared<'a>(locals: Box<Locals<'a>>) -> Part<'a>
-    ensures { part_of result ≡ Declares (locals_of locals.entry.value) }
-{
-    Part::Locals(locals)
-}
-
-// A statement as a part.
-#[tactic(auto, using(crate::proofs::Groups::views))]
-fn stated<'a>(statement: Box<Statement<'a>>) -> Part<'a>
-    ensures { part_of result ≡ States (statement_of statement.entry.value) }
-{
-    Part::Statement(statement)
-}
+// How many constructs may open, one in the other, where none is open, and one more.
+const ROOM: usize = 129;
 
 // A declaration or a statement.
 #[cycle(statements)]
 fn part<'t>(
     alloc: Global,
-    tokens: &mut Tokens<'t, 't>,
+    tokens: &mut Tokens<'t>,
     names: &TypeNames<'t>,
     depth: usize,
     room: usize,
-    turns: usize,
-) -> Result<Part<'t>, ParseError<'t, 't>>
+) -> Result<Part<'t>, ParseError>
     requires depth { depth ≤ 128 }
-    ensures found { IfOk result (λ x. statements.read_part (names_of names.now) (inside names.now turns) (statements.read_statement (names_of names.now) (inside names.now turns) room) depth (list_of tokens.old.rest.now) ≡ Ok (read_of (part_of x), list_of tokens.new.rest.now)) }
+    ensures gives { Gives (statements.read_part (names_of names.now) (expressions names.now) (within names.now room) depth (list_of tokens.old.rest.now)) (λ x. read_of (part_of x)) tokens.new.rest.now result }
     ensures shorter { IfOk result (λ _. length tokens.new.rest.now < length tokens.old.rest.now) }
-    ensures fault { IfErr result (λ e. IsErrorOf (statements.read_part (names_of names.now) (inside names.now turns) (statements.read_statement (names_of names.now) (inside names.now turns) room) depth (list_of tokens.old.rest.now)) e) }
 {
     if starts_locals(tokens, names) {
-        let locals = locals(alloc, tokens, names, depth, turns)?;
-        return Ok(declared(locals));
+        let locals = locals(alloc, tokens, names, depth)?;
+        return Ok(Part::declared(locals));
     }
-    let statement = statement(alloc, tokens, names, depth, room, turns)?;
-    Ok(stated(statement))
+    let statement = statement(alloc, tokens, names, depth, room)?;
+    Ok(Part::stated(statement))
 }
 
 // What stands in a block, as long as a token stands next with which a part of it can begin.
 #[cycle(statements)]
 fn all_parts<'t>(
     alloc: Global,
-    tokens: &mut Tokens<'t, 't>,
+    tokens: &mut Tokens<'t>,
     names: &TypeNames<'t>,
     depth: usize,
     room: usize,
-    turns: usize,
-) -> Result<Vec<Part<'t>>, ParseError<'t, 't>>
+) -> Result<Vec<Part<'t>>, ParseError>
     requires depth { depth ≤ 128 }
-    ensures found { IfOk result (λ x. statements.read_parts (names_of names.now) (inside names.now turns) (statements.read_statement (names_of names.now) (inside names.now turns) room) depth (list_of tokens.old.rest.now) ≡ Ok (parts_of (map part_of x.items), list_of tokens.new.rest.now)) }
+    ensures gives { Gives (statements.read_parts (names_of names.now) (expressions names.now) (within names.now room) depth (list_of tokens.old.rest.now)) parts_in tokens.new.rest.now result }
     ensures shorter { IfOk result (λ _. length tokens.new.rest.now ≤ length tokens.old.rest.now) }
-    ensures fault { IfErr result (λ e. IsErrorOf (statements.read_parts (names_of names.now) (inside names.now turns) (statements.read_statement (names_of names.now) (inside names.now turns) room) depth (list_of tokens.old.rest.now)) e) }
 {
     let mut all: Vec<Part<'t>> = Vec::new(alloc);
     'items: while starts_part(tokens) {
-        let next = part(alloc, tokens, names, depth, room, turns)?;
+        let next = part(alloc, tokens, names, depth, room)?;
         all.push(next)?;
     }
     Ok(all)
@@ -92,324 +73,261 @@ fn all_parts<'t>(
 #[cycle(statements)]
 fn block<'t>(
     alloc: Global,
-    tokens: &mut Tokens<'t, 't>,
+    tokens: &mut Tokens<'t>,
     names: &TypeNames<'t>,
     depth: usize,
     room: usize,
-    turns: usize,
-) -> Result<Statement<'t>, ParseError<'t, 't>>
+) -> Result<Box<Statement<'t>>, ParseError>
     requires depth { depth ≤ 128 }
-    ensures found { IfOk result (λ x. statements.read_block (names_of names.now) (inside names.now turns) (statements.read_statement (names_of names.now) (inside names.now turns) room) depth (list_of tokens.old.rest.now) ≡ Ok (statement_of x, list_of tokens.new.rest.now)) }
+    ensures gives { Gives (statements.read_block (names_of names.now) (expressions names.now) (within names.now room) depth (list_of tokens.old.rest.now)) (λ x. statement_of x.value) tokens.new.rest.now result }
     ensures shorter { IfOk result (λ _. length tokens.new.rest.now < length tokens.old.rest.now) }
-    ensures fault { IfErr result (λ e. IsErrorOf (statements.read_block (names_of names.now) (inside names.now turns) (statements.read_statement (names_of names.now) (inside names.now turns) room) depth (list_of tokens.old.rest.now)) e) }
 {
-    let place = tokens.counted(Punctuator::LeftBrace, depth + 1, 0)?;
-    let parts = all_parts(alloc, tokens, names, depth + 1, room, turns)?;
+    let place = tokens.opening(Punctuator::LeftBrace, depth)?;
+    let parts = all_parts(alloc, tokens, names, depth + 1, room)?;
     tokens.mark(Punctuator::RightBrace, Role::Nothing)?;
-    Ok(Statement::block(parts, place))
+    Ok(Statement::block(alloc, parts, place)?)
 }
 
-// `else` and the statement behind it.
-#[cycle(statements)]
-fn else_body<'t>(
-    alloc: Global,
-    tokens: &mut Tokens<'t, 't>,
-    names: &TypeNames<'t>,
-    depth: usize,
-    room: usize,
-    turns: usize,
-) -> Result<Box<Statement<'t>>, ParseError<'t, 't>>
-    requires depth { depth ≤ 128 }
-    ensures found { IfOk result (λ x. read_else_body (statements.read_statement (names_of names.now) (inside names.now turns) room) depth (list_of tokens.old.rest.now) ≡ Ok (statement_of x.value, list_of tokens.new.rest.now)) }
-    ensures shorter { IfOk result (λ _. length tokens.new.rest.now < length tokens.old.rest.now) }
-    ensures fault { IfErr result (λ e. IsErrorOf (read_else_body (statements.read_statement (names_of names.now) (inside names.now turns) room) depth (list_of tokens.old.rest.now)) e) }
-{
-    opening(tokens, Keyword::Else, depth + 2)?;
-    statement(alloc, tokens, names, depth + 2, room, turns)
-}
-
-// What stands behind an `if` with its body, where it is an `else`.
-#[cycle(statements)]
-fn with_else<'t>(
-    alloc: Global,
-    tokens: &mut Tokens<'t, 't>,
-    names: &TypeNames<'t>,
-    depth: usize,
-    room: usize,
-    turns: usize,
-    test: Box<Expression<'t>>,
-    body: Box<Statement<'t>>,
-    place: usize,
-) -> Result<Statement<'t>, ParseError<'t, 't>>
-    requires depth { depth ≤ 128 }
-    ensures found { IfOk result (λ x. read_map (λ otherwise. tree.IfElse (expression_of test.entry.value) (statement_of body.entry.value) otherwise place) (read_else_body (statements.read_statement (names_of names.now) (inside names.now turns) room) depth) (list_of tokens.old.rest.now) ≡ Ok (statement_of x, list_of tokens.new.rest.now)) }
-    ensures shorter { IfOk result (λ _. length tokens.new.rest.now < length tokens.old.rest.now) }
-    ensures fault { IfErr result (λ e. IsErrorOf (read_map (λ otherwise. tree.IfElse (expression_of test.entry.value) (statement_of body.entry.value) otherwise place) (read_else_body (statements.read_statement (names_of names.now) (inside names.now turns) room) depth) (list_of tokens.old.rest.now)) e) }
-{
-    let otherwise = else_body(alloc, tokens, names, depth, room, turns)?;
-    Ok(Statement::if_else(test, body, otherwise, place))
-}
-
-// What stands behind an `if` with its body: an `else` belongs to the last `if` that can take it.
+// What stands after an `if` with its body: an `else` belongs to the last `if` that can take it.
 #[cycle(statements)]
 fn else_part<'t>(
     alloc: Global,
-    tokens: &mut Tokens<'t, 't>,
+    tokens: &mut Tokens<'t>,
     names: &TypeNames<'t>,
     depth: usize,
     room: usize,
-    turns: usize,
     test: Box<Expression<'t>>,
     body: Box<Statement<'t>>,
     place: usize,
-) -> Result<Statement<'t>, ParseError<'t, 't>>
+) -> Result<Box<Statement<'t>>, ParseError>
     requires depth { depth ≤ 128 }
-    ensures found { IfOk result (λ x. read_else (statements.read_statement (names_of names.now) (inside names.now turns) room) depth (expression_of test.entry.value) (statement_of body.entry.value) place (list_of tokens.old.rest.now) ≡ Ok (statement_of x, list_of tokens.new.rest.now)) }
+    ensures gives { Gives (read_else (within names.now room) depth (expression_of test.entry.value) (statement_of body.entry.value) place (list_of tokens.old.rest.now)) (λ x. statement_of x.value) tokens.new.rest.now result }
     ensures shorter { IfOk result (λ _. length tokens.new.rest.now ≤ length tokens.old.rest.now) }
-    ensures fault { IfErr result (λ e. IsErrorOf (read_else (statements.read_statement (names_of names.now) (inside names.now turns) room) depth (expression_of test.entry.value) (statement_of body.entry.value) place (list_of tokens.old.rest.now)) e) }
 {
     if takes_else(&body) || !next_keyword(tokens, Keyword::Else) {
-        return Ok(Statement::if_only(test, body, place));
+        return Ok(Statement::if_only(alloc, test, body, place)?);
     }
-    with_else(alloc, tokens, names, depth, room, turns, test, body, place)
+    opening(tokens, Keyword::Else, depth + 1)?;
+    let otherwise = statement(alloc, tokens, names, depth + 2, room)?;
+    Ok(Statement::if_else(alloc, test, body, otherwise, place)?)
 }
 
 // `if`
 #[cycle(statements)]
 fn if_statement<'t>(
     alloc: Global,
-    tokens: &mut Tokens<'t, 't>,
+    tokens: &mut Tokens<'t>,
     names: &TypeNames<'t>,
     depth: usize,
     room: usize,
-    turns: usize,
-) -> Result<Statement<'t>, ParseError<'t, 't>>
+) -> Result<Box<Statement<'t>>, ParseError>
     requires depth { depth ≤ 128 }
-    ensures found { IfOk result (λ x. statements.read_if (inside names.now turns) (statements.read_statement (names_of names.now) (inside names.now turns) room) depth (list_of tokens.old.rest.now) ≡ Ok (statement_of x, list_of tokens.new.rest.now)) }
+    ensures gives { Gives (statements.read_if (expressions names.now) (within names.now room) depth (list_of tokens.old.rest.now)) (λ x. statement_of x.value) tokens.new.rest.now result }
     ensures shorter { IfOk result (λ _. length tokens.new.rest.now < length tokens.old.rest.now) }
-    ensures fault { IfErr result (λ e. IsErrorOf (statements.read_if (inside names.now turns) (statements.read_statement (names_of names.now) (inside names.now turns) room) depth (list_of tokens.old.rest.now)) e) }
 {
-    let place = opening(tokens, Keyword::If, depth + 1)?;
-    let test = test(alloc, tokens, names, depth + 1, turns)?;
-    let body = statement(alloc, tokens, names, depth + 1, room, turns)?;
-    else_part(alloc, tokens, names, depth, room, turns, test, body, place)
+    let place = opening(tokens, Keyword::If, depth)?;
+    let test = test(alloc, tokens, names, depth + 1)?;
+    let body = statement(alloc, tokens, names, depth + 1, room)?;
+    else_part(alloc, tokens, names, depth, room, test, body, place)
 }
 
 // `while`
 #[cycle(statements)]
 fn while_statement<'t>(
     alloc: Global,
-    tokens: &mut Tokens<'t, 't>,
+    tokens: &mut Tokens<'t>,
     names: &TypeNames<'t>,
     depth: usize,
     room: usize,
-    turns: usize,
-) -> Result<Statement<'t>, ParseError<'t, 't>>
+) -> Result<Box<Statement<'t>>, ParseError>
     requires depth { depth ≤ 128 }
-    ensures found { IfOk result (λ x. statements.read_while (inside names.now turns) (statements.read_statement (names_of names.now) (inside names.now turns) room) depth (list_of tokens.old.rest.now) ≡ Ok (statement_of x, list_of tokens.new.rest.now)) }
+    ensures gives { Gives (statements.read_while (expressions names.now) (within names.now room) depth (list_of tokens.old.rest.now)) (λ x. statement_of x.value) tokens.new.rest.now result }
     ensures shorter { IfOk result (λ _. length tokens.new.rest.now < length tokens.old.rest.now) }
-    ensures fault { IfErr result (λ e. IsErrorOf (statements.read_while (inside names.now turns) (statements.read_statement (names_of names.now) (inside names.now turns) room) depth (list_of tokens.old.rest.now)) e) }
 {
-    let place = opening(tokens, Keyword::While, depth + 1)?;
-    let test = test(alloc, tokens, names, depth + 1, turns)?;
-    let body = statement(alloc, tokens, names, depth + 1, room, turns)?;
-    Ok(Statement::while_loop(test, body, place))
+    let place = opening(tokens, Keyword::While, depth)?;
+    let test = test(alloc, tokens, names, depth + 1)?;
+    let body = statement(alloc, tokens, names, depth + 1, room)?;
+    Ok(Statement::while_loop(alloc, test, body, place)?)
 }
 
 // `do`
 #[cycle(statements)]
 fn do_statement<'t>(
     alloc: Global,
-    tokens: &mut Tokens<'t, 't>,
+    tokens: &mut Tokens<'t>,
     names: &TypeNames<'t>,
     depth: usize,
     room: usize,
-    turns: usize,
-) -> Result<Statement<'t>, ParseError<'t, 't>>
+) -> Result<Box<Statement<'t>>, ParseError>
     requires depth { depth ≤ 128 }
-    ensures found { IfOk result (λ x. statements.read_do (inside names.now turns) (statements.read_statement (names_of names.now) (inside names.now turns) room) depth (list_of tokens.old.rest.now) ≡ Ok (statement_of x, list_of tokens.new.rest.now)) }
+    ensures gives { Gives (statements.read_do (expressions names.now) (within names.now room) depth (list_of tokens.old.rest.now)) (λ x. statement_of x.value) tokens.new.rest.now result }
     ensures shorter { IfOk result (λ _. length tokens.new.rest.now < length tokens.old.rest.now) }
-    ensures fault { IfErr result (λ e. IsErrorOf (statements.read_do (inside names.now turns) (statements.read_statement (names_of names.now) (inside names.now turns) room) depth (list_of tokens.old.rest.now)) e) }
 {
-    let place = opening(tokens, Keyword::Do, depth + 1)?;
-    let body = statement(alloc, tokens, names, depth + 1, room, turns)?;
-    let test = do_test(alloc, tokens, names, depth + 1, turns)?;
-    Ok(Statement::do_loop(body, test, place))
+    let place = opening(tokens, Keyword::Do, depth)?;
+    let body = statement(alloc, tokens, names, depth + 1, room)?;
+    let test = do_test(alloc, tokens, names, depth + 1)?;
+    Ok(Statement::do_loop(alloc, body, test, place)?)
 }
 
 // `for`
 #[cycle(statements)]
 fn for_statement<'t>(
     alloc: Global,
-    tokens: &mut Tokens<'t, 't>,
+    tokens: &mut Tokens<'t>,
     names: &TypeNames<'t>,
     depth: usize,
     room: usize,
-    turns: usize,
-) -> Result<Statement<'t>, ParseError<'t, 't>>
+) -> Result<Box<Statement<'t>>, ParseError>
     requires depth { depth ≤ 128 }
-    ensures found { IfOk result (λ x. statements.read_for (names_of names.now) (inside names.now turns) (statements.read_statement (names_of names.now) (inside names.now turns) room) depth (list_of tokens.old.rest.now) ≡ Ok (statement_of x, list_of tokens.new.rest.now)) }
+    ensures gives { Gives (statements.read_for (names_of names.now) (expressions names.now) (within names.now room) depth (list_of tokens.old.rest.now)) (λ x. statement_of x.value) tokens.new.rest.now result }
     ensures shorter { IfOk result (λ _. length tokens.new.rest.now < length tokens.old.rest.now) }
-    ensures fault { IfErr result (λ e. IsErrorOf (statements.read_for (names_of names.now) (inside names.now turns) (statements.read_statement (names_of names.now) (inside names.now turns) room) depth (list_of tokens.old.rest.now)) e) }
 {
-    let place = opening(tokens, Keyword::For, depth + 1)?;
-    tokens.counted(Punctuator::LeftParenthesis, depth + 2, 0)?;
-    let start = for_start(alloc, tokens, names, depth + 2, turns)?;
-    let test = for_test(alloc, tokens, names, depth + 2, turns)?;
-    let step = for_step(alloc, tokens, names, depth + 2, turns)?;
-    let body = statement(alloc, tokens, names, depth + 1, room, turns)?;
-    Ok(Statement::for_loop(start, test, step, body, place))
+    let place = opening(tokens, Keyword::For, depth)?;
+    tokens.opening(Punctuator::LeftParenthesis, depth + 1)?;
+    let start = for_start(alloc, tokens, names, depth + 2)?;
+    let test = for_test(alloc, tokens, names, depth + 2)?;
+    let step = for_step(alloc, tokens, names, depth + 2)?;
+    let body = statement(alloc, tokens, names, depth + 1, room)?;
+    Ok(Statement::for_loop(alloc, start, test, step, body, place)?)
 }
 
-// A label or a part in a `switch`, gathered behind those read.
+// A label or a part in a `switch`, gathered after those read.
 #[cycle(statements)]
 fn element<'t>(
     alloc: Global,
-    tokens: &mut Tokens<'t, 't>,
+    tokens: &mut Tokens<'t>,
     names: &TypeNames<'t>,
     depth: usize,
     room: usize,
-    turns: usize,
-    gathered: Grouping<'t>,
-) -> Result<Grouping<'t>, ParseError<'t, 't>>
+    gathered: &mut Grouping<'t>,
+) -> Result<(), ParseError>
     requires depth { depth ≤ 128 }
-    ensures found { IfOk result (λ x. read_map (with_element (grouping_of gathered.entry)) (statements.read_element (names_of names.now) (inside names.now turns) (statements.read_statement (names_of names.now) (inside names.now turns) room) depth true) (list_of tokens.old.rest.now) ≡ Ok (grouping_of x, list_of tokens.new.rest.now)) }
+    ensures gives { Gives (read_map (with_element (grouping_of gathered.old)) (statements.read_element (names_of names.now) (expressions names.now) (within names.now room) depth true) (list_of tokens.old.rest.now)) (λ _. grouping_of gathered.new) tokens.new.rest.now result }
     ensures shorter { IfOk result (λ _. length tokens.new.rest.now < length tokens.old.rest.now) }
-    ensures fault { IfErr result (λ e. IsErrorOf (read_map (with_element (grouping_of gathered.entry)) (statements.read_element (names_of names.now) (inside names.now turns) (statements.read_statement (names_of names.now) (inside names.now turns) room) depth true) (list_of tokens.old.rest.now)) e) }
 {
     if starts_label(tokens) {
-        let label = label(alloc, tokens, names, depth, turns)?;
-        return Ok(gathered.with_label(alloc, label)?);
+        let label = label(alloc, tokens, names, depth)?;
+        gathered.with_label(alloc, label)?;
+        return Ok(());
     }
-    let next = part(alloc, tokens, names, depth, room, turns)?;
-    Ok(gathered.with_part(next)?)
+    let next = part(alloc, tokens, names, depth, room)?;
+    gathered.with_part(next)?;
+    Ok(())
 }
 
 // The groups of a `switch`.
 #[cycle(statements)]
 fn groups<'t>(
     alloc: Global,
-    tokens: &mut Tokens<'t, 't>,
+    tokens: &mut Tokens<'t>,
     names: &TypeNames<'t>,
     depth: usize,
     room: usize,
-    turns: usize,
-) -> Result<Vec<Group<'t>>, ParseError<'t, 't>>
+) -> Result<Vec<Box<Group<'t>>>, ParseError>
     requires depth { depth ≤ 128 }
-    ensures found { IfOk result (λ x. statements.read_groups (names_of names.now) (inside names.now turns) (statements.read_statement (names_of names.now) (inside names.now turns) room) depth (list_of tokens.old.rest.now) ≡ Ok (groups_of (map group_of x.items), list_of tokens.new.rest.now)) }
+    ensures gives { Gives (statements.read_groups (names_of names.now) (expressions names.now) (within names.now room) depth (list_of tokens.old.rest.now)) groups_in tokens.new.rest.now result }
     ensures shorter { IfOk result (λ _. length tokens.new.rest.now ≤ length tokens.old.rest.now) }
-    ensures fault { IfErr result (λ e. IsErrorOf (statements.read_groups (names_of names.now) (inside names.now turns) (statements.read_statement (names_of names.now) (inside names.now turns) room) depth (list_of tokens.old.rest.now)) e) }
 {
     if !starts_label(tokens) {
         return Ok(Vec::new(alloc));
     }
-    let first = label(alloc, tokens, names, depth, turns)?;
+    let first = label(alloc, tokens, names, depth)?;
     let mut gathered = Grouping::new(alloc, first)?;
     'items: while starts_element(tokens) {
-        gathered = element(alloc, tokens, names, depth, room, turns, gathered)?;
+        element(alloc, tokens, names, depth, room, &mut gathered)?;
     }
-    Ok(gathered.groups()?)
+    Ok(gathered.groups(alloc)?)
 }
 
 // `switch`
 #[cycle(statements)]
 fn switch_statement<'t>(
     alloc: Global,
-    tokens: &mut Tokens<'t, 't>,
+    tokens: &mut Tokens<'t>,
     names: &TypeNames<'t>,
     depth: usize,
     room: usize,
-    turns: usize,
-) -> Result<Statement<'t>, ParseError<'t, 't>>
+) -> Result<Box<Statement<'t>>, ParseError>
     requires depth { depth ≤ 128 }
-    ensures found { IfOk result (λ x. statements.read_switch (names_of names.now) (inside names.now turns) (statements.read_statement (names_of names.now) (inside names.now turns) room) depth (list_of tokens.old.rest.now) ≡ Ok (statement_of x, list_of tokens.new.rest.now)) }
+    ensures gives { Gives (statements.read_switch (names_of names.now) (expressions names.now) (within names.now room) depth (list_of tokens.old.rest.now)) (λ x. statement_of x.value) tokens.new.rest.now result }
     ensures shorter { IfOk result (λ _. length tokens.new.rest.now < length tokens.old.rest.now) }
-    ensures fault { IfErr result (λ e. IsErrorOf (statements.read_switch (names_of names.now) (inside names.now turns) (statements.read_statement (names_of names.now) (inside names.now turns) room) depth (list_of tokens.old.rest.now)) e) }
 {
-    let place = opening(tokens, Keyword::Switch, depth + 1)?;
-    let test = test(alloc, tokens, names, depth + 1, turns)?;
-    tokens.counted(Punctuator::LeftBrace, depth + 2, 0)?;
-    let groups = groups(alloc, tokens, names, depth + 2, room, turns)?;
+    let place = opening(tokens, Keyword::Switch, depth)?;
+    let test = test(alloc, tokens, names, depth + 1)?;
+    tokens.opening(Punctuator::LeftBrace, depth + 1)?;
+    let groups = groups(alloc, tokens, names, depth + 2, room)?;
     tokens.mark(Punctuator::RightBrace, Role::Nothing)?;
-    Ok(Statement::switch(test, groups, place))
+    Ok(Statement::switch(alloc, test, groups, place)?)
 }
 
 // A statement by its first token.
 #[cycle(statements)]
-fn some_statement<'t>(
+fn any_statement<'t>(
     alloc: Global,
-    tokens: &mut Tokens<'t, 't>,
+    tokens: &mut Tokens<'t>,
     names: &TypeNames<'t>,
     depth: usize,
     room: usize,
-    turns: usize,
-) -> Result<Statement<'t>, ParseError<'t, 't>>
+) -> Result<Box<Statement<'t>>, ParseError>
     requires depth { depth ≤ 128 }
-    ensures found { IfOk result (λ x. statements.read_statement_around (names_of names.now) (inside names.now turns) (statements.read_statement (names_of names.now) (inside names.now turns) room) depth (list_of tokens.old.rest.now) ≡ Ok (statement_of x, list_of tokens.new.rest.now)) }
+    ensures gives { Gives (statements.read_statement_around (names_of names.now) (expressions names.now) (within names.now room) depth (list_of tokens.old.rest.now)) (λ x. statement_of x.value) tokens.new.rest.now result }
     ensures shorter { IfOk result (λ _. length tokens.new.rest.now < length tokens.old.rest.now) }
-    ensures fault { IfErr result (λ e. IsErrorOf (statements.read_statement_around (names_of names.now) (inside names.now turns) (statements.read_statement (names_of names.now) (inside names.now turns) room) depth (list_of tokens.old.rest.now)) e) }
 {
     if tokens.next_is(Punctuator::LeftBrace) {
-        return block(alloc, tokens, names, depth, room, turns);
+        return block(alloc, tokens, names, depth, room);
     }
     if tokens.next_is(Punctuator::Semicolon) {
         let place = tokens.mark(Punctuator::Semicolon, Role::Nothing)?;
-        return Ok(Statement::empty(place));
+        return Ok(Statement::empty(alloc, place)?);
     }
     if next_keyword(tokens, Keyword::If) {
-        return if_statement(alloc, tokens, names, depth, room, turns);
+        return if_statement(alloc, tokens, names, depth, room);
     }
     if next_keyword(tokens, Keyword::Switch) {
-        return switch_statement(alloc, tokens, names, depth, room, turns);
+        return switch_statement(alloc, tokens, names, depth, room);
     }
     if next_keyword(tokens, Keyword::While) {
-        return while_statement(alloc, tokens, names, depth, room, turns);
+        return while_statement(alloc, tokens, names, depth, room);
     }
     if next_keyword(tokens, Keyword::Do) {
-        return do_statement(alloc, tokens, names, depth, room, turns);
+        return do_statement(alloc, tokens, names, depth, room);
     }
     if next_keyword(tokens, Keyword::For) {
-        return for_statement(alloc, tokens, names, depth, room, turns);
+        return for_statement(alloc, tokens, names, depth, room);
     }
-    plain_statement(alloc, tokens, names, depth, turns)
+    plain_statement(alloc, tokens, names, depth)
 }
 
-// A statement where so many constructs are open and so many may open inside.
+// A statement in which so many constructs may open.
 #[tactic(auto, using(crate::proofs::Rooms::rooms))]
 #[cycle(statements)]
 fn statement<'t>(
     alloc: Global,
-    tokens: &mut Tokens<'t, 't>,
+    tokens: &mut Tokens<'t>,
     names: &TypeNames<'t>,
     depth: usize,
     room: usize,
-    turns: usize,
-) -> Result<Box<Statement<'t>>, ParseError<'t, 't>>
+) -> Result<Box<Statement<'t>>, ParseError>
     requires depth { depth ≤ 128 }
-    ensures found { IfOk result (λ x. statements.read_statement (names_of names.now) (inside names.now turns) room depth (list_of tokens.old.rest.now) ≡ Ok (statement_of x.value, list_of tokens.new.rest.now)) }
+    ensures gives { Gives (within names.now room depth (list_of tokens.old.rest.now)) (λ x. statement_of x.value) tokens.new.rest.now result }
     ensures shorter { IfOk result (λ _. length tokens.new.rest.now < length tokens.old.rest.now) }
-    ensures fault { IfErr result (λ e. IsErrorOf (statements.read_statement (names_of names.now) (inside names.now turns) room depth (list_of tokens.old.rest.now)) e) }
 {
     if room == 0 {
-        return Err(ParseError::At(Fault::Deep, tokens.rest));
+        return Err(ParseError::At(Fault::Deep));
     }
-    let statement = some_statement(alloc, tokens, names, depth, room - 1, turns)?;
-    Ok(boxed(alloc, statement)?)
+    any_statement(alloc, tokens, names, depth, room - 1)
 }
 
 /// What stands in a block, as long as a token stands next with which a part of it can begin.
 pub fn parts<'t>(
     alloc: Global,
-    tokens: &mut Tokens<'t, 't>,
+    tokens: &mut Tokens<'t>,
     names: &TypeNames<'t>,
     depth: usize,
-    room: usize,
-    turns: usize,
-) -> Result<Vec<Part<'t>>, ParseError<'t, 't>>
+) -> Result<Vec<Part<'t>>, ParseError>
     requires depth { depth ≤ 128 }
-    ensures found { IfOk result (λ x. statements.read_parts (names_of names.now) (inside names.now turns) (statements.read_statement (names_of names.now) (inside names.now turns) room) depth (list_of tokens.old.rest.now) ≡ Ok (parts_of (map part_of x.items), list_of tokens.new.rest.now)) }
+    ensures gives { Gives (statements.read_parts (names_of names.now) (expressions names.now) (statements.read_statement (names_of names.now) (expressions names.now) room) depth (list_of tokens.old.rest.now)) parts_in tokens.new.rest.now result }
     ensures shorter { IfOk result (λ _. length tokens.new.rest.now ≤ length tokens.old.rest.now) }
-    ensures fault { IfErr result (λ e. IsErrorOf (statements.read_parts (names_of names.now) (inside names.now turns) (statements.read_statement (names_of names.now) (inside names.now turns) room) depth (list_of tokens.old.rest.now)) e) }
 {
-    all_parts(alloc, tokens, names, depth, room, turns)
+    all_parts(alloc, tokens, names, depth, ROOM)
 }

@@ -1,220 +1,417 @@
-use Rattle.std.proofs.Common.{arith, ◌≡◌, ◌∙◌, sym, subst, ap, map, ◌++◌, ◌∷◌, [], ◌+◌, Ok, IfOk, IfErr}
+use Rattle.std.proofs.Common.{arith, ℕ, suc, refl, ◌≡◌, ◌∙◌, sym, subst, ap, map, ◌++◌, ◌∷◌, [], ◌+◌, Ok, Err}
 use Rattle.std.proofs.lemmas.List.{map-append}
-use Rattle.c_statement_reader.specs.Statements.{read_statement, read_parts, read_groups}
-use Rattle.c_unit_syntax.specs.Statements.{part_of, parts_of, statement_of, group_of, groups_of}
-use Rattle.c_parse_token.specs.Lists.{list_of, names_of, IsErrorOf}
-use Rattle.c_parse_word.proofs.Steps.{fewer}
-use Rattle.c_parse_steps.specs.Inside.{inside}
-use Rattle.c_parse_inside.proofs.Errors.{passed}
-use Rattle.c_parse_statement.proofs.Loops.{Parts, parts-start, parts-more, parts-error, parts-end, Gathering, gathering-start, gathering-none, gathering-label_error, gathering-step, gathering-error, gathering-end}
-use Rattle.c_parse_statement.proofs.Unclosed.{block-unclosed}
-use Rattle.c_parse_statement.proofs.Split.{do-test_error, if-parts}
 use Rattle.std.specs.Option.{option_map}
-use Rattle.c_syntax.specs.Expressions.{expression_of}
+use Rattle.std.specs.declared.alloc.Global.{Global}
+use Rattle.std.specs.declared.boxed.Box.{Box}
+use Rattle.c_syntax.specs.declared.expression.Expression.{Expression}
+use Rattle.c_syntax.specs.declared.simple.Simple.{Simple}
+use Rattle.c_syntax.specs.declared.statement.ForStart.{ForStart}
+use Rattle.c_syntax.specs.declared.statement.Statement.{Statement}
+use Rattle.c_syntax.specs.declared.statement.Locals.{Locals}
+use Rattle.c_tree_spec.specs.Unit as unit
+use Rattle.exact_read.specs.Grammar.{bind}
+use Rattle.c_statement_reader.specs.Statements as statements
+use Rattle.c_statement_reader.specs.Statements.{read_parts, read_groups}
+use Rattle.c_syntax.specs.Expressions.{expression_of, unboxed}
 use Rattle.c_syntax.specs.Simples.{simple_of}
-use Rattle.c_unit_syntax.specs.Locals.{start_of, label_of}
-use Rattle.c_parse_statement.proofs.Chain.{for-found, for-start_error, for-test_error, for-step_error, for-body_error, switch-found, switch-open_error, switch-groups_error, switch-close_error}
+use Rattle.c_syntax.specs.Locals.{locals_of, start_of, label_of}
+use Rattle.c_syntax.specs.Statements.{part_of, parts_of, parts_in, statement_of, group_of, groups_of, groups_in}
+use Rattle.c_parse_token.specs.Lists.{list_of, names_of, Gives}
+use Rattle.c_parse_token.proofs.Steps.{fewer}
+use Rattle.c_parse_expression.specs.Whole.{expressions}
 use Rattle.c_parse_statement.specs.Grouped.{grouping_of}
+use Rattle.c_parse_statement.specs.Pieces.{within, read_of, read_plain}
+use Rattle.c_parse_statement.proofs.Steps.{failed, no_memory}
+use Rattle.c_parse_statement.proofs.Loops.{Parts, parts-start, parts-more, parts-error, parts-end, Gathering, gathering-start, gathering-none, gathering-label_error, gathering-step, gathering-error, gathering-end}
+use Rattle.c_parse_statement.proofs.Split.{do-parts, if-parts}
+use Rattle.c_parse_statement.proofs.Chain.{for-found, for-start_error, for-test_error, for-step_error, for-body_error, switch-found, switch-open_error, switch-groups_error, switch-close_error, block-unclosed}
 use Rattle.c_parse_statement.proofs.statement.+statements.Goals as goal
 
 pub all_parts-items-init : goal.all_parts-items-init
 all_parts-items-init t c =
     let names = names_of c.args.names.now in
-    let inner = inside c.args.names.now c.args.turns in
-    let statement = read_statement names inner c.args.room in
-    let whole = read_parts names inner statement c.args.depth (list_of c.args.tokens.now.rest.now) in
+    let inner = expressions c.args.names.now in
+    let inside = within c.args.names.now c.args.room in
     record {
-      going = subst (λ all. Parts names inner statement c.args.depth whole all (list_of c.args.tokens.now.rest.now)) (sym (ap (map part_of) c.new-all.ensures.items)) (parts-start names inner statement c.args.depth (list_of c.args.tokens.now.rest.now));
+      going = subst (λ all. Parts names inner inside c.args.depth (read_parts names inner inside c.args.depth (list_of c.args.tokens.now.rest.now)) all (list_of c.args.tokens.now.rest.now)) (sym (ap (map part_of) c.new-all.ensures.items)) (parts-start names inner inside c.args.depth (list_of c.args.tokens.now.rest.now));
       fewer = omega arith;
     }
 
 pub all_parts-items-preserved : goal.all_parts-items-preserved
 all_parts-items-preserved t c =
     let names = names_of c.args.names.now in
-    let inner = inside c.args.names.now c.args.turns in
-    let statement = read_statement names inner c.args.room in
-    let whole = read_parts names inner statement c.args.depth (list_of c.args.tokens.now.rest.now) in
-    let read = map part_of c.items.all.items in
+    let inner = expressions c.args.names.now in
+    let inside = within c.args.names.now c.args.room in
+    let whole = read_parts names inner inside c.args.depth (list_of c.args.tokens.now.rest.now) in
     let next = c.in_ok-next.next in
     let rest = c.part.new.tokens.rest.now in
-    let all : map part_of c.push.new.self.items ≡ read ++ part_of next ∷ [] = ap (map part_of) c.in_ok-push.ensures.items ∙ map-append part_of c.items.all.items (next ∷ []) in
+    let all : map part_of c.push.new.self.items ≡ map part_of c.items.all.items ++ part_of next ∷ [] = ap (map part_of) c.in_ok-push.ensures.items ∙ map-append part_of c.items.all.items (next ∷ []) in
     record {
-      going = parts-more names inner statement c.args.depth whole read (map part_of c.push.new.self.items) (part_of next) (list_of c.items.tokens.rest.now) (list_of rest) all c.items.invariant.going (sym c.starts_part.ensures ∙ c.items-test.true) c.in_ok-next.ensures.found (fewer rest c.items.tokens.rest.now c.in_ok-next.ensures.shorter);
+      going = parts-more names inner inside c.args.depth whole (map part_of c.items.all.items) (map part_of c.push.new.self.items) (part_of next) (list_of c.items.tokens.rest.now) (list_of rest) all c.items.invariant.going (sym c.starts_part.ensures ∙ c.items-test.true) c.in_ok-next.ensures.gives (fewer rest c.items.tokens.rest.now c.in_ok-next.ensures.shorter);
       fewer = omega (arith, c.in_ok-next.ensures.shorter, c.items.invariant.fewer);
     }
 
-pub all_parts-returns-in_err-next-clause-fault : goal.all_parts-returns-in_err-next-clause-fault
-all_parts-returns-in_err-next-clause-fault t c =
+pub all_parts-returns-in_err-next-clause-gives : goal.all_parts-returns-in_err-next-clause-gives
+all_parts-returns-in_err-next-clause-gives t c =
     let names = names_of c.args.names.now in
-    let inner = inside c.args.names.now c.args.turns in
-    let statement = read_statement names inner c.args.room in
-    let whole = read_parts names inner statement c.args.depth (list_of c.args.tokens.now.rest.now) in
-    let error = c.in_err-next.field-0.0 in
-    passed _ _ error c.from_residual.ensures.1 (parts-error names inner statement c.args.depth whole (map part_of c.items.all.items) (list_of c.items.tokens.rest.now) error c.items.invariant.going (sym c.starts_part.ensures ∙ c.items-test.true) c.in_err-next.ensures.fault)
+    let inner = expressions c.args.names.now in
+    let inside = within c.args.names.now c.args.room in
+    failed _ _ (λ x. read_of (part_of x)) _ _ _ c.in_err-next.field-0.0 c.from_residual.ensures.1 c.in_err-next.ensures.gives
+    (λ fault e. parts-error names inner inside c.args.depth (read_parts names inner inside c.args.depth (list_of c.args.tokens.now.rest.now)) (map part_of c.items.all.items) (list_of c.items.tokens.rest.now) fault c.items.invariant.going (sym c.starts_part.ensures ∙ c.items-test.true) e)
 
-pub all_parts-returns-clause-found : goal.all_parts-returns-clause-found
-all_parts-returns-clause-found t c =
+pub all_parts-returns-clause-gives : goal.all_parts-returns-clause-gives
+all_parts-returns-clause-gives t c =
     let names = names_of c.args.names.now in
-    let inner = inside c.args.names.now c.args.turns in
-    let statement = read_statement names inner c.args.room in
-    let whole = read_parts names inner statement c.args.depth (list_of c.args.tokens.now.rest.now) in
-    parts-end names inner statement c.args.depth whole (map part_of c.items.all.items) (list_of c.items.tokens.rest.now) c.items.invariant.going (sym c.starts_part.ensures ∙ c.items-test.false)
+    let inner = expressions c.args.names.now in
+    let inside = within c.args.names.now c.args.room in
+    parts-end names inner inside c.args.depth (read_parts names inner inside c.args.depth (list_of c.args.tokens.now.rest.now)) (map part_of c.items.all.items) (list_of c.items.tokens.rest.now) c.items.invariant.going (sym c.starts_part.ensures ∙ c.items-test.false)
 
-pub block-returns-in_err-mark-clause-fault : goal.block-returns-in_err-mark-clause-fault
-block-returns-in_err-mark-clause-fault t c =
+pub block-returns-in_err-mark-clause-gives : goal.block-returns-in_err-mark-clause-gives
+block-returns-in_err-mark-clause-gives t c =
     let names = names_of c.args.names.now in
-    let inner = inside c.args.names.now c.args.turns in
-    let statement = read_statement names inner c.args.room in
-    let error = c.in_err-mark.field-0.0 in
-    passed _ _ error c.from_residual-in_err-mark.ensures.1 (block-unclosed names inner statement c.args.depth (c.args.depth + 1) c.in_ok-place.place (parts_of (map part_of c.in_ok-parts.parts.items)) error (list_of c.args.tokens.now.rest.now) (list_of c.counted.new.self.rest.now) (list_of c.all_parts.new.tokens.rest.now) (omega arith) c.in_ok-place.ensures.found c.in_ok-parts.ensures.found c.in_err-mark.ensures.fault)
+    let inner = expressions c.args.names.now in
+    let inside = within c.args.names.now c.args.room in
+    failed _ _ (λ (x : ℕ). x) _ _ _ c.in_err-mark.field-0.0 c.from_residual-in_err-mark.ensures.1 c.in_err-mark.ensures.gives
+    (λ fault e. block-unclosed names inner inside c.args.depth (c.args.depth + 1) c.in_ok-place.place (parts_in c.in_ok-parts.parts) fault (list_of c.args.tokens.now.rest.now) (list_of c.opening.new.self.rest.now) (list_of c.all_parts.new.tokens.rest.now) (omega arith) c.in_ok-place.ensures.gives c.in_ok-parts.ensures.gives e)
 
-pub do_statement-returns-in_err-test-clause-fault : goal.do_statement-returns-in_err-test-clause-fault
-do_statement-returns-in_err-test-clause-fault t c =
+pub do_statement-returns-in_err-test-clause-gives : goal.do_statement-returns-in_err-test-clause-gives
+do_statement-returns-in_err-test-clause-gives t c =
     let names = names_of c.args.names.now in
-    let inner = inside c.args.names.now c.args.turns in
-    let statement = read_statement names inner c.args.room in
-    let error = c.in_err-test.field-0.0 in
-    passed _ _ error c.from_residual-in_err-test.ensures.1 (do-test_error inner statement c.args.depth (c.args.depth + 1) c.in_ok-place.place (statement_of c.in_ok-body.body.value) error (list_of c.args.tokens.now.rest.now) (list_of c.opening.new.tokens.rest.now) (list_of c.statement.new.tokens.rest.now) (omega arith) c.in_ok-place.ensures.found c.in_ok-body.ensures.found c.in_err-test.ensures.fault)
+    let inner = expressions c.args.names.now in
+    let inside = within c.args.names.now c.args.room in
+    failed _ _ (λ (x : Box Expression Global). expression_of x.value) _ _ _ c.in_err-test.field-0.0 c.from_residual-in_err-test.ensures.1 c.in_err-test.ensures.gives
+    (λ fault e. do-parts inner inside c.args.depth (c.args.depth + 1) c.in_ok-place.place (statement_of c.in_ok-body.body.value) (list_of c.args.tokens.now.rest.now) (list_of c.opening.new.tokens.rest.now) (list_of c.statement.new.tokens.rest.now) (omega arith) c.in_ok-place.ensures.gives c.in_ok-body.ensures.gives ∙ ap (λ o. bind o (λ x rest. Ok (unit.Do (statement_of c.in_ok-body.body.value) x c.in_ok-place.place, rest))) e)
 
-pub for_statement-returns-in_err-start-clause-fault : goal.for_statement-returns-in_err-start-clause-fault
-for_statement-returns-in_err-start-clause-fault t c =
+pub do_statement-returns-clause-gives : goal.do_statement-returns-clause-gives
+do_statement-returns-clause-gives t c =
     let names = names_of c.args.names.now in
-    let inner = inside c.args.names.now c.args.turns in
-    let statement = read_statement names inner c.args.room in
-    let error = c.in_err-start.field-0.0 in
-    passed _ _ error c.from_residual-in_err-start.ensures.1 (for-start_error names inner statement c.args.depth (c.args.depth + 1) (c.args.depth + 2) c.in_ok-place.place c.in_ok-counted.field-0 error (list_of c.args.tokens.now.rest.now) (list_of c.opening.new.tokens.rest.now) (list_of c.counted.new.self.rest.now) (omega arith) (omega arith) c.in_ok-place.ensures.found c.in_ok-counted.ensures.found c.in_err-start.ensures.fault)
+    let inner = expressions c.args.names.now in
+    let inside = within c.args.names.now c.args.room in
+    do-parts inner inside c.args.depth (c.args.depth + 1) c.in_ok-place.place (statement_of c.in_ok-body.body.value) (list_of c.args.tokens.now.rest.now) (list_of c.opening.new.tokens.rest.now) (list_of c.statement.new.tokens.rest.now) (omega arith) c.in_ok-place.ensures.gives c.in_ok-body.ensures.gives ∙ ap (λ o. bind o (λ x rest. Ok (unit.Do (statement_of c.in_ok-body.body.value) x c.in_ok-place.place, rest))) c.in_ok-test.ensures.gives
+    ∙ ap (λ made. Ok (made, list_of c.do_test.new.tokens.rest.now)) (sym c.in_ok-do_loop.ensures)
 
-pub for_statement-returns-in_err-test-clause-fault : goal.for_statement-returns-in_err-test-clause-fault
-for_statement-returns-in_err-test-clause-fault t c =
+pub for_statement-returns-in_err-start-clause-gives : goal.for_statement-returns-in_err-start-clause-gives
+for_statement-returns-in_err-start-clause-gives t c =
     let names = names_of c.args.names.now in
-    let inner = inside c.args.names.now c.args.turns in
-    let statement = read_statement names inner c.args.room in
-    let error = c.in_err-test.field-0.0 in
-    passed _ _ error c.from_residual-in_err-test.ensures.1 (for-test_error names inner statement c.args.depth (c.args.depth + 1) (c.args.depth + 2) c.in_ok-place.place c.in_ok-counted.field-0 (start_of c.in_ok-start.start) error (list_of c.args.tokens.now.rest.now) (list_of c.opening.new.tokens.rest.now) (list_of c.counted.new.self.rest.now) (list_of c.for_start.new.tokens.rest.now) (omega arith) (omega arith) c.in_ok-place.ensures.found c.in_ok-counted.ensures.found c.in_ok-start.ensures.found c.in_err-test.ensures.fault)
+    let inner = expressions c.args.names.now in
+    let inside = within c.args.names.now c.args.room in
+    failed _ _ (λ (x : Box ForStart Global). start_of x.value) _ _ _ c.in_err-start.field-0.0 c.from_residual-in_err-start.ensures.1 c.in_err-start.ensures.gives
+    (λ fault e. for-start_error names inner inside c.args.depth (c.args.depth + 1) (c.args.depth + 2) c.in_ok-place.place c.in_ok-opening.field-0 fault (list_of c.args.tokens.now.rest.now) (list_of c.opening.new.tokens.rest.now) (list_of c.opening-2.new.self.rest.now) (omega arith) (omega arith) c.in_ok-place.ensures.gives c.in_ok-opening.ensures.gives e)
 
-pub for_statement-returns-in_err-step-clause-fault : goal.for_statement-returns-in_err-step-clause-fault
-for_statement-returns-in_err-step-clause-fault t c =
+pub for_statement-returns-in_err-test-clause-gives : goal.for_statement-returns-in_err-test-clause-gives
+for_statement-returns-in_err-test-clause-gives t c =
     let names = names_of c.args.names.now in
-    let inner = inside c.args.names.now c.args.turns in
-    let statement = read_statement names inner c.args.room in
-    let error = c.in_err-step.field-0.0 in
-    passed _ _ error c.from_residual-in_err-step.ensures.1 (for-step_error names inner statement c.args.depth (c.args.depth + 1) (c.args.depth + 2) c.in_ok-place.place c.in_ok-counted.field-0 (start_of c.in_ok-start.start) (option_map (λ x. expression_of x.value) c.in_ok-test.test) error (list_of c.args.tokens.now.rest.now) (list_of c.opening.new.tokens.rest.now) (list_of c.counted.new.self.rest.now) (list_of c.for_start.new.tokens.rest.now) (list_of c.for_test.new.tokens.rest.now) (omega arith) (omega arith) c.in_ok-place.ensures.found c.in_ok-counted.ensures.found c.in_ok-start.ensures.found c.in_ok-test.ensures.found c.in_err-step.ensures.fault)
+    let inner = expressions c.args.names.now in
+    let inside = within c.args.names.now c.args.room in
+    failed _ _ (λ x. option_map (λ (test : Box Expression Global). expression_of test.value) x) _ _ _ c.in_err-test.field-0.0 c.from_residual-in_err-test.ensures.1 c.in_err-test.ensures.gives
+    (λ fault e. for-test_error names inner inside c.args.depth (c.args.depth + 1) (c.args.depth + 2) c.in_ok-place.place c.in_ok-opening.field-0 (start_of c.in_ok-start.start.value) fault (list_of c.args.tokens.now.rest.now) (list_of c.opening.new.tokens.rest.now) (list_of c.opening-2.new.self.rest.now) (list_of c.for_start.new.tokens.rest.now) (omega arith) (omega arith) c.in_ok-place.ensures.gives c.in_ok-opening.ensures.gives c.in_ok-start.ensures.gives e)
 
-pub for_statement-returns-in_err-body-clause-fault : goal.for_statement-returns-in_err-body-clause-fault
-for_statement-returns-in_err-body-clause-fault t c =
+pub for_statement-returns-in_err-step-clause-gives : goal.for_statement-returns-in_err-step-clause-gives
+for_statement-returns-in_err-step-clause-gives t c =
     let names = names_of c.args.names.now in
-    let inner = inside c.args.names.now c.args.turns in
-    let statement = read_statement names inner c.args.room in
-    let error = c.in_err-body.field-0.0 in
-    passed _ _ error c.from_residual-in_err-body.ensures.1 (for-body_error names inner statement c.args.depth (c.args.depth + 1) (c.args.depth + 2) c.in_ok-place.place c.in_ok-counted.field-0 (start_of c.in_ok-start.start) (option_map (λ x. expression_of x.value) c.in_ok-test.test) (option_map (λ x. simple_of x.value) c.in_ok-step.step) error (list_of c.args.tokens.now.rest.now) (list_of c.opening.new.tokens.rest.now) (list_of c.counted.new.self.rest.now) (list_of c.for_start.new.tokens.rest.now) (list_of c.for_test.new.tokens.rest.now) (list_of c.for_step.new.tokens.rest.now) (omega arith) (omega arith) c.in_ok-place.ensures.found c.in_ok-counted.ensures.found c.in_ok-start.ensures.found c.in_ok-test.ensures.found c.in_ok-step.ensures.found c.in_err-body.ensures.fault)
+    let inner = expressions c.args.names.now in
+    let inside = within c.args.names.now c.args.room in
+    failed _ _ (λ x. option_map (λ (step : Box Simple Global). simple_of step.value) x) _ _ _ c.in_err-step.field-0.0 c.from_residual-in_err-step.ensures.1 c.in_err-step.ensures.gives
+    (λ fault e. for-step_error names inner inside c.args.depth (c.args.depth + 1) (c.args.depth + 2) c.in_ok-place.place c.in_ok-opening.field-0 (start_of c.in_ok-start.start.value) (option_map (λ x. expression_of x.value) c.in_ok-test.test) fault (list_of c.args.tokens.now.rest.now) (list_of c.opening.new.tokens.rest.now) (list_of c.opening-2.new.self.rest.now) (list_of c.for_start.new.tokens.rest.now) (list_of c.for_test.new.tokens.rest.now) (omega arith) (omega arith) c.in_ok-place.ensures.gives c.in_ok-opening.ensures.gives c.in_ok-start.ensures.gives c.in_ok-test.ensures.gives e)
 
-pub for_statement-returns-clause-found : goal.for_statement-returns-clause-found
-for_statement-returns-clause-found t c =
+pub for_statement-returns-in_err-body-clause-gives : goal.for_statement-returns-in_err-body-clause-gives
+for_statement-returns-in_err-body-clause-gives t c =
     let names = names_of c.args.names.now in
-    let inner = inside c.args.names.now c.args.turns in
-    let statement = read_statement names inner c.args.room in
-    for-found names inner statement c.args.depth (c.args.depth + 1) (c.args.depth + 2) c.in_ok-place.place c.in_ok-counted.field-0 (start_of c.in_ok-start.start) (option_map (λ x. expression_of x.value) c.in_ok-test.test) (option_map (λ x. simple_of x.value) c.in_ok-step.step) (statement_of c.in_ok-body.body.value) (list_of c.args.tokens.now.rest.now) (list_of c.opening.new.tokens.rest.now) (list_of c.counted.new.self.rest.now) (list_of c.for_start.new.tokens.rest.now) (list_of c.for_test.new.tokens.rest.now) (list_of c.for_step.new.tokens.rest.now) (list_of c.statement.new.tokens.rest.now) (omega arith) (omega arith) c.in_ok-place.ensures.found c.in_ok-counted.ensures.found c.in_ok-start.ensures.found c.in_ok-test.ensures.found c.in_ok-step.ensures.found c.in_ok-body.ensures.found ∙ ap (λ made. Ok (made, list_of c.statement.new.tokens.rest.now)) (sym c.for_loop.ensures)
+    let inner = expressions c.args.names.now in
+    let inside = within c.args.names.now c.args.room in
+    failed _ _ (λ (x : Box Statement Global). statement_of x.value) _ _ _ c.in_err-body.field-0.0 c.from_residual-in_err-body.ensures.1 c.in_err-body.ensures.gives
+    (λ fault e. for-body_error names inner inside c.args.depth (c.args.depth + 1) (c.args.depth + 2) c.in_ok-place.place c.in_ok-opening.field-0 (start_of c.in_ok-start.start.value) (option_map (λ x. expression_of x.value) c.in_ok-test.test) (option_map (λ x. simple_of x.value) c.in_ok-step.step) fault (list_of c.args.tokens.now.rest.now) (list_of c.opening.new.tokens.rest.now) (list_of c.opening-2.new.self.rest.now) (list_of c.for_start.new.tokens.rest.now) (list_of c.for_test.new.tokens.rest.now) (list_of c.for_step.new.tokens.rest.now) (omega arith) (omega arith) c.in_ok-place.ensures.gives c.in_ok-opening.ensures.gives c.in_ok-start.ensures.gives c.in_ok-test.ensures.gives c.in_ok-step.ensures.gives e)
+
+pub for_statement-returns-clause-gives : goal.for_statement-returns-clause-gives
+for_statement-returns-clause-gives t c =
+    let names = names_of c.args.names.now in
+    let inner = expressions c.args.names.now in
+    let inside = within c.args.names.now c.args.room in
+    for-found names inner inside c.args.depth (c.args.depth + 1) (c.args.depth + 2) c.in_ok-place.place c.in_ok-opening.field-0 (start_of c.in_ok-start.start.value) (option_map (λ x. expression_of x.value) c.in_ok-test.test) (option_map (λ x. simple_of x.value) c.in_ok-step.step) (statement_of c.in_ok-body.body.value) (list_of c.args.tokens.now.rest.now) (list_of c.opening.new.tokens.rest.now) (list_of c.opening-2.new.self.rest.now) (list_of c.for_start.new.tokens.rest.now) (list_of c.for_test.new.tokens.rest.now) (list_of c.for_step.new.tokens.rest.now) (list_of c.statement.new.tokens.rest.now) (omega arith) (omega arith) c.in_ok-place.ensures.gives c.in_ok-opening.ensures.gives c.in_ok-start.ensures.gives c.in_ok-test.ensures.gives c.in_ok-step.ensures.gives c.in_ok-body.ensures.gives
+    ∙ ap (λ made. Ok (made, list_of c.statement.new.tokens.rest.now)) (sym c.in_ok-for_loop.ensures)
 
 pub groups-items-init : goal.groups-items-init
 groups-items-init t c =
     let names = names_of c.args.names.now in
-    let inner = inside c.args.names.now c.args.turns in
-    let statement = read_statement names inner c.args.room in
-    let whole = read_groups names inner statement c.args.depth (list_of c.args.tokens.now.rest.now) in
+    let inner = expressions c.args.names.now in
+    let inside = within c.args.names.now c.args.room in
+    let whole = read_groups names inner inside c.args.depth (list_of c.args.tokens.now.rest.now) in
     let rest = c.label.new.tokens.rest.now in
-    let start = gathering-start names inner statement c.args.depth (label_of c.in_ok-first.first) (list_of c.args.tokens.now.rest.now) (list_of rest) (sym c.starts_label.ensures ∙ c.if-not-starts_label.false) c.in_ok-first.ensures.found (fewer rest c.args.tokens.now.rest.now c.in_ok-first.ensures.shorter) in
+    let start = gathering-start names inner inside c.args.depth (label_of c.in_ok-first.first) (list_of c.args.tokens.now.rest.now) (list_of rest) (sym c.starts_label.ensures ∙ c.if-not-starts_label.false) c.in_ok-first.ensures.gives (fewer rest c.args.tokens.now.rest.now c.in_ok-first.ensures.shorter) in
     record {
-      going = subst (λ gathered. Gathering names inner statement c.args.depth whole gathered (list_of rest)) (sym c.in_ok-gathered.ensures) start;
+      going = subst (λ gathered. Gathering names inner inside c.args.depth whole gathered (list_of rest)) (sym c.in_ok-gathered.ensures) start;
       fewer = c.in_ok-first.ensures.shorter;
     }
 
 pub groups-items-preserved : goal.groups-items-preserved
 groups-items-preserved t c =
     let names = names_of c.args.names.now in
-    let inner = inside c.args.names.now c.args.turns in
-    let statement = read_statement names inner c.args.room in
-    let whole = read_groups names inner statement c.args.depth (list_of c.args.tokens.now.rest.now) in
+    let inner = expressions c.args.names.now in
+    let inside = within c.args.names.now c.args.room in
+    let whole = read_groups names inner inside c.args.depth (list_of c.args.tokens.now.rest.now) in
     let rest = c.element.new.tokens.rest.now in
     record {
-      going = gathering-step names inner statement c.args.depth whole (grouping_of c.items.gathered) (grouping_of c.in_ok-gathered-2.gathered) (list_of c.items.tokens.rest.now) (list_of rest) c.items.invariant.going (sym c.starts_element.ensures ∙ c.items-test.true) c.in_ok-gathered-2.ensures.found (fewer rest c.items.tokens.rest.now c.in_ok-gathered-2.ensures.shorter);
-      fewer = omega (arith, c.in_ok-gathered-2.ensures.shorter, c.items.invariant.fewer);
+      going = gathering-step names inner inside c.args.depth whole (grouping_of c.items.gathered) (grouping_of c.element.new.gathered) (list_of c.items.tokens.rest.now) (list_of rest) c.items.invariant.going (sym c.starts_element.ensures ∙ c.items-test.true) c.in_ok-element.ensures.gives (fewer rest c.items.tokens.rest.now c.in_ok-element.ensures.shorter);
+      fewer = omega (arith, c.in_ok-element.ensures.shorter, c.items.invariant.fewer);
     }
 
-pub groups-returns-in_err-first-clause-fault : goal.groups-returns-in_err-first-clause-fault
-groups-returns-in_err-first-clause-fault t c =
+pub groups-returns-in_err-first-clause-gives : goal.groups-returns-in_err-first-clause-gives
+groups-returns-in_err-first-clause-gives t c =
     let names = names_of c.args.names.now in
-    let inner = inside c.args.names.now c.args.turns in
-    let statement = read_statement names inner c.args.room in
-    let error = c.in_err-first.field-0.0 in
-    passed _ _ error c.from_residual.ensures.1 (gathering-label_error names inner statement c.args.depth (list_of c.args.tokens.now.rest.now) error (sym c.starts_label.ensures ∙ c.if-not-starts_label.false) c.in_err-first.ensures.fault)
+    let inner = expressions c.args.names.now in
+    let inside = within c.args.names.now c.args.room in
+    failed _ _ label_of _ _ _ c.in_err-first.field-0.0 c.from_residual.ensures.1 c.in_err-first.ensures.gives
+    (λ fault e. gathering-label_error names inner inside c.args.depth (list_of c.args.tokens.now.rest.now) fault (sym c.starts_label.ensures ∙ c.if-not-starts_label.false) e)
 
-pub groups-returns-in_err-gathered-2-clause-fault : goal.groups-returns-in_err-gathered-2-clause-fault
-groups-returns-in_err-gathered-2-clause-fault t c =
+pub groups-returns-in_err-element-clause-gives : goal.groups-returns-in_err-element-clause-gives
+groups-returns-in_err-element-clause-gives t c =
     let names = names_of c.args.names.now in
-    let inner = inside c.args.names.now c.args.turns in
-    let statement = read_statement names inner c.args.room in
-    let whole = read_groups names inner statement c.args.depth (list_of c.args.tokens.now.rest.now) in
-    let error = c.in_err-gathered-2.field-0.0 in
-    passed _ _ error c.from_residual-in_err-gathered-2.ensures.1 (gathering-error names inner statement c.args.depth whole (grouping_of c.items.gathered) (list_of c.items.tokens.rest.now) error c.items.invariant.going (sym c.starts_element.ensures ∙ c.items-test.true) c.in_err-gathered-2.ensures.fault)
+    let inner = expressions c.args.names.now in
+    let inside = within c.args.names.now c.args.room in
+    failed _ _ (λ (x : Unit {0}). grouping_of c.element.new.gathered) _ _ _ c.in_err-element.field-0.0 c.from_residual-in_err-element.ensures.1 c.in_err-element.ensures.gives
+    (λ fault e. gathering-error names inner inside c.args.depth (read_groups names inner inside c.args.depth (list_of c.args.tokens.now.rest.now)) (grouping_of c.items.gathered) (list_of c.items.tokens.rest.now) fault c.items.invariant.going (sym c.starts_element.ensures ∙ c.items-test.true) e)
 
-pub groups-returns-clause-found : goal.groups-returns-clause-found
-groups-returns-clause-found t c =
+pub groups-returns-clause-gives : goal.groups-returns-clause-gives
+groups-returns-clause-gives t c =
     let names = names_of c.args.names.now in
-    let inner = inside c.args.names.now c.args.turns in
-    let statement = read_statement names inner c.args.room in
-    let whole = read_groups names inner statement c.args.depth (list_of c.args.tokens.now.rest.now) in
-    gathering-end names inner statement c.args.depth whole (grouping_of c.items.gathered) (list_of c.items.tokens.rest.now) c.items.invariant.going (sym c.starts_element.ensures ∙ c.items-test.false) ∙ ap (λ groups. Ok (groups, list_of c.items.tokens.rest.now)) (sym c.in_ok-groups.ensures)
+    let inner = expressions c.args.names.now in
+    let inside = within c.args.names.now c.args.room in
+    gathering-end names inner inside c.args.depth (read_groups names inner inside c.args.depth (list_of c.args.tokens.now.rest.now)) (grouping_of c.items.gathered) (list_of c.items.tokens.rest.now) c.items.invariant.going (sym c.starts_element.ensures ∙ c.items-test.false)
+    ∙ ap (λ groups. Ok (groups, list_of c.items.tokens.rest.now)) (sym c.in_ok-groups.ensures)
 
-pub groups-returns-then-not-starts_label-clause-found : goal.groups-returns-then-not-starts_label-clause-found
-groups-returns-then-not-starts_label-clause-found t c =
+pub groups-returns-then-not-starts_label-clause-gives : goal.groups-returns-then-not-starts_label-clause-gives
+groups-returns-then-not-starts_label-clause-gives t c =
     let names = names_of c.args.names.now in
-    let inner = inside c.args.names.now c.args.turns in
-    let statement = read_statement names inner c.args.room in
-    gathering-none names inner statement c.args.depth (list_of c.args.tokens.now.rest.now) (sym c.starts_label.ensures ∙ c.if-not-starts_label.true) ∙ ap (λ items. Ok (groups_of (map group_of items), list_of c.args.tokens.now.rest.now)) (sym c.new.ensures.items)
+    let inner = expressions c.args.names.now in
+    let inside = within c.args.names.now c.args.room in
+    gathering-none names inner inside c.args.depth (list_of c.args.tokens.now.rest.now) (sym c.starts_label.ensures ∙ c.if-not-starts_label.true) ∙ ap (λ items. Ok (groups_of (map group_of (map (λ b. b.value) items)), list_of c.args.tokens.now.rest.now)) (sym c.new.ensures.items)
 
-pub if_statement-returns-clause-found : goal.if_statement-returns-clause-found
-if_statement-returns-clause-found t c =
+pub if_statement-returns-clause-gives : goal.if_statement-returns-clause-gives
+if_statement-returns-clause-gives t c =
     let names = names_of c.args.names.now in
-    let inner = inside c.args.names.now c.args.turns in
-    let statement = read_statement names inner c.args.room in
-    let same = if-parts inner statement c.args.depth (c.args.depth + 1) c.in_ok-place.place (expression_of c.in_ok-test.test.value) (statement_of c.in_ok-body.body.value) (list_of c.args.tokens.now.rest.now) (list_of c.opening.new.tokens.rest.now) (list_of c.test.new.tokens.rest.now) (list_of c.statement.new.tokens.rest.now) (omega arith) c.in_ok-place.ensures.found c.in_ok-test.ensures.found c.in_ok-body.ensures.found in
-    subst (λ o. IfOk c.else_part.result (λ x. o ≡ Ok (statement_of x, list_of c.else_part.new.tokens.rest.now))) (sym same) c.else_part.ensures.found
+    let inner = expressions c.args.names.now in
+    let inside = within c.args.names.now c.args.room in
+    let same = if-parts inner inside c.args.depth (c.args.depth + 1) c.in_ok-place.place (expression_of c.in_ok-test.test.value) (statement_of c.in_ok-body.body.value) (list_of c.args.tokens.now.rest.now) (list_of c.opening.new.tokens.rest.now) (list_of c.test.new.tokens.rest.now) (list_of c.statement.new.tokens.rest.now) (omega arith) c.in_ok-place.ensures.gives c.in_ok-test.ensures.gives c.in_ok-body.ensures.gives in
+    subst (λ o. Gives o (λ x. statement_of x.value) c.else_part.new.tokens.rest.now c.else_part.result) (sym same) c.else_part.ensures.gives
 
-pub if_statement-returns-clause-fault : goal.if_statement-returns-clause-fault
-if_statement-returns-clause-fault t c =
+pub switch_statement-returns-in_err-opening-clause-gives : goal.switch_statement-returns-in_err-opening-clause-gives
+switch_statement-returns-in_err-opening-clause-gives t c =
     let names = names_of c.args.names.now in
-    let inner = inside c.args.names.now c.args.turns in
-    let statement = read_statement names inner c.args.room in
-    let same = if-parts inner statement c.args.depth (c.args.depth + 1) c.in_ok-place.place (expression_of c.in_ok-test.test.value) (statement_of c.in_ok-body.body.value) (list_of c.args.tokens.now.rest.now) (list_of c.opening.new.tokens.rest.now) (list_of c.test.new.tokens.rest.now) (list_of c.statement.new.tokens.rest.now) (omega arith) c.in_ok-place.ensures.found c.in_ok-test.ensures.found c.in_ok-body.ensures.found in
-    subst (λ o. IfErr c.else_part.result (λ e. IsErrorOf o e)) (sym same) c.else_part.ensures.fault
+    let inner = expressions c.args.names.now in
+    let inside = within c.args.names.now c.args.room in
+    failed _ _ (λ (x : ℕ). x) _ _ _ c.in_err-opening.field-0.0 c.from_residual-in_err-opening.ensures.1 c.in_err-opening.ensures.gives
+    (λ fault e. switch-open_error names inner inside c.args.depth (c.args.depth + 1) (c.args.depth + 2) c.in_ok-place.place (expression_of c.in_ok-test.test.value) fault (list_of c.args.tokens.now.rest.now) (list_of c.opening.new.tokens.rest.now) (list_of c.test.new.tokens.rest.now) (omega arith) (omega arith) c.in_ok-place.ensures.gives c.in_ok-test.ensures.gives e)
 
-pub switch_statement-returns-in_err-counted-clause-fault : goal.switch_statement-returns-in_err-counted-clause-fault
-switch_statement-returns-in_err-counted-clause-fault t c =
+pub switch_statement-returns-in_err-groups-clause-gives : goal.switch_statement-returns-in_err-groups-clause-gives
+switch_statement-returns-in_err-groups-clause-gives t c =
     let names = names_of c.args.names.now in
-    let inner = inside c.args.names.now c.args.turns in
-    let statement = read_statement names inner c.args.room in
-    let error = c.in_err-counted.field-0.0 in
-    passed _ _ error c.from_residual-in_err-counted.ensures.1 (switch-open_error names inner statement c.args.depth (c.args.depth + 1) (c.args.depth + 2) c.in_ok-place.place (expression_of c.in_ok-test.test.value) error (list_of c.args.tokens.now.rest.now) (list_of c.opening.new.tokens.rest.now) (list_of c.test.new.tokens.rest.now) (omega arith) (omega arith) c.in_ok-place.ensures.found c.in_ok-test.ensures.found c.in_err-counted.ensures.fault)
+    let inner = expressions c.args.names.now in
+    let inside = within c.args.names.now c.args.room in
+    failed _ _ groups_in _ _ _ c.in_err-groups.field-0.0 c.from_residual-in_err-groups.ensures.1 c.in_err-groups.ensures.gives
+    (λ fault e. switch-groups_error names inner inside c.args.depth (c.args.depth + 1) (c.args.depth + 2) c.in_ok-place.place (expression_of c.in_ok-test.test.value) c.in_ok-opening.field-0 fault (list_of c.args.tokens.now.rest.now) (list_of c.opening.new.tokens.rest.now) (list_of c.test.new.tokens.rest.now) (list_of c.opening-2.new.self.rest.now) (omega arith) (omega arith) c.in_ok-place.ensures.gives c.in_ok-test.ensures.gives c.in_ok-opening.ensures.gives e)
 
-pub switch_statement-returns-in_err-groups-clause-fault : goal.switch_statement-returns-in_err-groups-clause-fault
-switch_statement-returns-in_err-groups-clause-fault t c =
+pub switch_statement-returns-in_err-mark-clause-gives : goal.switch_statement-returns-in_err-mark-clause-gives
+switch_statement-returns-in_err-mark-clause-gives t c =
     let names = names_of c.args.names.now in
-    let inner = inside c.args.names.now c.args.turns in
-    let statement = read_statement names inner c.args.room in
-    let error = c.in_err-groups.field-0.0 in
-    passed _ _ error c.from_residual-in_err-groups.ensures.1 (switch-groups_error names inner statement c.args.depth (c.args.depth + 1) (c.args.depth + 2) c.in_ok-place.place (expression_of c.in_ok-test.test.value) c.in_ok-counted.field-0 error (list_of c.args.tokens.now.rest.now) (list_of c.opening.new.tokens.rest.now) (list_of c.test.new.tokens.rest.now) (list_of c.counted.new.self.rest.now) (omega arith) (omega arith) c.in_ok-place.ensures.found c.in_ok-test.ensures.found c.in_ok-counted.ensures.found c.in_err-groups.ensures.fault)
+    let inner = expressions c.args.names.now in
+    let inside = within c.args.names.now c.args.room in
+    failed _ _ (λ (x : ℕ). x) _ _ _ c.in_err-mark.field-0.0 c.from_residual-in_err-mark.ensures.1 c.in_err-mark.ensures.gives
+    (λ fault e. switch-close_error names inner inside c.args.depth (c.args.depth + 1) (c.args.depth + 2) c.in_ok-place.place (expression_of c.in_ok-test.test.value) c.in_ok-opening.field-0 (groups_in c.in_ok-groups.groups) fault (list_of c.args.tokens.now.rest.now) (list_of c.opening.new.tokens.rest.now) (list_of c.test.new.tokens.rest.now) (list_of c.opening-2.new.self.rest.now) (list_of c.groups.new.tokens.rest.now) (omega arith) (omega arith) c.in_ok-place.ensures.gives c.in_ok-test.ensures.gives c.in_ok-opening.ensures.gives c.in_ok-groups.ensures.gives e)
 
-pub switch_statement-returns-in_err-mark-clause-fault : goal.switch_statement-returns-in_err-mark-clause-fault
-switch_statement-returns-in_err-mark-clause-fault t c =
+pub switch_statement-returns-clause-gives : goal.switch_statement-returns-clause-gives
+switch_statement-returns-clause-gives t c =
     let names = names_of c.args.names.now in
-    let inner = inside c.args.names.now c.args.turns in
-    let statement = read_statement names inner c.args.room in
-    let error = c.in_err-mark.field-0.0 in
-    passed _ _ error c.from_residual-in_err-mark.ensures.1 (switch-close_error names inner statement c.args.depth (c.args.depth + 1) (c.args.depth + 2) c.in_ok-place.place (expression_of c.in_ok-test.test.value) c.in_ok-counted.field-0 (groups_of (map group_of c.in_ok-groups.groups.items)) error (list_of c.args.tokens.now.rest.now) (list_of c.opening.new.tokens.rest.now) (list_of c.test.new.tokens.rest.now) (list_of c.counted.new.self.rest.now) (list_of c.groups.new.tokens.rest.now) (omega arith) (omega arith) c.in_ok-place.ensures.found c.in_ok-test.ensures.found c.in_ok-counted.ensures.found c.in_ok-groups.ensures.found c.in_err-mark.ensures.fault)
+    let inner = expressions c.args.names.now in
+    let inside = within c.args.names.now c.args.room in
+    switch-found names inner inside c.args.depth (c.args.depth + 1) (c.args.depth + 2) c.in_ok-place.place (expression_of c.in_ok-test.test.value) c.in_ok-opening.field-0 (groups_in c.in_ok-groups.groups) c.in_ok-mark.field-0 (list_of c.args.tokens.now.rest.now) (list_of c.opening.new.tokens.rest.now) (list_of c.test.new.tokens.rest.now) (list_of c.opening-2.new.self.rest.now) (list_of c.groups.new.tokens.rest.now) (list_of c.mark.new.self.rest.now) (omega arith) (omega arith) c.in_ok-place.ensures.gives c.in_ok-test.ensures.gives c.in_ok-opening.ensures.gives c.in_ok-groups.ensures.gives c.in_ok-mark.ensures.gives
+    ∙ ap (λ made. Ok (made, list_of c.mark.new.self.rest.now)) (sym c.in_ok-switch.ensures)
 
-pub switch_statement-returns-clause-found : goal.switch_statement-returns-clause-found
-switch_statement-returns-clause-found t c =
+pub part-returns-in_err-locals-clause-gives : goal.part-returns-in_err-locals-clause-gives
+part-returns-in_err-locals-clause-gives t c =
+    failed _ _ (λ (x : Box Locals Global). locals_of x.value) _ _ _ c.in_err-locals.field-0.0 c.from_residual.ensures.1 c.in_err-locals.ensures.gives (λ fault e. rw (sym c.starts_locals.ensures ∙ c.if-starts_locals.true, e) refl)
+
+pub part-returns-in_err-statement-clause-gives : goal.part-returns-in_err-statement-clause-gives
+part-returns-in_err-statement-clause-gives t c =
+    failed _ _ (λ (x : Box Statement Global). statement_of x.value) _ _ _ c.in_err-statement.field-0.0 c.from_residual-in_err-statement.ensures.1 c.in_err-statement.ensures.gives (λ fault e. rw (sym c.starts_locals.ensures ∙ c.if-starts_locals.false, e) refl)
+
+pub part-returns-then-starts_locals-clause-gives : goal.part-returns-then-starts_locals-clause-gives
+part-returns-then-starts_locals-clause-gives t c =
+    rw (sym c.starts_locals.ensures ∙ c.if-starts_locals.true, c.in_ok-locals.ensures.gives) (ap (λ p. Ok (read_of p, list_of c.locals.new.tokens.rest.now)) (sym c.declared.ensures))
+
+pub part-returns-clause-gives : goal.part-returns-clause-gives
+part-returns-clause-gives t c =
+    rw (sym c.starts_locals.ensures ∙ c.if-starts_locals.false, c.in_ok-statement.ensures.gives) (ap (λ p. Ok (read_of p, list_of c.statement.new.tokens.rest.now)) (sym c.stated.ensures))
+
+pub all_parts-returns-in_err-push-clause-gives : goal.all_parts-returns-in_err-push-clause-gives
+all_parts-returns-in_err-push-clause-gives t c =
+    no_memory _ _ _ _ c.from_residual-in_err-push.ensures.1
+
+pub block-returns-in_err-place-clause-gives : goal.block-returns-in_err-place-clause-gives
+block-returns-in_err-place-clause-gives t c =
+    failed _ _ (λ (x : ℕ). x) _ _ _ c.in_err-place.field-0.0 c.from_residual.ensures.1 c.in_err-place.ensures.gives (λ fault e. rw (e) refl)
+
+pub block-returns-in_err-parts-clause-gives : goal.block-returns-in_err-parts-clause-gives
+block-returns-in_err-parts-clause-gives t c =
+    let one : c.args.depth + 1 ≡ suc c.args.depth = omega arith in
+    failed _ _ parts_in _ _ _ c.in_err-parts.field-0.0 c.from_residual-in_err-parts.ensures.1 c.in_err-parts.ensures.gives (λ fault e. rw (c.in_ok-place.ensures.gives, rw one at e) refl)
+
+pub block-returns-in_err-block-clause-gives : goal.block-returns-in_err-block-clause-gives
+block-returns-in_err-block-clause-gives t c =
+    no_memory _ _ _ _ c.from_residual-in_err-block.ensures.1
+
+pub block-returns-clause-gives : goal.block-returns-clause-gives
+block-returns-clause-gives t c =
+    let one : c.args.depth + 1 ≡ suc c.args.depth = omega arith in
+    rw (c.in_ok-place.ensures.gives, rw one at c.in_ok-parts.ensures.gives, c.in_ok-mark.ensures.gives) (ap (λ x. Ok (x, list_of c.mark.new.self.rest.now)) (sym c.in_ok-block.ensures))
+
+pub if_statement-returns-in_err-place-clause-gives : goal.if_statement-returns-in_err-place-clause-gives
+if_statement-returns-in_err-place-clause-gives t c =
+    failed _ _ (λ (x : ℕ). x) _ _ _ c.in_err-place.field-0.0 c.from_residual.ensures.1 c.in_err-place.ensures.gives (λ fault e. rw (e) refl)
+
+pub if_statement-returns-in_err-test-clause-gives : goal.if_statement-returns-in_err-test-clause-gives
+if_statement-returns-in_err-test-clause-gives t c =
+    let one : c.args.depth + 1 ≡ suc c.args.depth = omega arith in
+    failed _ _ (λ (x : Box Expression Global). expression_of x.value) _ _ _ c.in_err-test.field-0.0 c.from_residual-in_err-test.ensures.1 c.in_err-test.ensures.gives (λ fault e. rw (c.in_ok-place.ensures.gives, rw one at e) refl)
+
+pub if_statement-returns-in_err-body-clause-gives : goal.if_statement-returns-in_err-body-clause-gives
+if_statement-returns-in_err-body-clause-gives t c =
+    let one : c.args.depth + 1 ≡ suc c.args.depth = omega arith in
+    failed _ _ (λ (x : Box Statement Global). statement_of x.value) _ _ _ c.in_err-body.field-0.0 c.from_residual-in_err-body.ensures.1 c.in_err-body.ensures.gives (λ fault e. rw (c.in_ok-place.ensures.gives, rw one at c.in_ok-test.ensures.gives, rw one at e) refl)
+
+pub while_statement-returns-in_err-place-clause-gives : goal.while_statement-returns-in_err-place-clause-gives
+while_statement-returns-in_err-place-clause-gives t c =
+    failed _ _ (λ (x : ℕ). x) _ _ _ c.in_err-place.field-0.0 c.from_residual.ensures.1 c.in_err-place.ensures.gives (λ fault e. rw (e) refl)
+
+pub while_statement-returns-in_err-test-clause-gives : goal.while_statement-returns-in_err-test-clause-gives
+while_statement-returns-in_err-test-clause-gives t c =
+    let one : c.args.depth + 1 ≡ suc c.args.depth = omega arith in
+    failed _ _ (λ (x : Box Expression Global). expression_of x.value) _ _ _ c.in_err-test.field-0.0 c.from_residual-in_err-test.ensures.1 c.in_err-test.ensures.gives (λ fault e. rw (c.in_ok-place.ensures.gives, rw one at e) refl)
+
+pub while_statement-returns-in_err-body-clause-gives : goal.while_statement-returns-in_err-body-clause-gives
+while_statement-returns-in_err-body-clause-gives t c =
+    let one : c.args.depth + 1 ≡ suc c.args.depth = omega arith in
+    failed _ _ (λ (x : Box Statement Global). statement_of x.value) _ _ _ c.in_err-body.field-0.0 c.from_residual-in_err-body.ensures.1 c.in_err-body.ensures.gives (λ fault e. rw (c.in_ok-place.ensures.gives, rw one at c.in_ok-test.ensures.gives, rw one at e) refl)
+
+pub while_statement-returns-in_err-while_loop-clause-gives : goal.while_statement-returns-in_err-while_loop-clause-gives
+while_statement-returns-in_err-while_loop-clause-gives t c =
+    no_memory _ _ _ _ c.from_residual-in_err-while_loop.ensures.1
+
+pub while_statement-returns-clause-gives : goal.while_statement-returns-clause-gives
+while_statement-returns-clause-gives t c =
+    let one : c.args.depth + 1 ≡ suc c.args.depth = omega arith in
+    rw (c.in_ok-place.ensures.gives, rw one at c.in_ok-test.ensures.gives, rw one at c.in_ok-body.ensures.gives) (ap (λ x. Ok (x, list_of c.statement.new.tokens.rest.now)) (sym c.in_ok-while_loop.ensures))
+
+pub do_statement-returns-in_err-place-clause-gives : goal.do_statement-returns-in_err-place-clause-gives
+do_statement-returns-in_err-place-clause-gives t c =
+    failed _ _ (λ (x : ℕ). x) _ _ _ c.in_err-place.field-0.0 c.from_residual.ensures.1 c.in_err-place.ensures.gives (λ fault e. rw (e) refl)
+
+pub do_statement-returns-in_err-body-clause-gives : goal.do_statement-returns-in_err-body-clause-gives
+do_statement-returns-in_err-body-clause-gives t c =
+    let one : c.args.depth + 1 ≡ suc c.args.depth = omega arith in
+    failed _ _ (λ (x : Box Statement Global). statement_of x.value) _ _ _ c.in_err-body.field-0.0 c.from_residual-in_err-body.ensures.1 c.in_err-body.ensures.gives (λ fault e. rw (c.in_ok-place.ensures.gives, rw one at e) refl)
+
+pub do_statement-returns-in_err-do_loop-clause-gives : goal.do_statement-returns-in_err-do_loop-clause-gives
+do_statement-returns-in_err-do_loop-clause-gives t c =
+    no_memory _ _ _ _ c.from_residual-in_err-do_loop.ensures.1
+
+pub for_statement-returns-in_err-place-clause-gives : goal.for_statement-returns-in_err-place-clause-gives
+for_statement-returns-in_err-place-clause-gives t c =
+    failed _ _ (λ (x : ℕ). x) _ _ _ c.in_err-place.field-0.0 c.from_residual.ensures.1 c.in_err-place.ensures.gives (λ fault e. rw (e) refl)
+
+pub for_statement-returns-in_err-opening-clause-gives : goal.for_statement-returns-in_err-opening-clause-gives
+for_statement-returns-in_err-opening-clause-gives t c =
+    let one : c.args.depth + 1 ≡ suc c.args.depth = omega arith in
+    failed _ _ (λ (x : ℕ). x) _ _ _ c.in_err-opening.field-0.0 c.from_residual-in_err-opening.ensures.1 c.in_err-opening.ensures.gives (λ fault e. rw (c.in_ok-place.ensures.gives, rw one at e) refl)
+
+pub for_statement-returns-in_err-for_loop-clause-gives : goal.for_statement-returns-in_err-for_loop-clause-gives
+for_statement-returns-in_err-for_loop-clause-gives t c =
+    no_memory _ _ _ _ c.from_residual-in_err-for_loop.ensures.1
+
+pub switch_statement-returns-in_err-place-clause-gives : goal.switch_statement-returns-in_err-place-clause-gives
+switch_statement-returns-in_err-place-clause-gives t c =
+    failed _ _ (λ (x : ℕ). x) _ _ _ c.in_err-place.field-0.0 c.from_residual.ensures.1 c.in_err-place.ensures.gives (λ fault e. rw (e) refl)
+
+pub switch_statement-returns-in_err-test-clause-gives : goal.switch_statement-returns-in_err-test-clause-gives
+switch_statement-returns-in_err-test-clause-gives t c =
+    let one : c.args.depth + 1 ≡ suc c.args.depth = omega arith in
+    failed _ _ (λ (x : Box Expression Global). expression_of x.value) _ _ _ c.in_err-test.field-0.0 c.from_residual-in_err-test.ensures.1 c.in_err-test.ensures.gives (λ fault e. rw (c.in_ok-place.ensures.gives, rw one at e) refl)
+
+pub switch_statement-returns-in_err-switch-clause-gives : goal.switch_statement-returns-in_err-switch-clause-gives
+switch_statement-returns-in_err-switch-clause-gives t c =
+    no_memory _ _ _ _ c.from_residual-in_err-switch.ensures.1
+
+pub groups-returns-in_err-gathered-clause-gives : goal.groups-returns-in_err-gathered-clause-gives
+groups-returns-in_err-gathered-clause-gives t c =
+    no_memory _ _ _ _ c.from_residual-in_err-gathered.ensures.1
+
+pub groups-returns-in_err-groups-clause-gives : goal.groups-returns-in_err-groups-clause-gives
+groups-returns-in_err-groups-clause-gives t c =
+    no_memory _ _ _ _ c.from_residual-in_err-groups.ensures.1
+
+pub any_statement-returns-then-next_is-clause-gives : goal.any_statement-returns-then-next_is-clause-gives
+any_statement-returns-then-next_is-clause-gives t c =
     let names = names_of c.args.names.now in
-    let inner = inside c.args.names.now c.args.turns in
-    let statement = read_statement names inner c.args.room in
-    switch-found names inner statement c.args.depth (c.args.depth + 1) (c.args.depth + 2) c.in_ok-place.place (expression_of c.in_ok-test.test.value) c.in_ok-counted.field-0 (groups_of (map group_of c.in_ok-groups.groups.items)) c.in_ok-mark.field-0 (list_of c.args.tokens.now.rest.now) (list_of c.opening.new.tokens.rest.now) (list_of c.test.new.tokens.rest.now) (list_of c.counted.new.self.rest.now) (list_of c.groups.new.tokens.rest.now) (list_of c.mark.new.self.rest.now) (omega arith) (omega arith) c.in_ok-place.ensures.found c.in_ok-test.ensures.found c.in_ok-counted.ensures.found c.in_ok-groups.ensures.found c.in_ok-mark.ensures.found ∙ ap (λ made. Ok (made, list_of c.mark.new.self.rest.now)) (sym c.switch.ensures)
+    let inner = expressions c.args.names.now in
+    let inside = within c.args.names.now c.args.room in
+    let same : statements.read_statement_around names inner inside c.args.depth (list_of c.args.tokens.now.rest.now) ≡ statements.read_block names inner inside c.args.depth (list_of c.args.tokens.now.rest.now) = rw (sym c.next_is.ensures ∙ c.if-next_is.true) refl in
+    subst (λ o. Gives o (λ x. statement_of x.value) c.block.new.tokens.rest.now c.block.result) (sym same) c.block.ensures.gives
+
+pub any_statement-returns-then-next_is-2-clause-gives : goal.any_statement-returns-then-next_is-2-clause-gives
+any_statement-returns-then-next_is-2-clause-gives t c =
+    rw (sym c.next_is.ensures ∙ c.if-next_is.false, sym c.next_is-2.ensures ∙ c.if-next_is-2.true, c.in_ok-place.ensures.gives) (ap (λ x. Ok (x, list_of c.mark.new.self.rest.now)) (sym c.in_ok-empty.ensures))
+
+pub any_statement-returns-in_err-place-clause-gives : goal.any_statement-returns-in_err-place-clause-gives
+any_statement-returns-in_err-place-clause-gives t c =
+    failed _ _ (λ (x : ℕ). x) _ _ _ c.in_err-place.field-0.0 c.from_residual.ensures.1 c.in_err-place.ensures.gives (λ fault e. rw (sym c.next_is.ensures ∙ c.if-next_is.false, sym c.next_is-2.ensures ∙ c.if-next_is-2.true, e) refl)
+
+pub any_statement-returns-in_err-empty-clause-gives : goal.any_statement-returns-in_err-empty-clause-gives
+any_statement-returns-in_err-empty-clause-gives t c =
+    no_memory _ _ _ _ c.from_residual-in_err-empty.ensures.1
+
+pub any_statement-returns-then-next_keyword-clause-gives : goal.any_statement-returns-then-next_keyword-clause-gives
+any_statement-returns-then-next_keyword-clause-gives t c =
+    let names = names_of c.args.names.now in
+    let inner = expressions c.args.names.now in
+    let inside = within c.args.names.now c.args.room in
+    let same : statements.read_statement_around names inner inside c.args.depth (list_of c.args.tokens.now.rest.now) ≡ statements.read_if inner inside c.args.depth (list_of c.args.tokens.now.rest.now) = rw (sym c.next_is.ensures ∙ c.if-next_is.false, sym c.next_is-2.ensures ∙ c.if-next_is-2.false, sym c.next_keyword.ensures ∙ c.if-next_keyword.true) refl in
+    subst (λ o. Gives o (λ x. statement_of x.value) c.if_statement.new.tokens.rest.now c.if_statement.result) (sym same) c.if_statement.ensures.gives
+
+pub any_statement-returns-then-next_keyword-2-clause-gives : goal.any_statement-returns-then-next_keyword-2-clause-gives
+any_statement-returns-then-next_keyword-2-clause-gives t c =
+    let names = names_of c.args.names.now in
+    let inner = expressions c.args.names.now in
+    let inside = within c.args.names.now c.args.room in
+    let same : statements.read_statement_around names inner inside c.args.depth (list_of c.args.tokens.now.rest.now) ≡ statements.read_switch names inner inside c.args.depth (list_of c.args.tokens.now.rest.now) = rw (sym c.next_is.ensures ∙ c.if-next_is.false, sym c.next_is-2.ensures ∙ c.if-next_is-2.false, sym c.next_keyword.ensures ∙ c.if-next_keyword.false, sym c.next_keyword-2.ensures ∙ c.if-next_keyword-2.true) refl in
+    subst (λ o. Gives o (λ x. statement_of x.value) c.switch_statement.new.tokens.rest.now c.switch_statement.result) (sym same) c.switch_statement.ensures.gives
+
+pub any_statement-returns-then-next_keyword-3-clause-gives : goal.any_statement-returns-then-next_keyword-3-clause-gives
+any_statement-returns-then-next_keyword-3-clause-gives t c =
+    let names = names_of c.args.names.now in
+    let inner = expressions c.args.names.now in
+    let inside = within c.args.names.now c.args.room in
+    let same : statements.read_statement_around names inner inside c.args.depth (list_of c.args.tokens.now.rest.now) ≡ statements.read_while inner inside c.args.depth (list_of c.args.tokens.now.rest.now) = rw (sym c.next_is.ensures ∙ c.if-next_is.false, sym c.next_is-2.ensures ∙ c.if-next_is-2.false, sym c.next_keyword.ensures ∙ c.if-next_keyword.false, sym c.next_keyword-2.ensures ∙ c.if-next_keyword-2.false, sym c.next_keyword-3.ensures ∙ c.if-next_keyword-3.true) refl in
+    subst (λ o. Gives o (λ x. statement_of x.value) c.while_statement.new.tokens.rest.now c.while_statement.result) (sym same) c.while_statement.ensures.gives
+
+pub any_statement-returns-then-next_keyword-4-clause-gives : goal.any_statement-returns-then-next_keyword-4-clause-gives
+any_statement-returns-then-next_keyword-4-clause-gives t c =
+    let names = names_of c.args.names.now in
+    let inner = expressions c.args.names.now in
+    let inside = within c.args.names.now c.args.room in
+    let same : statements.read_statement_around names inner inside c.args.depth (list_of c.args.tokens.now.rest.now) ≡ statements.read_do inner inside c.args.depth (list_of c.args.tokens.now.rest.now) = rw (sym c.next_is.ensures ∙ c.if-next_is.false, sym c.next_is-2.ensures ∙ c.if-next_is-2.false, sym c.next_keyword.ensures ∙ c.if-next_keyword.false, sym c.next_keyword-2.ensures ∙ c.if-next_keyword-2.false, sym c.next_keyword-3.ensures ∙ c.if-next_keyword-3.false, sym c.next_keyword-4.ensures ∙ c.if-next_keyword-4.true) refl in
+    subst (λ o. Gives o (λ x. statement_of x.value) c.do_statement.new.tokens.rest.now c.do_statement.result) (sym same) c.do_statement.ensures.gives
+
+pub any_statement-returns-then-next_keyword-5-clause-gives : goal.any_statement-returns-then-next_keyword-5-clause-gives
+any_statement-returns-then-next_keyword-5-clause-gives t c =
+    let names = names_of c.args.names.now in
+    let inner = expressions c.args.names.now in
+    let inside = within c.args.names.now c.args.room in
+    let same : statements.read_statement_around names inner inside c.args.depth (list_of c.args.tokens.now.rest.now) ≡ statements.read_for names inner inside c.args.depth (list_of c.args.tokens.now.rest.now) = rw (sym c.next_is.ensures ∙ c.if-next_is.false, sym c.next_is-2.ensures ∙ c.if-next_is-2.false, sym c.next_keyword.ensures ∙ c.if-next_keyword.false, sym c.next_keyword-2.ensures ∙ c.if-next_keyword-2.false, sym c.next_keyword-3.ensures ∙ c.if-next_keyword-3.false, sym c.next_keyword-4.ensures ∙ c.if-next_keyword-4.false, sym c.next_keyword-5.ensures ∙ c.if-next_keyword-5.true) refl in
+    subst (λ o. Gives o (λ x. statement_of x.value) c.for_statement.new.tokens.rest.now c.for_statement.result) (sym same) c.for_statement.ensures.gives
+
+pub any_statement-returns-clause-gives : goal.any_statement-returns-clause-gives
+any_statement-returns-clause-gives t c =
+    let names = names_of c.args.names.now in
+    let inner = expressions c.args.names.now in
+    let inside = within c.args.names.now c.args.room in
+    let same : statements.read_statement_around names inner inside c.args.depth (list_of c.args.tokens.now.rest.now) ≡ read_plain inner c.args.depth (list_of c.args.tokens.now.rest.now) = rw (sym c.next_is.ensures ∙ c.if-next_is.false, sym c.next_is-2.ensures ∙ c.if-next_is-2.false, sym c.next_keyword.ensures ∙ c.if-next_keyword.false, sym c.next_keyword-2.ensures ∙ c.if-next_keyword-2.false, sym c.next_keyword-3.ensures ∙ c.if-next_keyword-3.false, sym c.next_keyword-4.ensures ∙ c.if-next_keyword-4.false, sym c.next_keyword-5.ensures ∙ c.if-next_keyword-5.false) refl in
+    subst (λ o. Gives o (λ x. statement_of x.value) c.plain_statement.new.tokens.rest.now c.plain_statement.result) (sym same) c.plain_statement.ensures.gives

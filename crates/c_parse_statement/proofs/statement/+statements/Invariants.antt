@@ -1,17 +1,18 @@
 use Rattle.std.proofs.Common.{◌≤◌, length, map, ◌<◌, ◌+◌, ◌*◌}
-use Rattle.c_statement_reader.specs.Statements.{read_statement, read_parts, read_groups}
-use Rattle.c_unit_syntax.specs.Statements.{part_of}
+use Rattle.c_statement_reader.specs.Statements.{read_parts, read_groups}
+use Rattle.c_syntax.specs.Statements.{part_of}
 use Rattle.c_parse_token.specs.Lists.{list_of, names_of}
-use Rattle.c_parse_steps.specs.Inside.{inside}
+use Rattle.c_parse_expression.specs.Whole.{expressions}
 use Rattle.c_parse_statement.proofs.Loops.{Parts, Gathering}
 use Rattle.c_parse_statement.specs.Grouped.{grouping_of}
+use Rattle.c_parse_statement.specs.Pieces.{within}
 use Rattle.c_parse_statement.proofs.statement.+statements.Given as goal
 
 abbrev pub decreases-statement : goal.decreases-statement
 decreases-statement l = 16 * l.room
 
-abbrev pub decreases-some_statement : goal.decreases-some_statement
-decreases-some_statement l = 16 * l.room + 15
+abbrev pub decreases-any_statement : goal.decreases-any_statement
+decreases-any_statement l = 16 * l.room + 15
 
 abbrev pub decreases-block : goal.decreases-block
 decreases-block l = 16 * l.room + 8
@@ -37,12 +38,6 @@ decreases-if_statement l = 16 * l.room + 14
 abbrev pub decreases-else_part : goal.decreases-else_part
 decreases-else_part l = 16 * l.room + 13
 
-abbrev pub decreases-with_else : goal.decreases-with_else
-decreases-with_else l = 16 * l.room + 12
-
-abbrev pub decreases-else_body : goal.decreases-else_body
-decreases-else_body l = 16 * l.room + 11
-
 abbrev pub decreases-while_statement : goal.decreases-while_statement
 decreases-while_statement l = 16 * l.room + 1
 
@@ -54,7 +49,7 @@ decreases-for_statement l = 16 * l.room + 1
 
 abbrev pub invariant-all_parts-items : goal.invariant-all_parts-items
 invariant-all_parts-items l = record {
-  going : Parts (names_of l.names) (inside l.names l.turns) (read_statement (names_of l.names) (inside l.names l.turns) l.room) l.depth (read_parts (names_of l.names) (inside l.names l.turns) (read_statement (names_of l.names) (inside l.names l.turns) l.room) l.depth (list_of l.initial.tokens.rest.now)) (map part_of l.all.items) (list_of l.tokens.rest.now);
+  going : Parts (names_of l.names) (expressions l.names) (within l.names l.room) l.depth (read_parts (names_of l.names) (expressions l.names) (within l.names l.room) l.depth (list_of l.initial.tokens.rest.now)) (map part_of l.all.items) (list_of l.tokens.rest.now);
   fewer : length l.tokens.rest.now ≤ length l.initial.tokens.rest.now;
 }
 
@@ -63,7 +58,7 @@ decreases-all_parts-items l = length l.tokens.rest.now
 
 abbrev pub invariant-groups-items : goal.invariant-groups-items
 invariant-groups-items l = record {
-  going : Gathering (names_of l.names) (inside l.names l.turns) (read_statement (names_of l.names) (inside l.names l.turns) l.room) l.depth (read_groups (names_of l.names) (inside l.names l.turns) (read_statement (names_of l.names) (inside l.names l.turns) l.room) l.depth (list_of l.fn.tokens.rest.now)) (grouping_of l.gathered) (list_of l.tokens.rest.now);
+  going : Gathering (names_of l.names) (expressions l.names) (within l.names l.room) l.depth (read_groups (names_of l.names) (expressions l.names) (within l.names l.room) l.depth (list_of l.fn.tokens.rest.now)) (grouping_of l.gathered) (list_of l.tokens.rest.now);
   fewer : length l.tokens.rest.now < length l.fn.tokens.rest.now;
 }
 
