@@ -1,2 +1,3 @@
 pub mod Words
-pub mod MoreLocals
+pub mod Listed
+pub mod Ends

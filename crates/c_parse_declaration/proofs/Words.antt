@@ -3,7 +3,7 @@ use Rattle.std.proofs.Common.{◌≡◌, ℕ, ◌<◌, Bool, true, false, ◌||�
 use Rattle.std.specs.Prelude.{option_map, unwrap_or}
 use Rattle.std.specs.Option.{is_some}
 use Rattle.c_spec.specs.declared.token.Keyword.{Keyword}
-use Rattle.c_spec.specs.Lexical.{Placed, Token}
+use Rattle.c_spec.specs.Lexical.{Placed}
 use Rattle.c_tree_spec.specs.Expression as tree
 use Rattle.c_grammar_spec.specs.declared.Role.{Role}
 use Rattle.c_grammar_spec.specs.declared.Role.TheVariants.{Nothing}
@@ -17,8 +17,8 @@ use Rattle.c_expression_reader.specs.Readers.{token, next_is}
 use Rattle.c_expression_reader.specs.Types.{no_storage}
 use Rattle.c_type_reader.specs.Specified.{read_around}
 use Rattle.c_declaration_reader.specs.Around.{LocalWord, LocalConst, LocalStatic, ItemWord, ItemConst, ItemTypedef, ItemExtern, ItemStatic, ItemInline, local_word, item_word, with_local, with_item, word_of, is_word, word_at, storage_of}
-use Rattle.c_parse_word.specs.Words.{first_of, first_with}
-use Rattle.c_parse_word.proofs.Steps.{begins-next}
+use Rattle.c_parse_token.specs.Words.{first_with}
+use Rattle.c_parse_token.proofs.Steps.{begins-next}
 use Rattle.c_parse_declaration.specs.declared.around.Position.{Position}
 use Rattle.c_parse_declaration.specs.declared.around.Position.TheVariants.{Local, Item}
 use Rattle.c_parse_declaration.specs.Words.{next_says, summary, read_words}

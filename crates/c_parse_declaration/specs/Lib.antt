@@ -1,2 +1,4 @@
 pub mod Words
+pub mod Arguments
 pub mod Locals
+pub mod Globals

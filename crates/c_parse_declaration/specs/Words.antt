@@ -10,7 +10,7 @@ use Rattle.c_expression_reader.specs.Readers.{Readers}
 use Rattle.c_expression_reader.specs.Types.{no_storage}
 use Rattle.c_type_reader.specs.Specified.{read_around}
 use Rattle.c_declaration_reader.specs.Around as around
-use Rattle.c_parse_word.specs.Words.{first_of}
+use Rattle.c_parse_token.specs.Words.{first_of}
 use Rattle.c_parse_declaration.specs.declared.around.Position.{Position}
 use Rattle.c_parse_declaration.specs.declared.around.Position.TheVariants.{Local, Item}
 

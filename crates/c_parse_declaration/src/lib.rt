@@ -1,15 +1,21 @@
-//! Readers of declarations of locals, and of the specifiers of locals and of items (ISO C11, 6.7).
+//! Parsers of values, expression statements, declarations, parameters and declarators (ISO C11, 6.5.16, 6.7, 6.9).
 //!
-//! The main call is [`declaration`], which reads exactly the declarations of locals of the grammar. Each other reader
-//! takes its tokens off [`Tokens`](c_parse_token::Tokens) and gives exactly what the reader on lists gives that its
-//! clauses name, of `specs/Around.antt` and `specs/Declarations.antt` of `c_declaration_reader`. What stands inside, an
-//! expression or a declaration of members, is read by an [`Inside`](c_parse_inside::Inside).
+//! The main calls are [`simple`], [`locals`] and [`global`]. Each parser takes its tokens off
+//! [`Tokens`](c_parse_token::Tokens), and gives exactly what the reference parser gives that its contract names, of
+//! `specs/Values.antt`, `specs/Declarations.antt` and `specs/Around.antt` of `c_declaration_reader` and of
+//! `specs/Parameters.antt` of `c_global_reader`.
 #![tactic(auto)]
 
 mod around;
+mod calls;
+mod class;
+mod declarator;
 mod declared;
-mod entry;
+mod parameter;
+mod statement;
 
-pub use around::{item_specifiers, local_specifiers};
+pub use around::item_specifiers;
+pub use calls::value;
+pub use declarator::global;
 pub use declared::{locals, starts_locals};
-pub use entry::declaration;
+pub use statement::simple;

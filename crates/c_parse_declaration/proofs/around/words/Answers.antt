@@ -1,9 +1,8 @@
 use Rattle.std.proofs.Common.{◌≡◌, ◌<◌, length, drop, Ok, Some, arith, subst, sym}
 use Rattle.std.specs.Prelude.{unwrap_or}
-use Rattle.c_grammar_spec.specs.Expressions.{both}
 use Rattle.c_syntax.specs.Names.{storage_of}
 use Rattle.c_parse_token.specs.Lists.{list_of}
-use Rattle.c_parse_word.proofs.Steps.{fewer}
+use Rattle.c_parse_token.proofs.Steps.{fewer}
 use Rattle.c_parse_declaration.specs.Words.{read_words}
 use Rattle.c_parse_declaration.proofs.Words.{Words, words-start, words-step, words-end}
 use Rattle.c_parse_declaration.proofs.around.words.Goals as goal

@@ -1,65 +1,49 @@
-use Rattle.std.proofs.Common.{◌≡◌, ◌<◌, ◌++◌, ◌∷◌, [], length, map, arith, subst, sym, ◌∙◌, ap}
-use Rattle.std.proofs.lemmas.List.{map-append}
-use Rattle.c_unit_syntax.specs.Locals.{local_of}
+use Rattle.std.proofs.Common.{◌<◌, length, map, arith, ap, sym, ◌∙◌}
+use Rattle.c_spec.specs.declared.token.Punctuator.TheVariants.{Semicolon}
+use Rattle.c_declaration_reader.specs.Declarations.{read_list_from, read_local, end_of_local}
+use Rattle.c_syntax.specs.Locals.{local_of}
+use Rattle.exact_read.specs.Grammar.{read_nothing}
+use Rattle.c_syntax.specs.Expressions.{unboxed}
 use Rattle.c_parse_token.specs.Lists.{list_of, names_of}
-use Rattle.c_parse_word.proofs.Steps.{fewer}
-use Rattle.c_parse_steps.specs.Inside.{inside}
-use Rattle.c_parse_declaration.specs.Locals.{read_more_locals}
-use Rattle.c_parse_inside.proofs.Errors.{passed}
-use Rattle.c_parse_declaration.proofs.MoreLocals.{Locals, locals-start, locals-step, locals-error, locals-end, locals-unclosed, next-found, next-comma_error, next-local_error}
+use Rattle.c_parse_token.proofs.Steps.{fewer}
+use Rattle.c_parse_expression.specs.Whole.{expressions}
+use Rattle.c_parse_declaration.proofs.Listed.{listed, listed-start, listing-more, listing-item_error, listing-unclosed, listing-end, pushed, first-pushed, passed}
 use Rattle.c_parse_declaration.proofs.declared.more_locals.Goals as goal
 
 pub items-init : goal.items-init
-items-init g c = record {
-  going = locals-start (names_of c.args.inner.now.names.now) (inside c.args.inner.now.names.now c.args.inner.now.turns) c.args.depth (map local_of c.args.read.items) c.args.end (list_of c.args.tokens.now.rest.now);
+items-init c = record {
+  going = listed-start end_of_local Semicolon (read_local (names_of c.args.names.now) (expressions c.args.names.now) c.args.depth) (local_of c.args.first.value) (map local_of (unboxed c.push.new.self)) c.end_of_local-end.result (list_of c.args.tokens.now.rest.now) (first-pushed local_of _ _ c.args.first c.in_ok-push.ensures.items c.requires.empty) (c.end_of_local-end.ensures ∙ ap (λ x. end_of_local (local_of x)) c.deref.ensures);
   fewer = omega arith;
 }
 
 pub items-preserved : goal.items-preserved
-items-preserved g c =
-    let names = names_of c.args.inner.now.names.now in
-    let inner = inside c.args.inner.now.names.now c.args.inner.now.turns in
-    let whole = read_more_locals names inner c.args.depth (map local_of c.args.read.items) c.args.end (list_of c.args.tokens.now.rest.now) in
-    let read = map local_of c.items.locals.items in
-    let x = local_of c.in_ok-next.next in
-    let tokens = list_of c.items.tokens.rest.now in
+items-preserved c =
+    let item = read_local (names_of c.args.names.now) (expressions c.args.names.now) c.args.depth in
+    let whole = read_list_from end_of_local Semicolon (read_nothing (local_of c.args.first.value)) item (list_of c.args.tokens.now.rest.now) in
+    let middle = list_of c.mark.new.self.rest.now in
     let rest = c.local.new.tokens.rest.now in
-    let found = next-found names inner c.args.depth c.items.end _ x tokens (list_of c.mark.new.self.rest.now) (list_of rest) c.in_ok-mark.ensures.found c.in_ok-next.ensures.found in
     let less : length rest < length c.items.tokens.rest.now = omega (arith, c.in_ok-mark.ensures.shorter, c.in_ok-next.ensures.shorter) in
-    let items : map local_of c.push.new.self.items ≡ read ++ x ∷ [] = ap (map local_of) c.in_ok-push.ensures.items ∙ map-append local_of c.items.locals.items (c.in_ok-next.next ∷ []) in
-    let step = locals-step names inner c.args.depth whole read c.items.end x tokens (list_of rest) c.items.invariant.going (sym c.next_is.ensures ∙ c.items-test.true) found (fewer rest c.items.tokens.rest.now less) in
     record {
-      going = subst (λ all. Locals names inner c.args.depth whole all c.end_of_local-end.result (list_of rest)) (sym items)
-          (subst (λ end. Locals names inner c.args.depth whole (read ++ x ∷ []) end (list_of rest)) (sym c.end_of_local-end.ensures) step);
+      going = listing-more (listed end_of_local Semicolon item) whole (map local_of (unboxed c.items.locals)) (map local_of (unboxed c.push-in-items.new.self)) c.items.end c.end_of_local-end-in-items.result (local_of c.in_ok-next.next.value) _ (list_of c.items.tokens.rest.now) middle (list_of rest) (pushed local_of c.items.locals.items _ c.in_ok-next.next c.in_ok-push-2.ensures.items) (c.end_of_local-end-in-items.ensures ∙ ap (λ x. end_of_local (local_of x)) c.deref-in-items.ensures) c.items.invariant.going (sym c.next_is.ensures ∙ c.items-test.true) c.in_ok-mark.ensures.gives c.in_ok-next.ensures.gives (fewer rest c.items.tokens.rest.now less);
       fewer = omega (arith, less, c.items.invariant.fewer);
     }
 
-pub returns-in_err-mark-clause-fault : goal.returns-in_err-mark-clause-fault
-returns-in_err-mark-clause-fault g c =
-    let names = names_of c.args.inner.now.names.now in
-    let inner = inside c.args.inner.now.names.now c.args.inner.now.turns in
-    let whole = read_more_locals names inner c.args.depth (map local_of c.args.read.items) c.args.end (list_of c.args.tokens.now.rest.now) in
-    passed _ _ c.in_err-mark.field-0.0 c.from_residual.ensures.1 (locals-error names inner c.args.depth whole (map local_of c.items.locals.items) c.items.end (list_of c.items.tokens.rest.now) c.in_err-mark.field-0.0 c.items.invariant.going (sym c.next_is.ensures ∙ c.items-test.true)
-    (next-comma_error names inner c.args.depth c.items.end c.in_err-mark.field-0.0 (list_of c.items.tokens.rest.now) c.in_err-mark.ensures.fault))
+pub returns-in_err-next-clause-gives : goal.returns-in_err-next-clause-gives
+returns-in_err-next-clause-gives c =
+    let item = read_local (names_of c.args.names.now) (expressions c.args.names.now) c.args.depth in
+    let whole = read_list_from end_of_local Semicolon (read_nothing (local_of c.args.first.value)) item (list_of c.args.tokens.now.rest.now) in
+    passed whole _ _ _ c.in_err-next.field-0.0 c.from_residual-in_err-next.ensures.1
+    (listing-item_error (listed end_of_local Semicolon item) whole (map local_of (unboxed c.items.locals)) c.items.end _ (list_of c.items.tokens.rest.now) (list_of c.mark.new.self.rest.now) _ c.in_err-next.field-0.0 c.items.invariant.going (sym c.next_is.ensures ∙ c.items-test.true) c.in_ok-mark.ensures.gives c.in_err-next.ensures.gives)
 
-pub returns-in_err-next-clause-fault : goal.returns-in_err-next-clause-fault
-returns-in_err-next-clause-fault g c =
-    let names = names_of c.args.inner.now.names.now in
-    let inner = inside c.args.inner.now.names.now c.args.inner.now.turns in
-    let whole = read_more_locals names inner c.args.depth (map local_of c.args.read.items) c.args.end (list_of c.args.tokens.now.rest.now) in
-    passed _ _ c.in_err-next.field-0.0 c.from_residual-in_err-next.ensures.1 (locals-error names inner c.args.depth whole (map local_of c.items.locals.items) c.items.end (list_of c.items.tokens.rest.now) c.in_err-next.field-0.0 c.items.invariant.going (sym c.next_is.ensures ∙ c.items-test.true)
-    (next-local_error names inner c.args.depth c.items.end _ c.in_err-next.field-0.0 (list_of c.items.tokens.rest.now) (list_of c.mark.new.self.rest.now) c.in_ok-mark.ensures.found c.in_err-next.ensures.fault))
+pub returns-in_err-mark-2-clause-gives : goal.returns-in_err-mark-2-clause-gives
+returns-in_err-mark-2-clause-gives c =
+    let item = read_local (names_of c.args.names.now) (expressions c.args.names.now) c.args.depth in
+    let whole = read_list_from end_of_local Semicolon (read_nothing (local_of c.args.first.value)) item (list_of c.args.tokens.now.rest.now) in
+    passed whole _ _ _ c.in_err-mark-2.field-0.0 c.from_residual-in_err-mark-2.ensures.1
+    (listing-unclosed (listed end_of_local Semicolon item) whole (map local_of (unboxed c.items.locals)) c.items.end (list_of c.items.tokens.rest.now) _ c.in_err-mark-2.field-0.0 c.items.invariant.going (sym c.next_is.ensures ∙ c.items-test.false) c.in_err-mark-2.ensures.gives)
 
-pub returns-in_err-mark-2-clause-fault : goal.returns-in_err-mark-2-clause-fault
-returns-in_err-mark-2-clause-fault g c =
-    let names = names_of c.args.inner.now.names.now in
-    let inner = inside c.args.inner.now.names.now c.args.inner.now.turns in
-    let whole = read_more_locals names inner c.args.depth (map local_of c.args.read.items) c.args.end (list_of c.args.tokens.now.rest.now) in
-    passed _ _ c.in_err-mark-2.field-0.0 c.from_residual-in_err-mark-2.ensures.1 (locals-unclosed names inner c.args.depth whole (map local_of c.items.locals.items) c.items.end (list_of c.items.tokens.rest.now) c.in_err-mark-2.field-0.0 c.items.invariant.going (sym c.next_is.ensures ∙ c.items-test.false) c.in_err-mark-2.ensures.fault)
-
-pub returns-clause-found : goal.returns-clause-found
-returns-clause-found g c =
-    let names = names_of c.args.inner.now.names.now in
-    let inner = inside c.args.inner.now.names.now c.args.inner.now.turns in
-    let whole = read_more_locals names inner c.args.depth (map local_of c.args.read.items) c.args.end (list_of c.args.tokens.now.rest.now) in
-    locals-end names inner c.args.depth _ whole (map local_of c.items.locals.items) c.items.end (list_of c.items.tokens.rest.now) (list_of c.mark-2.new.self.rest.now) c.items.invariant.going (sym c.next_is.ensures ∙ c.items-test.false) c.in_ok-mark-2.ensures.found
+pub returns-clause-gives : goal.returns-clause-gives
+returns-clause-gives c =
+    let item = read_local (names_of c.args.names.now) (expressions c.args.names.now) c.args.depth in
+    let whole = read_list_from end_of_local Semicolon (read_nothing (local_of c.args.first.value)) item (list_of c.args.tokens.now.rest.now) in
+    listing-end (listed end_of_local Semicolon item) whole (map local_of (unboxed c.items.locals)) c.items.end _ (list_of c.items.tokens.rest.now) (list_of c.mark-2.new.self.rest.now) c.items.invariant.going (sym c.next_is.ensures ∙ c.items-test.false) c.in_ok-mark-2.ensures.gives

@@ -1,16 +1,19 @@
 use Rattle.std.proofs.Common.{◌≤◌, length, map}
-use Rattle.c_unit_syntax.specs.Locals.{local_of}
+use Rattle.c_spec.specs.declared.token.Punctuator.TheVariants.{Semicolon}
+use Rattle.exact_read.specs.Grammar.{read_nothing}
+use Rattle.c_declaration_reader.specs.Declarations.{read_list_from, read_local, end_of_local}
+use Rattle.c_syntax.specs.Expressions.{unboxed}
+use Rattle.c_syntax.specs.Locals.{local_of}
 use Rattle.c_parse_token.specs.Lists.{list_of, names_of}
-use Rattle.c_parse_steps.specs.Inside.{inside}
-use Rattle.c_parse_declaration.specs.Locals.{read_more_locals}
-use Rattle.c_parse_declaration.proofs.MoreLocals.{Locals}
+use Rattle.c_parse_expression.specs.Whole.{expressions}
+use Rattle.c_parse_declaration.proofs.Listed.{Listing, listed}
 use Rattle.c_parse_declaration.proofs.declared.more_locals.Given as goal
 
 abbrev pub invariant-items : goal.invariant-items
-invariant-items g l = record {
-  going : Locals (names_of l.inner.names.now) (inside l.inner.names.now l.inner.turns) l.depth (read_more_locals (names_of l.inner.names.now) (inside l.inner.names.now l.inner.turns) l.depth (map local_of l.fn.read.items) l.fn.end (list_of l.initial.tokens.rest.now)) (map local_of l.locals.items) l.end (list_of l.tokens.rest.now);
+invariant-items l = record {
+  going : Listing (listed end_of_local Semicolon (read_local (names_of l.names) (expressions l.names) l.depth)) (read_list_from end_of_local Semicolon (read_nothing (local_of l.fn.first.value)) (read_local (names_of l.names) (expressions l.names) l.depth) (list_of l.initial.tokens.rest.now)) (map local_of (unboxed l.locals)) l.end (list_of l.tokens.rest.now);
   fewer : length l.tokens.rest.now ≤ length l.initial.tokens.rest.now;
 }
 
 abbrev pub decreases-items : goal.decreases-items
-decreases-items g l = length l.tokens.rest.now
+decreases-items l = length l.tokens.rest.now
