@@ -1,0 +1,97 @@
+//! What a machine does: `machine WORD.. x1=V x2=V .. STEP..`. The words lie at 00010000, where the machine begins; registers
+//! without a value are 0. A step is `step`, `run=N@STOP` (in hexadecimal), `x7` or `pc` (its value), `at=A` (the byte
+//! there), or `all`: pc, the registers from x1 on, and a sum over the 4,096 bytes from 00040000 on.
+
+use crate::numbers::{decimal, hexadecimal};
+use crate::out::Out;
+use rv_instr::{Reg, StoreKind};
+use rv_machine::{Machine, Memory, run, step};
+use std::alloc::{AllocError, Global};
+
+fn x(text: &str) -> Reg {
+    Reg::new((decimal(text) & 31) as u8)
+}
+
+fn is_word(text: &str) -> bool {
+    text.len() == 8 && !text.contains('=')
+}
+
+/// A machine with the words of a row.
+fn loaded(alloc: Global, row: &str) -> Result<Machine, AllocError> {
+    let mut memory = Memory::new(alloc);
+    let mut at: u32 = 0x1_0000;
+    for word in row.split_whitespace() {
+        if is_word(word) {
+            memory.store(StoreKind::Word, at, hexadecimal(word))?;
+            at = at.wrapping_add(4);
+        }
+    }
+    Ok(Machine::new(0x1_0000, memory))
+}
+
+fn put_value(value: u32, out: &mut Out) {
+    out.put(" ");
+    out.word(value);
+}
+
+fn put_all(machine: &Machine, out: &mut Out) {
+    put_value(machine.pc(), out);
+    for number in 1u8..32 {
+        put_value(machine.register(Reg::new(number % 32)), out);
+    }
+    let mut sum: u32 = 0;
+    for place in 0u32..4096 {
+        let byte = machine.memory().byte(place.wrapping_add(0x4_0000));
+        sum = sum.wrapping_mul(31).wrapping_add(u32::from(byte));
+    }
+    put_value(sum, out);
+}
+
+/// A run of so many steps at most, up to an address.
+fn put_ran(machine: &mut Machine, value: &str, out: &mut Out) -> Result<(), AllocError> {
+    let (limit, stop) = value.split_once('@').unwrap_or((value, ""));
+    let ran = run(machine, hexadecimal(stop), u64::from(hexadecimal(limit)))?;
+    out.put(" ");
+    out.show(&ran);
+    Ok(())
+}
+
+/// What a step of a row with a value does.
+fn set(machine: &mut Machine, name: &str, value: &str, out: &mut Out) -> Result<(), AllocError> {
+    match name {
+        "run" => put_ran(machine, value, out)?,
+        "at" => {
+            out.put(" ");
+            out.hexadecimal(u32::from(machine.memory().byte(hexadecimal(value))));
+        }
+        _ => machine.set_register(x(name), hexadecimal(value)),
+    }
+    Ok(())
+}
+
+/// What a step of a row without a value does.
+fn ask(machine: &mut Machine, name: &str, out: &mut Out) -> Result<(), AllocError> {
+    match name {
+        "step" => {
+            let stepped = step(machine)?;
+            out.show(&stepped);
+        }
+        "pc" => put_value(machine.pc(), out),
+        "all" => put_all(machine, out),
+        _ => put_value(machine.register(x(name)), out),
+    }
+    Ok(())
+}
+
+/// The outcome of a row.
+pub(crate) fn put_machine(alloc: Global, row: &str, out: &mut Out) -> Result<(), AllocError> {
+    let mut machine = loaded(alloc, row)?;
+    for word in row.split_whitespace() {
+        match word.split_once('=') {
+            Some((name, value)) => set(&mut machine, name, value, out)?,
+            None if is_word(word) => {}
+            None => ask(&mut machine, word, out)?,
+        }
+    }
+    Ok(())
+}

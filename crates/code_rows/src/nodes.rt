@@ -1,0 +1,165 @@
+//! Whether a graph is valid: `nodes ENTRY WORD..`. The words are read in order, over a stack of terms: a number of 32 bits,
+//! `parameter`, `local` and `truth` go onto it; `add`, `multiply`, `less` and `equal` take two terms off it and put one on it. A node
+//! takes its terms off the stack: `to=N` goes on, `set=N` sets the local and goes on, `test=N,N` tests, and `call=G,N` calls graph
+//! G with the parameter and goes on behind its landing node. N is the number of a node, `ret` or `err`.
+
+use crate::numbers::decimal;
+use crate::out::Out;
+use graph_core::{Binding, Graph, Next, Node, validate};
+use std::alloc::{AllocError, Global};
+use term_core::Term;
+use term_spec::{Atom, BinaryOperator, Family, Sort, Variable, Width, WordOperator};
+
+const fn variable(family: Family) -> Variable {
+    Variable {
+        family,
+        index: 0,
+        instance: 0,
+        sort: Sort::Word(Width::W32),
+    }
+}
+
+fn next(text: &str) -> Next {
+    match text {
+        "ret" => Next::Ret,
+        "err" => Next::Err,
+        _ => Next::At(decimal(text)),
+    }
+}
+
+fn operator(word: &str) -> Option<BinaryOperator> {
+    match word {
+        "add" => Some(BinaryOperator::Word(WordOperator::Add)),
+        "multiply" => Some(BinaryOperator::Word(WordOperator::Multiply)),
+        "less" => Some(BinaryOperator::Less),
+        "equal" => Some(BinaryOperator::Equal),
+        _ => None,
+    }
+}
+
+fn atom(word: &str) -> Atom {
+    match word {
+        "parameter" => Atom::Open(variable(Family::Parameter)),
+        "local" => Atom::Open(variable(Family::Local)),
+        "truth" => Atom::Truth(true),
+        _ => Atom::Constant(Width::W32, decimal(word) as u64),
+    }
+}
+
+/// The last term, taken off; an untrue one where there is none.
+fn popped(alloc: Global, stack: &mut Vec<Box<Term>>) -> Result<Box<Term>, AllocError> {
+    match stack.pop() {
+        Some(term) => Ok(term),
+        None => Ok(Box::new(alloc, Term::Leaf(Atom::Truth(false)))?),
+    }
+}
+
+/// The last two terms, put together.
+fn combine(
+    alloc: Global,
+    operator: BinaryOperator,
+    stack: &mut Vec<Box<Term>>,
+) -> Result<(), AllocError> {
+    let second = popped(alloc, stack)?;
+    let first = popped(alloc, stack)?;
+    Ok(stack.push(Box::new(alloc, Term::Binary(operator, first, second))?)?)
+}
+
+/// The last term is bound.
+fn bound(
+    alloc: Global,
+    family: Family,
+    stack: &mut Vec<Box<Term>>,
+) -> Result<Vec<Binding>, AllocError> {
+    let mut bindings = Vec::new(alloc);
+    let term = Box::into_inner(popped(alloc, stack)?);
+    bindings.push(Binding {
+        variable: variable(family),
+        term,
+    })?;
+    Ok(bindings)
+}
+
+fn add_call(
+    alloc: Global,
+    value: &str,
+    stack: &mut Vec<Box<Term>>,
+    graph: &mut Graph,
+) -> Result<usize, AllocError> {
+    let (callee, then) = value.split_once(',').unwrap_or((value, ""));
+    let inputs = bound(alloc, Family::Parameter, stack)?;
+    stack.push(Box::new(alloc, Term::Leaf(atom("local")))?)?;
+    let outputs = bound(alloc, Family::Local, stack)?;
+    graph.add_call(alloc, decimal(callee), inputs, outputs, next(then))
+}
+
+fn add_test(
+    alloc: Global,
+    value: &str,
+    stack: &mut Vec<Box<Term>>,
+    graph: &mut Graph,
+) -> Result<usize, AllocError> {
+    let (on_true, on_false) = value.split_once(',').unwrap_or((value, ""));
+    graph.add(Node::Cond {
+        test: Box::into_inner(popped(alloc, stack)?),
+        on_true: next(on_true),
+        on_false: next(on_false),
+    })
+}
+
+fn add_node(
+    alloc: Global,
+    kind: &str,
+    value: &str,
+    stack: &mut Vec<Box<Term>>,
+    graph: &mut Graph,
+) -> Result<usize, AllocError> {
+    match kind {
+        "set" => {
+            let bindings = bound(alloc, Family::Local, stack)?;
+            graph.add(Node::Basic {
+                bindings,
+                next: next(value),
+            })
+        }
+        "test" => add_test(alloc, value, stack, graph),
+        "call" => add_call(alloc, value, stack, graph),
+        _ => graph.add(Node::Basic {
+            bindings: Vec::new(alloc),
+            next: next(value),
+        }),
+    }
+}
+
+/// The nodes of a row.
+fn add_nodes(
+    alloc: Global,
+    row: &str,
+    stack: &mut Vec<Box<Term>>,
+    graph: &mut Graph,
+) -> Result<(), AllocError> {
+    for word in row.split_whitespace() {
+        if let Some((kind, value)) = word.split_once('=') {
+            add_node(alloc, kind, value, stack, graph)?;
+        } else if let Some(operator) = operator(word) {
+            combine(alloc, operator, stack)?;
+        } else {
+            stack.push(Box::new(alloc, Term::Leaf(atom(word)))?)?;
+        }
+    }
+    Ok(())
+}
+
+/// The outcome of a row.
+pub(crate) fn put_nodes(alloc: Global, row: &str, out: &mut Out) -> Result<(), AllocError> {
+    let (entry, rest) = row.split_once(' ').unwrap_or((row, ""));
+    let mut stack = Vec::new(alloc);
+    let mut graph = Graph::new(alloc);
+    graph.entry = decimal(entry);
+    add_nodes(alloc, rest, &mut stack, &mut graph)?;
+    out.put("valid ");
+    out.show(&validate(&graph));
+    out.put(" nodes ");
+    out.show(&graph.nodes.len());
+    Ok(())
+}

@@ -1,0 +1,140 @@
+//! Graphs as text: a line for each node, its number, the address if it is the first of an instruction, and what it does.
+
+use crate::out::Out;
+use code_graph::CodeGraph;
+use graph_core::{Binding, Next, Node};
+use term_core::Term;
+use term_spec::{Atom, BinaryOperator, Family, Variable};
+
+fn put_variable(variable: Variable, out: &mut Out) {
+    out.put(match variable.family {
+        Family::Register => " x",
+        Family::Entry => " e",
+        Family::BinaryMemory => return out.put(" m"),
+        _ => " ?",
+    });
+    out.show(&variable.index);
+}
+
+fn put_atom(atom: Atom, out: &mut Out) {
+    match atom {
+        Atom::Open(variable) => put_variable(variable, out),
+        Atom::Constant(_, number) => {
+            out.put(" ");
+            out.hexadecimal((number & 0xffff_ffff) as u32);
+        }
+        Atom::Truth(truth) => out.put(if truth { " true" } else { " false" }),
+    }
+}
+
+/// An operator of two arguments: that of words by its own name.
+fn put_operator(operator: BinaryOperator, out: &mut Out) {
+    match operator {
+        BinaryOperator::Word(word) => out.show(&word),
+        _ => out.show(&operator),
+    }
+}
+
+/// A term behind a blank: an operator and its arguments in brackets.
+fn put_term(term: &Term, out: &mut Out) {
+    match term {
+        Term::Leaf(atom) => return put_atom(*atom, out),
+        Term::Unary(operator, a) => {
+            out.put(" (");
+            out.show(operator);
+            put_term(a, out);
+        }
+        Term::Binary(operator, a, b) => {
+            out.put(" (");
+            put_operator(*operator, out);
+            put_term(a, out);
+            put_term(b, out);
+        }
+        Term::Ternary(operator, a, b, c) => {
+            out.put(" (");
+            out.show(operator);
+            put_term(a, out);
+            put_term(b, out);
+            put_term(c, out);
+        }
+        Term::Quaternary(operator, a, b, c, d) => {
+            out.put(" (");
+            out.show(operator);
+            put_term(a, out);
+            put_term(b, out);
+            put_term(c, out);
+            put_term(d, out);
+        }
+        Term::Octonary(..) => out.put(" (?"),
+    }
+    out.put(")");
+}
+
+fn put_bindings(bindings: &[Binding], out: &mut Out) {
+    for binding in bindings {
+        put_variable(binding.variable, out);
+        out.put(" =");
+        put_term(&binding.term, out);
+        out.put(";");
+    }
+}
+
+fn put_next(next: Next, out: &mut Out) {
+    match next {
+        Next::At(number) => {
+            out.put(" ");
+            out.show(&number);
+        }
+        Next::Ret => out.put(" Ret"),
+        Next::Err => out.put(" Err"),
+    }
+}
+
+fn put_node(node: &Node, out: &mut Out) {
+    match node {
+        Node::Basic { bindings, next } => {
+            put_bindings(bindings.as_slice(), out);
+            put_next(*next, out);
+        }
+        Node::Cond {
+            test,
+            on_true,
+            on_false,
+        } => {
+            put_term(test, out);
+            out.put("?");
+            put_next(*on_true, out);
+            out.put(" :");
+            put_next(*on_false, out);
+        }
+        Node::Call {
+            callee,
+            inputs,
+            outputs,
+            landing,
+        } => {
+            put_bindings(inputs.as_slice(), out);
+            out.put(" graph ");
+            out.show(callee);
+            out.put(";");
+            put_bindings(outputs.as_slice(), out);
+            put_next(Next::At(*landing), out);
+        }
+    }
+}
+
+/// The graph of a function.
+pub(crate) fn put_graph(found: &CodeGraph, out: &mut Out) {
+    for (number, node) in found.graph.nodes.iter().enumerate() {
+        out.show(&number);
+        for (address, first) in &found.firsts {
+            if *first == number {
+                out.put(" at ");
+                out.hexadecimal(*address);
+            }
+        }
+        out.put(":");
+        put_node(node, out);
+        out.put("\n");
+    }
+}

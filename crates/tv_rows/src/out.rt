@@ -1,0 +1,55 @@
+//! What a row writes.
+
+use std::alloc::{AllocError, Global};
+use std::fmt::Debug;
+
+/// A text that grows, up to a want of memory.
+#[derive(Drop)]
+pub(crate) struct Out {
+    text: String,
+    failed: bool,
+}
+
+impl Out {
+    pub(crate) fn new(alloc: Global) -> Out {
+        Out {
+            text: String::new(alloc),
+            failed: false,
+        }
+    }
+
+    pub(crate) fn put(&mut self, text: &str) {
+        if self.text.push_str(text).is_err() {
+            self.failed = true;
+        }
+    }
+
+    /// The name of a variant, or a number in decimal.
+    pub(crate) fn show<T: Debug>(&mut self, value: &T) {
+        if write!(self.text, "{value:?}").is_err() {
+            self.failed = true;
+        }
+    }
+
+    /// These bytes, a `|` for each line feed.
+    pub(crate) fn bytes(&mut self, bytes: &[u8]) {
+        for byte in bytes {
+            let shown = if *byte == b'\n' {
+                '|'
+            } else {
+                char::from(*byte)
+            };
+            if self.text.push(shown).is_err() {
+                self.failed = true;
+            }
+        }
+    }
+
+    /// All that was written.
+    pub(crate) fn text(&self) -> Result<&str, AllocError> {
+        if self.failed {
+            return Err(AllocError);
+        }
+        Ok(self.text.as_str())
+    }
+}
