@@ -3,8 +3,14 @@ use Rattle.std.specs.Prelude.{nat_eq}
 use Rattle.indexmap.specs.IndexMap.{get}
 use Rattle.indexmap.proofs.CallerLemmas.{Contains-list_any}
 use Rattle.decompile.specs.declared.stacks.Task.TheVariants.{Enter, Leave}
-use Rattle.decompile.proofs.Search.{IsSearch, popped, entered-reverse, task-sized, search-skip, search-enter, search-leave, search-cycle, known-some, unknown, fewer, not-contained, smaller, length-entered}
-use Rattle.decompile.proofs.stacks.depth.Goals as goal
+use Rattle.decompile.proofs.Search.{IsSearch, popped, entered-reverse, task-sized, search-start, search-skip, search-enter, search-leave, search-cycle, known-some, unknown, fewer, not-contained, smaller, length-entered}
+use Rattle.decompile.proofs.stacks.explore.Goals as goal
+
+pub loop-task-init : goal.loop-task-init
+loop-task-init c =
+    subst (IsSearch c.args.image.now c.args.entry (get nat_eq c.args.known.now) c.args.entered.now.keys)
+    (sym (ap reverse (c.in_ok-push.ensures.items ∙ ap (λ l. l ++ Enter c.args.entry ∷ []) c.requires.fresh.idle)))
+    (search-start c.args.image.now c.args.entry (get nat_eq c.args.known.now) c.args.entered.now.keys c.requires.fresh.unentered c.requires.fresh.nothing)
 
 pub total-requires : goal.total-requires
 total-requires c =

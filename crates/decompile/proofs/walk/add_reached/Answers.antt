@@ -4,13 +4,13 @@ use Rattle.code_spec.specs.Faults.{IsDirectlyReachable, here}
 use Rattle.decompile.specs.Growth.{Grows, LeadsTo}
 use Rattle.decompile.proofs.Walks.{walked-start, walked-next}
 use Rattle.decompile.proofs.Places.{place-walked, step-path, walked-reaches}
-use Rattle.decompile.proofs.walk.all_reached.Goals as goal
+use Rattle.decompile.proofs.walk.add_reached.Goals as goal
 
 pub loop-next-init : goal.loop-next-init
 loop-next-init c =
     walked-start (LeadsTo c.args.image.now c.args.entry c.args.size) (IsDirectlyReachable c.args.image.now c.args.entry c.args.size) c.args.entry
-    c.add.new.items.keys (here c.requires)
-    (subst (λ l. Grows (λ t. t ≡ c.args.entry) l c.add.new.items.keys) c.new-reached.ensures.empty c.in_ok-add.ensures)
+    c.add.new.items.keys (here c.requires.code)
+    (subst (λ l. Grows (λ t. t ≡ c.args.entry) l c.add.new.items.keys) c.requires.none_yet c.in_ok-add.ensures)
 
 pub follow-requires-clause-from : goal.follow-requires-clause-from
 follow-requires-clause-from c =

@@ -1,6 +1,6 @@
 use Rattle.std.proofs.Common.{◌-◌, ◌^◌}
 use Rattle.decompile.proofs.Places.{IsWalkedFrom}
-use Rattle.decompile.proofs.walk.all_reached.Given as goal
+use Rattle.decompile.proofs.walk.add_reached.Given as goal
 
 abbrev pub invariant-loop-next : goal.invariant-loop-next
 invariant-loop-next l = IsWalkedFrom l.image l.entry l.size l.next l.reached.keys

@@ -2,7 +2,7 @@ use Rattle.std.proofs.Common.{◌+◌, ◌-◌, ◌*◌, ◌^◌, length, revers
 use Rattle.std.specs.Prelude.{nat_eq}
 use Rattle.indexmap.specs.IndexMap.{get}
 use Rattle.decompile.proofs.Search.{IsSearch}
-use Rattle.decompile.proofs.stacks.depth.Given as goal
+use Rattle.decompile.proofs.stacks.explore.Given as goal
 
 abbrev pub invariant-loop-task : goal.invariant-loop-task
 invariant-loop-task l = IsSearch l.image l.entry (get nat_eq l.known) l.entered.keys (reverse l.tasks.items)

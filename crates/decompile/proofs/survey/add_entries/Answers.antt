@@ -4,7 +4,7 @@ use Rattle.elf_spec.specs.Image.{size_at}
 use Rattle.code_spec.specs.Faults.{IsReachFault}
 use Rattle.decompile.specs.Surveys.{IsOverlap, IsFirstOf}
 use Rattle.decompile.proofs.Reached.{increasing, entries-moved, first-of-reach, found-reach}
-use Rattle.decompile.proofs.survey.found_entries.Goals as goal
+use Rattle.decompile.proofs.survey.add_entries.Goals as goal
 
 pub overlap_fault-overlap-requires-clause-rising : goal.overlap_fault-overlap-requires-clause-rising
 overlap_fault-overlap-requires-clause-rising c =
