@@ -1,6 +1,6 @@
 use Rattle.std.proofs.Common.{◌≡◌, take, bytes_eq}
 use Rattle.std.specs.List.{IsDistinct}
-use Rattle.tv_words.proofs.list.are_distinct.Given as goal
+use Rattle.tv_words.proofs.list.are_new.Given as goal
 
 -- the texts so far have been seen, in their order, and each once
 abbrev pub invariant-loop-text : goal.invariant-loop-text

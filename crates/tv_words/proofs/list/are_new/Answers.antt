@@ -1,7 +1,11 @@
-use Rattle.std.proofs.Common.{◌≡◌, ◌∙◌, true, false, refl, subst, List, [], Bor, take_all, get_or}
+use Rattle.std.proofs.Common.{◌≡◌, ◌∙◌, true, false, refl, sym, subst, List, [], Bor, take_all, get_or}
 use Rattle.std.specs.List.{IsDistinct}
 use Rattle.tv_words.proofs.Lists.{Text, distinct_texts, seen_twice, seen_by_answer, same_text}
-use Rattle.tv_words.proofs.list.are_distinct.Goals as goal
+use Rattle.tv_words.proofs.list.are_new.Goals as goal
+
+pub loop-text-init : goal.loop-text-init
+unfolding IsDistinct
+loop-text-init c = (c.requires, subst (λ (xs : List (Bor Text)). IsDistinct same_text xs) (sym c.requires) tt)
 
 pub returns-then-not-branch : goal.returns-then-not-branch
 returns-then-not-branch c = (
