@@ -1,6 +1,4 @@
-use Rattle.std.proofs.Common.{◌≡◌, subst, sym, arith, length, map}
-use Rattle.std.proofs.lemmas.List.{length-map}
-use Rattle.elf_read.specs.Values.{segment_of, symbol_of}
+use Rattle.std.proofs.Common.{subst, sym, arith}
 use Rattle.elf_make.specs.Parts.{image_of_parts, IsWritten}
 use Rattle.elf_make.proofs.Written.{written}
 use Rattle.elf_make.proofs.Steps.{file_written, kinds_of}
@@ -11,14 +9,11 @@ put_entries-requires-clause-kinds c = kinds_of c.args.parts.now.symbols.now c.re
 
 pub returns-clause-layout : goal.returns-clause-layout
 returns-clause-layout c =
-    let n : length (map segment_of c.args.parts.now.segments.now) ≡ length c.args.parts.now.segments.now = length-map c.args.parts.now.segments.now segment_of in
-    let m : length (map symbol_of c.args.parts.now.symbols.now) ≡ length c.args.parts.now.symbols.now = length-map c.args.parts.now.symbols.now symbol_of in
+    let at = c.requires.places in
     file_written _ _ _ _ _ _ _ _ _ _ _ _ _ _ _ _ _ _ _ _ c.requires.none_yet c.in_ok-put_header.ensures c.in_ok-put_programs.ensures.items
     c.in_ok-put_contents.ensures c.in_ok-put_zeros.ensures c.in_ok-put_entries.ensures.items c.in_ok-put_zeros-2.ensures c.in_ok-put_names.ensures
-    c.in_ok-put_zeros-3.ensures c.in_ok-put_sections.ensures (omega arith) (omega arith) (omega (arith, c.contents_length.ensures)) (omega arith)
-    (omega (arith, c.contents_length.ensures)) (omega (arith, c.names_length-strings_size.ensures))
-    (omega (arith, c.contents_length.ensures, c.names_length-strings_size.ensures))
-    (omega (arith, c.contents_length.ensures, c.names_length-strings_size.ensures))
+    c.in_ok-put_zeros-3.ensures c.in_ok-put_sections.ensures at.programs_are at.contents_are at.table_is at.table_size_is at.strings_are
+    at.strings_size_is at.padding_is at.sections_are
 
 pub returns-clause-written : goal.returns-clause-written
 returns-clause-written c =
