@@ -13,6 +13,15 @@ use Rattle.elf_make.specs.Parts.{IsNamed, IsSegmentOfWords, IsSymbolOfWords}
 front : {X : Type 0} (xs : List X) (i : ℕ) (d : X) → i < length xs → drop i xs ≡ get_or xs i d ∷ drop (i + 1) xs
 front xs i d h = drop-cons xs i d h ∙ ap (λ n. get_or xs i d ∷ drop n xs) (sym (add-one i))
 
+-- numbers, one after the other
+pub eight : (old a b c d e f g h : List ℕ)
+    → old ++ (a ++ (b ++ (c ++ (d ++ (e ++ (f ++ (g ++ (h ++ [])))))))) ≡ old ++ (a ++ b ++ c ++ d ++ e ++ f ++ g ++ h)
+eight old a b c d e f g h = simp (append_assoc, append-nil)
+
+pub ten : (old a b c d e f g h i j : List ℕ)
+    → old ++ (a ++ (b ++ (c ++ (d ++ (e ++ (f ++ (g ++ (h ++ (i ++ (j ++ [])))))))))) ≡ old ++ (a ++ b ++ c ++ d ++ e ++ f ++ g ++ h ++ i ++ j)
+ten old a b c d e f g h i j = simp (append_assoc, append-nil)
+
 -- what is written, and what is left
 pub record ProgramsLeft (out whole : List ℕ) (at end i : ℕ) (segments : List Segment) : Type 0 where
   pub room : at + length (layout.contents (map segment_of (drop i segments))) ≡ end
