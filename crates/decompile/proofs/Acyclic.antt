@@ -1,6 +1,6 @@
 -- Where a cycle of calls is reached there is no stack.
-use Rattle.std.proofs.Common.{◌≡◌, ◌⊎◌, ◌+◌, ℕ, refl, sym, subst, inl, inr}
-use Rattle.std.specs.Prelude.{Option, Some, None, Result, Ok, Err, IfOk, IfSome}
+use Rattle.std.proofs.Common.{◌≡◌, ◌⊎◌, ℕ, refl, subst, inl, inr}
+use Rattle.std.specs.Prelude.{Option, Some, None, IfSome}
 use Rattle.elf_spec.specs.Image.{Image, size_at}
 use Rattle.code_spec.specs.Code.{CallsOn, Reaches, itself, further, IsStack, IsCyclic, deep}
 use Rattle.decompile.specs.Found.{IsDepth}

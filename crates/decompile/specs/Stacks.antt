@@ -1,5 +1,5 @@
 -- The search for the stack of a function: what is done, what is open, and what is to do.
-use Rattle.std.specs.Prelude.{◌≡◌, ◌⊎◌, ◌↔◌, ◌+◌, ◌^◌, ◌<◌, ◌≤◌, ℕ, List, [], ◌∷◌, ◌++◌, length, map, sum_by, Contains, slice_index, Option, Some, unwrap_or}
+use Rattle.std.specs.Prelude.{◌≡◌, ◌⊎◌, ◌↔◌, ◌+◌, ◌^◌, ◌<◌, ◌≤◌, ℕ, List, [], ◌∷◌, ◌++◌, length, map, sum_by, Contains, slice_index, Option, Some, None, unwrap_or}
 use Rattle.elf_spec.specs.Image.{Image, size_at}
 use Rattle.code_spec.specs.Code.{instr_at, opening_of, IsGreatest}
 use Rattle.decompile.specs.Growth.{AreReached}
@@ -28,6 +28,12 @@ pub record IsDeepest (known : Known) (calls : List ℕ) (deepest : ℕ) : Type 0
   pub above : (k : ℕ) → k < length calls → known_or_zero known (slice_index calls k) ≤ deepest
   pub reached : (deepest ≡ 0) ⊎ ((k : ℕ) × (k < length calls) × (known_or_zero known (slice_index calls k) ≡ deepest))
 
+-- by how much the words of a function lower the stack pointer
+pub record IsOwnStack (image : Image) (entry size own : ℕ) : Type 0 where
+  pub places : List ℕ
+  pub places_are : AreReached image entry size places
+  pub own_is : own ≡ sum_by (opening_at image) places
+
 -- the stack of a function, where those of what it calls are known
 pub record IsTotal (image : Image) (entry : ℕ) (known : Known) (total : ℕ) : Type 0 where
   pub size : ℕ
@@ -44,3 +50,9 @@ pub record IsEntered (image : Image) (entry : ℕ) (old new : List Task) : Type 
   pub calls_are : AreCalls image entry calls
   pub few : length calls < 2 ^ 64
   pub tasks_are : new ≡ (old ++ Leave entry ∷ []) ++ map Enter calls
+
+-- the search begins: nothing is known, entered or to do
+pub record IsFresh (known : Known) (entered : List ℕ) (tasks : List Task) : Type 0 where
+  pub nothing : (entry : ℕ) → known entry ≡ None
+  pub unentered : entered ≡ []
+  pub idle : tasks ≡ []

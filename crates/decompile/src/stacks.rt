@@ -3,17 +3,18 @@
 ghost use Rattle.std.specs.Prelude.{◌≡◌, ◌↔◌, ◌+◌, ◌<◌, ◌≤◌, ◌^◌, ◌++◌, ◌∷◌, [], length, map, take, sum_by, nat_eq, All, Contains, IfOk, IfErr, OnOk, IsSome, IfSome, Some};
 ghost use Rattle.indexmap.specs.IndexMap.{get};
 ghost use Rattle.elf_spec.specs.Image.{size_at};
-ghost use Rattle.code_spec.specs.Code.{IsCyclic, opening_of};
+ghost use Rattle.code_spec.specs.Code.{IsCyclic, IsGreatest, opening_of};
 ghost use Rattle.decompile.specs.Growth.{Grows, IsPlace, AreReached};
 ghost use Rattle.decompile.specs.Found.{IsDepth, IsReachError};
 ghost use Rattle.code_spec.specs.Faults.{ReachesNoFault};
-ghost use Rattle.decompile.specs.Stacks.{AreCalls, IsDeepest, IsTotal, IsEntered, opening_at};
+ghost use Rattle.decompile.specs.Stacks.{AreCalls, IsDeepest, IsOwnStack, IsTotal, IsEntered, IsFresh, known_or_zero, opening_at};
+ghost use Rattle.decompile.specs.Surveys.{CallsOut};
 
 use crate::faults::CodeError;
 use crate::flows::instruction;
 use crate::functions::visit;
 use crate::range::range_fault;
-use crate::survey::found_entries;
+use crate::survey::add_entries;
 use crate::walk::{add, reached};
 use elf_read::Image;
 use indexmap::{IndexMap, IndexSet};
@@ -128,6 +129,29 @@ fn deepest(known: &IndexMap<u32, u64>, entries: &[u32]) -> u64
     deepest
 }
 
+/// By how much the instructions of a function lower the stack pointer.
+fn own_stack(alloc: Global, image: &Image<'_>, entry: u32, size: u32) -> Result<u64, AllocError>
+    ensures { IfOk result (IsOwnStack image.now entry size) }
+{
+    let places = places(alloc, image, entry, size)?;
+    let own = openings(image, places.as_slice())?;
+    Ok(own)
+}
+
+/// The greatest known stack of what a function calls; 0 where it calls nothing.
+fn called_stack(
+    alloc: Global,
+    image: &Image<'_>,
+    known: &IndexMap<u32, u64>,
+    entry: u32,
+) -> Result<u64, AllocError>
+    requires { IsSome (size_at image.now entry) }
+    ensures { IfOk result (IsGreatest (CallsOut image.now entry) (known_or_zero (get nat_eq known.now))) }
+{
+    let calls = calls(alloc, image, entry)?;
+    Ok(deepest(known, calls.as_slice()))
+}
+
 /// The stack of a function, where those of what it calls are known.
 fn total(
     alloc: Global,
@@ -139,11 +163,21 @@ fn total(
     ensures { IfOk result (λ total. IsTotal image.now entry (get nat_eq known.now) total) }
 {
     let size = image.size_at(entry).unwrap();
-    let places = places(alloc, image, entry, size)?;
-    let own = openings(image, places.as_slice())?;
-    let calls = calls(alloc, image, entry)?;
-    let total = added(own, deepest(known, calls.as_slice()))?;
+    let own = own_stack(alloc, image, entry, size)?;
+    let called = called_stack(alloc, image, known, entry)?;
+    let total = added(own, called)?;
     Ok(total)
+}
+
+/// Adds to the tasks that a function be left, and on top that others be entered.
+fn add_tasks(tasks: &mut Vec<Task>, entry: u32, calls: &[u32]) -> Result<(), AllocError>
+    ensures { OnOk result (tasks.new.items ≡ (tasks.old.items ++ Task.Leave entry ∷ []) ++ map Task.Enter calls.now) }
+{
+    tasks.push(Task::Leave(entry))?;
+    for target in calls {
+        tasks.push(Task::Enter(*target))?;
+    }
+    Ok(())
 }
 
 /// Adds to the tasks that a function be left, and on top that those be entered that it calls.
@@ -157,29 +191,32 @@ fn enter(
     ensures { OnOk result (IsEntered image.now entry tasks.old.items tasks.new.items) }
 {
     let calls = calls(alloc, image, entry)?;
-    tasks.push(Task::Leave(entry))?;
-    for target in calls.as_slice() {
-        tasks.push(Task::Enter(*target))?;
-    }
+    add_tasks(tasks, entry, calls.as_slice())?;
     Ok(())
 }
 
 /// The stack of a function where no fault is reached; `None` where a cycle of calls is reached. Each function
 /// is entered once, and left when all that it calls are left: one that is entered and not yet left is on the
-/// way from the first to the one at hand.
-fn depth(alloc: Global, image: &Image<'_>, entry: u32) -> Result<Option<u64>, AllocError>
+/// way from the first to the one at hand. The stacks that are known, the functions that are entered and the
+/// tasks are the caller's, and empty at the start.
+fn explore(
+    alloc: Global,
+    image: &Image<'_>,
+    entry: u32,
+    known: &mut IndexMap<u32, u64>,
+    entered: &mut IndexSet<u32>,
+    tasks: &mut Vec<Task>,
+) -> Result<Option<u64>, AllocError>
     requires sized { IsSome (size_at image.now entry) }
     requires sound { ReachesNoFault image.now entry }
+    requires fresh { IsFresh (get nat_eq known.old) entered.old.keys tasks.old.items }
     ensures { IfOk result (IsDepth image.now entry) }
 {
-    let mut known = IndexMap::new(alloc);
-    let mut entered = IndexSet::new(alloc);
-    let mut tasks = Vec::new(alloc);
     tasks.push(Task::Enter(entry))?;
     while let Some(task) = tasks.pop() {
         match task {
             Task::Leave(other) => {
-                let total = total(alloc, image, &known, other)?;
+                let total = total(alloc, image, known, other)?;
                 known.insert(other, total)?;
             }
             Task::Enter(other) => {
@@ -190,12 +227,24 @@ fn depth(alloc: Global, image: &Image<'_>, entry: u32) -> Result<Option<u64>, Al
                     return Ok(None);
                 }
                 let _count = entered.len();
-                add(&mut entered, other)?;
-                enter(alloc, image, &mut tasks, other)?;
+                add(entered, other)?;
+                enter(alloc, image, tasks, other)?;
             }
         }
     }
     Ok(known.get(&entry).copied())
+}
+
+/// The same, with nothing known or entered at the start.
+fn depth(alloc: Global, image: &Image<'_>, entry: u32) -> Result<Option<u64>, AllocError>
+    requires sized { IsSome (size_at image.now entry) }
+    requires sound { ReachesNoFault image.now entry }
+    ensures { IfOk result (IsDepth image.now entry) }
+{
+    let mut known = IndexMap::new(alloc);
+    let mut entered = IndexSet::new(alloc);
+    let mut tasks = Vec::new(alloc);
+    explore(alloc, image, entry, &mut known, &mut entered, &mut tasks)
 }
 
 /// How many bytes of stack the function at an entry takes, with all that it calls; `None` where a cycle of calls
@@ -207,7 +256,8 @@ pub fn stack(alloc: Global, image: &Image<'_>, entry: u32) -> Result<Option<u64>
     ensures sound { OnOk result (ReachesNoFault image.now entry) }
     ensures fault { IfErr result (IsReachError image.now entry) }
 {
-    let _entries = found_entries(alloc, image, entry)?;
+    let mut entries = IndexSet::new(alloc);
+    add_entries(alloc, &mut entries, image, entry)?;
     let depth = depth(alloc, image, entry)?;
     Ok(depth)
 }

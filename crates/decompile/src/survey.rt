@@ -65,23 +65,24 @@ fn overlap_fault(image: &Image<'_>, entries: &[u32]) -> Option<CodeFault>
     None
 }
 
-/// The entries of the functions that are reached from one, itself too, ascending.
-pub(crate) fn found_entries(
+/// Adds the entries of the functions that are reached from one, itself too, ascending.
+pub(crate) fn add_entries(
     alloc: Global,
+    entries: &mut IndexSet<u32>,
     image: &Image<'_>,
     entry: u32,
-) -> Result<IndexSet<u32>, CodeError>
-    requires { IsSome (size_at image.now entry) }
-    ensures found { IfOk result (λ entries. IsReach image.now entry entries.keys) }
+) -> Result<(), CodeError>
+    requires none_yet { entries.old.keys ≡ [] }
+    requires sized { IsSome (size_at image.now entry) }
+    ensures found { OnOk result (IsReach image.now entry entries.new.keys) }
     ensures fault { IfErr result (λ error. IsReachError image.now entry error) }
 {
-    let mut entries = IndexSet::new(alloc);
-    let first = survey(alloc, &mut entries, image, entry)?;
+    let first = survey(alloc, entries, image, entry)?;
     entries.sort()?;
     let overlap = overlap_fault(image, entries.as_slice());
     match earlier(first, overlap) {
         Some(fault) => Err(CodeError::Fault(fault)),
-        None => Ok(entries),
+        None => Ok(()),
     }
 }
 
@@ -92,7 +93,8 @@ pub fn reach(alloc: Global, image: &Image<'_>, entry: u32) -> Result<Vec<u32>, C
     ensures found { IfOk result (λ entries. IsReach image.now entry entries.items) }
     ensures fault { IfErr result (λ error. IsReachError image.now entry error) }
 {
-    let entries = found_entries(alloc, image, entry)?;
+    let mut entries = IndexSet::new(alloc);
+    add_entries(alloc, &mut entries, image, entry)?;
     let list = Vec::from_slice(alloc, entries.as_slice())?;
     Ok(list)
 }

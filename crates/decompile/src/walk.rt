@@ -110,28 +110,28 @@ fn follow(
     }
 }
 
-/// The addresses that are reached directly from the entry of a function that has code, each once.
-fn all_reached(
-    alloc: Global,
+/// Adds the addresses that are reached directly from the entry of a function that has code, each once.
+fn add_reached(
+    reached: &mut IndexSet<u32>,
     image: &Image<'_>,
     entry: u32,
     size: u32,
-) -> Result<IndexSet<u32>, AllocError>
-    requires { HasCode image.now entry size }
-    ensures { IfOk result (λ reached. Reaches image.now entry size reached.keys) }
+) -> Result<(), AllocError>
+    requires none_yet { reached.old.keys ≡ [] }
+    requires code { HasCode image.now entry size }
+    ensures { OnOk result (Reaches image.now entry size reached.new.keys) }
 {
-    let mut reached = IndexSet::new(alloc);
-    add(&mut reached, entry)?;
+    add(reached, entry)?;
     let mut next = 0;
     while next < reached.len() {
         let address = reached.as_slice()[next];
-        follow(&mut reached, image, entry, size, address)?;
+        follow(reached, image, entry, size, address)?;
         next += 1;
     }
-    Ok(reached)
+    Ok(())
 }
 
-/// The same, ascending.
+/// The addresses that are reached directly from the entry of a function that has code, ascending.
 pub(crate) fn reached(
     alloc: Global,
     image: &Image<'_>,
@@ -141,7 +141,8 @@ pub(crate) fn reached(
     requires { HasCode image.now entry size }
     ensures { IfOk result (λ reached. AreReached image.now entry size reached.keys) }
 {
-    let mut reached = all_reached(alloc, image, entry, size)?;
+    let mut reached = IndexSet::new(alloc);
+    add_reached(&mut reached, image, entry, size)?;
     reached.sort()?;
     Ok(reached)
 }

@@ -1,7 +1,7 @@
 -- Writing a list piece by piece.
 use Rattle.std.proofs.Common.{◌≡◌, ◌+◌, ◌++◌, ◌<◌, ◌∙◌, ℕ, List, [], ◌∷◌, length, length-append, get_or, drop, map, append_assoc, replicate, ◌-◌, ◌%◌, ap, sym, arith, add-one, subst, All, below_more, ◌≤◌}
 use Rattle.std.proofs.Math.ListN.{get_or-map}
-use Rattle.std.proofs.lemmas.List.{length-replicate, length-map, get_or_default}
+use Rattle.std.proofs.lemmas.List.{append-nil, drop_all, length-replicate, length-map, get_or_default}
 use Rattle.std.proofs.Math.Seq.{drop-cons}
 use Rattle.elf_spec.specs.Image as spec
 use Rattle.elf_read.specs.declared.parts.Segment.{Segment}
@@ -12,6 +12,15 @@ use Rattle.elf_make.specs.Parts.{IsNamed, IsSegmentOfWords, IsSymbolOfWords}
 
 front : {X : Type 0} (xs : List X) (i : ℕ) (d : X) → i < length xs → drop i xs ≡ get_or xs i d ∷ drop (i + 1) xs
 front xs i d h = drop-cons xs i d h ∙ ap (λ n. get_or xs i d ∷ drop n xs) (sym (add-one i))
+
+-- numbers, one after the other
+pub eight : (old a b c d e f g h : List ℕ)
+    → old ++ (a ++ (b ++ (c ++ (d ++ (e ++ (f ++ (g ++ (h ++ [])))))))) ≡ old ++ (a ++ b ++ c ++ d ++ e ++ f ++ g ++ h)
+eight old a b c d e f g h = simp (append_assoc, append-nil)
+
+pub ten : (old a b c d e f g h i j : List ℕ)
+    → old ++ (a ++ (b ++ (c ++ (d ++ (e ++ (f ++ (g ++ (h ++ (i ++ (j ++ [])))))))))) ≡ old ++ (a ++ b ++ c ++ d ++ e ++ f ++ g ++ h ++ i ++ j)
+ten old a b c d e f g h i j = simp (append_assoc, append-nil)
 
 -- what is written, and what is left
 pub record ProgramsLeft (out whole : List ℕ) (at end i : ℕ) (segments : List Segment) : Type 0 where
@@ -40,6 +49,21 @@ program_written out whole at end i d segments h word so =
           (subst (λ x. IsSegmentOfWords (segment_of x)) (get_or_default segments i d e h) word) k less;
     }
 
+-- the bytes of the next segment end at the end at the latest
+pub segment_fits : (out whole : List ℕ) (at end i : ℕ) (d : Segment) (segments : List Segment) → i < length segments → ProgramsLeft out whole at end i segments
+    → at + length (get_or segments i d).bytes.now ≤ end
+segment_fits out whole at end i d segments h so =
+    let s = get_or segments i d in
+    let rest = drop (i + 1) segments in
+    let was : at + length (s.bytes.now ++ layout.contents (map segment_of rest)) ≡ end =
+    ap (λ xs. at + length (layout.contents (map segment_of xs))) (sym (front segments i d h)) ∙ so.room in
+    omega (arith, was, length-append s.bytes.now (layout.contents (map segment_of rest)))
+
+-- nothing is left
+pub programs_done : (out whole : List ℕ) (at end i : ℕ) (segments : List Segment) → length segments ≤ i → ProgramsLeft out whole at end i segments → out ≡ whole
+programs_done out whole at end i segments h so =
+    sym (append-nil out) ∙ ap (λ xs. out ++ layout.program_headers at (map segment_of xs)) (sym (drop_all i segments h)) ∙ so.so_far
+
 pub record EntriesLeft (out whole : List ℕ) (at end i : ℕ) (symbols : List Symbol) : Type 0 where
   pub room : at + length (layout.names (map symbol_of (drop i symbols))) ≡ end
   pub so_far : out ++ layout.symbol_entries at (map symbol_of (drop i symbols)) ≡ whole
@@ -66,6 +90,21 @@ entry_written out whole at end i next d symbols h next_is word so =
           below_more (λ n. IsSymbolOfWords (symbol_of (get_or symbols n e))) i (λ n w. so.words n e w)
           (subst (λ x. IsSymbolOfWords (symbol_of x)) (get_or_default symbols i d e h) word) k less;
     }
+
+-- the name of the next symbol ends below the end
+pub symbol_fits : (out whole : List ℕ) (at end i : ℕ) (d : Symbol) (symbols : List Symbol) → i < length symbols → EntriesLeft out whole at end i symbols
+    → at + length (get_or symbols i d).name.now + 1 ≤ end
+symbol_fits out whole at end i d symbols h so =
+    let s = get_or symbols i d in
+    let rest = drop (i + 1) symbols in
+    let was : at + length (s.name.now ++ 0 ∷ layout.names (map symbol_of rest)) ≡ end =
+    ap (λ xs. at + length (layout.names (map symbol_of xs))) (sym (front symbols i d h)) ∙ so.room in
+    omega (arith, was, length-append s.name.now (0 ∷ layout.names (map symbol_of rest)))
+
+-- nothing is left
+pub entries_done : (out whole : List ℕ) (at end i : ℕ) (symbols : List Symbol) → length symbols ≤ i → EntriesLeft out whole at end i symbols → out ≡ whole
+entries_done out whole at end i symbols h so =
+    sym (append-nil out) ∙ ap (λ xs. out ++ layout.symbol_entries at (map symbol_of xs)) (sym (drop_all i symbols h)) ∙ so.so_far
 
 -- the file, written piece by piece
 pub file_written : (image : spec.Image) (flags programs contents table table_size strings strings_size padding sections : ℕ)

@@ -1,10 +1,11 @@
 -- Which parts can be written, and what was written.
-use Rattle.std.specs.Prelude.{◌≡◌, ◌+◌, ◌^◌, ◌%◌, ◌<◌, ◌≤◌, ℕ, List, length, map, All, AllPairs, Contains}
+use Rattle.std.specs.Prelude.{◌≡◌, ◌+◌, ◌-◌, ◌^◌, ◌%◌, ◌<◌, ◌≤◌, ℕ, List, length, map, All, AllPairs, Contains}
 use Rattle.elf_spec.specs.Image.{Image, Segment, Symbol}
 use Rattle.elf_spec.specs.File.{IsElf, u32_at}
 use Rattle.elf_read.specs.Values.{segment_of, symbol_of}
 use Rattle.elf_make.specs.declared.parts.Parts.{Parts}
-use Rattle.elf_make.specs.Layout.{sections_at}
+use Rattle.elf_make.specs.declared.writer.Places.{Places}
+use Rattle.elf_make.specs.Layout.{contents_at, table_at, table_size, strings_at, strings_size, strings_end, sections_at}
 
 -- the image that the parts are of
 abbrev pub image_of_parts : Parts → Image
@@ -47,6 +48,17 @@ pub record CanBeWritten (image : Image) (flags : ℕ) : Type 0 where
   pub named : All IsNamed image.symbols
   pub few : length image.segments < 65535
   pub short : sections_at image + 120 < 2 ^ 32
+
+-- how many program headers the file has, and where its parts are
+pub record ArePlaces (image : Image) (places : Places) : Type 0 where
+  pub programs_are : places.programs ≡ length image.segments
+  pub contents_are : places.contents ≡ contents_at image
+  pub table_is : places.table ≡ table_at image
+  pub table_size_is : places.table_size ≡ table_size image
+  pub strings_are : places.strings ≡ strings_at image
+  pub strings_size_is : places.strings_size ≡ strings_size image
+  pub padding_is : places.padding ≡ 3 - (strings_end image + 3) % 4
+  pub sections_are : places.sections ≡ strings_end image + places.padding
 
 -- the file is an executable with this image and these flags (e_flags)
 pub record IsWritten (file : List ℕ) (image : Image) (flags : ℕ) : Type 0 where

@@ -1,6 +1,6 @@
 //! The pieces of a file, each written at its end.
 
-ghost use Rattle.std.specs.Prelude.{◌≡◌, ◌+◌, ◌^◌, ◌<◌, ◌≤◌, ◌++◌, All, length, map, replicate, OnOk};
+ghost use Rattle.std.specs.Prelude.{◌≡◌, ◌+◌, ◌^◌, ◌<◌, ◌≤◌, ◌++◌, All, flat_map, length, map, replicate, OnOk};
 ghost use Rattle.elf_read.specs.Values.{segment_of, symbol_of};
 ghost use Rattle.elf_make.specs.Layout as layout;
 ghost use Rattle.elf_make.specs.Parts.{IsSegmentOfWords, IsSymbolOfWords};
@@ -55,20 +55,37 @@ fn put_header_sizes(out: &mut Vec<u8>, programs: u16) -> Result<(), AllocError>
     put_half(out, 0)
 }
 
+/// Numbers of four bytes, one after the other.
+fn put_words(out: &mut Vec<u8>, words: &[u32]) -> Result<(), AllocError>
+    ensures { OnOk result (out.new.items ≡ out.old.items ++ flat_map layout.word words.now) }
+{
+    for word in words {
+        put_word(out, *word)?;
+    }
+    Ok(())
+}
+
 /// The program header of a segment whose bytes stand at an offset.
 fn put_program(out: &mut Vec<u8>, offset: u32, segment: &Segment) -> Result<(), AllocError>
     requires { length segment.now.bytes.now < 2 ^ 32 }
     ensures items { OnOk result (out.new.items ≡ out.old.items ++ layout.program_header offset (segment_of segment.now)) }
     ensures words { OnOk result (IsSegmentOfWords (segment_of segment.now)) }
 {
-    put_word(out, 1)?;
-    put_word(out, offset)?;
-    put_word(out, segment.vaddr)?;
-    put_word(out, segment.vaddr)?;
-    put_word(out, segment.bytes.len() as u32)?;
-    put_word(out, segment.memsz)?;
-    put_word(out, segment.flags)?;
-    put_word(out, 4)
+    let size = segment.bytes.len() as u32;
+    put_words(
+        out,
+        &[
+            1,
+            offset,
+            segment.vaddr,
+            segment.vaddr,
+            size,
+            segment.memsz,
+            segment.flags,
+            4,
+        ],
+    )?;
+    Ok(())
 }
 
 /// The program headers of segments whose bytes stand from an offset on.
@@ -156,32 +173,14 @@ pub(crate) fn put_names(out: &mut Vec<u8>, symbols: &[Symbol]) -> Result<(), All
 fn put_table_section(out: &mut Vec<u8>, offset: u32, size: u32) -> Result<(), AllocError>
     ensures { OnOk result (out.new.items ≡ out.old.items ++ layout.table_section offset size) }
 {
-    put_word(out, 0)?;
-    put_word(out, 2)?;
-    put_word(out, 0)?;
-    put_word(out, 0)?;
-    put_word(out, offset)?;
-    put_word(out, size)?;
-    put_word(out, 2)?;
-    put_word(out, 1)?;
-    put_word(out, 4)?;
-    put_word(out, 16)
+    put_words(out, &[0, 2, 0, 0, offset, size, 2, 1, 4, 16])
 }
 
 /// The section header of the string table.
 fn put_strings_section(out: &mut Vec<u8>, offset: u32, size: u32) -> Result<(), AllocError>
     ensures { OnOk result (out.new.items ≡ out.old.items ++ layout.strings_section offset size) }
 {
-    put_word(out, 0)?;
-    put_word(out, 3)?;
-    put_word(out, 0)?;
-    put_word(out, 0)?;
-    put_word(out, offset)?;
-    put_word(out, size)?;
-    put_word(out, 0)?;
-    put_word(out, 0)?;
-    put_word(out, 1)?;
-    put_word(out, 0)
+    put_words(out, &[0, 3, 0, 0, offset, size, 0, 0, 1, 0])
 }
 
 /// The three section headers.

@@ -1,9 +1,10 @@
 -- Texts and counts of judgements, over those of the program.
-use Rattle.std.proofs.Common.{◌≡◌, ℕ, ◌+◌, Bool, true, false, cond, List, [], ◌∷◌, ◌++◌, refl, ap, ◌∙◌, sym}
+use Rattle.std.proofs.Common.{◌≡◌, ℕ, ◌+◌, ◌<◌, Bool, true, false, cond, List, [], ◌∷◌, ◌++◌, length, get_or, take, refl, ap, append_assoc, ◌∙◌, sym}
 use Rattle.std.specs.Prelude.{sum_by}
 use Rattle.std.specs.List.{list_all}
 use Rattle.std.proofs.lemmas.List.Folds.{list_all-map}
 use Rattle.std.specs.Prelude.{flat_map, filter, count_by, if◌then◌else◌}
+use Rattle.std.proofs.lemmas.List.{append-nil, flat_map_more, take_more}
 use Rattle.std.proofs.lemmas.List.Sums.{sum_by-cons}
 use Rattle.claim_spec.specs.Verdict as claim
 use Rattle.report_text.specs.declared.verdicts.Judgement.{Judgement}
@@ -35,6 +36,35 @@ sums_are f (j ∷ js) =
 
 pub counts_are : (p : claim.Judgement → Bool) (js : List Judgement) → count_by p (judgements_of js) ≡ count_by (λ j. p (judgement_of j)) js
 counts_are p js = sums_are (λ j. cond (p j) 1 0) js
+
+-- one more item behind those so far
+pub more_lines : {A : Type 0} (f : A → List ℕ) (xs : List A) (i : ℕ) (x : A) (old text new : List ℕ) → i < length xs → x ≡ get_or xs i x
+    → text ≡ old ++ flat_map f (take i xs) → new ≡ text ++ f x → new ≡ old ++ flat_map f (take (i + 1) xs)
+more_lines f xs i x old text new inside is so_far added =
+    added
+    ∙ (ap (λ t. t ++ f x) so_far
+    ∙ (flat_map_more f old (take i xs) x ∙ ap (λ l. old ++ flat_map f l) (ap (λ z. take i xs ++ z ∷ []) is ∙ sym (take_more xs i x inside))))
+
+-- pieces of a text, one after the other, are its line: four, of which some are words and numbers of the program
+pub line_of_two : (old a b : List ℕ) → old ++ (a ++ (b ++ 10 ∷ [])) ≡ old ++ claim.line (a ++ b)
+line_of_two old a b = simp append_assoc
+
+pub line_of_four : (old a b c d x y : List ℕ) → x ≡ b → y ≡ d → old ++ (a ++ (x ++ (c ++ (y ++ 10 ∷ [])))) ≡ old ++ claim.line (a ++ b ++ c ++ d)
+line_of_four old a b c d x y e f = rw (e, f) (simp append_assoc)
+
+-- a text, a word, a blank, a name and another text
+pub words_are : (old a b c d e : List ℕ) → old ++ (a ++ (b ++ (c ++ (d ++ (e ++ []))))) ≡ old ++ (a ++ b ++ c ++ d ++ e)
+words_are old a b c d e = simp (append_assoc, append-nil)
+
+-- the end of a line, and a line feed
+pub line_added : (old front back first second whole : List ℕ) → first ≡ old ++ front → second ≡ first ++ back → whole ≡ second ++ 10 ∷ []
+    → whole ≡ old ++ claim.line (front ++ back)
+line_added old front back first second whole e f g = rw (g, f, e) (simp append_assoc)
+
+-- the same, with a line and three equal ones behind it
+pub part_of_four : (old a b c d x y r s : List ℕ) → x ≡ b → y ≡ d
+    → old ++ (a ++ (x ++ (c ++ (y ++ 10 ∷ (r ++ (s ++ (s ++ s))))))) ≡ old ++ (claim.line (a ++ b ++ c ++ d) ++ r ++ s ++ s ++ s)
+part_of_four old a b c d x y r s e f = rw (e, f) (simp append_assoc)
 
 -- whether all are valid
 pub all_valid_are : (js : List Judgement) (whole : Bool) → whole ≡ list_all (λ j. j.valid) js → claim.all_valid (judgements_of js) ≡ whole

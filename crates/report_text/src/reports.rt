@@ -1,9 +1,9 @@
-ghost use Rattle.std.specs.Prelude.{◌≡◌, ◌++◌, IfOk, OnOk, count_by, flat_map, not};
+ghost use Rattle.std.specs.Prelude.{◌≡◌, ◌++◌, IfOk, OnOk, codes, count_by, decimal, flat_map, not};
 ghost use Rattle.claim_spec.specs.Verdict as claim;
 ghost use Rattle.report_text.specs.Judgements.{judgement_of, judgements_of};
 ghost use Rattle.report_text.specs.Verdicts.{verdict_of};
 
-use crate::lines::{push_address, push_decimal};
+use crate::lines::{digits, push_address, push_all};
 use crate::{Judgement, Verdict};
 use c_grammar_spec::{LeftOut, ParseFaultKind};
 use c_spec::SourceKind;
@@ -11,30 +11,28 @@ use c_spec::token::TokenFaultKind;
 use claim_spec::{PairKind, Quantity};
 use code_spec::CodeKind;
 use elf_spec::ElfKind;
+use itoa::Buffer;
 use std::alloc::{AllocError, Global};
 use tv_base::limits::{C_BYTES, ELF_BYTES, FUNCTIONS};
 
 /// `limit QUANTITY MAXIMUM`
-fn limit(alloc: Global, quantity: Quantity) -> Result<Vec<u8>, AllocError>
-    ensures { IfOk result (λ text. text.items ≡ claim.report_of (claim.TooLarge quantity)) }
+fn push_maximum(out: &mut Vec<u8>, word: &[u8], maximum: usize) -> Result<(), AllocError>
+    ensures { OnOk result (out.new.items ≡ out.old.items ++ claim.line (codes "limit " ++ word.now ++ codes " " ++ decimal maximum)) }
 {
-    let mut text = Vec::from_slice(alloc, b"limit ")?;
+    let mut buffer = Buffer::new();
+    let number = digits(&mut buffer, maximum as u64);
+    push_all(out, &[b"limit ", word, b" ", number, b"\n"])
+}
+
+/// The line of a quantity above its maximum.
+fn push_limit(out: &mut Vec<u8>, quantity: Quantity) -> Result<(), AllocError>
+    ensures { OnOk result (out.new.items ≡ out.old.items ++ claim.report_of (claim.TooLarge quantity)) }
+{
     match quantity {
-        Quantity::Elf => {
-            text.extend_from_slice(b"elf ")?;
-            push_decimal(&mut text, ELF_BYTES as u64)?;
-        }
-        Quantity::C => {
-            text.extend_from_slice(b"c ")?;
-            push_decimal(&mut text, C_BYTES as u64)?;
-        }
-        Quantity::Functions => {
-            text.extend_from_slice(b"functions ")?;
-            push_decimal(&mut text, FUNCTIONS as u64)?;
-        }
+        Quantity::Elf => push_maximum(out, b"elf", ELF_BYTES),
+        Quantity::C => push_maximum(out, b"c", C_BYTES),
+        Quantity::Functions => push_maximum(out, b"functions", FUNCTIONS),
     }
-    text.push(b'\n')?;
-    Ok(text)
 }
 
 /// The word of a refusal of an executable.
@@ -61,15 +59,15 @@ fn elf_word(kind: ElfKind) -> &'static [u8]
 }
 
 /// `refused elf KIND at OFFSET`
-fn refused_elf(alloc: Global, kind: ElfKind, offset: usize) -> Result<Vec<u8>, AllocError>
-    ensures { IfOk result (λ text. text.items ≡ claim.report_of (claim.RefusedElf kind offset)) }
+fn push_refused_elf(out: &mut Vec<u8>, kind: ElfKind, offset: usize) -> Result<(), AllocError>
+    ensures { OnOk result (out.new.items ≡ out.old.items ++ claim.report_of (claim.RefusedElf kind offset)) }
 {
-    let mut text = Vec::from_slice(alloc, b"refused elf ")?;
-    text.extend_from_slice(elf_word(kind))?;
-    text.extend_from_slice(b" at ")?;
-    push_decimal(&mut text, offset as u64)?;
-    text.push(b'\n')?;
-    Ok(text)
+    let mut buffer = Buffer::new();
+    let number = digits(&mut buffer, offset as u64);
+    push_all(
+        out,
+        &[b"refused elf ", elf_word(kind), b" at ", number, b"\n"],
+    )
 }
 
 /// The word of a text without tokens.
@@ -95,15 +93,15 @@ fn source_word(kind: SourceKind) -> &'static [u8]
 }
 
 /// `refused c KIND at OFFSET`
-fn refused_c(alloc: Global, kind: SourceKind, offset: usize) -> Result<Vec<u8>, AllocError>
-    ensures { IfOk result (λ text. text.items ≡ claim.report_of (claim.RefusedC kind offset)) }
+fn push_refused_c(out: &mut Vec<u8>, kind: SourceKind, offset: usize) -> Result<(), AllocError>
+    ensures { OnOk result (out.new.items ≡ out.old.items ++ claim.report_of (claim.RefusedC kind offset)) }
 {
-    let mut text = Vec::from_slice(alloc, b"refused c ")?;
-    text.extend_from_slice(source_word(kind))?;
-    text.extend_from_slice(b" at ")?;
-    push_decimal(&mut text, offset as u64)?;
-    text.push(b'\n')?;
-    Ok(text)
+    let mut buffer = Buffer::new();
+    let number = digits(&mut buffer, offset as u64);
+    push_all(
+        out,
+        &[b"refused c ", source_word(kind), b" at ", number, b"\n"],
+    )
 }
 
 /// The word of a part of C that is left out.
@@ -128,29 +126,29 @@ fn left_out_word(part: LeftOut) -> &'static [u8]
 }
 
 /// The word of a refusal of tokens.
-fn push_syntax_word(text: &mut Vec<u8>, kind: ParseFaultKind) -> Result<(), AllocError>
-    ensures { OnOk result (text.new.items ≡ text.old.items ++ claim.syntax_word kind) }
+fn push_syntax_word(out: &mut Vec<u8>, kind: ParseFaultKind) -> Result<(), AllocError>
+    ensures { OnOk result (out.new.items ≡ out.old.items ++ claim.syntax_word kind) }
 {
     match kind {
-        ParseFaultKind::Unexpected => text.extend_from_slice(b"Unexpected"),
-        ParseFaultKind::LeftOut(part) => {
-            text.extend_from_slice(b"LeftOut.")?;
-            text.extend_from_slice(left_out_word(part))
-        }
-        ParseFaultKind::Depth => text.extend_from_slice(b"Depth"),
+        ParseFaultKind::Unexpected => out.extend_from_slice(b"Unexpected"),
+        ParseFaultKind::LeftOut(part) => push_all(out, &[b"LeftOut.", left_out_word(part)]),
+        ParseFaultKind::Depth => out.extend_from_slice(b"Depth"),
     }
 }
 
 /// `refused c KIND at OFFSET`, of tokens
-fn refused_syntax(alloc: Global, kind: ParseFaultKind, offset: usize) -> Result<Vec<u8>, AllocError>
-    ensures { IfOk result (λ text. text.items ≡ claim.report_of (claim.RefusedSyntax kind offset)) }
+fn push_refused_syntax(
+    out: &mut Vec<u8>,
+    kind: ParseFaultKind,
+    offset: usize,
+) -> Result<(), AllocError>
+    ensures { OnOk result (out.new.items ≡ out.old.items ++ claim.report_of (claim.RefusedSyntax kind offset)) }
 {
-    let mut text = Vec::from_slice(alloc, b"refused c ")?;
-    push_syntax_word(&mut text, kind)?;
-    text.extend_from_slice(b" at ")?;
-    push_decimal(&mut text, offset as u64)?;
-    text.push(b'\n')?;
-    Ok(text)
+    out.extend_from_slice(b"refused c ")?;
+    push_syntax_word(out, kind)?;
+    let mut buffer = Buffer::new();
+    let number = digits(&mut buffer, offset as u64);
+    push_all(out, &[b" at ", number, b"\n"])
 }
 
 /// The word of a refusal of a pair.
@@ -164,16 +162,24 @@ fn pair_word(kind: PairKind) -> &'static [u8]
     }
 }
 
-/// `refused pair KIND NAME`
-fn refused_pair(alloc: Global, kind: PairKind, name: &[u8]) -> Result<Vec<u8>, AllocError>
-    ensures { IfOk result (λ text. text.items ≡ claim.report_of (claim.RefusedPair kind name.now)) }
+/// Adds a text, a word, a blank, a name and another text.
+fn push_named<'a>(
+    out: &mut Vec<u8>,
+    front: &'a [u8],
+    word: &'a [u8],
+    name: &'a [u8],
+    back: &'a [u8],
+) -> Result<(), AllocError>
+    ensures { OnOk result (out.new.items ≡ out.old.items ++ (front.now ++ word.now ++ codes " " ++ name.now ++ back.now)) }
 {
-    let mut text = Vec::from_slice(alloc, b"refused pair ")?;
-    text.extend_from_slice(pair_word(kind))?;
-    text.push(b' ')?;
-    text.extend_from_slice(name)?;
-    text.push(b'\n')?;
-    Ok(text)
+    push_all(out, &[front, word, b" ", name, back])
+}
+
+/// `refused pair KIND NAME`
+fn push_refused_pair(out: &mut Vec<u8>, kind: PairKind, name: &[u8]) -> Result<(), AllocError>
+    ensures { OnOk result (out.new.items ≡ out.old.items ++ claim.report_of (claim.RefusedPair kind name.now)) }
+{
+    push_named(out, b"refused pair ", pair_word(kind), name, b"\n")
 }
 
 /// The word of a refusal of code.
@@ -194,53 +200,47 @@ fn code_word(kind: CodeKind) -> &'static [u8]
 }
 
 /// `refused code KIND NAME at ADDRESS`
-fn refused_code(
+fn push_refused_code(
     alloc: Global,
+    out: &mut Vec<u8>,
     kind: CodeKind,
     name: &[u8],
     address: u32,
-) -> Result<Vec<u8>, AllocError>
-    ensures { IfOk result (λ text. text.items ≡ claim.report_of (claim.RefusedCode kind name.now address)) }
+) -> Result<(), AllocError>
+    ensures { OnOk result (out.new.items ≡ out.old.items ++ claim.report_of (claim.RefusedCode kind name.now address)) }
 {
-    let mut text = Vec::from_slice(alloc, b"refused code ")?;
-    text.extend_from_slice(code_word(kind))?;
-    text.push(b' ')?;
-    text.extend_from_slice(name)?;
-    text.extend_from_slice(b" at ")?;
-    push_address(alloc, &mut text, address)?;
-    text.push(b'\n')?;
-    Ok(text)
+    push_named(out, b"refused code ", code_word(kind), name, b" at ")?;
+    push_address(alloc, out, address)?;
+    out.push(b'\n')?;
+    Ok(())
 }
 
 /// `valid NAME stack=S` or `unproved NAME`
-fn judged(alloc: Global, judgement: &Judgement) -> Result<Vec<u8>, AllocError>
-    ensures { IfOk result (λ text. text.items ≡ claim.judgement_line (judgement_of judgement.now)) }
+fn push_judged(out: &mut Vec<u8>, judgement: &Judgement) -> Result<(), AllocError>
+    ensures { OnOk result (out.new.items ≡ out.old.items ++ claim.judgement_line (judgement_of judgement.now)) }
 {
+    let name = judgement.name.as_slice();
     if !judgement.valid {
-        let mut text = Vec::from_slice(alloc, b"unproved ")?;
-        text.extend_from_slice(judgement.name.as_slice())?;
-        text.push(b'\n')?;
-        return Ok(text);
+        return push_all(out, &[b"unproved ", name, b"\n"]);
     }
-    let mut text = Vec::from_slice(alloc, b"valid ")?;
-    text.extend_from_slice(judgement.name.as_slice())?;
-    text.extend_from_slice(b" stack=")?;
-    push_decimal(&mut text, judgement.stack)?;
-    text.push(b'\n')?;
-    Ok(text)
+    let mut buffer = Buffer::new();
+    let stack = digits(&mut buffer, judgement.stack);
+    push_all(out, &[b"valid ", name, b" stack=", stack, b"\n"])
 }
 
 /// `total valid=V unproved=U`
 #[tactic(auto, unfolding(claim_spec::specs::Verdict::total_line))]
-fn total(alloc: Global, valid: usize, unproved: usize) -> Result<Vec<u8>, AllocError>
-    ensures { IfOk result (λ text. text.items ≡ claim.total_line valid unproved) }
+fn push_total(out: &mut Vec<u8>, valid: usize, unproved: usize) -> Result<(), AllocError>
+    ensures { OnOk result (out.new.items ≡ out.old.items ++ claim.total_line valid unproved) }
 {
-    let mut text = Vec::from_slice(alloc, b"total valid=")?;
-    push_decimal(&mut text, valid as u64)?;
-    text.extend_from_slice(b" unproved=")?;
-    push_decimal(&mut text, unproved as u64)?;
-    text.push(b'\n')?;
-    Ok(text)
+    let mut buffer = Buffer::new();
+    let mut other_buffer = Buffer::new();
+    let valid = digits(&mut buffer, valid as u64);
+    let unproved = digits(&mut other_buffer, unproved as u64);
+    push_all(
+        out,
+        &[b"total valid=", valid, b" unproved=", unproved, b"\n"],
+    )
 }
 
 /// How many of them are valid.
@@ -258,43 +258,49 @@ fn unproved_count(judgements: &[Judgement]) -> usize
 }
 
 /// A line for each of them, in their order.
-fn lines(alloc: Global, judgements: &[Judgement]) -> Result<Vec<u8>, AllocError>
-    ensures { IfOk result (λ text. text.items ≡ flat_map (λ j. claim.judgement_line (judgement_of j)) judgements.now) }
+fn push_lines(out: &mut Vec<u8>, judgements: &[Judgement]) -> Result<(), AllocError>
+    ensures { OnOk result (out.new.items ≡ out.old.items ++ flat_map (λ j. claim.judgement_line (judgement_of j)) judgements.now) }
 {
-    let mut text = Vec::new(alloc);
     for judgement in judgements {
-        let line = judged(alloc, judgement)?;
-        text.extend_from_slice(line.as_slice())?;
+        push_judged(out, judgement)?;
     }
-    Ok(text)
+    Ok(())
 }
 
 /// A line for each of them, in their order, and the line of the totals.
-fn all_judged(alloc: Global, judgements: &[Judgement]) -> Result<Vec<u8>, AllocError>
-    ensures { IfOk result (λ text. text.items ≡ claim.judgements_text (judgements_of judgements.now)) }
+fn push_all_judged(out: &mut Vec<u8>, judgements: &[Judgement]) -> Result<(), AllocError>
+    ensures { OnOk result (out.new.items ≡ out.old.items ++ claim.judgements_text (judgements_of judgements.now)) }
 {
-    let mut text = lines(alloc, judgements)?;
-    let line = total(alloc, valid_count(judgements), unproved_count(judgements))?;
-    text.extend_from_slice(line.as_slice())?;
-    Ok(text)
+    push_lines(out, judgements)?;
+    push_total(out, valid_count(judgements), unproved_count(judgements))?;
+    Ok(())
+}
+
+/// The report of a verdict.
+fn push_report(alloc: Global, out: &mut Vec<u8>, verdict: &Verdict) -> Result<(), AllocError>
+    ensures { OnOk result (out.new.items ≡ out.old.items ++ claim.report_of (verdict_of verdict.now)) }
+{
+    match verdict {
+        Verdict::RefusedWords => out.extend_from_slice(b"refused words\n"),
+        Verdict::TooLarge(quantity) => push_limit(out, *quantity),
+        Verdict::RefusedElf { kind, offset } => push_refused_elf(out, *kind, *offset),
+        Verdict::RefusedC { kind, offset } => push_refused_c(out, *kind, *offset),
+        Verdict::RefusedSyntax { kind, offset } => push_refused_syntax(out, *kind, *offset),
+        Verdict::RefusedPair { kind, name } => push_refused_pair(out, *kind, name.as_slice()),
+        Verdict::RefusedCode {
+            kind,
+            name,
+            address,
+        } => push_refused_code(alloc, out, *kind, name.as_slice(), *address),
+        Verdict::Judged(judgements) => push_all_judged(out, judgements.as_slice()),
+    }
 }
 
 /// What is reported of a verdict: lines that each end with a line feed.
 pub fn report(alloc: Global, verdict: &Verdict) -> Result<Vec<u8>, AllocError>
     ensures { IfOk result (λ text. text.items ≡ claim.report_of (verdict_of verdict.now)) }
 {
-    match verdict {
-        Verdict::RefusedWords => Vec::from_slice(alloc, b"refused words\n"),
-        Verdict::TooLarge(quantity) => limit(alloc, *quantity),
-        Verdict::RefusedElf { kind, offset } => refused_elf(alloc, *kind, *offset),
-        Verdict::RefusedC { kind, offset } => refused_c(alloc, *kind, *offset),
-        Verdict::RefusedSyntax { kind, offset } => refused_syntax(alloc, *kind, *offset),
-        Verdict::RefusedPair { kind, name } => refused_pair(alloc, *kind, name.as_slice()),
-        Verdict::RefusedCode {
-            kind,
-            name,
-            address,
-        } => refused_code(alloc, *kind, name.as_slice(), *address),
-        Verdict::Judged(judgements) => all_judged(alloc, judgements.as_slice()),
-    }
+    let mut text = Vec::new(alloc);
+    push_report(alloc, &mut text, verdict)?;
+    Ok(text)
 }

@@ -11,7 +11,7 @@ use elf_spec::ElfKind;
 use tv_bytes::Bytes;
 
 /// What is said of a listed function.
-#[derive(Debug, Drop)]
+#[derive(Drop)]
 pub struct Judgement {
     /// Its name.
     pub name: Bytes,
@@ -22,7 +22,7 @@ pub struct Judgement {
 }
 
 /// The outcome of a run that neither a fault of the outside nor want of memory ended.
-#[derive(Debug, Drop)]
+#[derive(Drop)]
 pub enum Verdict {
     /// The words are no command.
     RefusedWords,

@@ -25,14 +25,14 @@ use std::alloc::{AllocError, AllocFailed, Global};
 use thiserror::Error;
 
 /// What the program is to do.
-#[derive(Debug, Drop)]
+#[derive(Drop)]
 pub enum Job<'a> {
     /// To look for a proof of some functions, and to write the certificate of those that have one.
     Prove(Proving<'a>),
 }
 
 /// The files and the functions of `prove`.
-#[derive(Debug, Drop)]
+#[derive(Drop)]
 pub struct Proving<'a> {
     /// The name of the executable.
     pub elf: &'a str,

@@ -1,6 +1,6 @@
 //! Lists of functions' names.
 
-ghost use Rattle.std.specs.Prelude.{◌≡◌, ◌==◌, ◌↔◌, IfOk, IfErr, IsTrue, List, ℕ, map, bytes_eq};
+ghost use Rattle.std.specs.Prelude.{◌≡◌, ◌==◌, ◌↔◌, IfOk, IfErr, IsTrue, List, ℕ, [], map, bytes_eq};
 ghost use Rattle.std.specs.List.{slice_split, IsDistinct, list_all};
 ghost use Rattle.c_spec.specs.Words.{begins_word, is_word_byte};
 ghost use Rattle.tv_words.specs.Names as spec;
@@ -71,15 +71,23 @@ fn are_names(texts: &[&str]) -> bool
     texts.iter().all(|text| is_name(text))
 }
 
-/// Whether no text stands twice.
-fn are_distinct(alloc: Global, texts: &[&str]) -> Result<bool, AllocError>
+/// Whether no text stands twice; none is seen at the start.
+fn are_new<'a>(seen: &mut IndexSet<&'a str>, texts: &[&'a str]) -> Result<bool, AllocError>
+    requires { seen.old.keys ≡ [] }
     ensures { IfOk result (λ distinct. IsTrue distinct ↔ IsDistinct bytes_eq (map (λ text. text.now) texts.now)) }
 {
-    let mut seen: IndexSet<&str> = IndexSet::new(alloc);
     for text in texts {
         if !seen.insert(*text)? {
             return Ok(false);
         }
     }
     Ok(true)
+}
+
+/// Whether no text stands twice.
+fn are_distinct(alloc: Global, texts: &[&str]) -> Result<bool, AllocError>
+    ensures { IfOk result (λ distinct. IsTrue distinct ↔ IsDistinct bytes_eq (map (λ text. text.now) texts.now)) }
+{
+    let mut seen: IndexSet<&str> = IndexSet::new(alloc);
+    are_new(&mut seen, texts)
 }

@@ -47,9 +47,10 @@ fn prove<'a>(alloc: Global) -> Result<Command<'a>, AllocError>
 fn program<'a>(alloc: Global) -> Result<Command<'a>, AllocError>
     ensures { IfOk result (λ program. app_of program ≡ spec.program) }
 {
+    let prove = prove(alloc)?;
     let command = Command::new(alloc, "tv")
         .subcommand_required(true)
-        .subcommand(prove(alloc)?)?;
+        .subcommand(prove)?;
     Ok(command)
 }
 
