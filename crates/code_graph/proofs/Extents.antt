@@ -1,6 +1,7 @@
 -- The addresses of the runs of fixed bytes, one after the other.
 use Rattle.std.proofs.Common.{◌≡◌, ◌≢◌, ◌∙◌, inl, inr, ℕ, zero, suc, ◌+◌, ◌-◌, ◌^◌, ◌<◌, ◌≤◌, refl, sym, ap, subst, arith, List, [], ◌∷◌, ◌++◌, All, length, map, take, drop, get_or, Option, Some, None}
-use Rattle.std.specs.Prelude.{slice_get, Contains}
+use Rattle.std.specs.Prelude.{Box, slice_get, Contains}
+use Rattle.std.specs.Global.{Global}
 use Rattle.std.proofs.lemmas.Bool.{cases_lt}
 use Rattle.std.proofs.lemmas.List.{take_more, take_all, map_push, length_push, length-replicate, drop_more, append_assoc}
 use Rattle.std.proofs.lemmas.List.Elements.{All-push}
@@ -10,7 +11,7 @@ use Rattle.elf_spec.specs.Runs.{Run, AreRuns}
 use Rattle.elf_read.specs.declared.parts.Extent.{Extent}
 use Rattle.elf_read.specs.Values.{Extends, MayExtend, IsExtentAt}
 use Rattle.term_core.specs.declared.term.Term.{Term as CodeTerm}
-use Rattle.term_core.specs.Trees.{term_of}
+use Rattle.graph_core.specs.Graphs.{boxed_term}
 use Rattle.term_spec.specs.Term.{Term, or_term, less}
 use Rattle.code_graph_spec.specs.Forms.{number, avoids}
 use Rattle.code_terms.specs.Between.{avoids_between}
@@ -121,18 +122,18 @@ avoids_run a e x order =
     let last : x.last ≡ x.first + length (run_of x).bytes - 1 = omega (arith, blank_long x) in
     ap (λ (n : ℕ). or_term (less (number n) a) (less e (number x.first))) last
 
-pub avoid_step : (a e : Term) (start : List Term) (old new : List CodeTerm) (test : CodeTerm) (runs : List Extent) (i : ℕ) (x : Extent) → All (λ e. e.first ≤ e.last) runs
-    → i < length runs → x ≡ get_or runs i x → new ≡ old ++ test ∷ [] → term_of test ≡ avoids_between a e x.first x.last
-    → map term_of old ++ map (avoids a e) (map run_of (drop i runs)) ≡ start → map term_of new ++ map (avoids a e) (map run_of (drop (i + 1) runs)) ≡ start
+pub avoid_step : (a e : Term) (start : List Term) (old new : List (Box CodeTerm Global)) (test : Box CodeTerm Global) (runs : List Extent) (i : ℕ) (x : Extent) → All (λ e. e.first ≤ e.last) runs
+    → i < length runs → x ≡ get_or runs i x → new ≡ old ++ test ∷ [] → boxed_term test ≡ avoids_between a e x.first x.last
+    → map boxed_term old ++ map (avoids a e) (map run_of (drop i runs)) ≡ start → map boxed_term new ++ map (avoids a e) (map run_of (drop (i + 1) runs)) ≡ start
 avoid_step a e start old new test runs i x ordered within is pushed tested whole =
     let order : x.first ≤ x.last = subst (λ (y : Extent). y.first ≤ y.last) (sym is) (ordered i x within) in
-    let one : term_of test ≡ avoids a e (run_of x) = tested ∙ avoids_run a e x order in
+    let one : boxed_term test ≡ avoids a e (run_of x) = tested ∙ avoids_run a e x order in
     let rest : drop i runs ≡ x ∷ drop (i + 1) runs = drop_more runs i x within ∙ ap (λ (y : Extent). y ∷ drop (i + 1) runs) (sym is) in
-    ap (λ (ts : List CodeTerm). map term_of ts ++ map (avoids a e) (map run_of (drop (i + 1) runs))) pushed
-    ∙ ap (λ (ts : List Term). ts ++ map (avoids a e) (map run_of (drop (i + 1) runs))) (map_push term_of old test)
-    ∙ append_assoc (map term_of old) (term_of test ∷ []) (map (avoids a e) (map run_of (drop (i + 1) runs)))
-    ∙ ap (λ (t : Term). map term_of old ++ t ∷ map (avoids a e) (map run_of (drop (i + 1) runs))) one
-    ∙ ap (λ (rs : List Extent). map term_of old ++ map (avoids a e) (map run_of rs)) (sym rest)
+    ap (λ (ts : List (Box CodeTerm Global)). map boxed_term ts ++ map (avoids a e) (map run_of (drop (i + 1) runs))) pushed
+    ∙ ap (λ (ts : List Term). ts ++ map (avoids a e) (map run_of (drop (i + 1) runs))) (map_push boxed_term old test)
+    ∙ append_assoc (map boxed_term old) (boxed_term test ∷ []) (map (avoids a e) (map run_of (drop (i + 1) runs)))
+    ∙ ap (λ (t : Term). map boxed_term old ++ t ∷ map (avoids a e) (map run_of (drop (i + 1) runs))) one
+    ∙ ap (λ (rs : List Extent). map boxed_term old ++ map (avoids a e) (map run_of rs)) (sym rest)
     ∙ whole
 
 -- registers by numbers that are small

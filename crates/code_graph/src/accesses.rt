@@ -2,6 +2,7 @@
 
 ghost use Rattle.std.specs.Prelude.{◌≡◌, ◌++◌, ◌∷◌, [], ◌≤◌, map, All, IfOk, OnOk};
 ghost use Rattle.term_core.specs.Trees.{term_of};
+ghost use Rattle.graph_core.specs.Graphs.{boxed_term};
 ghost use Rattle.code_graph_spec.specs.Forms as spec;
 ghost use Rattle.code_graph.specs.Settings.{run_of};
 
@@ -12,8 +13,8 @@ use std::alloc::{AllocError, Global};
 use term_core::Term;
 
 /// The one test that an address is a multiple of a power of 2, of which 1 is taken here.
-fn alignment(alloc: Global, mask: u32, a: &Term) -> Result<Vec<Term>, AllocError>
-    ensures { IfOk result (λ tests. map term_of tests.items ≡ spec.is_multiple mask (term_of a.now) ∷ []) }
+fn alignment(alloc: Global, mask: u32, a: &Term) -> Result<Vec<Box<Term>>, AllocError>
+    ensures { IfOk result (λ tests. map boxed_term tests.items ≡ spec.is_multiple mask (term_of a.now) ∷ []) }
 {
     let test = is_multiple(alloc, mask, a)?;
     let mut tests = Vec::new(alloc);
@@ -22,8 +23,8 @@ fn alignment(alloc: Global, mask: u32, a: &Term) -> Result<Vec<Term>, AllocError
 }
 
 /// The tests before a load.
-fn load_tests(alloc: Global, kind: LoadKind, a: &Term) -> Result<Vec<Term>, AllocError>
-    ensures { IfOk result (λ tests. map term_of tests.items ≡ spec.load_tests kind (term_of a.now)) }
+fn load_tests(alloc: Global, kind: LoadKind, a: &Term) -> Result<Vec<Box<Term>>, AllocError>
+    ensures { IfOk result (λ tests. map boxed_term tests.items ≡ spec.load_tests kind (term_of a.now)) }
 {
     match kind {
         LoadKind::Byte | LoadKind::ByteUnsigned => Ok(Vec::new(alloc)),
@@ -33,8 +34,8 @@ fn load_tests(alloc: Global, kind: LoadKind, a: &Term) -> Result<Vec<Term>, Allo
 }
 
 /// The test of a store's alignment.
-fn store_alignment(alloc: Global, kind: StoreKind, a: &Term) -> Result<Vec<Term>, AllocError>
-    ensures { IfOk result (λ tests. map term_of tests.items ≡ spec.aligned_for kind (term_of a.now)) }
+fn store_alignment(alloc: Global, kind: StoreKind, a: &Term) -> Result<Vec<Box<Term>>, AllocError>
+    ensures { IfOk result (λ tests. map boxed_term tests.items ≡ spec.aligned_for kind (term_of a.now)) }
 {
     match kind {
         StoreKind::Byte => Ok(Vec::new(alloc)),
@@ -46,13 +47,13 @@ fn store_alignment(alloc: Global, kind: StoreKind, a: &Term) -> Result<Vec<Term>
 /// Adds the tests that the bytes from an address to another meet none of some runs of fixed bytes.
 fn avoid(
     alloc: Global,
-    tests: &mut Vec<Term>,
+    tests: &mut Vec<Box<Term>>,
     runs: &[Extent],
     a: &Term,
     e: &Term,
 ) -> Result<(), AllocError>
     requires { All (λ run. run.first ≤ run.last) runs.now }
-    ensures { OnOk result (map term_of tests.new.items ≡ map term_of tests.old.items ++ map (spec.avoids (term_of a.now) (term_of e.now)) (map run_of runs.now)) }
+    ensures { OnOk result (map boxed_term tests.new.items ≡ map boxed_term tests.old.items ++ map (spec.avoids (term_of a.now) (term_of e.now)) (map run_of runs.now)) }
 {
     for run in runs {
         let test = avoids(alloc, a, e, run.first, run.last)?;
@@ -67,9 +68,9 @@ fn store_tests(
     runs: &[Extent],
     kind: StoreKind,
     a: &Term,
-) -> Result<Vec<Term>, AllocError>
+) -> Result<Vec<Box<Term>>, AllocError>
     requires { All (λ run. run.first ≤ run.last) runs.now }
-    ensures { IfOk result (λ tests. map term_of tests.items ≡ spec.store_tests (map run_of runs.now) kind (term_of a.now)) }
+    ensures { IfOk result (λ tests. map boxed_term tests.items ≡ spec.store_tests (map run_of runs.now) kind (term_of a.now)) }
 {
     let mut tests = store_alignment(alloc, kind, a)?;
     let last = last_written(alloc, kind, a)?;
@@ -82,9 +83,9 @@ pub(crate) fn access_tests(
     alloc: Global,
     runs: &[Extent],
     form: &Instr,
-) -> Result<Vec<Term>, AllocError>
+) -> Result<Vec<Box<Term>>, AllocError>
     requires { All (λ run. run.first ≤ run.last) runs.now }
-    ensures { IfOk result (λ tests. map term_of tests.items ≡ spec.access_tests (map run_of runs.now) form.now) }
+    ensures { IfOk result (λ tests. map boxed_term tests.items ≡ spec.access_tests (map run_of runs.now) form.now) }
 {
     match *form {
         Instr::Load {

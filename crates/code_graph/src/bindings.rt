@@ -2,8 +2,7 @@
 
 ghost use Rattle.std.specs.Prelude.{◌≡◌, ◌*◌, ◌%◌, ◌^◌, ◌∷◌, [], ◌++◌, ◌<◌, map, All, IfOk, OnOk};
 ghost use Rattle.rv_spec.specs.Arithmetic.{of_immediate as of_immediate_is, of_shift as of_shift_is};
-ghost use Rattle.term_core.specs.Trees.{term_of};
-ghost use Rattle.graph_core.specs.Graphs.{binding_of, bindings_of};
+ghost use Rattle.graph_core.specs.Graphs.{binding_of, bindings_of, boxed_term};
 ghost use Rattle.code_graph_spec.specs.State.{memory as memory_is};
 ghost use Rattle.code_graph_spec.specs.Forms as spec;
 ghost use Rattle.code_graph_spec.specs.Blocks.{call_inputs as call_inputs_are, entry_binding as entry_binding_is};
@@ -20,8 +19,8 @@ use term_core::Term;
 use term_spec::Atom;
 
 /// Binds a register, unless it is x0, which nothing writes.
-fn put(alloc: Global, rd: Reg, term: Term) -> Result<Vec<Binding>, AllocError>
-    ensures { IfOk result (λ bindings. bindings_of bindings ≡ spec.put rd (term_of term)) }
+fn put(alloc: Global, rd: Reg, term: Box<Term>) -> Result<Vec<Binding>, AllocError>
+    ensures { IfOk result (λ bindings. bindings_of bindings ≡ spec.put rd (boxed_term term)) }
 {
     let mut bindings = Vec::new(alloc);
     if rd.number() != 0 {
@@ -31,6 +30,14 @@ fn put(alloc: Global, rd: Reg, term: Term) -> Result<Vec<Binding>, AllocError>
         })?;
     }
     Ok(bindings)
+}
+
+/// Binds a register to a number.
+fn puts(alloc: Global, rd: Reg, n: u32) -> Result<Vec<Binding>, AllocError>
+    ensures { IfOk result (λ bindings. bindings_of bindings ≡ spec.put rd (spec.number n)) }
+{
+    let term = number(alloc, n)?;
+    put(alloc, rd, term)
 }
 
 /// The operation of one with an immediate.
@@ -63,13 +70,43 @@ fn computes(
     alloc: Global,
     operation: ArithmeticOperation,
     rd: Reg,
-    x: Term,
-    y: Term,
+    x: Box<Term>,
+    y: Box<Term>,
 ) -> Result<Vec<Binding>, AllocError>
-    ensures { IfOk result (λ bindings. bindings_of bindings ≡ spec.put rd (spec.computed operation (term_of x) (term_of y))) }
+    ensures { IfOk result (λ bindings. bindings_of bindings ≡ spec.put rd (spec.computed operation (boxed_term x) (boxed_term y))) }
 {
     let term = computed(alloc, operation, x, y)?;
     put(alloc, rd, term)
+}
+
+/// What an operation of two registers binds.
+fn computes_of(
+    alloc: Global,
+    operation: ArithmeticOperation,
+    rd: Reg,
+    left: Reg,
+    right: Reg,
+) -> Result<Vec<Binding>, AllocError>
+    ensures { IfOk result (λ bindings. bindings_of bindings ≡ spec.put rd (spec.computed operation (spec.operand left) (spec.operand right))) }
+{
+    let x = operand(alloc, left)?;
+    let y = operand(alloc, right)?;
+    computes(alloc, operation, rd, x, y)
+}
+
+/// What an operation of a register and a number binds.
+fn computes_with(
+    alloc: Global,
+    operation: ArithmeticOperation,
+    rd: Reg,
+    source: Reg,
+    n: u32,
+) -> Result<Vec<Binding>, AllocError>
+    ensures { IfOk result (λ bindings. bindings_of bindings ≡ spec.put rd (spec.computed operation (spec.operand source) (spec.number n))) }
+{
+    let x = operand(alloc, source)?;
+    let y = number(alloc, n)?;
+    computes(alloc, operation, rd, x, y)
 }
 
 /// What a load binds.
@@ -98,7 +135,8 @@ fn stores(
     ensures { IfOk result (λ bindings. bindings_of bindings ≡ record { variable = memory_is; term = spec.stored kind (spec.address base offset) (spec.operand source) } ∷ []) }
 {
     let a = address(alloc, base, offset)?;
-    let term = stored(alloc, kind, &a, &operand(source))?;
+    let source = operand(alloc, source)?;
+    let term = stored(alloc, kind, &a, &source)?;
     let mut bindings = Vec::new(alloc);
     bindings.push(Binding {
         variable: memory(),
@@ -120,8 +158,8 @@ pub(crate) fn effects(alloc: Global, place: u32, form: &Instr) -> Result<Vec<Bin
     ensures { IfOk result (λ bindings. bindings_of bindings ≡ spec.effects place form.now) }
 {
     match *form {
-        Instr::Lui { rd, imm } => put(alloc, rd, number(upper(imm))),
-        Instr::Auipc { rd, imm } => put(alloc, rd, number(place.wrapping_add(upper(imm)))),
+        Instr::Lui { rd, imm } => puts(alloc, rd, upper(imm)),
+        Instr::Auipc { rd, imm } => puts(alloc, rd, place.wrapping_add(upper(imm))),
         Instr::Load {
             kind,
             rd,
@@ -139,31 +177,25 @@ pub(crate) fn effects(alloc: Global, place: u32, form: &Instr) -> Result<Vec<Bin
             rd,
             source,
             imm,
-        } => computes(
+        } => computes_with(
             alloc,
             of_immediate(operation),
             rd,
-            operand(source),
-            number(imm.cast_unsigned()),
+            source,
+            imm.cast_unsigned(),
         ),
         Instr::Shift {
             operation,
             rd,
             source,
             amount,
-        } => computes(
-            alloc,
-            of_shift(operation),
-            rd,
-            operand(source),
-            number(u32::from(amount)),
-        ),
+        } => computes_with(alloc, of_shift(operation), rd, source, u32::from(amount)),
         Instr::Arithmetic {
             operation,
             rd,
             left,
             right,
-        } => computes(alloc, operation, rd, operand(left), operand(right)),
+        } => computes_of(alloc, operation, rd, left, right),
         Instr::Jal { .. }
         | Instr::Jalr { .. }
         | Instr::Branch { .. }
@@ -180,22 +212,24 @@ const OTHER_REGISTERS: [u8; 30] = [
 ];
 
 /// A called function's entry register, which has what the register has.
-fn entry_binding(r: Reg) -> Binding
-    ensures { binding_of result ≡ entry_binding_is r }
+fn entry_binding(alloc: Global, r: Reg) -> Result<Binding, AllocError>
+    ensures { IfOk result (λ binding. binding_of binding ≡ entry_binding_is r) }
 {
-    Binding {
+    let term = Term::leaf(alloc, Atom::Open(register(r)))?;
+    Ok(Binding {
         variable: entry_register(r),
-        term: Term::Leaf(Atom::Open(register(r))),
-    }
+        term,
+    })
 }
 
 /// Adds what the registers of these numbers give to a called function.
-fn enter(bindings: &mut Vec<Binding>, numbers: &[u8]) -> Result<(), AllocError>
+fn enter(alloc: Global, bindings: &mut Vec<Binding>, numbers: &[u8]) -> Result<(), AllocError>
     requires { All (λ r. r < 32) numbers.now }
     ensures { OnOk result (bindings_of bindings.new ≡ bindings_of bindings.old ++ map entry_binding_is numbers.now) }
 {
     for r in numbers {
-        bindings.push(entry_binding(Reg::new(*r)))?;
+        let binding = entry_binding(alloc, Reg::new(*r))?;
+        bindings.push(binding)?;
     }
     Ok(())
 }
@@ -205,15 +239,17 @@ fn enter(bindings: &mut Vec<Binding>, numbers: &[u8]) -> Result<(), AllocError>
 pub(crate) fn call_inputs(alloc: Global, back: u32) -> Result<Vec<Binding>, AllocError>
     ensures { IfOk result (λ inputs. bindings_of inputs ≡ call_inputs_are back) }
 {
+    let now = number(alloc, back)?;
+    let entry = number(alloc, back)?;
     let mut inputs = Vec::new(alloc);
     inputs.push(Binding {
         variable: register(Reg::new(1)),
-        term: number(back),
+        term: now,
     })?;
     inputs.push(Binding {
         variable: entry_register(Reg::new(1)),
-        term: number(back),
+        term: entry,
     })?;
-    enter(&mut inputs, &OTHER_REGISTERS)?;
+    enter(alloc, &mut inputs, &OTHER_REGISTERS)?;
     Ok(inputs)
 }

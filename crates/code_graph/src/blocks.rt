@@ -2,9 +2,8 @@
 
 ghost use Rattle.std.specs.Prelude.{◌≡◌, ◌==◌, ◌∷◌, [], map, if◌then◌else◌, IfOk, OnOk, None};
 ghost use Rattle.code_spec.specs.Code.{Flow, flow_of, Falls, Branches, Jumps, Calls, Leads, Returns, Stops};
-ghost use Rattle.term_core.specs.Trees.{term_of};
 ghost use Rattle.graph_spec.specs.Graph.{Basic, with_nodes};
-ghost use Rattle.graph_core.specs.Graphs.{graph_of, node_of};
+ghost use Rattle.graph_core.specs.Graphs.{boxed_term, graph_of, node_of};
 ghost use Rattle.code_graph_spec.specs.Forms.{branch_test as branch_test_is};
 ghost use Rattle.code_graph_layout.specs.Layout.{block};
 ghost use Rattle.code_graph.specs.Items.{item_of, item_with, is_return_flow};
@@ -46,8 +45,13 @@ fn is_return(form: &Instr) -> bool
 impl Function<'_> {
     /// Adds the tests of an instruction, each of which goes on to the node behind it; where one doesn't hold the run
     /// fails.
-    fn add_tests(&self, graph: &mut Graph, address: u32, tests: Vec<Term>) -> Result<(), AllocError>
-        ensures { OnOk result (graph_of graph.new ≡ with_nodes (graph_of graph.old) (asks (setting_of self.now) address 0 (map term_of tests.items))) }
+    fn add_tests(
+        &self,
+        graph: &mut Graph,
+        address: u32,
+        tests: Vec<Box<Term>>,
+    ) -> Result<(), AllocError>
+        ensures { OnOk result (graph_of graph.new ≡ with_nodes (graph_of graph.old) (asks (setting_of self.now) address 0 (map boxed_term tests.items))) }
     {
         let mut index: usize = 0;
         for test in tests {
@@ -79,10 +83,10 @@ impl Function<'_> {
         &self,
         graph: &mut Graph,
         item: &Item,
-        test: Term,
+        test: Box<Term>,
         target: u32,
     ) -> Result<(), AllocError>
-        requires { term_of test ≡ branch_test_is item.now.form }
+        requires { boxed_term test ≡ branch_test_is item.now.form }
         ensures { OnOk result (graph_of graph.new ≡ with_nodes (graph_of graph.old) (block (setting_of self.now) (item_with item.now (Branches target)))) }
     {
         let on_true = self.toward(target);

@@ -21,7 +21,7 @@ use indexmap::IndexMap;
 use std::alloc::{AllocError, Global};
 
 /// The graph of a function, and where its instructions stand in it.
-#[derive(Debug, Drop)]
+#[derive(Drop)]
 pub struct CodeGraph {
     /// The graph. A call's callee is a place in the list of entries.
     pub graph: Graph,

@@ -19,46 +19,48 @@ use term_spec::{
 };
 
 /// The address so many bytes past another.
-fn past(alloc: Global, a: &Term, count: u32) -> Result<Term, AllocError>
-    ensures { IfOk result (λ t. term_of t ≡ shapes.past (term_of a.now) count) }
+fn past(alloc: Global, a: &Term, count: u32) -> Result<Box<Term>, AllocError>
+    ensures { IfOk result (λ t. term_of t.value ≡ shapes.past (term_of a.now) count) }
 {
     let copy = a.copy(alloc)?;
-    on_words(alloc, WordOperator::Add, copy, number(count))
+    let count = number(alloc, count)?;
+    on_words(alloc, WordOperator::Add, copy, count)
 }
 
 /// The byte of the binary's memory at an address.
-fn load(alloc: Global, a: Term) -> Result<Term, AllocError>
-    ensures { IfOk result (λ t. term_of t ≡ tree.load (tree.open_term state.memory) (term_of a)) }
+fn load(alloc: Global, a: Box<Term>) -> Result<Box<Term>, AllocError>
+    ensures { IfOk result (λ t. term_of t.value ≡ tree.load (tree.open_term state.memory) (term_of a.value)) }
 {
-    Term::binary(alloc, BinaryOperator::Load, open(memory()), a)
+    let memory = open(alloc, memory())?;
+    Term::binary(alloc, BinaryOperator::Load, memory, a)
 }
 
 /// The byte at an address.
-fn first_byte(alloc: Global, a: &Term) -> Result<Term, AllocError>
-    ensures { IfOk result (λ t. term_of t ≡ tree.load (tree.open_term state.memory) (term_of a.now)) }
+fn first_byte(alloc: Global, a: &Term) -> Result<Box<Term>, AllocError>
+    ensures { IfOk result (λ t. term_of t.value ≡ tree.load (tree.open_term state.memory) (term_of a.now)) }
 {
     let copy = a.copy(alloc)?;
     load(alloc, copy)
 }
 
 /// The byte so many bytes past an address.
-fn further_byte(alloc: Global, a: &Term, count: u32) -> Result<Term, AllocError>
-    ensures { IfOk result (λ t. term_of t ≡ tree.load (tree.open_term state.memory) (shapes.past (term_of a.now) count)) }
+fn further_byte(alloc: Global, a: &Term, count: u32) -> Result<Box<Term>, AllocError>
+    ensures { IfOk result (λ t. term_of t.value ≡ tree.load (tree.open_term state.memory) (shapes.past (term_of a.now) count)) }
 {
     let place = past(alloc, a, count)?;
     load(alloc, place)
 }
 
-fn load_half(alloc: Global, a: &Term) -> Result<Term, AllocError>
-    ensures { IfOk result (λ t. term_of t ≡ shapes.load_half (tree.open_term state.memory) (term_of a.now)) }
+fn load_half(alloc: Global, a: &Term) -> Result<Box<Term>, AllocError>
+    ensures { IfOk result (λ t. term_of t.value ≡ shapes.load_half (tree.open_term state.memory) (term_of a.now)) }
 {
     let first = first_byte(alloc, a)?;
     let second = further_byte(alloc, a, 1)?;
     Term::binary(alloc, BinaryOperator::Join, first, second)
 }
 
-fn load_word(alloc: Global, a: &Term) -> Result<Term, AllocError>
-    ensures { IfOk result (λ t. term_of t ≡ shapes.load_word (tree.open_term state.memory) (term_of a.now)) }
+fn load_word(alloc: Global, a: &Term) -> Result<Box<Term>, AllocError>
+    ensures { IfOk result (λ t. term_of t.value ≡ shapes.load_word (tree.open_term state.memory) (term_of a.now)) }
 {
     let first = first_byte(alloc, a)?;
     let second = further_byte(alloc, a, 1)?;
@@ -76,8 +78,8 @@ fn load_word(alloc: Global, a: &Term) -> Result<Term, AllocError>
 
 /// What a load puts into its register.
 #[tactic(auto, unfolding(code_graph_spec::specs::Forms::loaded))]
-pub fn loaded(alloc: Global, kind: LoadKind, a: &Term) -> Result<Term, AllocError>
-    ensures { IfOk result (λ t. term_of t ≡ forms.loaded kind (term_of a.now)) }
+pub fn loaded(alloc: Global, kind: LoadKind, a: &Term) -> Result<Box<Term>, AllocError>
+    ensures { IfOk result (λ t. term_of t.value ≡ forms.loaded kind (term_of a.now)) }
 {
     match kind {
         LoadKind::Byte => {
@@ -101,30 +103,37 @@ pub fn loaded(alloc: Global, kind: LoadKind, a: &Term) -> Result<Term, AllocErro
 }
 
 /// A memory with the byte at an address changed to one of a word.
-fn store(alloc: Global, m: Term, a: Term, place: u8, x: &Term) -> Result<Term, AllocError>
-    ensures { IfOk result (λ t. term_of t ≡ tree.store (term_of m) (term_of a) (tree.byte place (term_of x.now))) }
+fn store(
+    alloc: Global,
+    m: Box<Term>,
+    a: Box<Term>,
+    place: u8,
+    x: &Term,
+) -> Result<Box<Term>, AllocError>
+    ensures { IfOk result (λ t. term_of t.value ≡ tree.store (term_of m.value) (term_of a.value) (tree.byte place (term_of x.now))) }
 {
     let value = byte(alloc, place, x)?;
     Term::ternary(alloc, TernaryOperator::Store, m, a, value)
 }
 
-fn store_byte(alloc: Global, a: &Term, x: &Term) -> Result<Term, AllocError>
-    ensures { IfOk result (λ t. term_of t ≡ shapes.store_byte (tree.open_term state.memory) (term_of a.now) (term_of x.now)) }
+fn store_byte(alloc: Global, a: &Term, x: &Term) -> Result<Box<Term>, AllocError>
+    ensures { IfOk result (λ t. term_of t.value ≡ shapes.store_byte (tree.open_term state.memory) (term_of a.now) (term_of x.now)) }
 {
     let copy = a.copy(alloc)?;
-    store(alloc, open(memory()), copy, 0, x)
+    let memory = open(alloc, memory())?;
+    store(alloc, memory, copy, 0, x)
 }
 
-fn store_half(alloc: Global, a: &Term, x: &Term) -> Result<Term, AllocError>
-    ensures { IfOk result (λ t. term_of t ≡ shapes.store_half (tree.open_term state.memory) (term_of a.now) (term_of x.now)) }
+fn store_half(alloc: Global, a: &Term, x: &Term) -> Result<Box<Term>, AllocError>
+    ensures { IfOk result (λ t. term_of t.value ≡ shapes.store_half (tree.open_term state.memory) (term_of a.now) (term_of x.now)) }
 {
     let first = store_byte(alloc, a, x)?;
     let place = past(alloc, a, 1)?;
     store(alloc, first, place, 1, x)
 }
 
-fn store_word(alloc: Global, a: &Term, x: &Term) -> Result<Term, AllocError>
-    ensures { IfOk result (λ t. term_of t ≡ shapes.store_word (tree.open_term state.memory) (term_of a.now) (term_of x.now)) }
+fn store_word(alloc: Global, a: &Term, x: &Term) -> Result<Box<Term>, AllocError>
+    ensures { IfOk result (λ t. term_of t.value ≡ shapes.store_word (tree.open_term state.memory) (term_of a.now) (term_of x.now)) }
 {
     let half = store_half(alloc, a, x)?;
     let third = past(alloc, a, 2)?;
@@ -135,8 +144,8 @@ fn store_word(alloc: Global, a: &Term, x: &Term) -> Result<Term, AllocError>
 
 /// The memory after a store.
 #[tactic(auto, unfolding(code_graph_spec::specs::Forms::stored))]
-pub fn stored(alloc: Global, kind: StoreKind, a: &Term, x: &Term) -> Result<Term, AllocError>
-    ensures { IfOk result (λ t. term_of t ≡ forms.stored kind (term_of a.now) (term_of x.now)) }
+pub fn stored(alloc: Global, kind: StoreKind, a: &Term, x: &Term) -> Result<Box<Term>, AllocError>
+    ensures { IfOk result (λ t. term_of t.value ≡ forms.stored kind (term_of a.now) (term_of x.now)) }
 {
     match kind {
         StoreKind::Byte => store_byte(alloc, a, x),
@@ -146,17 +155,19 @@ pub fn stored(alloc: Global, kind: StoreKind, a: &Term, x: &Term) -> Result<Term
 }
 
 /// The address is a multiple of a power of 2, of which 1 is taken here.
-pub fn is_multiple(alloc: Global, mask: u32, a: &Term) -> Result<Term, AllocError>
-    ensures { IfOk result (λ t. term_of t ≡ forms.is_multiple mask (term_of a.now)) }
+pub fn is_multiple(alloc: Global, mask: u32, a: &Term) -> Result<Box<Term>, AllocError>
+    ensures { IfOk result (λ t. term_of t.value ≡ forms.is_multiple mask (term_of a.now)) }
 {
     let copy = a.copy(alloc)?;
-    let low = on_words(alloc, WordOperator::And, copy, number(mask))?;
-    Term::binary(alloc, BinaryOperator::Equal, low, number(0))
+    let mask = number(alloc, mask)?;
+    let low = on_words(alloc, WordOperator::And, copy, mask)?;
+    let zero = number(alloc, 0)?;
+    Term::binary(alloc, BinaryOperator::Equal, low, zero)
 }
 
 /// The last byte that a store writes.
-pub fn last_written(alloc: Global, kind: StoreKind, a: &Term) -> Result<Term, AllocError>
-    ensures { IfOk result (λ t. term_of t ≡ forms.last_written kind (term_of a.now)) }
+pub fn last_written(alloc: Global, kind: StoreKind, a: &Term) -> Result<Box<Term>, AllocError>
+    ensures { IfOk result (λ t. term_of t.value ≡ forms.last_written kind (term_of a.now)) }
 {
     match kind {
         StoreKind::Byte => a.copy(alloc),
@@ -165,13 +176,35 @@ pub fn last_written(alloc: Global, kind: StoreKind, a: &Term) -> Result<Term, Al
     }
 }
 
-/// The bytes from an address to another meet none of a run of fixed bytes, of which these are the first and the last.
-pub fn avoids(alloc: Global, a: &Term, e: &Term, first: u32, last: u32) -> Result<Term, AllocError>
-    ensures { IfOk result (λ t. term_of t ≡ avoids_between (term_of a.now) (term_of e.now) first last) }
+/// The number is less than the word.
+fn is_above(alloc: Global, n: u32, a: &Term) -> Result<Box<Term>, AllocError>
+    ensures { IfOk result (λ t. term_of t.value ≡ tree.less (forms.number n) (term_of a.now)) }
 {
-    let begin = a.copy(alloc)?;
-    let before = Term::binary(alloc, BinaryOperator::Less, number(last), begin)?;
-    let end = e.copy(alloc)?;
-    let behind = Term::binary(alloc, BinaryOperator::Less, end, number(first))?;
+    let n = number(alloc, n)?;
+    let copy = a.copy(alloc)?;
+    Term::binary(alloc, BinaryOperator::Less, n, copy)
+}
+
+/// The word is less than the number.
+fn is_below(alloc: Global, a: &Term, n: u32) -> Result<Box<Term>, AllocError>
+    ensures { IfOk result (λ t. term_of t.value ≡ tree.less (term_of a.now) (forms.number n)) }
+{
+    let copy = a.copy(alloc)?;
+    let n = number(alloc, n)?;
+    Term::binary(alloc, BinaryOperator::Less, copy, n)
+}
+
+/// The bytes from an address to another meet none of a run of fixed bytes, of which these are the first and the last.
+pub fn avoids(
+    alloc: Global,
+    a: &Term,
+    e: &Term,
+    first: u32,
+    last: u32,
+) -> Result<Box<Term>, AllocError>
+    ensures { IfOk result (λ t. term_of t.value ≡ avoids_between (term_of a.now) (term_of e.now) first last) }
+{
+    let before = is_above(alloc, last, a)?;
+    let behind = is_below(alloc, e, first)?;
     Term::binary(alloc, BinaryOperator::Or, before, behind)
 }

@@ -16,20 +16,21 @@ use term_core::Term;
 use term_spec::{BinaryOperator, TernaryOperator, UnaryOperator, WordOperator};
 
 /// A word with its top bit flipped.
-fn flipped(alloc: Global, x: Term) -> Result<Term, AllocError>
-    ensures { IfOk result (λ t. term_of t ≡ tree.bit_xor (term_of x) (shapes.sign_bit W32)) }
+fn flipped(alloc: Global, x: Box<Term>) -> Result<Box<Term>, AllocError>
+    ensures { IfOk result (λ t. term_of t.value ≡ tree.bit_xor (term_of x.value) (shapes.sign_bit W32)) }
 {
-    on_words(alloc, WordOperator::Xor, x, number(0x8000_0000))
+    let sign = number(alloc, 0x8000_0000)?;
+    on_words(alloc, WordOperator::Xor, x, sign)
 }
 
-fn less(alloc: Global, x: Term, y: Term) -> Result<Term, AllocError>
-    ensures { IfOk result (λ t. term_of t ≡ tree.less (term_of x) (term_of y)) }
+fn less(alloc: Global, x: Box<Term>, y: Box<Term>) -> Result<Box<Term>, AllocError>
+    ensures { IfOk result (λ t. term_of t.value ≡ tree.less (term_of x.value) (term_of y.value)) }
 {
     Term::binary(alloc, BinaryOperator::Less, x, y)
 }
 
-fn signed_less(alloc: Global, x: Term, y: Term) -> Result<Term, AllocError>
-    ensures { IfOk result (λ t. term_of t ≡ shapes.signed_less W32 (term_of x) (term_of y)) }
+fn signed_less(alloc: Global, x: Box<Term>, y: Box<Term>) -> Result<Box<Term>, AllocError>
+    ensures { IfOk result (λ t. term_of t.value ≡ shapes.signed_less W32 (term_of x.value) (term_of y.value)) }
 {
     let left = flipped(alloc, x)?;
     let right = flipped(alloc, y)?;
@@ -37,29 +38,37 @@ fn signed_less(alloc: Global, x: Term, y: Term) -> Result<Term, AllocError>
 }
 
 /// 1 where the test holds, else 0.
-fn set_if(alloc: Global, test: Term) -> Result<Term, AllocError>
-    ensures { IfOk result (λ t. term_of t ≡ forms.set_if (term_of test)) }
+fn set_if(alloc: Global, test: Box<Term>) -> Result<Box<Term>, AllocError>
+    ensures { IfOk result (λ t. term_of t.value ≡ forms.set_if (term_of test.value)) }
 {
-    Term::ternary(alloc, TernaryOperator::Choose, test, number(1), number(0))
+    let one = number(alloc, 1)?;
+    let zero = number(alloc, 0)?;
+    Term::ternary(alloc, TernaryOperator::Choose, test, one, zero)
 }
 
 /// A shift by the low five bits of y.
-fn shift(alloc: Global, operator: WordOperator, x: Term, y: Term) -> Result<Term, AllocError>
-    ensures { IfOk result (λ t. term_of t ≡ tree.on_words operator (term_of x) (forms.places (term_of y))) }
+fn shift(
+    alloc: Global,
+    operator: WordOperator,
+    x: Box<Term>,
+    y: Box<Term>,
+) -> Result<Box<Term>, AllocError>
+    ensures { IfOk result (λ t. term_of t.value ≡ tree.on_words operator (term_of x.value) (forms.places (term_of y.value))) }
 {
-    let places = on_words(alloc, WordOperator::And, y, number(31))?;
+    let mask = number(alloc, 31)?;
+    let places = on_words(alloc, WordOperator::And, y, mask)?;
     on_words(alloc, operator, x, places)
 }
 
-fn set_less(alloc: Global, x: Term, y: Term) -> Result<Term, AllocError>
-    ensures { IfOk result (λ t. term_of t ≡ forms.set_if (shapes.signed_less W32 (term_of x) (term_of y))) }
+fn set_less(alloc: Global, x: Box<Term>, y: Box<Term>) -> Result<Box<Term>, AllocError>
+    ensures { IfOk result (λ t. term_of t.value ≡ forms.set_if (shapes.signed_less W32 (term_of x.value) (term_of y.value))) }
 {
     let test = signed_less(alloc, x, y)?;
     set_if(alloc, test)
 }
 
-fn set_less_unsigned(alloc: Global, x: Term, y: Term) -> Result<Term, AllocError>
-    ensures { IfOk result (λ t. term_of t ≡ forms.set_if (tree.less (term_of x) (term_of y))) }
+fn set_less_unsigned(alloc: Global, x: Box<Term>, y: Box<Term>) -> Result<Box<Term>, AllocError>
+    ensures { IfOk result (λ t. term_of t.value ≡ forms.set_if (tree.less (term_of x.value) (term_of y.value))) }
 {
     let test = less(alloc, x, y)?;
     set_if(alloc, test)
@@ -70,10 +79,10 @@ fn set_less_unsigned(alloc: Global, x: Term, y: Term) -> Result<Term, AllocError
 pub fn computed(
     alloc: Global,
     operation: ArithmeticOperation,
-    x: Term,
-    y: Term,
-) -> Result<Term, AllocError>
-    ensures { IfOk result (λ t. term_of t ≡ forms.computed operation (term_of x) (term_of y)) }
+    x: Box<Term>,
+    y: Box<Term>,
+) -> Result<Box<Term>, AllocError>
+    ensures { IfOk result (λ t. term_of t.value ≡ forms.computed operation (term_of x.value) (term_of y.value)) }
 {
     match operation {
         ArithmeticOperation::Add => on_words(alloc, WordOperator::Add, x, y),
@@ -101,22 +110,27 @@ pub fn computed(
     }
 }
 
-fn equal(alloc: Global, x: Term, y: Term) -> Result<Term, AllocError>
-    ensures { IfOk result (λ t. term_of t ≡ tree.equal (term_of x) (term_of y)) }
+fn equal(alloc: Global, x: Box<Term>, y: Box<Term>) -> Result<Box<Term>, AllocError>
+    ensures { IfOk result (λ t. term_of t.value ≡ tree.equal (term_of x.value) (term_of y.value)) }
 {
     Term::binary(alloc, BinaryOperator::Equal, x, y)
 }
 
-fn opposite(alloc: Global, test: Term) -> Result<Term, AllocError>
-    ensures { IfOk result (λ t. term_of t ≡ tree.not_term (term_of test)) }
+fn opposite(alloc: Global, test: Box<Term>) -> Result<Box<Term>, AllocError>
+    ensures { IfOk result (λ t. term_of t.value ≡ tree.not_term (term_of test.value)) }
 {
     Term::unary(alloc, UnaryOperator::Not, test)
 }
 
 /// Whether a branch is taken.
 #[tactic(auto, unfolding(code_graph_spec::specs::Forms::taken))]
-pub fn taken(alloc: Global, test: BranchTest, x: Term, y: Term) -> Result<Term, AllocError>
-    ensures { IfOk result (λ t. term_of t ≡ forms.taken test (term_of x) (term_of y)) }
+pub fn taken(
+    alloc: Global,
+    test: BranchTest,
+    x: Box<Term>,
+    y: Box<Term>,
+) -> Result<Box<Term>, AllocError>
+    ensures { IfOk result (λ t. term_of t.value ≡ forms.taken test (term_of x.value) (term_of y.value)) }
 {
     match test {
         BranchTest::Equal => equal(alloc, x, y),
@@ -143,8 +157,10 @@ pub fn branch_test(
     test: BranchTest,
     left: Reg,
     right: Reg,
-) -> Result<Term, AllocError>
-    ensures { IfOk result (λ t. term_of t ≡ forms.taken test (forms.operand left) (forms.operand right)) }
+) -> Result<Box<Term>, AllocError>
+    ensures { IfOk result (λ t. term_of t.value ≡ forms.taken test (forms.operand left) (forms.operand right)) }
 {
-    taken(alloc, test, operand(left), operand(right))
+    let left = operand(alloc, left)?;
+    let right = operand(alloc, right)?;
+    taken(alloc, test, left, right)
 }

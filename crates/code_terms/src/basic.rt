@@ -48,27 +48,27 @@ pub fn memory() -> Variable
 }
 
 /// A variable as a term.
-pub(crate) fn open(variable: Variable) -> Term
-    ensures { term_of result ≡ tree.open_term variable }
+pub(crate) fn open(alloc: Global, variable: Variable) -> Result<Box<Term>, AllocError>
+    ensures { IfOk result (λ t. term_of t.value ≡ tree.open_term variable) }
 {
-    Term::Leaf(Atom::Open(variable))
+    Term::leaf(alloc, Atom::Open(variable))
 }
 
 /// A word of 32 bits as a term.
-pub fn number(n: u32) -> Term
-    ensures { term_of result ≡ forms.number n }
+pub fn number(alloc: Global, n: u32) -> Result<Box<Term>, AllocError>
+    ensures { IfOk result (λ t. term_of t.value ≡ forms.number n) }
 {
-    Term::Leaf(Atom::Constant(Width::W32, u64::from(n)))
+    Term::leaf(alloc, Atom::Constant(Width::W32, u64::from(n)))
 }
 
 /// A register as an operand: x0 is the number 0.
-pub fn operand(r: Reg) -> Term
-    ensures { term_of result ≡ forms.operand r }
+pub fn operand(alloc: Global, r: Reg) -> Result<Box<Term>, AllocError>
+    ensures { IfOk result (λ t. term_of t.value ≡ forms.operand r) }
 {
     if r.number() == 0 {
-        number(0)
+        number(alloc, 0)
     } else {
-        open(register(r))
+        open(alloc, register(r))
     }
 }
 
@@ -76,34 +76,28 @@ pub fn operand(r: Reg) -> Term
 pub(crate) fn on_words(
     alloc: Global,
     operator: WordOperator,
-    x: Term,
-    y: Term,
-) -> Result<Term, AllocError>
-    ensures { IfOk result (λ t. term_of t ≡ tree.on_words operator (term_of x) (term_of y)) }
+    x: Box<Term>,
+    y: Box<Term>,
+) -> Result<Box<Term>, AllocError>
+    ensures { IfOk result (λ t. term_of t.value ≡ tree.on_words operator (term_of x.value) (term_of y.value)) }
 {
     Term::binary(alloc, BinaryOperator::Word(operator), x, y)
 }
 
 /// The address x[base] + offset.
-pub fn address(alloc: Global, base: Reg, offset: i32) -> Result<Term, AllocError>
-    ensures { IfOk result (λ t. term_of t ≡ forms.address base offset) }
+pub fn address(alloc: Global, base: Reg, offset: i32) -> Result<Box<Term>, AllocError>
+    ensures { IfOk result (λ t. term_of t.value ≡ forms.address base offset) }
 {
-    on_words(
-        alloc,
-        WordOperator::Add,
-        operand(base),
-        number(offset.cast_unsigned()),
-    )
+    let base = operand(alloc, base)?;
+    let offset = number(alloc, offset.cast_unsigned())?;
+    on_words(alloc, WordOperator::Add, base, offset)
 }
 
 /// That x1 is as it was when the function began.
-pub fn returns_home(alloc: Global) -> Result<Term, AllocError>
-    ensures { IfOk result (λ t. term_of t ≡ forms.returns_home) }
+pub fn returns_home(alloc: Global) -> Result<Box<Term>, AllocError>
+    ensures { IfOk result (λ t. term_of t.value ≡ forms.returns_home) }
 {
-    Term::binary(
-        alloc,
-        BinaryOperator::Equal,
-        open(register(Reg::new(1))),
-        open(entry_register(Reg::new(1))),
-    )
+    let now = open(alloc, register(Reg::new(1)))?;
+    let entry = open(alloc, entry_register(Reg::new(1)))?;
+    Term::binary(alloc, BinaryOperator::Equal, now, entry)
 }

@@ -12,21 +12,23 @@ use term_core::Term;
 use term_spec::{BinaryOperator, TernaryOperator, UnaryOperator, WordOperator};
 
 /// The top bit is clear.
-fn is_positive(alloc: Global, x: &Term) -> Result<Term, AllocError>
-    ensures { IfOk result (λ t. term_of t ≡ shapes.is_positive (term_of x.now)) }
+fn is_positive(alloc: Global, x: &Term) -> Result<Box<Term>, AllocError>
+    ensures { IfOk result (λ t. term_of t.value ≡ shapes.is_positive (term_of x.now)) }
 {
     let copy = x.copy(alloc)?;
-    Term::binary(alloc, BinaryOperator::Less, copy, number(0x8000_0000))
+    let bound = number(alloc, 0x8000_0000)?;
+    Term::binary(alloc, BinaryOperator::Less, copy, bound)
 }
 
-fn negated(alloc: Global, x: Term) -> Result<Term, AllocError>
-    ensures { IfOk result (λ t. term_of t ≡ shapes.negated (term_of x)) }
+fn negated(alloc: Global, x: Box<Term>) -> Result<Box<Term>, AllocError>
+    ensures { IfOk result (λ t. term_of t.value ≡ shapes.negated (term_of x.value)) }
 {
-    on_words(alloc, WordOperator::Subtract, number(0), x)
+    let zero = number(alloc, 0)?;
+    on_words(alloc, WordOperator::Subtract, zero, x)
 }
 
-fn magnitude(alloc: Global, x: &Term) -> Result<Term, AllocError>
-    ensures { IfOk result (λ t. term_of t ≡ shapes.magnitude (term_of x.now)) }
+fn magnitude(alloc: Global, x: &Term) -> Result<Box<Term>, AllocError>
+    ensures { IfOk result (λ t. term_of t.value ≡ shapes.magnitude (term_of x.now)) }
 {
     let test = is_positive(alloc, x)?;
     let plain = x.copy(alloc)?;
@@ -41,8 +43,8 @@ fn of_magnitudes(
     operator: WordOperator,
     x: &Term,
     y: &Term,
-) -> Result<Term, AllocError>
-    ensures { IfOk result (λ t. term_of t ≡ tree.on_words operator (shapes.magnitude (term_of x.now)) (shapes.magnitude (term_of y.now))) }
+) -> Result<Box<Term>, AllocError>
+    ensures { IfOk result (λ t. term_of t.value ≡ tree.on_words operator (shapes.magnitude (term_of x.now)) (shapes.magnitude (term_of y.now))) }
 {
     let first = magnitude(alloc, x)?;
     let second = magnitude(alloc, y)?;
@@ -50,8 +52,8 @@ fn of_magnitudes(
 }
 
 /// The signs differ.
-fn signs_differ(alloc: Global, x: &Term, y: &Term) -> Result<Term, AllocError>
-    ensures { IfOk result (λ t. term_of t ≡ tree.not_term (tree.equal (shapes.is_positive (term_of x.now)) (shapes.is_positive (term_of y.now)))) }
+fn signs_differ(alloc: Global, x: &Term, y: &Term) -> Result<Box<Term>, AllocError>
+    ensures { IfOk result (λ t. term_of t.value ≡ tree.not_term (tree.equal (shapes.is_positive (term_of x.now)) (shapes.is_positive (term_of y.now)))) }
 {
     let first = is_positive(alloc, x)?;
     let second = is_positive(alloc, y)?;
@@ -60,16 +62,17 @@ fn signs_differ(alloc: Global, x: &Term, y: &Term) -> Result<Term, AllocError>
 }
 
 /// The word is not 0.
-fn is_not_zero(alloc: Global, x: &Term) -> Result<Term, AllocError>
-    ensures { IfOk result (λ t. term_of t ≡ tree.not_term (tree.equal (term_of x.now) (tree.constant W32 0))) }
+fn is_not_zero(alloc: Global, x: &Term) -> Result<Box<Term>, AllocError>
+    ensures { IfOk result (λ t. term_of t.value ≡ tree.not_term (tree.equal (term_of x.now) (tree.constant W32 0))) }
 {
     let copy = x.copy(alloc)?;
-    let zero = Term::binary(alloc, BinaryOperator::Equal, copy, number(0))?;
-    Term::unary(alloc, UnaryOperator::Not, zero)
+    let zero = number(alloc, 0)?;
+    let same = Term::binary(alloc, BinaryOperator::Equal, copy, zero)?;
+    Term::unary(alloc, UnaryOperator::Not, same)
 }
 
-pub(crate) fn signed_quotient(alloc: Global, x: &Term, y: &Term) -> Result<Term, AllocError>
-    ensures { IfOk result (λ t. term_of t ≡ shapes.signed_quotient (term_of x.now) (term_of y.now)) }
+pub(crate) fn signed_quotient(alloc: Global, x: &Term, y: &Term) -> Result<Box<Term>, AllocError>
+    ensures { IfOk result (λ t. term_of t.value ≡ shapes.signed_quotient (term_of x.now) (term_of y.now)) }
 {
     let differ = signs_differ(alloc, x, y)?;
     let some = is_not_zero(alloc, y)?;
@@ -80,8 +83,8 @@ pub(crate) fn signed_quotient(alloc: Global, x: &Term, y: &Term) -> Result<Term,
     Term::ternary(alloc, TernaryOperator::Choose, test, opposite, plain)
 }
 
-pub(crate) fn signed_remainder(alloc: Global, x: &Term, y: &Term) -> Result<Term, AllocError>
-    ensures { IfOk result (λ t. term_of t ≡ shapes.signed_remainder (term_of x.now) (term_of y.now)) }
+pub(crate) fn signed_remainder(alloc: Global, x: &Term, y: &Term) -> Result<Box<Term>, AllocError>
+    ensures { IfOk result (λ t. term_of t.value ≡ shapes.signed_remainder (term_of x.now) (term_of y.now)) }
 {
     let test = is_positive(alloc, x)?;
     let plain = of_magnitudes(alloc, WordOperator::Remainder, x, y)?;

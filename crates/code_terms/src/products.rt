@@ -11,16 +11,16 @@ use term_core::Term;
 use term_spec::{QuaternaryOperator, UnaryOperator, Width, WordOperator};
 
 /// One byte of a word.
-pub(crate) fn byte(alloc: Global, place: u8, x: &Term) -> Result<Term, AllocError>
-    ensures { IfOk result (λ t. term_of t ≡ tree.byte place (term_of x.now)) }
+pub(crate) fn byte(alloc: Global, place: u8, x: &Term) -> Result<Box<Term>, AllocError>
+    ensures { IfOk result (λ t. term_of t.value ≡ tree.byte place (term_of x.now)) }
 {
     let copy = x.copy(alloc)?;
     Term::unary(alloc, UnaryOperator::Byte(place), copy)
 }
 
 /// Bytes 4 to 7 of a word of 64 bits.
-fn high_half(alloc: Global, x: &Term) -> Result<Term, AllocError>
-    ensures { IfOk result (λ t. term_of t ≡ shapes.high_half (term_of x.now)) }
+fn high_half(alloc: Global, x: &Term) -> Result<Box<Term>, AllocError>
+    ensures { IfOk result (λ t. term_of t.value ≡ shapes.high_half (term_of x.now)) }
 {
     let a = byte(alloc, 4, x)?;
     let b = byte(alloc, 5, x)?;
@@ -34,10 +34,10 @@ fn high_product_of(
     alloc: Global,
     first: UnaryOperator,
     second: UnaryOperator,
-    x: Term,
-    y: Term,
-) -> Result<Term, AllocError>
-    ensures { IfOk result (λ t. term_of t ≡ shapes.high_half (tree.multiply (tree.Unary first (term_of x)) (tree.Unary second (term_of y)))) }
+    x: Box<Term>,
+    y: Box<Term>,
+) -> Result<Box<Term>, AllocError>
+    ensures { IfOk result (λ t. term_of t.value ≡ shapes.high_half (tree.multiply (tree.Unary first (term_of x.value)) (tree.Unary second (term_of y.value)))) }
 {
     let left = Term::unary(alloc, first, x)?;
     let right = Term::unary(alloc, second, y)?;
@@ -49,24 +49,32 @@ const ZERO: UnaryOperator = UnaryOperator::ZeroExtend(Width::W64);
 
 const SIGN: UnaryOperator = UnaryOperator::SignExtend(Width::W64);
 
-pub(crate) fn high_product(alloc: Global, x: Term, y: Term) -> Result<Term, AllocError>
-    ensures { IfOk result (λ t. term_of t ≡ shapes.high_product (term_of x) (term_of y)) }
+pub(crate) fn high_product(
+    alloc: Global,
+    x: Box<Term>,
+    y: Box<Term>,
+) -> Result<Box<Term>, AllocError>
+    ensures { IfOk result (λ t. term_of t.value ≡ shapes.high_product (term_of x.value) (term_of y.value)) }
 {
     high_product_of(alloc, ZERO, ZERO, x, y)
 }
 
-pub(crate) fn high_product_signed(alloc: Global, x: Term, y: Term) -> Result<Term, AllocError>
-    ensures { IfOk result (λ t. term_of t ≡ shapes.high_product_signed (term_of x) (term_of y)) }
+pub(crate) fn high_product_signed(
+    alloc: Global,
+    x: Box<Term>,
+    y: Box<Term>,
+) -> Result<Box<Term>, AllocError>
+    ensures { IfOk result (λ t. term_of t.value ≡ shapes.high_product_signed (term_of x.value) (term_of y.value)) }
 {
     high_product_of(alloc, SIGN, SIGN, x, y)
 }
 
 pub(crate) fn high_product_signed_unsigned(
     alloc: Global,
-    x: Term,
-    y: Term,
-) -> Result<Term, AllocError>
-    ensures { IfOk result (λ t. term_of t ≡ shapes.high_product_signed_unsigned (term_of x) (term_of y)) }
+    x: Box<Term>,
+    y: Box<Term>,
+) -> Result<Box<Term>, AllocError>
+    ensures { IfOk result (λ t. term_of t.value ≡ shapes.high_product_signed_unsigned (term_of x.value) (term_of y.value)) }
 {
     high_product_of(alloc, SIGN, ZERO, x, y)
 }

@@ -14,16 +14,16 @@ use term_core::{Term, sort};
 use term_spec::{Sort, Variable};
 
 /// A variable, and the term whose value it gets.
-#[derive(Debug, Drop)]
+#[derive(Drop)]
 pub struct Binding {
     /// What is bound.
     pub variable: Variable,
     /// Its value, in terms of the values before.
-    pub term: Term,
+    pub term: Box<Term>,
 }
 
 /// A node of a graph.
-#[derive(Debug, Drop)]
+#[derive(Drop)]
 pub enum Node {
     /// It binds variables, all at once, and goes on. A landing node is one that binds none.
     Basic {
@@ -35,7 +35,7 @@ pub enum Node {
     /// It goes on by a test.
     Cond {
         /// The test, a truth value.
-        test: Term,
+        test: Box<Term>,
         /// Where it goes on if the test holds.
         on_true: Next,
         /// Where it goes on if it doesn't.
@@ -55,7 +55,7 @@ pub enum Node {
 }
 
 /// A graph.
-#[derive(Debug, Drop)]
+#[derive(Drop)]
 pub struct Graph {
     /// Its nodes; a node's number is its place.
     pub nodes: Vec<Node>,

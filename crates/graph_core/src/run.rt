@@ -13,7 +13,7 @@ use crate::graph::Graph;
 use crate::walks::Walks;
 
 /// The run of one graph of a set, the outermost, which calls others of it (`graph_spec`, `specs/Run.antt`).
-#[derive(Clone, Copy, Debug)]
+#[derive(Clone, Copy)]
 pub struct GraphRun<'a> {
     /// The set; a call names the callee by its place.
     pub graphs: &'a [Graph],

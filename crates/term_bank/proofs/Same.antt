@@ -1,5 +1,6 @@
 -- The test of equality of nodes.
-use Rattle.std.proofs.Common.{◌≡◌, true, ap, eqb-true}
+use Rattle.std.proofs.Common.{◌≡◌, true, sym, ap, eqb-true}
+use mathlib.Core.Bool.{true≢false}
 use Rattle.std.specs.Prelude.{◌==◌}
 use Rattle.std.proofs.lemmas.Bool.{and_parts}
 use Rattle.term_spec.proofs.Same.{atom-same, unary-same, binary-same, ternary-same, quaternary-same}
@@ -17,14 +18,14 @@ node-same (Unary o a) (Unary p b) e =
     let parts = and_parts _ (a == b) e in
     let operator : o ≡ p = unary-same o p parts.0 in
     let e1 : a ≡ b = eqb-true a b parts.1 in
-    cc
+    λ i. Unary (operator i) (e1 i)
 node-same (Binary o a1 a2) (Binary p b1 b2) e =
     let parts = and_parts _ _ e in
     let operator : o ≡ p = binary-same o p parts.0 in
     let rest = and_parts (a1 == b1) (a2 == b2) parts.1 in
     let e1 : a1 ≡ b1 = eqb-true a1 b1 rest.0 in
     let e2 : a2 ≡ b2 = eqb-true a2 b2 rest.1 in
-    cc
+    λ i. Binary (operator i) (e1 i) (e2 i)
 node-same (Ternary o a1 a2 a3) (Ternary p b1 b2 b3) e =
     let parts = and_parts _ _ e in
     let operator : o ≡ p = ternary-same o p parts.0 in
@@ -33,7 +34,7 @@ node-same (Ternary o a1 a2 a3) (Ternary p b1 b2 b3) e =
     let r2 = and_parts (a2 == b2) _ r1.1 in
     let e2 : a2 ≡ b2 = eqb-true a2 b2 r2.0 in
     let e3 : a3 ≡ b3 = eqb-true a3 b3 r2.1 in
-    cc
+    λ i. Ternary (operator i) (e1 i) (e2 i) (e3 i)
 node-same (Quaternary o a1 a2 a3 a4) (Quaternary p b1 b2 b3 b4) e =
     let parts = and_parts _ _ e in
     let operator : o ≡ p = quaternary-same o p parts.0 in
@@ -44,7 +45,7 @@ node-same (Quaternary o a1 a2 a3 a4) (Quaternary p b1 b2 b3 b4) e =
     let r3 = and_parts (a3 == b3) _ r2.1 in
     let e3 : a3 ≡ b3 = eqb-true a3 b3 r3.0 in
     let e4 : a4 ≡ b4 = eqb-true a4 b4 r3.1 in
-    cc
+    λ i. Quaternary (operator i) (e1 i) (e2 i) (e3 i) (e4 i)
 node-same (Octonary a1 a2 a3 a4 a5 a6 a7 a8) (Octonary b1 b2 b3 b4 b5 b6 b7 b8) e =
     let r1 = and_parts (a1 == b1) _ e in
     let e1 : a1 ≡ b1 = eqb-true a1 b1 r1.0 in
@@ -61,5 +62,5 @@ node-same (Octonary a1 a2 a3 a4 a5 a6 a7 a8) (Octonary b1 b2 b3 b4 b5 b6 b7 b8) 
     let r7 = and_parts (a7 == b7) _ r6.1 in
     let e7 : a7 ≡ b7 = eqb-true a7 b7 r7.0 in
     let e8 : a8 ≡ b8 = eqb-true a8 b8 r7.1 in
-    cc
-node-same a b e = absurd (cc)
+    λ i. Octonary (e1 i) (e2 i) (e3 i) (e4 i) (e5 i) (e6 i) (e7 i) (e8 i)
+node-same a b e = absurd (true≢false (sym e))

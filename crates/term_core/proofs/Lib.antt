@@ -2,3 +2,4 @@ pub mod Parts
 pub mod Bits
 pub mod Bytes
 pub mod Listed
+pub mod Calls

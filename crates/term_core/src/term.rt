@@ -20,7 +20,7 @@ use term_spec::{
 };
 
 /// A term: an operator and its arguments.
-#[derive(Debug, Drop)]
+#[derive(Drop)]
 pub enum Term {
     /// a term without arguments
     Leaf(Atom),
@@ -45,125 +45,167 @@ pub enum Term {
     ),
 }
 
+/// The term in a box of its own.
+fn boxed(alloc: Global, term: Term) -> Result<Box<Term>, AllocError>
+    ensures { IfOk result (λ t. term_of t.value ≡ term_of term) }
+{
+    Ok(Box::new(alloc, term)?)
+}
+
 impl Term {
-    /// An operator with one argument.
-    pub fn unary(alloc: Global, operator: UnaryOperator, first: Term) -> Result<Term, AllocError>
-        ensures { IfOk result (λ t. term_of t ≡ tree.Unary operator (term_of first)) }
+    /// A term without arguments.
+    pub fn leaf(alloc: Global, atom: Atom) -> Result<Box<Term>, AllocError>
+        ensures { IfOk result (λ t. term_of t.value ≡ tree.Leaf atom) }
     {
-        Ok(Term::Unary(operator, Box::new(alloc, first)?))
+        boxed(alloc, Term::Leaf(atom))
+    }
+
+    /// An operator with one argument.
+    pub fn unary(
+        alloc: Global,
+        operator: UnaryOperator,
+        first: Box<Term>,
+    ) -> Result<Box<Term>, AllocError>
+        ensures { IfOk result (λ t. term_of t.value ≡ tree.Unary operator (term_of first.value)) }
+    {
+        boxed(alloc, Term::Unary(operator, first))
     }
 
     /// An operator with two arguments.
     pub fn binary(
         alloc: Global,
         operator: BinaryOperator,
-        first: Term,
-        second: Term,
-    ) -> Result<Term, AllocError>
-        ensures { IfOk result (λ t. term_of t ≡ tree.Binary operator (term_of first) (term_of second)) }
+        first: Box<Term>,
+        second: Box<Term>,
+    ) -> Result<Box<Term>, AllocError>
+        ensures { IfOk result (λ t. term_of t.value ≡ tree.Binary operator (term_of first.value) (term_of second.value)) }
     {
-        let first = Box::new(alloc, first)?;
-        let second = Box::new(alloc, second)?;
-        Ok(Term::Binary(operator, first, second))
+        boxed(alloc, Term::Binary(operator, first, second))
     }
 
     /// An operator with three arguments.
     pub fn ternary(
         alloc: Global,
         operator: TernaryOperator,
-        first: Term,
-        second: Term,
-        third: Term,
-    ) -> Result<Term, AllocError>
-        ensures { IfOk result (λ t. term_of t ≡ tree.Ternary operator (term_of first) (term_of second) (term_of third)) }
+        first: Box<Term>,
+        second: Box<Term>,
+        third: Box<Term>,
+    ) -> Result<Box<Term>, AllocError>
+        ensures { IfOk result (λ t. term_of t.value ≡ tree.Ternary operator (term_of first.value) (term_of second.value) (term_of third.value)) }
     {
-        let first = Box::new(alloc, first)?;
-        let second = Box::new(alloc, second)?;
-        let third = Box::new(alloc, third)?;
-        Ok(Term::Ternary(operator, first, second, third))
+        boxed(alloc, Term::Ternary(operator, first, second, third))
     }
 
     /// An operator with four arguments.
     pub fn quaternary(
         alloc: Global,
         operator: QuaternaryOperator,
-        a: Term,
-        b: Term,
-        c: Term,
-        d: Term,
-    ) -> Result<Term, AllocError>
-        ensures { IfOk result (λ t. term_of t ≡ tree.Quaternary operator (term_of a) (term_of b) (term_of c) (term_of d)) }
+        a: Box<Term>,
+        b: Box<Term>,
+        c: Box<Term>,
+        d: Box<Term>,
+    ) -> Result<Box<Term>, AllocError>
+        ensures { IfOk result (λ t. term_of t.value ≡ tree.Quaternary operator (term_of a.value) (term_of b.value) (term_of c.value) (term_of d.value)) }
     {
-        let a = Box::new(alloc, a)?;
-        let b = Box::new(alloc, b)?;
-        let c = Box::new(alloc, c)?;
-        let d = Box::new(alloc, d)?;
-        Ok(Term::Quaternary(operator, a, b, c, d))
+        boxed(alloc, Term::Quaternary(operator, a, b, c, d))
     }
 
     /// The word of eight bytes, the lowest first.
     pub fn octonary(
         alloc: Global,
-        a: Term,
-        b: Term,
-        c: Term,
-        d: Term,
-        e: Term,
-        f: Term,
-        g: Term,
-        h: Term,
-    ) -> Result<Term, AllocError>
-        ensures { IfOk result (λ t. term_of t ≡ tree.Octonary (term_of a) (term_of b) (term_of c) (term_of d) (term_of e) (term_of f) (term_of g) (term_of h)) }
+        a: Box<Term>,
+        b: Box<Term>,
+        c: Box<Term>,
+        d: Box<Term>,
+        e: Box<Term>,
+        f: Box<Term>,
+        g: Box<Term>,
+        h: Box<Term>,
+    ) -> Result<Box<Term>, AllocError>
+        ensures { IfOk result (λ t. term_of t.value ≡ tree.Octonary (term_of a.value) (term_of b.value) (term_of c.value) (term_of d.value) (term_of e.value) (term_of f.value) (term_of g.value) (term_of h.value)) }
     {
-        let a = Box::new(alloc, a)?;
-        let b = Box::new(alloc, b)?;
-        let c = Box::new(alloc, c)?;
-        let d = Box::new(alloc, d)?;
-        let e = Box::new(alloc, e)?;
-        let f = Box::new(alloc, f)?;
-        let g = Box::new(alloc, g)?;
-        let h = Box::new(alloc, h)?;
-        Ok(Term::Octonary(a, b, c, d, e, f, g, h))
+        boxed(alloc, Term::Octonary(a, b, c, d, e, f, g, h))
     }
 
     /// The same term, in memory of its own.
-    pub fn copy(&self, alloc: Global) -> Result<Term, AllocError>
-        ensures { IfOk result (λ t. term_of t ≡ term_of self.now) }
+    pub fn copy(&self, alloc: Global) -> Result<Box<Term>, AllocError>
+        ensures { IfOk result (λ t. term_of t.value ≡ term_of self.now) }
     {
         match self {
-            Term::Leaf(atom) => Ok(Term::Leaf(*atom)),
+            Term::Leaf(atom) => Term::leaf(alloc, *atom),
             Term::Unary(operator, a) => Term::unary(alloc, *operator, a.copy(alloc)?),
             Term::Binary(operator, a, b) => {
-                let a = a.copy(alloc)?;
-                let b = b.copy(alloc)?;
+                let (a, b) = two(a.copy(alloc), b.copy(alloc))?;
                 Term::binary(alloc, *operator, a, b)
             }
             Term::Ternary(operator, a, b, c) => {
-                let a = a.copy(alloc)?;
-                let b = b.copy(alloc)?;
+                let (a, b) = two(a.copy(alloc), b.copy(alloc))?;
                 let c = c.copy(alloc)?;
                 Term::ternary(alloc, *operator, a, b, c)
             }
             Term::Quaternary(operator, a, b, c, d) => {
-                let a = a.copy(alloc)?;
-                let b = b.copy(alloc)?;
-                let c = c.copy(alloc)?;
-                let d = d.copy(alloc)?;
+                let (a, b) = two(a.copy(alloc), b.copy(alloc))?;
+                let (c, d) = two(c.copy(alloc), d.copy(alloc))?;
                 Term::quaternary(alloc, *operator, a, b, c, d)
             }
             Term::Octonary(a, b, c, d, e, f, g, h) => {
-                let a = a.copy(alloc)?;
-                let b = b.copy(alloc)?;
-                let c = c.copy(alloc)?;
-                let d = d.copy(alloc)?;
-                let e = e.copy(alloc)?;
-                let f = f.copy(alloc)?;
-                let g = g.copy(alloc)?;
-                let h = h.copy(alloc)?;
+                let (a, b) = two(a.copy(alloc), b.copy(alloc))?;
+                let (c, d) = two(c.copy(alloc), d.copy(alloc))?;
+                let (e, f) = two(e.copy(alloc), f.copy(alloc))?;
+                let (g, h) = two(g.copy(alloc), h.copy(alloc))?;
                 Term::octonary(alloc, a, b, c, d, e, f, g, h)
             }
         }
     }
+}
+
+// Two copies, where both were made.
+fn two(
+    first: Result<Box<Term>, AllocError>,
+    second: Result<Box<Term>, AllocError>,
+) -> Result<(Box<Term>, Box<Term>), AllocError>
+    ensures { (s t : tree.Term) → IfOk first (λ x. term_of x.value ≡ s) → IfOk second (λ x. term_of x.value ≡ t) → IfOk result (λ p. (term_of p.0.value ≡ s) × (term_of p.1.value ≡ t)) }
+{
+    Ok((first?, second?))
+}
+
+fn sort_with_one(operator: UnaryOperator, first: Option<Sort>) -> Option<Sort>
+    ensures { result ≡ spec_sort.with_one (spec_sort.sort_of_unary operator) first }
+{
+    sort_of_unary(operator, first?)
+}
+
+fn sort_with_two(
+    operator: BinaryOperator,
+    first: Option<Sort>,
+    second: Option<Sort>,
+) -> Option<Sort>
+    ensures { result ≡ spec_sort.with_two (spec_sort.sort_of_binary operator) first second }
+{
+    sort_of_binary(operator, first?, second?)
+}
+
+fn sort_with_three(
+    operator: TernaryOperator,
+    first: Option<Sort>,
+    second: Option<Sort>,
+    third: Option<Sort>,
+) -> Option<Sort>
+    ensures { result ≡ spec_sort.with_three (spec_sort.sort_of_ternary operator) first second third }
+{
+    sort_of_ternary(operator, first?, second?, third?)
+}
+
+fn sort_with_four(
+    operator: QuaternaryOperator,
+    first: Option<Sort>,
+    second: Option<Sort>,
+    third: Option<Sort>,
+    fourth: Option<Sort>,
+) -> Option<Sort>
+    ensures { result ≡ spec_sort.with_four (spec_sort.sort_of_quaternary operator) first second third fourth }
+{
+    sort_of_quaternary(operator, first?, second?, third?, fourth?)
 }
 
 /// The sort of a term, or none where it is not well sorted.
@@ -173,37 +215,63 @@ pub fn sort(term: &Term) -> Option<Sort>
 {
     match term {
         Term::Leaf(atom) => sort_of_atom(*atom),
-        Term::Unary(operator, a) => sort_of_unary(*operator, sort(a)?),
-        Term::Binary(operator, a, b) => sort_of_binary(*operator, sort(a)?, sort(b)?),
-        Term::Ternary(operator, a, b, c) => sort_of_ternary(
-            *operator,
-            sort(a)?,
-            sort(b)?,
-            sort(c)?,
-        ),
+        Term::Unary(operator, a) => sort_with_one(*operator, sort(a)),
+        Term::Binary(operator, a, b) => sort_with_two(*operator, sort(a), sort(b)),
+        Term::Ternary(operator, a, b, c) => {
+            sort_with_three(*operator, sort(a), sort(b), sort(c))
+        }
         Term::Quaternary(operator, a, b, c, d) => {
-            sort_of_quaternary(*operator, sort(a)?, sort(b)?, sort(c)?, sort(d)?)
+            sort_with_four(*operator, sort(a), sort(b), sort(c), sort(d))
         }
-        Term::Octonary(a, b, c, d, e, f, g, h) => {
-            sort_of_octonary([
-                sort(a),
-                sort(b),
-                sort(c),
-                sort(d),
-                sort(e),
-                sort(f),
-                sort(g),
-                sort(h),
-            ])
-        }
+        Term::Octonary(a, b, c, d, e, f, g, h) => sort_of_octonary([
+            sort(a),
+            sort(b),
+            sort(c),
+            sort(d),
+            sort(e),
+            sort(f),
+            sort(g),
+            sort(h),
+        ]),
     }
 }
 
-// The number of a byte, where the value is one.
-fn into_byte(value: Value) -> Option<u8>
-    ensures { result ≡ spec.byte_of (value_of value) }
+type Evaluated = Result<Value, AllocError>;
+
+fn binary_of(operator: BinaryOperator, first: Evaluated, second: Evaluated) -> Evaluated
+    ensures { (x y : spec.Value) → IfOk first (λ v. value_of v ≡ x) → IfOk second (λ v. value_of v ≡ y) → IfOk result (λ v. value_of v ≡ spec.binary_value operator x y) }
 {
-    byte_of(&value)
+    Ok(binary(operator, &first?, &second?))
+}
+
+fn ternary_of(
+    operator: TernaryOperator,
+    first: Evaluated,
+    second: Evaluated,
+    third: Evaluated,
+) -> Evaluated
+    ensures { (x y z : spec.Value) → IfOk first (λ v. value_of v ≡ x) → IfOk second (λ v. value_of v ≡ y) → IfOk third (λ v. value_of v ≡ z) → IfOk result (λ v. value_of v ≡ spec.ternary_value operator x y z) }
+{
+    ternary(operator, &first?, &second?, &third?)
+}
+
+fn quaternary_of(
+    operator: QuaternaryOperator,
+    first: Evaluated,
+    second: Evaluated,
+    third: Evaluated,
+    fourth: Evaluated,
+) -> Evaluated
+    ensures { (w x y z : spec.Value) → IfOk first (λ v. value_of v ≡ w) → IfOk second (λ v. value_of v ≡ x) → IfOk third (λ v. value_of v ≡ y) → IfOk fourth (λ v. value_of v ≡ z) → IfOk result (λ v. value_of v ≡ spec.quaternary_value operator w x y z) }
+{
+    quaternary(operator, &first?, &second?, &third?, &fourth?)
+}
+
+// The number of a byte, where the value is one.
+fn byte_in(value: Evaluated) -> Result<Option<u8>, AllocError>
+    ensures { (x : spec.Value) → IfOk value (λ v. value_of v ≡ x) → IfOk result (λ byte. byte ≡ spec.byte_of x) }
+{
+    Ok(byte_of(&value?))
 }
 
 /// What a term is worth.
@@ -218,32 +286,32 @@ pub fn eval(alloc: Global, term: &Term, assignment: &Assignment) -> Result<Value
             Ok(unary(*operator, &a))
         }
         Term::Binary(operator, a, b) => {
-            let a = eval(alloc, a, assignment)?;
-            let b = eval(alloc, b, assignment)?;
-            Ok(binary(*operator, &a, &b))
+            let a = eval(alloc, a, assignment);
+            let b = eval(alloc, b, assignment);
+            binary_of(*operator, a, b)
         }
         Term::Ternary(operator, a, b, c) => {
-            let a = eval(alloc, a, assignment)?;
-            let b = eval(alloc, b, assignment)?;
-            let c = eval(alloc, c, assignment)?;
-            ternary(*operator, &a, &b, &c)
+            let a = eval(alloc, a, assignment);
+            let b = eval(alloc, b, assignment);
+            let c = eval(alloc, c, assignment);
+            ternary_of(*operator, a, b, c)
         }
         Term::Quaternary(operator, a, b, c, d) => {
-            let a = eval(alloc, a, assignment)?;
-            let b = eval(alloc, b, assignment)?;
-            let c = eval(alloc, c, assignment)?;
-            let d = eval(alloc, d, assignment)?;
-            quaternary(*operator, &a, &b, &c, &d)
+            let a = eval(alloc, a, assignment);
+            let b = eval(alloc, b, assignment);
+            let c = eval(alloc, c, assignment);
+            let d = eval(alloc, d, assignment);
+            quaternary_of(*operator, a, b, c, d)
         }
         Term::Octonary(a, b, c, d, e, f, g, h) => {
-            let a = into_byte(eval(alloc, a, assignment)?);
-            let b = into_byte(eval(alloc, b, assignment)?);
-            let c = into_byte(eval(alloc, c, assignment)?);
-            let d = into_byte(eval(alloc, d, assignment)?);
-            let e = into_byte(eval(alloc, e, assignment)?);
-            let f = into_byte(eval(alloc, f, assignment)?);
-            let g = into_byte(eval(alloc, g, assignment)?);
-            let h = into_byte(eval(alloc, h, assignment)?);
+            let a = byte_in(eval(alloc, a, assignment))?;
+            let b = byte_in(eval(alloc, b, assignment))?;
+            let c = byte_in(eval(alloc, c, assignment))?;
+            let d = byte_in(eval(alloc, d, assignment))?;
+            let e = byte_in(eval(alloc, e, assignment))?;
+            let f = byte_in(eval(alloc, f, assignment))?;
+            let g = byte_in(eval(alloc, g, assignment))?;
+            let h = byte_in(eval(alloc, h, assignment))?;
             Ok(octonary(a, b, c, d, [e, f, g, h]))
         }
     }

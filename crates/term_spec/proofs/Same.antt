@@ -2,6 +2,7 @@
 use Rattle.std.proofs.Common.{◌≡◌, ℕ, Bool, true, false, refl, sym, ap, rules, eqb-true}
 use Rattle.std.specs.Prelude.{◌&&◌, ◌==◌}
 use Rattle.std.proofs.lemmas.Bool.{and_parts}
+use mathlib.Core.Bool.{true≢false}
 use denote.Enum.Bare.{same_true}
 use Rattle.term_spec.specs.declared.Width.{Width}
 use Rattle.term_spec.specs.contracts.WidthPartialEq.TheImpl as width_test
@@ -59,7 +60,7 @@ pub sort-same : (a b : Sort) → sort_test.ghosts.eq a b ≡ true → a ≡ b
 sort-same sort.Truth sort.Truth e = refl
 sort-same (sort.Word v) (sort.Word w) e = ap sort.Word (width-same v w e)
 sort-same sort.Memory sort.Memory e = refl
-sort-same a b e = absurd (cc)
+sort-same a b e = absurd (true≢false (sym e))
 
 pub variable-same : (a b : Variable) → variable_test.ghosts.eq a b ≡ true → a ≡ b
 variable-same a b e =
@@ -81,7 +82,7 @@ variable-same a b e =
 truth-same : (a b : Bool) → atom_test.ghosts.eq (atom.Truth a) (atom.Truth b) ≡ true → a ≡ b
 truth-same true true e = refl
 truth-same false false e = refl
-truth-same a b e = absurd (cc)
+truth-same a b e = absurd (true≢false (sym e))
 
 pub atom-same : (a b : Atom) → atom_test.ghosts.eq a b ≡ true → a ≡ b
 atom-same (atom.Truth a) (atom.Truth b) e = ap atom.Truth (truth-same a b e)
@@ -91,7 +92,7 @@ atom-same (atom.Constant v a) (atom.Constant w b) e =
     let number : a ≡ b = eqb-true a b parts.1 in
     cc
 atom-same (atom.Open a) (atom.Open b) e = ap atom.Open (variable-same a b e)
-atom-same a b e = absurd (cc)
+atom-same a b e = absurd (true≢false (sym e))
 
 pub unary-same : (a b : UnaryOperator) → unary_test.ghosts.eq a b ≡ true → a ≡ b
 unary-same unary.Not unary.Not e = refl
@@ -100,7 +101,7 @@ unary-same (unary.ZeroExtend v) (unary.ZeroExtend w) e = ap unary.ZeroExtend (wi
 unary-same (unary.SignExtend v) (unary.SignExtend w) e = ap unary.SignExtend (width-same v w e)
 unary-same (unary.Low v) (unary.Low w) e = ap unary.Low (width-same v w e)
 unary-same (unary.Byte j) (unary.Byte k) e = ap unary.Byte (eqb-true j k e)
-unary-same a b e = absurd (cc)
+unary-same a b e = absurd (true≢false (sym e))
 
 pub binary-same : (a b : BinaryOperator) → binary_test.ghosts.eq a b ≡ true → a ≡ b
 binary-same binary.And binary.And e = refl
@@ -110,7 +111,7 @@ binary-same binary.Less binary.Less e = refl
 binary-same (binary.Word a) (binary.Word b) e = ap binary.Word (word-same a b e)
 binary-same binary.Load binary.Load e = refl
 binary-same binary.Join binary.Join e = refl
-binary-same a b e = absurd (cc)
+binary-same a b e = absurd (true≢false (sym e))
 
 -- ---- terms
 
@@ -166,7 +167,7 @@ same_is (Octonary a1 a2 a3 a4 a5 a6 a7 a8) (Octonary b1 b2 b3 b4 b5 b6 b7 b8) e 
     let e7 : a7 ≡ b7 = same_is a7 b7 r7.0 in
     let e8 : a8 ≡ b8 = same_is a8 b8 r7.1 in
     cc
-same_is s t e = absurd (cc)
+same_is s t e = absurd (true≢false (sym e))
 
 pub same_itself : (t : Term) → same_term t t ≡ true
 unfolding same_term

@@ -1,5 +1,4 @@
-use Rattle.graph_core.specs.Graphs.{graph_of}
-use Rattle.term_core.specs.Trees.{term_of}
+use Rattle.graph_core.specs.Graphs.{graph_of, boxed_term}
 use Rattle.code_graph.specs.Settings.{setting_of}
 use Rattle.code_graph.proofs.Added.{branch_added}
 use Rattle.code_graph.proofs.function.Function.add_branch.Goals as goal
@@ -7,5 +6,5 @@ use Rattle.code_graph.proofs.function.Function.add_branch.Goals as goal
 pub returns : goal.returns
 returns c =
     branch_added (setting_of c.args.self.now) c.args.item.now.address c.args.item.now.form (graph_of c.add.new.self) (graph_of c.args.graph.now)
-    c.args.target (term_of c.args.test) c.toward-on_true.result c.onward-on_false.result c.requires c.toward-on_true.ensures c.onward-on_false.ensures
+    c.args.target (boxed_term c.args.test) c.toward-on_true.result c.onward-on_false.result c.requires c.toward-on_true.ensures c.onward-on_false.ensures
     c.in_ok-add.ensures.added

@@ -1,5 +1,4 @@
-use Rattle.graph_core.specs.Graphs.{graph_of}
-use Rattle.term_core.specs.Trees.{term_of}
+use Rattle.graph_core.specs.Graphs.{graph_of, boxed_term}
 use Rattle.code_graph.specs.Settings.{setting_of}
 use Rattle.code_graph.proofs.Added.{return_added, stop_added}
 use Rattle.code_graph.proofs.function.Function.add_return.Goals as goal
@@ -7,7 +6,7 @@ use Rattle.code_graph.proofs.function.Function.add_return.Goals as goal
 pub returns-then-returns : goal.returns-then-returns
 returns-then-returns c =
     return_added (setting_of c.args.self.now) c.args.item.now.address c.args.item.now.form (graph_of c.add.new.self) (graph_of c.args.graph.now)
-    c.args.returns (term_of c.in_ok-test.test) c.if-returns.true c.in_ok-test.ensures c.in_ok-add.ensures.added
+    c.args.returns (boxed_term c.in_ok-test.test) c.if-returns.true c.in_ok-test.ensures c.in_ok-add.ensures.added
 
 pub returns : goal.returns
 returns c =
