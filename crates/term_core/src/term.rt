@@ -236,83 +236,98 @@ pub fn sort(term: &Term) -> Option<Sort>
     }
 }
 
-type Evaluated = Result<Value, AllocError>;
-
-fn binary_of(operator: BinaryOperator, first: Evaluated, second: Evaluated) -> Evaluated
-    ensures { (x y : spec.Value) → IfOk first (λ v. value_of v ≡ x) → IfOk second (λ v. value_of v ≡ y) → IfOk result (λ v. value_of v ≡ spec.binary_value operator x y) }
+// A value in a box of its own, where there is one.
+fn boxed_value(alloc: Global, value: Result<Value, AllocError>) -> Result<Box<Value>, AllocError>
+    ensures { (x : spec.Value) → IfOk value (λ v. value_of v ≡ x) → IfOk result (λ v. value_of v.value ≡ x) }
 {
-    Ok(binary(operator, &first?, &second?))
+    Ok(Box::new(alloc, value?)?)
 }
 
-fn ternary_of(
-    operator: TernaryOperator,
-    first: Evaluated,
-    second: Evaluated,
-    third: Evaluated,
-) -> Evaluated
-    ensures { (x y z : spec.Value) → IfOk first (λ v. value_of v ≡ x) → IfOk second (λ v. value_of v ≡ y) → IfOk third (λ v. value_of v ≡ z) → IfOk result (λ v. value_of v ≡ spec.ternary_value operator x y z) }
+// Two values, where both are there.
+fn two_values(
+    first: Result<Box<Value>, AllocError>,
+    second: Result<Box<Value>, AllocError>,
+) -> Result<(Box<Value>, Box<Value>), AllocError>
+    ensures { (x y : spec.Value) → IfOk first (λ v. value_of v.value ≡ x) → IfOk second (λ v. value_of v.value ≡ y) → IfOk result (λ p. (value_of p.0.value ≡ x) × (value_of p.1.value ≡ y)) }
 {
-    ternary(operator, &first?, &second?, &third?)
+    Ok((first?, second?))
 }
 
-fn quaternary_of(
-    operator: QuaternaryOperator,
-    first: Evaluated,
-    second: Evaluated,
-    third: Evaluated,
-    fourth: Evaluated,
-) -> Evaluated
-    ensures { (w x y z : spec.Value) → IfOk first (λ v. value_of v ≡ w) → IfOk second (λ v. value_of v ≡ x) → IfOk third (λ v. value_of v ≡ y) → IfOk fourth (λ v. value_of v ≡ z) → IfOk result (λ v. value_of v ≡ spec.quaternary_value operator w x y z) }
+// The bytes of two values, where both are there.
+fn two_bytes(
+    first: Result<Box<Value>, AllocError>,
+    second: Result<Box<Value>, AllocError>,
+) -> Result<(Option<u8>, Option<u8>), AllocError>
+    ensures { (x y : spec.Value) → IfOk first (λ v. value_of v.value ≡ x) → IfOk second (λ v. value_of v.value ≡ y) → IfOk result (λ p. (p.0 ≡ spec.byte_of x) × (p.1 ≡ spec.byte_of y)) }
 {
-    quaternary(operator, &first?, &second?, &third?, &fourth?)
+    let first = first?;
+    let second = second?;
+    Ok((byte_of(&first), byte_of(&second)))
 }
 
-// The number of a byte, where the value is one.
-fn byte_in(value: Evaluated) -> Result<Option<u8>, AllocError>
-    ensures { (x : spec.Value) → IfOk value (λ v. value_of v ≡ x) → IfOk result (λ byte. byte ≡ spec.byte_of x) }
-{
-    Ok(byte_of(&value?))
-}
-
-/// What a term is worth.
+// The value of a term, in a box.
 #[tactic(auto, unfolding(term_spec::specs::Value::value))]
+fn evaluate(alloc: Global, term: &Term, assignment: &Assignment) -> Result<Box<Value>, AllocError>
+    ensures { IfOk result (λ v. value_of v.value ≡ spec.value (assignment_of assignment.now) (term_of term.now)) }
+{
+    match term {
+        Term::Leaf(atom) => boxed_value(alloc, assignment.atom(alloc, *atom)),
+        Term::Unary(operator, a) => {
+            let a = evaluate(alloc, a, assignment)?;
+            boxed_value(alloc, Ok(unary(*operator, &a)))
+        }
+        Term::Binary(operator, a, b) => {
+            let (a, b) = two_values(
+                evaluate(alloc, a, assignment),
+                evaluate(alloc, b, assignment),
+            )?;
+            boxed_value(alloc, Ok(binary(*operator, &a, &b)))
+        }
+        Term::Ternary(operator, a, b, c) => {
+            let (a, b) = two_values(
+                evaluate(alloc, a, assignment),
+                evaluate(alloc, b, assignment),
+            )?;
+            let c = evaluate(alloc, c, assignment)?;
+            boxed_value(alloc, ternary(*operator, &a, &b, &c))
+        }
+        Term::Quaternary(operator, a, b, c, d) => {
+            let (a, b) = two_values(
+                evaluate(alloc, a, assignment),
+                evaluate(alloc, b, assignment),
+            )?;
+            let (c, d) = two_values(
+                evaluate(alloc, c, assignment),
+                evaluate(alloc, d, assignment),
+            )?;
+            boxed_value(alloc, quaternary(*operator, &a, &b, &c, &d))
+        }
+        Term::Octonary(a, b, c, d, e, f, g, h) => {
+            let (a, b) = two_bytes(
+                evaluate(alloc, a, assignment),
+                evaluate(alloc, b, assignment),
+            )?;
+            let (c, d) = two_bytes(
+                evaluate(alloc, c, assignment),
+                evaluate(alloc, d, assignment),
+            )?;
+            let (e, f) = two_bytes(
+                evaluate(alloc, e, assignment),
+                evaluate(alloc, f, assignment),
+            )?;
+            let (g, h) = two_bytes(
+                evaluate(alloc, g, assignment),
+                evaluate(alloc, h, assignment),
+            )?;
+            boxed_value(alloc, Ok(octonary(a, b, c, d, [e, f, g, h])))
+        }
+    }
+}
+
+/// The value of a term.
 pub fn eval(alloc: Global, term: &Term, assignment: &Assignment) -> Result<Value, AllocError>
     ensures { IfOk result (λ v. value_of v ≡ spec.value (assignment_of assignment.now) (term_of term.now)) }
 {
-    match term {
-        Term::Leaf(atom) => assignment.atom(alloc, *atom),
-        Term::Unary(operator, a) => {
-            let a = eval(alloc, a, assignment)?;
-            Ok(unary(*operator, &a))
-        }
-        Term::Binary(operator, a, b) => {
-            let a = eval(alloc, a, assignment);
-            let b = eval(alloc, b, assignment);
-            binary_of(*operator, a, b)
-        }
-        Term::Ternary(operator, a, b, c) => {
-            let a = eval(alloc, a, assignment);
-            let b = eval(alloc, b, assignment);
-            let c = eval(alloc, c, assignment);
-            ternary_of(*operator, a, b, c)
-        }
-        Term::Quaternary(operator, a, b, c, d) => {
-            let a = eval(alloc, a, assignment);
-            let b = eval(alloc, b, assignment);
-            let c = eval(alloc, c, assignment);
-            let d = eval(alloc, d, assignment);
-            quaternary_of(*operator, a, b, c, d)
-        }
-        Term::Octonary(a, b, c, d, e, f, g, h) => {
-            let a = byte_in(eval(alloc, a, assignment))?;
-            let b = byte_in(eval(alloc, b, assignment))?;
-            let c = byte_in(eval(alloc, c, assignment))?;
-            let d = byte_in(eval(alloc, d, assignment))?;
-            let e = byte_in(eval(alloc, e, assignment))?;
-            let f = byte_in(eval(alloc, f, assignment))?;
-            let g = byte_in(eval(alloc, g, assignment))?;
-            let h = byte_in(eval(alloc, h, assignment))?;
-            Ok(octonary(a, b, c, d, [e, f, g, h]))
-        }
-    }
+    let value = evaluate(alloc, term, assignment)?;
+    Ok(Box::into_inner(value))
 }
