@@ -1,3 +1,10 @@
-pub mod Turned
-mod Law
-mod Lifted
+pub mod Begun
+pub mod Constants
+pub mod Counts
+pub mod Errors
+pub mod Gathering
+pub mod Levels
+pub mod Operations
+pub mod Parts
+pub mod Suffixes
+pub mod Turns
