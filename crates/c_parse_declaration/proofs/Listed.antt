@@ -25,7 +25,7 @@ use Rattle.c_parse_token.specs.declared.outcome.ParseError.{ParseError}
 use Rattle.c_parse_token.specs.declared.outcome.ParseError.TheVariants.{NoMemory, At}
 use Rattle.c_parse_token.specs.Lists.{Gives, fault_of, list_of}
 use Rattle.c_parse_token.proofs.Steps.{begins-next}
-use Rattle.c_parse_declaration.specs.Arguments.{read_arguments_from}
+use Rattle.c_parse_declaration.specs.Parts.{read_arguments_from}
 
 -- what such parts are: a context goes from each to the next, and says what is expected behind a part
 pub record Shape (X Y C : Type 0) : Type 0 where

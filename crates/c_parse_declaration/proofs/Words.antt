@@ -19,8 +19,6 @@ use Rattle.c_type_reader.specs.Specified.{read_around}
 use Rattle.c_declaration_reader.specs.Around.{LocalWord, LocalConst, LocalStatic, ItemWord, ItemConst, ItemTypedef, ItemExtern, ItemStatic, ItemInline, local_word, item_word, with_local, with_item, word_of, is_word, word_at, storage_of}
 use Rattle.c_parse_token.specs.Words.{first_with}
 use Rattle.c_parse_token.proofs.Steps.{begins-next}
-use Rattle.c_parse_declaration.specs.declared.around.Position.{Position}
-use Rattle.c_parse_declaration.specs.declared.around.Position.TheVariants.{Local, Item}
 use Rattle.c_parse_declaration.specs.Words.{next_says, summary, read_words}
 
 -- what words say is gathered from the left
@@ -67,11 +65,11 @@ abbrev next_of : {W : Type 0} → (of : Keyword → Option W) → (with : W → 
 next_of of with [] = None
 next_of of with (next ∷ rest) = option_map (λ said. (said, next.offset)) (option_map (λ word. with word no_storage) (word_of of next.token))
 
-next-local : (tokens : List Placed) → next_says Local tokens ≡ next_of local_word with_local tokens
+next-local : (tokens : List Placed) → next_says false tokens ≡ next_of local_word with_local tokens
 next-local [] = refl
 next-local (next ∷ rest) = refl
 
-next-item : (tokens : List Placed) → next_says Item tokens ≡ next_of item_word with_item tokens
+next-item : (tokens : List Placed) → next_says true tokens ≡ next_of item_word with_item tokens
 next-item [] = refl
 next-item (next ∷ rest) = refl
 
@@ -115,9 +113,9 @@ gathering-end of with whole storage first tokens going e =
     ∙ ap (λ s. Ok ((s, first_with first []), tokens)) (both-none storage) ∙ ap (λ f. Ok ((storage, f), tokens)) (first-alone first)
 
 -- the same of the words of locals, and of items
-pub Words : Position → (whole : Outcome Placed Role (tree.Storage × Option ℕ)) → tree.Storage → Option ℕ → List Placed → Type 0
-Words Local = Gathering local_word with_local
-Words Item = Gathering item_word with_item
+pub Words : (of_item : Bool) → (whole : Outcome Placed Role (tree.Storage × Option ℕ)) → tree.Storage → Option ℕ → List Placed → Type 0
+Words false = Gathering local_word with_local
+Words true = Gathering item_word with_item
 
 local-law : (word : LocalWord) (storage : tree.Storage) → with_local word storage ≡ both (with_local word no_storage) storage
 local-law LocalConst storage = refl
@@ -130,18 +128,18 @@ item-law ItemExtern storage = refl
 item-law ItemStatic storage = refl
 item-law ItemInline storage = refl
 
-pub words-start : (position : Position) (tokens : List Placed) → Words position (read_words position tokens) no_storage None tokens
+pub words-start : (of_item : Bool) (tokens : List Placed) → Words of_item (read_words of_item tokens) no_storage None tokens
 unfolding Words
-words-start Local tokens = gathering-start local_word with_local tokens
-words-start Item tokens = gathering-start item_word with_item tokens
+words-start false tokens = gathering-start local_word with_local tokens
+words-start true tokens = gathering-start item_word with_item tokens
 
-pub words-step : (position : Position) (whole : Outcome Placed Role (tree.Storage × Option ℕ)) (storage said : tree.Storage) (first : Option ℕ) (place : ℕ) (tokens : List Placed) → Words position whole storage first tokens → next_says position tokens ≡ Some (said, place) → length (drop 1 tokens) < length tokens
-    → Words position whole (both storage said) (Some (unwrap_or first place)) (drop 1 tokens)
+pub words-step : (of_item : Bool) (whole : Outcome Placed Role (tree.Storage × Option ℕ)) (storage said : tree.Storage) (first : Option ℕ) (place : ℕ) (tokens : List Placed) → Words of_item whole storage first tokens → next_says of_item tokens ≡ Some (said, place) → length (drop 1 tokens) < length tokens
+    → Words of_item whole (both storage said) (Some (unwrap_or first place)) (drop 1 tokens)
 unfolding Words
-words-step Local whole storage said first place tokens going e less = gathering-step local_word with_local local-law whole storage said first place tokens going (sym (next-local tokens) ∙ e) less
-words-step Item whole storage said first place tokens going e less = gathering-step item_word with_item item-law whole storage said first place tokens going (sym (next-item tokens) ∙ e) less
+words-step false whole storage said first place tokens going e less = gathering-step local_word with_local local-law whole storage said first place tokens going (sym (next-local tokens) ∙ e) less
+words-step true whole storage said first place tokens going e less = gathering-step item_word with_item item-law whole storage said first place tokens going (sym (next-item tokens) ∙ e) less
 
-pub words-end : (position : Position) (whole : Outcome Placed Role (tree.Storage × Option ℕ)) (storage : tree.Storage) (first : Option ℕ) (tokens : List Placed) → Words position whole storage first tokens → next_says position tokens ≡ None → whole ≡ Ok ((storage, first), tokens)
+pub words-end : (of_item : Bool) (whole : Outcome Placed Role (tree.Storage × Option ℕ)) (storage : tree.Storage) (first : Option ℕ) (tokens : List Placed) → Words of_item whole storage first tokens → next_says of_item tokens ≡ None → whole ≡ Ok ((storage, first), tokens)
 unfolding Words
-words-end Local whole storage first tokens going e = gathering-end local_word with_local whole storage first tokens going (sym (next-local tokens) ∙ e)
-words-end Item whole storage first tokens going e = gathering-end item_word with_item whole storage first tokens going (sym (next-item tokens) ∙ e)
+words-end false whole storage first tokens going e = gathering-end local_word with_local whole storage first tokens going (sym (next-local tokens) ∙ e)
+words-end true whole storage first tokens going e = gathering-end item_word with_item whole storage first tokens going (sym (next-item tokens) ∙ e)

@@ -1,4 +1,2 @@
 pub mod Words
-pub mod Arguments
-pub mod Locals
-pub mod Globals
+pub mod Parts

@@ -6,16 +6,10 @@
 //! `specs/Parameters.antt` of `c_global_reader`.
 #![tactic(auto)]
 
-mod around;
-mod calls;
-mod class;
-mod declarator;
-mod declared;
-mod parameter;
+mod declaration;
+mod item;
 mod statement;
 
-pub use around::item_specifiers;
-pub use calls::value;
-pub use declarator::global;
-pub use declared::{locals, starts_locals};
-pub use statement::simple;
+pub use declaration::{item_specifiers, locals, starts_locals};
+pub use item::global;
+pub use statement::{simple, value};

@@ -8,7 +8,7 @@ use Rattle.c_parse_token.specs.Lists.{list_of, names_of}
 use Rattle.c_parse_token.proofs.Steps.{fewer}
 use Rattle.c_parse_expression.specs.Whole.{expressions}
 use Rattle.c_parse_declaration.proofs.Listed.{listed, listed-start, listing-more, listing-item_error, listing-unclosed, listing-end, pushed, first-pushed, passed}
-use Rattle.c_parse_declaration.proofs.declared.more_locals.Goals as goal
+use Rattle.c_parse_declaration.proofs.declaration.more_locals.Goals as goal
 
 pub items-init : goal.items-init
 items-init c = record {

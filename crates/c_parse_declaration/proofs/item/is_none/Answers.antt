@@ -1,9 +1,9 @@
 use Rattle.std.proofs.Common.{◌≡◌, ap, sym, ◌∙◌, not, arith}
 use Rattle.c_syntax.specs.Expressions.{dimensions_of, expressions_in}
 use Rattle.c_syntax.proofs.Views.{Dimensions-struct-view}
-use Rattle.c_parse_declaration.specs.Globals.{has_none}
+use Rattle.c_parse_declaration.specs.Parts.{has_none}
 use Rattle.c_parse_declaration.proofs.Ends.{no-lengths}
-use Rattle.c_parse_declaration.proofs.parameter.is_none.Goals as goal
+use Rattle.c_parse_declaration.proofs.item.is_none.Goals as goal
 
 pub returns-then-not-dimensions : goal.returns-then-not-dimensions
 returns-then-not-dimensions c =

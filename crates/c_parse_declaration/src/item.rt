@@ -1,32 +1,55 @@
-//! Parameters (6.7.6.3).
+//! Parameters, and declarators in items (6.7.6, 6.9).
 
-ghost use Rattle.std.specs.Prelude.{◌≡◌, ◌≤◌, ◌<◌, IfOk, length, map, option_map, []};
+ghost use Rattle.std.specs.Prelude.{◌≡◌, ◌≤◌, ◌<◌, IfOk, length, suc, map, option_map, [], false};
 ghost use Rattle.c_spec.specs.declared.token.Punctuator.TheVariants.{RightParenthesis};
+ghost use Rattle.c_grammar_spec.specs.declared.Role.TheVariants.{Nothing};
+ghost use Rattle.c_grammar_spec.specs.Expressions.{is_type_name};
+ghost use Rattle.c_grammar_spec.specs.Leaves.{plain};
+ghost use Rattle.c_grammar_spec.specs.Units.{name_of_global};
 ghost use Rattle.exact_read.specs.Grammar.{read_map, read_nothing};
-ghost use Rattle.c_expression_reader.specs.Types.{read_consts};
+ghost use Rattle.c_expression_reader.specs.Readers.{token, next_is};
 ghost use Rattle.c_declaration_reader.specs.Declarations.{read_list_from};
 ghost use Rattle.c_global_reader.specs.Parameters as parameters;
 ghost use Rattle.c_syntax.specs.Names.{name_of};
 ghost use Rattle.c_syntax.specs.Expressions.{specifiers_of, dimensions_of, unboxed};
-ghost use Rattle.c_syntax.specs.Units.{parameter_of};
+ghost use Rattle.c_syntax.specs.Units.{parameter_of, global_of};
 ghost use Rattle.c_parse_token.specs.Lists.{list_of, names_of, Gives};
 ghost use Rattle.c_parse_expression.specs.Whole.{expressions};
-ghost use Rattle.c_parse_declaration.specs.Globals.{has_none};
+ghost use Rattle.c_parse_declaration.specs.Parts.{has_none, read_function};
 
-use crate::class::{declared_name, starts_void, void_word};
+use crate::declaration::{NO_STORAGE, declared_name};
 use c_grammar_spec::Role;
 use c_parse_expression::{dimensions, specifiers};
-use c_parse_token::{ParseError, Tokens, TypeNames, consts, pointer};
-use c_spec::token::Punctuator;
-use c_syntax::expression::{Base, Dimensions, Name, Specifiers, Storage, boxed};
-use c_syntax::unit::Parameter;
+use c_parse_token::{Fault, ParseError, Tokens, TypeNames, consts, pointer};
+use c_spec::token::{Keyword, Punctuator};
+use c_syntax::expression::{Base, Declarator, Dimensions, Name, Specifiers, boxed};
+use c_syntax::unit::{FunctionDeclarator, Global as GlobalDeclarator, Parameter};
+use c_token::Kind;
 use std::alloc::Global;
 
-// No word of storage.
-const NEITHER: Storage = Storage {
-    is_typedef: false,
-    is_static: false,
-};
+// The next token is `void`.
+fn starts_void(tokens: &Tokens<'_>) -> bool
+    ensures { result ≡ next_is parameters.is_void (list_of tokens.now.rest.now) }
+{
+    match tokens.rest {
+        [first, ..] => matches!(first.kind, Kind::Word(Keyword::Void)),
+        [] => false,
+    }
+}
+
+// `void`: its place.
+fn void_word(tokens: &mut Tokens<'_>) -> Result<usize, ParseError>
+    ensures gives { Gives (token Nothing plain parameters.void_place (list_of tokens.old.rest.now)) (λ x. x) tokens.new.rest.now result }
+    ensures shorter { IfOk result (λ _. length tokens.old.rest.now ≡ suc (length tokens.new.rest.now)) }
+{
+    match tokens.rest {
+        [first, rest @ ..] if matches!(first.kind, Kind::Word(Keyword::Void)) => {
+            tokens.rest = rest;
+            Ok(first.offset)
+        }
+        _ => Err(ParseError::At(Fault::Wrong(Role::Nothing))),
+    }
+}
 
 // A parameter's name, if one stands next.
 fn optional_name<'t>(
@@ -81,22 +104,7 @@ fn parameter<'t>(
     ensures shorter { IfOk result (λ _. length tokens.new.rest.now ≤ length tokens.old.rest.now) }
 {
     let specifiers = specifiers(alloc, tokens, names, depth)?;
-    let parameter = parameter_behind(alloc, tokens, names, depth, specifiers)?;
-    Ok(parameter)
-}
-
-// The specifiers of which `void` at this place was read.
-fn void_specifiers<'t>(
-    alloc: Global,
-    tokens: &mut Tokens<'t>,
-    place: usize,
-) -> Result<Box<Specifiers<'t>>, ParseError>
-    ensures gives { Gives (read_map (λ _. parameters.void_at place) read_consts (list_of tokens.old.rest.now)) (λ x. specifiers_of x.value) tokens.new.rest.now result }
-    ensures shorter { IfOk result (λ _. length tokens.new.rest.now ≤ length tokens.old.rest.now) }
-{
-    consts(tokens);
-    let base = Base::void(alloc)?;
-    Ok(Specifiers::new(alloc, NEITHER, base, place)?)
+    parameter_behind(alloc, tokens, names, depth, specifiers)
 }
 
 // A parameter of which `void` at this place was read.
@@ -111,9 +119,10 @@ fn void_parameter<'t>(
     ensures gives { Gives (parameters.read_void_parameter (names_of names.now) (expressions names.now) depth place (list_of tokens.old.rest.now)) (λ x. parameter_of x.value) tokens.new.rest.now result }
     ensures shorter { IfOk result (λ _. length tokens.new.rest.now ≤ length tokens.old.rest.now) }
 {
-    let specifiers = void_specifiers(alloc, tokens, place)?;
-    let parameter = parameter_behind(alloc, tokens, names, depth, specifiers)?;
-    Ok(parameter)
+    consts(tokens);
+    let base = Base::void(alloc)?;
+    let specifiers = Specifiers::new(alloc, NO_STORAGE, base, place)?;
+    parameter_behind(alloc, tokens, names, depth, specifiers)
 }
 
 // They are no array's.
@@ -161,43 +170,8 @@ fn more_parameters<'t>(
     Ok(())
 }
 
-// Parameters behind a `void` at this place, where this is no parameter alone, and the `)`.
-fn void_parameters<'t>(
-    alloc: Global,
-    tokens: &mut Tokens<'t>,
-    names: &TypeNames<'t>,
-    depth: usize,
-    place: usize,
-    list: &mut Vec<Box<Parameter<'t>>>,
-) -> Result<(), ParseError>
-    requires depth { depth ≤ 128 }
-    requires empty { list.old.items ≡ [] }
-    ensures gives { Gives (read_list_from parameters.end_of_parameter RightParenthesis (parameters.read_void_parameter (names_of names.now) (expressions names.now) depth place) (parameters.read_parameter (names_of names.now) (expressions names.now) depth) (list_of tokens.old.rest.now)) (λ _. map parameter_of (unboxed list.new)) tokens.new.rest.now result }
-    ensures shorter { IfOk result (λ _. length tokens.new.rest.now < length tokens.old.rest.now) }
-{
-    let first = void_parameter(alloc, tokens, names, depth, place)?;
-    more_parameters(alloc, tokens, names, depth, first, list)
-}
-
-// Parameters that begin with no `void`, and the `)`.
-fn some_parameters<'t>(
-    alloc: Global,
-    tokens: &mut Tokens<'t>,
-    names: &TypeNames<'t>,
-    depth: usize,
-    list: &mut Vec<Box<Parameter<'t>>>,
-) -> Result<(), ParseError>
-    requires depth { depth ≤ 128 }
-    requires empty { list.old.items ≡ [] }
-    ensures gives { Gives (read_list_from parameters.end_of_parameter RightParenthesis (parameters.read_parameter (names_of names.now) (expressions names.now) depth) (parameters.read_parameter (names_of names.now) (expressions names.now) depth) (list_of tokens.old.rest.now)) (λ _. map parameter_of (unboxed list.new)) tokens.new.rest.now result }
-    ensures shorter { IfOk result (λ _. length tokens.new.rest.now < length tokens.old.rest.now) }
-{
-    let first = parameter(alloc, tokens, names, depth)?;
-    more_parameters(alloc, tokens, names, depth, first, list)
-}
-
-/// What stands behind the `(` of a function, with its `)`.
-pub fn parameters<'t>(
+// What stands behind the `(` of a function, with its `)`.
+fn parameters<'t>(
     alloc: Global,
     tokens: &mut Tokens<'t>,
     names: &TypeNames<'t>,
@@ -214,12 +188,62 @@ pub fn parameters<'t>(
         return Ok(());
     }
     if !starts_void(tokens) {
-        return some_parameters(alloc, tokens, names, depth, list);
+        let first = parameter(alloc, tokens, names, depth)?;
+        return more_parameters(alloc, tokens, names, depth, first, list);
     }
     let place = void_word(tokens)?;
     if tokens.next_is(Punctuator::RightParenthesis) {
         tokens.mark(Punctuator::RightParenthesis, Role::DeclaredName)?;
         return Ok(());
     }
-    void_parameters(alloc, tokens, names, depth, place, list)
+    let first = void_parameter(alloc, tokens, names, depth, place)?;
+    more_parameters(alloc, tokens, names, depth, first, list)
+}
+
+// What stands behind the name of a function, with the name and the `*` before it.
+fn function<'t>(
+    alloc: Global,
+    tokens: &mut Tokens<'t>,
+    names: &TypeNames<'t>,
+    pointers: usize,
+    name: Name<'t>,
+) -> Result<Box<GlobalDeclarator<'t>>, ParseError>
+    ensures gives { Gives (read_function (names_of names.now) (expressions names.now) pointers (name_of name.entry) (list_of tokens.old.rest.now)) (λ x. global_of x.value) tokens.new.rest.now result }
+    ensures shorter { IfOk result (λ _. length tokens.new.rest.now ≤ length tokens.old.rest.now) }
+    ensures named { IfOk result (λ x. name_of_global (global_of x.value) ≡ name.entry.spelling.now) }
+{
+    tokens.opening(Punctuator::LeftParenthesis, 0)?;
+    let mut list = Vec::new(alloc);
+    parameters(alloc, tokens, names, 1, &mut list)?;
+    let declarator = boxed(
+        alloc,
+        FunctionDeclarator {
+            pointers,
+            name,
+            parameters: list,
+        },
+    )?;
+    Ok(boxed(alloc, GlobalDeclarator::Function(declarator))?)
+}
+
+/// A declarator in an item, with `typedef` or without: with it there is no function's. Its name is none of a type.
+pub fn global<'t>(
+    alloc: Global,
+    tokens: &mut Tokens<'t>,
+    names: &TypeNames<'t>,
+    is_typedef: bool,
+) -> Result<Box<GlobalDeclarator<'t>>, ParseError>
+    ensures gives { Gives (parameters.read_global (names_of names.now) (expressions names.now) is_typedef (list_of tokens.old.rest.now)) (λ x. global_of x.value) tokens.new.rest.now result }
+    ensures shorter { IfOk result (λ _. length tokens.new.rest.now < length tokens.old.rest.now) }
+    ensures fresh { IfOk result (λ x. is_type_name (names_of names.now) (name_of_global (global_of x.value)) ≡ false) }
+{
+    let pointers = pointer(tokens);
+    let name = declared_name(tokens, names)?;
+    if !is_typedef && tokens.next_is(Punctuator::LeftParenthesis) {
+        let declarator = function(alloc, tokens, names, pointers, name)?;
+        return Ok(declarator);
+    }
+    let dimensions = dimensions(alloc, tokens, names, 0)?;
+    let declarator = Declarator::new(alloc, pointers, name, dimensions)?;
+    Ok(boxed(alloc, GlobalDeclarator::Object(declarator))?)
 }

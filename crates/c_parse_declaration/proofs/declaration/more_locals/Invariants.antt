@@ -7,7 +7,7 @@ use Rattle.c_syntax.specs.Locals.{local_of}
 use Rattle.c_parse_token.specs.Lists.{list_of, names_of}
 use Rattle.c_parse_expression.specs.Whole.{expressions}
 use Rattle.c_parse_declaration.proofs.Listed.{Listing, listed}
-use Rattle.c_parse_declaration.proofs.declared.more_locals.Given as goal
+use Rattle.c_parse_declaration.proofs.declaration.more_locals.Given as goal
 
 abbrev pub invariant-items : goal.invariant-items
 invariant-items l = record {

@@ -2,9 +2,9 @@ use Rattle.std.proofs.Common.{◌≤◌, length, map}
 use Rattle.c_syntax.specs.Expressions.{expression_of, unboxed}
 use Rattle.c_parse_token.specs.Lists.{list_of}
 use Rattle.c_parse_expression.specs.Whole.{expressions}
-use Rattle.c_parse_declaration.specs.Arguments.{read_arguments_from}
+use Rattle.c_parse_declaration.specs.Parts.{read_arguments_from}
 use Rattle.c_parse_declaration.proofs.Listed.{Listing, argued}
-use Rattle.c_parse_declaration.proofs.calls.more_arguments.Given as goal
+use Rattle.c_parse_declaration.proofs.statement.more_arguments.Given as goal
 
 abbrev pub invariant-items : goal.invariant-items
 invariant-items l = record {

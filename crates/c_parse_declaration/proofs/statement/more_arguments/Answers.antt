@@ -4,9 +4,9 @@ use Rattle.c_syntax.specs.Expressions.{expression_of, unboxed}
 use Rattle.c_parse_token.specs.Lists.{list_of, Gives}
 use Rattle.c_parse_token.proofs.Steps.{fewer}
 use Rattle.c_parse_expression.specs.Whole.{expressions}
-use Rattle.c_parse_declaration.specs.Arguments.{read_arguments_from}
+use Rattle.c_parse_declaration.specs.Parts.{read_arguments_from}
 use Rattle.c_parse_declaration.proofs.Listed.{argued, argued-start, listing-more, listing-item_error, listing-unclosed, listing-end, pushed, first-pushed, passed, same-expressions}
-use Rattle.c_parse_declaration.proofs.calls.more_arguments.Goals as goal
+use Rattle.c_parse_declaration.proofs.statement.more_arguments.Goals as goal
 
 pub items-init : goal.items-init
 items-init c = record {
