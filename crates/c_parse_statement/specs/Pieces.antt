@@ -1,5 +1,6 @@
 -- Parts of the reference parsers of statements, and of what they give.
-use Rattle.std.specs.Prelude.{ℕ, suc, ◌&&◌, ◌||◌, not, Bool, List}
+use Rattle.std.specs.Prelude.{ℕ, suc, ◌&&◌, not, Bool, List, map, Vec}
+use Rattle.std.specs.declared.alloc.Global.{Global}
 use Rattle.c_spec.specs.declared.token.Keyword.TheVariants.{Break, Continue, Else, Return, While}
 use Rattle.c_spec.specs.declared.token.Punctuator.TheVariants as punctuator
 use Rattle.c_spec.specs.Lexical.{Placed, Token}
@@ -15,7 +16,10 @@ use Rattle.c_expression_reader.specs.Classes.{mark_place}
 use Rattle.c_expression_reader.specs.Readers.{Readers, token, behind, before, choose}
 use Rattle.c_declaration_reader.specs.Values.{read_simple}
 use Rattle.c_statement_reader.specs.Statements as statements
-use Rattle.c_syntax.specs.Statements.{Piece, Declares, States}
+use Rattle.c_syntax.specs.declared.statement.Label.{Label}
+use Rattle.c_syntax.specs.declared.statement.Part.{Part}
+use Rattle.c_syntax.specs.Locals.{label_of}
+use Rattle.c_syntax.specs.Statements.{Piece, Declares, States, part_of}
 use Rattle.c_parse_token.specs.declared.names.TypeNames.{TypeNames}
 use Rattle.c_parse_token.specs.Lists.{names_of}
 use Rattle.c_parse_expression.specs.Whole.{expressions}
@@ -33,9 +37,16 @@ abbrev pub read_of : Piece → statements.Part
 read_of (Declares locals) = statements.PartLocals locals
 read_of (States statement) = statements.PartStatement statement
 
--- a label or a part of a group begins with the token
-abbrev pub starts_element : Token → Bool
-starts_element next = statements.begins_label next || not (statements.ends_parts next)
+-- labels, and the parts of a block, as the reference parser gives them
+abbrev pub taken_labels : Vec Label Global → List unit.Label
+taken_labels labels = map label_of labels.items
+
+abbrev pub taken_parts : Vec Part Global → List statements.Part
+taken_parts parts = map (λ part. read_of (part_of part)) parts.items
+
+-- a part begins with the token
+abbrev pub starts_part : Token → Bool
+starts_part next = not (statements.ends_parts next)
 
 -- statements that contain no other
 abbrev pub read_plain : Readers → (depth : ℕ) → Reader Placed Role unit.Statement

@@ -1,12 +1,12 @@
 //! What a token is where a statement is read, and parsers of keywords.
 
-ghost use Rattle.std.specs.Prelude.{◌≡◌, ◌<◌, ◌||◌, not, Bool, IfOk, length, suc};
+ghost use Rattle.std.specs.Prelude.{◌≡◌, ◌<◌, IfOk, length, suc};
 ghost use Rattle.c_grammar_spec.specs.declared.Role.TheVariants.{Nothing};
 ghost use Rattle.c_grammar_spec.specs.Leaves.{plain, opens};
 ghost use Rattle.c_expression_reader.specs.Readers.{token, next_is};
 ghost use Rattle.c_statement_reader.specs.Statements as statements;
 ghost use Rattle.c_parse_token.specs.Lists.{list_of, Gives};
-ghost use Rattle.c_parse_statement.specs.Pieces.{starts_element};
+ghost use Rattle.c_parse_statement.specs.Pieces.{starts_part};
 ghost use Rattle.c_token.specs.Pieces.{token_of};
 
 use c_grammar_spec::Role;
@@ -57,7 +57,7 @@ pub fn next_keyword(tokens: &Tokens<'_>, wanted: Keyword) -> bool
 
 /// A part of a block can begin with the next token.
 pub fn starts_part(tokens: &Tokens<'_>) -> bool
-    ensures { result ≡ next_is (λ next. not (statements.ends_parts next)) (list_of tokens.now.rest.now) }
+    ensures { result ≡ next_is starts_part (list_of tokens.now.rest.now) }
 {
     match tokens.rest {
         [first, ..] => !ends_parts(first.kind),
@@ -71,16 +71,6 @@ pub fn starts_label(tokens: &Tokens<'_>) -> bool
 {
     match tokens.rest {
         [first, ..] => begins_label(first.kind),
-        [] => false,
-    }
-}
-
-/// A label or a part begins with the next token.
-pub fn starts_element(tokens: &Tokens<'_>) -> bool
-    ensures { result ≡ next_is starts_element (list_of tokens.now.rest.now) }
-{
-    match tokens.rest {
-        [first, ..] => begins_label(first.kind) || !ends_parts(first.kind),
         [] => false,
     }
 }

@@ -7,7 +7,6 @@
 
 mod class;
 mod ends;
-mod grouping;
 mod pieces;
 mod plain;
 mod statement;

@@ -8,9 +8,10 @@ ghost use Rattle.c_syntax.specs.Simples.{simple_of};
 ghost use Rattle.c_syntax.specs.Locals.{start_of, label_of};
 ghost use Rattle.c_parse_token.specs.Lists.{list_of, names_of, Gives};
 ghost use Rattle.c_parse_expression.specs.Whole.{expressions};
-ghost use Rattle.c_parse_statement.specs.Pieces.{read_do_test, read_start_simple};
+ghost use Rattle.c_parse_statement.specs.Pieces.{read_do_test, read_start_simple, taken_labels};
+ghost use Rattle.c_parse_statement.specs.Runs.{Runs};
 
-use crate::class::{keyword, next_keyword};
+use crate::class::{keyword, next_keyword, starts_label};
 use crate::ends::simple_end;
 use c_grammar_spec::Role;
 use c_parse_declaration::{locals, simple, starts_locals};
@@ -136,8 +137,8 @@ pub fn for_step<'t>(
     Ok(Some(simple))
 }
 
-/// A label of a `switch`.
-pub fn label<'t>(
+// A label of a `switch`.
+fn label<'t>(
     alloc: Global,
     tokens: &mut Tokens<'t>,
     names: &TypeNames<'t>,
@@ -156,4 +157,22 @@ pub fn label<'t>(
     let value = whole(alloc, tokens, names, depth)?;
     tokens.mark(Punctuator::Colon, Role::OperandEnd)?;
     Ok(Label::Case(value, place))
+}
+
+/// Labels, as long as one stands next.
+pub fn labels<'t>(
+    alloc: Global,
+    tokens: &mut Tokens<'t>,
+    names: &TypeNames<'t>,
+    depth: usize,
+) -> Result<Vec<Label<'t>>, ParseError>
+    requires depth { depth ≤ 128 }
+    ensures runs { Runs statements.begins_label (statements.read_label (expressions names.now) depth) taken_labels tokens.old.rest.now tokens.new.rest.now result }
+{
+    let mut all: Vec<Label<'t>> = Vec::new(alloc);
+    'items: while starts_label(tokens) {
+        let next = label(alloc, tokens, names, depth)?;
+        all.push(next)?;
+    }
+    Ok(all)
 }

@@ -11,7 +11,7 @@ use Rattle.c_syntax.specs.declared.statement.Locals.{Locals}
 use Rattle.c_tree_spec.specs.Unit as unit
 use Rattle.exact_read.specs.Grammar.{bind}
 use Rattle.c_statement_reader.specs.Statements as statements
-use Rattle.c_statement_reader.specs.Statements.{read_parts, read_groups}
+use Rattle.c_statement_reader.specs.Statements.{begins_label, read_label, read_groups}
 use Rattle.c_syntax.specs.Expressions.{expression_of, unboxed}
 use Rattle.c_syntax.specs.Simples.{simple_of}
 use Rattle.c_syntax.specs.Locals.{locals_of, start_of, label_of}
@@ -19,10 +19,11 @@ use Rattle.c_syntax.specs.Statements.{part_of, parts_of, parts_in, statement_of,
 use Rattle.c_parse_token.specs.Lists.{list_of, names_of, Gives}
 use Rattle.c_parse_token.proofs.Steps.{fewer}
 use Rattle.c_parse_expression.specs.Whole.{expressions}
-use Rattle.c_parse_statement.specs.Grouped.{grouping_of}
-use Rattle.c_parse_statement.specs.Pieces.{within, read_of, read_plain}
+use Rattle.c_parse_statement.specs.Pieces.{within, read_of, read_plain, starts_part, taken_labels, taken_parts}
 use Rattle.c_parse_statement.proofs.Steps.{failed, no_memory}
-use Rattle.c_parse_statement.proofs.Loops.{Parts, parts-start, parts-more, parts-error, parts-end, Gathering, gathering-start, gathering-none, gathering-label_error, gathering-step, gathering-error, gathering-end}
+use Rattle.c_parse_statement.specs.Runs.{Run, none}
+use Rattle.c_parse_statement.proofs.Runs.{run-last, run-failed, run-no_memory, run-takes}
+use Rattle.c_parse_statement.proofs.Loops.{parts-same, parts-gives, Groups, groups-start, groups-step, groups-end, labels-failed, parts-failed}
 use Rattle.c_parse_statement.proofs.Split.{do-parts, if-parts}
 use Rattle.c_parse_statement.proofs.Chain.{for-found, for-start_error, for-test_error, for-step_error, for-body_error, switch-found, switch-open_error, switch-groups_error, switch-close_error, block-unclosed}
 use Rattle.c_parse_statement.proofs.statement.+statements.Goals as goal
@@ -33,7 +34,7 @@ all_parts-items-init t c =
     let inner = expressions c.args.names.now in
     let inside = within c.args.names.now c.args.room in
     record {
-      going = subst (λ all. Parts names inner inside c.args.depth (read_parts names inner inside c.args.depth (list_of c.args.tokens.now.rest.now)) all (list_of c.args.tokens.now.rest.now)) (sym (ap (map part_of) c.new-all.ensures.items)) (parts-start names inner inside c.args.depth (list_of c.args.tokens.now.rest.now));
+      run = subst (λ items. Run starts_part (statements.read_part names inner inside c.args.depth) (list_of c.args.tokens.now.rest.now) (map (λ part. read_of (part_of part)) items) (list_of c.args.tokens.now.rest.now)) (sym c.new-all.ensures.items) (none (list_of c.args.tokens.now.rest.now));
       fewer = omega arith;
     }
 
@@ -42,12 +43,12 @@ all_parts-items-preserved t c =
     let names = names_of c.args.names.now in
     let inner = expressions c.args.names.now in
     let inside = within c.args.names.now c.args.room in
-    let whole = read_parts names inner inside c.args.depth (list_of c.args.tokens.now.rest.now) in
     let next = c.in_ok-next.next in
     let rest = c.part.new.tokens.rest.now in
-    let all : map part_of c.push.new.self.items ≡ map part_of c.items.all.items ++ part_of next ∷ [] = ap (map part_of) c.in_ok-push.ensures.items ∙ map-append part_of c.items.all.items (next ∷ []) in
+    let all : taken_parts c.push.new.self ≡ taken_parts c.items.all ++ read_of (part_of next) ∷ [] = ap (map (λ part. read_of (part_of part))) c.in_ok-push.ensures.items ∙ map-append (λ part. read_of (part_of part)) c.items.all.items (next ∷ []) in
     record {
-      going = parts-more names inner inside c.args.depth whole (map part_of c.items.all.items) (map part_of c.push.new.self.items) (part_of next) (list_of c.items.tokens.rest.now) (list_of rest) all c.items.invariant.going (sym c.starts_part.ensures ∙ c.items-test.true) c.in_ok-next.ensures.gives (fewer rest c.items.tokens.rest.now c.in_ok-next.ensures.shorter);
+      run = subst (λ xs. Run starts_part (statements.read_part names inner inside c.args.depth) (list_of c.args.tokens.now.rest.now) xs (list_of rest)) (sym all)
+          (run-last starts_part (statements.read_part names inner inside c.args.depth) (list_of c.args.tokens.now.rest.now) (list_of c.items.tokens.rest.now) (list_of rest) (taken_parts c.items.all) (read_of (part_of next)) c.items.invariant.run (sym c.starts_part.ensures ∙ c.items-test.true) c.in_ok-next.ensures.gives (fewer rest c.items.tokens.rest.now c.in_ok-next.ensures.shorter));
       fewer = omega (arith, c.in_ok-next.ensures.shorter, c.items.invariant.fewer);
     }
 
@@ -56,15 +57,35 @@ all_parts-returns-in_err-next-clause-gives t c =
     let names = names_of c.args.names.now in
     let inner = expressions c.args.names.now in
     let inside = within c.args.names.now c.args.room in
-    failed _ _ (λ x. read_of (part_of x)) _ _ _ c.in_err-next.field-0.0 c.from_residual.ensures.1 c.in_err-next.ensures.gives
-    (λ fault e. parts-error names inner inside c.args.depth (read_parts names inner inside c.args.depth (list_of c.args.tokens.now.rest.now)) (map part_of c.items.all.items) (list_of c.items.tokens.rest.now) fault c.items.invariant.going (sym c.starts_part.ensures ∙ c.items-test.true) e)
+    parts-gives names inner inside c.args.depth c.args.tokens.now.rest.now c.part.new.tokens.rest.now _ (run-failed starts_part (statements.read_part names inner inside c.args.depth) taken_parts (λ x. read_of (part_of x)) _ _ (list_of c.items.tokens.rest.now) (taken_parts c.items.all) _ c.in_err-next.field-0.0 c.from_residual.ensures.1 c.items.invariant.run (sym c.starts_part.ensures ∙ c.items-test.true) c.in_err-next.ensures.gives)
+
+pub all_parts-returns-in_err-next-clause-runs : goal.all_parts-returns-in_err-next-clause-runs
+all_parts-returns-in_err-next-clause-runs t c =
+    let names = names_of c.args.names.now in
+    let inner = expressions c.args.names.now in
+    let inside = within c.args.names.now c.args.room in
+    run-failed starts_part (statements.read_part names inner inside c.args.depth) taken_parts (λ x. read_of (part_of x)) _ _ (list_of c.items.tokens.rest.now) (taken_parts c.items.all) _ c.in_err-next.field-0.0 c.from_residual.ensures.1 c.items.invariant.run (sym c.starts_part.ensures ∙ c.items-test.true) c.in_err-next.ensures.gives
+
+pub all_parts-returns-in_err-push-clause-runs : goal.all_parts-returns-in_err-push-clause-runs
+all_parts-returns-in_err-push-clause-runs t c =
+    let names = names_of c.args.names.now in
+    let inner = expressions c.args.names.now in
+    let inside = within c.args.names.now c.args.room in
+    run-no_memory starts_part (statements.read_part names inner inside c.args.depth) taken_parts _ _ _ c.from_residual-in_err-push.ensures.1
 
 pub all_parts-returns-clause-gives : goal.all_parts-returns-clause-gives
 all_parts-returns-clause-gives t c =
     let names = names_of c.args.names.now in
     let inner = expressions c.args.names.now in
     let inside = within c.args.names.now c.args.room in
-    parts-end names inner inside c.args.depth (read_parts names inner inside c.args.depth (list_of c.args.tokens.now.rest.now)) (map part_of c.items.all.items) (list_of c.items.tokens.rest.now) c.items.invariant.going (sym c.starts_part.ensures ∙ c.items-test.false)
+    parts-gives names inner inside c.args.depth c.args.tokens.now.rest.now c.items.tokens.rest.now (Ok c.items.all) (c.items.invariant.run, sym c.starts_part.ensures ∙ c.items-test.false)
+
+pub all_parts-returns-clause-runs : goal.all_parts-returns-clause-runs
+all_parts-returns-clause-runs t c =
+    let names = names_of c.args.names.now in
+    let inner = expressions c.args.names.now in
+    let inside = within c.args.names.now c.args.room in
+    (c.items.invariant.run, sym c.starts_part.ensures ∙ c.items-test.false)
 
 pub block-returns-in_err-mark-clause-gives : goal.block-returns-in_err-mark-clause-gives
 block-returns-in_err-mark-clause-gives t c =
@@ -135,12 +156,9 @@ groups-items-init t c =
     let names = names_of c.args.names.now in
     let inner = expressions c.args.names.now in
     let inside = within c.args.names.now c.args.room in
-    let whole = read_groups names inner inside c.args.depth (list_of c.args.tokens.now.rest.now) in
-    let rest = c.label.new.tokens.rest.now in
-    let start = gathering-start names inner inside c.args.depth (label_of c.in_ok-first.first) (list_of c.args.tokens.now.rest.now) (list_of rest) (sym c.starts_label.ensures ∙ c.if-not-starts_label.false) c.in_ok-first.ensures.gives (fewer rest c.args.tokens.now.rest.now c.in_ok-first.ensures.shorter) in
     record {
-      going = subst (λ gathered. Gathering names inner inside c.args.depth whole gathered (list_of rest)) (sym c.in_ok-gathered.ensures) start;
-      fewer = c.in_ok-first.ensures.shorter;
+      going = subst (λ items. Groups names inner inside c.args.depth (read_groups names inner inside c.args.depth (list_of c.args.tokens.now.rest.now)) (map group_of (map (λ b. b.value) items)) (list_of c.args.tokens.now.rest.now)) (sym c.new-all.ensures.items) (groups-start names inner inside c.args.depth (list_of c.args.tokens.now.rest.now));
+      fewer = omega arith;
     }
 
 pub groups-items-preserved : goal.groups-items-preserved
@@ -148,43 +166,46 @@ groups-items-preserved t c =
     let names = names_of c.args.names.now in
     let inner = expressions c.args.names.now in
     let inside = within c.args.names.now c.args.room in
-    let whole = read_groups names inner inside c.args.depth (list_of c.args.tokens.now.rest.now) in
-    let rest = c.element.new.tokens.rest.now in
+    let labels = taken_labels c.in_ok-labels.labels in
+    let group = c.in_ok-group.group in
+    let rest = list_of c.all_parts.new.tokens.rest.now in
+    let made : (labels, statements.parts_of (taken_parts c.in_ok-parts.parts)) ≡ group_of group.value = ap (λ p. (labels, p)) (parts-same c.in_ok-parts.parts.items) ∙ sym c.in_ok-group.ensures in
+    let all : map group_of (unboxed c.push.new.self) ≡ map group_of (unboxed c.items.all) ++ group_of group.value ∷ [] =
+    ap (λ items. map group_of (map (λ b. b.value) items)) c.in_ok-push.ensures.items ∙ ap (map group_of) (map-append (λ b. b.value) c.items.all.items (group ∷ [])) ∙ map-append group_of (unboxed c.items.all) (group.value ∷ []) in
     record {
-      going = gathering-step names inner inside c.args.depth whole (grouping_of c.items.gathered) (grouping_of c.element.new.gathered) (list_of c.items.tokens.rest.now) (list_of rest) c.items.invariant.going (sym c.starts_element.ensures ∙ c.items-test.true) c.in_ok-element.ensures.gives (fewer rest c.items.tokens.rest.now c.in_ok-element.ensures.shorter);
-      fewer = omega (arith, c.in_ok-element.ensures.shorter, c.items.invariant.fewer);
+      going = subst (λ gs. Groups names inner inside c.args.depth (read_groups names inner inside c.args.depth (list_of c.args.tokens.now.rest.now)) gs rest) (sym all)
+          (subst (λ g. Groups names inner inside c.args.depth (read_groups names inner inside c.args.depth (list_of c.args.tokens.now.rest.now)) (map group_of (unboxed c.items.all) ++ g ∷ []) rest) made
+          (groups-step names inner inside c.args.depth (read_groups names inner inside c.args.depth (list_of c.args.tokens.now.rest.now)) (map group_of (unboxed c.items.all)) (list_of c.items.tokens.rest.now) (list_of c.labels.new.tokens.rest.now) rest labels (taken_parts c.in_ok-parts.parts) c.items.invariant.going (sym c.starts_label.ensures ∙ c.items-test.true) c.in_ok-labels.ensures.runs.0 c.in_ok-labels.ensures.runs.1 c.in_ok-parts.ensures.runs.0 c.in_ok-parts.ensures.runs.1));
+      fewer = omega (arith, (run-takes begins_label (read_label inner c.args.depth) c.items.tokens.rest.now c.labels.new.tokens.rest.now (taken_labels c.in_ok-labels.labels) c.in_ok-labels.ensures.runs.0 (sym c.starts_label.ensures ∙ c.items-test.true) c.in_ok-labels.ensures.runs.1), c.in_ok-parts.ensures.shorter, c.items.invariant.fewer);
     }
 
-pub groups-returns-in_err-first-clause-gives : goal.groups-returns-in_err-first-clause-gives
-groups-returns-in_err-first-clause-gives t c =
+pub groups-items-smaller : goal.groups-items-smaller
+groups-items-smaller t c =
     let names = names_of c.args.names.now in
     let inner = expressions c.args.names.now in
     let inside = within c.args.names.now c.args.room in
-    failed _ _ label_of _ _ _ c.in_err-first.field-0.0 c.from_residual.ensures.1 c.in_err-first.ensures.gives
-    (λ fault e. gathering-label_error names inner inside c.args.depth (list_of c.args.tokens.now.rest.now) fault (sym c.starts_label.ensures ∙ c.if-not-starts_label.false) e)
+    omega (arith, (run-takes begins_label (read_label inner c.args.depth) c.items.tokens.rest.now c.labels.new.tokens.rest.now (taken_labels c.in_ok-labels.labels) c.in_ok-labels.ensures.runs.0 (sym c.starts_label.ensures ∙ c.items-test.true) c.in_ok-labels.ensures.runs.1), c.in_ok-parts.ensures.shorter)
 
-pub groups-returns-in_err-element-clause-gives : goal.groups-returns-in_err-element-clause-gives
-groups-returns-in_err-element-clause-gives t c =
+pub groups-returns-in_err-labels-clause-gives : goal.groups-returns-in_err-labels-clause-gives
+groups-returns-in_err-labels-clause-gives t c =
     let names = names_of c.args.names.now in
     let inner = expressions c.args.names.now in
     let inside = within c.args.names.now c.args.room in
-    failed _ _ (λ (x : Unit {0}). grouping_of c.element.new.gathered) _ _ _ c.in_err-element.field-0.0 c.from_residual-in_err-element.ensures.1 c.in_err-element.ensures.gives
-    (λ fault e. gathering-error names inner inside c.args.depth (read_groups names inner inside c.args.depth (list_of c.args.tokens.now.rest.now)) (grouping_of c.items.gathered) (list_of c.items.tokens.rest.now) fault c.items.invariant.going (sym c.starts_element.ensures ∙ c.items-test.true) e)
+    labels-failed names inner inside c.args.depth (read_groups names inner inside c.args.depth (list_of c.args.tokens.now.rest.now)) groups_in (map group_of (unboxed c.items.all)) c.items.tokens.rest.now _ _ c.in_err-labels.field-0.0 c.from_residual.ensures.1 c.items.invariant.going c.in_err-labels.ensures.runs
+
+pub groups-returns-in_err-parts-clause-gives : goal.groups-returns-in_err-parts-clause-gives
+groups-returns-in_err-parts-clause-gives t c =
+    let names = names_of c.args.names.now in
+    let inner = expressions c.args.names.now in
+    let inside = within c.args.names.now c.args.room in
+    parts-failed names inner inside c.args.depth (read_groups names inner inside c.args.depth (list_of c.args.tokens.now.rest.now)) groups_in (map group_of (unboxed c.items.all)) (list_of c.items.tokens.rest.now) (taken_labels c.in_ok-labels.labels) c.labels.new.tokens.rest.now _ _ c.in_err-parts.field-0.0 c.from_residual-in_err-parts.ensures.1 c.items.invariant.going (sym c.starts_label.ensures ∙ c.items-test.true) c.in_ok-labels.ensures.runs.0 c.in_ok-labels.ensures.runs.1 c.in_err-parts.ensures.runs
 
 pub groups-returns-clause-gives : goal.groups-returns-clause-gives
 groups-returns-clause-gives t c =
     let names = names_of c.args.names.now in
     let inner = expressions c.args.names.now in
     let inside = within c.args.names.now c.args.room in
-    gathering-end names inner inside c.args.depth (read_groups names inner inside c.args.depth (list_of c.args.tokens.now.rest.now)) (grouping_of c.items.gathered) (list_of c.items.tokens.rest.now) c.items.invariant.going (sym c.starts_element.ensures ∙ c.items-test.false)
-    ∙ ap (λ groups. Ok (groups, list_of c.items.tokens.rest.now)) (sym c.in_ok-groups.ensures)
-
-pub groups-returns-then-not-starts_label-clause-gives : goal.groups-returns-then-not-starts_label-clause-gives
-groups-returns-then-not-starts_label-clause-gives t c =
-    let names = names_of c.args.names.now in
-    let inner = expressions c.args.names.now in
-    let inside = within c.args.names.now c.args.room in
-    gathering-none names inner inside c.args.depth (list_of c.args.tokens.now.rest.now) (sym c.starts_label.ensures ∙ c.if-not-starts_label.true) ∙ ap (λ items. Ok (groups_of (map group_of (map (λ b. b.value) items)), list_of c.args.tokens.now.rest.now)) (sym c.new.ensures.items)
+    groups-end names inner inside c.args.depth (read_groups names inner inside c.args.depth (list_of c.args.tokens.now.rest.now)) (map group_of (unboxed c.items.all)) (list_of c.items.tokens.rest.now) c.items.invariant.going (sym c.starts_label.ensures ∙ c.items-test.false)
 
 pub if_statement-returns-clause-gives : goal.if_statement-returns-clause-gives
 if_statement-returns-clause-gives t c =
@@ -340,13 +361,13 @@ pub switch_statement-returns-in_err-switch-clause-gives : goal.switch_statement-
 switch_statement-returns-in_err-switch-clause-gives t c =
     no_memory _ _ _ _ c.from_residual-in_err-switch.ensures.1
 
-pub groups-returns-in_err-gathered-clause-gives : goal.groups-returns-in_err-gathered-clause-gives
-groups-returns-in_err-gathered-clause-gives t c =
-    no_memory _ _ _ _ c.from_residual-in_err-gathered.ensures.1
+pub groups-returns-in_err-group-clause-gives : goal.groups-returns-in_err-group-clause-gives
+groups-returns-in_err-group-clause-gives t c =
+    no_memory _ _ _ _ c.from_residual-in_err-group.ensures.1
 
-pub groups-returns-in_err-groups-clause-gives : goal.groups-returns-in_err-groups-clause-gives
-groups-returns-in_err-groups-clause-gives t c =
-    no_memory _ _ _ _ c.from_residual-in_err-groups.ensures.1
+pub groups-returns-in_err-push-clause-gives : goal.groups-returns-in_err-push-clause-gives
+groups-returns-in_err-push-clause-gives t c =
+    no_memory _ _ _ _ c.from_residual-in_err-push.ensures.1
 
 pub any_statement-returns-then-next_is-clause-gives : goal.any_statement-returns-then-next_is-clause-gives
 any_statement-returns-then-next_is-clause-gives t c =
