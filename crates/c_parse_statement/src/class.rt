@@ -22,10 +22,7 @@ const MOST: usize = 128;
 fn is_keyword(kind: Kind<'_>, wanted: Keyword) -> bool
     ensures { result ≡ statements.is_keyword wanted (token_of kind.entry) }
 {
-    match kind {
-        Kind::Word(word) => word == wanted,
-        _ => false,
-    }
+    matches!(kind, Kind::Word(word) if word == wanted)
 }
 
 // The token begins a label of a `switch`.
@@ -49,30 +46,21 @@ fn ends_parts(kind: Kind<'_>) -> bool
 pub fn next_keyword(tokens: &Tokens<'_>, wanted: Keyword) -> bool
     ensures { result ≡ next_is (statements.is_keyword wanted) (list_of tokens.now.rest.now) }
 {
-    match tokens.rest {
-        [first, ..] => is_keyword(first.kind, wanted),
-        [] => false,
-    }
+    matches!(tokens.rest, [first, ..] if is_keyword(first.kind, wanted))
 }
 
 /// A part of a block can begin with the next token.
 pub fn starts_part(tokens: &Tokens<'_>) -> bool
     ensures { result ≡ next_is starts_part (list_of tokens.now.rest.now) }
 {
-    match tokens.rest {
-        [first, ..] => !ends_parts(first.kind),
-        [] => false,
-    }
+    matches!(tokens.rest, [first, ..] if !ends_parts(first.kind))
 }
 
 /// The next token begins a label.
 pub fn starts_label(tokens: &Tokens<'_>) -> bool
     ensures { result ≡ next_is statements.begins_label (list_of tokens.now.rest.now) }
 {
-    match tokens.rest {
-        [first, ..] => begins_label(first.kind),
-        [] => false,
-    }
+    matches!(tokens.rest, [first, ..] if begins_label(first.kind))
 }
 
 /// A keyword: its place.

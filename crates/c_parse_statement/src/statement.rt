@@ -9,10 +9,9 @@ ghost use Rattle.c_parse_expression.specs.Whole.{expressions};
 ghost use Rattle.c_parse_statement.specs.Pieces.{room, within, read_of, read_else, starts_part, taken_parts};
 ghost use Rattle.c_parse_statement.specs.Runs.{Runs};
 
-use crate::class::{next_keyword, opening, starts_label, starts_part};
+use crate::class::{keyword, next_keyword, opening, starts_label, starts_part};
 use crate::ends::takes_else;
-use crate::pieces::{do_test, for_start, for_step, for_test, labels, test};
-use crate::plain::plain_statement;
+use crate::pieces::{for_start, for_step, for_test, labels, plain_statement, test};
 use c_grammar_spec::Role;
 use c_parse_declaration::{locals, starts_locals};
 use c_parse_token::{Fault, ParseError, Tokens, TypeNames};
@@ -163,7 +162,9 @@ fn do_statement<'t>(
 {
     let place = opening(tokens, Keyword::Do, depth)?;
     let body = statement(alloc, tokens, names, depth + 1, room)?;
-    let test = do_test(alloc, tokens, names, depth + 1)?;
+    keyword(tokens, Keyword::While)?;
+    let test = test(alloc, tokens, names, depth + 1)?;
+    tokens.mark(Punctuator::Semicolon, Role::Nothing)?;
     Ok(Statement::do_loop(alloc, body, test, place)?)
 }
 
@@ -233,45 +234,7 @@ fn switch_statement<'t>(
     Ok(Statement::switch(alloc, test, groups, place)?)
 }
 
-// A statement by its first token.
-#[cycle(statements)]
-fn any_statement<'t>(
-    alloc: Global,
-    tokens: &mut Tokens<'t>,
-    names: &TypeNames<'t>,
-    depth: usize,
-    room: usize,
-) -> Result<Box<Statement<'t>>, ParseError>
-    requires depth { depth ≤ 128 }
-    ensures gives { Gives (statements.read_statement_around (names_of names.now) (expressions names.now) (within names.now room) depth (list_of tokens.old.rest.now)) (λ x. statement_of x.value) tokens.new.rest.now result }
-    ensures shorter { IfOk result (λ _. length tokens.new.rest.now < length tokens.old.rest.now) }
-{
-    if tokens.next_is(Punctuator::LeftBrace) {
-        return block(alloc, tokens, names, depth, room);
-    }
-    if tokens.next_is(Punctuator::Semicolon) {
-        let place = tokens.mark(Punctuator::Semicolon, Role::Nothing)?;
-        return Ok(Statement::empty(alloc, place)?);
-    }
-    if next_keyword(tokens, Keyword::If) {
-        return if_statement(alloc, tokens, names, depth, room);
-    }
-    if next_keyword(tokens, Keyword::Switch) {
-        return switch_statement(alloc, tokens, names, depth, room);
-    }
-    if next_keyword(tokens, Keyword::While) {
-        return while_statement(alloc, tokens, names, depth, room);
-    }
-    if next_keyword(tokens, Keyword::Do) {
-        return do_statement(alloc, tokens, names, depth, room);
-    }
-    if next_keyword(tokens, Keyword::For) {
-        return for_statement(alloc, tokens, names, depth, room);
-    }
-    plain_statement(alloc, tokens, names, depth)
-}
-
-// A statement in which so many constructs may open.
+// A statement in which so many constructs may open, by its first token.
 #[tactic(auto, using(crate::proofs::Rooms::rooms))]
 #[cycle(statements)]
 fn statement<'t>(
@@ -288,7 +251,30 @@ fn statement<'t>(
     if room == 0 {
         return Err(ParseError::At(Fault::Deep));
     }
-    any_statement(alloc, tokens, names, depth, room - 1)
+    let inner = room - 1;
+    if tokens.next_is(Punctuator::LeftBrace) {
+        return block(alloc, tokens, names, depth, inner);
+    }
+    if tokens.next_is(Punctuator::Semicolon) {
+        let place = tokens.mark(Punctuator::Semicolon, Role::Nothing)?;
+        return Ok(Statement::empty(alloc, place)?);
+    }
+    if next_keyword(tokens, Keyword::If) {
+        return if_statement(alloc, tokens, names, depth, inner);
+    }
+    if next_keyword(tokens, Keyword::Switch) {
+        return switch_statement(alloc, tokens, names, depth, inner);
+    }
+    if next_keyword(tokens, Keyword::While) {
+        return while_statement(alloc, tokens, names, depth, inner);
+    }
+    if next_keyword(tokens, Keyword::Do) {
+        return do_statement(alloc, tokens, names, depth, inner);
+    }
+    if next_keyword(tokens, Keyword::For) {
+        return for_statement(alloc, tokens, names, depth, inner);
+    }
+    plain_statement(alloc, tokens, names, depth)
 }
 
 /// What stands in a block, as long as a token stands next with which a part of it can begin.

@@ -1,4 +1,4 @@
-use Rattle.std.proofs.Common.{arith, ℕ, suc, refl, ◌≡◌, ◌∙◌, sym, subst, ap, map, ◌++◌, ◌∷◌, [], ◌+◌, Ok, Err}
+use Rattle.std.proofs.Common.{arith, ℕ, suc, ◌-◌, refl, ◌≡◌, ◌∙◌, sym, subst, ap, map, ◌++◌, ◌∷◌, [], ◌+◌, Ok, Err}
 use Rattle.std.proofs.lemmas.List.{map-append}
 use Rattle.std.specs.Option.{option_map}
 use Rattle.std.specs.declared.alloc.Global.{Global}
@@ -9,7 +9,6 @@ use Rattle.c_syntax.specs.declared.statement.ForStart.{ForStart}
 use Rattle.c_syntax.specs.declared.statement.Statement.{Statement}
 use Rattle.c_syntax.specs.declared.statement.Locals.{Locals}
 use Rattle.c_tree_spec.specs.Unit as unit
-use Rattle.exact_read.specs.Grammar.{bind}
 use Rattle.c_statement_reader.specs.Statements as statements
 use Rattle.c_statement_reader.specs.Statements.{begins_label, read_label, read_groups}
 use Rattle.c_syntax.specs.Expressions.{expression_of, unboxed}
@@ -21,10 +20,11 @@ use Rattle.c_parse_token.proofs.Steps.{fewer}
 use Rattle.c_parse_expression.specs.Whole.{expressions}
 use Rattle.c_parse_statement.specs.Pieces.{within, read_of, read_plain, starts_part, taken_labels, taken_parts}
 use Rattle.c_parse_statement.proofs.Steps.{failed, no_memory}
+use Rattle.c_parse_statement.proofs.Rooms.{statement-some}
 use Rattle.c_parse_statement.specs.Runs.{Run, none}
 use Rattle.c_parse_statement.proofs.Runs.{run-last, run-failed, run-no_memory, run-takes}
 use Rattle.c_parse_statement.proofs.Loops.{parts-same, parts-gives, Groups, groups-start, groups-step, groups-end, labels-failed, parts-failed}
-use Rattle.c_parse_statement.proofs.Split.{do-parts, if-parts}
+use Rattle.c_parse_statement.proofs.Split.{if-parts}
 use Rattle.c_parse_statement.proofs.Chain.{for-found, for-start_error, for-test_error, for-step_error, for-body_error, switch-found, switch-open_error, switch-groups_error, switch-close_error, block-unclosed}
 use Rattle.c_parse_statement.proofs.statement.+statements.Goals as goal
 
@@ -94,22 +94,6 @@ block-returns-in_err-mark-clause-gives t c =
     let inside = within c.args.names.now c.args.room in
     failed _ _ (λ (x : ℕ). x) _ _ _ c.in_err-mark.field-0.0 c.from_residual-in_err-mark.ensures.1 c.in_err-mark.ensures.gives
     (λ fault e. block-unclosed names inner inside c.args.depth (c.args.depth + 1) c.in_ok-place.place (parts_in c.in_ok-parts.parts) fault (list_of c.args.tokens.now.rest.now) (list_of c.opening.new.self.rest.now) (list_of c.all_parts.new.tokens.rest.now) (omega arith) c.in_ok-place.ensures.gives c.in_ok-parts.ensures.gives e)
-
-pub do_statement-returns-in_err-test-clause-gives : goal.do_statement-returns-in_err-test-clause-gives
-do_statement-returns-in_err-test-clause-gives t c =
-    let names = names_of c.args.names.now in
-    let inner = expressions c.args.names.now in
-    let inside = within c.args.names.now c.args.room in
-    failed _ _ (λ (x : Box Expression Global). expression_of x.value) _ _ _ c.in_err-test.field-0.0 c.from_residual-in_err-test.ensures.1 c.in_err-test.ensures.gives
-    (λ fault e. do-parts inner inside c.args.depth (c.args.depth + 1) c.in_ok-place.place (statement_of c.in_ok-body.body.value) (list_of c.args.tokens.now.rest.now) (list_of c.opening.new.tokens.rest.now) (list_of c.statement.new.tokens.rest.now) (omega arith) c.in_ok-place.ensures.gives c.in_ok-body.ensures.gives ∙ ap (λ o. bind o (λ x rest. Ok (unit.Do (statement_of c.in_ok-body.body.value) x c.in_ok-place.place, rest))) e)
-
-pub do_statement-returns-clause-gives : goal.do_statement-returns-clause-gives
-do_statement-returns-clause-gives t c =
-    let names = names_of c.args.names.now in
-    let inner = expressions c.args.names.now in
-    let inside = within c.args.names.now c.args.room in
-    do-parts inner inside c.args.depth (c.args.depth + 1) c.in_ok-place.place (statement_of c.in_ok-body.body.value) (list_of c.args.tokens.now.rest.now) (list_of c.opening.new.tokens.rest.now) (list_of c.statement.new.tokens.rest.now) (omega arith) c.in_ok-place.ensures.gives c.in_ok-body.ensures.gives ∙ ap (λ o. bind o (λ x rest. Ok (unit.Do (statement_of c.in_ok-body.body.value) x c.in_ok-place.place, rest))) c.in_ok-test.ensures.gives
-    ∙ ap (λ made. Ok (made, list_of c.do_test.new.tokens.rest.now)) (sym c.in_ok-do_loop.ensures)
 
 pub for_statement-returns-in_err-start-clause-gives : goal.for_statement-returns-in_err-start-clause-gives
 for_statement-returns-in_err-start-clause-gives t c =
@@ -331,9 +315,29 @@ do_statement-returns-in_err-body-clause-gives t c =
     let one : c.args.depth + 1 ≡ suc c.args.depth = omega arith in
     failed _ _ (λ (x : Box Statement Global). statement_of x.value) _ _ _ c.in_err-body.field-0.0 c.from_residual-in_err-body.ensures.1 c.in_err-body.ensures.gives (λ fault e. rw (c.in_ok-place.ensures.gives, rw one at e) refl)
 
+pub do_statement-returns-in_err-keyword-clause-gives : goal.do_statement-returns-in_err-keyword-clause-gives
+do_statement-returns-in_err-keyword-clause-gives t c =
+    let one : c.args.depth + 1 ≡ suc c.args.depth = omega arith in
+    failed _ _ (λ (x : ℕ). x) _ _ _ c.in_err-keyword.field-0.0 c.from_residual-in_err-keyword.ensures.1 c.in_err-keyword.ensures.gives (λ fault e. rw (c.in_ok-place.ensures.gives, rw one at c.in_ok-body.ensures.gives, e) refl)
+
+pub do_statement-returns-in_err-test-clause-gives : goal.do_statement-returns-in_err-test-clause-gives
+do_statement-returns-in_err-test-clause-gives t c =
+    let one : c.args.depth + 1 ≡ suc c.args.depth = omega arith in
+    failed _ _ (λ (x : Box Expression Global). expression_of x.value) _ _ _ c.in_err-test.field-0.0 c.from_residual-in_err-test.ensures.1 c.in_err-test.ensures.gives (λ fault e. rw (c.in_ok-place.ensures.gives, rw one at c.in_ok-body.ensures.gives, c.in_ok-keyword.ensures.gives, rw one at e) refl)
+
+pub do_statement-returns-in_err-mark-clause-gives : goal.do_statement-returns-in_err-mark-clause-gives
+do_statement-returns-in_err-mark-clause-gives t c =
+    let one : c.args.depth + 1 ≡ suc c.args.depth = omega arith in
+    failed _ _ (λ (x : ℕ). x) _ _ _ c.in_err-mark.field-0.0 c.from_residual-in_err-mark.ensures.1 c.in_err-mark.ensures.gives (λ fault e. rw (c.in_ok-place.ensures.gives, rw one at c.in_ok-body.ensures.gives, c.in_ok-keyword.ensures.gives, rw one at c.in_ok-test.ensures.gives, e) refl)
+
 pub do_statement-returns-in_err-do_loop-clause-gives : goal.do_statement-returns-in_err-do_loop-clause-gives
 do_statement-returns-in_err-do_loop-clause-gives t c =
     no_memory _ _ _ _ c.from_residual-in_err-do_loop.ensures.1
+
+pub do_statement-returns-clause-gives : goal.do_statement-returns-clause-gives
+do_statement-returns-clause-gives t c =
+    let one : c.args.depth + 1 ≡ suc c.args.depth = omega arith in
+    rw (c.in_ok-place.ensures.gives, rw one at c.in_ok-body.ensures.gives, c.in_ok-keyword.ensures.gives, rw one at c.in_ok-test.ensures.gives, c.in_ok-mark.ensures.gives) (ap (λ x. Ok (x, list_of c.mark.new.self.rest.now)) (sym c.in_ok-do_loop.ensures))
 
 pub for_statement-returns-in_err-place-clause-gives : goal.for_statement-returns-in_err-place-clause-gives
 for_statement-returns-in_err-place-clause-gives t c =
@@ -369,70 +373,78 @@ pub groups-returns-in_err-push-clause-gives : goal.groups-returns-in_err-push-cl
 groups-returns-in_err-push-clause-gives t c =
     no_memory _ _ _ _ c.from_residual-in_err-push.ensures.1
 
-pub any_statement-returns-then-next_is-clause-gives : goal.any_statement-returns-then-next_is-clause-gives
-any_statement-returns-then-next_is-clause-gives t c =
+pub statement-returns-then-next_is-clause-gives : goal.statement-returns-then-next_is-clause-gives
+statement-returns-then-next_is-clause-gives t c =
     let names = names_of c.args.names.now in
     let inner = expressions c.args.names.now in
-    let inside = within c.args.names.now c.args.room in
-    let same : statements.read_statement_around names inner inside c.args.depth (list_of c.args.tokens.now.rest.now) ≡ statements.read_block names inner inside c.args.depth (list_of c.args.tokens.now.rest.now) = rw (sym c.next_is.ensures ∙ c.if-next_is.true) refl in
-    subst (λ o. Gives o (λ x. statement_of x.value) c.block.new.tokens.rest.now c.block.result) (sym same) c.block.ensures.gives
+    let inside = within c.args.names.now (c.args.room - 1) in
+    let chosen : statements.read_statement_around names inner inside c.args.depth (list_of c.args.tokens.now.rest.now) ≡ statements.read_block names inner inside c.args.depth (list_of c.args.tokens.now.rest.now) = rw (sym c.next_is.ensures ∙ c.if-next_is.true) refl in
+    subst (λ o. Gives o (λ x. statement_of x.value) c.block.new.tokens.rest.now c.block.result) (sym (statement-some names inner c.args.room c.args.depth (list_of c.args.tokens.now.rest.now) c.if-room-eq0.false ∙ chosen)) c.block.ensures.gives
 
-pub any_statement-returns-then-next_is-2-clause-gives : goal.any_statement-returns-then-next_is-2-clause-gives
-any_statement-returns-then-next_is-2-clause-gives t c =
-    rw (sym c.next_is.ensures ∙ c.if-next_is.false, sym c.next_is-2.ensures ∙ c.if-next_is-2.true, c.in_ok-place.ensures.gives) (ap (λ x. Ok (x, list_of c.mark.new.self.rest.now)) (sym c.in_ok-empty.ensures))
+pub statement-returns-then-next_is-2-clause-gives : goal.statement-returns-then-next_is-2-clause-gives
+statement-returns-then-next_is-2-clause-gives t c =
+    let names = names_of c.args.names.now in
+    let inner = expressions c.args.names.now in
+    let inside = within c.args.names.now (c.args.room - 1) in
+    let chosen : statements.read_statement_around names inner inside c.args.depth (list_of c.args.tokens.now.rest.now) ≡ Ok (unit.Empty c.in_ok-place.place, list_of c.mark.new.self.rest.now) = rw (sym c.next_is.ensures ∙ c.if-next_is.false, sym c.next_is-2.ensures ∙ c.if-next_is-2.true, c.in_ok-place.ensures.gives) refl in
+    statement-some names inner c.args.room c.args.depth (list_of c.args.tokens.now.rest.now) c.if-room-eq0.false ∙ chosen ∙ ap (λ x. Ok (x, list_of c.mark.new.self.rest.now)) (sym c.in_ok-empty.ensures)
 
-pub any_statement-returns-in_err-place-clause-gives : goal.any_statement-returns-in_err-place-clause-gives
-any_statement-returns-in_err-place-clause-gives t c =
-    failed _ _ (λ (x : ℕ). x) _ _ _ c.in_err-place.field-0.0 c.from_residual.ensures.1 c.in_err-place.ensures.gives (λ fault e. rw (sym c.next_is.ensures ∙ c.if-next_is.false, sym c.next_is-2.ensures ∙ c.if-next_is-2.true, e) refl)
+pub statement-returns-in_err-place-clause-gives : goal.statement-returns-in_err-place-clause-gives
+statement-returns-in_err-place-clause-gives t c =
+    let names = names_of c.args.names.now in
+    let inner = expressions c.args.names.now in
+    let inside = within c.args.names.now (c.args.room - 1) in
+    failed _ _ (λ (x : ℕ). x) _ _ _ c.in_err-place.field-0.0 c.from_residual.ensures.1 c.in_err-place.ensures.gives
+    (λ fault e. let chosen : statements.read_statement_around names inner inside c.args.depth (list_of c.args.tokens.now.rest.now) ≡ Err fault = rw (sym c.next_is.ensures ∙ c.if-next_is.false, sym c.next_is-2.ensures ∙ c.if-next_is-2.true, e) refl in statement-some names inner c.args.room c.args.depth (list_of c.args.tokens.now.rest.now) c.if-room-eq0.false ∙ chosen)
 
-pub any_statement-returns-in_err-empty-clause-gives : goal.any_statement-returns-in_err-empty-clause-gives
-any_statement-returns-in_err-empty-clause-gives t c =
+pub statement-returns-in_err-empty-clause-gives : goal.statement-returns-in_err-empty-clause-gives
+statement-returns-in_err-empty-clause-gives t c =
     no_memory _ _ _ _ c.from_residual-in_err-empty.ensures.1
 
-pub any_statement-returns-then-next_keyword-clause-gives : goal.any_statement-returns-then-next_keyword-clause-gives
-any_statement-returns-then-next_keyword-clause-gives t c =
+pub statement-returns-then-next_keyword-clause-gives : goal.statement-returns-then-next_keyword-clause-gives
+statement-returns-then-next_keyword-clause-gives t c =
     let names = names_of c.args.names.now in
     let inner = expressions c.args.names.now in
-    let inside = within c.args.names.now c.args.room in
-    let same : statements.read_statement_around names inner inside c.args.depth (list_of c.args.tokens.now.rest.now) ≡ statements.read_if inner inside c.args.depth (list_of c.args.tokens.now.rest.now) = rw (sym c.next_is.ensures ∙ c.if-next_is.false, sym c.next_is-2.ensures ∙ c.if-next_is-2.false, sym c.next_keyword.ensures ∙ c.if-next_keyword.true) refl in
-    subst (λ o. Gives o (λ x. statement_of x.value) c.if_statement.new.tokens.rest.now c.if_statement.result) (sym same) c.if_statement.ensures.gives
+    let inside = within c.args.names.now (c.args.room - 1) in
+    let chosen : statements.read_statement_around names inner inside c.args.depth (list_of c.args.tokens.now.rest.now) ≡ statements.read_if inner inside c.args.depth (list_of c.args.tokens.now.rest.now) = rw (sym c.next_is.ensures ∙ c.if-next_is.false, sym c.next_is-2.ensures ∙ c.if-next_is-2.false, sym c.next_keyword.ensures ∙ c.if-next_keyword.true) refl in
+    subst (λ o. Gives o (λ x. statement_of x.value) c.if_statement.new.tokens.rest.now c.if_statement.result) (sym (statement-some names inner c.args.room c.args.depth (list_of c.args.tokens.now.rest.now) c.if-room-eq0.false ∙ chosen)) c.if_statement.ensures.gives
 
-pub any_statement-returns-then-next_keyword-2-clause-gives : goal.any_statement-returns-then-next_keyword-2-clause-gives
-any_statement-returns-then-next_keyword-2-clause-gives t c =
+pub statement-returns-then-next_keyword-2-clause-gives : goal.statement-returns-then-next_keyword-2-clause-gives
+statement-returns-then-next_keyword-2-clause-gives t c =
     let names = names_of c.args.names.now in
     let inner = expressions c.args.names.now in
-    let inside = within c.args.names.now c.args.room in
-    let same : statements.read_statement_around names inner inside c.args.depth (list_of c.args.tokens.now.rest.now) ≡ statements.read_switch names inner inside c.args.depth (list_of c.args.tokens.now.rest.now) = rw (sym c.next_is.ensures ∙ c.if-next_is.false, sym c.next_is-2.ensures ∙ c.if-next_is-2.false, sym c.next_keyword.ensures ∙ c.if-next_keyword.false, sym c.next_keyword-2.ensures ∙ c.if-next_keyword-2.true) refl in
-    subst (λ o. Gives o (λ x. statement_of x.value) c.switch_statement.new.tokens.rest.now c.switch_statement.result) (sym same) c.switch_statement.ensures.gives
+    let inside = within c.args.names.now (c.args.room - 1) in
+    let chosen : statements.read_statement_around names inner inside c.args.depth (list_of c.args.tokens.now.rest.now) ≡ statements.read_switch names inner inside c.args.depth (list_of c.args.tokens.now.rest.now) = rw (sym c.next_is.ensures ∙ c.if-next_is.false, sym c.next_is-2.ensures ∙ c.if-next_is-2.false, sym c.next_keyword.ensures ∙ c.if-next_keyword.false, sym c.next_keyword-2.ensures ∙ c.if-next_keyword-2.true) refl in
+    subst (λ o. Gives o (λ x. statement_of x.value) c.switch_statement.new.tokens.rest.now c.switch_statement.result) (sym (statement-some names inner c.args.room c.args.depth (list_of c.args.tokens.now.rest.now) c.if-room-eq0.false ∙ chosen)) c.switch_statement.ensures.gives
 
-pub any_statement-returns-then-next_keyword-3-clause-gives : goal.any_statement-returns-then-next_keyword-3-clause-gives
-any_statement-returns-then-next_keyword-3-clause-gives t c =
+pub statement-returns-then-next_keyword-3-clause-gives : goal.statement-returns-then-next_keyword-3-clause-gives
+statement-returns-then-next_keyword-3-clause-gives t c =
     let names = names_of c.args.names.now in
     let inner = expressions c.args.names.now in
-    let inside = within c.args.names.now c.args.room in
-    let same : statements.read_statement_around names inner inside c.args.depth (list_of c.args.tokens.now.rest.now) ≡ statements.read_while inner inside c.args.depth (list_of c.args.tokens.now.rest.now) = rw (sym c.next_is.ensures ∙ c.if-next_is.false, sym c.next_is-2.ensures ∙ c.if-next_is-2.false, sym c.next_keyword.ensures ∙ c.if-next_keyword.false, sym c.next_keyword-2.ensures ∙ c.if-next_keyword-2.false, sym c.next_keyword-3.ensures ∙ c.if-next_keyword-3.true) refl in
-    subst (λ o. Gives o (λ x. statement_of x.value) c.while_statement.new.tokens.rest.now c.while_statement.result) (sym same) c.while_statement.ensures.gives
+    let inside = within c.args.names.now (c.args.room - 1) in
+    let chosen : statements.read_statement_around names inner inside c.args.depth (list_of c.args.tokens.now.rest.now) ≡ statements.read_while inner inside c.args.depth (list_of c.args.tokens.now.rest.now) = rw (sym c.next_is.ensures ∙ c.if-next_is.false, sym c.next_is-2.ensures ∙ c.if-next_is-2.false, sym c.next_keyword.ensures ∙ c.if-next_keyword.false, sym c.next_keyword-2.ensures ∙ c.if-next_keyword-2.false, sym c.next_keyword-3.ensures ∙ c.if-next_keyword-3.true) refl in
+    subst (λ o. Gives o (λ x. statement_of x.value) c.while_statement.new.tokens.rest.now c.while_statement.result) (sym (statement-some names inner c.args.room c.args.depth (list_of c.args.tokens.now.rest.now) c.if-room-eq0.false ∙ chosen)) c.while_statement.ensures.gives
 
-pub any_statement-returns-then-next_keyword-4-clause-gives : goal.any_statement-returns-then-next_keyword-4-clause-gives
-any_statement-returns-then-next_keyword-4-clause-gives t c =
+pub statement-returns-then-next_keyword-4-clause-gives : goal.statement-returns-then-next_keyword-4-clause-gives
+statement-returns-then-next_keyword-4-clause-gives t c =
     let names = names_of c.args.names.now in
     let inner = expressions c.args.names.now in
-    let inside = within c.args.names.now c.args.room in
-    let same : statements.read_statement_around names inner inside c.args.depth (list_of c.args.tokens.now.rest.now) ≡ statements.read_do inner inside c.args.depth (list_of c.args.tokens.now.rest.now) = rw (sym c.next_is.ensures ∙ c.if-next_is.false, sym c.next_is-2.ensures ∙ c.if-next_is-2.false, sym c.next_keyword.ensures ∙ c.if-next_keyword.false, sym c.next_keyword-2.ensures ∙ c.if-next_keyword-2.false, sym c.next_keyword-3.ensures ∙ c.if-next_keyword-3.false, sym c.next_keyword-4.ensures ∙ c.if-next_keyword-4.true) refl in
-    subst (λ o. Gives o (λ x. statement_of x.value) c.do_statement.new.tokens.rest.now c.do_statement.result) (sym same) c.do_statement.ensures.gives
+    let inside = within c.args.names.now (c.args.room - 1) in
+    let chosen : statements.read_statement_around names inner inside c.args.depth (list_of c.args.tokens.now.rest.now) ≡ statements.read_do inner inside c.args.depth (list_of c.args.tokens.now.rest.now) = rw (sym c.next_is.ensures ∙ c.if-next_is.false, sym c.next_is-2.ensures ∙ c.if-next_is-2.false, sym c.next_keyword.ensures ∙ c.if-next_keyword.false, sym c.next_keyword-2.ensures ∙ c.if-next_keyword-2.false, sym c.next_keyword-3.ensures ∙ c.if-next_keyword-3.false, sym c.next_keyword-4.ensures ∙ c.if-next_keyword-4.true) refl in
+    subst (λ o. Gives o (λ x. statement_of x.value) c.do_statement.new.tokens.rest.now c.do_statement.result) (sym (statement-some names inner c.args.room c.args.depth (list_of c.args.tokens.now.rest.now) c.if-room-eq0.false ∙ chosen)) c.do_statement.ensures.gives
 
-pub any_statement-returns-then-next_keyword-5-clause-gives : goal.any_statement-returns-then-next_keyword-5-clause-gives
-any_statement-returns-then-next_keyword-5-clause-gives t c =
+pub statement-returns-then-next_keyword-5-clause-gives : goal.statement-returns-then-next_keyword-5-clause-gives
+statement-returns-then-next_keyword-5-clause-gives t c =
     let names = names_of c.args.names.now in
     let inner = expressions c.args.names.now in
-    let inside = within c.args.names.now c.args.room in
-    let same : statements.read_statement_around names inner inside c.args.depth (list_of c.args.tokens.now.rest.now) ≡ statements.read_for names inner inside c.args.depth (list_of c.args.tokens.now.rest.now) = rw (sym c.next_is.ensures ∙ c.if-next_is.false, sym c.next_is-2.ensures ∙ c.if-next_is-2.false, sym c.next_keyword.ensures ∙ c.if-next_keyword.false, sym c.next_keyword-2.ensures ∙ c.if-next_keyword-2.false, sym c.next_keyword-3.ensures ∙ c.if-next_keyword-3.false, sym c.next_keyword-4.ensures ∙ c.if-next_keyword-4.false, sym c.next_keyword-5.ensures ∙ c.if-next_keyword-5.true) refl in
-    subst (λ o. Gives o (λ x. statement_of x.value) c.for_statement.new.tokens.rest.now c.for_statement.result) (sym same) c.for_statement.ensures.gives
+    let inside = within c.args.names.now (c.args.room - 1) in
+    let chosen : statements.read_statement_around names inner inside c.args.depth (list_of c.args.tokens.now.rest.now) ≡ statements.read_for names inner inside c.args.depth (list_of c.args.tokens.now.rest.now) = rw (sym c.next_is.ensures ∙ c.if-next_is.false, sym c.next_is-2.ensures ∙ c.if-next_is-2.false, sym c.next_keyword.ensures ∙ c.if-next_keyword.false, sym c.next_keyword-2.ensures ∙ c.if-next_keyword-2.false, sym c.next_keyword-3.ensures ∙ c.if-next_keyword-3.false, sym c.next_keyword-4.ensures ∙ c.if-next_keyword-4.false, sym c.next_keyword-5.ensures ∙ c.if-next_keyword-5.true) refl in
+    subst (λ o. Gives o (λ x. statement_of x.value) c.for_statement.new.tokens.rest.now c.for_statement.result) (sym (statement-some names inner c.args.room c.args.depth (list_of c.args.tokens.now.rest.now) c.if-room-eq0.false ∙ chosen)) c.for_statement.ensures.gives
 
-pub any_statement-returns-clause-gives : goal.any_statement-returns-clause-gives
-any_statement-returns-clause-gives t c =
+pub statement-returns-clause-gives : goal.statement-returns-clause-gives
+statement-returns-clause-gives t c =
     let names = names_of c.args.names.now in
     let inner = expressions c.args.names.now in
-    let inside = within c.args.names.now c.args.room in
-    let same : statements.read_statement_around names inner inside c.args.depth (list_of c.args.tokens.now.rest.now) ≡ read_plain inner c.args.depth (list_of c.args.tokens.now.rest.now) = rw (sym c.next_is.ensures ∙ c.if-next_is.false, sym c.next_is-2.ensures ∙ c.if-next_is-2.false, sym c.next_keyword.ensures ∙ c.if-next_keyword.false, sym c.next_keyword-2.ensures ∙ c.if-next_keyword-2.false, sym c.next_keyword-3.ensures ∙ c.if-next_keyword-3.false, sym c.next_keyword-4.ensures ∙ c.if-next_keyword-4.false, sym c.next_keyword-5.ensures ∙ c.if-next_keyword-5.false) refl in
-    subst (λ o. Gives o (λ x. statement_of x.value) c.plain_statement.new.tokens.rest.now c.plain_statement.result) (sym same) c.plain_statement.ensures.gives
+    let inside = within c.args.names.now (c.args.room - 1) in
+    let chosen : statements.read_statement_around names inner inside c.args.depth (list_of c.args.tokens.now.rest.now) ≡ read_plain inner c.args.depth (list_of c.args.tokens.now.rest.now) = rw (sym c.next_is.ensures ∙ c.if-next_is.false, sym c.next_is-2.ensures ∙ c.if-next_is-2.false, sym c.next_keyword.ensures ∙ c.if-next_keyword.false, sym c.next_keyword-2.ensures ∙ c.if-next_keyword-2.false, sym c.next_keyword-3.ensures ∙ c.if-next_keyword-3.false, sym c.next_keyword-4.ensures ∙ c.if-next_keyword-4.false, sym c.next_keyword-5.ensures ∙ c.if-next_keyword-5.false) refl in
+    subst (λ o. Gives o (λ x. statement_of x.value) c.plain_statement.new.tokens.rest.now c.plain_statement.result) (sym (statement-some names inner c.args.room c.args.depth (list_of c.args.tokens.now.rest.now) c.if-room-eq0.false ∙ chosen)) c.plain_statement.ensures.gives

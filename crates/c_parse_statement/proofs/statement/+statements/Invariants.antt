@@ -12,9 +12,6 @@ use Rattle.c_parse_statement.proofs.statement.+statements.Given as goal
 abbrev pub decreases-statement : goal.decreases-statement
 decreases-statement l = 16 * l.room
 
-abbrev pub decreases-any_statement : goal.decreases-any_statement
-decreases-any_statement l = 16 * l.room + 15
-
 abbrev pub decreases-block : goal.decreases-block
 decreases-block l = 16 * l.room + 8
 
