@@ -1,6 +1,6 @@
 pub mod Rooms
 pub mod Steps
-pub mod Gathered
+pub mod Runs
 pub mod Loops
 pub mod Split
 pub mod Chain

@@ -1,3 +1,2 @@
 pub mod Pieces
-pub mod Grouping
-pub mod Grouped
+pub mod Runs

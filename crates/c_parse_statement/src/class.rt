@@ -1,12 +1,12 @@
 //! What a token is where a statement is read, and parsers of keywords.
 
-ghost use Rattle.std.specs.Prelude.{◌≡◌, ◌<◌, ◌||◌, not, Bool, IfOk, length, suc};
+ghost use Rattle.std.specs.Prelude.{◌≡◌, ◌<◌, IfOk, length, suc};
 ghost use Rattle.c_grammar_spec.specs.declared.Role.TheVariants.{Nothing};
 ghost use Rattle.c_grammar_spec.specs.Leaves.{plain, opens};
 ghost use Rattle.c_expression_reader.specs.Readers.{token, next_is};
 ghost use Rattle.c_statement_reader.specs.Statements as statements;
 ghost use Rattle.c_parse_token.specs.Lists.{list_of, Gives};
-ghost use Rattle.c_parse_statement.specs.Pieces.{starts_element};
+ghost use Rattle.c_parse_statement.specs.Pieces.{starts_part};
 ghost use Rattle.c_token.specs.Pieces.{token_of};
 
 use c_grammar_spec::Role;
@@ -22,10 +22,7 @@ const MOST: usize = 128;
 fn is_keyword(kind: Kind<'_>, wanted: Keyword) -> bool
     ensures { result ≡ statements.is_keyword wanted (token_of kind.entry) }
 {
-    match kind {
-        Kind::Word(word) => word == wanted,
-        _ => false,
-    }
+    matches!(kind, Kind::Word(word) if word == wanted)
 }
 
 // The token begins a label of a `switch`.
@@ -49,40 +46,21 @@ fn ends_parts(kind: Kind<'_>) -> bool
 pub fn next_keyword(tokens: &Tokens<'_>, wanted: Keyword) -> bool
     ensures { result ≡ next_is (statements.is_keyword wanted) (list_of tokens.now.rest.now) }
 {
-    match tokens.rest {
-        [first, ..] => is_keyword(first.kind, wanted),
-        [] => false,
-    }
+    matches!(tokens.rest, [first, ..] if is_keyword(first.kind, wanted))
 }
 
 /// A part of a block can begin with the next token.
 pub fn starts_part(tokens: &Tokens<'_>) -> bool
-    ensures { result ≡ next_is (λ next. not (statements.ends_parts next)) (list_of tokens.now.rest.now) }
+    ensures { result ≡ next_is starts_part (list_of tokens.now.rest.now) }
 {
-    match tokens.rest {
-        [first, ..] => !ends_parts(first.kind),
-        [] => false,
-    }
+    matches!(tokens.rest, [first, ..] if !ends_parts(first.kind))
 }
 
 /// The next token begins a label.
 pub fn starts_label(tokens: &Tokens<'_>) -> bool
     ensures { result ≡ next_is statements.begins_label (list_of tokens.now.rest.now) }
 {
-    match tokens.rest {
-        [first, ..] => begins_label(first.kind),
-        [] => false,
-    }
-}
-
-/// A label or a part begins with the next token.
-pub fn starts_element(tokens: &Tokens<'_>) -> bool
-    ensures { result ≡ next_is starts_element (list_of tokens.now.rest.now) }
-{
-    match tokens.rest {
-        [first, ..] => begins_label(first.kind) || !ends_parts(first.kind),
-        [] => false,
-    }
+    matches!(tokens.rest, [first, ..] if begins_label(first.kind))
 }
 
 /// A keyword: its place.

@@ -1,25 +1,32 @@
-//! Tests, the parts of a `for`, and labels (6.8.1, 6.8.4, 6.8.5).
+//! Tests, the parts of a `for`, labels, and statements that contain no other (6.8.1, 6.8.3 to 6.8.6).
 
 ghost use Rattle.std.specs.Prelude.{◌≡◌, ◌≤◌, ◌<◌, IfOk, length};
 ghost use Rattle.std.specs.Option.{option_map};
+ghost use Rattle.c_spec.specs.declared.token.Punctuator.TheVariants as punctuator;
+ghost use Rattle.c_grammar_spec.specs.declared.Role.TheVariants.{Nothing};
+ghost use Rattle.c_grammar_spec.specs.Leaves.{plain};
+ghost use Rattle.c_expression_reader.specs.Classes.{mark_place};
+ghost use Rattle.c_expression_reader.specs.Readers.{token, before};
 ghost use Rattle.c_statement_reader.specs.Statements as statements;
 ghost use Rattle.c_syntax.specs.Expressions.{expression_of};
 ghost use Rattle.c_syntax.specs.Simples.{simple_of};
 ghost use Rattle.c_syntax.specs.Locals.{start_of, label_of};
+ghost use Rattle.c_syntax.specs.Statements.{statement_of};
 ghost use Rattle.c_parse_token.specs.Lists.{list_of, names_of, Gives};
 ghost use Rattle.c_parse_expression.specs.Whole.{expressions};
-ghost use Rattle.c_parse_statement.specs.Pieces.{read_do_test, read_start_simple};
+ghost use Rattle.c_parse_statement.specs.Pieces.{read_plain, read_start_simple, taken_labels};
+ghost use Rattle.c_parse_statement.specs.Runs.{Runs};
 
-use crate::class::{keyword, next_keyword};
-use crate::ends::simple_end;
+use crate::class::{keyword, next_keyword, starts_label};
+use crate::ends::{simple_end, statement_end, value_end};
 use c_grammar_spec::Role;
-use c_parse_declaration::{locals, simple, starts_locals};
+use c_parse_declaration::{locals, simple, starts_locals, value};
 use c_parse_expression::whole;
 use c_parse_token::{ParseError, Tokens, TypeNames};
 use c_spec::token::{Keyword, Punctuator};
 use c_syntax::expression::{Expression, boxed};
 use c_syntax::simple::Simple;
-use c_syntax::statement::{ForStart, Label};
+use c_syntax::statement::{ForStart, Label, Statement};
 use std::alloc::Global;
 
 /// A test in brackets.
@@ -39,23 +46,6 @@ pub fn test<'t>(
     Ok(test)
 }
 
-/// The test of a `do` after its body, with `while` and `;`.
-pub fn do_test<'t>(
-    alloc: Global,
-    tokens: &mut Tokens<'t>,
-    names: &TypeNames<'t>,
-    depth: usize,
-) -> Result<Box<Expression<'t>>, ParseError>
-    requires depth { depth ≤ 128 }
-    ensures gives { Gives (read_do_test (expressions names.now) depth (list_of tokens.old.rest.now)) (λ x. expression_of x.value) tokens.new.rest.now result }
-    ensures shorter { IfOk result (λ _. length tokens.new.rest.now < length tokens.old.rest.now) }
-{
-    keyword(tokens, Keyword::While)?;
-    let test = test(alloc, tokens, names, depth)?;
-    tokens.mark(Punctuator::Semicolon, Role::Nothing)?;
-    Ok(test)
-}
-
 // An expression statement that begins a `for`.
 fn simple_start<'t>(
     alloc: Global,
@@ -67,10 +57,10 @@ fn simple_start<'t>(
     ensures gives { Gives (read_start_simple (expressions names.now) depth (list_of tokens.old.rest.now)) (λ x. start_of x.value) tokens.new.rest.now result }
     ensures shorter { IfOk result (λ _. length tokens.new.rest.now < length tokens.old.rest.now) }
 {
-    let simple = simple(alloc, tokens, names, depth)?;
-    let end = simple_end(&simple);
+    let start = simple(alloc, tokens, names, depth)?;
+    let end = simple_end(&start);
     tokens.mark(Punctuator::Semicolon, end)?;
-    Ok(boxed(alloc, ForStart::Simple(simple))?)
+    Ok(boxed(alloc, ForStart::Simple(start))?)
 }
 
 /// How a `for` begins, with its first `;`.
@@ -136,8 +126,8 @@ pub fn for_step<'t>(
     Ok(Some(simple))
 }
 
-/// A label of a `switch`.
-pub fn label<'t>(
+// A label of a `switch`.
+fn label<'t>(
     alloc: Global,
     tokens: &mut Tokens<'t>,
     names: &TypeNames<'t>,
@@ -156,4 +146,97 @@ pub fn label<'t>(
     let value = whole(alloc, tokens, names, depth)?;
     tokens.mark(Punctuator::Colon, Role::OperandEnd)?;
     Ok(Label::Case(value, place))
+}
+
+/// Labels, as long as one stands next.
+pub fn labels<'t>(
+    alloc: Global,
+    tokens: &mut Tokens<'t>,
+    names: &TypeNames<'t>,
+    depth: usize,
+) -> Result<Vec<Label<'t>>, ParseError>
+    requires depth { depth ≤ 128 }
+    ensures runs { Runs statements.begins_label (statements.read_label (expressions names.now) depth) taken_labels tokens.old.rest.now tokens.new.rest.now result }
+{
+    let mut all: Vec<Label<'t>> = Vec::new(alloc);
+    'items: while starts_label(tokens) {
+        let next = label(alloc, tokens, names, depth)?;
+        all.push(next)?;
+    }
+    Ok(all)
+}
+
+// A keyword and its `;`: the keyword's place.
+fn jump(tokens: &mut Tokens<'_>, word: Keyword) -> Result<usize, ParseError>
+    ensures gives { Gives (before (token Nothing plain (statements.keyword_place word)) (token Nothing plain (mark_place punctuator.Semicolon)) (list_of tokens.old.rest.now)) (λ x. x) tokens.new.rest.now result }
+    ensures shorter { IfOk result (λ _. length tokens.new.rest.now < length tokens.old.rest.now) }
+{
+    let place = keyword(tokens, word)?;
+    tokens.mark(Punctuator::Semicolon, Role::Nothing)?;
+    Ok(place)
+}
+
+// `return`, with a value or without.
+fn return_statement<'t>(
+    alloc: Global,
+    tokens: &mut Tokens<'t>,
+    names: &TypeNames<'t>,
+    depth: usize,
+) -> Result<Box<Statement<'t>>, ParseError>
+    requires depth { depth ≤ 128 }
+    ensures gives { Gives (statements.read_return (expressions names.now) depth (list_of tokens.old.rest.now)) (λ x. statement_of x.value) tokens.new.rest.now result }
+    ensures shorter { IfOk result (λ _. length tokens.new.rest.now < length tokens.old.rest.now) }
+{
+    let place = keyword(tokens, Keyword::Return)?;
+    if tokens.next_is(Punctuator::Semicolon) {
+        tokens.mark(Punctuator::Semicolon, Role::Nothing)?;
+        return Ok(Statement::return_at(alloc, None, place)?);
+    }
+    tokens.count = 0;
+    let value = value(alloc, tokens, names, depth)?;
+    let end = value_end(&value);
+    tokens.mark(Punctuator::Semicolon, end)?;
+    Ok(Statement::return_at(alloc, Some(value), place)?)
+}
+
+// An expression statement.
+fn perform<'t>(
+    alloc: Global,
+    tokens: &mut Tokens<'t>,
+    names: &TypeNames<'t>,
+    depth: usize,
+) -> Result<Box<Statement<'t>>, ParseError>
+    requires depth { depth ≤ 128 }
+    ensures gives { Gives (statements.read_perform (expressions names.now) depth (list_of tokens.old.rest.now)) (λ x. statement_of x.value) tokens.new.rest.now result }
+    ensures shorter { IfOk result (λ _. length tokens.new.rest.now < length tokens.old.rest.now) }
+{
+    let simple = simple(alloc, tokens, names, depth)?;
+    let end = statement_end(&simple);
+    tokens.mark(Punctuator::Semicolon, end)?;
+    Ok(Statement::perform(alloc, simple)?)
+}
+
+/// `continue`, `break`, `return` or an expression statement.
+pub fn plain_statement<'t>(
+    alloc: Global,
+    tokens: &mut Tokens<'t>,
+    names: &TypeNames<'t>,
+    depth: usize,
+) -> Result<Box<Statement<'t>>, ParseError>
+    requires depth { depth ≤ 128 }
+    ensures gives { Gives (read_plain (expressions names.now) depth (list_of tokens.old.rest.now)) (λ x. statement_of x.value) tokens.new.rest.now result }
+    ensures shorter { IfOk result (λ _. length tokens.new.rest.now < length tokens.old.rest.now) }
+{
+    if next_keyword(tokens, Keyword::Continue) {
+        let place = jump(tokens, Keyword::Continue)?;
+        return Ok(Statement::continue_at(alloc, place)?);
+    }
+    if next_keyword(tokens, Keyword::Break) {
+        let place = jump(tokens, Keyword::Break)?;
+        return Ok(Statement::break_at(alloc, place)?);
+    }
+    if next_keyword(tokens, Keyword::Return) {
+        return return_statement(alloc, tokens, names, depth);
+    }
+    perform(alloc, tokens, names, depth)
 }

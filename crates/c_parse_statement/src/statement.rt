@@ -1,21 +1,17 @@
 //! Statements (6.8), and what stands in a block.
 
-ghost use Rattle.std.specs.Prelude.{◌≡◌, ◌≤◌, ◌<◌, IfOk, length, true};
-ghost use Rattle.exact_read.specs.Grammar.{read_map};
+ghost use Rattle.std.specs.Prelude.{◌≡◌, ◌≤◌, ◌<◌, IfOk, length};
 ghost use Rattle.c_statement_reader.specs.Statements as statements;
 ghost use Rattle.c_syntax.specs.Expressions.{expression_of};
 ghost use Rattle.c_syntax.specs.Statements.{statement_of, part_of, parts_in, groups_in};
 ghost use Rattle.c_parse_token.specs.Lists.{list_of, names_of, Gives};
 ghost use Rattle.c_parse_expression.specs.Whole.{expressions};
-ghost use Rattle.c_parse_statement.specs.Pieces.{room, within, read_of, read_else};
-ghost use Rattle.c_parse_statement.specs.Grouping.{with_element};
-ghost use Rattle.c_parse_statement.specs.Grouped.{grouping_of};
+ghost use Rattle.c_parse_statement.specs.Pieces.{room, within, read_of, read_else, starts_part, taken_parts};
+ghost use Rattle.c_parse_statement.specs.Runs.{Runs};
 
-use crate::class::{next_keyword, opening, starts_element, starts_label, starts_part};
+use crate::class::{keyword, next_keyword, opening, starts_label, starts_part};
 use crate::ends::takes_else;
-use crate::grouping::Grouping;
-use crate::pieces::{do_test, for_start, for_step, for_test, label, test};
-use crate::plain::plain_statement;
+use crate::pieces::{for_start, for_step, for_test, labels, plain_statement, test};
 use c_grammar_spec::Role;
 use c_parse_declaration::{locals, starts_locals};
 use c_parse_token::{Fault, ParseError, Tokens, TypeNames};
@@ -60,6 +56,7 @@ fn all_parts<'t>(
     requires depth { depth ≤ 128 }
     ensures gives { Gives (statements.read_parts (names_of names.now) (expressions names.now) (within names.now room) depth (list_of tokens.old.rest.now)) parts_in tokens.new.rest.now result }
     ensures shorter { IfOk result (λ _. length tokens.new.rest.now ≤ length tokens.old.rest.now) }
+    ensures runs { Runs starts_part (statements.read_part (names_of names.now) (expressions names.now) (within names.now room) depth) taken_parts tokens.old.rest.now tokens.new.rest.now result }
 {
     let mut all: Vec<Part<'t>> = Vec::new(alloc);
     'items: while starts_part(tokens) {
@@ -165,7 +162,9 @@ fn do_statement<'t>(
 {
     let place = opening(tokens, Keyword::Do, depth)?;
     let body = statement(alloc, tokens, names, depth + 1, room)?;
-    let test = do_test(alloc, tokens, names, depth + 1)?;
+    keyword(tokens, Keyword::While)?;
+    let test = test(alloc, tokens, names, depth + 1)?;
+    tokens.mark(Punctuator::Semicolon, Role::Nothing)?;
     Ok(Statement::do_loop(alloc, body, test, place)?)
 }
 
@@ -191,30 +190,6 @@ fn for_statement<'t>(
     Ok(Statement::for_loop(alloc, start, test, step, body, place)?)
 }
 
-// A label or a part in a `switch`, gathered after those read.
-#[cycle(statements)]
-fn element<'t>(
-    alloc: Global,
-    tokens: &mut Tokens<'t>,
-    names: &TypeNames<'t>,
-    depth: usize,
-    room: usize,
-    gathered: &mut Grouping<'t>,
-) -> Result<(), ParseError>
-    requires depth { depth ≤ 128 }
-    ensures gives { Gives (read_map (with_element (grouping_of gathered.old)) (statements.read_element (names_of names.now) (expressions names.now) (within names.now room) depth true) (list_of tokens.old.rest.now)) (λ _. grouping_of gathered.new) tokens.new.rest.now result }
-    ensures shorter { IfOk result (λ _. length tokens.new.rest.now < length tokens.old.rest.now) }
-{
-    if starts_label(tokens) {
-        let label = label(alloc, tokens, names, depth)?;
-        gathered.with_label(alloc, label)?;
-        return Ok(());
-    }
-    let next = part(alloc, tokens, names, depth, room)?;
-    gathered.with_part(next)?;
-    Ok(())
-}
-
 // The groups of a `switch`.
 #[cycle(statements)]
 fn groups<'t>(
@@ -228,15 +203,14 @@ fn groups<'t>(
     ensures gives { Gives (statements.read_groups (names_of names.now) (expressions names.now) (within names.now room) depth (list_of tokens.old.rest.now)) groups_in tokens.new.rest.now result }
     ensures shorter { IfOk result (λ _. length tokens.new.rest.now ≤ length tokens.old.rest.now) }
 {
-    if !starts_label(tokens) {
-        return Ok(Vec::new(alloc));
+    let mut all: Vec<Box<Group<'t>>> = Vec::new(alloc);
+    'items: while starts_label(tokens) {
+        let labels = labels(alloc, tokens, names, depth)?;
+        let parts = all_parts(alloc, tokens, names, depth, room)?;
+        let group = Group::new(alloc, labels, parts)?;
+        all.push(group)?;
     }
-    let first = label(alloc, tokens, names, depth)?;
-    let mut gathered = Grouping::new(alloc, first)?;
-    'items: while starts_element(tokens) {
-        element(alloc, tokens, names, depth, room, &mut gathered)?;
-    }
-    Ok(gathered.groups(alloc)?)
+    Ok(all)
 }
 
 // `switch`
@@ -260,45 +234,7 @@ fn switch_statement<'t>(
     Ok(Statement::switch(alloc, test, groups, place)?)
 }
 
-// A statement by its first token.
-#[cycle(statements)]
-fn any_statement<'t>(
-    alloc: Global,
-    tokens: &mut Tokens<'t>,
-    names: &TypeNames<'t>,
-    depth: usize,
-    room: usize,
-) -> Result<Box<Statement<'t>>, ParseError>
-    requires depth { depth ≤ 128 }
-    ensures gives { Gives (statements.read_statement_around (names_of names.now) (expressions names.now) (within names.now room) depth (list_of tokens.old.rest.now)) (λ x. statement_of x.value) tokens.new.rest.now result }
-    ensures shorter { IfOk result (λ _. length tokens.new.rest.now < length tokens.old.rest.now) }
-{
-    if tokens.next_is(Punctuator::LeftBrace) {
-        return block(alloc, tokens, names, depth, room);
-    }
-    if tokens.next_is(Punctuator::Semicolon) {
-        let place = tokens.mark(Punctuator::Semicolon, Role::Nothing)?;
-        return Ok(Statement::empty(alloc, place)?);
-    }
-    if next_keyword(tokens, Keyword::If) {
-        return if_statement(alloc, tokens, names, depth, room);
-    }
-    if next_keyword(tokens, Keyword::Switch) {
-        return switch_statement(alloc, tokens, names, depth, room);
-    }
-    if next_keyword(tokens, Keyword::While) {
-        return while_statement(alloc, tokens, names, depth, room);
-    }
-    if next_keyword(tokens, Keyword::Do) {
-        return do_statement(alloc, tokens, names, depth, room);
-    }
-    if next_keyword(tokens, Keyword::For) {
-        return for_statement(alloc, tokens, names, depth, room);
-    }
-    plain_statement(alloc, tokens, names, depth)
-}
-
-// A statement in which so many constructs may open.
+// A statement in which so many constructs may open, by its first token.
 #[tactic(auto, using(crate::proofs::Rooms::rooms))]
 #[cycle(statements)]
 fn statement<'t>(
@@ -315,7 +251,30 @@ fn statement<'t>(
     if room == 0 {
         return Err(ParseError::At(Fault::Deep));
     }
-    any_statement(alloc, tokens, names, depth, room - 1)
+    let inner = room - 1;
+    if tokens.next_is(Punctuator::LeftBrace) {
+        return block(alloc, tokens, names, depth, inner);
+    }
+    if tokens.next_is(Punctuator::Semicolon) {
+        let place = tokens.mark(Punctuator::Semicolon, Role::Nothing)?;
+        return Ok(Statement::empty(alloc, place)?);
+    }
+    if next_keyword(tokens, Keyword::If) {
+        return if_statement(alloc, tokens, names, depth, inner);
+    }
+    if next_keyword(tokens, Keyword::Switch) {
+        return switch_statement(alloc, tokens, names, depth, inner);
+    }
+    if next_keyword(tokens, Keyword::While) {
+        return while_statement(alloc, tokens, names, depth, inner);
+    }
+    if next_keyword(tokens, Keyword::Do) {
+        return do_statement(alloc, tokens, names, depth, inner);
+    }
+    if next_keyword(tokens, Keyword::For) {
+        return for_statement(alloc, tokens, names, depth, inner);
+    }
+    plain_statement(alloc, tokens, names, depth)
 }
 
 /// What stands in a block, as long as a token stands next with which a part of it can begin.

@@ -1,4 +1,4 @@
-use Rattle.std.proofs.Common.{arith, ℕ, suc, refl, ◌≡◌, ◌∙◌, sym, subst, ap, map, ◌++◌, ◌∷◌, [], ◌+◌, Ok, Err}
+use Rattle.std.proofs.Common.{arith, ℕ, suc, ◌-◌, refl, ◌≡◌, ◌∙◌, sym, subst, ap, map, ◌++◌, ◌∷◌, [], ◌+◌, Ok, Err}
 use Rattle.std.proofs.lemmas.List.{map-append}
 use Rattle.std.specs.Option.{option_map}
 use Rattle.std.specs.declared.alloc.Global.{Global}
@@ -9,9 +9,8 @@ use Rattle.c_syntax.specs.declared.statement.ForStart.{ForStart}
 use Rattle.c_syntax.specs.declared.statement.Statement.{Statement}
 use Rattle.c_syntax.specs.declared.statement.Locals.{Locals}
 use Rattle.c_tree_spec.specs.Unit as unit
-use Rattle.exact_read.specs.Grammar.{bind}
 use Rattle.c_statement_reader.specs.Statements as statements
-use Rattle.c_statement_reader.specs.Statements.{read_parts, read_groups}
+use Rattle.c_statement_reader.specs.Statements.{begins_label, read_label, read_groups}
 use Rattle.c_syntax.specs.Expressions.{expression_of, unboxed}
 use Rattle.c_syntax.specs.Simples.{simple_of}
 use Rattle.c_syntax.specs.Locals.{locals_of, start_of, label_of}
@@ -19,11 +18,13 @@ use Rattle.c_syntax.specs.Statements.{part_of, parts_of, parts_in, statement_of,
 use Rattle.c_parse_token.specs.Lists.{list_of, names_of, Gives}
 use Rattle.c_parse_token.proofs.Steps.{fewer}
 use Rattle.c_parse_expression.specs.Whole.{expressions}
-use Rattle.c_parse_statement.specs.Grouped.{grouping_of}
-use Rattle.c_parse_statement.specs.Pieces.{within, read_of, read_plain}
+use Rattle.c_parse_statement.specs.Pieces.{within, read_of, read_plain, starts_part, taken_labels, taken_parts}
 use Rattle.c_parse_statement.proofs.Steps.{failed, no_memory}
-use Rattle.c_parse_statement.proofs.Loops.{Parts, parts-start, parts-more, parts-error, parts-end, Gathering, gathering-start, gathering-none, gathering-label_error, gathering-step, gathering-error, gathering-end}
-use Rattle.c_parse_statement.proofs.Split.{do-parts, if-parts}
+use Rattle.c_parse_statement.proofs.Rooms.{statement-some}
+use Rattle.c_parse_statement.specs.Runs.{Run, none}
+use Rattle.c_parse_statement.proofs.Runs.{run-last, run-failed, run-no_memory, run-takes}
+use Rattle.c_parse_statement.proofs.Loops.{parts-same, parts-gives, Groups, groups-start, groups-step, groups-end, labels-failed, parts-failed}
+use Rattle.c_parse_statement.proofs.Split.{if-parts}
 use Rattle.c_parse_statement.proofs.Chain.{for-found, for-start_error, for-test_error, for-step_error, for-body_error, switch-found, switch-open_error, switch-groups_error, switch-close_error, block-unclosed}
 use Rattle.c_parse_statement.proofs.statement.+statements.Goals as goal
 
@@ -33,7 +34,7 @@ all_parts-items-init t c =
     let inner = expressions c.args.names.now in
     let inside = within c.args.names.now c.args.room in
     record {
-      going = subst (λ all. Parts names inner inside c.args.depth (read_parts names inner inside c.args.depth (list_of c.args.tokens.now.rest.now)) all (list_of c.args.tokens.now.rest.now)) (sym (ap (map part_of) c.new-all.ensures.items)) (parts-start names inner inside c.args.depth (list_of c.args.tokens.now.rest.now));
+      run = subst (λ items. Run starts_part (statements.read_part names inner inside c.args.depth) (list_of c.args.tokens.now.rest.now) (map (λ part. read_of (part_of part)) items) (list_of c.args.tokens.now.rest.now)) (sym c.new-all.ensures.items) (none (list_of c.args.tokens.now.rest.now));
       fewer = omega arith;
     }
 
@@ -42,12 +43,12 @@ all_parts-items-preserved t c =
     let names = names_of c.args.names.now in
     let inner = expressions c.args.names.now in
     let inside = within c.args.names.now c.args.room in
-    let whole = read_parts names inner inside c.args.depth (list_of c.args.tokens.now.rest.now) in
     let next = c.in_ok-next.next in
     let rest = c.part.new.tokens.rest.now in
-    let all : map part_of c.push.new.self.items ≡ map part_of c.items.all.items ++ part_of next ∷ [] = ap (map part_of) c.in_ok-push.ensures.items ∙ map-append part_of c.items.all.items (next ∷ []) in
+    let all : taken_parts c.push.new.self ≡ taken_parts c.items.all ++ read_of (part_of next) ∷ [] = ap (map (λ part. read_of (part_of part))) c.in_ok-push.ensures.items ∙ map-append (λ part. read_of (part_of part)) c.items.all.items (next ∷ []) in
     record {
-      going = parts-more names inner inside c.args.depth whole (map part_of c.items.all.items) (map part_of c.push.new.self.items) (part_of next) (list_of c.items.tokens.rest.now) (list_of rest) all c.items.invariant.going (sym c.starts_part.ensures ∙ c.items-test.true) c.in_ok-next.ensures.gives (fewer rest c.items.tokens.rest.now c.in_ok-next.ensures.shorter);
+      run = subst (λ xs. Run starts_part (statements.read_part names inner inside c.args.depth) (list_of c.args.tokens.now.rest.now) xs (list_of rest)) (sym all)
+          (run-last starts_part (statements.read_part names inner inside c.args.depth) (list_of c.args.tokens.now.rest.now) (list_of c.items.tokens.rest.now) (list_of rest) (taken_parts c.items.all) (read_of (part_of next)) c.items.invariant.run (sym c.starts_part.ensures ∙ c.items-test.true) c.in_ok-next.ensures.gives (fewer rest c.items.tokens.rest.now c.in_ok-next.ensures.shorter));
       fewer = omega (arith, c.in_ok-next.ensures.shorter, c.items.invariant.fewer);
     }
 
@@ -56,15 +57,35 @@ all_parts-returns-in_err-next-clause-gives t c =
     let names = names_of c.args.names.now in
     let inner = expressions c.args.names.now in
     let inside = within c.args.names.now c.args.room in
-    failed _ _ (λ x. read_of (part_of x)) _ _ _ c.in_err-next.field-0.0 c.from_residual.ensures.1 c.in_err-next.ensures.gives
-    (λ fault e. parts-error names inner inside c.args.depth (read_parts names inner inside c.args.depth (list_of c.args.tokens.now.rest.now)) (map part_of c.items.all.items) (list_of c.items.tokens.rest.now) fault c.items.invariant.going (sym c.starts_part.ensures ∙ c.items-test.true) e)
+    parts-gives names inner inside c.args.depth c.args.tokens.now.rest.now c.part.new.tokens.rest.now _ (run-failed starts_part (statements.read_part names inner inside c.args.depth) taken_parts (λ x. read_of (part_of x)) _ _ (list_of c.items.tokens.rest.now) (taken_parts c.items.all) _ c.in_err-next.field-0.0 c.from_residual.ensures.1 c.items.invariant.run (sym c.starts_part.ensures ∙ c.items-test.true) c.in_err-next.ensures.gives)
+
+pub all_parts-returns-in_err-next-clause-runs : goal.all_parts-returns-in_err-next-clause-runs
+all_parts-returns-in_err-next-clause-runs t c =
+    let names = names_of c.args.names.now in
+    let inner = expressions c.args.names.now in
+    let inside = within c.args.names.now c.args.room in
+    run-failed starts_part (statements.read_part names inner inside c.args.depth) taken_parts (λ x. read_of (part_of x)) _ _ (list_of c.items.tokens.rest.now) (taken_parts c.items.all) _ c.in_err-next.field-0.0 c.from_residual.ensures.1 c.items.invariant.run (sym c.starts_part.ensures ∙ c.items-test.true) c.in_err-next.ensures.gives
+
+pub all_parts-returns-in_err-push-clause-runs : goal.all_parts-returns-in_err-push-clause-runs
+all_parts-returns-in_err-push-clause-runs t c =
+    let names = names_of c.args.names.now in
+    let inner = expressions c.args.names.now in
+    let inside = within c.args.names.now c.args.room in
+    run-no_memory starts_part (statements.read_part names inner inside c.args.depth) taken_parts _ _ _ c.from_residual-in_err-push.ensures.1
 
 pub all_parts-returns-clause-gives : goal.all_parts-returns-clause-gives
 all_parts-returns-clause-gives t c =
     let names = names_of c.args.names.now in
     let inner = expressions c.args.names.now in
     let inside = within c.args.names.now c.args.room in
-    parts-end names inner inside c.args.depth (read_parts names inner inside c.args.depth (list_of c.args.tokens.now.rest.now)) (map part_of c.items.all.items) (list_of c.items.tokens.rest.now) c.items.invariant.going (sym c.starts_part.ensures ∙ c.items-test.false)
+    parts-gives names inner inside c.args.depth c.args.tokens.now.rest.now c.items.tokens.rest.now (Ok c.items.all) (c.items.invariant.run, sym c.starts_part.ensures ∙ c.items-test.false)
+
+pub all_parts-returns-clause-runs : goal.all_parts-returns-clause-runs
+all_parts-returns-clause-runs t c =
+    let names = names_of c.args.names.now in
+    let inner = expressions c.args.names.now in
+    let inside = within c.args.names.now c.args.room in
+    (c.items.invariant.run, sym c.starts_part.ensures ∙ c.items-test.false)
 
 pub block-returns-in_err-mark-clause-gives : goal.block-returns-in_err-mark-clause-gives
 block-returns-in_err-mark-clause-gives t c =
@@ -73,22 +94,6 @@ block-returns-in_err-mark-clause-gives t c =
     let inside = within c.args.names.now c.args.room in
     failed _ _ (λ (x : ℕ). x) _ _ _ c.in_err-mark.field-0.0 c.from_residual-in_err-mark.ensures.1 c.in_err-mark.ensures.gives
     (λ fault e. block-unclosed names inner inside c.args.depth (c.args.depth + 1) c.in_ok-place.place (parts_in c.in_ok-parts.parts) fault (list_of c.args.tokens.now.rest.now) (list_of c.opening.new.self.rest.now) (list_of c.all_parts.new.tokens.rest.now) (omega arith) c.in_ok-place.ensures.gives c.in_ok-parts.ensures.gives e)
-
-pub do_statement-returns-in_err-test-clause-gives : goal.do_statement-returns-in_err-test-clause-gives
-do_statement-returns-in_err-test-clause-gives t c =
-    let names = names_of c.args.names.now in
-    let inner = expressions c.args.names.now in
-    let inside = within c.args.names.now c.args.room in
-    failed _ _ (λ (x : Box Expression Global). expression_of x.value) _ _ _ c.in_err-test.field-0.0 c.from_residual-in_err-test.ensures.1 c.in_err-test.ensures.gives
-    (λ fault e. do-parts inner inside c.args.depth (c.args.depth + 1) c.in_ok-place.place (statement_of c.in_ok-body.body.value) (list_of c.args.tokens.now.rest.now) (list_of c.opening.new.tokens.rest.now) (list_of c.statement.new.tokens.rest.now) (omega arith) c.in_ok-place.ensures.gives c.in_ok-body.ensures.gives ∙ ap (λ o. bind o (λ x rest. Ok (unit.Do (statement_of c.in_ok-body.body.value) x c.in_ok-place.place, rest))) e)
-
-pub do_statement-returns-clause-gives : goal.do_statement-returns-clause-gives
-do_statement-returns-clause-gives t c =
-    let names = names_of c.args.names.now in
-    let inner = expressions c.args.names.now in
-    let inside = within c.args.names.now c.args.room in
-    do-parts inner inside c.args.depth (c.args.depth + 1) c.in_ok-place.place (statement_of c.in_ok-body.body.value) (list_of c.args.tokens.now.rest.now) (list_of c.opening.new.tokens.rest.now) (list_of c.statement.new.tokens.rest.now) (omega arith) c.in_ok-place.ensures.gives c.in_ok-body.ensures.gives ∙ ap (λ o. bind o (λ x rest. Ok (unit.Do (statement_of c.in_ok-body.body.value) x c.in_ok-place.place, rest))) c.in_ok-test.ensures.gives
-    ∙ ap (λ made. Ok (made, list_of c.do_test.new.tokens.rest.now)) (sym c.in_ok-do_loop.ensures)
 
 pub for_statement-returns-in_err-start-clause-gives : goal.for_statement-returns-in_err-start-clause-gives
 for_statement-returns-in_err-start-clause-gives t c =
@@ -135,12 +140,9 @@ groups-items-init t c =
     let names = names_of c.args.names.now in
     let inner = expressions c.args.names.now in
     let inside = within c.args.names.now c.args.room in
-    let whole = read_groups names inner inside c.args.depth (list_of c.args.tokens.now.rest.now) in
-    let rest = c.label.new.tokens.rest.now in
-    let start = gathering-start names inner inside c.args.depth (label_of c.in_ok-first.first) (list_of c.args.tokens.now.rest.now) (list_of rest) (sym c.starts_label.ensures ∙ c.if-not-starts_label.false) c.in_ok-first.ensures.gives (fewer rest c.args.tokens.now.rest.now c.in_ok-first.ensures.shorter) in
     record {
-      going = subst (λ gathered. Gathering names inner inside c.args.depth whole gathered (list_of rest)) (sym c.in_ok-gathered.ensures) start;
-      fewer = c.in_ok-first.ensures.shorter;
+      going = subst (λ items. Groups names inner inside c.args.depth (read_groups names inner inside c.args.depth (list_of c.args.tokens.now.rest.now)) (map group_of (map (λ b. b.value) items)) (list_of c.args.tokens.now.rest.now)) (sym c.new-all.ensures.items) (groups-start names inner inside c.args.depth (list_of c.args.tokens.now.rest.now));
+      fewer = omega arith;
     }
 
 pub groups-items-preserved : goal.groups-items-preserved
@@ -148,43 +150,46 @@ groups-items-preserved t c =
     let names = names_of c.args.names.now in
     let inner = expressions c.args.names.now in
     let inside = within c.args.names.now c.args.room in
-    let whole = read_groups names inner inside c.args.depth (list_of c.args.tokens.now.rest.now) in
-    let rest = c.element.new.tokens.rest.now in
+    let labels = taken_labels c.in_ok-labels.labels in
+    let group = c.in_ok-group.group in
+    let rest = list_of c.all_parts.new.tokens.rest.now in
+    let made : (labels, statements.parts_of (taken_parts c.in_ok-parts.parts)) ≡ group_of group.value = ap (λ p. (labels, p)) (parts-same c.in_ok-parts.parts.items) ∙ sym c.in_ok-group.ensures in
+    let all : map group_of (unboxed c.push.new.self) ≡ map group_of (unboxed c.items.all) ++ group_of group.value ∷ [] =
+    ap (λ items. map group_of (map (λ b. b.value) items)) c.in_ok-push.ensures.items ∙ ap (map group_of) (map-append (λ b. b.value) c.items.all.items (group ∷ [])) ∙ map-append group_of (unboxed c.items.all) (group.value ∷ []) in
     record {
-      going = gathering-step names inner inside c.args.depth whole (grouping_of c.items.gathered) (grouping_of c.element.new.gathered) (list_of c.items.tokens.rest.now) (list_of rest) c.items.invariant.going (sym c.starts_element.ensures ∙ c.items-test.true) c.in_ok-element.ensures.gives (fewer rest c.items.tokens.rest.now c.in_ok-element.ensures.shorter);
-      fewer = omega (arith, c.in_ok-element.ensures.shorter, c.items.invariant.fewer);
+      going = subst (λ gs. Groups names inner inside c.args.depth (read_groups names inner inside c.args.depth (list_of c.args.tokens.now.rest.now)) gs rest) (sym all)
+          (subst (λ g. Groups names inner inside c.args.depth (read_groups names inner inside c.args.depth (list_of c.args.tokens.now.rest.now)) (map group_of (unboxed c.items.all) ++ g ∷ []) rest) made
+          (groups-step names inner inside c.args.depth (read_groups names inner inside c.args.depth (list_of c.args.tokens.now.rest.now)) (map group_of (unboxed c.items.all)) (list_of c.items.tokens.rest.now) (list_of c.labels.new.tokens.rest.now) rest labels (taken_parts c.in_ok-parts.parts) c.items.invariant.going (sym c.starts_label.ensures ∙ c.items-test.true) c.in_ok-labels.ensures.runs.0 c.in_ok-labels.ensures.runs.1 c.in_ok-parts.ensures.runs.0 c.in_ok-parts.ensures.runs.1));
+      fewer = omega (arith, (run-takes begins_label (read_label inner c.args.depth) c.items.tokens.rest.now c.labels.new.tokens.rest.now (taken_labels c.in_ok-labels.labels) c.in_ok-labels.ensures.runs.0 (sym c.starts_label.ensures ∙ c.items-test.true) c.in_ok-labels.ensures.runs.1), c.in_ok-parts.ensures.shorter, c.items.invariant.fewer);
     }
 
-pub groups-returns-in_err-first-clause-gives : goal.groups-returns-in_err-first-clause-gives
-groups-returns-in_err-first-clause-gives t c =
+pub groups-items-smaller : goal.groups-items-smaller
+groups-items-smaller t c =
     let names = names_of c.args.names.now in
     let inner = expressions c.args.names.now in
     let inside = within c.args.names.now c.args.room in
-    failed _ _ label_of _ _ _ c.in_err-first.field-0.0 c.from_residual.ensures.1 c.in_err-first.ensures.gives
-    (λ fault e. gathering-label_error names inner inside c.args.depth (list_of c.args.tokens.now.rest.now) fault (sym c.starts_label.ensures ∙ c.if-not-starts_label.false) e)
+    omega (arith, (run-takes begins_label (read_label inner c.args.depth) c.items.tokens.rest.now c.labels.new.tokens.rest.now (taken_labels c.in_ok-labels.labels) c.in_ok-labels.ensures.runs.0 (sym c.starts_label.ensures ∙ c.items-test.true) c.in_ok-labels.ensures.runs.1), c.in_ok-parts.ensures.shorter)
 
-pub groups-returns-in_err-element-clause-gives : goal.groups-returns-in_err-element-clause-gives
-groups-returns-in_err-element-clause-gives t c =
+pub groups-returns-in_err-labels-clause-gives : goal.groups-returns-in_err-labels-clause-gives
+groups-returns-in_err-labels-clause-gives t c =
     let names = names_of c.args.names.now in
     let inner = expressions c.args.names.now in
     let inside = within c.args.names.now c.args.room in
-    failed _ _ (λ (x : Unit {0}). grouping_of c.element.new.gathered) _ _ _ c.in_err-element.field-0.0 c.from_residual-in_err-element.ensures.1 c.in_err-element.ensures.gives
-    (λ fault e. gathering-error names inner inside c.args.depth (read_groups names inner inside c.args.depth (list_of c.args.tokens.now.rest.now)) (grouping_of c.items.gathered) (list_of c.items.tokens.rest.now) fault c.items.invariant.going (sym c.starts_element.ensures ∙ c.items-test.true) e)
+    labels-failed names inner inside c.args.depth (read_groups names inner inside c.args.depth (list_of c.args.tokens.now.rest.now)) groups_in (map group_of (unboxed c.items.all)) c.items.tokens.rest.now _ _ c.in_err-labels.field-0.0 c.from_residual.ensures.1 c.items.invariant.going c.in_err-labels.ensures.runs
+
+pub groups-returns-in_err-parts-clause-gives : goal.groups-returns-in_err-parts-clause-gives
+groups-returns-in_err-parts-clause-gives t c =
+    let names = names_of c.args.names.now in
+    let inner = expressions c.args.names.now in
+    let inside = within c.args.names.now c.args.room in
+    parts-failed names inner inside c.args.depth (read_groups names inner inside c.args.depth (list_of c.args.tokens.now.rest.now)) groups_in (map group_of (unboxed c.items.all)) (list_of c.items.tokens.rest.now) (taken_labels c.in_ok-labels.labels) c.labels.new.tokens.rest.now _ _ c.in_err-parts.field-0.0 c.from_residual-in_err-parts.ensures.1 c.items.invariant.going (sym c.starts_label.ensures ∙ c.items-test.true) c.in_ok-labels.ensures.runs.0 c.in_ok-labels.ensures.runs.1 c.in_err-parts.ensures.runs
 
 pub groups-returns-clause-gives : goal.groups-returns-clause-gives
 groups-returns-clause-gives t c =
     let names = names_of c.args.names.now in
     let inner = expressions c.args.names.now in
     let inside = within c.args.names.now c.args.room in
-    gathering-end names inner inside c.args.depth (read_groups names inner inside c.args.depth (list_of c.args.tokens.now.rest.now)) (grouping_of c.items.gathered) (list_of c.items.tokens.rest.now) c.items.invariant.going (sym c.starts_element.ensures ∙ c.items-test.false)
-    ∙ ap (λ groups. Ok (groups, list_of c.items.tokens.rest.now)) (sym c.in_ok-groups.ensures)
-
-pub groups-returns-then-not-starts_label-clause-gives : goal.groups-returns-then-not-starts_label-clause-gives
-groups-returns-then-not-starts_label-clause-gives t c =
-    let names = names_of c.args.names.now in
-    let inner = expressions c.args.names.now in
-    let inside = within c.args.names.now c.args.room in
-    gathering-none names inner inside c.args.depth (list_of c.args.tokens.now.rest.now) (sym c.starts_label.ensures ∙ c.if-not-starts_label.true) ∙ ap (λ items. Ok (groups_of (map group_of (map (λ b. b.value) items)), list_of c.args.tokens.now.rest.now)) (sym c.new.ensures.items)
+    groups-end names inner inside c.args.depth (read_groups names inner inside c.args.depth (list_of c.args.tokens.now.rest.now)) (map group_of (unboxed c.items.all)) (list_of c.items.tokens.rest.now) c.items.invariant.going (sym c.starts_label.ensures ∙ c.items-test.false)
 
 pub if_statement-returns-clause-gives : goal.if_statement-returns-clause-gives
 if_statement-returns-clause-gives t c =
@@ -310,9 +315,29 @@ do_statement-returns-in_err-body-clause-gives t c =
     let one : c.args.depth + 1 ≡ suc c.args.depth = omega arith in
     failed _ _ (λ (x : Box Statement Global). statement_of x.value) _ _ _ c.in_err-body.field-0.0 c.from_residual-in_err-body.ensures.1 c.in_err-body.ensures.gives (λ fault e. rw (c.in_ok-place.ensures.gives, rw one at e) refl)
 
+pub do_statement-returns-in_err-keyword-clause-gives : goal.do_statement-returns-in_err-keyword-clause-gives
+do_statement-returns-in_err-keyword-clause-gives t c =
+    let one : c.args.depth + 1 ≡ suc c.args.depth = omega arith in
+    failed _ _ (λ (x : ℕ). x) _ _ _ c.in_err-keyword.field-0.0 c.from_residual-in_err-keyword.ensures.1 c.in_err-keyword.ensures.gives (λ fault e. rw (c.in_ok-place.ensures.gives, rw one at c.in_ok-body.ensures.gives, e) refl)
+
+pub do_statement-returns-in_err-test-clause-gives : goal.do_statement-returns-in_err-test-clause-gives
+do_statement-returns-in_err-test-clause-gives t c =
+    let one : c.args.depth + 1 ≡ suc c.args.depth = omega arith in
+    failed _ _ (λ (x : Box Expression Global). expression_of x.value) _ _ _ c.in_err-test.field-0.0 c.from_residual-in_err-test.ensures.1 c.in_err-test.ensures.gives (λ fault e. rw (c.in_ok-place.ensures.gives, rw one at c.in_ok-body.ensures.gives, c.in_ok-keyword.ensures.gives, rw one at e) refl)
+
+pub do_statement-returns-in_err-mark-clause-gives : goal.do_statement-returns-in_err-mark-clause-gives
+do_statement-returns-in_err-mark-clause-gives t c =
+    let one : c.args.depth + 1 ≡ suc c.args.depth = omega arith in
+    failed _ _ (λ (x : ℕ). x) _ _ _ c.in_err-mark.field-0.0 c.from_residual-in_err-mark.ensures.1 c.in_err-mark.ensures.gives (λ fault e. rw (c.in_ok-place.ensures.gives, rw one at c.in_ok-body.ensures.gives, c.in_ok-keyword.ensures.gives, rw one at c.in_ok-test.ensures.gives, e) refl)
+
 pub do_statement-returns-in_err-do_loop-clause-gives : goal.do_statement-returns-in_err-do_loop-clause-gives
 do_statement-returns-in_err-do_loop-clause-gives t c =
     no_memory _ _ _ _ c.from_residual-in_err-do_loop.ensures.1
+
+pub do_statement-returns-clause-gives : goal.do_statement-returns-clause-gives
+do_statement-returns-clause-gives t c =
+    let one : c.args.depth + 1 ≡ suc c.args.depth = omega arith in
+    rw (c.in_ok-place.ensures.gives, rw one at c.in_ok-body.ensures.gives, c.in_ok-keyword.ensures.gives, rw one at c.in_ok-test.ensures.gives, c.in_ok-mark.ensures.gives) (ap (λ x. Ok (x, list_of c.mark.new.self.rest.now)) (sym c.in_ok-do_loop.ensures))
 
 pub for_statement-returns-in_err-place-clause-gives : goal.for_statement-returns-in_err-place-clause-gives
 for_statement-returns-in_err-place-clause-gives t c =
@@ -340,78 +365,86 @@ pub switch_statement-returns-in_err-switch-clause-gives : goal.switch_statement-
 switch_statement-returns-in_err-switch-clause-gives t c =
     no_memory _ _ _ _ c.from_residual-in_err-switch.ensures.1
 
-pub groups-returns-in_err-gathered-clause-gives : goal.groups-returns-in_err-gathered-clause-gives
-groups-returns-in_err-gathered-clause-gives t c =
-    no_memory _ _ _ _ c.from_residual-in_err-gathered.ensures.1
+pub groups-returns-in_err-group-clause-gives : goal.groups-returns-in_err-group-clause-gives
+groups-returns-in_err-group-clause-gives t c =
+    no_memory _ _ _ _ c.from_residual-in_err-group.ensures.1
 
-pub groups-returns-in_err-groups-clause-gives : goal.groups-returns-in_err-groups-clause-gives
-groups-returns-in_err-groups-clause-gives t c =
-    no_memory _ _ _ _ c.from_residual-in_err-groups.ensures.1
+pub groups-returns-in_err-push-clause-gives : goal.groups-returns-in_err-push-clause-gives
+groups-returns-in_err-push-clause-gives t c =
+    no_memory _ _ _ _ c.from_residual-in_err-push.ensures.1
 
-pub any_statement-returns-then-next_is-clause-gives : goal.any_statement-returns-then-next_is-clause-gives
-any_statement-returns-then-next_is-clause-gives t c =
+pub statement-returns-then-next_is-clause-gives : goal.statement-returns-then-next_is-clause-gives
+statement-returns-then-next_is-clause-gives t c =
     let names = names_of c.args.names.now in
     let inner = expressions c.args.names.now in
-    let inside = within c.args.names.now c.args.room in
-    let same : statements.read_statement_around names inner inside c.args.depth (list_of c.args.tokens.now.rest.now) ≡ statements.read_block names inner inside c.args.depth (list_of c.args.tokens.now.rest.now) = rw (sym c.next_is.ensures ∙ c.if-next_is.true) refl in
-    subst (λ o. Gives o (λ x. statement_of x.value) c.block.new.tokens.rest.now c.block.result) (sym same) c.block.ensures.gives
+    let inside = within c.args.names.now (c.args.room - 1) in
+    let chosen : statements.read_statement_around names inner inside c.args.depth (list_of c.args.tokens.now.rest.now) ≡ statements.read_block names inner inside c.args.depth (list_of c.args.tokens.now.rest.now) = rw (sym c.next_is.ensures ∙ c.if-next_is.true) refl in
+    subst (λ o. Gives o (λ x. statement_of x.value) c.block.new.tokens.rest.now c.block.result) (sym (statement-some names inner c.args.room c.args.depth (list_of c.args.tokens.now.rest.now) c.if-room-eq0.false ∙ chosen)) c.block.ensures.gives
 
-pub any_statement-returns-then-next_is-2-clause-gives : goal.any_statement-returns-then-next_is-2-clause-gives
-any_statement-returns-then-next_is-2-clause-gives t c =
-    rw (sym c.next_is.ensures ∙ c.if-next_is.false, sym c.next_is-2.ensures ∙ c.if-next_is-2.true, c.in_ok-place.ensures.gives) (ap (λ x. Ok (x, list_of c.mark.new.self.rest.now)) (sym c.in_ok-empty.ensures))
+pub statement-returns-then-next_is-2-clause-gives : goal.statement-returns-then-next_is-2-clause-gives
+statement-returns-then-next_is-2-clause-gives t c =
+    let names = names_of c.args.names.now in
+    let inner = expressions c.args.names.now in
+    let inside = within c.args.names.now (c.args.room - 1) in
+    let chosen : statements.read_statement_around names inner inside c.args.depth (list_of c.args.tokens.now.rest.now) ≡ Ok (unit.Empty c.in_ok-place.place, list_of c.mark.new.self.rest.now) = rw (sym c.next_is.ensures ∙ c.if-next_is.false, sym c.next_is-2.ensures ∙ c.if-next_is-2.true, c.in_ok-place.ensures.gives) refl in
+    statement-some names inner c.args.room c.args.depth (list_of c.args.tokens.now.rest.now) c.if-room-eq0.false ∙ chosen ∙ ap (λ x. Ok (x, list_of c.mark.new.self.rest.now)) (sym c.in_ok-empty.ensures)
 
-pub any_statement-returns-in_err-place-clause-gives : goal.any_statement-returns-in_err-place-clause-gives
-any_statement-returns-in_err-place-clause-gives t c =
-    failed _ _ (λ (x : ℕ). x) _ _ _ c.in_err-place.field-0.0 c.from_residual.ensures.1 c.in_err-place.ensures.gives (λ fault e. rw (sym c.next_is.ensures ∙ c.if-next_is.false, sym c.next_is-2.ensures ∙ c.if-next_is-2.true, e) refl)
+pub statement-returns-in_err-place-clause-gives : goal.statement-returns-in_err-place-clause-gives
+statement-returns-in_err-place-clause-gives t c =
+    let names = names_of c.args.names.now in
+    let inner = expressions c.args.names.now in
+    let inside = within c.args.names.now (c.args.room - 1) in
+    failed _ _ (λ (x : ℕ). x) _ _ _ c.in_err-place.field-0.0 c.from_residual.ensures.1 c.in_err-place.ensures.gives
+    (λ fault e. let chosen : statements.read_statement_around names inner inside c.args.depth (list_of c.args.tokens.now.rest.now) ≡ Err fault = rw (sym c.next_is.ensures ∙ c.if-next_is.false, sym c.next_is-2.ensures ∙ c.if-next_is-2.true, e) refl in statement-some names inner c.args.room c.args.depth (list_of c.args.tokens.now.rest.now) c.if-room-eq0.false ∙ chosen)
 
-pub any_statement-returns-in_err-empty-clause-gives : goal.any_statement-returns-in_err-empty-clause-gives
-any_statement-returns-in_err-empty-clause-gives t c =
+pub statement-returns-in_err-empty-clause-gives : goal.statement-returns-in_err-empty-clause-gives
+statement-returns-in_err-empty-clause-gives t c =
     no_memory _ _ _ _ c.from_residual-in_err-empty.ensures.1
 
-pub any_statement-returns-then-next_keyword-clause-gives : goal.any_statement-returns-then-next_keyword-clause-gives
-any_statement-returns-then-next_keyword-clause-gives t c =
+pub statement-returns-then-next_keyword-clause-gives : goal.statement-returns-then-next_keyword-clause-gives
+statement-returns-then-next_keyword-clause-gives t c =
     let names = names_of c.args.names.now in
     let inner = expressions c.args.names.now in
-    let inside = within c.args.names.now c.args.room in
-    let same : statements.read_statement_around names inner inside c.args.depth (list_of c.args.tokens.now.rest.now) ≡ statements.read_if inner inside c.args.depth (list_of c.args.tokens.now.rest.now) = rw (sym c.next_is.ensures ∙ c.if-next_is.false, sym c.next_is-2.ensures ∙ c.if-next_is-2.false, sym c.next_keyword.ensures ∙ c.if-next_keyword.true) refl in
-    subst (λ o. Gives o (λ x. statement_of x.value) c.if_statement.new.tokens.rest.now c.if_statement.result) (sym same) c.if_statement.ensures.gives
+    let inside = within c.args.names.now (c.args.room - 1) in
+    let chosen : statements.read_statement_around names inner inside c.args.depth (list_of c.args.tokens.now.rest.now) ≡ statements.read_if inner inside c.args.depth (list_of c.args.tokens.now.rest.now) = rw (sym c.next_is.ensures ∙ c.if-next_is.false, sym c.next_is-2.ensures ∙ c.if-next_is-2.false, sym c.next_keyword.ensures ∙ c.if-next_keyword.true) refl in
+    subst (λ o. Gives o (λ x. statement_of x.value) c.if_statement.new.tokens.rest.now c.if_statement.result) (sym (statement-some names inner c.args.room c.args.depth (list_of c.args.tokens.now.rest.now) c.if-room-eq0.false ∙ chosen)) c.if_statement.ensures.gives
 
-pub any_statement-returns-then-next_keyword-2-clause-gives : goal.any_statement-returns-then-next_keyword-2-clause-gives
-any_statement-returns-then-next_keyword-2-clause-gives t c =
+pub statement-returns-then-next_keyword-2-clause-gives : goal.statement-returns-then-next_keyword-2-clause-gives
+statement-returns-then-next_keyword-2-clause-gives t c =
     let names = names_of c.args.names.now in
     let inner = expressions c.args.names.now in
-    let inside = within c.args.names.now c.args.room in
-    let same : statements.read_statement_around names inner inside c.args.depth (list_of c.args.tokens.now.rest.now) ≡ statements.read_switch names inner inside c.args.depth (list_of c.args.tokens.now.rest.now) = rw (sym c.next_is.ensures ∙ c.if-next_is.false, sym c.next_is-2.ensures ∙ c.if-next_is-2.false, sym c.next_keyword.ensures ∙ c.if-next_keyword.false, sym c.next_keyword-2.ensures ∙ c.if-next_keyword-2.true) refl in
-    subst (λ o. Gives o (λ x. statement_of x.value) c.switch_statement.new.tokens.rest.now c.switch_statement.result) (sym same) c.switch_statement.ensures.gives
+    let inside = within c.args.names.now (c.args.room - 1) in
+    let chosen : statements.read_statement_around names inner inside c.args.depth (list_of c.args.tokens.now.rest.now) ≡ statements.read_switch names inner inside c.args.depth (list_of c.args.tokens.now.rest.now) = rw (sym c.next_is.ensures ∙ c.if-next_is.false, sym c.next_is-2.ensures ∙ c.if-next_is-2.false, sym c.next_keyword.ensures ∙ c.if-next_keyword.false, sym c.next_keyword-2.ensures ∙ c.if-next_keyword-2.true) refl in
+    subst (λ o. Gives o (λ x. statement_of x.value) c.switch_statement.new.tokens.rest.now c.switch_statement.result) (sym (statement-some names inner c.args.room c.args.depth (list_of c.args.tokens.now.rest.now) c.if-room-eq0.false ∙ chosen)) c.switch_statement.ensures.gives
 
-pub any_statement-returns-then-next_keyword-3-clause-gives : goal.any_statement-returns-then-next_keyword-3-clause-gives
-any_statement-returns-then-next_keyword-3-clause-gives t c =
+pub statement-returns-then-next_keyword-3-clause-gives : goal.statement-returns-then-next_keyword-3-clause-gives
+statement-returns-then-next_keyword-3-clause-gives t c =
     let names = names_of c.args.names.now in
     let inner = expressions c.args.names.now in
-    let inside = within c.args.names.now c.args.room in
-    let same : statements.read_statement_around names inner inside c.args.depth (list_of c.args.tokens.now.rest.now) ≡ statements.read_while inner inside c.args.depth (list_of c.args.tokens.now.rest.now) = rw (sym c.next_is.ensures ∙ c.if-next_is.false, sym c.next_is-2.ensures ∙ c.if-next_is-2.false, sym c.next_keyword.ensures ∙ c.if-next_keyword.false, sym c.next_keyword-2.ensures ∙ c.if-next_keyword-2.false, sym c.next_keyword-3.ensures ∙ c.if-next_keyword-3.true) refl in
-    subst (λ o. Gives o (λ x. statement_of x.value) c.while_statement.new.tokens.rest.now c.while_statement.result) (sym same) c.while_statement.ensures.gives
+    let inside = within c.args.names.now (c.args.room - 1) in
+    let chosen : statements.read_statement_around names inner inside c.args.depth (list_of c.args.tokens.now.rest.now) ≡ statements.read_while inner inside c.args.depth (list_of c.args.tokens.now.rest.now) = rw (sym c.next_is.ensures ∙ c.if-next_is.false, sym c.next_is-2.ensures ∙ c.if-next_is-2.false, sym c.next_keyword.ensures ∙ c.if-next_keyword.false, sym c.next_keyword-2.ensures ∙ c.if-next_keyword-2.false, sym c.next_keyword-3.ensures ∙ c.if-next_keyword-3.true) refl in
+    subst (λ o. Gives o (λ x. statement_of x.value) c.while_statement.new.tokens.rest.now c.while_statement.result) (sym (statement-some names inner c.args.room c.args.depth (list_of c.args.tokens.now.rest.now) c.if-room-eq0.false ∙ chosen)) c.while_statement.ensures.gives
 
-pub any_statement-returns-then-next_keyword-4-clause-gives : goal.any_statement-returns-then-next_keyword-4-clause-gives
-any_statement-returns-then-next_keyword-4-clause-gives t c =
+pub statement-returns-then-next_keyword-4-clause-gives : goal.statement-returns-then-next_keyword-4-clause-gives
+statement-returns-then-next_keyword-4-clause-gives t c =
     let names = names_of c.args.names.now in
     let inner = expressions c.args.names.now in
-    let inside = within c.args.names.now c.args.room in
-    let same : statements.read_statement_around names inner inside c.args.depth (list_of c.args.tokens.now.rest.now) ≡ statements.read_do inner inside c.args.depth (list_of c.args.tokens.now.rest.now) = rw (sym c.next_is.ensures ∙ c.if-next_is.false, sym c.next_is-2.ensures ∙ c.if-next_is-2.false, sym c.next_keyword.ensures ∙ c.if-next_keyword.false, sym c.next_keyword-2.ensures ∙ c.if-next_keyword-2.false, sym c.next_keyword-3.ensures ∙ c.if-next_keyword-3.false, sym c.next_keyword-4.ensures ∙ c.if-next_keyword-4.true) refl in
-    subst (λ o. Gives o (λ x. statement_of x.value) c.do_statement.new.tokens.rest.now c.do_statement.result) (sym same) c.do_statement.ensures.gives
+    let inside = within c.args.names.now (c.args.room - 1) in
+    let chosen : statements.read_statement_around names inner inside c.args.depth (list_of c.args.tokens.now.rest.now) ≡ statements.read_do inner inside c.args.depth (list_of c.args.tokens.now.rest.now) = rw (sym c.next_is.ensures ∙ c.if-next_is.false, sym c.next_is-2.ensures ∙ c.if-next_is-2.false, sym c.next_keyword.ensures ∙ c.if-next_keyword.false, sym c.next_keyword-2.ensures ∙ c.if-next_keyword-2.false, sym c.next_keyword-3.ensures ∙ c.if-next_keyword-3.false, sym c.next_keyword-4.ensures ∙ c.if-next_keyword-4.true) refl in
+    subst (λ o. Gives o (λ x. statement_of x.value) c.do_statement.new.tokens.rest.now c.do_statement.result) (sym (statement-some names inner c.args.room c.args.depth (list_of c.args.tokens.now.rest.now) c.if-room-eq0.false ∙ chosen)) c.do_statement.ensures.gives
 
-pub any_statement-returns-then-next_keyword-5-clause-gives : goal.any_statement-returns-then-next_keyword-5-clause-gives
-any_statement-returns-then-next_keyword-5-clause-gives t c =
+pub statement-returns-then-next_keyword-5-clause-gives : goal.statement-returns-then-next_keyword-5-clause-gives
+statement-returns-then-next_keyword-5-clause-gives t c =
     let names = names_of c.args.names.now in
     let inner = expressions c.args.names.now in
-    let inside = within c.args.names.now c.args.room in
-    let same : statements.read_statement_around names inner inside c.args.depth (list_of c.args.tokens.now.rest.now) ≡ statements.read_for names inner inside c.args.depth (list_of c.args.tokens.now.rest.now) = rw (sym c.next_is.ensures ∙ c.if-next_is.false, sym c.next_is-2.ensures ∙ c.if-next_is-2.false, sym c.next_keyword.ensures ∙ c.if-next_keyword.false, sym c.next_keyword-2.ensures ∙ c.if-next_keyword-2.false, sym c.next_keyword-3.ensures ∙ c.if-next_keyword-3.false, sym c.next_keyword-4.ensures ∙ c.if-next_keyword-4.false, sym c.next_keyword-5.ensures ∙ c.if-next_keyword-5.true) refl in
-    subst (λ o. Gives o (λ x. statement_of x.value) c.for_statement.new.tokens.rest.now c.for_statement.result) (sym same) c.for_statement.ensures.gives
+    let inside = within c.args.names.now (c.args.room - 1) in
+    let chosen : statements.read_statement_around names inner inside c.args.depth (list_of c.args.tokens.now.rest.now) ≡ statements.read_for names inner inside c.args.depth (list_of c.args.tokens.now.rest.now) = rw (sym c.next_is.ensures ∙ c.if-next_is.false, sym c.next_is-2.ensures ∙ c.if-next_is-2.false, sym c.next_keyword.ensures ∙ c.if-next_keyword.false, sym c.next_keyword-2.ensures ∙ c.if-next_keyword-2.false, sym c.next_keyword-3.ensures ∙ c.if-next_keyword-3.false, sym c.next_keyword-4.ensures ∙ c.if-next_keyword-4.false, sym c.next_keyword-5.ensures ∙ c.if-next_keyword-5.true) refl in
+    subst (λ o. Gives o (λ x. statement_of x.value) c.for_statement.new.tokens.rest.now c.for_statement.result) (sym (statement-some names inner c.args.room c.args.depth (list_of c.args.tokens.now.rest.now) c.if-room-eq0.false ∙ chosen)) c.for_statement.ensures.gives
 
-pub any_statement-returns-clause-gives : goal.any_statement-returns-clause-gives
-any_statement-returns-clause-gives t c =
+pub statement-returns-clause-gives : goal.statement-returns-clause-gives
+statement-returns-clause-gives t c =
     let names = names_of c.args.names.now in
     let inner = expressions c.args.names.now in
-    let inside = within c.args.names.now c.args.room in
-    let same : statements.read_statement_around names inner inside c.args.depth (list_of c.args.tokens.now.rest.now) ≡ read_plain inner c.args.depth (list_of c.args.tokens.now.rest.now) = rw (sym c.next_is.ensures ∙ c.if-next_is.false, sym c.next_is-2.ensures ∙ c.if-next_is-2.false, sym c.next_keyword.ensures ∙ c.if-next_keyword.false, sym c.next_keyword-2.ensures ∙ c.if-next_keyword-2.false, sym c.next_keyword-3.ensures ∙ c.if-next_keyword-3.false, sym c.next_keyword-4.ensures ∙ c.if-next_keyword-4.false, sym c.next_keyword-5.ensures ∙ c.if-next_keyword-5.false) refl in
-    subst (λ o. Gives o (λ x. statement_of x.value) c.plain_statement.new.tokens.rest.now c.plain_statement.result) (sym same) c.plain_statement.ensures.gives
+    let inside = within c.args.names.now (c.args.room - 1) in
+    let chosen : statements.read_statement_around names inner inside c.args.depth (list_of c.args.tokens.now.rest.now) ≡ read_plain inner c.args.depth (list_of c.args.tokens.now.rest.now) = rw (sym c.next_is.ensures ∙ c.if-next_is.false, sym c.next_is-2.ensures ∙ c.if-next_is-2.false, sym c.next_keyword.ensures ∙ c.if-next_keyword.false, sym c.next_keyword-2.ensures ∙ c.if-next_keyword-2.false, sym c.next_keyword-3.ensures ∙ c.if-next_keyword-3.false, sym c.next_keyword-4.ensures ∙ c.if-next_keyword-4.false, sym c.next_keyword-5.ensures ∙ c.if-next_keyword-5.false) refl in
+    subst (λ o. Gives o (λ x. statement_of x.value) c.plain_statement.new.tokens.rest.now c.plain_statement.result) (sym (statement-some names inner c.args.room c.args.depth (list_of c.args.tokens.now.rest.now) c.if-room-eq0.false ∙ chosen)) c.plain_statement.ensures.gives

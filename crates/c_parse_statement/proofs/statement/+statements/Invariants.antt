@@ -1,18 +1,16 @@
-use Rattle.std.proofs.Common.{◌≤◌, length, map, ◌<◌, ◌+◌, ◌*◌}
-use Rattle.c_statement_reader.specs.Statements.{read_parts, read_groups}
-use Rattle.c_syntax.specs.Statements.{part_of}
+use Rattle.std.proofs.Common.{◌≤◌, length, map, ◌+◌, ◌*◌}
+use Rattle.c_statement_reader.specs.Statements.{read_part, read_groups}
+use Rattle.c_syntax.specs.Expressions.{unboxed}
+use Rattle.c_syntax.specs.Statements.{group_of}
 use Rattle.c_parse_token.specs.Lists.{list_of, names_of}
 use Rattle.c_parse_expression.specs.Whole.{expressions}
-use Rattle.c_parse_statement.proofs.Loops.{Parts, Gathering}
-use Rattle.c_parse_statement.specs.Grouped.{grouping_of}
-use Rattle.c_parse_statement.specs.Pieces.{within}
+use Rattle.c_parse_statement.specs.Pieces.{within, starts_part, taken_parts}
+use Rattle.c_parse_statement.specs.Runs.{Run}
+use Rattle.c_parse_statement.proofs.Loops.{Groups}
 use Rattle.c_parse_statement.proofs.statement.+statements.Given as goal
 
 abbrev pub decreases-statement : goal.decreases-statement
 decreases-statement l = 16 * l.room
-
-abbrev pub decreases-any_statement : goal.decreases-any_statement
-decreases-any_statement l = 16 * l.room + 15
 
 abbrev pub decreases-block : goal.decreases-block
 decreases-block l = 16 * l.room + 8
@@ -28,9 +26,6 @@ decreases-switch_statement l = 16 * l.room + 11
 
 abbrev pub decreases-groups : goal.decreases-groups
 decreases-groups l = 16 * l.room + 10
-
-abbrev pub decreases-element : goal.decreases-element
-decreases-element l = 16 * l.room + 9
 
 abbrev pub decreases-if_statement : goal.decreases-if_statement
 decreases-if_statement l = 16 * l.room + 14
@@ -49,7 +44,7 @@ decreases-for_statement l = 16 * l.room + 1
 
 abbrev pub invariant-all_parts-items : goal.invariant-all_parts-items
 invariant-all_parts-items l = record {
-  going : Parts (names_of l.names) (expressions l.names) (within l.names l.room) l.depth (read_parts (names_of l.names) (expressions l.names) (within l.names l.room) l.depth (list_of l.initial.tokens.rest.now)) (map part_of l.all.items) (list_of l.tokens.rest.now);
+  run : Run starts_part (read_part (names_of l.names) (expressions l.names) (within l.names l.room) l.depth) (list_of l.initial.tokens.rest.now) (taken_parts l.all) (list_of l.tokens.rest.now);
   fewer : length l.tokens.rest.now ≤ length l.initial.tokens.rest.now;
 }
 
@@ -58,8 +53,8 @@ decreases-all_parts-items l = length l.tokens.rest.now
 
 abbrev pub invariant-groups-items : goal.invariant-groups-items
 invariant-groups-items l = record {
-  going : Gathering (names_of l.names) (expressions l.names) (within l.names l.room) l.depth (read_groups (names_of l.names) (expressions l.names) (within l.names l.room) l.depth (list_of l.fn.tokens.rest.now)) (grouping_of l.gathered) (list_of l.tokens.rest.now);
-  fewer : length l.tokens.rest.now < length l.fn.tokens.rest.now;
+  going : Groups (names_of l.names) (expressions l.names) (within l.names l.room) l.depth (read_groups (names_of l.names) (expressions l.names) (within l.names l.room) l.depth (list_of l.initial.tokens.rest.now)) (map group_of (unboxed l.all)) (list_of l.tokens.rest.now);
+  fewer : length l.tokens.rest.now ≤ length l.initial.tokens.rest.now;
 }
 
 abbrev pub decreases-groups-items : goal.decreases-groups-items
