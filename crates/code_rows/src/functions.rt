@@ -75,7 +75,9 @@ fn put_graphs(
             Err(error) => put_error(error, out),
             Ok(found) => {
                 put_graph(&found, out);
-                let _ = graphs.push(found.graph);
+                if graphs.push(found.graph).is_err() {
+                    out.put("no memory");
+                }
             }
         }
     }
@@ -90,7 +92,7 @@ fn put_run(graphs: &[Graph], out: &mut Out) {
     run_goes_on(&run);
     callee_runs_as_alone(&run);
     out.put("valid ");
-    out.show(&graphs.iter().all(validate));
+    out.show(&graphs.iter().all(|graph| validate(graph)));
     out.put(" nodes ");
     out.show(&run.nodes());
 }
