@@ -2,6 +2,8 @@
 //! it reaches and its stack, or a fault in the place of each; `graphs PART..` the graph of each function that it reaches, a line a
 //! node, and whether all are valid.
 
+ghost use Rattle.std.specs.List.Sorted.{IsStrictlyIncreasing};
+
 use crate::executables::put_executable;
 use crate::out::Out;
 use crate::texts::put_graph;
@@ -66,7 +68,9 @@ fn put_graphs(
     entries: &[u32],
     graphs: &mut Vec<Graph>,
     out: &mut Out,
-) {
+)
+    requires { IsStrictlyIncreasing entries.now }
+{
     for entry in entries {
         if image.size_at(*entry).is_none() {
             continue;

@@ -4,7 +4,7 @@
 
 use crate::numbers::{decimal, hexadecimal};
 use crate::out::Out;
-use rv_instr::{Reg, StoreKind};
+use rv_instr::Reg;
 use rv_machine::{Machine, Memory, run, step};
 use std::alloc::{AllocError, Global};
 
@@ -22,8 +22,10 @@ fn loaded(alloc: Global, row: &str) -> Result<Machine, AllocError> {
     let mut at: u32 = 0x1_0000;
     for word in row.split_whitespace() {
         if is_word(word) {
-            memory.store(StoreKind::Word, at, hexadecimal(word))?;
-            at = at.wrapping_add(4);
+            for byte in hexadecimal(word).to_le_bytes() {
+                memory.put(at, byte)?;
+                at = at.wrapping_add(1);
+            }
         }
     }
     Ok(Machine::new(0x1_0000, memory))
