@@ -9,80 +9,39 @@ ghost use Rattle.c_parse_token.specs.Lists.{list_of};
 ghost use Rattle.c_parse_token.specs.Words.{type_among, entry_of, type_next, with_next};
 
 use crate::tokens::Tokens;
-use c_spec::token::Keyword;
+use c_spec::token::Keyword::{self, Char, Int, Long, Short, Signed, Unsigned};
 use c_token::Kind;
 use c_tree_spec::IntegerType;
 use std::alloc::{AllocError, Global};
 
 /// Words, in any order, and the type that they name.
 static COMBINATIONS: [(&[Keyword], IntegerType); 26] = [
-    (&[Keyword::Char], IntegerType::Char),
-    (&[Keyword::Signed, Keyword::Char], IntegerType::SignedChar),
-    (
-        &[Keyword::Unsigned, Keyword::Char],
-        IntegerType::UnsignedChar,
-    ),
-    (&[Keyword::Short], IntegerType::Short),
-    (&[Keyword::Signed, Keyword::Short], IntegerType::Short),
-    (&[Keyword::Short, Keyword::Int], IntegerType::Short),
-    (
-        &[Keyword::Signed, Keyword::Short, Keyword::Int],
-        IntegerType::Short,
-    ),
-    (
-        &[Keyword::Unsigned, Keyword::Short],
-        IntegerType::UnsignedShort,
-    ),
-    (
-        &[Keyword::Unsigned, Keyword::Short, Keyword::Int],
-        IntegerType::UnsignedShort,
-    ),
-    (&[Keyword::Int], IntegerType::Int),
-    (&[Keyword::Signed], IntegerType::Int),
-    (&[Keyword::Signed, Keyword::Int], IntegerType::Int),
-    (&[Keyword::Unsigned], IntegerType::UnsignedInt),
-    (&[Keyword::Unsigned, Keyword::Int], IntegerType::UnsignedInt),
-    (&[Keyword::Long], IntegerType::Long),
-    (&[Keyword::Signed, Keyword::Long], IntegerType::Long),
-    (&[Keyword::Long, Keyword::Int], IntegerType::Long),
-    (
-        &[Keyword::Signed, Keyword::Long, Keyword::Int],
-        IntegerType::Long,
-    ),
-    (
-        &[Keyword::Unsigned, Keyword::Long],
-        IntegerType::UnsignedLong,
-    ),
-    (
-        &[Keyword::Unsigned, Keyword::Long, Keyword::Int],
-        IntegerType::UnsignedLong,
-    ),
-    (&[Keyword::Long, Keyword::Long], IntegerType::LongLong),
-    (
-        &[Keyword::Signed, Keyword::Long, Keyword::Long],
-        IntegerType::LongLong,
-    ),
-    (
-        &[Keyword::Long, Keyword::Long, Keyword::Int],
-        IntegerType::LongLong,
-    ),
-    (
-        &[Keyword::Signed, Keyword::Long, Keyword::Long, Keyword::Int],
-        IntegerType::LongLong,
-    ),
-    (
-        &[Keyword::Unsigned, Keyword::Long, Keyword::Long],
-        IntegerType::UnsignedLongLong,
-    ),
-    (
-        &[
-            Keyword::Unsigned,
-            Keyword::Long,
-            Keyword::Long,
-            Keyword::Int,
-        ],
-        IntegerType::UnsignedLongLong,
-    ),
+    (&[Char], IntegerType::Char),
+    (&[Signed, Char], IntegerType::SignedChar),
+    (&[Unsigned, Char], IntegerType::UnsignedChar),
+    (&[Short], IntegerType::Short),
+    (&[Signed, Short], IntegerType::Short),
+    (&[Short, Int], IntegerType::Short),
+    (&[Signed, Short, Int], IntegerType::Short),
+    (&[Unsigned, Short], IntegerType::UnsignedShort),
+    (&[Unsigned, Short, Int], IntegerType::UnsignedShort),
+    (&[Int], IntegerType::Int),
+    (&[Signed], IntegerType::Int),
+    (&[Signed, Int], IntegerType::Int),
+    (&[Unsigned], IntegerType::UnsignedInt),
+    (&[Unsigned, Int], IntegerType::UnsignedInt),
+    (&[Long], IntegerType::Long),
+    (&[Signed, Long], IntegerType::Long),
+    (&[Long, Int], IntegerType::Long),
+    (&[Signed, Long, Int], IntegerType::Long),
+    (&[Unsigned, Long], IntegerType::UnsignedLong),
+    (&[Unsigned, Long, Int], IntegerType::UnsignedLong),
+    (&[Long, Long], IntegerType::LongLong),
+    (&[Signed, Long, Long], IntegerType::LongLong),
+    (&[Long, Long, Int], IntegerType::LongLong),
+    (&[Signed, Long, Long, Int], IntegerType::LongLong),
+    (&[Unsigned, Long, Long], IntegerType::UnsignedLongLong),
+    (&[Unsigned, Long, Long, Int], IntegerType::UnsignedLongLong),
 ];
 
 fn is_char(word: Keyword) -> bool

@@ -72,7 +72,7 @@ fn bound(
     stack: &mut Vec<Box<Term>>,
 ) -> Result<Vec<Binding>, AllocError> {
     let mut bindings = Vec::new(alloc);
-    let term = Box::into_inner(popped(alloc, stack)?);
+    let term = popped(alloc, stack)?;
     bindings.push(Binding {
         variable: variable(family),
         term,
@@ -101,7 +101,7 @@ fn add_test(
 ) -> Result<usize, AllocError> {
     let (on_true, on_false) = value.split_once(',').unwrap_or((value, ""));
     graph.add(Node::Cond {
-        test: Box::into_inner(popped(alloc, stack)?),
+        test: popped(alloc, stack)?,
         on_true: next(on_true),
         on_false: next(on_false),
     })
