@@ -33,7 +33,7 @@ use c_token::Kind;
 use std::alloc::Global;
 
 /// Which of `typedef` and `static` are among some words.
-pub fn storage_with(is_typedef: bool, is_static: bool) -> Storage
+pub fn stored(is_typedef: bool, is_static: bool) -> Storage
     ensures { storage_of result ≡ record { is_typedef = is_typedef; is_static = is_static } }
 {
     Storage {
@@ -46,7 +46,7 @@ pub fn storage_with(is_typedef: bool, is_static: bool) -> Storage
 fn both(one: Storage, two: Storage) -> Storage
     ensures { storage_of result ≡ both (storage_of one) (storage_of two) }
 {
-    storage_with(
+    stored(
         one.is_typedef || two.is_typedef,
         one.is_static || two.is_static,
     )
@@ -57,12 +57,10 @@ fn around(kind: Kind<'_>, of_item: bool) -> Option<Storage>
     ensures { option_map storage_of result ≡ says of_item (token_of kind.entry) }
 {
     match kind {
-        Kind::Word(Keyword::Const) => Some(storage_with(false, false)),
-        Kind::Word(Keyword::Static) => Some(storage_with(false, true)),
-        Kind::Word(Keyword::Extern | Keyword::Inline) if of_item => Some(storage_with(
-            false, false,
-        )),
-        Kind::Word(Keyword::Typedef) if of_item => Some(storage_with(true, false)),
+        Kind::Word(Keyword::Const) => Some(stored(false, false)),
+        Kind::Word(Keyword::Static) => Some(stored(false, true)),
+        Kind::Word(Keyword::Extern | Keyword::Inline) if of_item => Some(stored(false, false)),
+        Kind::Word(Keyword::Typedef) if of_item => Some(stored(true, false)),
         _ => None,
     }
 }
@@ -87,7 +85,7 @@ fn words(tokens: &mut Tokens<'_>, of_item: bool) -> (Storage, Option<usize>)
     ensures found { read_words of_item (list_of tokens.old.rest.now) ≡ Ok ((storage_of result.0, result.1), list_of tokens.new.rest.now) }
     ensures shorter { length tokens.new.rest.now ≤ length tokens.old.rest.now }
 {
-    let mut storage = storage_with(false, false);
+    let mut storage = stored(false, false);
     let mut first = None;
     'items: while let Some((said, place)) = take_word(tokens, of_item) {
         storage = both(storage, said);

@@ -17,7 +17,7 @@ ghost use Rattle.c_parse_token.specs.Lists.{list_of, names_of, Gives};
 ghost use Rattle.c_parse_expression.specs.Whole.{expressions};
 ghost use Rattle.c_parse_declaration.specs.Parts.{has_none, read_function};
 
-use crate::declaration::{declared_name, storage_with};
+use crate::declaration::{declared_name, stored};
 use c_grammar_spec::Role;
 use c_parse_expression::{dimensions, specifiers};
 use c_parse_token::{ParseError, Tokens, TypeNames, consts, pointer};
@@ -113,7 +113,7 @@ fn void_parameter<'t>(
 {
     consts(tokens);
     let base = Base::void(alloc)?;
-    let specifiers = Specifiers::new(alloc, storage_with(false, false), base, place)?;
+    let specifiers = Specifiers::new(alloc, stored(false, false), base, place)?;
     parameter_behind(alloc, tokens, names, depth, specifiers)
 }
 

@@ -9,7 +9,7 @@ use Rattle.c_parse_declaration.proofs.declaration.words.Goals as goal
 
 pub items-init : goal.items-init
 items-init c = record {
-  going = subst (λ storage. Words c.args.of_item (read_words c.args.of_item (list_of c.args.tokens.now.rest.now)) storage None (list_of c.args.tokens.now.rest.now)) (sym c.storage_with-storage.ensures) (words-start c.args.of_item (list_of c.args.tokens.now.rest.now));
+  going = subst (λ storage. Words c.args.of_item (read_words c.args.of_item (list_of c.args.tokens.now.rest.now)) storage None (list_of c.args.tokens.now.rest.now)) (sym c.stored-storage.ensures) (words-start c.args.of_item (list_of c.args.tokens.now.rest.now));
   fewer = omega arith;
 }
 
