@@ -32,32 +32,24 @@ use c_syntax::statement::{Local, Locals};
 use c_token::Kind;
 use std::alloc::Global;
 
-/// No word of storage.
-pub const NO_STORAGE: Storage = Storage {
-    is_typedef: false,
-    is_static: false,
-};
-
-// `typedef`
-const TYPEDEF: Storage = Storage {
-    is_typedef: true,
-    is_static: false,
-};
-
-// `static`
-const STATIC: Storage = Storage {
-    is_typedef: false,
-    is_static: true,
-};
+/// Which of `typedef` and `static` are among some words.
+pub fn stored(is_typedef: bool, is_static: bool) -> Storage
+    ensures { storage_of result ≡ record { is_typedef = is_typedef; is_static = is_static } }
+{
+    Storage {
+        is_typedef,
+        is_static,
+    }
+}
 
 // The words of two places.
 fn both(one: Storage, two: Storage) -> Storage
     ensures { storage_of result ≡ both (storage_of one) (storage_of two) }
 {
-    Storage {
-        is_typedef: one.is_typedef || two.is_typedef,
-        is_static: one.is_static || two.is_static,
-    }
+    stored(
+        one.is_typedef || two.is_typedef,
+        one.is_static || two.is_static,
+    )
 }
 
 // What a token says that can stand around the base of locals, or of an item.
@@ -65,10 +57,10 @@ fn around(kind: Kind<'_>, of_item: bool) -> Option<Storage>
     ensures { option_map storage_of result ≡ says of_item (token_of kind.entry) }
 {
     match kind {
-        Kind::Word(Keyword::Const) => Some(NO_STORAGE),
-        Kind::Word(Keyword::Static) => Some(STATIC),
-        Kind::Word(Keyword::Extern | Keyword::Inline) if of_item => Some(NO_STORAGE),
-        Kind::Word(Keyword::Typedef) if of_item => Some(TYPEDEF),
+        Kind::Word(Keyword::Const) => Some(stored(false, false)),
+        Kind::Word(Keyword::Static) => Some(stored(false, true)),
+        Kind::Word(Keyword::Extern | Keyword::Inline) if of_item => Some(stored(false, false)),
+        Kind::Word(Keyword::Typedef) if of_item => Some(stored(true, false)),
         _ => None,
     }
 }
@@ -93,7 +85,7 @@ fn words(tokens: &mut Tokens<'_>, of_item: bool) -> (Storage, Option<usize>)
     ensures found { read_words of_item (list_of tokens.old.rest.now) ≡ Ok ((storage_of result.0, result.1), list_of tokens.new.rest.now) }
     ensures shorter { length tokens.new.rest.now ≤ length tokens.old.rest.now }
 {
-    let mut storage = NO_STORAGE;
+    let mut storage = stored(false, false);
     let mut first = None;
     'items: while let Some((said, place)) = take_word(tokens, of_item) {
         storage = both(storage, said);

@@ -1,6 +1,6 @@
 //! Parameters, and declarators in items (6.7.6, 6.9).
 
-ghost use Rattle.std.specs.Prelude.{◌≡◌, ◌≤◌, ◌<◌, IfOk, length, suc, map, option_map, [], false};
+ghost use Rattle.std.specs.Prelude.{◌≡◌, ◌≤◌, ◌<◌, IfOk, IfSome, IfNone, Ok, length, suc, map, option_map, [], true, false};
 ghost use Rattle.c_spec.specs.declared.token.Punctuator.TheVariants.{RightParenthesis};
 ghost use Rattle.c_grammar_spec.specs.declared.Role.TheVariants.{Nothing};
 ghost use Rattle.c_grammar_spec.specs.Expressions.{is_type_name};
@@ -17,37 +17,29 @@ ghost use Rattle.c_parse_token.specs.Lists.{list_of, names_of, Gives};
 ghost use Rattle.c_parse_expression.specs.Whole.{expressions};
 ghost use Rattle.c_parse_declaration.specs.Parts.{has_none, read_function};
 
-use crate::declaration::{NO_STORAGE, declared_name};
+use crate::declaration::{declared_name, stored};
 use c_grammar_spec::Role;
 use c_parse_expression::{dimensions, specifiers};
-use c_parse_token::{Fault, ParseError, Tokens, TypeNames, consts, pointer};
+use c_parse_token::{ParseError, Tokens, TypeNames, consts, pointer};
 use c_spec::token::{Keyword, Punctuator};
 use c_syntax::expression::{Base, Declarator, Dimensions, Name, Specifiers, boxed};
 use c_syntax::unit::{FunctionDeclarator, Global as GlobalDeclarator, Parameter};
 use c_token::Kind;
 use std::alloc::Global;
 
-// The next token is `void`.
-fn starts_void(tokens: &Tokens<'_>) -> bool
-    ensures { result ≡ next_is parameters.is_void (list_of tokens.now.rest.now) }
-{
-    match tokens.rest {
-        [first, ..] => matches!(first.kind, Kind::Word(Keyword::Void)),
-        [] => false,
-    }
-}
-
-// `void`: its place.
-fn void_word(tokens: &mut Tokens<'_>) -> Result<usize, ParseError>
-    ensures gives { Gives (token Nothing plain parameters.void_place (list_of tokens.old.rest.now)) (λ x. x) tokens.new.rest.now result }
-    ensures shorter { IfOk result (λ _. length tokens.old.rest.now ≡ suc (length tokens.new.rest.now)) }
+// `void`, if it is next: its place.
+fn take_void(tokens: &mut Tokens<'_>) -> Option<usize>
+    ensures taken { IfSome result (λ x. token Nothing plain parameters.void_place (list_of tokens.old.rest.now) ≡ Ok (x, list_of tokens.new.rest.now)) }
+    ensures was { IfSome result (λ _. next_is parameters.is_void (list_of tokens.old.rest.now) ≡ true) }
+    ensures shorter { IfSome result (λ _. length tokens.old.rest.now ≡ suc (length tokens.new.rest.now)) }
+    ensures none { IfNone result ((next_is parameters.is_void (list_of tokens.old.rest.now) ≡ false) × (tokens.new.rest.now ≡ tokens.old.rest.now)) }
 {
     match tokens.rest {
         [first, rest @ ..] if matches!(first.kind, Kind::Word(Keyword::Void)) => {
             tokens.rest = rest;
-            Ok(first.offset)
+            Some(first.offset)
         }
-        _ => Err(ParseError::At(Fault::Wrong(Role::Nothing))),
+        _ => None,
     }
 }
 
@@ -121,7 +113,7 @@ fn void_parameter<'t>(
 {
     consts(tokens);
     let base = Base::void(alloc)?;
-    let specifiers = Specifiers::new(alloc, NO_STORAGE, base, place)?;
+    let specifiers = Specifiers::new(alloc, stored(false, false), base, place)?;
     parameter_behind(alloc, tokens, names, depth, specifiers)
 }
 
@@ -187,11 +179,10 @@ fn parameters<'t>(
         tokens.mark(Punctuator::RightParenthesis, Role::Nothing)?;
         return Ok(());
     }
-    if !starts_void(tokens) {
+    let Some(place) = take_void(tokens) else {
         let first = parameter(alloc, tokens, names, depth)?;
         return more_parameters(alloc, tokens, names, depth, first, list);
-    }
-    let place = void_word(tokens)?;
+    };
     if tokens.next_is(Punctuator::RightParenthesis) {
         tokens.mark(Punctuator::RightParenthesis, Role::DeclaredName)?;
         return Ok(());

@@ -146,13 +146,9 @@ fn is_unary(x: &Expression<'_>) -> bool
     ensures { result ≡ values.is_unary (expression_of x.now) }
 {
     match x {
-        Expression::Conditional(_, _, _, _)
-        | Expression::Binary(_, _, _, _)
-        | Expression::Cast(_, _, _) => false,
-        Expression::Unary(_, _, _)
-        | Expression::Sizeof(_, _)
-        | Expression::SizeofType(_, _)
-        | Expression::Named(_)
+        Expression::Conditional(..) | Expression::Binary(..) | Expression::Cast(..) => false,
+        Expression::Unary(..) | Expression::Sizeof(..) | Expression::SizeofType(..) => true,
+        Expression::Named(_)
         | Expression::Number(_, _, _)
         | Expression::Character(_, _)
         | Expression::Bracketed(_, _)
@@ -323,6 +319,20 @@ fn assign_by<'t>(
     Ok(boxed(alloc, Simple::AssignBy(operator, target, operand, place))?)
 }
 
+// `++` or `--` behind a target.
+fn step_after<'t>(
+    alloc: Global,
+    tokens: &mut Tokens<'t>,
+    target: Box<Expression<'t>>,
+) -> Result<Box<Simple<'t>>, ParseError>
+    requires counted { tokens.old.count ≡ operators (expression_of target.value) }
+    ensures gives { Gives (values.read_step_after (expression_of target.entry.value) (list_of tokens.old.rest.now)) (λ x. simple_of x.value) tokens.new.rest.now result }
+    ensures shorter { IfOk result (λ _. length tokens.new.rest.now ≤ length tokens.old.rest.now) }
+{
+    let (operator, place) = step(tokens)?;
+    Ok(boxed(alloc, Simple::StepAfter(operator, target, place))?)
+}
+
 // What stands behind an expression that begins an expression statement, with it.
 fn simple_behind<'t>(
     alloc: Global,
@@ -344,8 +354,7 @@ fn simple_behind<'t>(
         return assign_by(alloc, tokens, names, depth, first);
     }
     if is_postfix(&first) && starts_step(tokens) {
-        let (operator, place) = step(tokens)?;
-        return Ok(boxed(alloc, Simple::StepAfter(operator, first, place))?);
+        return step_after(alloc, tokens, first);
     }
     let value = called(alloc, tokens, names, depth, first)?;
     Ok(boxed(alloc, Simple::Evaluate(value))?)

@@ -1,4 +1,4 @@
-use Rattle.std.proofs.Common.{◌≡◌, ◌<◌, length, drop, Ok, Some, arith, subst, sym}
+use Rattle.std.proofs.Common.{◌≡◌, ◌<◌, length, drop, Ok, Some, None, arith, subst, sym}
 use Rattle.std.specs.Prelude.{unwrap_or}
 use Rattle.c_syntax.specs.Names.{storage_of}
 use Rattle.c_parse_token.specs.Lists.{list_of}
@@ -8,7 +8,10 @@ use Rattle.c_parse_declaration.proofs.Words.{Words, words-start, words-step, wor
 use Rattle.c_parse_declaration.proofs.declaration.words.Goals as goal
 
 pub items-init : goal.items-init
-items-init c = record { going = words-start c.args.of_item (list_of c.args.tokens.now.rest.now); fewer = omega arith }
+items-init c = record {
+  going = subst (λ storage. Words c.args.of_item (read_words c.args.of_item (list_of c.args.tokens.now.rest.now)) storage None (list_of c.args.tokens.now.rest.now)) (sym c.stored-storage.ensures) (words-start c.args.of_item (list_of c.args.tokens.now.rest.now));
+  fewer = omega arith;
+}
 
 pub items-preserved : goal.items-preserved
 items-preserved c =
