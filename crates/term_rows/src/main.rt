@@ -49,6 +49,22 @@ fn ask_term(
     terms::answer(alloc, out, values, bank, read, id, question)
 }
 
+/// Answers a question over a bank.
+fn ask(
+    alloc: Global,
+    out: &mut String,
+    values: &mut Assignment,
+    bank: &mut Bank,
+    read: &mut Vec<TermId>,
+    text: &str,
+    question: Question<'_>,
+) -> Result<(), AllocError> {
+    match question.name {
+        "clauses" | "digest" | "model" => ask_goal(alloc, out, values, bank, read, text, question),
+        _ => ask_term(alloc, out, values, bank, read, text, question),
+    }
+}
+
 /// Adds what is found for a row.
 fn add_found(
     alloc: Global,
@@ -59,16 +75,13 @@ fn add_found(
 ) -> Result<(), AllocError> {
     let (first, text) = row.split_once(' ').unwrap_or((row, ""));
     let (name, detail) = first.split_once(':').unwrap_or((first, ""));
+    if name == "log" {
+        return logs::answer(alloc, out, words::number(detail), text);
+    }
     let mut bank = Bank::new(alloc);
     let mut read = Vec::new(alloc);
     let question = Question { name, detail, form };
-    match name {
-        "log" => logs::answer(alloc, out, words::number(detail), text),
-        "clauses" | "digest" | "model" => {
-            ask_goal(alloc, out, values, &mut bank, &mut read, text, question)
-        }
-        _ => ask_term(alloc, out, values, &mut bank, &mut read, text, question),
-    }
+    ask(alloc, out, values, &mut bank, &mut read, text, question)
 }
 
 /// Prints a row with its outcome.
