@@ -11,12 +11,12 @@ use Rattle.c_grammar_spec.specs.Expressions as grammar
 use Rattle.exact_read.specs.Grammar.{anything}
 use Rattle.c_expression_reader.specs.Readers.{Readers}
 use Rattle.c_expression_reader.specs.Types.{Head, head_word, head_of}
-use Rattle.c_declarator_reader.specs.Beside.{FirmBeside}
+use Rattle.c_type_reader.specs.Beside.{FirmBeside}
 use Rattle.c_type_reader.specs.Endings.{SpecifiersEnd, stop_specifiers}
 use Rattle.c_type_reader.specs.Exactness.{AllFirm}
 use Rattle.c_type_reader.specs.Specified.{rich_specified}
 use Rattle.c_type_reader.proofs.IntegerWords.{six}
-use Rattle.c_declarator_reader.proofs.Tokens.{leaves_of, TokenClass}
+use Rattle.c_type_reader.proofs.Tokens.{leaves_of, TokenClass}
 use Rattle.c_type_reader.proofs.TypeNames.{word_ends}
 use Rattle.c_type_reader.proofs.Specifiers.{Around, specified_same, roled-specified}
 use Rattle.c_declaration_reader.specs.Around.{spell_word, storage_of, word_of, is_word, word_at, LocalWord, LocalConst, LocalStatic, local_word, local_keyword, with_local, ItemWord, ItemConst, ItemTypedef, ItemExtern, ItemStatic, ItemInline, item_word, item_keyword, with_item, read_local_specifiers, read_item_specifiers}
@@ -161,18 +161,18 @@ item_words = record { back = item_back; self = item_self; sample = ItemConst; ad
 word_found : {W : Type 0} (of : Keyword → Option W) (t : Placed) → is_word of t.token ≡ true → is_some (word_at of t) ≡ true
 word_found of t e = let w = some_value (word_of of t.token) e in ap is_some (ap (option_map (λ v. (v, t.offset))) w.1)
 
-pub roled-local_specifiers : (names : List (List ℕ)) (inner : Readers) → AllFirm names inner → (depth : ℕ) → FirmBeside anything (SpecifiersEnd names grammar.InLocal depth) (stop_specifiers (is_word local_word)) (read_local_specifiers names inner depth)
+pub roled-local_specifiers : (names : List (List ℕ)) (inner : Readers) → AllFirm names inner → (depth : ℕ) → FirmBeside anything (SpecifiersEnd names grammar.InLocal depth grammar.Alone) (stop_specifiers (is_word local_word)) (read_local_specifiers names inner depth)
 roled-local_specifiers names inner all depth =
     record {
-      both = rich_specified (word_at local_word) (is_word local_word) (spell_word local_keyword) (storage_of with_local) names inner depth;
-      is = roled-specified (around local_words) (word_found local_word) names inner depth (λ d e. all.conditional (suc (suc depth)) 0) (λ d. all.conditional (suc depth) 0) (λ d. all.specifiers (suc depth));
-      same = specified_same (word_at local_word) (is_word local_word) (spell_word local_keyword) (storage_of with_local) names inner depth;
+      both = rich_specified (word_at local_word) (is_word local_word) (spell_word local_keyword) (storage_of with_local) names inner depth grammar.Alone;
+      is = roled-specified (around local_words) (word_found local_word) names inner depth grammar.Alone (λ d e count least. all.conditional (suc (suc depth)) count) (λ d count least. all.conditional (suc depth) count) (λ d counting least. all.specifiers (suc depth) counting);
+      same = specified_same (word_at local_word) (is_word local_word) (spell_word local_keyword) (storage_of with_local) names inner depth grammar.Alone;
     }
 
-pub roled-item_specifiers : (names : List (List ℕ)) (inner : Readers) → AllFirm names inner → (depth : ℕ) → FirmBeside anything (SpecifiersEnd names grammar.InItem depth) (stop_specifiers (is_word item_word)) (read_item_specifiers names inner depth)
+pub roled-item_specifiers : (names : List (List ℕ)) (inner : Readers) → AllFirm names inner → (depth : ℕ) → FirmBeside anything (SpecifiersEnd names grammar.InItem depth grammar.Alone) (stop_specifiers (is_word item_word)) (read_item_specifiers names inner depth)
 roled-item_specifiers names inner all depth =
     record {
-      both = rich_specified (word_at item_word) (is_word item_word) (spell_word item_keyword) (storage_of with_item) names inner depth;
-      is = roled-specified (around item_words) (word_found item_word) names inner depth (λ d e. all.conditional (suc (suc depth)) 0) (λ d. all.conditional (suc depth) 0) (λ d. all.specifiers (suc depth));
-      same = specified_same (word_at item_word) (is_word item_word) (spell_word item_keyword) (storage_of with_item) names inner depth;
+      both = rich_specified (word_at item_word) (is_word item_word) (spell_word item_keyword) (storage_of with_item) names inner depth grammar.Alone;
+      is = roled-specified (around item_words) (word_found item_word) names inner depth grammar.Alone (λ d e count least. all.conditional (suc (suc depth)) count) (λ d count least. all.conditional (suc depth) count) (λ d counting least. all.specifiers (suc depth) counting);
+      same = specified_same (word_at item_word) (is_word item_word) (spell_word item_keyword) (storage_of with_item) names inner depth grammar.Alone;
     }

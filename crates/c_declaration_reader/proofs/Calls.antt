@@ -17,9 +17,9 @@ use Rattle.c_expression_reader.specs.Types.{expressions_of}
 use Rattle.c_expression_reader.proofs.Marks.{one-mark, Behind, mark-one, mark-self, mark-passes, mark-some, roled-mark, roled-opened, roled-choice, map_begins, map_silent, one_first}
 use Rattle.c_expression_reader.proofs.Samples.{zero_tree, zero_text, zero_conditional}
 use Rattle.c_type_reader.specs.Exactness.{AllFirm}
-use Rattle.c_declarator_reader.proofs.Firsts.{conditional_first, first_not_mark}
+use Rattle.c_type_reader.proofs.Firsts.{conditional_first, first_not_mark}
 use Rattle.c_declaration_reader.specs.Values.{read_arguments, read_call}
-use Rattle.c_declaration_reader.proofs.Lists.{EndText, Lists, MoreText, next_before, end_stops, end_some, roled-end}
+use Rattle.c_type_reader.proofs.Lists.{EndText, Lists, MoreText, next_before, end_stops, end_some, roled-end}
 use Rattle.role_read.proofs.Basics.{roled-same}
 use Rattle.role_read.proofs.Then.{roled-then}
 use Rattle.c_expression_reader.specs.Firm.{Firm}

@@ -1,5 +1,4 @@
 pub mod Chosen
-pub mod Lists
 pub mod Trees
 pub mod Calls
 pub mod Values

@@ -10,13 +10,13 @@ use Rattle.exact_read.specs.Grammar.{Then, Map, One, none, some, anything, conte
 use Rattle.c_expression_reader.specs.Classes.{mark_place}
 use Rattle.c_expression_reader.proofs.Marks.{one-mark, mark-one, Behind}
 use Rattle.c_declaration_reader.specs.Declarations.{last_of, read_list_from}
-use Rattle.c_declaration_reader.proofs.Lists.{Before, MoreText, EndText, read_end, next_before, Lists, end_stops, end_some, roled-end, end_meets, end_not_empty}
+use Rattle.c_type_reader.proofs.Lists.{Before, MoreText, EndText, read_end, next_before, Lists, end_stops, end_some, roled-end, end_meets, end_not_empty}
 use Rattle.role_read.specs.Roles.{Roled}
 use Rattle.role_read.proofs.Basics.{Meets, roled-same}
 use Rattle.role_read.proofs.Then.{roled-then_within}
 use Rattle.c_expression_reader.specs.Firm.{Firm}
 use Rattle.c_expression_reader.proofs.Firm.{firm-map}
-use Rattle.c_declarator_reader.proofs.Listed.{meets_by}
+use Rattle.c_type_reader.proofs.Listed.{meets_by}
 
 abbrev pub no_step : {X : Type 0} → Unit {0} → X → Unit {0}
 no_step e x = tt {0}

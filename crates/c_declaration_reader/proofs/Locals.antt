@@ -7,7 +7,7 @@ use Rattle.c_tree_spec.specs.Unit as unit
 use Rattle.c_grammar_spec.specs.declared.Role.{Role}
 use Rattle.c_grammar_spec.specs.declared.Role.TheVariants.{DeclaredName, Nothing}
 use Rattle.c_grammar_spec.specs.Leaves.{Leaf, plain, marks, mark, awaited, named}
-use Rattle.c_grammar_spec.specs.Expressions.{Declarator, declarator, given, no_lengths, none as no_pointer, InLocal}
+use Rattle.c_grammar_spec.specs.Expressions.{Alone, Declarator, declarator, given, no_lengths, none as no_pointer, InLocal}
 use Rattle.c_grammar_spec.specs.Statements as grammar
 use Rattle.exact_read.specs.Reading.{plains, Stops}
 use Rattle.exact_read.specs.Grammar.{One, Map, Or, Nothing as Empty, nothing, first, second, Then, anything}
@@ -16,12 +16,12 @@ use Rattle.c_expression_reader.specs.Classes.{is_mark, mark_place}
 use Rattle.c_expression_reader.specs.Readers.{token, Readers, behind, choose}
 use Rattle.c_expression_reader.proofs.Marks.{Behind, one-mark, mark-one, mark-self, mark-passes, mark-some, roled-opened, roled-choose, behind_begins, behind_silent}
 use Rattle.c_expression_reader.proofs.Samples.{zero_tree, zero_text}
-use Rattle.c_declarator_reader.specs.Beside.{WithEnd}
+use Rattle.c_type_reader.specs.Beside.{WithEnd}
 use Rattle.c_type_reader.specs.Endings.{SpecifiersEnd, Ending, goes_on_with, stop_specifiers}
 use Rattle.c_type_reader.specs.Exactness.{AllFirm}
-use Rattle.c_declarator_reader.proofs.Beside.{roled-then_beside}
-use Rattle.c_declarator_reader.proofs.Fresh.{fresh, fresh_is}
-use Rattle.c_declarator_reader.proofs.Declarators.{DeclaratorFirst, declarator_first, begins_declarator, declares_other, roled-declarator}
+use Rattle.c_type_reader.proofs.Beside.{roled-then_beside}
+use Rattle.c_type_reader.proofs.Fresh.{fresh, fresh_is}
+use Rattle.c_type_reader.proofs.Declarators.{DeclaratorFirst, declarator_first, begins_declarator, declares_other, roled-declarator}
 use Rattle.c_type_reader.proofs.TypeFirsts.{declarator_stops}
 use Rattle.c_type_reader.proofs.Ended.{specified, with_end}
 use Rattle.c_declaration_reader.specs.Around.{is_word, local_word}
@@ -29,7 +29,7 @@ use Rattle.c_declaration_reader.specs.Declarations.{end_of_local, read_local, re
 use Rattle.c_declaration_reader.specs.Ends.{stop_value}
 use Rattle.c_declaration_reader.specs.Texts.{LocalsText}
 use Rattle.c_declaration_reader.proofs.Around.{roled-local_specifiers}
-use Rattle.c_declaration_reader.proofs.Lists.{Lists}
+use Rattle.c_type_reader.proofs.Lists.{Lists}
 use Rattle.c_declaration_reader.proofs.ListFrom.{same_part, Listed, last, more, Listing, text_listing, listing_text, roled-list_from}
 use Rattle.c_declaration_reader.proofs.Values.{zero_value, roled-value}
 use Rattle.role_read.proofs.Basics.{roled-stop, roled-enter, roled-same}
@@ -82,9 +82,9 @@ abbrev made_local : tree.Declarator × Option unit.Value → unit.Local
 made_local made = record { declarator = made.0; value = made.1 }
 
 abbrev RawLocal : (names : List (List ℕ)) → (depth : ℕ) → tree.Declarator × Option unit.Value → List Leaf → Type 0
-RawLocal names depth = Then (Declarator names false depth) (λ _. InitialText names depth)
+RawLocal names depth = Then (Declarator names false depth Alone) (λ _. InitialText names depth)
 
-raw_local : (names : List (List ℕ)) (depth : ℕ) (d : tree.Declarator) (v : Option unit.Value) (left right : List Leaf) → Declarator names false depth d left → InitialText names depth v right → LocalText names depth (made_local (d, v)) (left ++ right)
+raw_local : (names : List (List ℕ)) (depth : ℕ) (d : tree.Declarator) (v : Option unit.Value) (left right : List Leaf) → Declarator names false depth Alone d left → InitialText names depth v right → LocalText names depth (made_local (d, v)) (left ++ right)
 raw_local names depth d v left right h (first b) =
     let m = b.is_second in
     subst (λ l. LocalText names depth (made_local (d, v)) (left ++ l)) (sym (set_first names depth v right b))
@@ -105,7 +105,7 @@ abbrev stop_local : unit.Local → Placed → Bool
 stop_local local = stop_initial local.value
 
 sample_local : (names : List (List ℕ)) (depth : ℕ) → LocalText names depth (record { declarator = tree.Declared 0 (fresh names) false tree.no_expressions; value = None }) (awaited DeclaredName (named (fresh names)) ∷ [])
-sample_local names depth = grammar.unset depth (tree.Declared 0 (fresh names) false tree.no_expressions) (awaited DeclaredName (named (fresh names)) ∷ []) (declarator false depth 0 (fresh names) false tree.no_expressions [] [] (rw (fresh_is names) refl) no_pointer (given depth tree.no_expressions [] (no_lengths depth)))
+sample_local names depth = grammar.unset depth (tree.Declared 0 (fresh names) false tree.no_expressions) (awaited DeclaredName (named (fresh names)) ∷ []) (declarator false depth Alone 0 (fresh names) false tree.no_expressions [] [] (rw (fresh_is names) refl) no_pointer (given depth Alone tree.no_expressions [] (no_lengths depth Alone)))
 
 local_lists : (names : List (List ℕ)) (depth : ℕ) → Lists (same_part (LocalText names depth)) stop_local punctuator.Semicolon
 local_lists names depth = record { at_comma = at_comma; at_close = at_close; apart = refl; some = λ e. (_, _, sample_local names depth) }
@@ -172,13 +172,13 @@ abbrev made_locals : tree.Specifiers × List unit.Local → unit.Locals
 made_locals made = record { specifiers = made.0; locals = made.1 }
 
 abbrev RawLocals : (names : List (List ℕ)) → (depth : ℕ) → tree.Specifiers × List unit.Local → List Leaf → Type 0
-RawLocals names depth = Then (WithEnd (SpecifiersEnd names InLocal depth)) (λ _. ListingOf names depth)
+RawLocals names depth = Then (WithEnd (SpecifiersEnd names InLocal depth Alone)) (λ _. ListingOf names depth)
 
 text_locals : (names : List (List ℕ)) (depth : ℕ) (locals : unit.Locals) (text : List Leaf) → Map made_locals (RawLocals names depth) locals text → LocalsText names depth locals text
 text_locals names depth locals text m =
     let t = m.spells in
     let l = t.second in
-    let s = specified names InLocal depth m.inner.0 t.first.end t.left t.first.spells in
+    let s = specified names InLocal depth Alone m.inner.0 t.first.end t.left t.first.spells in
     let list : grammar.LocalList names depth m.inner.1 l.role l.inside = subst (λ (v : List unit.Local). grammar.LocalList names depth v l.role l.inside) (sym l.is) (listed_locals names depth l.head l.rest l.role l.inside l.spells) in
     record {
       role = l.role;
@@ -199,7 +199,7 @@ locals_by names depth locals role place inside (grammar.locals d s list e left r
         left = left;
         right = right ++ end;
         cut = append_assoc left right end;
-        first = with_end names InLocal d s left h;
+        first = with_end names InLocal d Alone s left h;
         second = record { head = l.head; rest = l.rest; role = e; inside = right; place = place; is = l.is; spells = l.spells; cut = refl };
       };
     }
@@ -209,8 +209,8 @@ locals_text names depth locals text l = subst (λ t. Map made_locals (RawLocals 
 
 -- a list of locals begins with a declarator
 local_first : (names : List (List ℕ)) (depth : ℕ) (x : unit.Local) (role : Role) (text : List Leaf) → grammar.Local names depth x role text → DeclaratorFirst text
-local_first names depth x role text (grammar.unset d y t h) = declarator_first names false d y t h
-local_first names depth x role text (grammar.set d y v t right place h k) = let f = declarator_first names false d y t h in record { leaf = f.leaf; more = f.more ++ plain (mark punctuator.Assign place) ∷ right; cut = ap (λ l. l ++ plain (mark punctuator.Assign place) ∷ right) f.cut; yes = f.yes }
+local_first names depth x role text (grammar.unset d y t h) = declarator_first names false d Alone y t h
+local_first names depth x role text (grammar.set d y v t right place h k) = let f = declarator_first names false d Alone y t h in record { leaf = f.leaf; more = f.more ++ plain (mark punctuator.Assign place) ∷ right; cut = ap (λ l. l ++ plain (mark punctuator.Assign place) ∷ right) f.cut; yes = f.yes }
 
 listed_first : (names : List (List ℕ)) (depth : ℕ) (x : unit.Local) (xs : List unit.Local) (role : Role) (text : List Leaf) → Listed (LocalText names depth) end_of_local x xs role text → DeclaratorFirst text
 listed_first names depth x xs role text (last y t h) = local_first names depth y (end_of_local y) t h
@@ -249,7 +249,7 @@ roled-local : (names : List (List ℕ)) (inner : Readers) → AllFirm names inne
 roled-local names inner all depth =
     roled-same anything (LocalText names depth) (read_local names inner depth) (λ t h. h) (text_local names depth) (λ local text h. (local_text names depth local (end_of_local local) text h).1) (λ tokens. refl)
     (firm-map made_local stop_local (λ made. refl)
-    (roled-then (roled-declarator (declares_other names) inner depth (λ d. all.conditional (suc depth) 0)) (λ d. roled-initial names inner all depth)
+    (roled-then (roled-declarator (declares_other names) inner depth Alone (λ d count least. all.conditional (suc depth) count)) (λ d. roled-initial names inner all depth)
     record {
       ends = λ d v left right rest one two stops. initial_ends names depth v right rest two stops;
       goes_on = λ d left one. (None, [], second nothing);

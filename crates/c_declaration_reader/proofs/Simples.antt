@@ -28,8 +28,8 @@ use Rattle.c_expression_reader.proofs.Suffixes.{Suffixed, placed, roled-suffixed
 use Rattle.c_expression_reader.proofs.Casts.{InsideText, opening, bracket_postfix}
 use Rattle.c_expression_reader.proofs.Unaries.{UnarySplit, is_plain, is_bracket, unary_split}
 use Rattle.c_type_reader.specs.Exactness.{AllFirm}
-use Rattle.c_declarator_reader.specs.Firsts.{begins_expression}
-use Rattle.c_declarator_reader.proofs.Firsts.{conditional_first, first_not}
+use Rattle.c_type_reader.specs.Firsts.{begins_expression}
+use Rattle.c_type_reader.proofs.Firsts.{conditional_first, first_not}
 use Rattle.c_declaration_reader.specs.Values.{assign_mark, assign_operator, step_mark, step_operator, is_postfix, is_unary, read_any_unary, read_assign, read_assign_by, read_step_after, read_called, read_simple_behind, read_step_before, read_simple}
 use Rattle.c_declaration_reader.specs.Ends.{stop_begun, stop_simple}
 use Rattle.c_declaration_reader.proofs.Trees.{unary_of, postfix_of, unary_is, postfix_is, conditional_unary, conditional_postfix}

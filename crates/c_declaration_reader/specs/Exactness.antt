@@ -10,7 +10,7 @@ use Rattle.c_expression_reader.specs.Budget.{enough}
 use Rattle.c_expression_reader.specs.Readers.{Readers}
 use Rattle.c_expression_reader.specs.Stops.{stop_cast}
 use Rattle.c_expression_reader.specs.Turns.{readers}
-use Rattle.c_declarator_reader.specs.Beside.{ExactBeside, FirmBeside}
+use Rattle.c_type_reader.specs.Beside.{ExactBeside, FirmBeside}
 use Rattle.c_type_reader.specs.Endings.{SpecifiersEnd, stop_specifiers}
 use Rattle.c_declaration_reader.specs.Around.{is_word, local_word, item_word, read_local_specifiers, read_item_specifiers}
 use Rattle.c_declaration_reader.specs.Values.{read_any_unary, read_value, read_simple}

@@ -11,7 +11,7 @@ use Rattle.c_tree_spec.specs.declared.UnaryOperator.TheVariants.{AddressOf, Dere
 use Rattle.c_tree_spec.specs.Expression as tree
 use Rattle.c_grammar_spec.specs.declared.Role.TheVariants.{OperandEnd, Nothing}
 use Rattle.c_grammar_spec.specs.Leaves.{Leaf, mark, word, operates, plain, brackets, number, marks, awaited, roles}
-use Rattle.c_grammar_spec.specs.Expressions.{unary_mark, Unary, Cast, TypeName, postfix, prefixed, sizeof_expression, sizeof_type, unary, cast}
+use Rattle.c_grammar_spec.specs.Expressions.{unary_mark, operators_of_type, Counting, Within, Unary, Cast, TypeName, postfix, prefixed, sizeof_expression, sizeof_type, unary, cast}
 use Rattle.exact_read.specs.Reading.{plains, Stops}
 use Rattle.exact_read.specs.Grammar.{One, Map, Or, first, second, anything, read_map}
 use Rattle.exact_read.specs.Folds.{base, step}
@@ -40,11 +40,14 @@ BracketText names depth count place = Suffixed names depth count (InsideText nam
 budget_bracket : (depth count c turns : ℕ) → needs depth count ≤ turns → suc depth ≤ 128 → count ≤ c → needs (suc depth) (suc c) + 3 ≤ turns
 budget_bracket depth count c turns h d l = omega arith
 
-budget_type : (depth count turns : ℕ) → needs depth count ≤ turns → suc depth ≤ 128 → needs (suc depth) 129 + 4 ≤ turns
+budget_type : (depth count turns : ℕ) → needs depth count ≤ turns → suc depth ≤ 128 → needs (suc depth) (suc count) + 4 ≤ turns
 budget_type depth count turns h d = omega arith
 
 budget_next : (depth count turns : ℕ) → needs depth count ≤ turns → suc count ≤ 128 → needs depth (suc count) + 8 ≤ turns
 budget_next depth count turns h l = omega arith
+
+budget_behind : (depth count more turns : ℕ) → needs depth count ≤ turns → suc count ≤ 128 → needs depth (suc count + more) + 2 ≤ turns
+budget_behind depth count more turns h l = omega arith
 
 inside_by : {names : List (List ℕ)} {inner : Readers} {turns : ℕ} → AreFirm names inner turns → (depth count : ℕ) → needs depth count ≤ turns → Inside names inner depth count
 inside_by {turns = turns} are depth count h c d l least = are.conditional (suc depth) (suc c) (budget_bracket depth count c turns h d least)
@@ -112,11 +115,11 @@ sizeof-one place k = record { token = word Sizeof k; is = refl; cut = refl }
 abbrev pub OperatorText : (names : List (List ℕ)) → (depth count : ℕ) → tree.Expression → List Leaf → Type 0
 OperatorText names depth count = Behind (One (operates (suc count)) (with_place unary_operator)) (λ o. Map (λ x. tree.Unary o.0 x o.1) (Cast names depth (suc count)))
 
-abbrev pub TypeText : (names : List (List ℕ)) → (depth : ℕ) → tree.TypeName → List Leaf → Type 0
-TypeText names depth = Closed plain punctuator.RightParenthesis (TypeName names (suc depth))
+abbrev pub TypeText : (names : List (List ℕ)) → (depth count : ℕ) → tree.TypeName → List Leaf → Type 0
+TypeText names depth count = Closed plain punctuator.RightParenthesis (TypeName names (suc depth) (Within count))
 
 abbrev pub SizedInside : (names : List (List ℕ)) → (depth count place opened : ℕ) → tree.Expression → List Leaf → Type 0
-SizedInside names depth count place opened = Or (Map (λ type. tree.SizeofType type place) (TypeText names depth)) (Map (λ x. tree.Sizeof x place) (BracketText names depth count opened))
+SizedInside names depth count place opened = Or (Map (λ type. tree.SizeofType type place) (TypeText names depth (suc count))) (Map (λ x. tree.Sizeof x place) (BracketText names depth count opened))
 
 abbrev pub SizedText : (names : List (List ℕ)) → (depth count place : ℕ) → tree.Expression → List Leaf → Type 0
 SizedText names depth count place =
@@ -262,9 +265,9 @@ true-not : (b : Bool) → true ≡ not (b && false)
 true-not true = refl
 true-not false = refl
 
-type_begins : (names : List (List ℕ)) → TypeFacts names → (depth : ℕ) (type : tree.TypeName) (text : List Leaf) → TypeText names depth type text → (u : Leaf) × (more : List Leaf) × (text ≡ u ∷ more) × (begins_type names u.token.token ≡ true)
-type_begins names facts depth type text c =
-    let b = facts.begins (suc depth) type c.inside c.spells in
+type_begins : (names : List (List ℕ)) → TypeFacts names → (depth count : ℕ) (type : tree.TypeName) (text : List Leaf) → TypeText names depth count type text → (u : Leaf) × (more : List Leaf) × (text ≡ u ∷ more) × (begins_type names u.token.token ≡ true)
+type_begins names facts depth count type text c =
+    let b = facts.begins (suc depth) (Within count) type c.inside c.spells in
     (b.0, b.1 ++ plain (mark punctuator.RightParenthesis c.close) ∷ [], c.cut ∙ ap (λ t. t ++ plain (mark punctuator.RightParenthesis c.close) ∷ []) b.2, b.3)
 
 open_first : (depth count : ℕ) {X : Type 0} (S2 : ℕ → X → List Leaf → Type 0) (x : X) (text : List Leaf) → Behind (One (brackets (suc depth) (suc count)) (mark_place punctuator.LeftParenthesis)) S2 x text → (u : Leaf) × (more : List Leaf) × (text ≡ u ∷ more) × (is_mark punctuator.LeftParenthesis u.token.token ≡ true)
@@ -276,7 +279,7 @@ sizeof_second names depth count x text rest (second h) = let f = atom_first name
 
 -- casts
 abbrev pub ConvertedText : (names : List (List ℕ)) → (depth count place : ℕ) → tree.Expression → List Leaf → Type 0
-ConvertedText names depth count place = Behind (TypeText names depth) (λ type. Map (λ x. tree.Cast type x place) (Cast names depth (suc count)))
+ConvertedText names depth count place = Behind (TypeText names depth (suc count)) (λ type. Map (λ x. tree.Cast type x place) (Cast names depth (suc count + operators_of_type type)))
 
 abbrev pub CastInside : (names : List (List ℕ)) → (depth count place : ℕ) → tree.Expression → List Leaf → Type 0
 CastInside names depth count place = Or (ConvertedText names depth count place) (BracketText names depth count place)
@@ -335,19 +338,19 @@ roled-postfix : (names : List (List ℕ)) (inner : Readers) (depth count : ℕ) 
 roled-postfix names inner depth count inside =
     roled-suffixed names inner depth count inside (atom_ends names) (firm-one anything plain (atom_at names) Nothing (λ t. refl) (λ t. refl) (number 0 SignedInt 0) zero_tree refl)
 
-roled-type : {names : List (List ℕ)} {inner : Readers} {turns : ℕ} → AreFirm names inner turns → (depth count : ℕ) → needs depth count ≤ turns → suc depth ≤ 128 → Firm anything (TypeText names depth) (λ _. anything) (read_type inner depth)
-roled-type {turns = turns} are depth count h d = are.type_name (suc depth) (budget_type depth count turns h d)
+roled-type : {names : List (List ℕ)} {inner : Readers} {turns : ℕ} → AreFirm names inner turns → (depth count : ℕ) → needs depth count ≤ turns → suc depth ≤ 128 → Firm anything (TypeText names depth (suc count)) (λ _. anything) (read_type inner depth (suc count))
+roled-type {turns = turns} are depth count h d = are.type_name (suc depth) (Within (suc count)) (budget_type depth count turns h d)
 
-begin_type : (names : List (List ℕ)) → TypeRoles names → (depth : ℕ) (t : Placed) → begins_type names t.token ≡ true → Begins marks (TypeText names depth) t
-begin_type names types depth t e =
-    let b = types.begins (suc depth) t e in
+begin_type : (names : List (List ℕ)) → TypeRoles names → (depth count : ℕ) (t : Placed) → begins_type names t.token ≡ true → Begins marks (TypeText names depth count) t
+begin_type names types depth count t e =
+    let b = types.begins (suc depth) (Within count) t e in
     closed_begins plain punctuator.RightParenthesis t (record { value = b.type; first = b.first; more = b.more; spells = b.spells; is = b.is })
 
-type_some : (names : List (List ℕ)) → TypeFacts names → (depth : ℕ) (type : tree.TypeName) → TypeName names depth type [] → ⊥
-type_some names facts depth type h = let b = facts.begins depth type [] h in let e : [] ≡ b.0 ∷ b.1 = b.2 in cc
+type_some : (names : List (List ℕ)) → TypeFacts names → (depth : ℕ) (counting : Counting) (type : tree.TypeName) → TypeName names depth counting type [] → ⊥
+type_some names facts depth counting type h = let b = facts.begins depth counting type [] h in let e : [] ≡ b.0 ∷ b.1 = b.2 in cc
 
-type_silent : (names : List (List ℕ)) → TypeFacts names → TypeRoles names → (depth : ℕ) → Silent marks roles (TypeText names depth)
-type_silent names facts types depth = closed_silent plain punctuator.RightParenthesis (type_some names facts (suc depth)) (types.silent (suc depth))
+type_silent : (names : List (List ℕ)) → TypeFacts names → TypeRoles names → (depth count : ℕ) → Silent marks roles (TypeText names depth count)
+type_silent names facts types depth count = closed_silent plain punctuator.RightParenthesis (type_some names facts (suc depth) (Within count)) (types.silent (suc depth) (Within count))
 
 -- what stands behind the brackets and operators that begin an expression
 some_sized : (names : List (List ℕ)) (depth count place opened : ℕ) → (x : tree.Expression) × (right : List Leaf) × SizedInside names depth count place opened x right
@@ -360,8 +363,8 @@ some_prefixed names depth count o = (tree.Unary o.0 zero_tree o.1, zero_text, re
 some_sizeof : (names : List (List ℕ)) (depth count place : ℕ) → (x : tree.Expression) × (right : List Leaf) × SizedText names depth (suc count) place x right
 some_sizeof names depth count place = (tree.Sizeof zero_tree place, zero_text, second (record { inner = zero_tree; is = refl; spells = zero_plain names depth (suc count) }))
 
-some_converted : (names : List (List ℕ)) (depth count place : ℕ) (type : tree.TypeName) → (x : tree.Expression) × (right : List Leaf) × Map (λ x. tree.Cast type x place) (Cast names depth (suc count)) x right
-some_converted names depth count place type = (tree.Cast type zero_tree place, zero_text, record { inner = zero_tree; is = refl; spells = zero_cast names depth (suc count) })
+some_converted : (names : List (List ℕ)) (depth count place : ℕ) (type : tree.TypeName) → (x : tree.Expression) × (right : List Leaf) × Map (λ x. tree.Cast type x place) (Cast names depth (suc count + operators_of_type type)) x right
+some_converted names depth count place type = (tree.Cast type zero_tree place, zero_text, record { inner = zero_tree; is = refl; spells = zero_cast names depth (suc count + operators_of_type type) })
 
 some_cast : (names : List (List ℕ)) (depth count place : ℕ) → (x : tree.Expression) × (right : List Leaf) × CastInside names depth count place x right
 some_cast names depth count place =
@@ -371,14 +374,14 @@ sizeof-some : (k : Token) (o : ℕ) → is_sizeof k ≡ true → cond (is_sizeof
 sizeof-some k o e = rw e refl
 
 roled-sized_inside : {names : List (List ℕ)} {inner : Readers} {turns : ℕ} → TypeFacts names → TypeRoles names → AreFirm names inner turns → (depth count place opened : ℕ) → needs depth count ≤ turns → suc depth ≤ 128 → suc count ≤ 128
-    → Firm anything (SizedInside names depth count place opened) stop_cast (choose (begins_type names) (read_map (λ type. tree.SizeofType type place) (read_type inner depth)) (read_map (λ x. tree.Sizeof x place) (read_bracketed inner depth count opened)))
+    → Firm anything (SizedInside names depth count place opened) stop_cast (choose (begins_type names) (read_map (λ type. tree.SizeofType type place) (read_type inner depth (suc count))) (read_map (λ x. tree.Sizeof x place) (read_bracketed inner depth count opened)))
 roled-sized_inside {names} {inner} {turns} facts types are depth count place opened h d l =
     roled-choice (begins_type names)
     record {
-      first_begins = λ x text m. type_begins names facts depth m.inner text m.spells;
+      first_begins = λ x text m. type_begins names facts depth (suc count) m.inner text m.spells;
       second_begins = λ x text rest m stops. let n = bracket_no names depth count opened m.inner text m.spells in stops_first (begins_type names) text n.leaf n.more rest n.cut n.no;
     }
-    (λ t e. map_begins (λ type. tree.SizeofType type place) t (begin_type names types depth t e)) (map_silent (λ type. tree.SizeofType type place) (type_silent names facts types depth))
+    (λ t e. map_begins (λ type. tree.SizeofType type place) t (begin_type names types depth (suc count) t e)) (map_silent (λ type. tree.SizeofType type place) (type_silent names facts types depth (suc count)))
     (firm-map (λ type. tree.SizeofType type place) stop_cast (λ type. refl) (roled-stop (λ _ t. not (is_suffix t.token && false)) (λ type text m t. true-not (is_suffix t.token)) (roled-type are depth count h d)))
     (firm-map (λ x. tree.Sizeof x place) stop_cast (λ x. refl) (roled-bracket names inner depth count opened d l (inside_by are depth count h)))
 
@@ -433,20 +436,20 @@ roled-cast_inside : {names : List (List ℕ)} {inner : Readers} {turns : ℕ} �
 roled-cast_inside {names} {inner} {turns} facts types are depth count place h d l =
     roled-choice (begins_type names)
     record {
-      first_begins = λ x text b. let f = type_begins names facts depth b.first b.left b.is_first in (f.0, f.1 ++ b.right, b.cut ∙ ap (λ t. t ++ b.right) f.2, f.3);
+      first_begins = λ x text b. let f = type_begins names facts depth (suc count) b.first b.left b.is_first in (f.0, f.1 ++ b.right, b.cut ∙ ap (λ t. t ++ b.right) f.2, f.3);
       second_begins = λ x text rest one stops. let n = bracket_no names depth count place x text one in stops_first (begins_type names) text n.leaf n.more rest n.cut n.no;
     }
-    (λ t e. first_begins t (begin_type names types depth t e) (some_converted names depth count place)) (first_silent (λ type c. no_closed type c) (type_silent names facts types depth))
+    (λ t e. first_begins t (begin_type names types depth (suc count) t e) (some_converted names depth count place)) (first_silent (λ type c. no_closed type c) (type_silent names facts types depth (suc count)))
     (roled-behind (roled-type are depth count h d)
-    (λ type left one within. roled-enter anything (firm-map (λ x. tree.Cast type x place) stop_cast (λ x. refl) (are.cast depth (suc count) (let next = budget_next depth count turns h l in omega arith))))
+    (λ type left one within. roled-enter anything (firm-map (λ x. tree.Cast type x place) stop_cast (λ x. refl) (are.cast depth (suc count + operators_of_type type) (budget_behind depth count (operators_of_type type) turns h l))))
     record {
       ends = λ type x left right rest one two stops. stops_anything (plains marks right ++ rest);
       goes_on = λ type left one. some_converted names depth count place type;
     })
     (roled-bracket names inner depth count place d l (inside_by are depth count h))
   where
-    no_closed : (type : tree.TypeName) → TypeText names depth type [] → ⊥
-    no_closed type c = let b = type_begins names facts depth type [] c in let e : [] ≡ b.0 ∷ b.1 = b.2 in cc
+    no_closed : (type : tree.TypeName) → TypeText names depth (suc count) type [] → ⊥
+    no_closed type c = let b = type_begins names facts depth (suc count) type [] c in let e : [] ≡ b.0 ∷ b.1 = b.2 in cc
 
 pub roled-cast : {names : List (List ℕ)} {inner : Readers} {turns : ℕ} → TypeFacts names → TypeRoles names → AreFirm names inner turns → (depth count : ℕ) → needs depth count + 1 ≤ turns → Firm anything (Cast names depth count) stop_cast (read_cast names inner depth count)
 roled-cast {names} {inner} {turns} facts types are depth count h =

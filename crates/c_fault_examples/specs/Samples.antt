@@ -4,9 +4,7 @@ use Rattle.c_spec.specs.declared.token.Keyword.TheVariants as keyword
 use Rattle.c_spec.specs.declared.token.NumberType.TheVariants.{SignedInt}
 use Rattle.c_spec.specs.declared.token.Punctuator.TheVariants as punctuator
 use Rattle.c_spec.specs.Lexical.{Placed}
-use Rattle.c_grammar_spec.specs.declared.LeftOut.TheVariants as left_out
 use Rattle.c_grammar_spec.specs.declared.ParseFaultKind.{ParseFaultKind}
-use Rattle.c_grammar_spec.specs.declared.ParseFaultKind.TheVariants.{Unexpected, LeftOut}
 use Rattle.c_grammar_spec.specs.Faults.{IsFault, offset_of}
 use Rattle.c_grammar_spec.specs.Leaves.{mark, word, named, number}
 

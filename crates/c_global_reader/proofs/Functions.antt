@@ -17,7 +17,7 @@ use Rattle.c_expression_reader.specs.Classes.{is_mark, mark_place}
 use Rattle.c_expression_reader.proofs.Marks.{Behind}
 use Rattle.c_type_reader.specs.Endings.{WordsAround, BraceToo, WordsToo}
 use Rattle.c_type_reader.proofs.TypeFirsts.{specifiers_first}
-use Rattle.c_declaration_reader.proofs.Lists.{Lists}
+use Rattle.c_type_reader.proofs.Lists.{Lists}
 use Rattle.c_declaration_reader.proofs.ListFrom.{same_part, ListText, Listed, last, more, text_listing}
 use Rattle.c_global_reader.specs.Parameters.{end_of_parameter, ParameterRest, parameter_of, void_at, is_void, void_place}
 use Rattle.c_global_reader.specs.Texts.{ParametersText}
@@ -57,7 +57,7 @@ at_close names (p, BraceToo) place = rest_at names (after_specifiers BraceToo) p
 at_close names (p, WordsToo words) place = rest_at names (after_specifiers (WordsToo words)) punctuator.RightParenthesis place refl refl refl (rest_of p)
 
 rest_none : (names : List (List ℕ)) (depth : ℕ) → RestText names depth (0, (None, (false, tree.no_expressions))) []
-rest_none names depth = record { left = []; right = []; cut = refl; first = part.none; second = record { left = []; right = []; cut = refl; first = grammar.none; second = part.given depth tree.no_expressions [] (part.no_lengths depth) } }
+rest_none names depth = record { left = []; right = []; cut = refl; first = part.none; second = record { left = []; right = []; cut = refl; first = grammar.none; second = part.given depth part.Alone tree.no_expressions [] (part.no_lengths depth part.Alone) } }
 
 abbrev pub some_pair : Ended
 some_pair = (parameter_of (void_at 0) (0, (None, (false, tree.no_expressions))), WordsAround)
@@ -145,8 +145,8 @@ plain_grammar names depth list text r leaf others starts e =
     }
   where
     listed_some : (x : Ended) (xs : List Ended) (role : Role) (t : List Leaf) → Listed (ParameterText names depth) end_of x xs role t → (u : Leaf) × (o : List Leaf) × (t ≡ u ∷ o)
-    listed_some x xs role t (last y s h) = let f = specifiers_first names depth y.0.specifiers y.1 h.left h.are_specifiers in (f.leaf, f.more ++ h.right, h.cut ∙ ap (λ l. l ++ h.right) f.cut)
-    listed_some x xs role t (more y z zs q s right comma h k) = let f = specifiers_first names depth y.0.specifiers y.1 h.left h.are_specifiers in (f.leaf, (f.more ++ h.right) ++ awaited (end_of y) (mark punctuator.Comma comma) ∷ right, ap (λ l. l ++ awaited (end_of y) (mark punctuator.Comma comma) ∷ right) (h.cut ∙ ap (λ l. l ++ h.right) f.cut))
+    listed_some x xs role t (last y s h) = let f = specifiers_first names depth part.Alone y.0.specifiers y.1 h.left h.are_specifiers in (f.leaf, f.more ++ h.right, h.cut ∙ ap (λ l. l ++ h.right) f.cut)
+    listed_some x xs role t (more y z zs q s right comma h k) = let f = specifiers_first names depth part.Alone y.0.specifiers y.1 h.left h.are_specifiers in (f.leaf, (f.more ++ h.right) ++ awaited (end_of y) (mark punctuator.Comma comma) ∷ right, ap (λ l. l ++ awaited (end_of y) (mark punctuator.Comma comma) ∷ right) (h.cut ∙ ap (λ l. l ++ h.right) f.cut))
 
     inside_no_void : (inside : List Leaf) (role : Role) (place : ℕ) → inside ++ awaited role (mark punctuator.RightParenthesis place) ∷ [] ≡ leaf ∷ others → (u : Leaf) × (o : List Leaf) × (inside ≡ u ∷ o) → grammar.is_void inside ≡ false
     inside_no_void inside role place starts (u, o, cut) =

@@ -16,10 +16,10 @@ use Rattle.c_expression_reader.specs.Readers.{token, Readers}
 use Rattle.c_expression_reader.specs.Types.{plain_name_at}
 use Rattle.c_expression_reader.proofs.Marks.{Behind, one-mark, mark-one, mark-self, roled-opened, mark-some, behind_begins, behind_silent, map_begins, map_silent, roled-behind}
 use Rattle.c_type_reader.specs.Exactness.{AllFirm}
-use Rattle.c_declarator_reader.proofs.Fresh.{fresh, fresh_is}
-use Rattle.c_declarator_reader.proofs.Pointers.{stop_pointer}
-use Rattle.c_declarator_reader.proofs.Dimensions.{stop_dimensions, roled-dimensions_from}
-use Rattle.c_declarator_reader.proofs.Declarators.{declares_other, name_leaf, leaf_name, plain-self, name_stops}
+use Rattle.c_type_reader.proofs.Fresh.{fresh, fresh_is}
+use Rattle.c_type_reader.proofs.Pointers.{stop_pointer}
+use Rattle.c_type_reader.proofs.Dimensions.{stop_dimensions, roled-dimensions_from}
+use Rattle.c_type_reader.proofs.Declarators.{declares_other, name_leaf, leaf_name, plain-self, name_stops}
 use Rattle.c_declaration_reader.proofs.Chosen.{Allowed, roled-allowed}
 use Rattle.c_global_reader.specs.Parameters.{read_function, read_global}
 use Rattle.c_global_reader.specs.Texts.{ParametersText, no_function, stop_lengths, stop_global}
@@ -28,7 +28,7 @@ use Rattle.role_read.proofs.Basics.{roled-stop, roled-enter, roled-same}
 use Rattle.role_read.proofs.Then.{roled-then}
 use Rattle.c_expression_reader.specs.Firm.{Firm}
 use Rattle.c_expression_reader.proofs.Firm.{firm-map, firm-one}
-use Rattle.c_declarator_reader.proofs.Plain.{roled-pointer}
+use Rattle.c_type_reader.proofs.Plain.{roled-pointer}
 
 -- behind the name of a function
 abbrev FunctionText : (names : List (List ℕ)) → (depth pointers : ℕ) → tree.Name → unit.FunctionDeclarator → List Leaf → Type 0
@@ -41,7 +41,7 @@ abbrev object : Named → Bool × tree.Expressions → unit.Global
 object made d = unit.Object (tree.Declared made.0 made.1 d.0 d.1)
 
 abbrev DimensionsOf : (names : List (List ℕ)) → Bool × tree.Expressions → List Leaf → Type 0
-DimensionsOf names pair text = part.Dimensions names 0 pair.0 pair.1 text
+DimensionsOf names pair text = part.Dimensions names 0 part.Alone pair.0 pair.1 text
 
 abbrev BehindName : (names : List (List ℕ)) → (is_typedef : Bool) → Named → unit.Global → List Leaf → Type 0
 BehindName names is_typedef made = Or (Allowed (not is_typedef) (Map (λ f. unit.Function f) (FunctionText names 0 made.0 made.1))) (Map (object made) (DimensionsOf names))
@@ -60,14 +60,14 @@ and-left false b h = absurd (cc)
 object_second : (names : List (List ℕ)) (is_typedef : Bool) (made : Named) (d : Bool × tree.Expressions) (text : List Leaf) (rest : List Placed) → DimensionsOf names d text → Stops (stop_dimensions (no_function is_typedef) d) rest → Stops (no_function is_typedef) (plains marks text ++ rest)
 object_second names is_typedef made (is_open, lengths) text rest h stops = by_dimensions is_open lengths text h rest stops
   where
-    by_lengths : (l : tree.Expressions) (t : List Leaf) → part.Lengths names 0 l t → (rest : List Placed) → Stops (stop_dimensions (no_function is_typedef) (false, l)) rest → Stops (no_function is_typedef) (plains marks t ++ rest)
-    by_lengths l t (part.no_lengths d) [] stops = tt
-    by_lengths l t (part.no_lengths d) (p ∷ rest) stops = and-left (no_function is_typedef p) (not (is_mark punctuator.LeftBracket p.token)) stops
-    by_lengths l t (part.some_length d x r inside right place close h k) rest stops = no_bits (not is_typedef)
+    by_lengths : (l : tree.Expressions) (t : List Leaf) → part.Lengths names 0 part.Alone l t → (rest : List Placed) → Stops (stop_dimensions (no_function is_typedef) (false, l)) rest → Stops (no_function is_typedef) (plains marks t ++ rest)
+    by_lengths l t (part.no_lengths d c) [] stops = tt
+    by_lengths l t (part.no_lengths d c) (p ∷ rest) stops = and-left (no_function is_typedef p) (not (is_mark punctuator.LeftBracket p.token)) stops
+    by_lengths l t (part.some_length d c x r inside right place close h k) rest stops = no_bits (not is_typedef)
 
-    by_dimensions : (is_open : Bool) (l : tree.Expressions) (t : List Leaf) → part.Dimensions names 0 is_open l t → (rest : List Placed) → Stops (stop_dimensions (no_function is_typedef) (is_open, l)) rest → Stops (no_function is_typedef) (plains marks t ++ rest)
-    by_dimensions is_open l t (part.given d ls s h) rest stops = by_lengths ls s h rest stops
-    by_dimensions is_open l t (part.left_out d ls s place close h) rest stops = no_bits (not is_typedef)
+    by_dimensions : (is_open : Bool) (l : tree.Expressions) (t : List Leaf) → part.Dimensions names 0 part.Alone is_open l t → (rest : List Placed) → Stops (stop_dimensions (no_function is_typedef) (is_open, l)) rest → Stops (no_function is_typedef) (plains marks t ++ rest)
+    by_dimensions is_open l t (part.given d c ls s h) rest stops = by_lengths ls s h rest stops
+    by_dimensions is_open l t (part.left_out d c ls s place close h) rest stops = no_bits (not is_typedef)
 
 lengths_same : (is_typedef : Bool) (d : Bool × tree.Expressions) (t : Placed) → stop_dimensions (no_function is_typedef) d t ≡ stop_lengths is_typedef d.0 d.1 t
 lengths_same is_typedef (true, lengths) t = refl
@@ -94,7 +94,7 @@ text_global names is_typedef g text b =
     (by_way b.first t.left b.right t.first n.1 b.is_second)
   where
     by_way : (made : Named) (stars right : List Leaf) → part.Pointer made.0 stars → part.can_declare false names made.1.spelling ≡ true → BehindName names is_typedef made g right → grammar.GlobalDeclarator names is_typedef g (stars ++ awaited DeclaredName (named made.1) ∷ right)
-    by_way made stars right h can (second m) = rw m.is (grammar.object is_typedef (tree.Declared made.0 made.1 m.inner.0 m.inner.1) (stars ++ awaited DeclaredName (named made.1) ∷ right) (part.declarator false 0 made.0 made.1 m.inner.0 m.inner.1 stars right can h m.spells))
+    by_way made stars right h can (second m) = rw m.is (grammar.object is_typedef (tree.Declared made.0 made.1 m.inner.0 m.inner.1) (stars ++ awaited DeclaredName (named made.1) ∷ right) (part.declarator false 0 part.Alone made.0 made.1 m.inner.0 m.inner.1 stars right can h m.spells))
     by_way made stars right h can (first a) =
         let m = a.spells in
         let f = m.spells in
@@ -106,14 +106,14 @@ text_global names is_typedef g text b =
         (rw (m.is, l.is) (grammar.function (record { pointers = made.0; name = made.1; parameters = l.inner }) _ (grammar.function 0 made.0 made.1 l.inner p.role stars p.inside f.first p.place (can_plain names made.1 can) h p.spells))))
 
 -- and back
-object_back : (names : List (List ℕ)) (is_typedef is_member : Bool) (depth : ℕ) (d : tree.Declarator) (text : List Leaf) → part.Declarator names is_member depth d text → is_member ≡ false → depth ≡ 0 → Behind (NamedText names) (λ made. BehindName names is_typedef made) (unit.Object d) text
-object_back names is_typedef is_member depth d text (part.declarator m e p n is_open lengths stars dimensions can h k) no_member at_top =
+object_back : (names : List (List ℕ)) (is_typedef is_member : Bool) (depth : ℕ) (d : tree.Declarator) (text : List Leaf) → part.Declarator names is_member depth part.Alone d text → is_member ≡ false → depth ≡ 0 → Behind (NamedText names) (λ made. BehindName names is_typedef made) (unit.Object d) text
+object_back names is_typedef is_member depth d text (part.declarator m e c p n is_open lengths stars dimensions can h k) no_member at_top =
     record {
       first = (p, n);
       left = stars ++ awaited DeclaredName (named n) ∷ [];
       right = dimensions;
       is_first = record { left = stars; right = awaited DeclaredName (named n) ∷ []; cut = refl; first = h; second = leaf_name (declares_other names) n (subst (λ (b : Bool). part.can_declare b names n.spelling ≡ true) no_member can) };
-      is_second = second (record { inner = (is_open, lengths); is = refl; spells = subst (λ (i : ℕ). part.Dimensions names i is_open lengths dimensions) at_top k });
+      is_second = second (record { inner = (is_open, lengths); is = refl; spells = subst (λ (i : ℕ). part.Dimensions names i part.Alone is_open lengths dimensions) at_top k });
       cut = sym (append_assoc stars (awaited DeclaredName (named n) ∷ []) dimensions);
     }
 
@@ -146,7 +146,7 @@ roled-behind_name : (names : List (List ℕ)) (inner : Readers) (all : AllFirm n
     → Firm anything (BehindName names is_typedef made) (stop_global is_typedef)
     (Rattle.c_expression_reader.specs.Readers.choose (λ next. not is_typedef && is_mark punctuator.LeftParenthesis next)
     (Rattle.exact_read.specs.Grammar.read_map (λ function. unit.Function function) (read_function names inner 0 made.0 made.1))
-    (Rattle.exact_read.specs.Grammar.read_map (λ dimensions. unit.Object (tree.Declared made.0 made.1 dimensions.0 dimensions.1)) (Rattle.c_expression_reader.specs.Types.read_dimensions inner 0)))
+    (Rattle.exact_read.specs.Grammar.read_map (λ dimensions. unit.Object (tree.Declared made.0 made.1 dimensions.0 dimensions.1)) (Rattle.c_expression_reader.specs.Types.read_dimensions inner 0 part.Alone)))
 roled-behind_name names inner all is_typedef made =
     roled-allowed (not is_typedef) (is_mark punctuator.LeftParenthesis)
     (λ g text m. let b = m.spells in (opens 1 (mark punctuator.LeftParenthesis b.first), b.right, b.cut ∙ ap (λ l. l ++ b.right) (one-mark punctuator.LeftParenthesis (opens 1) b.first b.left b.is_first), refl))
@@ -154,7 +154,7 @@ roled-behind_name names inner all is_typedef made =
     (λ t e. map_begins (λ f. unit.Function f) t (behind_begins (mark_place punctuator.LeftParenthesis) (opens 1) (λ t. refl) t t.offset (mark-some punctuator.LeftParenthesis t e) (some_function names 0 made.0 made.1)))
     (map_silent (λ f. unit.Function f) (behind_silent (mark_place punctuator.LeftParenthesis) (opens 1) (λ t. refl)))
     (roled-enter (both anything (λ t. is_mark punctuator.LeftParenthesis t.token)) (firm-map (λ f. unit.Function f) (stop_global is_typedef) (λ f. refl) (roled-function names inner all 0 made.0 made.1)))
-    (firm-map (object made) (stop_global is_typedef) (λ d. refl) (roled-stop (λ (d : Bool × tree.Expressions) t. stop_lengths is_typedef d.0 d.1 t) (λ d text h t. lengths_same is_typedef d t) (roled-dimensions_from names inner 0 (no_function is_typedef) (λ d. all.conditional 1 0))))
+    (firm-map (object made) (stop_global is_typedef) (λ d. refl) (roled-stop (λ (d : Bool × tree.Expressions) t. stop_lengths is_typedef d.0 d.1 t) (λ d text h t. lengths_same is_typedef d t) (roled-dimensions_from names inner 0 part.Alone (no_function is_typedef) (λ d count least. all.conditional 1 count))))
   where
     stops_same : (d : Bool × tree.Expressions) (rest : List Placed) → Stops (stop_lengths is_typedef d.0 d.1) rest → Stops (stop_dimensions (no_function is_typedef) d) rest
     stops_same d [] h = tt
@@ -171,5 +171,5 @@ roled-global names inner all is_typedef =
     (λ made left h w. roled-behind_name names inner all is_typedef made)
     record {
       ends = λ made g left right rest one two stops. stops_anything (plains marks right ++ rest);
-      goes_on = λ made left one. (object made (false, tree.no_expressions), [], second (record { inner = (false, tree.no_expressions); is = refl; spells = part.given 0 tree.no_expressions [] (part.no_lengths 0) }));
+      goes_on = λ made left one. (object made (false, tree.no_expressions), [], second (record { inner = (false, tree.no_expressions); is = refl; spells = part.given 0 part.Alone tree.no_expressions [] (part.no_lengths 0 part.Alone) }));
     })

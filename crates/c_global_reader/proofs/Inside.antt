@@ -18,7 +18,7 @@ use Rattle.c_expression_reader.specs.Classes.{is_mark, mark_place}
 use Rattle.c_expression_reader.specs.Readers.{token, Readers, choose}
 use Rattle.c_expression_reader.proofs.Marks.{one-mark, mark-one, one_first, mark-some, roled-mark, roled-opened, roled-choose, roled-choice, behind_begins, behind_silent, map_begins, map_silent}
 use Rattle.c_type_reader.specs.Exactness.{AllFirm}
-use Rattle.c_declarator_reader.proofs.Tokens.{leaves_of}
+use Rattle.c_type_reader.proofs.Tokens.{leaves_of}
 use Rattle.c_type_reader.proofs.TypeFirsts.{specifiers_first}
 use Rattle.c_declaration_reader.specs.Declarations.{last_of, read_list_from}
 use Rattle.c_declaration_reader.proofs.ListFrom.{listed, OthersText, list_split, roled-list_from}
@@ -35,9 +35,9 @@ use Rattle.role_read.proofs.Basics.{Meets, roled-same, roled-enter}
 use Rattle.role_read.proofs.Begins.{Silent, Begins, begun_enters, silent_next}
 use Rattle.c_expression_reader.specs.Firm.{quiet, Firm}
 use Rattle.c_expression_reader.proofs.Firm.{firm-map}
-use Rattle.c_declarator_reader.proofs.Listed.{begins_meet}
+use Rattle.c_type_reader.proofs.Listed.{begins_meet}
 use Rattle.c_type_reader.proofs.Begins.{specifiers_silent}
-use Rattle.c_declarator_reader.proofs.Fresh.{fresh, fresh_is}
+use Rattle.c_type_reader.proofs.Fresh.{fresh, fresh_is}
 use Rattle.c_type_reader.proofs.Ended.{specified}
 use Rattle.role_read.proofs.Or.{Chooses, roled-or}
 
@@ -110,13 +110,13 @@ name_first : (names : List (List ℕ)) (n : Option tree.Name) (text : List Leaf)
 name_first names n text grammar.none = inl refl
 name_first names n text (grammar.name m e) = inr (awaited DeclaredName (named m), [], refl, refl)
 
-lengths_first : (names : List (List ℕ)) (depth : ℕ) (l : tree.Expressions) (text : List Leaf) → part.Lengths names depth l text → NoneOrNoClose text
-lengths_first names depth l text (part.no_lengths d) = inl refl
-lengths_first names depth l text (part.some_length d x r inside right place close h k) = inr (opens (suc d) (mark punctuator.LeftBracket place), _, refl, refl)
+lengths_first : (names : List (List ℕ)) (depth : ℕ) (l : tree.Expressions) (text : List Leaf) → part.Lengths names depth part.Alone l text → NoneOrNoClose text
+lengths_first names depth l text (part.no_lengths d c) = inl refl
+lengths_first names depth l text (part.some_length d c x r inside right place close h k) = inr (opens (suc d) (mark punctuator.LeftBracket place), _, refl, refl)
 
-dimensions_first : (names : List (List ℕ)) (depth : ℕ) (is_open : Bool) (l : tree.Expressions) (text : List Leaf) → part.Dimensions names depth is_open l text → NoneOrNoClose text
-dimensions_first names depth is_open l text (part.given d ls t h) = lengths_first names d ls t h
-dimensions_first names depth is_open l text (part.left_out d ls t place close h) = inr (opens (suc d) (mark punctuator.LeftBracket place), _, refl, refl)
+dimensions_first : (names : List (List ℕ)) (depth : ℕ) (is_open : Bool) (l : tree.Expressions) (text : List Leaf) → part.Dimensions names depth part.Alone is_open l text → NoneOrNoClose text
+dimensions_first names depth is_open l text (part.given d c ls t h) = lengths_first names d ls t h
+dimensions_first names depth is_open l text (part.left_out d c ls t place close h) = inr (opens (suc d) (mark punctuator.LeftBracket place), _, refl, refl)
 
 void_first : (names : List (List ℕ)) (depth place : ℕ) (pair : Ended) (text : List Leaf) → VoidText names depth place pair text → NoneOrNoClose text
 void_first names depth place pair text v =
@@ -126,7 +126,7 @@ void_first names depth place pair text v =
     (subst NoneOrNoClose (sym t.cut) (then_first t.left t.right (pointer_first _ t.left t.first)
     (subst NoneOrNoClose (sym u.cut) (then_first u.left u.right (name_first names _ u.left u.first) (dimensions_first names depth _ _ u.right u.second))))))
 
-others_first : (names : List (List ℕ)) (depth : ℕ) (d : Rattle.c_declaration_reader.proofs.Lists.Before (Unit {0}) Ended) (xs : List Ended) (text : List Leaf) → OthersText (ParameterText names depth) end_of d xs text → NoneOrNoClose text
+others_first : (names : List (List ℕ)) (depth : ℕ) (d : Rattle.c_type_reader.proofs.Lists.Before (Unit {0}) Ended) (xs : List Ended) (text : List Leaf) → OthersText (ParameterText names depth) end_of d xs text → NoneOrNoClose text
 others_first names depth d xs text (none k) = inl refl
 others_first names depth d xs text (some k y ys one two b rest) = inr (awaited (end_of k.1) (mark punctuator.Comma b.first), b.right ++ two, ap (λ l. l ++ two) (b.cut ∙ ap (λ l. l ++ b.right) (one-mark punctuator.Comma (awaited (end_of k.1)) b.first b.left b.is_first)), refl)
 
@@ -180,7 +180,7 @@ some_back names depth list role place inside h e =
     by_void names depth list text inside r cut e true f = second (first (void_back names depth list text inside r cut e (parameter_void names depth r.head r.left r.is_head f)))
     by_void names depth list text inside r cut e false f =
         let h = r.is_head in
-        let q = specifiers_first names depth r.head.0.specifiers r.head.1 h.left h.are_specifiers in
+        let q = specifiers_first names depth part.Alone r.head.0.specifiers r.head.1 h.left h.are_specifiers in
         let whole : r.left ≡ q.leaf ∷ (q.more ++ h.right) = h.cut ∙ ap (λ l. l ++ h.right) q.cut in
         second (second (record { inner = list; is = refl; spells = record { spells = r; leaf = q.leaf; more = (q.more ++ h.right) ++ (r.right ++ awaited (end_of (last_of r.head r.rest)) (mark punctuator.RightParenthesis r.place) ∷ []); cut = r.cut ∙ ap (λ l. l ++ (r.right ++ awaited (end_of (last_of r.head r.rest)) (mark punctuator.RightParenthesis r.place) ∷ [])) whole; passes = ap not (ap first_void (sym whole) ∙ f) } }))
 
@@ -194,7 +194,7 @@ text_inside : (names : List (List ℕ)) (depth : ℕ) (list : List unit.Paramete
 text_inside names depth list text p = subst (λ l. InsideText names depth list l) (sym p.cut) (grammar_inside names depth list p.role p.place p.inside p.spells)
 
 list_nonempty : (names : List (List ℕ)) (depth : ℕ) (list : List Ended) (text : List Leaf) → PlainList names depth list text → (u : Leaf) × (o : List Leaf) × (text ≡ u ∷ o)
-list_nonempty names depth list text r = let h = r.is_head in let q = specifiers_first names depth r.head.0.specifiers r.head.1 h.left h.are_specifiers in (q.leaf, _, r.cut ∙ ap (λ l. l ++ (r.right ++ awaited (end_of (last_of r.head r.rest)) (mark punctuator.RightParenthesis r.place) ∷ [])) (h.cut ∙ ap (λ l. l ++ h.right) q.cut))
+list_nonempty names depth list text r = let h = r.is_head in let q = specifiers_first names depth part.Alone r.head.0.specifiers r.head.1 h.left h.are_specifiers in (q.leaf, _, r.cut ∙ ap (λ l. l ++ (r.right ++ awaited (end_of (last_of r.head r.rest)) (mark punctuator.RightParenthesis r.place) ∷ [])) (h.cut ∙ ap (λ l. l ++ h.right) q.cut))
 
 behind_nonempty : (text right : List Leaf) (u : Leaf) → text ≡ right ++ u ∷ [] → (v : Leaf) × (o : List Leaf) × (text ≡ v ∷ o)
 behind_nonempty text [] u cut = (u, [], cut)
@@ -224,7 +224,7 @@ behind_starts names depth place =
           is = refl;
           is_end = refl;
           cut = refl;
-          is_rest = record { left = star_text; right = []; cut = refl; first = part.star 0 0 [] [] part.none part.none; second = record { left = []; right = []; cut = refl; first = grammar.none; second = part.given depth tree.no_expressions [] (part.no_lengths depth) } };
+          is_rest = record { left = star_text; right = []; cut = refl; first = part.star 0 0 [] [] part.none part.none; second = record { left = []; right = []; cut = refl; first = grammar.none; second = part.given depth part.Alone tree.no_expressions [] (part.no_lengths depth part.Alone) } };
         };
         are_rest = none (tt, star_pair place);
         cut = refl;
@@ -253,8 +253,8 @@ plain_starts names depth =
           left = const_text;
           right = [];
           cut = refl;
-          are_specifiers = record { one = Rattle.c_expression_reader.specs.Types.no_storage; two = Rattle.c_expression_reader.specs.Types.no_storage; base = tree.Void; before = plain (word Const 0) ∷ []; middle = plain (word Void 0) ∷ []; after = []; words_before = part.const part.InPart Rattle.c_expression_reader.specs.Types.no_storage [] 0 (part.none part.InPart); is_base = part.void depth 0; words_after = part.none part.InPart; is = refl; cut = refl; is_end = refl };
-          is_rest = record { left = []; right = []; cut = refl; first = part.none; second = record { left = []; right = []; cut = refl; first = grammar.none; second = part.given depth tree.no_expressions [] (part.no_lengths depth) } };
+          are_specifiers = record { one = Rattle.c_expression_reader.specs.Types.no_storage; two = Rattle.c_expression_reader.specs.Types.no_storage; base = tree.Void; before = plain (word Const 0) ∷ []; middle = plain (word Void 0) ∷ []; after = []; words_before = part.const part.InPart Rattle.c_expression_reader.specs.Types.no_storage [] 0 (part.none part.InPart); is_base = part.void depth part.Alone 0; words_after = part.none part.InPart; is = refl; cut = refl; is_end = refl };
+          is_rest = record { left = []; right = []; cut = refl; first = part.none; second = record { left = []; right = []; cut = refl; first = grammar.none; second = part.given depth part.Alone tree.no_expressions [] (part.no_lengths depth part.Alone) } };
         };
         are_rest = none (tt, some_pair);
         cut = refl;
@@ -287,7 +287,7 @@ type_no_close names (character_token value) e = refl
 list_no_close : (names : List (List ℕ)) (depth : ℕ) (list : List Ended) (text : List Leaf) (rest : List Placed) → PlainList names depth list text → Stops (λ t. not (is_mark punctuator.RightParenthesis t.token)) (plains marks text ++ rest)
 list_no_close names depth list text rest r =
     let h = r.is_head in
-    let q = specifiers_first names depth r.head.0.specifiers r.head.1 h.left h.are_specifiers in
+    let q = specifiers_first names depth part.Alone r.head.0.specifiers r.head.1 h.left h.are_specifiers in
     let close = awaited (end_of (last_of r.head r.rest)) (mark punctuator.RightParenthesis r.place) ∷ [] in
     subst (λ l. Stops (λ t. not (is_mark punctuator.RightParenthesis t.token)) (plains marks l ++ rest)) (sym (r.cut ∙ ap (λ l. l ++ (r.right ++ close)) (h.cut ∙ ap (λ l. l ++ h.right) q.cut))) (rw (type_no_close names q.leaf.token.token q.yes) refl)
 
@@ -312,7 +312,7 @@ named_starts names depth place =
           is = refl;
           is_end = refl;
           cut = refl;
-          is_rest = record { left = []; right = awaited DeclaredName (named (fresh names)) ∷ []; cut = refl; first = part.none; second = record { left = awaited DeclaredName (named (fresh names)) ∷ []; right = []; cut = refl; first = grammar.name (fresh names) (fresh_is names); second = part.given depth tree.no_expressions [] (part.no_lengths depth) } };
+          is_rest = record { left = []; right = awaited DeclaredName (named (fresh names)) ∷ []; cut = refl; first = part.none; second = record { left = awaited DeclaredName (named (fresh names)) ∷ []; right = []; cut = refl; first = grammar.name (fresh names) (fresh_is names); second = part.given depth part.Alone tree.no_expressions [] (part.no_lengths depth part.Alone) } };
         };
         are_rest = none (tt, name_pair names place);
         cut = refl;
@@ -330,11 +330,11 @@ behind_asks names depth place = asked_first no_close (awaited DeclaredName (name
 plain_silent : (names : List (List ℕ)) (depth : ℕ) → Silent marks roles (PlainList names depth)
 plain_silent names depth list u more r =
     let h = r.is_head in
-    let q = specifiers_first names depth r.head.0.specifiers r.head.1 h.left h.are_specifiers in
+    let q = specifiers_first names depth part.Alone r.head.0.specifiers r.head.1 h.left h.are_specifiers in
     let close = awaited (end_of (last_of r.head r.rest)) (mark punctuator.RightParenthesis r.place) ∷ [] in
     let e : u ∷ more ≡ q.leaf ∷ ((q.more ++ h.right) ++ (r.right ++ close)) = r.cut ∙ ap (λ l. l ++ (r.right ++ close)) (h.cut ∙ ap (λ l. l ++ h.right) q.cut) in
     let head : u ≡ q.leaf = cc in
-    ap (λ (l : Leaf). l.role) head ∙ specifiers_silent names part.InPart depth r.head.0.specifiers h.left (specified names part.InPart depth r.head.0.specifiers r.head.1 h.left h.are_specifiers) q.leaf q.more q.cut
+    ap (λ (l : Leaf). l.role) head ∙ specifiers_silent names part.InPart depth part.Alone r.head.0.specifiers h.left (specified names part.InPart depth part.Alone r.head.0.specifiers r.head.1 h.left h.are_specifiers) q.leaf q.more q.cut
 
 abbrev ListedBehind : (names : List (List ℕ)) → (depth place : ℕ) → List unit.Parameter → List Leaf → Type 0
 ListedBehind names depth place = Map (map tree_of) (Starting no_close (VoidList names depth place))
@@ -394,7 +394,7 @@ roled-after_void names inner all depth place =
     two_is : Firm (both anything (λ t. not (is_mark punctuator.RightParenthesis t.token))) (ListedBehind names depth place) (λ _. anything) (read_listed names inner depth place)
     two_is =
         roled-same (both anything (λ t. not (is_mark punctuator.RightParenthesis t.token))) (ListedBehind names depth place) (read_listed names inner depth place) (λ t h. h) (λ x text h. h) (λ x text h. h)
-        (list-mapped tree_of end_of_parameter punctuator.RightParenthesis (read_void_parameter names inner depth place) (read_parameter names inner depth) (rich_void names inner depth place) (rich_parameter names depth inner (all.specifiers depth).both) (void_same names inner depth place) (parameter_same names inner all depth))
+        (list-mapped tree_of end_of_parameter punctuator.RightParenthesis (read_void_parameter names inner depth place) (read_parameter names inner depth) (rich_void names inner depth place) (rich_parameter names depth inner (all.specifiers depth part.Alone).both) (void_same names inner depth place) (parameter_same names inner all depth))
         (firm-map (map tree_of) (λ _. anything) (λ x. refl)
         (roled-starting no_close (λ list text r. behind_nonempty text (r.left ++ r.right) _ (r.cut ∙ sym (append_assoc r.left r.right _))) (star_pair place ∷ []) _ (behind_starts names depth place) (behind_asks names depth place)
         (roled-list_from end_of (λ x. inr refl) (lists names depth) (roled-void names inner all depth place) (roled-parameter names inner all depth))))
@@ -407,7 +407,7 @@ roled-plain : (names : List (List ℕ)) (inner : Readers) (all : AllFirm names i
     → Firm (both anything (λ t. not (is_void t.token))) (Map (map tree_of) (Starting no_void (PlainList names depth))) (λ _. anything) (read_list_from end_of_parameter punctuator.RightParenthesis (read_parameter names inner depth) (read_parameter names inner depth))
 roled-plain names inner all depth =
     roled-same (both anything (λ t. not (is_void t.token))) (Map (map tree_of) (Starting no_void (PlainList names depth))) (read_list_from end_of_parameter punctuator.RightParenthesis (read_parameter names inner depth) (read_parameter names inner depth)) (λ t h. h) (λ x text h. h) (λ x text h. h)
-    (list-mapped tree_of end_of_parameter punctuator.RightParenthesis (read_parameter names inner depth) (read_parameter names inner depth) (rich_parameter names depth inner (all.specifiers depth).both) (rich_parameter names depth inner (all.specifiers depth).both) (parameter_same names inner all depth) (parameter_same names inner all depth))
+    (list-mapped tree_of end_of_parameter punctuator.RightParenthesis (read_parameter names inner depth) (read_parameter names inner depth) (rich_parameter names depth inner (all.specifiers depth part.Alone).both) (rich_parameter names depth inner (all.specifiers depth part.Alone).both) (parameter_same names inner all depth) (parameter_same names inner all depth))
     (firm-map (map tree_of) (λ _. anything) (λ x. refl)
     (roled-starting no_void (list_nonempty names depth) (some_pair ∷ []) _ (plain_starts names depth) (asked_nothing no_void (λ u n. silent_next (plain_silent names depth) u n))
     (roled-list_from end_of (λ x. inr refl) (lists names depth) (roled-parameter names inner all depth) (roled-parameter names inner all depth))))

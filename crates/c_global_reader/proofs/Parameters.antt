@@ -7,7 +7,7 @@ use Rattle.c_tree_spec.specs.Unit as unit
 use Rattle.c_grammar_spec.specs.declared.Role.{Role}
 use Rattle.c_grammar_spec.specs.declared.Role.TheVariants.{DeclaredName, Nothing}
 use Rattle.c_grammar_spec.specs.Leaves.{Leaf, awaited, named, marks, mark, opens, roles}
-use Rattle.c_grammar_spec.specs.Expressions.{is_type_name, none, Dimensions, Pointer, given, left_out, no_lengths, some_length, Lengths, star, InPart}
+use Rattle.c_grammar_spec.specs.Expressions.{is_type_name, Alone, none, Dimensions, Pointer, given, left_out, no_lengths, some_length, Lengths, star, InPart}
 use Rattle.c_grammar_spec.specs.Units as grammar
 use Rattle.exact_read.specs.Reading.{plains, Stops, Reader, Outcome}
 use Rattle.exact_read.specs.Grammar.{One, Map, Or, Nothing as Empty, first, second, nothing, Then, read_then, read_map, bind, read_nothing, read_or, anything}
@@ -19,10 +19,10 @@ use Rattle.c_expression_reader.specs.Types.{is_plain_name, plain_name_at, is_con
 use Rattle.c_expression_reader.proofs.Marks.{one_first}
 use Rattle.c_type_reader.specs.Endings.{Ending, goes_on_with, WordsAround, BraceToo, WordsToo, SpecifiersEnd}
 use Rattle.c_type_reader.specs.Exactness.{AllFirm}
-use Rattle.c_declarator_reader.proofs.Fresh.{fresh, fresh_is}
-use Rattle.c_declarator_reader.proofs.Pointers.{stop_pointer}
-use Rattle.c_declarator_reader.proofs.Dimensions.{stop_dimensions, roled-dimensions_from}
-use Rattle.c_declarator_reader.proofs.Declarators.{plain-is, plain-self, plain-passes}
+use Rattle.c_type_reader.proofs.Fresh.{fresh, fresh_is}
+use Rattle.c_type_reader.proofs.Pointers.{stop_pointer}
+use Rattle.c_type_reader.proofs.Dimensions.{stop_dimensions, roled-dimensions_from}
+use Rattle.c_type_reader.proofs.Declarators.{plain-is, plain-self, plain-passes}
 use Rattle.c_type_reader.proofs.Ended.{specified, with_end}
 use Rattle.c_global_reader.specs.Parameters.{ParameterRest, parameter_of, read_parameter_rest, read_parameter, end_of_parts, end_of_parameter, read_optional_name}
 use Rattle.role_read.specs.Roles.{Roled}
@@ -32,7 +32,7 @@ use Rattle.role_read.proofs.Begins.{Begins, begun_enters}
 use Rattle.role_read.proofs.Then.{roled-then, roled-then_within}
 use Rattle.c_expression_reader.specs.Firm.{Firm}
 use Rattle.c_expression_reader.proofs.Firm.{firm-map, firm-one, firm-nothing}
-use Rattle.c_declarator_reader.proofs.Plain.{roled-pointer}
+use Rattle.c_type_reader.proofs.Plain.{roled-pointer}
 use Rattle.c_type_reader.proofs.Begins.{plain_found}
 use Rattle.role_read.proofs.Or.{Chooses, roled-or}
 
@@ -75,7 +75,7 @@ abbrev pub stop_rest : (names : List (List ℕ)) → (entry : Placed → Bool) �
 stop_rest names entry rest = stop_dimensions (stop_name names (stop_pointer entry rest.0) rest.1.0) rest.1.1
 
 abbrev DimensionsOf : (names : List (List ℕ)) → (depth : ℕ) → Bool × tree.Expressions → List Leaf → Type 0
-DimensionsOf names depth pair text = Dimensions names depth pair.0 pair.1 text
+DimensionsOf names depth pair text = Dimensions names depth Alone pair.0 pair.1 text
 
 abbrev pub RestText : (names : List (List ℕ)) → (depth : ℕ) → ParameterRest → List Leaf → Type 0
 RestText names depth = Then Pointer (λ _. Then (grammar.ParameterName names) (λ _. DimensionsOf names depth))
@@ -86,14 +86,14 @@ pub record Opens (entry : Placed → Bool) : Type 0 where
   pub at_name : (n : tree.Name) → IsTrue (entry (named n))
   pub at_bracket : (place : ℕ) → IsTrue (entry (mark punctuator.LeftBracket place))
 
-dimensions_stop : (names : List (List ℕ)) (depth : ℕ) (entry : Placed → Bool) → ((place : ℕ) → IsTrue (entry (mark punctuator.LeftBracket place))) → (is_open : Bool) (lengths : tree.Expressions) (text : List Leaf) (rest : List Placed) → Dimensions names depth is_open lengths text → Stops (stop_dimensions entry (is_open, lengths)) rest → Stops entry (plains marks text ++ rest)
-dimensions_stop names depth entry at is_open lengths text rest (given d l t h) stops = by_lengths l t h rest stops
+dimensions_stop : (names : List (List ℕ)) (depth : ℕ) (entry : Placed → Bool) → ((place : ℕ) → IsTrue (entry (mark punctuator.LeftBracket place))) → (is_open : Bool) (lengths : tree.Expressions) (text : List Leaf) (rest : List Placed) → Dimensions names depth Alone is_open lengths text → Stops (stop_dimensions entry (is_open, lengths)) rest → Stops entry (plains marks text ++ rest)
+dimensions_stop names depth entry at is_open lengths text rest (given d c l t h) stops = by_lengths l t h rest stops
   where
-    by_lengths : (l : tree.Expressions) (t : List Leaf) → Lengths names depth l t → (rest : List Placed) → Stops (stop_dimensions entry (false, l)) rest → Stops entry (plains marks t ++ rest)
-    by_lengths l t (no_lengths d) [] stops = tt
-    by_lengths l t (no_lengths d) (p ∷ rest) stops = and-left (entry p) (not (is_mark punctuator.LeftBracket p.token)) stops
-    by_lengths l t (some_length d x r inside right place close h k) rest stops = at place
-dimensions_stop names depth entry at is_open lengths text rest (left_out d l t place close h) stops = at place
+    by_lengths : (l : tree.Expressions) (t : List Leaf) → Lengths names depth Alone l t → (rest : List Placed) → Stops (stop_dimensions entry (false, l)) rest → Stops entry (plains marks t ++ rest)
+    by_lengths l t (no_lengths d c) [] stops = tt
+    by_lengths l t (no_lengths d c) (p ∷ rest) stops = and-left (entry p) (not (is_mark punctuator.LeftBracket p.token)) stops
+    by_lengths l t (some_length d c x r inside right place close h k) rest stops = at place
+dimensions_stop names depth entry at is_open lengths text rest (left_out d c l t place close h) stops = at place
 
 pointer_at : (entry : Placed → Bool) → Opens entry → (n : ℕ) (place : ℕ) → IsTrue (stop_pointer entry n (mark punctuator.LeftBracket place))
 pointer_at entry opens zero place = and_true (entry (mark punctuator.LeftBracket place)) (opens.at_bracket place)
@@ -159,7 +159,7 @@ stop_parameter names pair = stop_rest names (after_specifiers pair.1) (rest_of p
 pub record ParameterText (names : List (List ℕ)) (depth : ℕ) (pair : Ended) (text : List Leaf) : Type 0 where
   pub left : List Leaf
   pub right : List Leaf
-  pub are_specifiers : SpecifiersEnd names InPart depth pair.0.specifiers pair.1 left
+  pub are_specifiers : SpecifiersEnd names InPart depth Alone pair.0.specifiers pair.1 left
   pub is_rest : RestText names depth (rest_of pair.0) right
   pub cut : text ≡ left ++ right
 
@@ -167,7 +167,7 @@ abbrev made_parameter : (tree.Specifiers × Ending) × ParameterRest → Ended
 made_parameter made = (parameter_of made.0.0 made.1, made.0.1)
 
 abbrev RawParameter : (names : List (List ℕ)) → (depth : ℕ) → (tree.Specifiers × Ending) × ParameterRest → List Leaf → Type 0
-RawParameter names depth = Then (λ (pair : tree.Specifiers × Ending). SpecifiersEnd names InPart depth pair.0 pair.1) (λ _. RestText names depth)
+RawParameter names depth = Then (λ (pair : tree.Specifiers × Ending). SpecifiersEnd names InPart depth Alone pair.0 pair.1) (λ _. RestText names depth)
 
 text_parameter : (names : List (List ℕ)) (depth : ℕ) (pair : Ended) (text : List Leaf) → Map made_parameter (RawParameter names depth) pair text → ParameterText names depth pair text
 text_parameter names depth pair text m =
@@ -181,10 +181,10 @@ abbrev pub rich_parameter : (names : List (List ℕ)) → (depth : ℕ) → (inn
 rich_parameter names depth inner both = read_map made_parameter (read_then both (λ _. read_parameter_rest names inner depth))
 
 -- the readers give the same
-pub parameter_same : (names : List (List ℕ)) (inner : Readers) (all : AllFirm names inner) (depth : ℕ) (tokens : List Placed) → read_parameter names inner depth tokens ≡ read_map (λ (pair : Ended). pair.0) (rich_parameter names depth inner (all.specifiers depth).both) tokens
+pub parameter_same : (names : List (List ℕ)) (inner : Readers) (all : AllFirm names inner) (depth : ℕ) (tokens : List Placed) → read_parameter names inner depth tokens ≡ read_map (λ (pair : Ended). pair.0) (rich_parameter names depth inner (all.specifiers depth Alone).both) tokens
 parameter_same names inner all depth tokens =
-    ap (λ (o : Outcome Placed Role tree.Specifiers). bind {Y = unit.Parameter} (bind {Y = tree.Specifiers × ParameterRest} o (λ s rest. bind (read_parameter_rest names inner depth rest) (λ r after. Ok ((s, r), after)))) (λ made r. Ok (parameter_of made.0 made.1, r))) ((all.specifiers depth).same tokens)
-    ∙ by_specifiers ((all.specifiers depth).both tokens)
+    ap (λ (o : Outcome Placed Role tree.Specifiers). bind {Y = unit.Parameter} (bind {Y = tree.Specifiers × ParameterRest} o (λ s rest. bind (read_parameter_rest names inner depth rest) (λ r after. Ok ((s, r), after)))) (λ made r. Ok (parameter_of made.0 made.1, r))) ((all.specifiers depth Alone).same tokens)
+    ∙ by_specifiers ((all.specifiers depth Alone).both tokens)
   where
     by_rest : (pair : tree.Specifiers × Ending) (o : Outcome Placed Role ParameterRest)
         → bind {Y = unit.Parameter} (bind {Y = tree.Specifiers × ParameterRest} o (λ r after. Ok ((pair.0, r), after))) (λ made r. Ok (parameter_of made.0 made.1, r))
@@ -199,14 +199,14 @@ parameter_same names inner all depth tokens =
     by_specifiers (Err fault) = refl
 
 -- as the grammar has them
-end_same : (names : List (List ℕ)) (depth : ℕ) (n : Option tree.Name) (is_open : Bool) (lengths : tree.Expressions) (text : List Leaf) → Dimensions names depth is_open lengths text → grammar.parameter_end n text ≡ end_of_parts n is_open lengths
+end_same : (names : List (List ℕ)) (depth : ℕ) (n : Option tree.Name) (is_open : Bool) (lengths : tree.Expressions) (text : List Leaf) → Dimensions names depth Alone is_open lengths text → grammar.parameter_end n text ≡ end_of_parts n is_open lengths
 end_same names depth (Some n) is_open lengths text h = refl
-end_same names depth None is_open lengths text (given d l t h) = by_lengths l t h
+end_same names depth None is_open lengths text (given d c l t h) = by_lengths l t h
   where
-    by_lengths : (l : tree.Expressions) (t : List Leaf) → Lengths names depth l t → grammar.parameter_end None t ≡ end_of_parts None false l
-    by_lengths l t (no_lengths d) = refl
-    by_lengths l t (some_length d x r inside right place close h k) = refl
-end_same names depth None is_open lengths text (left_out d l t place close h) = refl
+    by_lengths : (l : tree.Expressions) (t : List Leaf) → Lengths names depth Alone l t → grammar.parameter_end None t ≡ end_of_parts None false l
+    by_lengths l t (no_lengths d c) = refl
+    by_lengths l t (some_length d c x r inside right place close h k) = refl
+end_same names depth None is_open lengths text (left_out d c l t place close h) = refl
 
 pub parameter_grammar : (names : List (List ℕ)) (depth : ℕ) (pair : Ended) (text : List Leaf) → ParameterText names depth pair text → grammar.Parameter names depth pair.0 (end_of_parameter pair.0) text
 parameter_grammar names depth pair text p =
@@ -214,7 +214,7 @@ parameter_grammar names depth pair text p =
     let u = t.second in
     subst (λ (r : Role). grammar.Parameter names depth pair.0 r text) (end_same names depth pair.0.name pair.0.is_open pair.0.lengths u.right u.second)
     (subst (λ l. grammar.Parameter names depth pair.0 (grammar.parameter_end pair.0.name u.right) l) (sym (p.cut ∙ ap (λ l. p.left ++ l) (t.cut ∙ ap (λ l. t.left ++ l) u.cut)))
-    (grammar.parameter depth pair.0.specifiers pair.0.pointers pair.0.name pair.0.is_open pair.0.lengths p.left t.left u.left u.right (specified names InPart depth pair.0.specifiers pair.1 p.left p.are_specifiers) t.first u.first u.second))
+    (grammar.parameter depth pair.0.specifiers pair.0.pointers pair.0.name pair.0.is_open pair.0.lengths p.left t.left u.left u.right (specified names InPart depth Alone pair.0.specifiers pair.1 p.left p.are_specifiers) t.first u.first u.second))
 
 pub record ParameterBack (names : List (List ℕ)) (depth : ℕ) (p : unit.Parameter) (role : Role) (text : List Leaf) : Type 0 where
   pub end : Ending
@@ -223,7 +223,7 @@ pub record ParameterBack (names : List (List ℕ)) (depth : ℕ) (p : unit.Param
 
 pub grammar_parameter : (names : List (List ℕ)) (depth : ℕ) (p : unit.Parameter) (role : Role) (text : List Leaf) → grammar.Parameter names depth p role text → ParameterBack names depth p role text
 grammar_parameter names depth p role text (grammar.parameter d s n name is_open lengths left stars inside dimensions h k l m) =
-    let w = with_end names InPart d s left h in
+    let w = with_end names InPart d Alone s left h in
     record {
       end = w.end;
       spells = record { left = left; right = stars ++ (inside ++ dimensions); are_specifiers = w.spells; is_rest = record { left = stars; right = inside ++ dimensions; cut = refl; first = k; second = record { left = inside; right = dimensions; cut = refl; first = l; second = m } }; cut = refl };
@@ -299,14 +299,14 @@ roled-optional_name names entry =
 abbrev pub rest_end : ParameterRest → Role
 rest_end r = end_of_parts r.1.0 r.1.1.0 r.1.1.1
 
-no_dimensions : (names : List (List ℕ)) (depth : ℕ) (name : Option tree.Name) (is_open : Bool) (lengths : tree.Expressions) (text : List Leaf) → Dimensions names depth is_open lengths text → text ≡ [] → name_end name ≡ end_of_parts name is_open lengths
-no_dimensions names depth name is_open lengths text (given d l t h) e = by_lengths name l t h e
+no_dimensions : (names : List (List ℕ)) (depth : ℕ) (name : Option tree.Name) (is_open : Bool) (lengths : tree.Expressions) (text : List Leaf) → Dimensions names depth Alone is_open lengths text → text ≡ [] → name_end name ≡ end_of_parts name is_open lengths
+no_dimensions names depth name is_open lengths text (given d c l t h) e = by_lengths name l t h e
   where
-    by_lengths : (name : Option tree.Name) (l : tree.Expressions) (t : List Leaf) → Lengths names depth l t → t ≡ [] → name_end name ≡ end_of_parts name false l
-    by_lengths None l t (no_lengths d) e = refl
-    by_lengths (Some n) l t (no_lengths d) e = refl
-    by_lengths name l t (some_length d x r inside right place close h k) e = absurd (cc)
-no_dimensions names depth name is_open lengths text (left_out d l t place close h) e = absurd (cc)
+    by_lengths : (name : Option tree.Name) (l : tree.Expressions) (t : List Leaf) → Lengths names depth Alone l t → t ≡ [] → name_end name ≡ end_of_parts name false l
+    by_lengths None l t (no_lengths d c) e = refl
+    by_lengths (Some n) l t (no_lengths d c) e = refl
+    by_lengths name l t (some_length d c x r inside right place close h k) e = absurd (cc)
+no_dimensions names depth name is_open lengths text (left_out d c l t place close h) e = absurd (cc)
 
 pub roled-rest : (names : List (List ℕ)) (inner : Readers) → AllFirm names inner → (depth : ℕ) (entry : Placed → Bool) → Opens entry → Roled marks roles entry (RestText names depth) (stop_rest names entry) rest_end ⊥ (read_parameter_rest names inner depth)
 roled-rest names inner all depth entry opens =
@@ -315,10 +315,10 @@ roled-rest names inner all depth entry opens =
     (λ name left one within. roled-told (λ y. end_of_parts name y.0 y.1) (dimensions_are n name))
     record {
       ends = λ name d left right rest one two stops. dimensions_stop names depth (stop_name names (stop_pointer entry n) name) (name_at_bracket names entry opens n name) d.0 d.1 right rest two stops;
-      goes_on = λ name left one. ((false, tree.no_expressions), [], given depth tree.no_expressions [] (no_lengths depth));
+      goes_on = λ name left one. ((false, tree.no_expressions), [], given depth Alone tree.no_expressions [] (no_lengths depth Alone));
     }
     record {
-      between = λ name left kind rest one stops e. absurd (((dimensions_are n name).firm (false, tree.no_expressions) [] kind rest (given depth tree.no_expressions [] (no_lengths depth)) tt stops e).0);
+      between = λ name left kind rest one stops e. absurd (((dimensions_are n name).firm (false, tree.no_expressions) [] kind rest (given depth Alone tree.no_expressions [] (no_lengths depth Alone)) tt stops e).0);
       empty = λ name d left one two. inr (no_dimensions names depth name d.0 d.1 [] two refl);
       loose = λ never x left u h k. absurd never;
       loose_empty = λ never x y left h k. absurd never;
@@ -328,21 +328,21 @@ roled-rest names inner all depth entry opens =
           let d = dimensions_stop names depth (stop_name names (stop_pointer entry n) y.0) (name_at_bracket names entry opens n y.0) y.1.0 y.1.1 two.right rest two.second stops in
           let m = name_stop names (stop_pointer entry n) (pointer_name entry opens n) y.0 two.left (plains marks two.right ++ rest) two.first d in
           subst (Stops (stop_pointer entry n)) (sym (ap (λ l. plains marks l ++ rest) two.cut ∙ plains-two marks two.left two.right rest)) m;
-      goes_on = λ n left one. ((None, (false, tree.no_expressions)), [], record { left = []; right = []; cut = refl; first = grammar.none; second = given depth tree.no_expressions [] (no_lengths depth) });
+      goes_on = λ n left one. ((None, (false, tree.no_expressions)), [], record { left = []; right = []; cut = refl; first = grammar.none; second = given depth Alone tree.no_expressions [] (no_lengths depth Alone) });
     }
   where
-    dimensions_are : (n : ℕ) (name : Option tree.Name) → Firm (stop_name names (stop_pointer entry n) name) (DimensionsOf names depth) (stop_dimensions (stop_name names (stop_pointer entry n) name)) (read_dimensions inner depth)
-    dimensions_are n name = roled-dimensions_from names inner depth (stop_name names (stop_pointer entry n) name) (λ d. all.conditional (suc depth) 0)
+    dimensions_are : (n : ℕ) (name : Option tree.Name) → Firm (stop_name names (stop_pointer entry n) name) (DimensionsOf names depth) (stop_dimensions (stop_name names (stop_pointer entry n) name)) (read_dimensions inner depth Alone)
+    dimensions_are n name = roled-dimensions_from names inner depth Alone (stop_name names (stop_pointer entry n) name) (λ d count least. all.conditional (suc depth) count)
 
-pub roled-parameter : (names : List (List ℕ)) (inner : Readers) (all : AllFirm names inner) (depth : ℕ) → Roled marks roles anything (ParameterText names depth) (stop_parameter names) (λ pair. end_of_parameter pair.0) ⊥ (rich_parameter names depth inner (all.specifiers depth).both)
+pub roled-parameter : (names : List (List ℕ)) (inner : Readers) (all : AllFirm names inner) (depth : ℕ) → Roled marks roles anything (ParameterText names depth) (stop_parameter names) (λ pair. end_of_parameter pair.0) ⊥ (rich_parameter names depth inner (all.specifiers depth Alone).both)
 roled-parameter names inner all depth =
-    roled-same anything (ParameterText names depth) (rich_parameter names depth inner (all.specifiers depth).both) (λ t h. h) (text_parameter names depth) (parameter_text names depth) (λ tokens. refl)
+    roled-same anything (ParameterText names depth) (rich_parameter names depth inner (all.specifiers depth Alone).both) (λ t h. h) (text_parameter names depth) (parameter_text names depth) (λ tokens. refl)
     (roled-map made_parameter (stop_parameter names) (λ pair. end_of_parameter pair.0) (λ made. refl) (λ made. inr refl)
-    (roled-then {stop2 = λ pair r. stop_rest names (after_specifiers pair.1) r} {ending2 = λ pair r. rest_end r} (all.specifiers depth).is (λ pair. roled-rest names inner all depth (after_specifiers pair.1) (specifiers_open pair.1))
+    (roled-then {stop2 = λ pair r. stop_rest names (after_specifiers pair.1) r} {ending2 = λ pair r. rest_end r} (all.specifiers depth Alone).is (λ pair. roled-rest names inner all depth (after_specifiers pair.1) (specifiers_open pair.1))
     record {
       ends = λ pair r left right rest one two stops. rest_stops names depth (after_specifiers pair.1) (specifiers_open pair.1) r right rest two stops;
       goes_on = λ pair left one. ((0, (None, (false, tree.no_expressions))), [], rest_none names depth);
     }))
   where
     rest_none : (names : List (List ℕ)) (depth : ℕ) → RestText names depth (0, (None, (false, tree.no_expressions))) []
-    rest_none names depth = record { left = []; right = []; cut = refl; first = none; second = record { left = []; right = []; cut = refl; first = grammar.none; second = given depth tree.no_expressions [] (no_lengths depth) } }
+    rest_none names depth = record { left = []; right = []; cut = refl; first = none; second = record { left = []; right = []; cut = refl; first = grammar.none; second = given depth Alone tree.no_expressions [] (no_lengths depth Alone) } }

@@ -21,15 +21,15 @@ use Rattle.c_expression_reader.specs.Types.{no_storage, is_const, read_consts}
 use Rattle.c_type_reader.specs.Endings.{WordsAround, ending, Ending}
 use Rattle.c_type_reader.specs.Exactness.{AllFirm}
 use Rattle.c_type_reader.proofs.IntegerWords.{six}
-use Rattle.c_declarator_reader.proofs.Tokens.{leaves_of, unless_read}
-use Rattle.c_declarator_reader.proofs.Pointers.{stop_pointer}
+use Rattle.c_type_reader.proofs.Tokens.{leaves_of, unless_read}
+use Rattle.c_type_reader.proofs.Pointers.{stop_pointer}
 use Rattle.c_type_reader.proofs.TypeFirsts.{first_six}
 use Rattle.c_global_reader.specs.Parameters.{void_at, is_void, ParameterRest, parameter_of, read_parameter_rest, read_void_parameter, end_of_parameter}
 use Rattle.c_global_reader.proofs.Parameters.{RestText, Ended, rest_of, ParameterText, Opens, stop_rest, rest_stops, stop_parameter, rest_end, roled-rest}
 use Rattle.role_read.specs.Roles.{Roled}
 use Rattle.role_read.proofs.Basics.{roled-same, roled-stop, roled-map}
 use Rattle.role_read.proofs.Then.{roled-then}
-use Rattle.c_declarator_reader.proofs.Plain.{roled-consts}
+use Rattle.c_type_reader.proofs.Plain.{roled-consts}
 
 -- what stands behind the `void`
 pub record VoidText (names : List (List ℕ)) (depth place : ℕ) (pair : Ended) (text : List Leaf) : Type 0 where
@@ -63,7 +63,7 @@ void_parameter names depth place pair text v =
     record {
       left = plain (word Void place) ∷ leaves_of (word Const) v.consts;
       right = v.right;
-      are_specifiers = record { one = no_storage; two = no_storage; base = tree.Void; before = []; middle = plain (word Void place) ∷ []; after = leaves_of (word Const) v.consts; words_before = part.none part.InPart; is_base = part.void depth place; words_after = const_words v.consts; is = v.is; cut = refl; is_end = v.is_end ∙ void_ending place v.consts };
+      are_specifiers = record { one = no_storage; two = no_storage; base = tree.Void; before = []; middle = plain (word Void place) ∷ []; after = leaves_of (word Const) v.consts; words_before = part.none part.InPart; is_base = part.void depth part.Alone place; words_after = const_words v.consts; is = v.is; cut = refl; is_end = v.is_end ∙ void_ending place v.consts };
       is_rest = v.is_rest;
       cut = ap (λ l. plain (word Void place) ∷ l) v.cut;
     }
@@ -87,14 +87,14 @@ unfolding part.integer_type_of
 integer_no_void type [] more e f = cc
 integer_no_void type (w ∷ words) more e f = let h : false ≡ true = sym (six_void w.0 (first_six w.0 (map (λ (w : Keyword × ℕ). w.0) words) (ap is_some e))) ∙ f in cc
 
-void_base : (names : List (List ℕ)) (depth : ℕ) (base : tree.Base) (middle more : List Leaf) → part.Base names depth base middle → first_void (middle ++ more) ≡ true → (place : ℕ) × ((base ≡ tree.Void) × (middle ≡ plain (word Void place) ∷ []))
-void_base names depth base middle more (part.void d place) e = (place, (refl, refl))
-void_base names depth base middle more (part.integer_type d type words h) e = absurd (integer_no_void type words more h e)
-void_base names depth base middle more (part.typedef_name d n h) e = absurd (cc)
-void_base names depth base middle more (part.struct_tag d n place h) e = absurd (cc)
-void_base names depth base middle more (part.struct d tag ms name inside place open_place close h k) e = absurd (cc)
-void_base names depth base middle more (part.enum_tag d n place h) e = absurd (cc)
-void_base names depth base middle more (part.enum d tag cs name inside end place open_place close h k) e = absurd (cc)
+void_base : (names : List (List ℕ)) (depth : ℕ) (counting : part.Counting) (base : tree.Base) (middle more : List Leaf) → part.Base names depth counting base middle → first_void (middle ++ more) ≡ true → (place : ℕ) × ((base ≡ tree.Void) × (middle ≡ plain (word Void place) ∷ []))
+void_base names depth counting base middle more (part.void d c place) e = (place, (refl, refl))
+void_base names depth counting base middle more (part.integer_type d c type words h) e = absurd (integer_no_void type words more h e)
+void_base names depth counting base middle more (part.typedef_name d c n h) e = absurd (cc)
+void_base names depth counting base middle more (part.struct_tag d c n place h) e = absurd (cc)
+void_base names depth counting base middle more (part.struct d c tag ms name inside place open_place close h k) e = absurd (cc)
+void_base names depth counting base middle more (part.enum_tag d c n place h) e = absurd (cc)
+void_base names depth counting base middle more (part.enum d c tag cs name inside end place open_place close h k) e = absurd (cc)
 
 void_before : (xs : List ℕ) (more : List Leaf) → first_void (leaves_of (word Const) xs ++ more) ≡ true → xs ≡ []
 void_before [] more e = refl
@@ -114,7 +114,7 @@ parameter_void names depth pair text p e =
     let whole : text ≡ leaves_of (word Const) b.0 ++ ((s.middle ++ s.after) ++ p.right) = p.cut ∙ ap (λ l. l ++ p.right) (s.cut ∙ ap (λ l. l ++ (s.middle ++ s.after)) b.1.0) ∙ append_assoc (leaves_of (word Const) b.0) (s.middle ++ s.after) p.right in
     let nothing_before : b.0 ≡ [] = void_before b.0 ((s.middle ++ s.after) ++ p.right) (ap first_void (sym whole) ∙ e) in
     let cut : text ≡ s.middle ++ (s.after ++ p.right) = whole ∙ ap (λ (xs : List ℕ). leaves_of (word Const) xs ++ ((s.middle ++ s.after) ++ p.right)) nothing_before ∙ append_assoc s.middle s.after p.right in
-    let v = void_base names depth s.base s.middle (s.after ++ p.right) s.is_base (ap first_void (sym cut) ∙ e) in
+    let v = void_base names depth part.Alone s.base s.middle (s.after ++ p.right) s.is_base (ap first_void (sym cut) ∙ e) in
     let before_none : s.before ≡ [] = b.1.0 ∙ ap (leaves_of (word Const)) nothing_before in
     record {
       place = v.0;
@@ -207,5 +207,5 @@ roled-void names inner all depth place =
     (roled-then {stop2 = λ xs r. stop_rest names (entry_after xs) r} {ending2 = λ xs r. rest_end r} (roled-consts anything) (λ xs. roled-rest names inner all depth (entry_after xs) (entry_opens xs))
     record {
       ends = λ xs r left right rest one two stops. rest_stops names depth (entry_after xs) (entry_opens xs) r right rest two stops;
-      goes_on = λ xs left one. ((0, (None, (false, tree.no_expressions))), [], record { left = []; right = []; cut = refl; first = part.none; second = record { left = []; right = []; cut = refl; first = grammar.none; second = part.given depth tree.no_expressions [] (part.no_lengths depth) } });
+      goes_on = λ xs left one. ((0, (None, (false, tree.no_expressions))), [], record { left = []; right = []; cut = refl; first = part.none; second = record { left = []; right = []; cut = refl; first = grammar.none; second = part.given depth part.Alone tree.no_expressions [] (part.no_lengths depth part.Alone) } });
     })))

@@ -8,7 +8,7 @@ use Rattle.exact_read.specs.Reading.{plains, Stops}
 use Rattle.exact_read.specs.Grammar.{anything}
 use Rattle.c_expression_reader.specs.Budget.{enough}
 use Rattle.c_expression_reader.specs.Turns.{readers}
-use Rattle.c_declarator_reader.proofs.Firsts.{conditional_first}
+use Rattle.c_type_reader.proofs.Firsts.{conditional_first}
 use Rattle.c_type_reader.proofs.Turned.{all-exact}
 use Rattle.c_token.specs.declared.Token.{Token as TokenRow}
 use Rattle.c_token.specs.Pieces.{placed_of}

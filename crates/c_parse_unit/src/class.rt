@@ -4,7 +4,7 @@ ghost use Rattle.std.specs.Prelude.{◌≡◌, IfOk, false, option_map};
 ghost use Rattle.c_grammar_spec.specs.Expressions.{is_type_name};
 ghost use Rattle.c_grammar_spec.specs.Units.{is_typedef, name_of_global, names_after};
 ghost use Rattle.c_expression_reader.specs.Readers.{next_is};
-ghost use Rattle.c_declarator_reader.specs.Firsts as firsts;
+ghost use Rattle.c_type_reader.specs.Firsts as firsts;
 ghost use Rattle.c_unit_reader.specs.Initializers as initializers;
 ghost use Rattle.c_syntax.specs.Expressions.{expression_of, specifiers_of};
 ghost use Rattle.c_unit_syntax.specs.Units.{global_of};

@@ -17,7 +17,7 @@ use Rattle.c_expression_reader.specs.Readers.{Readers}
 use Rattle.c_expression_reader.proofs.Marks.{Behind, mark-self, roled-closed_by, roled-opened, roled-behind, roled-closed, behind_begins, behind_silent}
 use Rattle.c_expression_reader.proofs.Samples.{zero_tree}
 use Rattle.c_type_reader.specs.Exactness.{AllFirm}
-use Rattle.c_declarator_reader.proofs.Dimensions.{within_opens}
+use Rattle.c_type_reader.proofs.Dimensions.{within_opens}
 use Rattle.c_declaration_reader.proofs.Chosen.{Allowed, roled-allowed}
 use Rattle.c_statement_reader.specs.Statements.{Statements, keyword_place, is_keyword, read_block, read_while, read_do, read_if}
 use Rattle.c_statement_reader.specs.Ends.{stop_statement}

@@ -10,11 +10,11 @@ use Rattle.c_tree_spec.specs.declared.StepOperator.TheVariants.{Increment, Decre
 use Rattle.c_tree_spec.specs.Expression as tree
 use Rattle.c_tree_spec.specs.Unit as unit
 use Rattle.c_grammar_spec.specs.Leaves.{mark, word, Leaf, plain, named}
-use Rattle.c_grammar_spec.specs.Expressions.{is_type_name, InLocal, Position, Words, none, const, typedef, extern, inline, static_item, static_local}
+use Rattle.c_grammar_spec.specs.Expressions.{Alone, is_type_name, InLocal, Position, Words, none, const, typedef, extern, inline, static_item, static_local}
 use Rattle.c_grammar_spec.specs.Statements as grammar
 use Rattle.c_expression_reader.specs.Classes.{begins_type, begins_type_word}
-use Rattle.c_declarator_reader.specs.Firsts.{begins_by_mark, begins_expression}
-use Rattle.c_declarator_reader.proofs.Firsts.{First, conditional_first, unary_first, postfix_first}
+use Rattle.c_type_reader.specs.Firsts.{begins_by_mark, begins_expression}
+use Rattle.c_type_reader.proofs.Firsts.{First, conditional_first, unary_first, postfix_first}
 use Rattle.c_type_reader.proofs.TypeFirsts.{TypeFirst, base_first}
 use Rattle.c_type_reader.proofs.Ended.{with_end}
 use Rattle.c_declaration_reader.specs.Around.{is_word, local_word}
@@ -69,7 +69,7 @@ mark_statement punctuator.Tilde e = refl
 mark_statement punctuator.Exclamation e = refl
 mark_statement other e = absurd (cc)
 
-word_statement : (w : Keyword) → Rattle.c_declarator_reader.specs.Firsts.begins_by_word w ≡ true → statement_word w ≡ true
+word_statement : (w : Keyword) → Rattle.c_type_reader.specs.Firsts.begins_by_word w ≡ true → statement_word w ≡ true
 word_statement Sizeof e = refl
 word_statement other e = absurd (cc)
 
@@ -196,9 +196,9 @@ longer_locals names left right f = record { leaf = f.leaf; more = f.more ++ righ
 
 list_first : (names : List (List ℕ)) (depth : ℕ) (locals : unit.Locals) (role : Rattle.c_grammar_spec.specs.declared.Role.Role) (text : List Leaf) → grammar.Locals names depth locals role text → LocalsFirst names text
 list_first names depth locals role text (grammar.locals d s list e left right h k) =
-    let w = with_end names InLocal d s left h in
+    let w = with_end names InLocal d Alone s left h in
     let q = w.spells in
-    longer_locals names left right (subst (LocalsFirst names) (sym q.cut) (words_first names InLocal q.one q.before (q.middle ++ q.after) q.words_before refl (longer_type names q.middle q.after (base_first names d q.base q.middle q.is_base))))
+    longer_locals names left right (subst (LocalsFirst names) (sym q.cut) (words_first names InLocal q.one q.before (q.middle ++ q.after) q.words_before refl (longer_type names q.middle q.after (base_first names d Alone q.base q.middle q.is_base))))
 
 pub locals_first : (names : List (List ℕ)) (depth : ℕ) (locals : unit.Locals) (text : List Leaf) → LocalsText names depth locals text → LocalsFirst names text
 locals_first names depth locals text l = subst (LocalsFirst names) (sym l.cut) (longer_locals names l.inside _ (list_first names depth locals l.role l.inside l.spells))

@@ -15,7 +15,7 @@ use Rattle.exact_read.specs.Awaited.{Next}
 use Rattle.exact_read.specs.Reading.{Outcome, Reader, Wrong, plains}
 use Rattle.exact_read.proofs.Basics.{err}
 use Rattle.exact_read.proofs.Then.{Joins}
-use Rattle.c_declarator_reader.proofs.Tokens.{Kept}
+use Rattle.c_type_reader.proofs.Tokens.{Kept}
 use Rattle.c_grammar_spec.specs.declared.Role.TheVariants.{Nothing}
 use Rattle.role_read.proofs.Basics.{roled-same}
 use Rattle.role_read.proofs.Begins.{Silent, silent_next}

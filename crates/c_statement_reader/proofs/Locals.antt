@@ -13,7 +13,7 @@ use Rattle.c_grammar_spec.specs.Statements as grammar
 use Rattle.role_read.proofs.Begins.{Begins}
 use Rattle.c_expression_reader.specs.Classes.{begins_type}
 use Rattle.c_expression_reader.specs.Types.{no_storage}
-use Rattle.c_declarator_reader.proofs.Fresh.{fresh, fresh_is}
+use Rattle.c_type_reader.proofs.Fresh.{fresh, fresh_is}
 use Rattle.c_declaration_reader.specs.Around.{is_word, local_word}
 use Rattle.c_declaration_reader.specs.Declarations.{begins_locals}
 use Rattle.c_declaration_reader.specs.Texts.{LocalsText}
@@ -29,18 +29,18 @@ move_words to position storage text (expression.inline s t place h) e = absurd (
 move_words to position storage text (expression.static_item s t place h) e = absurd (cc)
 move_words to position storage text (expression.static_local s t place h) e = absurd (cc)
 
-pub move_specifiers : (names : List (List ℕ)) (to position : expression.Position) (depth : ℕ) (s : tree.Specifiers) (text : List Leaf) → expression.Specifiers names position depth s text → position ≡ expression.InPart → expression.Specifiers names to depth s text
-move_specifiers names to position depth s text (expression.specifiers p d one two base before middle after h k l) e = expression.specifiers to d one two base before middle after (move_words to p one before h e) k (move_words to p two after l e)
+pub move_specifiers : (names : List (List ℕ)) (to position : expression.Position) (depth : ℕ) (counting : expression.Counting) (s : tree.Specifiers) (text : List Leaf) → expression.Specifiers names position depth counting s text → position ≡ expression.InPart → expression.Specifiers names to depth counting s text
+move_specifiers names to position depth counting s text (expression.specifiers p d c one two base before middle after h k l) e = expression.specifiers to d c one two base before middle after (move_words to p one before h e) k (move_words to p two after l e)
 
 -- a word, and `void` behind it
 pub record SpecifiersAt (names : List (List ℕ)) (position : expression.Position) (depth : ℕ) (t : Placed) : Type 0 where
   pub specifiers : tree.Specifiers
   pub more : List Leaf
-  pub spells : expression.Specifiers names position depth specifiers (plain t ∷ more)
+  pub spells : expression.Specifiers names position depth expression.Alone specifiers (plain t ∷ more)
 
 pub word_at : (names : List (List ℕ)) (position : expression.Position) (depth place : ℕ) (w : Keyword) (storage : tree.Storage) → expression.Words position storage (plain (word w place) ∷ []) → SpecifiersAt names position depth (word w place)
 word_at names position depth place w storage h =
-    record { specifiers = _; more = plain (word Void 0) ∷ []; spells = expression.specifiers position depth storage no_storage tree.Void (plain (word w place) ∷ []) (plain (word Void 0) ∷ []) [] h (expression.void depth 0) (expression.none position) }
+    record { specifiers = _; more = plain (word Void 0) ∷ []; spells = expression.specifiers position depth expression.Alone storage no_storage tree.Void (plain (word w place) ∷ []) (plain (word Void 0) ∷ []) [] h (expression.void depth expression.Alone 0) (expression.none position) }
 
 local_at : (names : List (List ℕ)) (depth : ℕ) (t : Placed) → begins_locals names t.token ≡ true → SpecifiersAt names expression.InLocal depth t
 local_at names depth t e = by_word (is_word local_word t.token) refl e
@@ -57,14 +57,14 @@ local_at names depth t e = by_word (is_word local_word t.token) refl e
     by_word : (b : Bool) → is_word local_word t.token ≡ b → (b || begins_type names t.token) ≡ true → SpecifiersAt names expression.InLocal depth t
     by_word true f e = by_token t.token t.offset f
     by_word false f e =
-        let s = begin_specifiers names depth t e in
-        record { specifiers = s.specifiers; more = s.more; spells = move_specifiers names expression.InLocal expression.InPart depth s.specifiers (plain t ∷ s.more) s.spells refl }
+        let s = begin_specifiers names depth expression.Alone t e in
+        record { specifiers = s.specifiers; more = s.more; spells = move_specifiers names expression.InLocal expression.InPart depth expression.Alone s.specifiers (plain t ∷ s.more) s.spells refl }
 
 abbrev some_local : List (List ℕ) → unit.Local
 some_local names = record { declarator = tree.Declared 0 (fresh names) false tree.no_expressions; value = None }
 
 local_is : (names : List (List ℕ)) (depth : ℕ) → grammar.Local names depth (some_local names) Nothing (awaited DeclaredName (named (fresh names)) ∷ [])
-local_is names depth = grammar.unset depth (tree.Declared 0 (fresh names) false tree.no_expressions) (awaited DeclaredName (named (fresh names)) ∷ []) (expression.declarator false depth 0 (fresh names) false tree.no_expressions [] [] (rw (fresh_is names) refl) expression.none (expression.given depth tree.no_expressions [] (expression.no_lengths depth)))
+local_is names depth = grammar.unset depth (tree.Declared 0 (fresh names) false tree.no_expressions) (awaited DeclaredName (named (fresh names)) ∷ []) (expression.declarator false depth expression.Alone 0 (fresh names) false tree.no_expressions [] [] (rw (fresh_is names) refl) expression.none (expression.given depth expression.Alone tree.no_expressions [] (expression.no_lengths depth expression.Alone)))
 
 pub begin_locals : (names : List (List ℕ)) (depth : ℕ) (t : Placed) → begins_locals names t.token ≡ true → Begins marks (LocalsText names depth) t
 begin_locals names depth t e =

@@ -24,9 +24,9 @@ use Rattle.c_expression_reader.specs.Readers.{Readers}
 use Rattle.c_expression_reader.proofs.Marks.{one-mark, mark-one, Behind, roled-mark, roled-choice, map_begins, map_silent, roled-closed, mark-self, roled-opened, roled-behind}
 use Rattle.c_expression_reader.proofs.Samples.{zero_tree}
 use Rattle.c_type_reader.specs.Exactness.{AllFirm}
-use Rattle.c_declarator_reader.specs.Firsts.{begins_expression, begins_by_mark}
-use Rattle.c_declarator_reader.proofs.Firsts.{First, unary_first, postfix_first, begins-not, conditional_first, first_not_mark}
-use Rattle.c_declarator_reader.proofs.Dimensions.{within_opens}
+use Rattle.c_type_reader.specs.Firsts.{begins_expression, begins_by_mark}
+use Rattle.c_type_reader.proofs.Firsts.{First, unary_first, postfix_first, begins-not, conditional_first, first_not_mark}
+use Rattle.c_type_reader.proofs.Dimensions.{within_opens}
 use Rattle.c_declaration_reader.specs.Values.{step_operator, step_mark}
 use Rattle.c_declaration_reader.specs.Declarations.{begins_locals}
 use Rattle.c_declaration_reader.specs.Texts.{LocalsText}

@@ -13,7 +13,7 @@ use Rattle.c_expression_reader.specs.Readers.{Readers}
 use Rattle.c_expression_reader.proofs.Marks.{roled-choice, map_begins, map_silent}
 use Rattle.c_type_reader.specs.Exactness.{AllFirm}
 use Rattle.exact_read.proofs.Contexts.{many-context_same}
-use Rattle.c_declarator_reader.proofs.Tokens.{or_right}
+use Rattle.c_type_reader.proofs.Tokens.{or_right}
 use Rattle.c_declaration_reader.specs.Declarations.{begins_locals}
 use Rattle.c_declaration_reader.specs.Texts.{LocalsText}
 use Rattle.c_declaration_reader.proofs.Locals.{roled-locals}

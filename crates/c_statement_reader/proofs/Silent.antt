@@ -96,11 +96,11 @@ statement_silent names depth s text h u more e = told text u more (quiet_of s te
     quiet_of s text (grammar.return_value d v t place end h) = record { leaf = _; more = _; cut = refl; quiet = refl }
 
 -- specifiers are not empty
-pub specifiers_some : (names : List (List ℕ)) (position : expression.Position) (depth : ℕ) (s : tree.Specifiers) (text : List Leaf) → expression.Specifiers names position depth s text → text ≡ [] → ⊥
-specifiers_some names position depth s text (expression.specifiers p d one two base before middle after h k l) e = by_before before e
+pub specifiers_some : (names : List (List ℕ)) (position : expression.Position) (depth : ℕ) (counting : expression.Counting) (s : tree.Specifiers) (text : List Leaf) → expression.Specifiers names position depth counting s text → text ≡ [] → ⊥
+specifiers_some names position depth counting s text (expression.specifiers p d c one two base before middle after h k l) e = by_before before e
   where
-    by_middle : (middle : List Leaf) → expression.Base names d base middle → middle ++ after ≡ [] → ⊥
-    by_middle [] k e = let f = base_first names d base [] k in let g : [] ≡ f.leaf ∷ f.more = f.cut in cc
+    by_middle : (middle : List Leaf) → expression.Base names d c base middle → middle ++ after ≡ [] → ⊥
+    by_middle [] k e = let f = base_first names d c base [] k in let g : [] ≡ f.leaf ∷ f.more = f.cut in cc
     by_middle (v ∷ middle) k e = cc
 
     by_before : (before : List Leaf) → before ++ (middle ++ after) ≡ [] → ⊥
@@ -110,9 +110,9 @@ specifiers_some names position depth s text (expression.specifiers p d one two b
 pub locals_silent : (names : List (List ℕ)) (depth : ℕ) → Silent marks roles (LocalsText names depth)
 locals_silent names depth locals u more l = by_locals locals l.role l.inside l.spells (awaited l.role (mark punctuator.Semicolon l.place) ∷ []) l.cut
   where
-    by_left : (s : tree.Specifiers) (left right : List Leaf) → expression.Specifiers names expression.InLocal depth s left → u ∷ more ≡ left ++ right → u.role ≡ Nothing
-    by_left s [] right h e = absurd (specifiers_some names expression.InLocal depth s [] h refl)
-    by_left s (v ∷ left) right h e = let head : v ≡ u = cc in subst (λ (k : Leaf). k.role ≡ Nothing) head (specifiers_silent names expression.InLocal depth s (v ∷ left) h v left refl)
+    by_left : (s : tree.Specifiers) (left right : List Leaf) → expression.Specifiers names expression.InLocal depth expression.Alone s left → u ∷ more ≡ left ++ right → u.role ≡ Nothing
+    by_left s [] right h e = absurd (specifiers_some names expression.InLocal depth expression.Alone s [] h refl)
+    by_left s (v ∷ left) right h e = let head : v ≡ u = cc in subst (λ (k : Leaf). k.role ≡ Nothing) head (specifiers_silent names expression.InLocal depth expression.Alone s (v ∷ left) h v left refl)
 
     by_locals : (locals : unit.Locals) (role : Role) (inside : List Leaf) → grammar.Locals names depth locals role inside → (behind : List Leaf) → u ∷ more ≡ inside ++ behind → u.role ≡ Nothing
     by_locals locals role inside (grammar.locals d s list end left right h k) behind e = by_left s left (right ++ behind) h (e ∙ append_assoc left right behind)

@@ -21,8 +21,8 @@ use Rattle.c_expression_reader.specs.Readers.{token, Readers}
 use Rattle.c_expression_reader.proofs.Marks.{Behind, one-mark, mark-one, roled-mark, mark-self, roled-closed, roled-opened, mark-some, one_first, mark-passes, roled-choice, map_begins, map_silent}
 use Rattle.c_expression_reader.proofs.Samples.{zero_tree, zero_text, zero_conditional}
 use Rattle.c_type_reader.specs.Exactness.{AllFirm}
-use Rattle.c_declarator_reader.proofs.Firsts.{first_not_mark}
-use Rattle.c_declarator_reader.proofs.Tokens.{Kept}
+use Rattle.c_type_reader.proofs.Firsts.{first_not_mark}
+use Rattle.c_type_reader.proofs.Tokens.{Kept}
 use Rattle.c_declaration_reader.specs.Ends.{stop_value, stop_simple}
 use Rattle.c_declaration_reader.proofs.Values.{roled-value}
 use Rattle.c_declaration_reader.proofs.Simples.{roled-simple}

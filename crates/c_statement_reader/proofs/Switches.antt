@@ -18,7 +18,7 @@ use Rattle.c_expression_reader.proofs.Marks.{Behind, one-mark, mark-one, behind_
 use Rattle.c_expression_reader.proofs.Samples.{zero_tree, zero_text, zero_conditional}
 use Rattle.c_type_reader.specs.Exactness.{AllFirm}
 use Rattle.exact_read.proofs.Contexts.{many-context_same}
-use Rattle.c_declarator_reader.proofs.Tokens.{or_right}
+use Rattle.c_type_reader.proofs.Tokens.{or_right}
 use Rattle.c_statement_reader.specs.Statements.{keyword_place, begins_label, Element, ElementLabel, ElementPart, is_keyword, ends_parts, elements_start, Collected, Part, PartLocals, PartStatement, with_part, before_part, collect, groups_of, parts_of, group_of, read_label, Statements, read_element, read_groups}
 use Rattle.c_statement_reader.proofs.Keywords.{one-keyword, keyword-one, keyword-some, keyword-self, silent_wrong}
 use Rattle.c_statement_reader.proofs.Parts.{is_open, PartText, goes_no_else, part_first, part_before, PartsMany, parts_many, StatementsFirm, roled-part, part_silent}

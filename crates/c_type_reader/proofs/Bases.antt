@@ -24,9 +24,9 @@ use Rattle.c_expression_reader.proofs.Marks.{Behind, one-mark, mark-one, roled-o
 use Rattle.c_type_reader.specs.Endings.{goes_on_with, WordsAround, BraceToo, WordsToo, keywords_of, BaseEnd, base_ending, Ending}
 use Rattle.c_type_reader.specs.Rich.{Ended, rich_base_rest, rich_base, rich_struct, rich_enum}
 use Rattle.c_type_reader.proofs.IntegerWords.{six, first_words}
-use Rattle.c_declarator_reader.proofs.Fresh.{fresh, fresh_is}
-use Rattle.c_declarator_reader.proofs.Words.{WordsAre, none, some}
-use Rattle.c_declarator_reader.proofs.Declarators.{plain-self, plain-passes}
+use Rattle.c_type_reader.proofs.Fresh.{fresh, fresh_is}
+use Rattle.c_type_reader.proofs.Words.{WordsAre, none, some}
+use Rattle.c_type_reader.proofs.Declarators.{plain-self, plain-passes}
 use Rattle.c_type_reader.proofs.TypeFirsts.{six_begins, first_six}
 use Rattle.c_type_reader.proofs.Members.{BracesText, Inside, roled-members}
 use Rattle.c_type_reader.proofs.Constants.{ConstantsText, plain_leaf, Enumeration, leaf_plain, roled-constants}
@@ -35,8 +35,8 @@ use Rattle.role_read.proofs.Begins.{Begins, Silent}
 use Rattle.role_read.proofs.Then.{roled-then}
 use Rattle.c_expression_reader.specs.Firm.{Firm}
 use Rattle.c_expression_reader.proofs.Firm.{firm-map, firm-nothing, firm-one}
-use Rattle.c_declarator_reader.specs.Exactness.{Whole}
-use Rattle.c_declarator_reader.proofs.Plain.{roled-words}
+use Rattle.c_type_reader.specs.Declarators.{Whole}
+use Rattle.c_type_reader.proofs.Plain.{roled-words}
 use Rattle.c_type_reader.proofs.Begins.{plain_found}
 
 abbrev pub stop_ended : Ended → Placed → Bool
@@ -75,32 +75,32 @@ full_enum tag body = (tree.Enum tag body, WordsAround)
 abbrev short_enum : tree.Name → Ended
 short_enum tag = (tree.EnumTag tag, BraceToo)
 
-abbrev StructText : (names : List (List ℕ)) → (depth : ℕ) → Ended → List Leaf → Type 0
-StructText names depth = TaggedText names (BracesText names depth) full_struct short_struct
+abbrev StructText : (names : List (List ℕ)) → (depth : ℕ) → (counting : grammar.Counting) → Ended → List Leaf → Type 0
+StructText names depth counting = TaggedText names (BracesText names depth counting) full_struct short_struct
 
-abbrev EnumText : (names : List (List ℕ)) → (depth : ℕ) → Ended → List Leaf → Type 0
-EnumText names depth = TaggedText names (ConstantsText names depth) full_enum short_enum
+abbrev EnumText : (names : List (List ℕ)) → (depth : ℕ) → (counting : grammar.Counting) → Ended → List Leaf → Type 0
+EnumText names depth counting = TaggedText names (ConstantsText names depth counting) full_enum short_enum
 
 brace_first : {X : Type 0} (depth : ℕ) (S2 : ℕ → X → List Leaf → Type 0) (x : X) (text : List Leaf) (b : Behind (One (opens (suc depth)) (mark_place punctuator.LeftBrace)) S2 x text) → text ≡ opens (suc depth) (mark punctuator.LeftBrace b.first) ∷ b.right
 brace_first depth S2 x text b = b.cut ∙ ap (λ l. l ++ b.right) (one-mark punctuator.LeftBrace (opens (suc depth)) b.first b.left b.is_first)
 
 -- what stands behind the first token of a base
-abbrev RestText : (names : List (List ℕ)) → (depth : ℕ) → Head → Ended → List Leaf → Type 0
-RestText names depth HeadVoid = Empty (tree.Void, WordsAround)
-RestText names depth (HeadInteger keyword) = Map (λ words. (integer_of (keyword ∷ words), WordsToo (keyword ∷ words))) (WordsAre (keyword ∷ []))
-RestText names depth (HeadName name) = Empty (tree.TypedefName name, WordsAround)
-RestText names depth HeadStruct = StructText names depth
-RestText names depth HeadEnum = EnumText names depth
+abbrev RestText : (names : List (List ℕ)) → (depth : ℕ) → (counting : grammar.Counting) → Head → Ended → List Leaf → Type 0
+RestText names depth counting HeadVoid = Empty (tree.Void, WordsAround)
+RestText names depth counting (HeadInteger keyword) = Map (λ words. (integer_of (keyword ∷ words), WordsToo (keyword ∷ words))) (WordsAre (keyword ∷ []))
+RestText names depth counting (HeadName name) = Empty (tree.TypedefName name, WordsAround)
+RestText names depth counting HeadStruct = StructText names depth counting
+RestText names depth counting HeadEnum = EnumText names depth counting
 
-abbrev pub BaseText : (names : List (List ℕ)) → (depth : ℕ) → (Head × ℕ) × Ended → List Leaf → Type 0
-BaseText names depth = Then (One plain (head_at names)) (λ head. RestText names depth head.0)
+abbrev pub BaseText : (names : List (List ℕ)) → (depth : ℕ) → (counting : grammar.Counting) → (Head × ℕ) × Ended → List Leaf → Type 0
+BaseText names depth counting = Then (One plain (head_at names)) (λ head. RestText names depth counting head.0)
 
-rest_some : (names : List (List ℕ)) (depth : ℕ) (head : Head) → (x : Ended) × (text : List Leaf) × RestText names depth head x text
-rest_some names depth HeadVoid = (_, [], nothing)
-rest_some names depth (HeadInteger keyword) = (_, [], record { inner = []; is = refl; spells = none (keyword ∷ []) })
-rest_some names depth (HeadName name) = (_, [], nothing)
-rest_some names depth HeadStruct = ((tree.Struct None tree.no_members, WordsAround), _, second (record { inner = tree.no_members; is = refl; spells = record { first = 0; left = opens (suc depth) (mark punctuator.LeftBrace 0) ∷ []; right = plain (mark punctuator.RightBrace 0) ∷ []; is_first = mark-one punctuator.LeftBrace (opens (suc depth)) 0; is_second = record { inside = []; close = 0; spells = grammar.no_members (suc depth); cut = refl }; cut = refl } }))
-rest_some names depth HeadEnum = ((tree.Enum None (tree.constants (fresh names) tree.no_constants), WordsAround), _, second (record { inner = tree.constants (fresh names) tree.no_constants; is = refl; spells = record { first = 0; left = opens (suc depth) (mark punctuator.LeftBrace 0) ∷ []; right = plain (named (fresh names)) ∷ awaited Nothing (mark punctuator.RightBrace 0) ∷ []; is_first = mark-one punctuator.LeftBrace (opens (suc depth)) 0; is_second = record { end = Nothing; inside = plain (named (fresh names)) ∷ []; close = 0; spells = grammar.last (suc depth) (fresh names) (fresh_is names); cut = refl }; cut = refl } }))
+rest_some : (names : List (List ℕ)) (depth : ℕ) (counting : grammar.Counting) (head : Head) → (x : Ended) × (text : List Leaf) × RestText names depth counting head x text
+rest_some names depth counting HeadVoid = (_, [], nothing)
+rest_some names depth counting (HeadInteger keyword) = (_, [], record { inner = []; is = refl; spells = none (keyword ∷ []) })
+rest_some names depth counting (HeadName name) = (_, [], nothing)
+rest_some names depth counting HeadStruct = ((tree.Struct None tree.no_members, WordsAround), _, second (record { inner = tree.no_members; is = refl; spells = record { first = 0; left = opens (suc depth) (mark punctuator.LeftBrace 0) ∷ []; right = plain (mark punctuator.RightBrace 0) ∷ []; is_first = mark-one punctuator.LeftBrace (opens (suc depth)) 0; is_second = record { inside = []; close = 0; spells = grammar.no_members (suc depth) counting; cut = refl }; cut = refl } }))
+rest_some names depth counting HeadEnum = ((tree.Enum None (tree.constants (fresh names) tree.no_constants), WordsAround), _, second (record { inner = tree.constants (fresh names) tree.no_constants; is = refl; spells = record { first = 0; left = opens (suc depth) (mark punctuator.LeftBrace 0) ∷ []; right = plain (named (fresh names)) ∷ awaited Nothing (mark punctuator.RightBrace 0) ∷ []; is_first = mark-one punctuator.LeftBrace (opens (suc depth)) 0; is_second = record { end = Nothing; inside = plain (named (fresh names)) ∷ []; close = 0; spells = grammar.last (suc depth) counting (fresh names) (fresh_is names); cut = refl }; cut = refl } }))
 
 -- the token that a head is
 abbrev pub head_leaf : Head → ℕ → Placed
@@ -181,71 +181,71 @@ six_type Long e = refl
 six_type other e = absurd (cc)
 
 -- bases as the grammar has them
-integer_base : (names : List (List ℕ)) (depth : ℕ) (keyword : Keyword) (place : ℕ) (words : List Keyword) (text : List Leaf) → six keyword ≡ true → WordsAre (keyword ∷ []) words text
-    → BaseEnd names depth (integer_of (keyword ∷ words)) (WordsToo (keyword ∷ words)) (plain (word keyword place) ∷ text)
-integer_base names depth keyword place words text e are =
+integer_base : (names : List (List ℕ)) (depth : ℕ) (counting : grammar.Counting) (keyword : Keyword) (place : ℕ) (words : List Keyword) (text : List Leaf) → six keyword ≡ true → WordsAre (keyword ∷ []) words text
+    → BaseEnd names depth counting (integer_of (keyword ∷ words)) (WordsToo (keyword ∷ words)) (plain (word keyword place) ∷ text)
+integer_base names depth counting keyword place words text e are =
     let p = words_places (keyword ∷ []) words text are in
     let all : is_some (grammar.integer_type_of (keyword ∷ words)) ≡ true = words_type (keyword ∷ []) words text (six_type keyword e) are in
     let type : grammar.integer_type_of (keyword ∷ map (λ (w : Keyword × ℕ). w.0) p.0) ≡ Some (unwrap_or (grammar.integer_type_of (keyword ∷ words)) integer.Int) =
     ap (λ l. grammar.integer_type_of (keyword ∷ l)) p.1.0 ∙ some_is (grammar.integer_type_of (keyword ∷ words)) integer.Int all in
     record {
-      spells = subst (λ l. grammar.Base names depth (integer_of (keyword ∷ words)) (plain (word keyword place) ∷ l)) (sym p.1.1) (grammar.integer_type depth (unwrap_or (grammar.integer_type_of (keyword ∷ words)) integer.Int) ((keyword, place) ∷ p.0) type);
+      spells = subst (λ l. grammar.Base names depth counting (integer_of (keyword ∷ words)) (plain (word keyword place) ∷ l)) (sym p.1.1) (grammar.integer_type depth counting (unwrap_or (grammar.integer_type_of (keyword ∷ words)) integer.Int) ((keyword, place) ∷ p.0) type);
       is = ap (λ l. WordsToo (keyword ∷ l)) (sym (words_keywords (keyword ∷ []) words text are));
     }
 
-struct_base : (names : List (List ℕ)) (depth place : ℕ) (x : Ended) (text : List Leaf) → StructText names depth x text → BaseEnd names depth x.0 x.1 (plain (word Struct place) ∷ text)
-struct_base names depth place x text (first b) =
+struct_base : (names : List (List ℕ)) (depth place : ℕ) (counting : grammar.Counting) (x : Ended) (text : List Leaf) → StructText names depth counting x text → BaseEnd names depth counting x.0 x.1 (plain (word Struct place) ∷ text)
+struct_base names depth place counting x text (first b) =
     let h = plain_leaf names b.first b.left b.is_first in
-    subst (λ t. BaseEnd names depth x.0 x.1 (plain (word Struct place) ∷ t)) (sym (b.cut ∙ ap (λ l. l ++ b.right) h.0)) (by_way b.first h.1 x b.right b.is_second)
+    subst (λ t. BaseEnd names depth counting x.0 x.1 (plain (word Struct place) ∷ t)) (sym (b.cut ∙ ap (λ l. l ++ b.right) h.0)) (by_way b.first h.1 x b.right b.is_second)
   where
-    by_way : (tag : tree.Name) → grammar.is_type_name names tag.spelling ≡ false → (x : Ended) (right : List Leaf) → Or (Map (full_struct (Some tag)) (BracesText names depth)) (Empty (short_struct tag)) x right → BaseEnd names depth x.0 x.1 (plain (word Struct place) ∷ (plain (named tag) ∷ right))
+    by_way : (tag : tree.Name) → grammar.is_type_name names tag.spelling ≡ false → (x : Ended) (right : List Leaf) → Or (Map (full_struct (Some tag)) (BracesText names depth counting)) (Empty (short_struct tag)) x right → BaseEnd names depth counting x.0 x.1 (plain (word Struct place) ∷ (plain (named tag) ∷ right))
     by_way tag e x right (first m) =
         let c = m.spells.is_second in
-        let cut : right ≡ opens (suc depth) (mark punctuator.LeftBrace m.spells.first) ∷ c.inside ++ plain (mark punctuator.RightBrace c.close) ∷ [] = brace_first depth (λ _. Closed plain punctuator.RightBrace (grammar.Members names (suc depth))) m.inner right m.spells ∙ ap (λ l. opens (suc depth) (mark punctuator.LeftBrace m.spells.first) ∷ l) c.cut in
-        rw (m.is, cut) (record { spells = grammar.struct depth (Some tag) m.inner (plain (named tag) ∷ []) c.inside place m.spells.first c.close (grammar.tag tag e) c.spells; is = refl })
-    by_way tag e x right (second nothing) = record { spells = grammar.struct_tag depth tag place e; is = refl }
-struct_base names depth place x text (second m) =
+        let cut : right ≡ opens (suc depth) (mark punctuator.LeftBrace m.spells.first) ∷ c.inside ++ plain (mark punctuator.RightBrace c.close) ∷ [] = brace_first depth (λ _. Closed plain punctuator.RightBrace (grammar.Members names (suc depth) counting)) m.inner right m.spells ∙ ap (λ l. opens (suc depth) (mark punctuator.LeftBrace m.spells.first) ∷ l) c.cut in
+        rw (m.is, cut) (record { spells = grammar.struct depth counting (Some tag) m.inner (plain (named tag) ∷ []) c.inside place m.spells.first c.close (grammar.tag tag e) c.spells; is = refl })
+    by_way tag e x right (second nothing) = record { spells = grammar.struct_tag depth counting tag place e; is = refl }
+struct_base names depth place counting x text (second m) =
     let c = m.spells.is_second in
-    let cut : text ≡ opens (suc depth) (mark punctuator.LeftBrace m.spells.first) ∷ c.inside ++ plain (mark punctuator.RightBrace c.close) ∷ [] = brace_first depth (λ _. Closed plain punctuator.RightBrace (grammar.Members names (suc depth))) m.inner text m.spells ∙ ap (λ l. opens (suc depth) (mark punctuator.LeftBrace m.spells.first) ∷ l) c.cut in
-    rw (m.is, cut) (record { spells = grammar.struct depth None m.inner [] c.inside place m.spells.first c.close grammar.none c.spells; is = refl })
+    let cut : text ≡ opens (suc depth) (mark punctuator.LeftBrace m.spells.first) ∷ c.inside ++ plain (mark punctuator.RightBrace c.close) ∷ [] = brace_first depth (λ _. Closed plain punctuator.RightBrace (grammar.Members names (suc depth) counting)) m.inner text m.spells ∙ ap (λ l. opens (suc depth) (mark punctuator.LeftBrace m.spells.first) ∷ l) c.cut in
+    rw (m.is, cut) (record { spells = grammar.struct depth counting None m.inner [] c.inside place m.spells.first c.close grammar.none c.spells; is = refl })
 
-enum_base : (names : List (List ℕ)) (depth place : ℕ) (x : Ended) (text : List Leaf) → EnumText names depth x text → BaseEnd names depth x.0 x.1 (plain (word Enum place) ∷ text)
-enum_base names depth place x text (first b) =
+enum_base : (names : List (List ℕ)) (depth place : ℕ) (counting : grammar.Counting) (x : Ended) (text : List Leaf) → EnumText names depth counting x text → BaseEnd names depth counting x.0 x.1 (plain (word Enum place) ∷ text)
+enum_base names depth place counting x text (first b) =
     let h = plain_leaf names b.first b.left b.is_first in
-    subst (λ t. BaseEnd names depth x.0 x.1 (plain (word Enum place) ∷ t)) (sym (b.cut ∙ ap (λ l. l ++ b.right) h.0)) (by_way b.first h.1 x b.right b.is_second)
+    subst (λ t. BaseEnd names depth counting x.0 x.1 (plain (word Enum place) ∷ t)) (sym (b.cut ∙ ap (λ l. l ++ b.right) h.0)) (by_way b.first h.1 x b.right b.is_second)
   where
-    by_way : (tag : tree.Name) → grammar.is_type_name names tag.spelling ≡ false → (x : Ended) (right : List Leaf) → Or (Map (full_enum (Some tag)) (ConstantsText names depth)) (Empty (short_enum tag)) x right → BaseEnd names depth x.0 x.1 (plain (word Enum place) ∷ (plain (named tag) ∷ right))
+    by_way : (tag : tree.Name) → grammar.is_type_name names tag.spelling ≡ false → (x : Ended) (right : List Leaf) → Or (Map (full_enum (Some tag)) (ConstantsText names depth counting)) (Empty (short_enum tag)) x right → BaseEnd names depth counting x.0 x.1 (plain (word Enum place) ∷ (plain (named tag) ∷ right))
     by_way tag e x right (first m) =
         let c = m.spells.is_second in
-        let cut : right ≡ opens (suc depth) (mark punctuator.LeftBrace m.spells.first) ∷ c.inside ++ awaited c.end (mark punctuator.RightBrace c.close) ∷ [] = brace_first depth (λ _. Enumeration names (suc depth)) m.inner right m.spells ∙ ap (λ l. opens (suc depth) (mark punctuator.LeftBrace m.spells.first) ∷ l) c.cut in
-        rw (m.is, cut) (record { spells = grammar.enum depth (Some tag) m.inner (plain (named tag) ∷ []) c.inside c.end place m.spells.first c.close (grammar.tag tag e) c.spells; is = refl })
-    by_way tag e x right (second nothing) = record { spells = grammar.enum_tag depth tag place e; is = refl }
-enum_base names depth place x text (second m) =
+        let cut : right ≡ opens (suc depth) (mark punctuator.LeftBrace m.spells.first) ∷ c.inside ++ awaited c.end (mark punctuator.RightBrace c.close) ∷ [] = brace_first depth (λ _. Enumeration names (suc depth) counting) m.inner right m.spells ∙ ap (λ l. opens (suc depth) (mark punctuator.LeftBrace m.spells.first) ∷ l) c.cut in
+        rw (m.is, cut) (record { spells = grammar.enum depth counting (Some tag) m.inner (plain (named tag) ∷ []) c.inside c.end place m.spells.first c.close (grammar.tag tag e) c.spells; is = refl })
+    by_way tag e x right (second nothing) = record { spells = grammar.enum_tag depth counting tag place e; is = refl }
+enum_base names depth place counting x text (second m) =
     let c = m.spells.is_second in
-    let cut : text ≡ opens (suc depth) (mark punctuator.LeftBrace m.spells.first) ∷ c.inside ++ awaited c.end (mark punctuator.RightBrace c.close) ∷ [] = brace_first depth (λ _. Enumeration names (suc depth)) m.inner text m.spells ∙ ap (λ l. opens (suc depth) (mark punctuator.LeftBrace m.spells.first) ∷ l) c.cut in
-    rw (m.is, cut) (record { spells = grammar.enum depth None m.inner [] c.inside c.end place m.spells.first c.close grammar.none c.spells; is = refl })
+    let cut : text ≡ opens (suc depth) (mark punctuator.LeftBrace m.spells.first) ∷ c.inside ++ awaited c.end (mark punctuator.RightBrace c.close) ∷ [] = brace_first depth (λ _. Enumeration names (suc depth) counting) m.inner text m.spells ∙ ap (λ l. opens (suc depth) (mark punctuator.LeftBrace m.spells.first) ∷ l) c.cut in
+    rw (m.is, cut) (record { spells = grammar.enum depth counting None m.inner [] c.inside c.end place m.spells.first c.close grammar.none c.spells; is = refl })
 
-rest_base : (names : List (List ℕ)) (depth : ℕ) (head : Head) (place : ℕ) (x : Ended) (text : List Leaf) → HeadIs names head place → RestText names depth head x text → BaseEnd names depth x.0 x.1 (plain (head_leaf head place) ∷ text)
-rest_base names depth HeadVoid place x text h nothing = record { spells = grammar.void depth place; is = refl }
-rest_base names depth (HeadInteger keyword) place x text h m = subst (λ (y : Ended). BaseEnd names depth y.0 y.1 (plain (word keyword place) ∷ text)) (sym m.is) (integer_base names depth keyword place m.inner text h m.spells)
-rest_base names depth (HeadName name) place x text h nothing = record { spells = grammar.typedef_name depth name h.0; is = refl }
-rest_base names depth HeadStruct place x text h s = struct_base names depth place x text s
-rest_base names depth HeadEnum place x text h s = enum_base names depth place x text s
+rest_base : (names : List (List ℕ)) (depth : ℕ) (counting : grammar.Counting) (head : Head) (place : ℕ) (x : Ended) (text : List Leaf) → HeadIs names head place → RestText names depth counting head x text → BaseEnd names depth counting x.0 x.1 (plain (head_leaf head place) ∷ text)
+rest_base names depth counting HeadVoid place x text h nothing = record { spells = grammar.void depth counting place; is = refl }
+rest_base names depth counting (HeadInteger keyword) place x text h m = subst (λ (y : Ended). BaseEnd names depth counting y.0 y.1 (plain (word keyword place) ∷ text)) (sym m.is) (integer_base names depth counting keyword place m.inner text h m.spells)
+rest_base names depth counting (HeadName name) place x text h nothing = record { spells = grammar.typedef_name depth counting name h.0; is = refl }
+rest_base names depth counting HeadStruct place x text h s = struct_base names depth place counting x text s
+rest_base names depth counting HeadEnum place x text h s = enum_base names depth place counting x text s
 
 -- a base that begins at a place
-pub record BaseAt (names : List (List ℕ)) (depth place : ℕ) (x : Ended) (text : List Leaf) : Type 0 where
-  pub end : BaseEnd names depth x.0 x.1 text
+pub record BaseAt (names : List (List ℕ)) (depth : ℕ) (counting : grammar.Counting) (place : ℕ) (x : Ended) (text : List Leaf) : Type 0 where
+  pub end : BaseEnd names depth counting x.0 x.1 text
   pub leaf : Leaf
   pub more : List Leaf
   pub cut : text ≡ leaf ∷ more
   pub there : leaf.token.offset ≡ place
 
-pub text_base : (names : List (List ℕ)) (depth : ℕ) (made : (Head × ℕ) × Ended) (text : List Leaf) → BaseText names depth made text → BaseAt names depth made.0.1 made.1 text
-text_base names depth made text t =
+pub text_base : (names : List (List ℕ)) (depth : ℕ) (counting : grammar.Counting) (made : (Head × ℕ) × Ended) (text : List Leaf) → BaseText names depth counting made text → BaseAt names depth counting made.0.1 made.1 text
+text_base names depth counting made text t =
     let h = one-head names made.0 t.left t.first in
     let cut : text ≡ plain (head_leaf made.0.0 made.0.1) ∷ t.right = t.cut ∙ ap (λ l. l ++ t.right) h.0 in
     record {
-      end = subst (λ l. BaseEnd names depth made.1.0 made.1.1 l) (sym cut) (rest_base names depth made.0.0 made.0.1 made.1 t.right h.1 t.second);
+      end = subst (λ l. BaseEnd names depth counting made.1.0 made.1.1 l) (sym cut) (rest_base names depth counting made.0.0 made.0.1 made.1 t.right h.1 t.second);
       leaf = plain (head_leaf made.0.0 made.0.1);
       more = t.right;
       cut = cut;
@@ -253,9 +253,9 @@ text_base names depth made text t =
     }
 
 -- and back
-pub record BaseRead (names : List (List ℕ)) (depth : ℕ) (base : tree.Base) (text : List Leaf) : Type 0 where
+pub record BaseRead (names : List (List ℕ)) (depth : ℕ) (counting : grammar.Counting) (base : tree.Base) (text : List Leaf) : Type 0 where
   pub head : Head × ℕ
-  pub spells : BaseText names depth (head, (base, base_ending base text)) text
+  pub spells : BaseText names depth counting (head, (base, base_ending base text)) text
 
 keywords_pairs : (pairs : List (Keyword × ℕ)) → keywords_of (map (λ (w : Keyword × ℕ). plain (word w.0 w.1)) pairs) ≡ map (λ (w : Keyword × ℕ). w.0) pairs
 keywords_pairs [] = refl
@@ -265,9 +265,9 @@ none_named : (type : IntegerType) → grammar.integer_type_of [] ≡ Some type �
 unfolding grammar.integer_type_of
 none_named type e = cc
 
-read_integer : (names : List (List ℕ)) (depth : ℕ) (type : IntegerType) (words : List (Keyword × ℕ)) → grammar.integer_type_of (map (λ (w : Keyword × ℕ). w.0) words) ≡ Some type → BaseRead names depth (tree.Integer type) (map (λ (w : Keyword × ℕ). plain (word w.0 w.1)) words)
-read_integer names depth type [] e = absurd (none_named type e)
-read_integer names depth type (w ∷ words) e =
+read_integer : (names : List (List ℕ)) (depth : ℕ) (counting : grammar.Counting) (type : IntegerType) (words : List (Keyword × ℕ)) → grammar.integer_type_of (map (λ (w : Keyword × ℕ). w.0) words) ≡ Some type → BaseRead names depth counting (tree.Integer type) (map (λ (w : Keyword × ℕ). plain (word w.0 w.1)) words)
+read_integer names depth counting type [] e = absurd (none_named type e)
+read_integer names depth counting type (w ∷ words) e =
     let rest = map (λ (w : Keyword × ℕ). w.0) words in
     let some_type : is_some (grammar.integer_type_of (w.0 ∷ rest)) ≡ true = ap is_some e in
     let begins = (six_begins w.0 (first_six w.0 rest some_type)).1 in
@@ -292,12 +292,12 @@ read_integer names depth type (w ∷ words) e =
 head_one : (names : List (List ℕ)) (h : Head × ℕ) (t : Placed) → head_at names t ≡ Some h → One plain (head_at names) h (plain t ∷ [])
 head_one names h t e = record { token = t; is = e; cut = refl }
 
-braces_text : (names : List (List ℕ)) (depth open_place close : ℕ) (ms : tree.Members) (inside : List Leaf) → grammar.Members names (suc depth) ms inside → BracesText names depth ms (opens (suc depth) (mark punctuator.LeftBrace open_place) ∷ inside ++ plain (mark punctuator.RightBrace close) ∷ [])
-braces_text names depth open_place close ms inside k =
+braces_text : (names : List (List ℕ)) (depth open_place close : ℕ) (counting : grammar.Counting) (ms : tree.Members) (inside : List Leaf) → grammar.Members names (suc depth) counting ms inside → BracesText names depth counting ms (opens (suc depth) (mark punctuator.LeftBrace open_place) ∷ inside ++ plain (mark punctuator.RightBrace close) ∷ [])
+braces_text names depth open_place close counting ms inside k =
     record { first = open_place; left = opens (suc depth) (mark punctuator.LeftBrace open_place) ∷ []; right = inside ++ plain (mark punctuator.RightBrace close) ∷ []; is_first = mark-one punctuator.LeftBrace (opens (suc depth)) open_place; is_second = record { inside = inside; close = close; spells = k; cut = refl }; cut = refl }
 
-enumeration_braces : (names : List (List ℕ)) (depth open_place close : ℕ) (cs : tree.Constants) (end : Role) (inside : List Leaf) → grammar.Constants names (suc depth) cs end inside → ConstantsText names depth cs (opens (suc depth) (mark punctuator.LeftBrace open_place) ∷ inside ++ awaited end (mark punctuator.RightBrace close) ∷ [])
-enumeration_braces names depth open_place close cs end inside k =
+enumeration_braces : (names : List (List ℕ)) (depth open_place close : ℕ) (counting : grammar.Counting) (cs : tree.Constants) (end : Role) (inside : List Leaf) → grammar.Constants names (suc depth) counting cs end inside → ConstantsText names depth counting cs (opens (suc depth) (mark punctuator.LeftBrace open_place) ∷ inside ++ awaited end (mark punctuator.RightBrace close) ∷ [])
+enumeration_braces names depth open_place close counting cs end inside k =
     record { first = open_place; left = opens (suc depth) (mark punctuator.LeftBrace open_place) ∷ []; right = inside ++ awaited end (mark punctuator.RightBrace close) ∷ []; is_first = mark-one punctuator.LeftBrace (opens (suc depth)) open_place; is_second = record { end = end; inside = inside; close = close; spells = k; cut = refl }; cut = refl }
 
 tagged : {Body : Type 0} (S : Body → List Leaf → Type 0) (full : Option tree.Name → Body → Ended) (short : tree.Name → Ended) (names : List (List ℕ)) (tag : Option tree.Name) (name : List Leaf) (body : Body) (text : List Leaf) → grammar.Tag names tag name → S body text → TaggedText names S full short (full tag body) (name ++ text)
@@ -307,18 +307,18 @@ tagged S full short names tag name body text (grammar.tag n e) k = first (record
 tag_alone : {Body : Type 0} (S : Body → List Leaf → Type 0) (full : Option tree.Name → Body → Ended) (short : tree.Name → Ended) (names : List (List ℕ)) (n : tree.Name) → grammar.is_type_name names n.spelling ≡ false → TaggedText names S full short (short n) (plain (named n) ∷ [])
 tag_alone S full short names n e = first (record { first = n; left = plain (named n) ∷ []; right = []; is_first = leaf_plain names n e; is_second = second nothing; cut = refl })
 
-pub base_text : (names : List (List ℕ)) (depth : ℕ) (base : tree.Base) (text : List Leaf) → grammar.Base names depth base text → BaseRead names depth base text
-base_text names depth base text (grammar.void d place) = record { head = (HeadVoid, place); spells = record { left = plain (word Void place) ∷ []; right = []; cut = refl; first = head_one names (HeadVoid, place) (word Void place) refl; second = nothing } }
-base_text names depth base text (grammar.integer_type d type words e) = read_integer names d type words e
-base_text names depth base text (grammar.typedef_name d n e) = record { head = (HeadName n, n.place); spells = record { left = plain (named n) ∷ []; right = []; cut = refl; first = head_one names (HeadName n, n.place) (named n) (rw e refl); second = nothing } }
-base_text names depth base text (grammar.struct_tag d n place e) =
-    record { head = (HeadStruct, place); spells = record { left = plain (word Struct place) ∷ []; right = plain (named n) ∷ []; cut = refl; first = head_one names (HeadStruct, place) (word Struct place) refl; second = tag_alone (BracesText names d) full_struct short_struct names n e } }
-base_text names depth base text (grammar.struct d tag ms name inside place open_place close h k) =
-    record { head = (HeadStruct, place); spells = record { left = plain (word Struct place) ∷ []; right = name ++ (opens (suc d) (mark punctuator.LeftBrace open_place) ∷ inside ++ plain (mark punctuator.RightBrace close) ∷ []); cut = refl; first = head_one names (HeadStruct, place) (word Struct place) refl; second = tagged (BracesText names d) full_struct short_struct names tag name ms _ h (braces_text names d open_place close ms inside k) } }
-base_text names depth base text (grammar.enum_tag d n place e) =
-    record { head = (HeadEnum, place); spells = record { left = plain (word Enum place) ∷ []; right = plain (named n) ∷ []; cut = refl; first = head_one names (HeadEnum, place) (word Enum place) refl; second = tag_alone (ConstantsText names d) full_enum short_enum names n e } }
-base_text names depth base text (grammar.enum d tag cs name inside end place open_place close h k) =
-    record { head = (HeadEnum, place); spells = record { left = plain (word Enum place) ∷ []; right = name ++ (opens (suc d) (mark punctuator.LeftBrace open_place) ∷ inside ++ awaited end (mark punctuator.RightBrace close) ∷ []); cut = refl; first = head_one names (HeadEnum, place) (word Enum place) refl; second = tagged (ConstantsText names d) full_enum short_enum names tag name cs _ h (enumeration_braces names d open_place close cs end inside k) } }
+pub base_text : (names : List (List ℕ)) (depth : ℕ) (counting : grammar.Counting) (base : tree.Base) (text : List Leaf) → grammar.Base names depth counting base text → BaseRead names depth counting base text
+base_text names depth counting base text (grammar.void d c place) = record { head = (HeadVoid, place); spells = record { left = plain (word Void place) ∷ []; right = []; cut = refl; first = head_one names (HeadVoid, place) (word Void place) refl; second = nothing } }
+base_text names depth counting base text (grammar.integer_type d c type words e) = read_integer names d c type words e
+base_text names depth counting base text (grammar.typedef_name d c n e) = record { head = (HeadName n, n.place); spells = record { left = plain (named n) ∷ []; right = []; cut = refl; first = head_one names (HeadName n, n.place) (named n) (rw e refl); second = nothing } }
+base_text names depth counting base text (grammar.struct_tag d c n place e) =
+    record { head = (HeadStruct, place); spells = record { left = plain (word Struct place) ∷ []; right = plain (named n) ∷ []; cut = refl; first = head_one names (HeadStruct, place) (word Struct place) refl; second = tag_alone (BracesText names d c) full_struct short_struct names n e } }
+base_text names depth counting base text (grammar.struct d c tag ms name inside place open_place close h k) =
+    record { head = (HeadStruct, place); spells = record { left = plain (word Struct place) ∷ []; right = name ++ (opens (suc d) (mark punctuator.LeftBrace open_place) ∷ inside ++ plain (mark punctuator.RightBrace close) ∷ []); cut = refl; first = head_one names (HeadStruct, place) (word Struct place) refl; second = tagged (BracesText names d c) full_struct short_struct names tag name ms _ h (braces_text names d open_place close c ms inside k) } }
+base_text names depth counting base text (grammar.enum_tag d c n place e) =
+    record { head = (HeadEnum, place); spells = record { left = plain (word Enum place) ∷ []; right = plain (named n) ∷ []; cut = refl; first = head_one names (HeadEnum, place) (word Enum place) refl; second = tag_alone (ConstantsText names d c) full_enum short_enum names n e } }
+base_text names depth counting base text (grammar.enum d c tag cs name inside end place open_place close h k) =
+    record { head = (HeadEnum, place); spells = record { left = plain (word Enum place) ∷ []; right = name ++ (opens (suc d) (mark punctuator.LeftBrace open_place) ∷ inside ++ awaited end (mark punctuator.RightBrace close) ∷ []); cut = refl; first = head_one names (HeadEnum, place) (word Enum place) refl; second = tagged (ConstantsText names d c) full_enum short_enum names tag name cs _ h (enumeration_braces names d open_place close c cs end inside k) } }
 
 -- the readers give the same
 map_map : {X Y Z : Type 0} (f : X → Y) (g : Y → Z) (o : Outcome Placed Role X) → bind o (λ x rest. Ok (g (f x), rest)) ≡ bind {X = Y} {Y = Z} (bind o (λ x rest. Ok (f x, rest))) (λ y rest. Ok (g y, rest))
@@ -343,25 +343,25 @@ tagged_same {Body} names full short read tokens = by_name (next_is (is_plain_nam
     by_name true = by_tag (token Nothing plain (plain_name_at names) tokens)
     by_name false = map_map (full None) (λ (x : Ended). x.0) (read tokens)
 
-rest_same : (names : List (List ℕ)) (inner : Readers) (depth : ℕ) (head : Head) (tokens : List Placed) → read_base_rest names inner depth head tokens ≡ read_map (λ (x : Ended). x.0) (rich_base_rest names inner depth head) tokens
-rest_same names inner depth HeadVoid tokens = refl
-rest_same names inner depth (HeadInteger keyword) tokens = map_map (λ words. (integer_of (keyword ∷ words), WordsToo (keyword ∷ words))) (λ (x : Ended). x.0) (read_words (keyword ∷ []) tokens)
-rest_same names inner depth (HeadName name) tokens = refl
-rest_same names inner depth HeadStruct tokens = tagged_same names full_struct short_struct (read_members names inner depth) tokens
-rest_same names inner depth HeadEnum tokens = tagged_same names full_enum short_enum (read_constants names inner depth) tokens
+rest_same : (names : List (List ℕ)) (inner : Readers) (depth : ℕ) (counting : grammar.Counting) (head : Head) (tokens : List Placed) → read_base_rest names inner depth counting head tokens ≡ read_map (λ (x : Ended). x.0) (rich_base_rest names inner depth counting head) tokens
+rest_same names inner depth counting HeadVoid tokens = refl
+rest_same names inner depth counting (HeadInteger keyword) tokens = map_map (λ words. (integer_of (keyword ∷ words), WordsToo (keyword ∷ words))) (λ (x : Ended). x.0) (read_words (keyword ∷ []) tokens)
+rest_same names inner depth counting (HeadName name) tokens = refl
+rest_same names inner depth counting HeadStruct tokens = tagged_same names full_struct short_struct (read_members names inner depth counting) tokens
+rest_same names inner depth counting HeadEnum tokens = tagged_same names full_enum short_enum (read_constants names inner depth counting) tokens
 
 abbrev pub without_end : (Head × ℕ) × Ended → (Head × ℕ) × tree.Base
 without_end made = (made.0, made.1.0)
 
-pub base_same : (names : List (List ℕ)) (inner : Readers) (depth : ℕ) (tokens : List Placed) → read_base names inner depth tokens ≡ read_map without_end (rich_base names inner depth) tokens
-base_same names inner depth tokens = by_head (token Nothing plain (head_at names) tokens)
+pub base_same : (names : List (List ℕ)) (inner : Readers) (depth : ℕ) (counting : grammar.Counting) (tokens : List Placed) → read_base names inner depth counting tokens ≡ read_map without_end (rich_base names inner depth counting) tokens
+base_same names inner depth counting tokens = by_head (token Nothing plain (head_at names) tokens)
   where
     by_rest : (head : Head × ℕ) (o : Outcome Placed Role Ended) → bind (bind {Y = tree.Base} o (λ x r. Ok (x.0, r))) (λ y after. Ok ((head, y), after)) ≡ bind {X = (Head × ℕ) × Ended} {Y = (Head × ℕ) × tree.Base} (bind o (λ y after. Ok ((head, y), after))) (λ made r. Ok (without_end made, r))
     by_rest head (Ok (x, rest)) = refl
     by_rest head (Err fault) = refl
 
-    by_head : (o : Outcome Placed Role (Head × ℕ)) → bind o (λ head rest. bind (read_base_rest names inner depth head.0 rest) (λ y after. Ok ((head, y), after))) ≡ bind {X = (Head × ℕ) × Ended} {Y = (Head × ℕ) × tree.Base} (bind o (λ head rest. bind (rich_base_rest names inner depth head.0 rest) (λ y after. Ok ((head, y), after)))) (λ made r. Ok (without_end made, r))
-    by_head (Ok (head, rest)) = ap (λ (o : Outcome Placed Role tree.Base). bind o (λ y after. Ok ((head, y), after))) (rest_same names inner depth head.0 rest) ∙ by_rest head (rich_base_rest names inner depth head.0 rest)
+    by_head : (o : Outcome Placed Role (Head × ℕ)) → bind o (λ head rest. bind (read_base_rest names inner depth counting head.0 rest) (λ y after. Ok ((head, y), after))) ≡ bind {X = (Head × ℕ) × Ended} {Y = (Head × ℕ) × tree.Base} (bind o (λ head rest. bind (rich_base_rest names inner depth counting head.0 rest) (λ y after. Ok ((head, y), after)))) (λ made r. Ok (without_end made, r))
+    by_head (Ok (head, rest)) = ap (λ (o : Outcome Placed Role tree.Base). bind o (λ y after. Ok ((head, y), after))) (rest_same names inner depth counting head.0 rest) ∙ by_rest head (rich_base_rest names inner depth counting head.0 rest)
     by_head (Err fault) = refl
 
 roled-tagged : {Body : Type 0} {S : Body → List Leaf → Type 0} {full : Option tree.Name → Body → Ended} {short : tree.Name → Ended} {read : Reader Placed Role Body} (names : List (List ℕ)) → Braced S full short → Firm anything S (λ _. anything) read
@@ -397,29 +397,29 @@ roled-tagged {Body} {S} {full} {short} {read} names braced is =
     full_is : (tag : Option tree.Name) → Firm anything (Map (full tag) S) stop_ended (read_map (full tag) read)
     full_is tag = firm-map (full tag) stop_ended (λ x. ap {B = Placed → Bool} (λ (e : Ending) (t : Placed). not (goes_on_with e t.token)) (braced.full_ends tag x)) is
 
-roled-struct : (names : List (List ℕ)) (inner : Readers) (depth : ℕ) → (suc depth ≤ 128 → Whole names inner (suc depth)) → Inside names inner depth → Firm anything (StructText names depth) stop_ended (rich_struct names inner depth)
-roled-struct names inner depth whole inside =
+roled-struct : (names : List (List ℕ)) (inner : Readers) (depth : ℕ) (counting : grammar.Counting) → (suc depth ≤ 128 → Whole names inner (suc depth) (grammar.count_at counting)) → Inside names inner depth (grammar.count_at counting) → Firm anything (StructText names depth counting) stop_ended (rich_struct names inner depth counting)
+roled-struct names inner depth counting whole inside =
     roled-tagged {full = full_struct} {short = short_struct} names
     record {
-      begins = λ x text b. (opens (suc depth) (mark punctuator.LeftBrace b.first), b.right, brace_first depth (λ _. Closed plain punctuator.RightBrace (grammar.Members names (suc depth))) x text b, mark-passes punctuator.LeftBrace (mark punctuator.LeftBrace b.first) b.first (mark-self punctuator.LeftBrace b.first));
+      begins = λ x text b. (opens (suc depth) (mark punctuator.LeftBrace b.first), b.right, brace_first depth (λ _. Closed plain punctuator.RightBrace (grammar.Members names (suc depth) counting)) x text b, mark-passes punctuator.LeftBrace (mark punctuator.LeftBrace b.first) b.first (mark-self punctuator.LeftBrace b.first));
       full_ends = λ tag x. refl;
       short_ends = λ tag. refl;
-      starts = λ t e. behind_begins (mark_place punctuator.LeftBrace) (opens (suc depth)) (λ t. refl) t t.offset (mark-some punctuator.LeftBrace t e) (tree.no_members, plain (mark punctuator.RightBrace 0) ∷ [], record { inside = []; close = 0; spells = grammar.no_members (suc depth); cut = refl });
+      starts = λ t e. behind_begins (mark_place punctuator.LeftBrace) (opens (suc depth)) (λ t. refl) t t.offset (mark-some punctuator.LeftBrace t e) (tree.no_members, plain (mark punctuator.RightBrace 0) ∷ [], record { inside = []; close = 0; spells = grammar.no_members (suc depth) counting; cut = refl });
       silent = behind_silent (mark_place punctuator.LeftBrace) (opens (suc depth)) (λ t. refl);
     }
-    (roled-members names inner depth whole inside)
+    (roled-members names inner depth counting whole inside)
 
-roled-enum : (names : List (List ℕ)) (inner : Readers) (depth : ℕ) → Whole names inner depth → Firm anything (EnumText names depth) stop_ended (rich_enum names inner depth)
-roled-enum names inner depth whole =
+roled-enum : (names : List (List ℕ)) (inner : Readers) (depth : ℕ) (counting : grammar.Counting) → Whole names inner depth (grammar.count_at counting) → Firm anything (EnumText names depth counting) stop_ended (rich_enum names inner depth counting)
+roled-enum names inner depth counting whole =
     roled-tagged {full = full_enum} {short = short_enum} names
     record {
-      begins = λ x text b. (opens (suc depth) (mark punctuator.LeftBrace b.first), b.right, brace_first depth (λ _. Enumeration names (suc depth)) x text b, mark-passes punctuator.LeftBrace (mark punctuator.LeftBrace b.first) b.first (mark-self punctuator.LeftBrace b.first));
+      begins = λ x text b. (opens (suc depth) (mark punctuator.LeftBrace b.first), b.right, brace_first depth (λ _. Enumeration names (suc depth) counting) x text b, mark-passes punctuator.LeftBrace (mark punctuator.LeftBrace b.first) b.first (mark-self punctuator.LeftBrace b.first));
       full_ends = λ tag x. refl;
       short_ends = λ tag. refl;
-      starts = λ t e. behind_begins (mark_place punctuator.LeftBrace) (opens (suc depth)) (λ t. refl) t t.offset (mark-some punctuator.LeftBrace t e) (tree.constants (fresh names) tree.no_constants, _, record { end = Nothing; inside = plain (named (fresh names)) ∷ []; close = 0; spells = grammar.last (suc depth) (fresh names) (fresh_is names); cut = refl });
+      starts = λ t e. behind_begins (mark_place punctuator.LeftBrace) (opens (suc depth)) (λ t. refl) t t.offset (mark-some punctuator.LeftBrace t e) (tree.constants (fresh names) tree.no_constants, _, record { end = Nothing; inside = plain (named (fresh names)) ∷ []; close = 0; spells = grammar.last (suc depth) counting (fresh names) (fresh_is names); cut = refl });
       silent = behind_silent (mark_place punctuator.LeftBrace) (opens (suc depth)) (λ t. refl);
     }
-    (roled-constants names inner depth whole)
+    (roled-constants names inner depth counting whole)
 
 roled-around : (x : Ended) → x.1 ≡ WordsAround → Firm anything (Empty x) stop_ended (read_nothing x)
 roled-around x e = roled-stop stop_ended (λ y text one t. same y text t one) (firm-nothing anything x)
@@ -427,18 +427,18 @@ roled-around x e = roled-stop stop_ended (λ y text one t. same y text t one) (f
     same : (y : Ended) (text : List Leaf) (t : Placed) → Empty x y text → true ≡ stop_ended y t
     same y text t nothing = ap (λ (k : Ending). not (goes_on_with k t.token)) (sym e)
 
-roled-rest : (names : List (List ℕ)) (inner : Readers) (depth : ℕ) → (suc depth ≤ 128 → Whole names inner (suc depth)) → Whole names inner depth → Inside names inner depth → (head : Head) → Firm anything (RestText names depth head) stop_ended (rich_base_rest names inner depth head)
-roled-rest names inner depth deeper whole inside HeadVoid = roled-around (tree.Void, WordsAround) refl
-roled-rest names inner depth deeper whole inside (HeadInteger keyword) = firm-map (λ words. (integer_of (keyword ∷ words), WordsToo (keyword ∷ words))) stop_ended (λ words. refl) (roled-words (keyword ∷ []))
-roled-rest names inner depth deeper whole inside (HeadName name) = roled-around (tree.TypedefName name, WordsAround) refl
-roled-rest names inner depth deeper whole inside HeadStruct = roled-struct names inner depth deeper inside
-roled-rest names inner depth deeper whole inside HeadEnum = roled-enum names inner depth whole
+roled-rest : (names : List (List ℕ)) (inner : Readers) (depth : ℕ) (counting : grammar.Counting) → (suc depth ≤ 128 → Whole names inner (suc depth) (grammar.count_at counting)) → Whole names inner depth (grammar.count_at counting) → Inside names inner depth (grammar.count_at counting) → (head : Head) → Firm anything (RestText names depth counting head) stop_ended (rich_base_rest names inner depth counting head)
+roled-rest names inner depth counting deeper whole inside HeadVoid = roled-around (tree.Void, WordsAround) refl
+roled-rest names inner depth counting deeper whole inside (HeadInteger keyword) = firm-map (λ words. (integer_of (keyword ∷ words), WordsToo (keyword ∷ words))) stop_ended (λ words. refl) (roled-words (keyword ∷ []))
+roled-rest names inner depth counting deeper whole inside (HeadName name) = roled-around (tree.TypedefName name, WordsAround) refl
+roled-rest names inner depth counting deeper whole inside HeadStruct = roled-struct names inner depth counting deeper inside
+roled-rest names inner depth counting deeper whole inside HeadEnum = roled-enum names inner depth counting whole
 
-pub roled-base : (names : List (List ℕ)) (inner : Readers) (depth : ℕ) → (entry : Placed → Bool) → (suc depth ≤ 128 → Whole names inner (suc depth)) → Whole names inner depth → Inside names inner depth
-    → Firm entry (BaseText names depth) (λ made. stop_ended made.1) (rich_base names inner depth)
-roled-base names inner depth entry deeper whole inside =
-    roled-then (firm-one entry plain (head_at names) Nothing (λ t. refl) (λ t. refl) (word Void 0) (HeadVoid, 0) refl) (λ head. roled-rest names inner depth deeper whole inside head.0)
+pub roled-base : (names : List (List ℕ)) (inner : Readers) (depth : ℕ) (counting : grammar.Counting) → (entry : Placed → Bool) → (suc depth ≤ 128 → Whole names inner (suc depth) (grammar.count_at counting)) → Whole names inner depth (grammar.count_at counting) → Inside names inner depth (grammar.count_at counting)
+    → Firm entry (BaseText names depth counting) (λ made. stop_ended made.1) (rich_base names inner depth counting)
+roled-base names inner depth counting entry deeper whole inside =
+    roled-then (firm-one entry plain (head_at names) Nothing (λ t. refl) (λ t. refl) (word Void 0) (HeadVoid, 0) refl) (λ head. roled-rest names inner depth counting deeper whole inside head.0)
     record {
       ends = λ head y left right rest one two stops. stops_anything (plains marks right ++ rest);
-      goes_on = λ head left one. rest_some names depth head.0;
+      goes_on = λ head left one. rest_some names depth counting head.0;
     }

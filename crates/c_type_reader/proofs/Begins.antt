@@ -15,73 +15,73 @@ use Rattle.role_read.proofs.Begins.{Begins, Silent}
 use Rattle.c_expression_reader.specs.Classes.{begins_type_word, begins_type}
 use Rattle.c_expression_reader.specs.Types.{no_storage, plain_name_of, plain_name_at, is_plain_name}
 use Rattle.std.specs.Option.{is_some}
-use Rattle.c_declarator_reader.specs.Beside.{WithEnd}
+use Rattle.c_type_reader.specs.Beside.{WithEnd}
 use Rattle.c_type_reader.specs.Endings.{SpecifiersEnd}
-use Rattle.c_declarator_reader.proofs.Fresh.{fresh, fresh_is}
+use Rattle.c_type_reader.proofs.Fresh.{fresh, fresh_is}
 use Rattle.c_type_reader.proofs.Ended.{with_end, specified}
 use Rattle.c_type_reader.proofs.TypeFirsts.{base_first, specifiers_first}
 use Rattle.c_expression_reader.specs.Exactness.{TypeRoles, BeginsTypeName}
 
 -- a base that begins with a token
-pub record BaseBegins (names : List (List ℕ)) (depth : ℕ) (t : Placed) : Type 0 where
+pub record BaseBegins (names : List (List ℕ)) (depth : ℕ) (counting : grammar.Counting) (t : Placed) : Type 0 where
   pub base : tree.Base
   pub more : List Leaf
-  pub spells : grammar.Base names depth base (plain t ∷ more)
+  pub spells : grammar.Base names depth counting base (plain t ∷ more)
 
-integer_begins : (names : List (List ℕ)) (depth place : ℕ) (w : Keyword) (type : IntegerType) → grammar.integer_type_of (w ∷ []) ≡ Some type → BaseBegins names depth (word w place)
-integer_begins names depth place w type e = record { base = tree.Integer type; more = []; spells = grammar.integer_type depth type ((w, place) ∷ []) e }
+integer_begins : (names : List (List ℕ)) (depth place : ℕ) (counting : grammar.Counting) (w : Keyword) (type : IntegerType) → grammar.integer_type_of (w ∷ []) ≡ Some type → BaseBegins names depth counting (word w place)
+integer_begins names depth place counting w type e = record { base = tree.Integer type; more = []; spells = grammar.integer_type depth counting type ((w, place) ∷ []) e }
 
 -- specifiers that begin with a token
-pub record SpecifiersBegin (names : List (List ℕ)) (depth : ℕ) (t : Placed) : Type 0 where
+pub record SpecifiersBegin (names : List (List ℕ)) (depth : ℕ) (counting : grammar.Counting) (t : Placed) : Type 0 where
   pub specifiers : tree.Specifiers
   pub more : List Leaf
-  pub spells : grammar.Specifiers names grammar.InPart depth specifiers (plain t ∷ more)
+  pub spells : grammar.Specifiers names grammar.InPart depth counting specifiers (plain t ∷ more)
 
-by_base : (names : List (List ℕ)) (depth : ℕ) (t : Placed) → BaseBegins names depth t → SpecifiersBegin names depth t
-by_base names depth t b =
+by_base : (names : List (List ℕ)) (depth : ℕ) (counting : grammar.Counting) (t : Placed) → BaseBegins names depth counting t → SpecifiersBegin names depth counting t
+by_base names depth counting t b =
     record {
       specifiers = _;
       more = b.more ++ [];
-      spells = grammar.specifiers grammar.InPart depth no_storage no_storage b.base [] (plain t ∷ b.more) [] (grammar.none grammar.InPart) b.spells (grammar.none grammar.InPart);
+      spells = grammar.specifiers grammar.InPart depth counting no_storage no_storage b.base [] (plain t ∷ b.more) [] (grammar.none grammar.InPart) b.spells (grammar.none grammar.InPart);
     }
 
-word_begins : (names : List (List ℕ)) (depth place : ℕ) (w : Keyword) → begins_type_word w ≡ true → SpecifiersBegin names depth (word w place)
+word_begins : (names : List (List ℕ)) (depth place : ℕ) (counting : grammar.Counting) (w : Keyword) → begins_type_word w ≡ true → SpecifiersBegin names depth counting (word w place)
 unfolding grammar.integer_type_of
-word_begins names depth place Const e =
+word_begins names depth place counting Const e =
     record {
       specifiers = _;
       more = plain (word Void 0) ∷ [];
-      spells = grammar.specifiers grammar.InPart depth no_storage no_storage tree.Void (plain (word Const place) ∷ []) (plain (word Void 0) ∷ []) [] (grammar.const grammar.InPart no_storage [] place (grammar.none grammar.InPart)) (grammar.void depth 0) (grammar.none grammar.InPart);
+      spells = grammar.specifiers grammar.InPart depth counting no_storage no_storage tree.Void (plain (word Const place) ∷ []) (plain (word Void 0) ∷ []) [] (grammar.const grammar.InPart no_storage [] place (grammar.none grammar.InPart)) (grammar.void depth counting 0) (grammar.none grammar.InPart);
     }
-word_begins names depth place Void e = by_base names depth (word Void place) (record { base = tree.Void; more = []; spells = grammar.void depth place })
-word_begins names depth place Char e = by_base names depth (word Char place) (integer_begins names depth place Char integer.Char refl)
-word_begins names depth place Signed e = by_base names depth (word Signed place) (integer_begins names depth place Signed integer.Int refl)
-word_begins names depth place Unsigned e = by_base names depth (word Unsigned place) (integer_begins names depth place Unsigned integer.UnsignedInt refl)
-word_begins names depth place Short e = by_base names depth (word Short place) (integer_begins names depth place Short integer.Short refl)
-word_begins names depth place Int e = by_base names depth (word Int place) (integer_begins names depth place Int integer.Int refl)
-word_begins names depth place Long e = by_base names depth (word Long place) (integer_begins names depth place Long integer.Long refl)
-word_begins names depth place Struct e =
-    by_base names depth (word Struct place) (record { base = tree.Struct None tree.no_members; more = opens (suc depth) (mark punctuator.LeftBrace 0) ∷ plain (mark punctuator.RightBrace 0) ∷ []; spells = grammar.struct depth None tree.no_members [] [] place 0 0 grammar.none (grammar.no_members (suc depth)) })
-word_begins names depth place Enum e =
-    by_base names depth (word Enum place) (record { base = tree.EnumTag (fresh names); more = plain (named (fresh names)) ∷ []; spells = grammar.enum_tag depth (fresh names) place (fresh_is names) })
-word_begins names depth place other e = absurd (cc)
+word_begins names depth place counting Void e = by_base names depth counting (word Void place) (record { base = tree.Void; more = []; spells = grammar.void depth counting place })
+word_begins names depth place counting Char e = by_base names depth counting (word Char place) (integer_begins names depth place counting Char integer.Char refl)
+word_begins names depth place counting Signed e = by_base names depth counting (word Signed place) (integer_begins names depth place counting Signed integer.Int refl)
+word_begins names depth place counting Unsigned e = by_base names depth counting (word Unsigned place) (integer_begins names depth place counting Unsigned integer.UnsignedInt refl)
+word_begins names depth place counting Short e = by_base names depth counting (word Short place) (integer_begins names depth place counting Short integer.Short refl)
+word_begins names depth place counting Int e = by_base names depth counting (word Int place) (integer_begins names depth place counting Int integer.Int refl)
+word_begins names depth place counting Long e = by_base names depth counting (word Long place) (integer_begins names depth place counting Long integer.Long refl)
+word_begins names depth place counting Struct e =
+    by_base names depth counting (word Struct place) (record { base = tree.Struct None tree.no_members; more = opens (suc depth) (mark punctuator.LeftBrace 0) ∷ plain (mark punctuator.RightBrace 0) ∷ []; spells = grammar.struct depth counting None tree.no_members [] [] place 0 0 grammar.none (grammar.no_members (suc depth) counting) })
+word_begins names depth place counting Enum e =
+    by_base names depth counting (word Enum place) (record { base = tree.EnumTag (fresh names); more = plain (named (fresh names)) ∷ []; spells = grammar.enum_tag depth counting (fresh names) place (fresh_is names) })
+word_begins names depth place counting other e = absurd (cc)
 
-pub begin_specifiers : (names : List (List ℕ)) (depth : ℕ) (t : Placed) → begins_type names t.token ≡ true → SpecifiersBegin names depth t
-begin_specifiers names depth t e = by_token t.token t.offset e
+pub begin_specifiers : (names : List (List ℕ)) (depth : ℕ) (counting : grammar.Counting) (t : Placed) → begins_type names t.token ≡ true → SpecifiersBegin names depth counting t
+begin_specifiers names depth counting t e = by_token t.token t.offset e
   where
-    by_token : (k : Token) (o : ℕ) → begins_type names k ≡ true → SpecifiersBegin names depth (record { token = k; offset = o })
-    by_token (Word w) o e = word_begins names depth o w e
+    by_token : (k : Token) (o : ℕ) → begins_type names k ≡ true → SpecifiersBegin names depth counting (record { token = k; offset = o })
+    by_token (Word w) o e = word_begins names depth o counting w e
     by_token (name_token spelling) o e =
         let n : tree.Name = record { spelling = spelling; place = o } in
-        by_base names depth (named n) (record { base = tree.TypedefName n; more = []; spells = grammar.typedef_name depth n e })
+        by_base names depth counting (named n) (record { base = tree.TypedefName n; more = []; spells = grammar.typedef_name depth counting n e })
     by_token (number_token value type) o e = absurd (cc)
     by_token (character_token value) o e = absurd (cc)
     by_token (Mark p) o e = absurd (cc)
 
-pub ended_begins : (names : List (List ℕ)) (depth : ℕ) (t : Placed) → begins_type names t.token ≡ true → Begins marks (WithEnd (SpecifiersEnd names grammar.InPart depth)) t
-ended_begins names depth t e =
-    let s = begin_specifiers names depth t e in
-    record { value = s.specifiers; first = plain t; more = s.more; spells = with_end names grammar.InPart depth s.specifiers (plain t ∷ s.more) s.spells; is = refl }
+pub ended_begins : (names : List (List ℕ)) (depth : ℕ) (counting : grammar.Counting) (t : Placed) → begins_type names t.token ≡ true → Begins marks (WithEnd (SpecifiersEnd names grammar.InPart depth counting)) t
+ended_begins names depth counting t e =
+    let s = begin_specifiers names depth counting t e in
+    record { value = s.specifiers; first = plain t; more = s.more; spells = with_end names grammar.InPart depth counting s.specifiers (plain t ∷ s.more) s.spells; is = refl }
 
 -- what begins them tells nothing
 pub words_silent : (position : grammar.Position) (storage : tree.Storage) (text : List Leaf) → grammar.Words position storage text → (u : Leaf) (more : List Leaf) → text ≡ u ∷ more → u.role ≡ Nothing
@@ -97,50 +97,50 @@ integers_silent : (words : List (Keyword × ℕ)) (u : Leaf) (more : List Leaf) 
 integers_silent [] u more e = absurd (cc)
 integers_silent (w ∷ words) u more e = let head : plain (word w.0 w.1) ≡ u = cc in ap (λ (l : Leaf). l.role) (sym head)
 
-base_silent : (names : List (List ℕ)) (depth : ℕ) (base : tree.Base) (text : List Leaf) → grammar.Base names depth base text → (u : Leaf) (more : List Leaf) → text ≡ u ∷ more → u.role ≡ Nothing
-base_silent names depth base text (grammar.void d place) u more e = let head : plain (word Void place) ≡ u = cc in ap (λ (l : Leaf). l.role) (sym head)
-base_silent names depth base text (grammar.integer_type d type words h) u more e = integers_silent words u more e
-base_silent names depth base text (grammar.typedef_name d n h) u more e = let head : plain (named n) ≡ u = cc in ap (λ (l : Leaf). l.role) (sym head)
-base_silent names depth base text (grammar.struct_tag d n place h) u more e = let head : plain (word Struct place) ≡ u = cc in ap (λ (l : Leaf). l.role) (sym head)
-base_silent names depth base text (grammar.struct d tag ms name inside place open_place close h k) u more e = let head : plain (word Struct place) ≡ u = cc in ap (λ (l : Leaf). l.role) (sym head)
-base_silent names depth base text (grammar.enum_tag d n place h) u more e = let head : plain (word Enum place) ≡ u = cc in ap (λ (l : Leaf). l.role) (sym head)
-base_silent names depth base text (grammar.enum d tag cs name inside end place open_place close h k) u more e = let head : plain (word Enum place) ≡ u = cc in ap (λ (l : Leaf). l.role) (sym head)
+base_silent : (names : List (List ℕ)) (depth : ℕ) (counting : grammar.Counting) (base : tree.Base) (text : List Leaf) → grammar.Base names depth counting base text → (u : Leaf) (more : List Leaf) → text ≡ u ∷ more → u.role ≡ Nothing
+base_silent names depth counting base text (grammar.void d c place) u more e = let head : plain (word Void place) ≡ u = cc in ap (λ (l : Leaf). l.role) (sym head)
+base_silent names depth counting base text (grammar.integer_type d c type words h) u more e = integers_silent words u more e
+base_silent names depth counting base text (grammar.typedef_name d c n h) u more e = let head : plain (named n) ≡ u = cc in ap (λ (l : Leaf). l.role) (sym head)
+base_silent names depth counting base text (grammar.struct_tag d c n place h) u more e = let head : plain (word Struct place) ≡ u = cc in ap (λ (l : Leaf). l.role) (sym head)
+base_silent names depth counting base text (grammar.struct d c tag ms name inside place open_place close h k) u more e = let head : plain (word Struct place) ≡ u = cc in ap (λ (l : Leaf). l.role) (sym head)
+base_silent names depth counting base text (grammar.enum_tag d c n place h) u more e = let head : plain (word Enum place) ≡ u = cc in ap (λ (l : Leaf). l.role) (sym head)
+base_silent names depth counting base text (grammar.enum d c tag cs name inside end place open_place close h k) u more e = let head : plain (word Enum place) ≡ u = cc in ap (λ (l : Leaf). l.role) (sym head)
 
-base_some : (names : List (List ℕ)) (depth : ℕ) (base : tree.Base) → grammar.Base names depth base [] → ⊥
-base_some names depth base h = let f = base_first names depth base [] h in let e : [] ≡ f.leaf ∷ f.more = f.cut in cc
+base_some : (names : List (List ℕ)) (depth : ℕ) (counting : grammar.Counting) (base : tree.Base) → grammar.Base names depth counting base [] → ⊥
+base_some names depth counting base h = let f = base_first names depth counting base [] h in let e : [] ≡ f.leaf ∷ f.more = f.cut in cc
 
-pub specifiers_silent : (names : List (List ℕ)) (position : grammar.Position) (depth : ℕ) (s : tree.Specifiers) (text : List Leaf) → grammar.Specifiers names position depth s text → (u : Leaf) (more : List Leaf) → text ≡ u ∷ more → u.role ≡ Nothing
-specifiers_silent names position depth s text (grammar.specifiers p d one two base before middle after h k l) u more e = by_before before h e
+pub specifiers_silent : (names : List (List ℕ)) (position : grammar.Position) (depth : ℕ) (counting : grammar.Counting) (s : tree.Specifiers) (text : List Leaf) → grammar.Specifiers names position depth counting s text → (u : Leaf) (more : List Leaf) → text ≡ u ∷ more → u.role ≡ Nothing
+specifiers_silent names position depth counting s text (grammar.specifiers p d c one two base before middle after h k l) u more e = by_before before h e
   where
-    by_middle : (middle : List Leaf) → grammar.Base names d base middle → middle ++ after ≡ u ∷ more → u.role ≡ Nothing
-    by_middle [] k e = absurd (base_some names d base k)
-    by_middle (v ∷ middle) k e = let head : v ≡ u = cc in subst (λ (m : Leaf). m.role ≡ Nothing) head (base_silent names d base (v ∷ middle) k v middle refl)
+    by_middle : (middle : List Leaf) → grammar.Base names d c base middle → middle ++ after ≡ u ∷ more → u.role ≡ Nothing
+    by_middle [] k e = absurd (base_some names d c base k)
+    by_middle (v ∷ middle) k e = let head : v ≡ u = cc in subst (λ (m : Leaf). m.role ≡ Nothing) head (base_silent names d c base (v ∷ middle) k v middle refl)
 
     by_before : (before : List Leaf) → grammar.Words p one before → before ++ (middle ++ after) ≡ u ∷ more → u.role ≡ Nothing
     by_before [] h e = by_middle middle k e
     by_before (v ∷ before) h e = let head : v ≡ u = cc in subst (λ (m : Leaf). m.role ≡ Nothing) head (words_silent p one (v ∷ before) h v before refl)
 
-pub ended_silent : (names : List (List ℕ)) (position : grammar.Position) (depth : ℕ) → Silent marks roles (WithEnd (SpecifiersEnd names position depth))
-ended_silent names position depth s u more w = specifiers_silent names position depth s (u ∷ more) (specified names position depth s w.end (u ∷ more) w.spells) u more refl
+pub ended_silent : (names : List (List ℕ)) (position : grammar.Position) (depth : ℕ) (counting : grammar.Counting) → Silent marks roles (WithEnd (SpecifiersEnd names position depth counting))
+ended_silent names position depth counting s u more w = specifiers_silent names position depth counting s (u ∷ more) (specified names position depth counting s w.end (u ∷ more) w.spells) u more refl
 
-pub ended_some : (names : List (List ℕ)) (depth : ℕ) (s : tree.Specifiers) → WithEnd (SpecifiersEnd names grammar.InPart depth) s [] → ⊥
-ended_some names depth s w = let f = specifiers_first names depth s w.end [] w.spells in let e : [] ≡ f.leaf ∷ f.more = f.cut in cc
+pub ended_some : (names : List (List ℕ)) (depth : ℕ) (counting : grammar.Counting) (s : tree.Specifiers) → WithEnd (SpecifiersEnd names grammar.InPart depth counting) s [] → ⊥
+ended_some names depth counting s w = let f = specifiers_first names depth counting s w.end [] w.spells in let e : [] ≡ f.leaf ∷ f.more = f.cut in cc
 
 -- what expressions ask of types
 pub type_roles : (names : List (List ℕ)) → TypeRoles names
-type_roles names = record { begins = begins; silent = λ depth type u more h. silent depth type (u ∷ more) h u more refl }
+type_roles names = record { begins = begins; silent = λ depth counting type u more h. silent depth counting type (u ∷ more) h u more refl }
   where
-    begins : (depth : ℕ) (t : Placed) → begins_type names t.token ≡ true → BeginsTypeName names depth t
-    begins depth t e =
-        let s = begin_specifiers names depth t e in
-        record { type = tree.Pointers s.specifiers 0; first = plain t; more = s.more ++ []; spells = grammar.type_name depth s.specifiers 0 (plain t ∷ s.more) [] s.spells grammar.none; is = refl }
+    begins : (depth : ℕ) (counting : grammar.Counting) (t : Placed) → begins_type names t.token ≡ true → BeginsTypeName names depth counting t
+    begins depth counting t e =
+        let s = begin_specifiers names depth counting t e in
+        record { type = tree.Pointers s.specifiers 0; first = plain t; more = s.more ++ []; spells = grammar.type_name depth counting s.specifiers 0 (plain t ∷ s.more) [] s.spells grammar.none; is = refl }
 
-    silent : (depth : ℕ) (type : tree.TypeName) (text : List Leaf) → grammar.TypeName names depth type text → (u : Leaf) (more : List Leaf) → text ≡ u ∷ more → u.role ≡ Nothing
-    silent depth type text (grammar.type_name d s n left stars h k) u more e = by_left left h e
+    silent : (depth : ℕ) (counting : grammar.Counting) (type : tree.TypeName) (text : List Leaf) → grammar.TypeName names depth counting type text → (u : Leaf) (more : List Leaf) → text ≡ u ∷ more → u.role ≡ Nothing
+    silent depth counting type text (grammar.type_name d c s n left stars h k) u more e = by_left left h e
       where
-        by_left : (left : List Leaf) → grammar.Specifiers names grammar.InPart d s left → left ++ stars ≡ u ∷ more → u.role ≡ Nothing
-        by_left [] h e = absurd (ended_some names d s (with_end names grammar.InPart d s [] h))
-        by_left (v ∷ left) h e = let head : v ≡ u = cc in subst (λ (m : Leaf). m.role ≡ Nothing) head (specifiers_silent names grammar.InPart d s (v ∷ left) h v left refl)
+        by_left : (left : List Leaf) → grammar.Specifiers names grammar.InPart d c s left → left ++ stars ≡ u ∷ more → u.role ≡ Nothing
+        by_left [] h e = absurd (ended_some names d c s (with_end names grammar.InPart d c s [] h))
+        by_left (v ∷ left) h e = let head : v ≡ u = cc in subst (λ (m : Leaf). m.role ≡ Nothing) head (specifiers_silent names grammar.InPart d c s (v ∷ left) h v left refl)
 
 -- a name that is none of a type
 pub plain_found : (names : List (List ℕ)) (t : Placed) → is_plain_name names t.token ≡ true → (n : tree.Name) × (plain_name_at names t ≡ Some n)

@@ -1,3 +1,15 @@
+pub mod Fresh
+pub mod Words
+pub mod Tokens
+pub mod Pointers
+pub mod Plain
+pub mod Firsts
+pub mod Counts
+pub mod Dimensions
+pub mod Declarators
+pub mod Listed
+pub mod Lists
+pub mod Beside
 pub mod IntegerWords
 pub mod TypeFirsts
 pub mod Ended

@@ -14,15 +14,15 @@ use Rattle.c_expression_reader.specs.Types.{Head, head_of, read_base, HeadVoid}
 use Rattle.c_type_reader.specs.Endings.{Ending, goes_on_with, base_ending, ending, SpecifiersEnd, WordsAround, stop_specifiers}
 use Rattle.c_type_reader.specs.Rich.{Ended, rich_base}
 use Rattle.c_type_reader.specs.Specified.{first_at, ending_behind, read_around, read_specified, rich_specified}
-use Rattle.c_declarator_reader.proofs.Tokens.{TokenClass, leaves_of, unless_read}
+use Rattle.c_type_reader.proofs.Tokens.{TokenClass, leaves_of, unless_read}
 use Rattle.c_type_reader.proofs.Members.{Inside}
 use Rattle.c_type_reader.proofs.Bases.{BaseText, text_base, base_text, without_end, base_same, stop_ended, roled-base}
 use Rattle.role_read.proofs.Basics.{roled-same, roled-stop}
 use Rattle.role_read.proofs.Then.{roled-then}
 use Rattle.c_expression_reader.specs.Firm.{Firm}
 use Rattle.c_expression_reader.proofs.Firm.{firm-map}
-use Rattle.c_declarator_reader.specs.Exactness.{Whole}
-use Rattle.c_declarator_reader.proofs.Plain.{roled-tokens}
+use Rattle.c_type_reader.specs.Declarators.{Whole}
+use Rattle.c_type_reader.proofs.Plain.{roled-tokens}
 use Rattle.std.specs.Option.{is_some}
 
 -- a class of words around a base
@@ -37,8 +37,8 @@ pub record Around {X : Type 0} (position : grammar.Position) (class : Placed →
 abbrev Made : (X : Type 0) → Type 0
 Made X = List X × (((Head × ℕ) × Ended) × List X)
 
-abbrev SpecifiedText : {X : Type 0} → (spell : X → Placed) → (names : List (List ℕ)) → (depth : ℕ) → Made X → List Leaf → Type 0
-SpecifiedText {X} spell names depth = Then (λ (xs : List X) text. text ≡ leaves_of spell xs) (λ _. Then (BaseText names depth) (λ _ (xs : List X) text. text ≡ leaves_of spell xs))
+abbrev SpecifiedText : {X : Type 0} → (spell : X → Placed) → (names : List (List ℕ)) → (depth : ℕ) → (counting : grammar.Counting) → Made X → List Leaf → Type 0
+SpecifiedText {X} spell names depth counting = Then (λ (xs : List X) text. text ≡ leaves_of spell xs) (λ _. Then (BaseText names depth counting) (λ _ (xs : List X) text. text ≡ leaves_of spell xs))
 
 abbrev made_specifiers : {X : Type 0} → (spell : X → Placed) → (storage : List X → tree.Storage) → Made X → tree.Specifiers × Ending
 made_specifiers spell storage made = (tree.Specified (grammar.both (storage made.0) (storage made.1.1)) made.1.0.1.0 (first_at spell made.0 made.1.0.0.1), ending_behind made.1.1 made.1.0.1.1)
@@ -52,16 +52,16 @@ behind_same : {X : Type 0} (spell : X → Placed) (base : tree.Base) (middle : L
 behind_same spell base middle [] e same = same
 behind_same spell base middle (x ∷ xs) e same = refl
 
-text_specifiers : {X : Type 0} {position : grammar.Position} {class : Placed → Option X} {test : Token → Bool} {spell : X → Placed} {storage : List X → tree.Storage} → Around position class test spell storage → (names : List (List ℕ)) (depth : ℕ) (pair : tree.Specifiers × Ending) (text : List Leaf)
-    → Map (made_specifiers spell storage) (SpecifiedText spell names depth) pair text → SpecifiersEnd names position depth pair.0 pair.1 text
-text_specifiers {X} {position} {class} {test} {spell} {storage} around names depth pair text m =
+text_specifiers : {X : Type 0} {position : grammar.Position} {class : Placed → Option X} {test : Token → Bool} {spell : X → Placed} {storage : List X → tree.Storage} → Around position class test spell storage → (names : List (List ℕ)) (depth : ℕ) (counting : grammar.Counting) (pair : tree.Specifiers × Ending) (text : List Leaf)
+    → Map (made_specifiers spell storage) (SpecifiedText spell names depth counting) pair text → SpecifiersEnd names position depth counting pair.0 pair.1 text
+text_specifiers {X} {position} {class} {test} {spell} {storage} around names depth counting pair text m =
     let t = m.spells in
     let u = t.second in
     let made = m.inner in
-    let b = text_base names depth made.1.0 u.left u.first in
+    let b = text_base names depth counting made.1.0 u.left u.first in
     let place : first_place (t.left ++ u.left) ≡ first_at spell made.0 made.1.0.0.1 =
     ap first_place (ap (λ l. l ++ u.left) t.first ∙ ap (λ l. leaves_of spell made.0 ++ l) b.cut) ∙ first_same spell made.0 b.leaf b.more made.1.0.0.1 b.there in
-    subst (λ (p : tree.Specifiers × Ending). SpecifiersEnd names position depth p.0 p.1 text) (sym m.is)
+    subst (λ (p : tree.Specifiers × Ending). SpecifiersEnd names position depth counting p.0 p.1 text) (sym m.is)
     (record {
       one = storage made.0;
       two = storage made.1.1;
@@ -77,13 +77,13 @@ text_specifiers {X} {position} {class} {test} {spell} {storage} around names dep
       is_end = behind_same spell made.1.0.1.0 u.left made.1.1 made.1.0.1.1 b.end.is ∙ ap (λ l. ending made.1.0.1.0 u.left l) (sym u.second);
     })
 
-specifiers_text : {X : Type 0} {position : grammar.Position} {class : Placed → Option X} {test : Token → Bool} {spell : X → Placed} {storage : List X → tree.Storage} → Around position class test spell storage → (names : List (List ℕ)) (depth : ℕ) (pair : tree.Specifiers × Ending) (text : List Leaf)
-    → SpecifiersEnd names position depth pair.0 pair.1 text → Map (made_specifiers spell storage) (SpecifiedText spell names depth) pair text
-specifiers_text {X} {position} {class} {test} {spell} {storage} around names depth pair text h =
+specifiers_text : {X : Type 0} {position : grammar.Position} {class : Placed → Option X} {test : Token → Bool} {spell : X → Placed} {storage : List X → tree.Storage} → Around position class test spell storage → (names : List (List ℕ)) (depth : ℕ) (counting : grammar.Counting) (pair : tree.Specifiers × Ending) (text : List Leaf)
+    → SpecifiersEnd names position depth counting pair.0 pair.1 text → Map (made_specifiers spell storage) (SpecifiedText spell names depth counting) pair text
+specifiers_text {X} {position} {class} {test} {spell} {storage} around names depth counting pair text h =
     let f = around.from_words h.one h.before h.words_before in
     let g = around.from_words h.two h.after h.words_after in
-    let b = base_text names depth h.base h.middle h.is_base in
-    let at = text_base names depth (b.head, (h.base, base_ending h.base h.middle)) h.middle b.spells in
+    let b = base_text names depth counting h.base h.middle h.is_base in
+    let at = text_base names depth counting (b.head, (h.base, base_ending h.base h.middle)) h.middle b.spells in
     let place : first_place (h.before ++ h.middle) ≡ first_at spell f.0 b.head.1 =
     ap first_place (ap (λ l. l ++ h.middle) f.1.0 ∙ ap (λ l. leaves_of spell f.0 ++ l) at.cut) ∙ first_same spell f.0 at.leaf at.more b.head.1 at.there in
     record {
@@ -122,9 +122,9 @@ raw_stop test e [] t = and-swapped (not (goes_on_with e t.token)) (not (test t.t
 raw_stop test e (x ∷ xs) t = and-swapped true (not (test t.token))
 
 -- the readers give the same
-pub specified_same : {X : Type 0} (class : Placed → Option X) (test : Token → Bool) (spell : X → Placed) (storage : List X → tree.Storage) (names : List (List ℕ)) (inner : Readers) (depth : ℕ) (tokens : List Placed)
-    → read_specified class test spell storage names inner depth tokens ≡ read_map (λ (pair : tree.Specifiers × Ending). pair.0) (rich_specified class test spell storage names inner depth) tokens
-specified_same {X} class test spell storage names inner depth tokens = by_words (read_around class test tokens)
+pub specified_same : {X : Type 0} (class : Placed → Option X) (test : Token → Bool) (spell : X → Placed) (storage : List X → tree.Storage) (names : List (List ℕ)) (inner : Readers) (depth : ℕ) (counting : grammar.Counting) (tokens : List Placed)
+    → read_specified class test spell storage names inner depth counting tokens ≡ read_map (λ (pair : tree.Specifiers × Ending). pair.0) (rich_specified class test spell storage names inner depth counting) tokens
+specified_same {X} class test spell storage names inner depth counting tokens = by_words (read_around class test tokens)
   where
     plain_made : List X × (((Head × ℕ) × tree.Base) × List X) → tree.Specifiers
     plain_made made = tree.Specified (grammar.both (storage made.0) (storage made.1.1)) made.1.0.1 (first_at spell made.0 made.1.0.0.1)
@@ -142,22 +142,22 @@ specified_same {X} class test spell storage names inner depth tokens = by_words 
     by_base xs (Err fault) = refl
 
     by_words : (o : Outcome Placed Role (List X))
-        → bind (bind {Y = List X × (((Head × ℕ) × tree.Base) × List X)} o (λ xs rest. bind (bind {Y = ((Head × ℕ) × tree.Base) × List X} (read_base names inner depth rest) (λ b more. bind (read_around class test more) (λ ys after. Ok ((b, ys), after)))) (λ y after. Ok ((xs, y), after)))) (λ made r. Ok (tree.Specified (grammar.both (storage made.0) (storage made.1.1)) made.1.0.1 (first_at spell made.0 made.1.0.0.1), r))
-        ≡ bind {Y = tree.Specifiers} (bind {Y = tree.Specifiers × Ending} (bind {Y = Made X} o (λ xs rest. bind (bind {Y = ((Head × ℕ) × Ended) × List X} (rich_base names inner depth rest) (λ b more. bind (read_around class test more) (λ ys after. Ok ((b, ys), after)))) (λ y after. Ok ((xs, y), after)))) (λ made r. Ok (made_specifiers spell storage made, r))) (λ pair r. Ok (pair.0, r))
+        → bind (bind {Y = List X × (((Head × ℕ) × tree.Base) × List X)} o (λ xs rest. bind (bind {Y = ((Head × ℕ) × tree.Base) × List X} (read_base names inner depth counting rest) (λ b more. bind (read_around class test more) (λ ys after. Ok ((b, ys), after)))) (λ y after. Ok ((xs, y), after)))) (λ made r. Ok (tree.Specified (grammar.both (storage made.0) (storage made.1.1)) made.1.0.1 (first_at spell made.0 made.1.0.0.1), r))
+        ≡ bind {Y = tree.Specifiers} (bind {Y = tree.Specifiers × Ending} (bind {Y = Made X} o (λ xs rest. bind (bind {Y = ((Head × ℕ) × Ended) × List X} (rich_base names inner depth counting rest) (λ b more. bind (read_around class test more) (λ ys after. Ok ((b, ys), after)))) (λ y after. Ok ((xs, y), after)))) (λ made r. Ok (made_specifiers spell storage made, r))) (λ pair r. Ok (pair.0, r))
     by_words (Ok (xs, rest)) =
-        ap (λ (o : Outcome Placed Role ((Head × ℕ) × tree.Base)). bind (bind {Y = List X × (((Head × ℕ) × tree.Base) × List X)} (bind {Y = ((Head × ℕ) × tree.Base) × List X} o (λ b more. bind (read_around class test more) (λ ys after. Ok ((b, ys), after)))) (λ y after. Ok ((xs, y), after))) (λ made r. Ok (tree.Specified (grammar.both (storage made.0) (storage made.1.1)) made.1.0.1 (first_at spell made.0 made.1.0.0.1), r))) (base_same names inner depth rest)
-        ∙ by_base xs (rich_base names inner depth rest)
+        ap (λ (o : Outcome Placed Role ((Head × ℕ) × tree.Base)). bind (bind {Y = List X × (((Head × ℕ) × tree.Base) × List X)} (bind {Y = ((Head × ℕ) × tree.Base) × List X} o (λ b more. bind (read_around class test more) (λ ys after. Ok ((b, ys), after)))) (λ y after. Ok ((xs, y), after))) (λ made r. Ok (tree.Specified (grammar.both (storage made.0) (storage made.1.1)) made.1.0.1 (first_at spell made.0 made.1.0.0.1), r))) (base_same names inner depth counting rest)
+        ∙ by_base xs (rich_base names inner depth counting rest)
     by_words (Err fault) = refl
 
-pub roled-specified : {X : Type 0} {position : grammar.Position} {class : Placed → Option X} {test : Token → Bool} {spell : X → Placed} {storage : List X → tree.Storage} → Around position class test spell storage → ((t : Placed) → test t.token ≡ true → is_some (class t) ≡ true) → (names : List (List ℕ)) (inner : Readers) (depth : ℕ)
-    → (suc depth ≤ 128 → Whole names inner (suc depth)) → Whole names inner depth → Inside names inner depth
-    → Firm anything (λ (pair : tree.Specifiers × Ending). SpecifiersEnd names position depth pair.0 pair.1) (λ (pair : tree.Specifiers × Ending). stop_specifiers test pair.0 pair.1) (rich_specified class test spell storage names inner depth)
-roled-specified {X} {position} {class} {test} {spell} {storage} around found names inner depth deeper whole inside =
-    roled-same anything (λ (pair : tree.Specifiers × Ending). SpecifiersEnd names position depth pair.0 pair.1) (rich_specified class test spell storage names inner depth) (λ t h. h) (text_specifiers around names depth) (specifiers_text around names depth) (λ tokens. refl)
+pub roled-specified : {X : Type 0} {position : grammar.Position} {class : Placed → Option X} {test : Token → Bool} {spell : X → Placed} {storage : List X → tree.Storage} → Around position class test spell storage → ((t : Placed) → test t.token ≡ true → is_some (class t) ≡ true) → (names : List (List ℕ)) (inner : Readers) (depth : ℕ) (counting : grammar.Counting)
+    → (suc depth ≤ 128 → Whole names inner (suc depth) (grammar.count_at counting)) → Whole names inner depth (grammar.count_at counting) → Inside names inner depth (grammar.count_at counting)
+    → Firm anything (λ (pair : tree.Specifiers × Ending). SpecifiersEnd names position depth counting pair.0 pair.1) (λ (pair : tree.Specifiers × Ending). stop_specifiers test pair.0 pair.1) (rich_specified class test spell storage names inner depth counting)
+roled-specified {X} {position} {class} {test} {spell} {storage} around found names inner depth counting deeper whole inside =
+    roled-same anything (λ (pair : tree.Specifiers × Ending). SpecifiersEnd names position depth counting pair.0 pair.1) (rich_specified class test spell storage names inner depth counting) (λ t h. h) (text_specifiers around names depth counting) (specifiers_text around names depth counting) (λ tokens. refl)
     (firm-map (made_specifiers spell storage) (λ (pair : tree.Specifiers × Ending). stop_specifiers test pair.0 pair.1) (λ made. refl)
     (roled-stop (λ (made : Made X) t. not (test t.token) && not (goes_on_with (ending_behind made.1.1 made.1.0.1.1) t.token)) (λ made text one t. raw_stop test made.1.0.1.1 made.1.1 t)
     (roled-then (roled-tokens around.kind found anything)
-    (λ xs. roled-then (roled-base names inner depth (λ t. unless_read xs anything t && not (test t.token)) deeper whole inside) (λ made. roled-tokens around.kind found (stop_ended made.1))
+    (λ xs. roled-then (roled-base names inner depth counting (λ t. unless_read xs anything t && not (test t.token)) deeper whole inside) (λ made. roled-tokens around.kind found (stop_ended made.1))
     record {
       ends = λ made ys left right rest one two stops. base_ends made.1 ys right rest two stops;
       goes_on = λ made left one. ([], [], refl);
@@ -182,7 +182,7 @@ roled-specified {X} {position} {class} {test} {spell} {storage} around found nam
         by_head None g e = absurd (cc)
         by_head (Some head) g e = (head, g)
 
-    around_ends : (xs : List X) (made : (Head × ℕ) × Ended) (left more right : List Leaf) (rest : List Placed) → right ≡ left ++ more → BaseText names depth made left → Stops (λ t. unless_read xs anything t && not (test t.token)) (plains marks right ++ rest)
+    around_ends : (xs : List X) (made : (Head × ℕ) × Ended) (left more right : List Leaf) (rest : List Placed) → right ≡ left ++ more → BaseText names depth counting made left → Stops (λ t. unless_read xs anything t && not (test t.token)) (plains marks right ++ rest)
     around_ends xs made left more right rest cut b =
         let o = b.first in
         let h = head_some names o.token.token o.token.offset made.0 o.is in

@@ -16,7 +16,7 @@ use Rattle.c_expression_reader.specs.Classes.{begins_type, begins_type_word, is_
 use Rattle.c_expression_reader.specs.Types.{HeadInteger, head_word, is_const}
 use Rattle.c_type_reader.specs.Endings.{Ending, SpecifiersEnd, WordsAround, BraceToo, WordsToo, goes_on_with}
 use Rattle.c_type_reader.proofs.IntegerWords.{six, word_six, first_words}
-use Rattle.c_declarator_reader.proofs.Declarators.{begins_declarator}
+use Rattle.c_type_reader.proofs.Declarators.{begins_declarator}
 
 -- a text begins with a token that begins a type
 pub record TypeFirst (names : List (List ℕ)) (text : List Leaf) : Type 0 where
@@ -43,14 +43,14 @@ unfolding grammar.integer_type_of
 words_first names [] e = absurd (cc)
 words_first names (w ∷ words) e = record { leaf = plain (word w.0 w.1); more = map (λ (w : Keyword × ℕ). plain (word w.0 w.1)) words; cut = refl; yes = (six_begins w.0 (first_six w.0 (map (λ (w : Keyword × ℕ). w.0) words) e)).0 }
 
-pub base_first : (names : List (List ℕ)) (depth : ℕ) (base : tree.Base) (text : List Leaf) → grammar.Base names depth base text → TypeFirst names text
-base_first names depth base text (grammar.void d place) = record { leaf = _; more = _; cut = refl; yes = refl }
-base_first names depth base text (grammar.integer_type d type words e) = words_first names words (ap is_some e)
-base_first names depth base text (grammar.typedef_name d n e) = record { leaf = plain (named n); more = []; cut = refl; yes = e }
-base_first names depth base text (grammar.struct_tag d n place e) = record { leaf = _; more = _; cut = refl; yes = refl }
-base_first names depth base text (grammar.struct d tag ms name inside place open_place close h k) = record { leaf = _; more = _; cut = refl; yes = refl }
-base_first names depth base text (grammar.enum_tag d n place e) = record { leaf = _; more = _; cut = refl; yes = refl }
-base_first names depth base text (grammar.enum d tag cs name inside end place open_place close h k) = record { leaf = _; more = _; cut = refl; yes = refl }
+pub base_first : (names : List (List ℕ)) (depth : ℕ) (counting : grammar.Counting) (base : tree.Base) (text : List Leaf) → grammar.Base names depth counting base text → TypeFirst names text
+base_first names depth counting base text (grammar.void d c place) = record { leaf = _; more = _; cut = refl; yes = refl }
+base_first names depth counting base text (grammar.integer_type d c type words e) = words_first names words (ap is_some e)
+base_first names depth counting base text (grammar.typedef_name d c n e) = record { leaf = plain (named n); more = []; cut = refl; yes = e }
+base_first names depth counting base text (grammar.struct_tag d c n place e) = record { leaf = _; more = _; cut = refl; yes = refl }
+base_first names depth counting base text (grammar.struct d c tag ms name inside place open_place close h k) = record { leaf = _; more = _; cut = refl; yes = refl }
+base_first names depth counting base text (grammar.enum_tag d c n place e) = record { leaf = _; more = _; cut = refl; yes = refl }
+base_first names depth counting base text (grammar.enum d c tag cs name inside end place open_place close h k) = record { leaf = _; more = _; cut = refl; yes = refl }
 
 part_first : (names : List (List ℕ)) (position : grammar.Position) (storage : tree.Storage) (before more : List Leaf) → grammar.Words position storage before → position ≡ grammar.InPart → TypeFirst names more → TypeFirst names (before ++ more)
 part_first names position storage before more (grammar.none p) e f = f
@@ -64,9 +64,9 @@ part_first names position storage before more (grammar.static_local s t place h)
 longer_first : (names : List (List ℕ)) (left right : List Leaf) → TypeFirst names left → TypeFirst names (left ++ right)
 longer_first names left right f = record { leaf = f.leaf; more = f.more ++ right; cut = ap (λ t. t ++ right) f.cut; yes = f.yes }
 
-pub specifiers_first : (names : List (List ℕ)) (depth : ℕ) (s : tree.Specifiers) (end : Ending) (text : List Leaf) → SpecifiersEnd names grammar.InPart depth s end text → TypeFirst names text
-specifiers_first names depth s end text h =
-    subst (TypeFirst names) (sym h.cut) (part_first names grammar.InPart h.one h.before (h.middle ++ h.after) h.words_before refl (longer_first names h.middle h.after (base_first names depth h.base h.middle h.is_base)))
+pub specifiers_first : (names : List (List ℕ)) (depth : ℕ) (counting : grammar.Counting) (s : tree.Specifiers) (end : Ending) (text : List Leaf) → SpecifiersEnd names grammar.InPart depth counting s end text → TypeFirst names text
+specifiers_first names depth counting s end text h =
+    subst (TypeFirst names) (sym h.cut) (part_first names grammar.InPart h.one h.before (h.middle ++ h.after) h.words_before refl (longer_first names h.middle h.after (base_first names depth counting h.base h.middle h.is_base)))
 
 -- a declarator goes on with no specifiers
 star_is : (p : Punctuator) → sameb the_type p punctuator.Star ≡ true → p ≡ punctuator.Star

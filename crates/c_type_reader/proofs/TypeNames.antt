@@ -16,12 +16,12 @@ use Rattle.c_expression_reader.specs.Exactness.{Closed, TypeFacts}
 use Rattle.c_expression_reader.specs.Readers.{Readers, token, before}
 use Rattle.c_expression_reader.specs.Types.{goes_on, no_storage, Head, head_of, is_const, const_place, first_or, read_consts, read_base, read_specifiers, read_pointer, read_type_name}
 use Rattle.c_expression_reader.proofs.Marks.{roled-closed}
-use Rattle.c_declarator_reader.specs.Beside.{FirmBeside}
+use Rattle.c_type_reader.specs.Beside.{FirmBeside}
 use Rattle.c_type_reader.specs.Endings.{Ending, WordsAround, BraceToo, WordsToo, goes_on_with, SpecifiersEnd, stop_specifiers}
 use Rattle.c_type_reader.specs.Specified.{first_at, read_specified, rich_specified}
 use Rattle.c_type_reader.proofs.IntegerWords.{six, word_six}
-use Rattle.c_declarator_reader.proofs.Tokens.{leaves_of}
-use Rattle.c_declarator_reader.proofs.Pointers.{const_class, stop_pointer}
+use Rattle.c_type_reader.proofs.Tokens.{leaves_of}
+use Rattle.c_type_reader.proofs.Pointers.{const_class, stop_pointer}
 use Rattle.c_type_reader.proofs.TypeFirsts.{specifiers_first}
 use Rattle.c_type_reader.proofs.Members.{Inside}
 use Rattle.c_type_reader.proofs.Ended.{specified, with_end}
@@ -30,8 +30,8 @@ use Rattle.role_read.proofs.Basics.{roled-same}
 use Rattle.role_read.proofs.Then.{roled-then}
 use Rattle.c_expression_reader.specs.Firm.{Firm}
 use Rattle.c_expression_reader.proofs.Firm.{firm-map}
-use Rattle.c_declarator_reader.specs.Exactness.{Whole}
-use Rattle.c_declarator_reader.proofs.Plain.{const_found, roled-pointer}
+use Rattle.c_type_reader.specs.Declarators.{Whole}
+use Rattle.c_type_reader.proofs.Plain.{const_found, roled-pointer}
 
 -- a word that is none of the six goes on with no words of an integer type
 pub no_more_words : (words : List Keyword) (w : Keyword) → six w ≡ false → goes_on words (Word w) ≡ false
@@ -82,8 +82,8 @@ map_pointwise : {X Y : Type 0} (f g : X → Y) → ((x : X) → f x ≡ g x) →
 map_pointwise f g same (Ok (x, rest)) = ap (λ y. Ok (y, rest)) (same x)
 map_pointwise f g same (Err fault) = refl
 
-specifiers_same : (names : List (List ℕ)) (inner : Readers) (depth : ℕ) (tokens : List Placed) → read_specifiers names inner depth tokens ≡ read_specified const_place is_const (word Const) (λ _. no_storage) names inner depth tokens
-specifiers_same names inner depth tokens = map_pointwise first second same (read_then read_consts (λ _. read_then (read_base names inner depth) (λ _. read_consts)) tokens)
+specifiers_same : (names : List (List ℕ)) (inner : Readers) (depth : ℕ) (counting : grammar.Counting) (tokens : List Placed) → read_specifiers names inner depth counting tokens ≡ read_specified const_place is_const (word Const) (λ _. no_storage) names inner depth counting tokens
+specifiers_same names inner depth counting tokens = map_pointwise first second same (read_then read_consts (λ _. read_then (read_base names inner depth counting) (λ _. read_consts)) tokens)
   where
     first : List ℕ × (((Head × ℕ) × tree.Base) × List ℕ) → tree.Specifiers
     first made = tree.Specified no_storage made.1.0.1 (first_or made.0 made.1.0.0.1)
@@ -102,26 +102,26 @@ specifiers_same names inner depth tokens = map_pointwise first second same (read
 abbrev Typed : Type 0
 Typed = (tree.Specifiers × Ending) × ℕ
 
-abbrev TypedText : (names : List (List ℕ)) → (depth : ℕ) → Typed → List Leaf → Type 0
-TypedText names depth = Then (λ (pair : tree.Specifiers × Ending). SpecifiersEnd names grammar.InPart depth pair.0 pair.1) (λ _. grammar.Pointer)
+abbrev TypedText : (names : List (List ℕ)) → (depth : ℕ) → (counting : grammar.Counting) → Typed → List Leaf → Type 0
+TypedText names depth counting = Then (λ (pair : tree.Specifiers × Ending). SpecifiersEnd names grammar.InPart depth counting pair.0 pair.1) (λ _. grammar.Pointer)
 
 abbrev type_of : Typed → tree.TypeName
 type_of typed = tree.Pointers typed.0.0 typed.1
 
-text_type : (names : List (List ℕ)) (depth : ℕ) (type : tree.TypeName) (text : List Leaf) → Map type_of (Closed plain punctuator.RightParenthesis (TypedText names depth)) type text → Closed plain punctuator.RightParenthesis (grammar.TypeName names depth) type text
-text_type names depth type text m =
+text_type : (names : List (List ℕ)) (depth : ℕ) (counting : grammar.Counting) (type : tree.TypeName) (text : List Leaf) → Map type_of (Closed plain punctuator.RightParenthesis (TypedText names depth counting)) type text → Closed plain punctuator.RightParenthesis (grammar.TypeName names depth counting) type text
+text_type names depth counting type text m =
     let c = m.spells in
     let t = c.spells in
-    record { inside = c.inside; close = c.close; cut = c.cut; spells = rw (m.is, t.cut) (grammar.type_name depth m.inner.0.0 m.inner.1 t.left t.right (specified names grammar.InPart depth m.inner.0.0 m.inner.0.1 t.left t.first) t.second) }
+    record { inside = c.inside; close = c.close; cut = c.cut; spells = rw (m.is, t.cut) (grammar.type_name depth counting m.inner.0.0 m.inner.1 t.left t.right (specified names grammar.InPart depth counting m.inner.0.0 m.inner.0.1 t.left t.first) t.second) }
 
-typed_by : (names : List (List ℕ)) (depth : ℕ) (type : tree.TypeName) (inside : List Leaf) → grammar.TypeName names depth type inside → (typed : Typed) × ((type ≡ type_of typed) × TypedText names depth typed inside)
-typed_by names depth type inside (grammar.type_name d s n left stars h k) =
-    let w = with_end names grammar.InPart d s left h in
+typed_by : (names : List (List ℕ)) (depth : ℕ) (counting : grammar.Counting) (type : tree.TypeName) (inside : List Leaf) → grammar.TypeName names depth counting type inside → (typed : Typed) × ((type ≡ type_of typed) × TypedText names depth counting typed inside)
+typed_by names depth counting type inside (grammar.type_name d c s n left stars h k) =
+    let w = with_end names grammar.InPart d c s left h in
     (((s, w.end), n), (refl, record { left = left; right = stars; cut = refl; first = w.spells; second = k }))
 
-type_text : (names : List (List ℕ)) (depth : ℕ) (type : tree.TypeName) (text : List Leaf) → Closed plain punctuator.RightParenthesis (grammar.TypeName names depth) type text → Map type_of (Closed plain punctuator.RightParenthesis (TypedText names depth)) type text
-type_text names depth type text c =
-    let r = typed_by names depth type c.inside c.spells in
+type_text : (names : List (List ℕ)) (depth : ℕ) (counting : grammar.Counting) (type : tree.TypeName) (text : List Leaf) → Closed plain punctuator.RightParenthesis (grammar.TypeName names depth counting) type text → Map type_of (Closed plain punctuator.RightParenthesis (TypedText names depth counting)) type text
+type_text names depth counting type text c =
+    let r = typed_by names depth counting type c.inside c.spells in
     record { inner = r.0; is = r.1.0; spells = record { inside = c.inside; close = c.close; cut = c.cut; spells = r.1.1 } }
 
 type_closes : (typed : Typed) (close : ℕ) → IsTrue (stop_pointer (stop_specifiers is_const typed.0.0 typed.0.1) typed.1 (mark punctuator.RightParenthesis close))
@@ -134,28 +134,28 @@ type_closes ((s, e), suc n) close = refl
 pub type_facts : (names : List (List ℕ)) → TypeFacts names
 type_facts names = record { begins = begins; some = some_type }
   where
-    begins : (depth : ℕ) (type : tree.TypeName) (text : List Leaf) → grammar.TypeName names depth type text → (u : Leaf) × (more : List Leaf) × (text ≡ u ∷ more) × (begins_type names u.token.token ≡ true)
-    begins depth type text (grammar.type_name d s n left stars h k) =
-        let w = with_end names grammar.InPart d s left h in
-        let f = specifiers_first names d s w.end left w.spells in
+    begins : (depth : ℕ) (counting : grammar.Counting) (type : tree.TypeName) (text : List Leaf) → grammar.TypeName names depth counting type text → (u : Leaf) × (more : List Leaf) × (text ≡ u ∷ more) × (begins_type names u.token.token ≡ true)
+    begins depth counting type text (grammar.type_name d c s n left stars h k) =
+        let w = with_end names grammar.InPart d c s left h in
+        let f = specifiers_first names d c s w.end left w.spells in
         (f.leaf, f.more ++ stars, ap (λ l. l ++ stars) f.cut, f.yes)
 
-    some_type : (depth : ℕ) → (type : tree.TypeName) × (text : List Leaf) × grammar.TypeName names depth type text
-    some_type depth = (_, _, grammar.type_name depth _ 0 _ [] (grammar.specifiers grammar.InPart depth no_storage no_storage tree.Void [] (plain (word Void 0) ∷ []) [] (grammar.none grammar.InPart) (grammar.void depth 0) (grammar.none grammar.InPart)) grammar.none)
+    some_type : (depth : ℕ) (counting : grammar.Counting) → (type : tree.TypeName) × (text : List Leaf) × grammar.TypeName names depth counting type text
+    some_type depth counting = (_, _, grammar.type_name depth counting _ 0 _ [] (grammar.specifiers grammar.InPart depth counting no_storage no_storage tree.Void [] (plain (word Void 0) ∷ []) [] (grammar.none grammar.InPart) (grammar.void depth counting 0) (grammar.none grammar.InPart)) grammar.none)
 
-pub roled-specifiers : (names : List (List ℕ)) (inner : Readers) (depth : ℕ) → (suc depth ≤ 128 → Whole names inner (suc depth)) → Whole names inner depth → Inside names inner depth
-    → FirmBeside anything (SpecifiersEnd names grammar.InPart depth) (stop_specifiers is_const) (read_specifiers names inner depth)
-roled-specifiers names inner depth deeper whole inside =
+pub roled-specifiers : (names : List (List ℕ)) (inner : Readers) (depth : ℕ) (counting : grammar.Counting) → (suc depth ≤ 128 → Whole names inner (suc depth) (grammar.count_at counting)) → Whole names inner depth (grammar.count_at counting) → Inside names inner depth (grammar.count_at counting)
+    → FirmBeside anything (SpecifiersEnd names grammar.InPart depth counting) (stop_specifiers is_const) (read_specifiers names inner depth counting)
+roled-specifiers names inner depth counting deeper whole inside =
     record {
-      both = rich_specified const_place is_const (word Const) (λ _. no_storage) names inner depth;
-      is = roled-specified around_part const_found names inner depth deeper whole inside;
-      same = λ tokens. specifiers_same names inner depth tokens ∙ specified_same const_place is_const (word Const) (λ _. no_storage) names inner depth tokens;
+      both = rich_specified const_place is_const (word Const) (λ _. no_storage) names inner depth counting;
+      is = roled-specified around_part const_found names inner depth counting deeper whole inside;
+      same = λ tokens. specifiers_same names inner depth counting tokens ∙ specified_same const_place is_const (word Const) (λ _. no_storage) names inner depth counting tokens;
     }
 
-pub roled-type_name : (names : List (List ℕ)) (inner : Readers) (depth : ℕ) → (suc depth ≤ 128 → Whole names inner (suc depth)) → Whole names inner depth → Inside names inner depth
-    → Firm anything (Closed plain punctuator.RightParenthesis (grammar.TypeName names depth)) (λ _. anything) (before (read_type_name names inner depth) (token Nothing plain (mark_place punctuator.RightParenthesis)))
-roled-type_name names inner depth deeper whole inside =
-    roled-same anything (Closed plain punctuator.RightParenthesis (grammar.TypeName names depth)) (before (read_type_name names inner depth) (token Nothing plain (mark_place punctuator.RightParenthesis))) (λ t h. h) (text_type names depth) (type_text names depth) same
+pub roled-type_name : (names : List (List ℕ)) (inner : Readers) (depth : ℕ) (counting : grammar.Counting) → (suc depth ≤ 128 → Whole names inner (suc depth) (grammar.count_at counting)) → Whole names inner depth (grammar.count_at counting) → Inside names inner depth (grammar.count_at counting)
+    → Firm anything (Closed plain punctuator.RightParenthesis (grammar.TypeName names depth counting)) (λ _. anything) (before (read_type_name names inner depth counting) (token Nothing plain (mark_place punctuator.RightParenthesis)))
+roled-type_name names inner depth counting deeper whole inside =
+    roled-same anything (Closed plain punctuator.RightParenthesis (grammar.TypeName names depth counting)) (before (read_type_name names inner depth counting) (token Nothing plain (mark_place punctuator.RightParenthesis))) (λ t h. h) (text_type names depth counting) (type_text names depth counting) same
     (firm-map type_of (λ _. anything) (λ x. refl)
     (roled-closed {stop = λ (typed : Typed). stop_pointer (stop_specifiers is_const typed.0.0 typed.0.1) typed.1} punctuator.RightParenthesis Nothing plain (λ t. refl) (λ t. refl)
     (roled-then spec.is (λ pair. roled-pointer (stop_specifiers is_const pair.0 pair.1))
@@ -165,8 +165,8 @@ roled-type_name names inner depth deeper whole inside =
     })
     type_closes))
   where
-    spec : FirmBeside anything (SpecifiersEnd names grammar.InPart depth) (stop_specifiers is_const) (read_specifiers names inner depth)
-    spec = roled-specifiers names inner depth deeper whole inside
+    spec : FirmBeside anything (SpecifiersEnd names grammar.InPart depth counting) (stop_specifiers is_const) (read_specifiers names inner depth counting)
+    spec = roled-specifiers names inner depth counting deeper whole inside
 
     and-first : (a b : Bool) → IsTrue (a && b) → IsTrue a
     and-first true b h = refl
@@ -198,7 +198,7 @@ roled-type_name names inner depth deeper whole inside =
     by_specifiers (Ok (p, rest)) = by_pointer p (read_pointer rest)
     by_specifiers (Err fault) = refl
 
-    same : (tokens : List Placed) → before (read_type_name names inner depth) (token Nothing plain (mark_place punctuator.RightParenthesis)) tokens ≡ read_map type_of (before (read_then spec.both (λ _. read_pointer)) (token Nothing plain (mark_place punctuator.RightParenthesis))) tokens
+    same : (tokens : List Placed) → before (read_type_name names inner depth counting) (token Nothing plain (mark_place punctuator.RightParenthesis)) tokens ≡ read_map type_of (before (read_then spec.both (λ _. read_pointer)) (token Nothing plain (mark_place punctuator.RightParenthesis))) tokens
     same tokens =
         ap (λ (o : Outcome Placed Role tree.Specifiers). bind {Y = tree.TypeName} (bind {X = tree.Specifiers × ℕ} (bind o (λ s rest. bind (read_pointer rest) (λ n after. Ok ((s, n), after)))) (λ pair r. Ok (tree.Pointers pair.0 pair.1, r))) (λ type rest. bind (token Nothing plain (mark_place punctuator.RightParenthesis) rest) (λ _ after. Ok (type, after)))) (spec.same tokens)
         ∙ by_specifiers (spec.both tokens)

@@ -2,7 +2,7 @@
 use Rattle.std.proofs.Common.{refl}
 use Rattle.c_grammar_spec.specs.Expressions.{integer_type_of}
 use Rattle.c_expression_reader.specs.Turns.{readers}
-use Rattle.c_type_reader.specs.Samples.{ReadsCast, RefusesWord, RefusesDepth}
+use Rattle.c_type_reader.specs.Samples.{ReadsCast, RefusesWord, RefusesDepth, ReadsValue, RefusesValue}
 
 pub reads_cast : ReadsCast
 unfolding readers integer_type_of
@@ -15,3 +15,11 @@ refuses_word = refl
 pub refuses_depth : RefusesDepth
 unfolding readers integer_type_of
 refuses_depth = refl
+
+pub reads_value : ReadsValue
+unfolding readers integer_type_of
+reads_value = refl
+
+pub refuses_value : RefusesValue
+unfolding readers integer_type_of
+refuses_value = refl

@@ -13,7 +13,7 @@ use Rattle.c_expression_reader.specs.Readers.{Readers, token, before}
 use Rattle.c_expression_reader.specs.Stops.{stop_cast, stop_conditional}
 use Rattle.c_expression_reader.specs.Turns.{readers}
 use Rattle.c_expression_reader.specs.Types.{is_const}
-use Rattle.c_declarator_reader.specs.Beside.{ExactBeside, FirmBeside}
+use Rattle.c_type_reader.specs.Beside.{ExactBeside, FirmBeside}
 use Rattle.c_type_reader.specs.Endings.{SpecifiersEnd, stop_specifiers}
 use Rattle.c_expression_reader.specs.Firm.{Firm}
 

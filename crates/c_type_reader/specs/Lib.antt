@@ -1,3 +1,6 @@
+pub mod Firsts
+pub mod Beside
+pub mod Declarators
 pub mod Endings
 pub mod Rich
 pub mod Specified

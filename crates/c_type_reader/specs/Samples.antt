@@ -1,13 +1,14 @@
 -- Worked samples: what readers give on a few tokens.
-use Rattle.std.specs.Prelude.{◌≡◌, false, List, [], ◌∷◌, Ok, Err}
-use Rattle.c_spec.specs.declared.token.Keyword.TheVariants.{Int, Long, Const}
+use Rattle.std.specs.Prelude.{◌≡◌, false, List, [], ◌∷◌, None, Ok, Err}
+use Rattle.c_spec.specs.declared.token.Keyword.TheVariants.{Int, Long, Const, Enum}
 use Rattle.c_spec.specs.declared.token.NumberType.TheVariants.{SignedInt}
 use Rattle.c_spec.specs.declared.token.Punctuator.TheVariants as punctuator
 use Rattle.c_spec.specs.Lexical.{Placed}
 use Rattle.c_tree_spec.specs.declared.IntegerType.TheVariants as integer
+use Rattle.c_tree_spec.specs.declared.BinaryOperator.TheVariants.{Add}
 use Rattle.c_tree_spec.specs.Expression as tree
 use Rattle.c_grammar_spec.specs.declared.Role.TheVariants.{Nothing}
-use Rattle.c_grammar_spec.specs.Leaves.{mark, word, number}
+use Rattle.c_grammar_spec.specs.Leaves.{mark, word, named, number}
 use Rattle.exact_read.specs.Reading.{Deep, Wrong}
 use Rattle.c_expression_reader.specs.Turns.{readers}
 
@@ -34,3 +35,25 @@ depth_tokens = mark punctuator.LeftParenthesis 0 ∷ word Int 1 ∷ mark punctua
 
 abbrev pub RefusesDepth : Type 0
 RefusesDepth = (readers [] 9).conditional 128 0 depth_tokens ≡ Err (Deep, depth_tokens)
+
+-- `(enum{A=1+1})0`
+abbrev pub constant : tree.Name
+constant = record { spelling = 65 ∷ []; place = 6 }
+
+abbrev pub value_rest : List Placed
+value_rest = mark punctuator.Plus 9 ∷ number 1 SignedInt 10 ∷ mark punctuator.RightBrace 11 ∷ mark punctuator.RightParenthesis 12 ∷ number 0 SignedInt 13 ∷ []
+
+abbrev pub value_tokens : List Placed
+value_tokens = mark punctuator.LeftParenthesis 0 ∷ word Enum 1 ∷ mark punctuator.LeftBrace 5 ∷ named constant ∷ mark punctuator.Assign 7 ∷ number 1 SignedInt 8 ∷ value_rest
+
+abbrev pub value_tree : tree.Expression
+value_tree =
+    tree.Cast (tree.Pointers (tree.Specified (record { is_typedef = false; is_static = false }) (tree.Enum None (tree.constants_with constant (tree.Binary Add (tree.Number 1 SignedInt 8) (tree.Number 1 SignedInt 10) 9) tree.no_constants)) 1) 0) (tree.Number 0 SignedInt 13) 0
+
+-- the `(` is the 127th operator, the `+` the 128th
+abbrev pub ReadsValue : Type 0
+ReadsValue = (readers [] 9).conditional 0 126 value_tokens ≡ Ok (value_tree, [])
+
+-- the `(` is the 128th
+abbrev pub RefusesValue : Type 0
+RefusesValue = (readers [] 9).conditional 0 127 value_tokens ≡ Err (Deep, value_rest)

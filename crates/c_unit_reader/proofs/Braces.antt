@@ -17,9 +17,9 @@ use Rattle.c_expression_reader.specs.Classes.{mark_place, is_mark}
 use Rattle.c_expression_reader.specs.Readers.{Readers}
 use Rattle.c_expression_reader.proofs.Marks.{one-mark, mark-one, Behind, roled-mark, mark-self, mark-some, roled-opened, roled-choice, behind_begins, behind_silent, map_begins, map_silent, one_first}
 use Rattle.c_type_reader.specs.Exactness.{AllFirm}
-use Rattle.c_declarator_reader.proofs.Dimensions.{within_opens}
-use Rattle.c_declarator_reader.proofs.Firsts.{conditional_first, first_not_mark}
-use Rattle.c_declarator_reader.proofs.Tokens.{or_right}
+use Rattle.c_type_reader.proofs.Dimensions.{within_opens}
+use Rattle.c_type_reader.proofs.Firsts.{conditional_first, first_not_mark}
+use Rattle.c_type_reader.proofs.Tokens.{or_right}
 use Rattle.c_unit_reader.specs.Initializers.{BehindInitial, Place, BehindComma, initials_start, next_place, read_designated, read_initials_part, read_initials, end_of_place, read_initial_around, read_initial}
 use Rattle.c_unit_reader.proofs.Lists.{end_of, DesignatedIs, PartsText, made, split, ends_place, InitialIs, computed, empty, list, designated_first, stop_last, part_items, roled-designated, roled-part, part_roles}
 use Rattle.role_read.specs.Roles.{Roled}
@@ -28,7 +28,7 @@ use Rattle.role_read.proofs.Then.{roled-then, roled-then_within}
 use Rattle.role_read.proofs.Many.{many_ending, roled-many}
 use Rattle.c_expression_reader.specs.Firm.{Firm}
 use Rattle.c_expression_reader.proofs.Firm.{firm-map}
-use Rattle.c_declarator_reader.proofs.Listed.{follows_token}
+use Rattle.c_type_reader.proofs.Listed.{follows_token}
 
 -- initial values, and the `}` behind them
 record InBraces (names : List (List ℕ)) (depth : ℕ) (u : Unit {0}) (text : List Leaf) : Type 0 where

@@ -17,9 +17,9 @@ use Rattle.exact_read.proofs.Parts.{both}
 use Rattle.c_expression_reader.specs.Classes.{mark_place, is_mark}
 use Rattle.c_expression_reader.proofs.Marks.{Behind, one-mark, mark-one, mark-self, mark-some, roled-opened, roled-choose, behind_begins, behind_silent, roled-behind}
 use Rattle.c_expression_reader.proofs.Samples.{zero_tree, zero_text, zero_conditional}
-use Rattle.c_declarator_reader.proofs.Fresh.{fresh, fresh_is}
+use Rattle.c_type_reader.proofs.Fresh.{fresh, fresh_is}
 use Rattle.c_type_reader.proofs.Turned.{all-roled}
-use Rattle.c_declaration_reader.proofs.Lists.{Before, MoreText, EndText, Lists, end_some, end_stops, next_before, roled-end}
+use Rattle.c_type_reader.proofs.Lists.{Before, MoreText, EndText, Lists, end_some, end_stops, next_before, roled-end}
 use Rattle.c_global_reader.specs.Texts.{stop_global}
 use Rattle.c_global_reader.proofs.Globals.{roled-global}
 use Rattle.c_unit_reader.specs.Initializers.{end_of_initial}
@@ -142,7 +142,7 @@ sample names is_typedef =
       first = unit.Object d;
       left = t;
       right = [];
-      is_first = grammar.object is_typedef d t (part.declarator false 0 0 (fresh names) false tree.no_expressions [] [] (rw (fresh_is names) refl) part.none (part.given 0 tree.no_expressions [] (part.no_lengths 0)));
+      is_first = grammar.object is_typedef d t (part.declarator false 0 part.Alone 0 (fresh names) false tree.no_expressions [] [] (rw (fresh_is names) refl) part.none (part.given 0 part.Alone tree.no_expressions [] (part.no_lengths 0 part.Alone)));
       is_second = second nothing;
       cut = refl;
     }

@@ -17,7 +17,7 @@ use Rattle.c_expression_reader.proofs.Marks.{Behind, one-mark, mark-one, mark-so
 use Rattle.c_expression_reader.proofs.Samples.{zero_tree, zero_text, zero_conditional}
 use Rattle.c_expression_reader.proofs.Suffixes.{one-name, name-one}
 use Rattle.c_type_reader.specs.Exactness.{AllFirm}
-use Rattle.c_declarator_reader.proofs.Tokens.{stops_or_true}
+use Rattle.c_type_reader.proofs.Tokens.{stops_or_true}
 use Rattle.c_unit_reader.specs.Initializers.{begins_designator, read_designator, read_designators}
 use Rattle.c_spec.specs.Lexical.{Placed}
 use Rattle.role_read.proofs.Basics.{roled-same, roled-enter}

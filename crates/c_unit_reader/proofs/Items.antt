@@ -24,7 +24,7 @@ use Rattle.c_expression_reader.specs.Exactness.{Closed}
 use Rattle.c_expression_reader.specs.Readers.{behind, token, choose}
 use Rattle.c_expression_reader.proofs.Marks.{Behind, one-mark, mark-one, map_silent, one_first, first_silent, mark-some, map_begins, mark-self, roled-closed_by, roled-opened, roled-choice, behind_begins, behind_silent, roled-behind, roled-mark}
 use Rattle.c_type_reader.specs.Endings.{Ending, WordsAround, BraceToo, WordsToo, goes_on_with, stop_specifiers, SpecifiersEnd}
-use Rattle.c_declarator_reader.proofs.Declarators.{DeclaratorFirst, pointer_first, declarator_first, begins_declarator}
+use Rattle.c_type_reader.proofs.Declarators.{DeclaratorFirst, pointer_first, declarator_first, begins_declarator}
 use Rattle.c_type_reader.proofs.Ended.{specified, with_end}
 use Rattle.c_type_reader.proofs.Turned.{all-roled}
 use Rattle.c_type_reader.proofs.TypeFirsts.{declarator_stops, base_first}
@@ -94,7 +94,7 @@ function_first : (names : List (List ℕ)) (depth : ℕ) (f : unit.FunctionDecla
 function_first names depth f text (grammar.function d p n list end stars inside place close e h k) = pointer_first p stars (awaited DeclaredName (named n)) (opens (suc d) (mark punctuator.LeftParenthesis place) ∷ inside ++ awaited end (mark punctuator.RightParenthesis close) ∷ []) h refl
 
 global_first : (names : List (List ℕ)) (c : Bool) (g : unit.Global) (text : List Leaf) → grammar.GlobalDeclarator names c g text → DeclaratorFirst text
-global_first names c g text (grammar.object b d t h) = declarator_first names false 0 d t h
+global_first names c g text (grammar.object b d t h) = declarator_first names false 0 part.Alone d t h
 global_first names c g text (grammar.function f t h) = function_first names 0 f t h
 
 declaring_first : (names : List (List ℕ)) (s : tree.Specifiers) (read : Read) (text : List Leaf) → DeclaringText names s read text → DeclaratorFirst text
@@ -124,7 +124,7 @@ abbrev Ended : Type 0
 Ended = tree.Specifiers × Ending
 
 abbrev SpecifiedText : (names : List (List ℕ)) → Read → List Leaf → Type 0
-SpecifiedText names = Behind (λ (pair : Ended). SpecifiersEnd names part.InItem 0 pair.0 pair.1) (λ pair. RestText names pair.0)
+SpecifiedText names = Behind (λ (pair : Ended). SpecifiersEnd names part.InItem 0 part.Alone pair.0 pair.1) (λ pair. RestText names pair.0)
 
 behind_same : {X E Y : Type 0} (next : X → Reader Placed Role Y) (o : Outcome Placed Role (X × E)) → bind (bind o (λ (pair : X × E) rest. Ok (pair.0, rest))) (λ x rest. next x rest) ≡ bind o (λ (pair : X × E) rest. next pair.0 rest)
 behind_same next (Ok ((x, e), rest)) = refl
@@ -153,9 +153,9 @@ words_begun position storage before more (part.inline s t place h) b = record { 
 words_begun position storage before more (part.static_item s t place h) b = record { leaf = _; more = t ++ more; cut = refl; no_end = refl }
 words_begun position storage before more (part.static_local s t place h) b = record { leaf = _; more = t ++ more; cut = refl; no_end = refl }
 
-specifiers_begun : (names : List (List ℕ)) (s : tree.Specifiers) (e : Ending) (text right : List Leaf) → SpecifiersEnd names part.InItem 0 s e text → Begun (text ++ right)
+specifiers_begun : (names : List (List ℕ)) (s : tree.Specifiers) (e : Ending) (text right : List Leaf) → SpecifiersEnd names part.InItem 0 part.Alone s e text → Begun (text ++ right)
 specifiers_begun names s e text right h =
-    let f = base_first names 0 h.base h.middle h.is_base in
+    let f = base_first names 0 part.Alone h.base h.middle h.is_base in
     let b : Begun ((h.middle ++ h.after) ++ right) = record { leaf = f.leaf; more = (f.more ++ h.after) ++ right; cut = ap (λ l. (l ++ h.after) ++ right) f.cut; no_end = type_no_end names f.leaf.token.token f.yes } in
     subst Begun (sym (ap (λ l. l ++ right) h.cut ∙ append_assoc h.before (h.middle ++ h.after) right)) (words_begun part.InItem h.one h.before ((h.middle ++ h.after) ++ right) h.words_before b)
 
@@ -176,12 +176,12 @@ record FunctionIs (names : List (List ℕ)) (c : Bool) (f : unit.FunctionDeclara
 function_of : (names : List (List ℕ)) (c : Bool) (f : unit.FunctionDeclarator) (text : List Leaf) → grammar.GlobalDeclarator names c (unit.Function f) text → FunctionIs names c f text
 function_of names c f text (grammar.function g t h) = record { no_typedef = refl; spells = h }
 
-declared_item : (names : List (List ℕ)) (s : tree.Specifiers) (g : unit.Global) (read : Read) (left middle right : List Leaf) → part.Specifiers names part.InItem 0 s left → grammar.GlobalDeclarator names (is_typedef s) g middle → GlobalsText names s g read right → ItemOf names read (left ++ (middle ++ right))
+declared_item : (names : List (List ℕ)) (s : tree.Specifiers) (g : unit.Global) (read : Read) (left middle right : List Leaf) → part.Specifiers names part.InItem 0 part.Alone s left → grammar.GlobalDeclarator names (is_typedef s) g middle → GlobalsText names s g read right → ItemOf names read (left ++ (middle ++ right))
 declared_item names s g read left middle right h k b =
     let m = globals_made names s g read middle right k b in
     subst (λ (r : Read). ItemOf names r (left ++ (middle ++ right))) (sym m.is) (grammar.declaration names s m.globals m.after left (middle ++ right) h m.spells)
 
-global_item : (names : List (List ℕ)) (s : tree.Specifiers) (g : unit.Global) (read : Read) (left middle right : List Leaf) → part.Specifiers names part.InItem 0 s left → grammar.GlobalDeclarator names (is_typedef s) g middle → BehindGlobal names s g read right → ItemOf names read (left ++ (middle ++ right))
+global_item : (names : List (List ℕ)) (s : tree.Specifiers) (g : unit.Global) (read : Read) (left middle right : List Leaf) → part.Specifiers names part.InItem 0 part.Alone s left → grammar.GlobalDeclarator names (is_typedef s) g middle → BehindGlobal names s g read right → ItemOf names read (left ++ (middle ++ right))
 global_item names s (unit.Object d) read left middle right h k b = declared_item names s (unit.Object d) read left middle right h k b
 global_item names s (unit.Function f) read left middle right h k (second b) = declared_item names s (unit.Function f) read left middle right h k b
 global_item names s (unit.Function f) read left middle right h k (first b) =
@@ -192,7 +192,7 @@ global_item names s (unit.Function f) read left middle right h k (first b) =
     (subst (λ l. grammar.Item names (unit.Definition s f m.inner) names (left ++ (middle ++ l))) (sym (body_first names s f read right b ∙ ap (λ l. opens 1 (mark punctuator.LeftBrace b.first) ∷ l) c.cut))
     (grammar.definition names s f m.inner left middle c.inside b.first c.close h w.no_typedef w.spells c.spells))
 
-rest_item : (names : List (List ℕ)) (s : tree.Specifiers) (read : Read) (left right : List Leaf) → part.Specifiers names part.InItem 0 s left → RestText names s read right → ItemOf names read (left ++ right)
+rest_item : (names : List (List ℕ)) (s : tree.Specifiers) (read : Read) (left right : List Leaf) → part.Specifiers names part.InItem 0 part.Alone s left → RestText names s read right → ItemOf names read (left ++ right)
 rest_item names s read left right h (first m) =
     subst (λ (r : Read). ItemOf names r (left ++ right)) (sym m.is) (subst (λ l. grammar.Item names (unit.Declaration s []) names (left ++ l)) (sym (one-mark punctuator.Semicolon plain m.inner right m.spells)) (grammar.nameless names s left m.inner h))
 rest_item names s read left right h (second b) = subst (λ l. ItemOf names read (left ++ l)) (sym b.cut) (global_item names s b.first read left b.left b.right h b.is_first b.is_second)
@@ -200,11 +200,11 @@ rest_item names s read left right h (second b) = subst (λ l. ItemOf names read 
 text_item : (names : List (List ℕ)) (read : Read) (text : List Leaf) → ItemText names read text → ItemOf names read text
 text_item names read text (first m) =
     subst (λ (r : Read). ItemOf names r text) (sym m.is) (subst (λ l. grammar.Item names unit.EmptyItem names l) (sym (one-mark punctuator.Semicolon plain m.inner text m.spells)) (grammar.empty names m.inner))
-text_item names read text (second b) = subst (λ l. ItemOf names read l) (sym b.cut) (rest_item names b.first.0 read b.left b.right (specified names part.InItem 0 b.first.0 b.first.1 b.left b.is_first) b.is_second)
+text_item names read text (second b) = subst (λ l. ItemOf names read l) (sym b.cut) (rest_item names b.first.0 read b.left b.right (specified names part.InItem 0 part.Alone b.first.0 b.first.1 b.left b.is_first) b.is_second)
 
 -- and back
-rest_back : (names : List (List ℕ)) (s : tree.Specifiers) (read : Read) (left right : List Leaf) → part.Specifiers names part.InItem 0 s left → RestText names s read right → SpecifiedText names read (left ++ right)
-rest_back names s read left right h r = let w = with_end names part.InItem 0 s left h in record { first = (s, w.end); left = left; right = right; is_first = w.spells; is_second = r; cut = refl }
+rest_back : (names : List (List ℕ)) (s : tree.Specifiers) (read : Read) (left right : List Leaf) → part.Specifiers names part.InItem 0 part.Alone s left → RestText names s read right → SpecifiedText names read (left ++ right)
+rest_back names s read left right h r = let w = with_end names part.InItem 0 part.Alone s left h in record { first = (s, w.end); left = left; right = right; is_first = w.spells; is_second = r; cut = refl }
 
 behind_globals : (names : List (List ℕ)) (s : tree.Specifiers) (g : unit.Global) (read : Read) (text : List Leaf) → GlobalsText names s g read text → BehindGlobal names s g read text
 behind_globals names s (unit.Object d) read text b = b
@@ -265,8 +265,8 @@ item_silent names read u more h = by_text (item_text names read.0 read.1 (u ∷ 
   where
     specified_silent : Silent marks roles (SpecifiedText names)
     specified_silent =
-        first_silent (λ (pair : Ended) h. specifiers_some names part.InItem 0 pair.0 [] (specified names part.InItem 0 pair.0 pair.1 [] h) refl)
-        (λ (pair : Ended) u more h. specifiers_silent names part.InItem 0 pair.0 (u ∷ more) (specified names part.InItem 0 pair.0 pair.1 (u ∷ more) h) u more refl)
+        first_silent (λ (pair : Ended) h. specifiers_some names part.InItem 0 part.Alone pair.0 [] (specified names part.InItem 0 part.Alone pair.0 pair.1 [] h) refl)
+        (λ (pair : Ended) u more h. specifiers_silent names part.InItem 0 part.Alone pair.0 (u ∷ more) (specified names part.InItem 0 part.Alone pair.0 pair.1 (u ∷ more) h) u more refl)
 
     by_text : ItemText names read (u ∷ more) → u.role ≡ Nothing
     by_text (first m) = end_silent (unit.EmptyItem, names) read u more m

@@ -20,9 +20,9 @@ use Rattle.c_expression_reader.specs.Readers.{Readers}
 use Rattle.c_expression_reader.proofs.Marks.{Behind, mark-is, mark-passes, one-mark, mark-one, first_begins, closed_begins, first_silent, closed_silent, mark-some, same_begins, roled-closed, roled-behind, roled-choice, roled-mark, map_begins, one_first, map_silent}
 use Rattle.c_expression_reader.proofs.Samples.{zero_tree, zero_text, zero_conditional}
 use Rattle.c_type_reader.specs.Exactness.{AllFirm}
-use Rattle.c_declarator_reader.specs.Firsts.{begins_expression}
-use Rattle.c_declarator_reader.proofs.Firsts.{conditional_first, begins-not}
-use Rattle.c_declarator_reader.proofs.Tokens.{or_right, stops_or_true}
+use Rattle.c_type_reader.specs.Firsts.{begins_expression}
+use Rattle.c_type_reader.proofs.Firsts.{conditional_first, begins-not}
+use Rattle.c_type_reader.proofs.Tokens.{or_right, stops_or_true}
 use Rattle.c_unit_reader.specs.Initializers.{end_of_initial, begins_initial, begins_designator, Place, BehindInitial, BehindComma, initials_start, next_place, end_of_place, read_designated, read_initials_part}
 use Rattle.c_unit_reader.proofs.Initials.{DesignatorsOf, designators_first, designators_begin, designators_silent, designators_some, left_begins, right_begins, roled-designators}
 use Rattle.exact_read.specs.Awaited.{Next, Told}

@@ -14,7 +14,7 @@ use Rattle.c_grammar_spec.specs.Expressions as grammar
 use Rattle.c_grammar_spec.specs.Expressions.{unary_mark}
 use Rattle.role_read.proofs.Begins.{Begins}
 use Rattle.c_expression_reader.proofs.Samples.{zero_tree, zero_text, zero_cast, zero_conditional, zero_unary}
-use Rattle.c_declarator_reader.specs.Firsts.{begins_by_mark, begins_by_word, begins_expression}
+use Rattle.c_type_reader.specs.Firsts.{begins_by_mark, begins_by_word, begins_expression}
 
 not_true : (b : Bool) → not b ≡ true → b ≡ false
 not_true true e = absurd (cc)

@@ -13,7 +13,7 @@ use Rattle.exact_read.specs.Grammar.{context_after, read_then, read_map, read_ma
 use Rattle.c_expression_reader.specs.Classes.{is_mark, mark_place, name_at}
 use Rattle.c_expression_reader.specs.Readers.{Readers, token, behind, before, choose}
 use Rattle.c_expression_reader.specs.Turns.{too_deep}
-use Rattle.c_declarator_reader.specs.Firsts.{begins_expression}
+use Rattle.c_type_reader.specs.Firsts.{begins_expression}
 
 -- `.` and a member, or an index in brackets
 abbrev pub read_designator : Readers → (depth : ℕ) → Reader Placed Role (Unit {0})

@@ -12,7 +12,7 @@ use Rattle.c_expression_reader.specs.Classes.{mark_place, is_mark}
 use Rattle.c_expression_reader.specs.Readers.{token, behind}
 use Rattle.c_expression_reader.proofs.Marks.{Behind, mark-is, mark-passes, Keeps, one-mark, mark-one, Says, mark-self, mark-some, roled-mark, roled-opened, behind_begins}
 use Rattle.exact_read.proofs.Contexts.{many-context_same}
-use Rattle.c_declarator_reader.proofs.Tokens.{or_right}
+use Rattle.c_type_reader.proofs.Tokens.{or_right}
 use Rattle.role_read.specs.Roles.{Roled, IsAsked}
 use Rattle.exact_read.specs.Awaited.{Next}
 use Rattle.role_read.proofs.Basics.{Meets, roled-same, roled-enter}
@@ -20,7 +20,7 @@ use Rattle.role_read.proofs.Begins.{begun_enters}
 use Rattle.role_read.proofs.Then.{roled-then_within}
 use Rattle.role_read.proofs.Many.{ItemRoles, many_ending, roled-many}
 use Rattle.c_expression_reader.specs.Firm.{Firm}
-use Rattle.c_declarator_reader.proofs.Listed.{follows_token, begins_meet}
+use Rattle.c_type_reader.proofs.Listed.{follows_token, begins_meet}
 
 -- a state, and the part before
 abbrev pub Before : (E X : Type 0) → Type 0

@@ -17,7 +17,7 @@ use Rattle.c_expression_reader.specs.Readers.{token, before}
 use Rattle.c_expression_reader.specs.Types.{is_const, const_place, read_consts, read_pointer}
 use Rattle.c_expression_reader.proofs.Marks.{exact-mark, mark-passes, one-mark, mark-one}
 use Rattle.exact_read.proofs.Contexts.{many-context_same}
-use Rattle.c_declarator_reader.proofs.Tokens.{TokenClass, leaves_of, unless_read, exact-tokens, Kept, exact-before, or_right, context_read}
+use Rattle.c_type_reader.proofs.Tokens.{TokenClass, leaves_of, unless_read, exact-tokens, Kept, exact-before, or_right, context_read}
 
 -- `const`
 const-token : (k : Token) (o place : ℕ) → cond (is_const k) (Some o) None ≡ Some place → record { token = k; offset = o } ≡ word Const place

@@ -3,7 +3,7 @@ use Rattle.std.proofs.Common.{◌≡◌, Ok, Err, refl, inr, Bool, List, ap, sym
 use Rattle.exact_read.specs.Reading.{Outcome, Reader, Within}
 use Rattle.exact_read.specs.Grammar.{bind, read_map, Map, read_then, Then, stop_then}
 use Rattle.exact_read.proofs.Then.{Joins}
-use Rattle.c_declarator_reader.specs.Beside.{WithEnd, FirmBeside}
+use Rattle.c_type_reader.specs.Beside.{WithEnd, FirmBeside}
 use Rattle.c_spec.specs.Lexical.{Placed}
 use Rattle.c_grammar_spec.specs.declared.Role.{Role}
 use Rattle.c_grammar_spec.specs.declared.Role.TheVariants.{Nothing}

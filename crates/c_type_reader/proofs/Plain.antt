@@ -16,9 +16,9 @@ use Rattle.exact_read.proofs.Basics.{err, ok, err_again}
 use Rattle.c_expression_reader.specs.Classes.{is_mark, mark_place}
 use Rattle.c_expression_reader.specs.Readers.{before, token}
 use Rattle.c_expression_reader.specs.Types.{is_const, const_place, read_consts, read_pointer, goes_on, word_of, read_words}
-use Rattle.c_declarator_reader.proofs.Tokens.{leaves_of, TokenClass, unless_read, exact-tokens}
-use Rattle.c_declarator_reader.proofs.Pointers.{exact-consts, stop_pointer, exact-pointer}
-use Rattle.c_declarator_reader.proofs.Words.{none, WordsAre, some, exact-words}
+use Rattle.c_type_reader.proofs.Tokens.{leaves_of, TokenClass, unless_read, exact-tokens}
+use Rattle.c_type_reader.proofs.Pointers.{exact-consts, stop_pointer, exact-pointer}
+use Rattle.c_type_reader.proofs.Words.{none, WordsAre, some, exact-words}
 use Rattle.c_expression_reader.specs.Firm.{Firm}
 use Rattle.c_expression_reader.proofs.Marks.{mark-some}
 

@@ -11,7 +11,7 @@ use Rattle.c_grammar_spec.specs.Leaves.{Leaf, marks}
 use Rattle.c_grammar_spec.specs.Expressions.{unary_mark, Primary, name, constant, character_constant, bracketed, Postfix, primary, index, member, Unary, postfix, prefixed, sizeof_expression, sizeof_type, Cast, unary, cast, Binary, operand, tighter, operation, Conditional, logical_or, conditional}
 use Rattle.exact_read.specs.Reading.{plains, Stops}
 use Rattle.c_expression_reader.specs.Classes.{is_mark}
-use Rattle.c_declarator_reader.specs.Firsts.{begins_expression, begins_by_mark}
+use Rattle.c_type_reader.specs.Firsts.{begins_expression, begins_by_mark}
 
 -- the text begins with a token that begins an expression
 pub record First (names : List (List ℕ)) (text : List Leaf) : Type 0 where

@@ -12,15 +12,15 @@ use Rattle.exact_read.proofs.Parts.{stops_anything}
 use Rattle.c_expression_reader.specs.Classes.{name_of, name_at, is_mark}
 use Rattle.c_expression_reader.specs.Readers.{Readers}
 use Rattle.c_expression_reader.specs.Types.{plain_name_of, plain_name_at, is_plain_name, read_declarator}
-use Rattle.c_declarator_reader.proofs.Fresh.{fresh, fresh_is}
-use Rattle.c_declarator_reader.proofs.Pointers.{stop_pointer}
-use Rattle.c_declarator_reader.proofs.Dimensions.{roled-dimensions}
+use Rattle.c_type_reader.proofs.Fresh.{fresh, fresh_is}
+use Rattle.c_type_reader.proofs.Pointers.{stop_pointer}
+use Rattle.c_type_reader.proofs.Dimensions.{roled-dimensions}
 use Rattle.role_read.proofs.Basics.{roled-same}
 use Rattle.role_read.proofs.Then.{roled-then}
 use Rattle.c_expression_reader.specs.Firm.{Firm}
 use Rattle.c_expression_reader.proofs.Firm.{firm-map, firm-one}
-use Rattle.c_declarator_reader.specs.Exactness.{Whole}
-use Rattle.c_declarator_reader.proofs.Plain.{roled-pointer}
+use Rattle.c_type_reader.specs.Declarators.{Whole}
+use Rattle.c_type_reader.proofs.Plain.{roled-pointer}
 
 -- a class of names that can be declared
 pub record Declares (names : List (List ℕ)) (is_member : Bool) (class : Placed → Option tree.Name) : Type 0 where
@@ -99,15 +99,15 @@ pub pointer_first : (n : ℕ) (stars : List Leaf) (name : Leaf) (more : List Lea
 pointer_first n stars name more grammar.none e = record { leaf = name; more = more; cut = refl; yes = e }
 pointer_first n stars name more (grammar.star m place consts text h rest) e = record { leaf = plain (mark punctuator.Star place); more = (consts ++ text) ++ name ∷ more; cut = refl; yes = refl }
 
-pub declarator_first : (names : List (List ℕ)) (is_member : Bool) (depth : ℕ) (d : tree.Declarator) (text : List Leaf) → grammar.Declarator names is_member depth d text → DeclaratorFirst text
-declarator_first names is_member depth d text (grammar.declarator m dp p n is_open lengths stars dimensions e h k) = pointer_first p stars (awaited DeclaredName (named n)) dimensions h refl
+pub declarator_first : (names : List (List ℕ)) (is_member : Bool) (depth : ℕ) (counting : grammar.Counting) (d : tree.Declarator) (text : List Leaf) → grammar.Declarator names is_member depth counting d text → DeclaratorFirst text
+declarator_first names is_member depth counting d text (grammar.declarator m dp c p n is_open lengths stars dimensions e h k) = pointer_first p stars (awaited DeclaredName (named n)) dimensions h refl
 
 -- a declared name, and what stands behind it
 abbrev NameText : (class : Placed → Option tree.Name) → tree.Name → List Leaf → Type 0
 NameText class = One (awaited DeclaredName) class
 
-abbrev DeclaratorText : (names : List (List ℕ)) → (class : Placed → Option tree.Name) → (depth : ℕ) → ℕ × (tree.Name × (Bool × tree.Expressions)) → List Leaf → Type 0
-DeclaratorText names class depth = Then grammar.Pointer (λ _. Then (NameText class) (λ _ (pair : Bool × tree.Expressions) text. grammar.Dimensions names depth pair.0 pair.1 text))
+abbrev DeclaratorText : (names : List (List ℕ)) → (class : Placed → Option tree.Name) → (depth : ℕ) → (counting : grammar.Counting) → ℕ × (tree.Name × (Bool × tree.Expressions)) → List Leaf → Type 0
+DeclaratorText names class depth counting = Then grammar.Pointer (λ _. Then (NameText class) (λ _ (pair : Bool × tree.Expressions) text. grammar.Dimensions names depth counting pair.0 pair.1 text))
 
 abbrev pub made_declarator : ℕ × (tree.Name × (Bool × tree.Expressions)) → tree.Declarator
 made_declarator made = tree.Declared made.0 made.1.0 made.1.1.0 made.1.1.1
@@ -118,16 +118,16 @@ name_leaf kind n text o = let h = kind.back o.token n o.is in (o.cut ∙ ap (λ 
 pub leaf_name : {names : List (List ℕ)} {is_member : Bool} {class : Placed → Option tree.Name} → Declares names is_member class → (n : tree.Name) → grammar.can_declare is_member names n.spelling ≡ true → One (awaited DeclaredName) class n (awaited DeclaredName (named n) ∷ [])
 leaf_name kind n e = record { token = named n; is = kind.self n e; cut = refl }
 
-text_declarator : {names : List (List ℕ)} {is_member : Bool} {class : Placed → Option tree.Name} → Declares names is_member class → (depth : ℕ) (d : tree.Declarator) (text : List Leaf) → Map made_declarator (DeclaratorText names class depth) d text → grammar.Declarator names is_member depth d text
-text_declarator {names} {is_member} {class} kind depth d text m =
+text_declarator : {names : List (List ℕ)} {is_member : Bool} {class : Placed → Option tree.Name} → Declares names is_member class → (depth : ℕ) (counting : grammar.Counting) (d : tree.Declarator) (text : List Leaf) → Map made_declarator (DeclaratorText names class depth counting) d text → grammar.Declarator names is_member depth counting d text
+text_declarator {names} {is_member} {class} kind depth counting d text m =
     let t = m.spells in
     let u = t.second in
     let n = name_leaf kind m.inner.1.0 u.left u.first in
     let cut : text ≡ t.left ++ awaited DeclaredName (named m.inner.1.0) ∷ u.right = t.cut ∙ ap (λ l. t.left ++ l) (u.cut ∙ ap (λ l. l ++ u.right) n.0) in
-    rw (m.is, cut) (grammar.declarator is_member depth m.inner.0 m.inner.1.0 m.inner.1.1.0 m.inner.1.1.1 t.left u.right n.1 t.first u.second)
+    rw (m.is, cut) (grammar.declarator is_member depth counting m.inner.0 m.inner.1.0 m.inner.1.1.0 m.inner.1.1.1 t.left u.right n.1 t.first u.second)
 
-declarator_text : {names : List (List ℕ)} {is_member : Bool} {class : Placed → Option tree.Name} → Declares names is_member class → (depth : ℕ) (d : tree.Declarator) (text : List Leaf) → grammar.Declarator names is_member depth d text → Map made_declarator (DeclaratorText names class depth) d text
-declarator_text {names} {is_member} {class} kind depth d text (grammar.declarator m dp p n is_open lengths stars dimensions e h k) =
+declarator_text : {names : List (List ℕ)} {is_member : Bool} {class : Placed → Option tree.Name} → Declares names is_member class → (depth : ℕ) (counting : grammar.Counting) (d : tree.Declarator) (text : List Leaf) → grammar.Declarator names is_member depth counting d text → Map made_declarator (DeclaratorText names class depth counting) d text
+declarator_text {names} {is_member} {class} kind depth counting d text (grammar.declarator m dp c p n is_open lengths stars dimensions e h k) =
     record {
       inner = (p, (n, (is_open, lengths)));
       is = refl;
@@ -144,20 +144,20 @@ pub name_stops : (p : ℕ) (n : tree.Name) (rest : List Placed) → Stops (stop_
 name_stops zero n rest = refl
 name_stops (suc p) n rest = refl
 
-pub roled-declarator : {names : List (List ℕ)} {is_member : Bool} {class : Placed → Option tree.Name} → Declares names is_member class → (inner : Readers) (depth : ℕ) → Whole names inner depth
-    → Firm anything (grammar.Declarator names is_member depth) (λ _ t. not (is_mark punctuator.LeftBracket t.token)) (read_declarator class inner depth)
-roled-declarator {names} {is_member} {class} kind inner depth whole =
-    roled-same anything (grammar.Declarator names is_member depth) (read_declarator class inner depth) (λ t h. h) (text_declarator kind depth) (declarator_text kind depth) (λ tokens. refl)
+pub roled-declarator : {names : List (List ℕ)} {is_member : Bool} {class : Placed → Option tree.Name} → Declares names is_member class → (inner : Readers) (depth : ℕ) (counting : grammar.Counting) → Whole names inner depth (grammar.count_at counting)
+    → Firm anything (grammar.Declarator names is_member depth counting) (λ _ t. not (is_mark punctuator.LeftBracket t.token)) (read_declarator class inner depth counting)
+roled-declarator {names} {is_member} {class} kind inner depth counting whole =
+    roled-same anything (grammar.Declarator names is_member depth counting) (read_declarator class inner depth counting) (λ t h. h) (text_declarator kind depth counting) (declarator_text kind depth counting) (λ tokens. refl)
     (firm-map made_declarator (λ _ t. not (is_mark punctuator.LeftBracket t.token)) (λ x. refl)
     (roled-then (roled-pointer anything) (λ p. roled-then (firm-one (stop_pointer anything p) (awaited DeclaredName) class DeclaredName (λ t. refl) (λ t. refl) (named kind.sample) kind.sample (kind.self kind.sample kind.sample_is))
-    (λ n. roled-dimensions names inner depth whole)
+    (λ n. roled-dimensions names inner depth counting whole)
     record {
       ends = λ n y left right rest one two stops. stops_anything (plains marks right ++ rest);
-      goes_on = λ n left one. ((false, tree.no_expressions), [], grammar.given depth tree.no_expressions [] (grammar.no_lengths depth));
+      goes_on = λ n left one. ((false, tree.no_expressions), [], grammar.given depth counting tree.no_expressions [] (grammar.no_lengths depth counting));
     })
     record {
       ends = λ p y left right rest one two stops. ends p y.0 right rest two.left two.right two.cut two.first;
-      goes_on = λ p left one. ((kind.sample, (false, tree.no_expressions)), awaited DeclaredName (named kind.sample) ∷ [], record { left = awaited DeclaredName (named kind.sample) ∷ []; right = []; cut = refl; first = leaf_name kind kind.sample kind.sample_is; second = grammar.given depth tree.no_expressions [] (grammar.no_lengths depth) });
+      goes_on = λ p left one. ((kind.sample, (false, tree.no_expressions)), awaited DeclaredName (named kind.sample) ∷ [], record { left = awaited DeclaredName (named kind.sample) ∷ []; right = []; cut = refl; first = leaf_name kind kind.sample kind.sample_is; second = grammar.given depth counting tree.no_expressions [] (grammar.no_lengths depth counting) });
     }))
   where
     ends : (p : ℕ) (n : tree.Name) (right : List Leaf) (rest : List Placed) (left more : List Leaf) → right ≡ left ++ more → One (awaited DeclaredName) class n left → Stops (stop_pointer anything p) (plains marks right ++ rest)
