@@ -1,1 +1,7 @@
-pub mod Told
+mod Initials
+mod Rooms
+mod Named
+mod Shorter
+mod Listed
+mod AllItems
+mod Told

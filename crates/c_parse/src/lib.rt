@@ -5,21 +5,25 @@
 //! (`specs/Units.antt`, `specs/Faults.antt`).
 #![tactic(auto)]
 
-ghost use Rattle.std.specs.Prelude.{◌≡◌, IfOk, IfErr, length, drop};
+ghost use Rattle.std.specs.Prelude.{◌≡◌, IfOk, IfErr, Err, length, drop};
 ghost use Rattle.c_tree_spec.specs.Unit as tree;
 ghost use Rattle.c_grammar_spec.specs.Faults.{IsUnit, offset_of};
-ghost use Rattle.c_unit_syntax.specs.Units.{unit_of};
+ghost use Rattle.c_syntax.specs.Units.{unit_of};
 ghost use Rattle.c_unit_reader.specs.Units.{read_items};
-ghost use Rattle.c_parse_token.specs.Lists.{list_of, fault_of, IsErrorOf};
+ghost use Rattle.c_parse_token.specs.Lists.{list_of, fault_of, Gives};
 ghost use Rattle.c_parse.specs.Refused.{IsFaultOf, told};
 
+mod class;
+mod globals;
+mod initial;
+mod items;
 mod kind;
 
 use c_grammar_spec::ParseFaultKind;
-use c_parse_token::{Fault, ParseError as Stopped};
-use c_parse_unit::unit;
+use c_parse_token::{Fault, ParseError as Stopped, Tokens};
+use c_syntax::unit::TranslationUnit;
 use c_token::Token;
-use c_unit_syntax::unit::TranslationUnit;
+use items::unit;
 use kind::fault_kind;
 use std::alloc::Global;
 
@@ -64,14 +68,14 @@ fn kind_of(fault: Fault, rest: &[Token<'_>]) -> ParseFaultKind
     }
 }
 
-// The fault where the reader of units stopped.
-fn fault_at(tokens: &[Token<'_>], stopped: Stopped<'_, '_>) -> ParseError
-    requires { IsErrorOf (read_items (list_of tokens.now)) stopped }
+// The fault where the parser stopped, at the first of these tokens or at the end.
+fn fault_at(tokens: &[Token<'_>], rest: &[Token<'_>], stopped: Stopped) -> ParseError
+    requires { Gives (read_items (list_of tokens.now)) unit_of rest.now (Err stopped) }
     ensures { IsFaultOf (list_of tokens.now) result }
 {
     match stopped {
         Stopped::NoMemory => ParseError::NoMemory,
-        Stopped::At(fault, rest) => {
+        Stopped::At(fault) => {
             let kind = kind_of(fault, rest);
             let token = tokens.len().saturating_sub(rest.len());
             ParseError::Fault(ParseFault { token, kind })
@@ -87,8 +91,12 @@ pub fn parse<'t>(alloc: Global, tokens: &'t [Token<'t>]) -> Result<TranslationUn
     ensures fault { IfErr result (λ error. IsFaultOf (list_of tokens.now) error) }
     ensures only { IfErr result (λ error. (other : tree.TranslationUnit) → IsUnit (list_of tokens.now) other → error ≡ ParseError.NoMemory) }
 {
-    match unit(alloc, tokens) {
+    let mut left = Tokens {
+        rest: tokens,
+        count: 0,
+    };
+    match unit(alloc, &mut left) {
         Ok(read) => Ok(read),
-        Err(stopped) => Err(fault_at(tokens, stopped)),
+        Err(stopped) => Err(fault_at(tokens, left.rest, stopped)),
     }
 }

@@ -3,4 +3,4 @@ use Rattle.c_parse.proofs.Told.{fault-numbered}
 use Rattle.c_parse.proofs.fault_at.Goals as goal
 
 pub returns-in-At : goal.returns-in-At
-returns-in-At c = fault-numbered c.args.tokens.now c.in-At.rest.now (fault_of c.in-At.fault) c.kind_of-kind.result c.saturating_sub-token.result (rw c.in-At.is at c.requires) c.kind_of-kind.ensures c.saturating_sub-token.ensures
+returns-in-At c = fault-numbered c.args.tokens.now c.args.rest.now (fault_of c.in-At.fault) c.kind_of-kind.result c.saturating_sub-token.result (rw c.in-At.is at c.requires) c.kind_of-kind.ensures c.saturating_sub-token.ensures

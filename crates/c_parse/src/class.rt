@@ -1,0 +1,104 @@
+//! What a token is where a global begins, and the names of types that an item puts in force.
+
+ghost use Rattle.std.specs.Prelude.{◌≡◌, IfOk, false};
+ghost use Rattle.c_grammar_spec.specs.Expressions.{is_type_name};
+ghost use Rattle.c_grammar_spec.specs.Units.{is_typedef, name_of_global, names_after};
+ghost use Rattle.c_expression_reader.specs.Readers.{next_is};
+ghost use Rattle.c_type_reader.specs.Firsts as firsts;
+ghost use Rattle.c_unit_reader.specs.Initializers as initializers;
+ghost use Rattle.c_syntax.specs.Expressions.{specifiers_of};
+ghost use Rattle.c_syntax.specs.Units.{global_of};
+ghost use Rattle.c_parse_token.specs.Lists.{list_of, names_of};
+ghost use Rattle.c_token.specs.Pieces.{token_of};
+
+use c_parse_token::class::is_mark;
+use c_parse_token::{Tokens, TypeNames};
+use c_spec::token::{Keyword, Punctuator};
+use c_syntax::expression::Specifiers;
+use c_syntax::unit::Global;
+use c_token::Kind;
+use std::alloc::AllocError;
+
+// The token begins an expression.
+fn begins_expression(kind: Kind<'_>, names: &TypeNames<'_>) -> bool
+    ensures { result ≡ firsts.begins_expression (names_of names.now) (token_of kind.entry) }
+{
+    match kind {
+        Kind::Mark(mark) => matches!(
+            mark,
+            Punctuator::LeftParenthesis
+                | Punctuator::Ampersand
+                | Punctuator::Star
+                | Punctuator::Plus
+                | Punctuator::Minus
+                | Punctuator::Tilde
+                | Punctuator::Exclamation
+        ),
+        Kind::Word(word) => word == Keyword::Sizeof,
+        Kind::Name(spelling) => !names.contains(spelling),
+        Kind::Number(_, _) | Kind::Character(_) => true,
+    }
+}
+
+// The token begins a designator.
+fn begins_designator(kind: Kind<'_>) -> bool
+    ensures { result ≡ initializers.begins_designator (token_of kind.entry) }
+{
+    is_mark(kind, Punctuator::Dot) || is_mark(kind, Punctuator::LeftBracket)
+}
+
+/// The next token begins a designator.
+pub fn starts_designator(tokens: &Tokens<'_>) -> bool
+    ensures { result ≡ next_is initializers.begins_designator (list_of tokens.now.rest.now) }
+{
+    match tokens.rest {
+        [first, ..] => begins_designator(first.kind),
+        [] => false,
+    }
+}
+
+/// The next token begins an initial value, or what it is for.
+pub fn starts_initial<'a>(tokens: &Tokens<'a>, names: &TypeNames<'a>) -> bool
+    ensures { result ≡ next_is (initializers.begins_initial (names_of names.now)) (list_of tokens.now.rest.now) }
+{
+    match tokens.rest {
+        [first, ..] => {
+            is_mark(first.kind, Punctuator::LeftBrace)
+                || begins_designator(first.kind)
+                || begins_expression(first.kind, names)
+        }
+        [] => false,
+    }
+}
+
+/// The specifiers are of a `typedef`.
+pub fn is_typedef(specifiers: &Specifiers<'_>) -> bool
+    ensures { result ≡ is_typedef (specifiers_of specifiers.now) }
+{
+    specifiers.storage.is_typedef
+}
+
+// The name that a global declares.
+fn declared_name<'a>(global: &Global<'a>) -> &'a [u8]
+    ensures { result.now ≡ name_of_global (global_of global.now) }
+{
+    match global {
+        Global::Object(declarator) => declarator.name.spelling,
+        Global::Function(declarator) => declarator.name.spelling,
+    }
+}
+
+/// Puts the name of a global, none of a type yet, in force as one of a type, where it has `typedef`.
+pub fn declare<'a>(
+    names: &mut TypeNames<'a>,
+    is_typedef: bool,
+    global: &Global<'a>,
+) -> Result<(), AllocError>
+    requires fresh { is_type_name (names_of names.old) (name_of_global (global_of global.now)) ≡ false }
+    ensures { IfOk result (λ _. names_of names.new ≡ names_after is_typedef (global_of global.now) (names_of names.old)) }
+{
+    if is_typedef {
+        names.add(declared_name(global))?;
+    }
+    Ok(())
+}
