@@ -22,6 +22,23 @@ use c_syntax::expression::{
 };
 use std::alloc::Global;
 
+/// Where a part is parsed.
+#[derive(Clone, Copy)]
+pub struct Scope<'n, 't> {
+    /// Where memory comes from.
+    pub alloc: Global,
+    /// The typedef names in scope.
+    pub names: &'n TypeNames<'t>,
+    /// How many constructs are open around.
+    pub depth: usize,
+    /// How many turns may be taken from one part to another inside it.
+    pub turns: usize,
+}
+
+type Parsed<T> = Result<Box<T>, ParseError>;
+
+type Rows<T> = Result<Vec<Box<T>>, ParseError>;
+
 // No words of storage.
 const NO_STORAGE: Storage = Storage {
     is_typedef: false,
@@ -30,112 +47,91 @@ const NO_STORAGE: Storage = Storage {
 
 // A conditional expression (6.5.15).
 #[cycle(parser)]
-pub fn conditional<'t>(
-    alloc: Global,
-    tokens: &mut Tokens<'t>,
-    names: &TypeNames<'t>,
-    depth: usize,
-    turns: usize,
-) -> Result<Box<Expression<'t>>, ParseError>
-    requires depth { depth ≤ 128 }
+pub fn conditional<'t>(scope: Scope<'_, 't>, tokens: &mut Tokens<'t>) -> Parsed<Expression<'t>>
+    requires depth { scope.depth ≤ 128 }
     requires count { tokens.old.count ≤ 128 }
-    ensures gives { Gives ((inside names.now turns).conditional depth tokens.old.count (list_of tokens.old.rest.now)) tree_of tokens.new.rest.now result }
+    ensures gives { Gives ((inside scope.entry.names.now scope.entry.turns).conditional scope.entry.depth tokens.old.count (list_of tokens.old.rest.now)) tree_of tokens.new.rest.now result }
     ensures counted { IfOk result (λ x. IsCounted tokens.old.count (operators (tree_of x)) tokens.new.count) }
     ensures shorter { IfOk result (λ _. length tokens.new.rest.now ≤ length tokens.old.rest.now) }
 {
-    if turns == 0 {
+    if scope.turns == 0 {
         return Err(ParseError::At(Fault::Deep));
     }
-    choice(alloc, tokens, names, depth, turns - 1)
+    let left = Scope {
+        turns: scope.turns - 1,
+        ..scope
+    };
+    choice(left, tokens)
 }
 
 // A condition, and the values that it chooses from, if there are some.
 #[cycle(parser)]
-fn choice<'t>(
-    alloc: Global,
-    tokens: &mut Tokens<'t>,
-    names: &TypeNames<'t>,
-    depth: usize,
-    turns: usize,
-) -> Result<Box<Expression<'t>>, ParseError>
-    requires depth { depth ≤ 128 }
+fn choice<'t>(scope: Scope<'_, 't>, tokens: &mut Tokens<'t>) -> Parsed<Expression<'t>>
+    requires depth { scope.depth ≤ 128 }
     requires count { tokens.old.count ≤ 128 }
-    ensures gives { Gives (readers.read_conditional (inside names.now turns) depth tokens.old.count (list_of tokens.old.rest.now)) tree_of tokens.new.rest.now result }
+    ensures gives { Gives (readers.read_conditional (inside scope.entry.names.now scope.entry.turns) scope.entry.depth tokens.old.count (list_of tokens.old.rest.now)) tree_of tokens.new.rest.now result }
     ensures counted { IfOk result (λ x. IsCounted tokens.old.count (operators (tree_of x)) tokens.new.count) }
     ensures shorter { IfOk result (λ _. length tokens.new.rest.now ≤ length tokens.old.rest.now) }
 {
-    let test = binary(alloc, tokens, names, depth, 10, turns)?;
+    let test = binary(scope, tokens, 10)?;
     if !tokens.next_is(Punctuator::Question) {
         return Ok(test);
     }
-    chosen(alloc, tokens, names, depth, test, turns)
+    chosen(scope, tokens, test)
 }
 
 // After a condition `?` and two values.
 #[cycle(parser)]
 fn chosen<'t>(
-    alloc: Global,
+    scope: Scope<'_, 't>,
     tokens: &mut Tokens<'t>,
-    names: &TypeNames<'t>,
-    depth: usize,
     test: Box<Expression<'t>>,
-    turns: usize,
-) -> Result<Box<Expression<'t>>, ParseError>
-    requires depth { depth ≤ 128 }
+) -> Parsed<Expression<'t>>
+    requires depth { scope.depth ≤ 128 }
     requires count { tokens.old.count ≤ 128 }
-    ensures gives { Gives (readers.read_choice (inside names.now turns) depth tokens.old.count (tree_of test.entry) (list_of tokens.old.rest.now)) tree_of tokens.new.rest.now result }
+    ensures gives { Gives (readers.read_choice (inside scope.entry.names.now scope.entry.turns) scope.entry.depth tokens.old.count (tree_of test.entry) (list_of tokens.old.rest.now)) tree_of tokens.new.rest.now result }
     ensures counted { IfOk result (λ x. (tokens.new.count + operators (tree_of test.entry) ≡ tokens.old.count + operators (tree_of x)) × (tokens.new.count ≤ 128)) }
     ensures shorter { IfOk result (λ _. length tokens.new.rest.now ≤ length tokens.old.rest.now) }
 {
     let place = tokens.operator(Punctuator::Question)?;
-    let first = ended(alloc, tokens, names, depth, Punctuator::Colon, turns)?;
-    let second = conditional(alloc, tokens, names, depth, turns)?;
-    Ok(Expression::conditional(alloc, test, first, second, place)?)
+    let first = ended(scope, tokens, Punctuator::Colon)?;
+    let second = conditional(scope, tokens)?;
+    Ok(Expression::conditional(scope.alloc, test, first, second, place)?)
 }
 
 // An expression and the punctuator that ends it.
 #[cycle(parser)]
 fn ended<'t>(
-    alloc: Global,
+    scope: Scope<'_, 't>,
     tokens: &mut Tokens<'t>,
-    names: &TypeNames<'t>,
-    depth: usize,
     end: Punctuator,
-    turns: usize,
-) -> Result<Box<Expression<'t>>, ParseError>
-    requires depth { depth ≤ 128 }
+) -> Parsed<Expression<'t>>
+    requires depth { scope.depth ≤ 128 }
     requires count { tokens.old.count ≤ 128 }
-    ensures gives { Gives (read_ended (inside names.now turns) depth tokens.old.count end (list_of tokens.old.rest.now)) tree_of tokens.new.rest.now result }
+    ensures gives { Gives (read_ended (inside scope.entry.names.now scope.entry.turns) scope.entry.depth tokens.old.count end (list_of tokens.old.rest.now)) tree_of tokens.new.rest.now result }
     ensures counted { IfOk result (λ x. IsCounted tokens.old.count (operators (tree_of x)) tokens.new.count) }
     ensures shorter { IfOk result (λ _. length tokens.new.rest.now ≤ length tokens.old.rest.now) }
 {
-    let x = conditional(alloc, tokens, names, depth, turns)?;
+    let x = conditional(scope, tokens)?;
     tokens.mark(end, Role::OperandEnd)?;
     Ok(x)
 }
 
 // The operators of the levels up to this one, and their operands (6.5.5 to 6.5.14).
 #[cycle(parser)]
-fn binary<'t>(
-    alloc: Global,
-    tokens: &mut Tokens<'t>,
-    names: &TypeNames<'t>,
-    depth: usize,
-    level: u8,
-    turns: usize,
-) -> Result<Box<Expression<'t>>, ParseError>
-    requires depth { depth ≤ 128 }
+fn binary<'t>(scope: Scope<'_, 't>, tokens: &mut Tokens<'t>, level: u8) -> Parsed<Expression<'t>>
+    requires depth { scope.depth ≤ 128 }
     requires count { tokens.old.count ≤ 128 }
     requires level { level ≤ 10 }
-    ensures gives { Gives (readers.read_binary (inside names.now turns) depth level tokens.old.count (list_of tokens.old.rest.now)) tree_of tokens.new.rest.now result }
+    ensures gives { Gives (readers.read_binary (inside scope.entry.names.now scope.entry.turns) scope.entry.depth level tokens.old.count (list_of tokens.old.rest.now)) tree_of tokens.new.rest.now result }
     ensures counted { IfOk result (λ x. IsCounted tokens.old.count (operators (tree_of x)) tokens.new.count) }
     ensures shorter { IfOk result (λ _. length tokens.new.rest.now ≤ length tokens.old.rest.now) }
 {
     let before = tokens.count;
-    let mut x = cast(alloc, tokens, names, depth, turns)?;
+    let mut x = cast(scope, tokens)?;
     let mut done = 0u8;
     'levels: while done < level {
-        x = operations(alloc, tokens, names, depth, done, before, x, turns)?;
+        x = operations(scope, tokens, done, before, x)?;
         done += 1;
     }
     Ok(x)
@@ -144,26 +140,23 @@ fn binary<'t>(
 // The operations of the level above this one after a first operand, from the left.
 #[cycle(parser)]
 fn operations<'t>(
-    alloc: Global,
+    scope: Scope<'_, 't>,
     tokens: &mut Tokens<'t>,
-    names: &TypeNames<'t>,
-    depth: usize,
     level: u8,
     before: usize,
     first: Box<Expression<'t>>,
-    turns: usize,
-) -> Result<Box<Expression<'t>>, ParseError>
-    requires depth { depth ≤ 128 }
+) -> Parsed<Expression<'t>>
+    requires depth { scope.depth ≤ 128 }
     requires count { tokens.old.count ≤ 128 }
     requires level { level < 10 }
     requires before { tokens.old.count ≡ before + operators (tree_of first) }
-    ensures gives { Gives (readers.read_operations (inside names.now turns) depth level before (tree_of first.entry) (list_of tokens.old.rest.now)) tree_of tokens.new.rest.now result }
+    ensures gives { Gives (readers.read_operations (inside scope.entry.names.now scope.entry.turns) scope.entry.depth level before (tree_of first.entry) (list_of tokens.old.rest.now)) tree_of tokens.new.rest.now result }
     ensures counted { IfOk result (λ x. IsCounted before (operators (tree_of x)) tokens.new.count) }
     ensures shorter { IfOk result (λ _. length tokens.new.rest.now ≤ length tokens.old.rest.now) }
 {
     let mut left = first;
     'items: while tokens.starts_level(level + 1) {
-        left = operation(alloc, tokens, names, depth, level, left, turns)?;
+        left = operation(scope, tokens, level, left)?;
     }
     Ok(left)
 }
@@ -171,113 +164,97 @@ fn operations<'t>(
 // One operation of the level above this one after its left operand.
 #[cycle(parser)]
 fn operation<'t>(
-    alloc: Global,
+    scope: Scope<'_, 't>,
     tokens: &mut Tokens<'t>,
-    names: &TypeNames<'t>,
-    depth: usize,
     level: u8,
     left: Box<Expression<'t>>,
-    turns: usize,
-) -> Result<Box<Expression<'t>>, ParseError>
-    requires depth { depth ≤ 128 }
+) -> Parsed<Expression<'t>>
+    requires depth { scope.depth ≤ 128 }
     requires count { tokens.old.count ≤ 128 }
     requires level { level < 10 }
-    ensures gives { Gives (read_operation_after (inside names.now turns) depth level tokens.old.count (tree_of left.entry) (list_of tokens.old.rest.now)) tree_of tokens.new.rest.now result }
+    ensures gives { Gives (read_operation_after (inside scope.entry.names.now scope.entry.turns) scope.entry.depth level tokens.old.count (tree_of left.entry) (list_of tokens.old.rest.now)) tree_of tokens.new.rest.now result }
     ensures counted { IfOk result (λ x. (tokens.new.count + operators (tree_of left.entry) ≡ tokens.old.count + operators (tree_of x)) × (tokens.new.count ≤ 128)) }
     ensures shorter { IfOk result (λ _. length tokens.new.rest.now < length tokens.old.rest.now) }
 {
     let (operator, place) = tokens.infix(level + 1)?;
-    let right = binary(alloc, tokens, names, depth, level, turns)?;
-    Ok(Expression::binary(alloc, operator, left, right, place)?)
+    let right = binary(scope, tokens, level)?;
+    Ok(Expression::binary(scope.alloc, operator, left, right, place)?)
 }
 
 // A cast (6.5.4).
 #[cycle(parser)]
-fn cast<'t>(
-    alloc: Global,
-    tokens: &mut Tokens<'t>,
-    names: &TypeNames<'t>,
-    depth: usize,
-    turns: usize,
-) -> Result<Box<Expression<'t>>, ParseError>
-    requires depth { depth ≤ 128 }
+fn cast<'t>(scope: Scope<'_, 't>, tokens: &mut Tokens<'t>) -> Parsed<Expression<'t>>
+    requires depth { scope.depth ≤ 128 }
     requires count { tokens.old.count ≤ 128 }
-    ensures gives { Gives ((inside names.now turns).cast depth tokens.old.count (list_of tokens.old.rest.now)) tree_of tokens.new.rest.now result }
+    ensures gives { Gives ((inside scope.entry.names.now scope.entry.turns).cast scope.entry.depth tokens.old.count (list_of tokens.old.rest.now)) tree_of tokens.new.rest.now result }
     ensures counted { IfOk result (λ x. IsCounted tokens.old.count (operators (tree_of x)) tokens.new.count) }
     ensures shorter { IfOk result (λ _. length tokens.new.rest.now ≤ length tokens.old.rest.now) }
 {
-    if turns == 0 {
+    if scope.turns == 0 {
         return Err(ParseError::At(Fault::Deep));
     }
-    operand(alloc, tokens, names, depth, turns - 1)
+    let left = Scope {
+        turns: scope.turns - 1,
+        ..scope
+    };
+    operand(left, tokens)
 }
 
 // A type in brackets and its operand, or a unary expression.
 #[cycle(parser)]
-fn operand<'t>(
-    alloc: Global,
-    tokens: &mut Tokens<'t>,
-    names: &TypeNames<'t>,
-    depth: usize,
-    turns: usize,
-) -> Result<Box<Expression<'t>>, ParseError>
-    requires depth { depth ≤ 128 }
+fn operand<'t>(scope: Scope<'_, 't>, tokens: &mut Tokens<'t>) -> Parsed<Expression<'t>>
+    requires depth { scope.depth ≤ 128 }
     requires count { tokens.old.count ≤ 128 }
-    ensures gives { Gives (readers.read_cast (names_of names.now) (inside names.now turns) depth tokens.old.count (list_of tokens.old.rest.now)) tree_of tokens.new.rest.now result }
+    ensures gives { Gives (readers.read_cast (names_of scope.entry.names.now) (inside scope.entry.names.now scope.entry.turns) scope.entry.depth tokens.old.count (list_of tokens.old.rest.now)) tree_of tokens.new.rest.now result }
     ensures counted { IfOk result (λ x. IsCounted tokens.old.count (operators (tree_of x)) tokens.new.count) }
     ensures shorter { IfOk result (λ _. length tokens.new.rest.now ≤ length tokens.old.rest.now) }
 {
     if !tokens.next_is(Punctuator::LeftParenthesis) {
-        return unary(alloc, tokens, names, depth, turns);
+        return unary(scope, tokens);
     }
     let before = tokens.count;
-    let place = tokens.bracket(Punctuator::LeftParenthesis, depth)?;
-    if tokens.starts_type(names) {
-        converted(alloc, tokens, names, depth, before, place, turns)
+    let place = tokens.bracket(Punctuator::LeftParenthesis, scope.depth)?;
+    if tokens.starts_type(scope.names) {
+        converted(scope, tokens, before, place)
     } else {
-        bracketed(alloc, tokens, names, depth, before, place, turns)
+        bracketed(scope, tokens, before, place)
     }
 }
 
 // After `(` a type, its bracket and an operand.
 #[cycle(parser)]
 fn converted<'t>(
-    alloc: Global,
+    scope: Scope<'_, 't>,
     tokens: &mut Tokens<'t>,
-    names: &TypeNames<'t>,
-    depth: usize,
     before: usize,
     place: usize,
-    turns: usize,
-) -> Result<Box<Expression<'t>>, ParseError>
-    requires depth { depth < 128 }
+) -> Parsed<Expression<'t>>
+    requires depth { scope.depth < 128 }
     requires count { tokens.old.count ≤ 128 }
     requires before { tokens.old.count ≡ suc before }
-    ensures gives { Gives (readers.read_converted (inside names.now turns) depth before place (list_of tokens.old.rest.now)) tree_of tokens.new.rest.now result }
+    ensures gives { Gives (readers.read_converted (inside scope.entry.names.now scope.entry.turns) scope.entry.depth before place (list_of tokens.old.rest.now)) tree_of tokens.new.rest.now result }
     ensures counted { IfOk result (λ x. IsCounted before (operators (tree_of x)) tokens.new.count) }
     ensures shorter { IfOk result (λ _. length tokens.new.rest.now ≤ length tokens.old.rest.now) }
 {
-    let to = bracketed_type(alloc, tokens, names, depth, turns)?;
-    let operand = cast(alloc, tokens, names, depth, turns)?;
-    Ok(Expression::cast(alloc, to, operand, place)?)
+    let to = bracketed_type(scope, tokens)?;
+    let operand = cast(scope, tokens)?;
+    Ok(Expression::cast(scope.alloc, to, operand, place)?)
 }
 
 // A type after `(`, and its bracket.
 #[cycle(parser)]
-fn bracketed_type<'t>(
-    alloc: Global,
-    tokens: &mut Tokens<'t>,
-    names: &TypeNames<'t>,
-    depth: usize,
-    turns: usize,
-) -> Result<Box<TypeName<'t>>, ParseError>
-    requires depth { depth < 128 }
+fn bracketed_type<'t>(scope: Scope<'_, 't>, tokens: &mut Tokens<'t>) -> Parsed<TypeName<'t>>
+    requires depth { scope.depth < 128 }
     requires count { tokens.old.count ≤ 128 }
-    ensures gives { Gives (readers.read_type (inside names.now turns) depth tokens.old.count (list_of tokens.old.rest.now)) type_of tokens.new.rest.now result }
+    ensures gives { Gives (readers.read_type (inside scope.entry.names.now scope.entry.turns) scope.entry.depth tokens.old.count (list_of tokens.old.rest.now)) type_of tokens.new.rest.now result }
     ensures counted { IfOk result (λ x. IsCounted tokens.old.count (operators_of_type (type_of x)) tokens.new.count) }
     ensures shorter { IfOk result (λ _. length tokens.new.rest.now ≤ length tokens.old.rest.now) }
 {
-    let of = type_name(alloc, tokens, names, depth + 1, false, turns)?;
+    let deeper = Scope {
+        depth: scope.depth + 1,
+        ..scope
+    };
+    let of = type_name(deeper, tokens, false)?;
     tokens.mark(Punctuator::RightParenthesis, Role::Nothing)?;
     Ok(of)
 }
@@ -285,54 +262,45 @@ fn bracketed_type<'t>(
 // After `(` an expression, its bracket, and what is after it (6.5.1, 6.5.2).
 #[cycle(parser)]
 pub fn bracketed<'t>(
-    alloc: Global,
+    scope: Scope<'_, 't>,
     tokens: &mut Tokens<'t>,
-    names: &TypeNames<'t>,
-    depth: usize,
     before: usize,
     place: usize,
-    turns: usize,
-) -> Result<Box<Expression<'t>>, ParseError>
-    requires depth { depth < 128 }
+) -> Parsed<Expression<'t>>
+    requires depth { scope.depth < 128 }
     requires count { tokens.old.count ≤ 128 }
     requires before { tokens.old.count ≡ suc before }
-    ensures gives { Gives (readers.read_bracketed (inside names.now turns) depth before place (list_of tokens.old.rest.now)) tree_of tokens.new.rest.now result }
+    ensures gives { Gives (readers.read_bracketed (inside scope.entry.names.now scope.entry.turns) scope.entry.depth before place (list_of tokens.old.rest.now)) tree_of tokens.new.rest.now result }
     ensures counted { IfOk result (λ x. IsCounted before (operators (tree_of x)) tokens.new.count) }
     ensures shorter { IfOk result (λ _. length tokens.new.rest.now ≤ length tokens.old.rest.now) }
 {
-    let inner = ended(
-        alloc,
-        tokens,
-        names,
-        depth + 1,
-        Punctuator::RightParenthesis,
-        turns,
-    )?;
-    let first = Expression::bracketed(alloc, inner, place)?;
-    suffixes(alloc, tokens, names, depth, before, first, turns)
+    let deeper = Scope {
+        depth: scope.depth + 1,
+        ..scope
+    };
+    let inner = ended(deeper, tokens, Punctuator::RightParenthesis)?;
+    let first = Expression::bracketed(scope.alloc, inner, place)?;
+    suffixes(scope, tokens, before, first)
 }
 
 // `[`, `.` and `->` after a first part (6.5.2).
 #[cycle(parser)]
 fn suffixes<'t>(
-    alloc: Global,
+    scope: Scope<'_, 't>,
     tokens: &mut Tokens<'t>,
-    names: &TypeNames<'t>,
-    depth: usize,
     before: usize,
     first: Box<Expression<'t>>,
-    turns: usize,
-) -> Result<Box<Expression<'t>>, ParseError>
-    requires depth { depth ≤ 128 }
+) -> Parsed<Expression<'t>>
+    requires depth { scope.depth ≤ 128 }
     requires count { tokens.old.count ≤ 128 }
     requires before { tokens.old.count ≡ before + operators (tree_of first) }
-    ensures gives { Gives (readers.read_suffixes_behind (inside names.now turns) depth before (tree_of first.entry) (list_of tokens.old.rest.now)) tree_of tokens.new.rest.now result }
+    ensures gives { Gives (readers.read_suffixes_behind (inside scope.entry.names.now scope.entry.turns) scope.entry.depth before (tree_of first.entry) (list_of tokens.old.rest.now)) tree_of tokens.new.rest.now result }
     ensures counted { IfOk result (λ x. IsCounted before (operators (tree_of x)) tokens.new.count) }
     ensures shorter { IfOk result (λ _. length tokens.new.rest.now ≤ length tokens.old.rest.now) }
 {
     let mut base = first;
     'items: while tokens.starts_suffix() {
-        base = suffix(alloc, tokens, names, depth, base, turns)?;
+        base = suffix(scope, tokens, base)?;
     }
     Ok(base)
 }
@@ -340,361 +308,309 @@ fn suffixes<'t>(
 // One of them.
 #[cycle(parser)]
 fn suffix<'t>(
-    alloc: Global,
+    scope: Scope<'_, 't>,
     tokens: &mut Tokens<'t>,
-    names: &TypeNames<'t>,
-    depth: usize,
     base: Box<Expression<'t>>,
-    turns: usize,
-) -> Result<Box<Expression<'t>>, ParseError>
-    requires depth { depth ≤ 128 }
+) -> Parsed<Expression<'t>>
+    requires depth { scope.depth ≤ 128 }
     requires count { tokens.old.count ≤ 128 }
-    ensures gives { Gives (read_suffix_after (inside names.now turns) depth tokens.old.count (tree_of base.entry) (list_of tokens.old.rest.now)) tree_of tokens.new.rest.now result }
+    ensures gives { Gives (read_suffix_after (inside scope.entry.names.now scope.entry.turns) scope.entry.depth tokens.old.count (tree_of base.entry) (list_of tokens.old.rest.now)) tree_of tokens.new.rest.now result }
     ensures counted { IfOk result (λ x. (tokens.new.count + operators (tree_of base.entry) ≡ tokens.old.count + operators (tree_of x)) × (tokens.new.count ≤ 128)) }
     ensures shorter { IfOk result (λ _. length tokens.new.rest.now < length tokens.old.rest.now) }
 {
     if tokens.next_is(Punctuator::LeftBracket) {
-        index(alloc, tokens, names, depth, base, turns)
+        index(scope, tokens, base)
     } else {
-        member_access(alloc, tokens, base)
+        member_access(scope.alloc, tokens, base)
     }
 }
 
 // An index after its base.
 #[cycle(parser)]
 fn index<'t>(
-    alloc: Global,
+    scope: Scope<'_, 't>,
     tokens: &mut Tokens<'t>,
-    names: &TypeNames<'t>,
-    depth: usize,
     base: Box<Expression<'t>>,
-    turns: usize,
-) -> Result<Box<Expression<'t>>, ParseError>
-    requires depth { depth ≤ 128 }
+) -> Parsed<Expression<'t>>
+    requires depth { scope.depth ≤ 128 }
     requires count { tokens.old.count ≤ 128 }
-    ensures gives { Gives (read_index_after (inside names.now turns) depth tokens.old.count (tree_of base.entry) (list_of tokens.old.rest.now)) tree_of tokens.new.rest.now result }
+    ensures gives { Gives (read_index_after (inside scope.entry.names.now scope.entry.turns) scope.entry.depth tokens.old.count (tree_of base.entry) (list_of tokens.old.rest.now)) tree_of tokens.new.rest.now result }
     ensures counted { IfOk result (λ x. (tokens.new.count + operators (tree_of base.entry) ≡ tokens.old.count + operators (tree_of x)) × (tokens.new.count ≤ 128)) }
     ensures shorter { IfOk result (λ _. length tokens.new.rest.now < length tokens.old.rest.now) }
 {
-    let place = tokens.bracket(Punctuator::LeftBracket, depth)?;
-    let index = ended(
-        alloc,
-        tokens,
-        names,
-        depth + 1,
-        Punctuator::RightBracket,
-        turns,
-    )?;
-    Ok(Expression::index(alloc, base, index, place)?)
+    let place = tokens.bracket(Punctuator::LeftBracket, scope.depth)?;
+    let deeper = Scope {
+        depth: scope.depth + 1,
+        ..scope
+    };
+    let index = ended(deeper, tokens, Punctuator::RightBracket)?;
+    Ok(Expression::index(scope.alloc, base, index, place)?)
 }
 
 // A unary expression (6.5.3) that begins with no bracket.
 #[cycle(parser)]
-pub fn unary<'t>(
-    alloc: Global,
-    tokens: &mut Tokens<'t>,
-    names: &TypeNames<'t>,
-    depth: usize,
-    turns: usize,
-) -> Result<Box<Expression<'t>>, ParseError>
-    requires depth { depth ≤ 128 }
+pub fn unary<'t>(scope: Scope<'_, 't>, tokens: &mut Tokens<'t>) -> Parsed<Expression<'t>>
+    requires depth { scope.depth ≤ 128 }
     requires count { tokens.old.count ≤ 128 }
-    ensures gives { Gives ((inside names.now turns).unary depth tokens.old.count (list_of tokens.old.rest.now)) tree_of tokens.new.rest.now result }
+    ensures gives { Gives ((inside scope.entry.names.now scope.entry.turns).unary scope.entry.depth tokens.old.count (list_of tokens.old.rest.now)) tree_of tokens.new.rest.now result }
     ensures counted { IfOk result (λ x. IsCounted tokens.old.count (operators (tree_of x)) tokens.new.count) }
     ensures shorter { IfOk result (λ _. length tokens.new.rest.now ≤ length tokens.old.rest.now) }
 {
-    if turns == 0 {
+    if scope.turns == 0 {
         return Err(ParseError::At(Fault::Deep));
     }
-    prefix_or_postfix(alloc, tokens, names, depth, turns - 1)
+    let left = Scope {
+        turns: scope.turns - 1,
+        ..scope
+    };
+    prefix_or_postfix(left, tokens)
 }
 
 // An operator and its operand, `sizeof` and its operand, or a postfix expression.
 #[cycle(parser)]
-fn prefix_or_postfix<'t>(
-    alloc: Global,
-    tokens: &mut Tokens<'t>,
-    names: &TypeNames<'t>,
-    depth: usize,
-    turns: usize,
-) -> Result<Box<Expression<'t>>, ParseError>
-    requires depth { depth ≤ 128 }
+fn prefix_or_postfix<'t>(scope: Scope<'_, 't>, tokens: &mut Tokens<'t>) -> Parsed<Expression<'t>>
+    requires depth { scope.depth ≤ 128 }
     requires count { tokens.old.count ≤ 128 }
-    ensures gives { Gives (readers.read_unary (names_of names.now) (inside names.now turns) depth tokens.old.count (list_of tokens.old.rest.now)) tree_of tokens.new.rest.now result }
+    ensures gives { Gives (readers.read_unary (names_of scope.entry.names.now) (inside scope.entry.names.now scope.entry.turns) scope.entry.depth tokens.old.count (list_of tokens.old.rest.now)) tree_of tokens.new.rest.now result }
     ensures counted { IfOk result (λ x. IsCounted tokens.old.count (operators (tree_of x)) tokens.new.count) }
     ensures shorter { IfOk result (λ _. length tokens.new.rest.now ≤ length tokens.old.rest.now) }
 {
     if tokens.starts_prefix() {
-        return prefixed(alloc, tokens, names, depth, turns);
+        return prefixed(scope, tokens);
     }
     if tokens.starts_sizeof() {
-        return size(alloc, tokens, names, depth, turns);
+        return size(scope, tokens);
     }
     let before = tokens.count;
-    let first = atom(alloc, tokens, names)?;
-    suffixes(alloc, tokens, names, depth, before, first, turns)
+    let first = atom(scope.alloc, tokens, scope.names)?;
+    suffixes(scope, tokens, before, first)
 }
 
 // An operator before its operand.
 #[cycle(parser)]
-fn prefixed<'t>(
-    alloc: Global,
-    tokens: &mut Tokens<'t>,
-    names: &TypeNames<'t>,
-    depth: usize,
-    turns: usize,
-) -> Result<Box<Expression<'t>>, ParseError>
-    requires depth { depth ≤ 128 }
+fn prefixed<'t>(scope: Scope<'_, 't>, tokens: &mut Tokens<'t>) -> Parsed<Expression<'t>>
+    requires depth { scope.depth ≤ 128 }
     requires count { tokens.old.count ≤ 128 }
-    ensures gives { Gives (readers.read_prefixed (inside names.now turns) depth tokens.old.count (list_of tokens.old.rest.now)) tree_of tokens.new.rest.now result }
+    ensures gives { Gives (readers.read_prefixed (inside scope.entry.names.now scope.entry.turns) scope.entry.depth tokens.old.count (list_of tokens.old.rest.now)) tree_of tokens.new.rest.now result }
     ensures counted { IfOk result (λ x. IsCounted tokens.old.count (operators (tree_of x)) tokens.new.count) }
     ensures shorter { IfOk result (λ _. length tokens.new.rest.now ≤ length tokens.old.rest.now) }
 {
     let (operator, place) = tokens.prefix()?;
-    let operand = cast(alloc, tokens, names, depth, turns)?;
-    Ok(Expression::unary(alloc, operator, operand, place)?)
+    let operand = cast(scope, tokens)?;
+    Ok(Expression::unary(scope.alloc, operator, operand, place)?)
 }
 
 // `sizeof` and its operand.
 #[cycle(parser)]
-fn size<'t>(
-    alloc: Global,
-    tokens: &mut Tokens<'t>,
-    names: &TypeNames<'t>,
-    depth: usize,
-    turns: usize,
-) -> Result<Box<Expression<'t>>, ParseError>
-    requires depth { depth ≤ 128 }
+fn size<'t>(scope: Scope<'_, 't>, tokens: &mut Tokens<'t>) -> Parsed<Expression<'t>>
+    requires depth { scope.depth ≤ 128 }
     requires count { tokens.old.count ≤ 128 }
-    ensures gives { Gives (readers.read_sizeof (names_of names.now) (inside names.now turns) depth tokens.old.count (list_of tokens.old.rest.now)) tree_of tokens.new.rest.now result }
+    ensures gives { Gives (readers.read_sizeof (names_of scope.entry.names.now) (inside scope.entry.names.now scope.entry.turns) scope.entry.depth tokens.old.count (list_of tokens.old.rest.now)) tree_of tokens.new.rest.now result }
     ensures counted { IfOk result (λ x. IsCounted tokens.old.count (operators (tree_of x)) tokens.new.count) }
     ensures shorter { IfOk result (λ _. length tokens.new.rest.now ≤ length tokens.old.rest.now) }
 {
     let place = tokens.sizeof_word()?;
     if !tokens.next_is(Punctuator::LeftParenthesis) {
-        let operand = unary(alloc, tokens, names, depth, turns)?;
-        return Ok(Expression::sizeof(alloc, operand, place)?);
+        let operand = unary(scope, tokens)?;
+        return Ok(Expression::sizeof(scope.alloc, operand, place)?);
     }
-    size_in_brackets(alloc, tokens, names, depth, place, turns)
+    size_in_brackets(scope, tokens, place)
 }
 
 // What is after `sizeof` where it begins with `(`: nothing is after a type in brackets.
 #[cycle(parser)]
 fn size_in_brackets<'t>(
-    alloc: Global,
+    scope: Scope<'_, 't>,
     tokens: &mut Tokens<'t>,
-    names: &TypeNames<'t>,
-    depth: usize,
     place: usize,
-    turns: usize,
-) -> Result<Box<Expression<'t>>, ParseError>
-    requires depth { depth ≤ 128 }
+) -> Parsed<Expression<'t>>
+    requires depth { scope.depth ≤ 128 }
     requires count { tokens.old.count ≤ 128 }
-    ensures gives { Gives (read_sized_in_brackets (names_of names.now) (inside names.now turns) depth tokens.old.count place (list_of tokens.old.rest.now)) tree_of tokens.new.rest.now result }
+    ensures gives { Gives (read_sized_in_brackets (names_of scope.entry.names.now) (inside scope.entry.names.now scope.entry.turns) scope.entry.depth tokens.old.count place (list_of tokens.old.rest.now)) tree_of tokens.new.rest.now result }
     ensures counted { IfOk result (λ x. (suc tokens.new.count ≡ tokens.old.count + operators (tree_of x)) × (tokens.new.count ≤ 128)) }
     ensures shorter { IfOk result (λ _. length tokens.new.rest.now ≤ length tokens.old.rest.now) }
 {
     let before = tokens.count;
-    let opened = tokens.bracket(Punctuator::LeftParenthesis, depth)?;
-    if tokens.starts_type(names) {
-        let of = bracketed_type(alloc, tokens, names, depth, turns)?;
-        return Ok(Expression::sizeof_type(alloc, of, place)?);
+    let opened = tokens.bracket(Punctuator::LeftParenthesis, scope.depth)?;
+    if tokens.starts_type(scope.names) {
+        let of = bracketed_type(scope, tokens)?;
+        return Ok(Expression::sizeof_type(scope.alloc, of, place)?);
     }
-    let operand = bracketed(alloc, tokens, names, depth, before, opened, turns)?;
-    Ok(Expression::sizeof(alloc, operand, place)?)
+    let operand = bracketed(scope, tokens, before, opened)?;
+    Ok(Expression::sizeof(scope.alloc, operand, place)?)
 }
 
 // The type of a cast or of `sizeof` (6.7.7).
 #[cycle(parser)]
 fn type_name<'t>(
-    alloc: Global,
+    scope: Scope<'_, 't>,
     tokens: &mut Tokens<'t>,
-    names: &TypeNames<'t>,
-    depth: usize,
     is_alone: bool,
-    turns: usize,
-) -> Result<Box<TypeName<'t>>, ParseError>
-    requires depth { depth ≤ 128 }
+) -> Parsed<TypeName<'t>>
+    requires depth { scope.depth ≤ 128 }
     requires count { tokens.old.count ≤ 128 }
-    ensures gives { Gives ((inside names.now turns).type_name depth (counting_of is_alone tokens.old.count) (list_of tokens.old.rest.now)) type_of tokens.new.rest.now result }
+    ensures gives { Gives ((inside scope.entry.names.now scope.entry.turns).type_name scope.entry.depth (counting_of is_alone tokens.old.count) (list_of tokens.old.rest.now)) type_of tokens.new.rest.now result }
     ensures counted { IfOk result (λ x. IsAdvanced is_alone tokens.old.count (operators_of_type (type_of x)) tokens.new.count) }
     ensures shorter { IfOk result (λ _. length tokens.new.rest.now ≤ length tokens.old.rest.now) }
 {
-    if turns == 0 {
+    if scope.turns == 0 {
         return Err(ParseError::At(Fault::Deep));
     }
-    pointed(alloc, tokens, names, depth, is_alone, turns - 1)
+    let left = Scope {
+        turns: scope.turns - 1,
+        ..scope
+    };
+    pointed(left, tokens, is_alone)
 }
 
 // Specifiers and `*`.
 #[cycle(parser)]
 fn pointed<'t>(
-    alloc: Global,
+    scope: Scope<'_, 't>,
     tokens: &mut Tokens<'t>,
-    names: &TypeNames<'t>,
-    depth: usize,
     is_alone: bool,
-    turns: usize,
-) -> Result<Box<TypeName<'t>>, ParseError>
-    requires depth { depth ≤ 128 }
+) -> Parsed<TypeName<'t>>
+    requires depth { scope.depth ≤ 128 }
     requires count { tokens.old.count ≤ 128 }
-    ensures gives { Gives (types.read_type_name (names_of names.now) (inside names.now turns) depth (counting_of is_alone tokens.old.count) (list_of tokens.old.rest.now)) type_of tokens.new.rest.now result }
+    ensures gives { Gives (types.read_type_name (names_of scope.entry.names.now) (inside scope.entry.names.now scope.entry.turns) scope.entry.depth (counting_of is_alone tokens.old.count) (list_of tokens.old.rest.now)) type_of tokens.new.rest.now result }
     ensures counted { IfOk result (λ x. IsAdvanced is_alone tokens.old.count (operators_of_type (type_of x)) tokens.new.count) }
     ensures shorter { IfOk result (λ _. length tokens.new.rest.now ≤ length tokens.old.rest.now) }
 {
-    let specifiers = specified(alloc, tokens, names, depth, is_alone, turns)?;
+    let specifiers = specified(scope, tokens, is_alone)?;
     let pointers = pointer(tokens);
-    Ok(TypeName::new(alloc, specifiers, pointers)?)
+    Ok(TypeName::new(scope.alloc, specifiers, pointers)?)
 }
 
 // Specifiers (6.7) that stand in no item and in no declaration of locals.
 #[cycle(parser)]
 pub fn specifiers<'t>(
-    alloc: Global,
+    scope: Scope<'_, 't>,
     tokens: &mut Tokens<'t>,
-    names: &TypeNames<'t>,
-    depth: usize,
     is_alone: bool,
-    turns: usize,
-) -> Result<Box<Specifiers<'t>>, ParseError>
-    requires depth { depth ≤ 128 }
+) -> Parsed<Specifiers<'t>>
+    requires depth { scope.depth ≤ 128 }
     requires count { tokens.old.count ≤ 128 }
-    ensures gives { Gives ((inside names.now turns).specifiers depth (counting_of is_alone tokens.old.count) (list_of tokens.old.rest.now)) specified_of tokens.new.rest.now result }
+    ensures gives { Gives ((inside scope.entry.names.now scope.entry.turns).specifiers scope.entry.depth (counting_of is_alone tokens.old.count) (list_of tokens.old.rest.now)) specified_of tokens.new.rest.now result }
     ensures counted { IfOk result (λ x. IsAdvanced is_alone tokens.old.count (operators_of_specifiers (specified_of x)) tokens.new.count) }
     ensures shorter { IfOk result (λ _. length tokens.new.rest.now ≤ length tokens.old.rest.now) }
 {
-    if turns == 0 {
+    if scope.turns == 0 {
         return Err(ParseError::At(Fault::Deep));
     }
-    specified(alloc, tokens, names, depth, is_alone, turns - 1)
+    let left = Scope {
+        turns: scope.turns - 1,
+        ..scope
+    };
+    specified(left, tokens, is_alone)
 }
 
 // A type specifier, and `const` around it.
 #[cycle(parser)]
 fn specified<'t>(
-    alloc: Global,
+    scope: Scope<'_, 't>,
     tokens: &mut Tokens<'t>,
-    names: &TypeNames<'t>,
-    depth: usize,
     is_alone: bool,
-    turns: usize,
-) -> Result<Box<Specifiers<'t>>, ParseError>
-    requires depth { depth ≤ 128 }
+) -> Parsed<Specifiers<'t>>
+    requires depth { scope.depth ≤ 128 }
     requires count { tokens.old.count ≤ 128 }
-    ensures gives { Gives (types.read_specifiers (names_of names.now) (inside names.now turns) depth (counting_of is_alone tokens.old.count) (list_of tokens.old.rest.now)) specified_of tokens.new.rest.now result }
+    ensures gives { Gives (types.read_specifiers (names_of scope.entry.names.now) (inside scope.entry.names.now scope.entry.turns) scope.entry.depth (counting_of is_alone tokens.old.count) (list_of tokens.old.rest.now)) specified_of tokens.new.rest.now result }
     ensures counted { IfOk result (λ x. IsAdvanced is_alone tokens.old.count (operators_of_specifiers (specified_of x)) tokens.new.count) }
     ensures shorter { IfOk result (λ _. length tokens.new.rest.now ≤ length tokens.old.rest.now) }
 {
     let first = consts(tokens);
-    let (head, place) = base_head(tokens, names)?;
-    let base = base(alloc, tokens, names, depth, is_alone, head, turns)?;
+    let (head, place) = base_head(tokens, scope.names)?;
+    let base = base(scope, tokens, is_alone, head)?;
     consts(tokens);
-    Ok(Specifiers::new(alloc, NO_STORAGE, base, first.unwrap_or(place))?)
+    Ok(Specifiers::new(scope.alloc, NO_STORAGE, base, first.unwrap_or(place))?)
 }
 
 // What is after the first token of a type specifier (6.7.2).
 #[cycle(parser)]
 pub fn base<'t>(
-    alloc: Global,
+    scope: Scope<'_, 't>,
     tokens: &mut Tokens<'t>,
-    names: &TypeNames<'t>,
-    depth: usize,
     is_alone: bool,
     head: Head<'t>,
-    turns: usize,
-) -> Result<Box<Base<'t>>, ParseError>
-    requires depth { depth ≤ 128 }
+) -> Parsed<Base<'t>>
+    requires depth { scope.depth ≤ 128 }
     requires count { tokens.old.count ≤ 128 }
-    ensures gives { Gives (types.read_base_rest (names_of names.now) (inside names.now turns) depth (counting_of is_alone tokens.old.count) (head_of head.entry) (list_of tokens.old.rest.now)) specifier_of tokens.new.rest.now result }
+    ensures gives { Gives (types.read_base_rest (names_of scope.entry.names.now) (inside scope.entry.names.now scope.entry.turns) scope.entry.depth (counting_of is_alone tokens.old.count) (head_of head.entry) (list_of tokens.old.rest.now)) specifier_of tokens.new.rest.now result }
     ensures counted { IfOk result (λ x. IsAdvanced is_alone tokens.old.count (operators_of_base (specifier_of x)) tokens.new.count) }
     ensures shorter { IfOk result (λ _. length tokens.new.rest.now ≤ length tokens.old.rest.now) }
 {
     match head {
-        Head::Void => Ok(Base::void(alloc)?),
+        Head::Void => Ok(Base::void(scope.alloc)?),
         Head::Integer(first) => {
-            let named = integer_type(alloc, tokens, first)?;
-            Ok(Base::integer(alloc, named)?)
+            let named = integer_type(scope.alloc, tokens, first)?;
+            Ok(Base::integer(scope.alloc, named)?)
         }
-        Head::Named(name) => Ok(Base::typedef_name(alloc, name)?),
-        Head::Struct => structure(alloc, tokens, names, depth, is_alone, turns),
-        Head::Enum => enumeration(alloc, tokens, names, depth, is_alone, turns),
+        Head::Named(name) => Ok(Base::typedef_name(scope.alloc, name)?),
+        Head::Struct => structure(scope, tokens, is_alone),
+        Head::Enum => enumeration(scope, tokens, is_alone),
     }
 }
 
 // What is after `struct`.
 #[cycle(parser)]
-fn structure<'t>(
-    alloc: Global,
-    tokens: &mut Tokens<'t>,
-    names: &TypeNames<'t>,
-    depth: usize,
-    is_alone: bool,
-    turns: usize,
-) -> Result<Box<Base<'t>>, ParseError>
-    requires depth { depth ≤ 128 }
+fn structure<'t>(scope: Scope<'_, 't>, tokens: &mut Tokens<'t>, is_alone: bool) -> Parsed<Base<'t>>
+    requires depth { scope.depth ≤ 128 }
     requires count { tokens.old.count ≤ 128 }
-    ensures gives { Gives (types.read_struct (names_of names.now) (inside names.now turns) depth (counting_of is_alone tokens.old.count) (list_of tokens.old.rest.now)) specifier_of tokens.new.rest.now result }
+    ensures gives { Gives (types.read_struct (names_of scope.entry.names.now) (inside scope.entry.names.now scope.entry.turns) scope.entry.depth (counting_of is_alone tokens.old.count) (list_of tokens.old.rest.now)) specifier_of tokens.new.rest.now result }
     ensures counted { IfOk result (λ x. IsAdvanced is_alone tokens.old.count (operators_of_base (specifier_of x)) tokens.new.count) }
     ensures shorter { IfOk result (λ _. length tokens.new.rest.now ≤ length tokens.old.rest.now) }
 {
-    if !tokens.starts_plain_name(names) {
-        let rows = members(alloc, tokens, names, depth, is_alone, turns)?;
-        return Ok(Base::structure(alloc, None, rows)?);
+    if !tokens.starts_plain_name(scope.names) {
+        let rows = members(scope, tokens, is_alone)?;
+        return Ok(Base::structure(scope.alloc, None, rows)?);
     }
-    let tag = tokens.plain_name(names)?;
+    let tag = tokens.plain_name(scope.names)?;
     if !tokens.next_is(Punctuator::LeftBrace) {
-        return Ok(Base::struct_tag(alloc, tag)?);
+        return Ok(Base::struct_tag(scope.alloc, tag)?);
     }
-    let rows = members(alloc, tokens, names, depth, is_alone, turns)?;
-    Ok(Base::structure(alloc, Some(tag), rows)?)
+    let rows = members(scope, tokens, is_alone)?;
+    Ok(Base::structure(scope.alloc, Some(tag), rows)?)
 }
 
 // What is after `enum`.
 #[cycle(parser)]
 fn enumeration<'t>(
-    alloc: Global,
+    scope: Scope<'_, 't>,
     tokens: &mut Tokens<'t>,
-    names: &TypeNames<'t>,
-    depth: usize,
     is_alone: bool,
-    turns: usize,
-) -> Result<Box<Base<'t>>, ParseError>
-    requires depth { depth ≤ 128 }
+) -> Parsed<Base<'t>>
+    requires depth { scope.depth ≤ 128 }
     requires count { tokens.old.count ≤ 128 }
-    ensures gives { Gives (types.read_enum (names_of names.now) (inside names.now turns) depth (counting_of is_alone tokens.old.count) (list_of tokens.old.rest.now)) specifier_of tokens.new.rest.now result }
+    ensures gives { Gives (types.read_enum (names_of scope.entry.names.now) (inside scope.entry.names.now scope.entry.turns) scope.entry.depth (counting_of is_alone tokens.old.count) (list_of tokens.old.rest.now)) specifier_of tokens.new.rest.now result }
     ensures counted { IfOk result (λ x. IsAdvanced is_alone tokens.old.count (operators_of_base (specifier_of x)) tokens.new.count) }
     ensures shorter { IfOk result (λ _. length tokens.new.rest.now ≤ length tokens.old.rest.now) }
 {
-    if !tokens.starts_plain_name(names) {
-        let rows = constants(alloc, tokens, names, depth, is_alone, turns)?;
-        return Ok(Base::enumeration(alloc, None, rows)?);
+    if !tokens.starts_plain_name(scope.names) {
+        let rows = constants(scope, tokens, is_alone)?;
+        return Ok(Base::enumeration(scope.alloc, None, rows)?);
     }
-    let tag = tokens.plain_name(names)?;
+    let tag = tokens.plain_name(scope.names)?;
     if !tokens.next_is(Punctuator::LeftBrace) {
-        return Ok(Base::enum_tag(alloc, tag)?);
+        return Ok(Base::enum_tag(scope.alloc, tag)?);
     }
-    let rows = constants(alloc, tokens, names, depth, is_alone, turns)?;
-    Ok(Base::enumeration(alloc, Some(tag), rows)?)
+    let rows = constants(scope, tokens, is_alone)?;
+    Ok(Base::enumeration(scope.alloc, Some(tag), rows)?)
 }
 
 // Declarations of members in braces (6.7.2.1).
 #[cycle(parser)]
-fn members<'t>(
-    alloc: Global,
-    tokens: &mut Tokens<'t>,
-    names: &TypeNames<'t>,
-    depth: usize,
-    is_alone: bool,
-    turns: usize,
-) -> Result<Vec<Box<Member<'t>>>, ParseError>
-    requires depth { depth ≤ 128 }
+fn members<'t>(scope: Scope<'_, 't>, tokens: &mut Tokens<'t>, is_alone: bool) -> Rows<Member<'t>>
+    requires depth { scope.depth ≤ 128 }
     requires count { tokens.old.count ≤ 128 }
-    ensures gives { Gives (types.read_members (names_of names.now) (inside names.now turns) depth (counting_of is_alone tokens.old.count) (list_of tokens.old.rest.now)) members_in tokens.new.rest.now result }
+    ensures gives { Gives (types.read_members (names_of scope.entry.names.now) (inside scope.entry.names.now scope.entry.turns) scope.entry.depth (counting_of is_alone tokens.old.count) (list_of tokens.old.rest.now)) members_in tokens.new.rest.now result }
     ensures counted { IfOk result (λ x. IsAdvanced is_alone tokens.old.count (operators_of_members (members_in x)) tokens.new.count) }
     ensures shorter { IfOk result (λ _. length tokens.new.rest.now ≤ length tokens.old.rest.now) }
 {
-    tokens.opening(Punctuator::LeftBrace, depth)?;
-    let rows = all_members(alloc, tokens, names, depth + 1, is_alone, turns)?;
+    tokens.opening(Punctuator::LeftBrace, scope.depth)?;
+    let deeper = Scope {
+        depth: scope.depth + 1,
+        ..scope
+    };
+    let rows = all_members(deeper, tokens, is_alone)?;
     tokens.mark(Punctuator::RightBrace, Role::Nothing)?;
     Ok(rows)
 }
@@ -702,22 +618,19 @@ fn members<'t>(
 // Declarations of members, as long as one begins.
 #[cycle(parser)]
 fn all_members<'t>(
-    alloc: Global,
+    scope: Scope<'_, 't>,
     tokens: &mut Tokens<'t>,
-    names: &TypeNames<'t>,
-    depth: usize,
     is_alone: bool,
-    turns: usize,
-) -> Result<Vec<Box<Member<'t>>>, ParseError>
-    requires depth { depth ≤ 128 }
+) -> Rows<Member<'t>>
+    requires depth { scope.depth ≤ 128 }
     requires count { tokens.old.count ≤ 128 }
-    ensures gives { Gives (read_all_members (names_of names.now) (inside names.now turns) depth (counting_of is_alone tokens.old.count) (list_of tokens.old.rest.now)) members_in tokens.new.rest.now result }
+    ensures gives { Gives (read_all_members (names_of scope.entry.names.now) (inside scope.entry.names.now scope.entry.turns) scope.entry.depth (counting_of is_alone tokens.old.count) (list_of tokens.old.rest.now)) members_in tokens.new.rest.now result }
     ensures counted { IfOk result (λ x. IsAdvanced is_alone tokens.old.count (operators_of_members (members_in x)) tokens.new.count) }
     ensures shorter { IfOk result (λ _. length tokens.new.rest.now ≤ length tokens.old.rest.now) }
 {
-    let mut rows: Vec<Box<Member<'t>>> = Vec::new(alloc);
-    'items: while tokens.starts_type(names) {
-        let row = member(alloc, tokens, names, depth, is_alone, turns)?;
+    let mut rows: Vec<Box<Member<'t>>> = Vec::new(scope.alloc);
+    'items: while tokens.starts_type(scope.names) {
+        let row = member(scope, tokens, is_alone)?;
         rows.push(row)?;
     }
     Ok(rows)
@@ -725,70 +638,57 @@ fn all_members<'t>(
 
 // A declaration of members.
 #[cycle(parser)]
-fn member<'t>(
-    alloc: Global,
-    tokens: &mut Tokens<'t>,
-    names: &TypeNames<'t>,
-    depth: usize,
-    is_alone: bool,
-    turns: usize,
-) -> Result<Box<Member<'t>>, ParseError>
-    requires depth { depth ≤ 128 }
+fn member<'t>(scope: Scope<'_, 't>, tokens: &mut Tokens<'t>, is_alone: bool) -> Parsed<Member<'t>>
+    requires depth { scope.depth ≤ 128 }
     requires count { tokens.old.count ≤ 128 }
-    ensures gives { Gives (read_member_row (inside names.now turns) depth (counting_of is_alone tokens.old.count) (list_of tokens.old.rest.now)) member_row tokens.new.rest.now result }
+    ensures gives { Gives (read_member_row (inside scope.entry.names.now scope.entry.turns) scope.entry.depth (counting_of is_alone tokens.old.count) (list_of tokens.old.rest.now)) member_row tokens.new.rest.now result }
     ensures counted { IfOk result (λ x. IsAdvanced is_alone tokens.old.count (types.operators_of_member (member_row x)) tokens.new.count) }
     ensures shorter { IfOk result (λ _. length tokens.new.rest.now < length tokens.old.rest.now) }
 {
-    let specifiers = specifiers(alloc, tokens, names, depth, is_alone, turns)?;
-    let declarators = member_list(alloc, tokens, names, depth, is_alone, turns)?;
-    Ok(Member::new(alloc, specifiers, declarators)?)
+    let specifiers = specifiers(scope, tokens, is_alone)?;
+    let declarators = member_list(scope, tokens, is_alone)?;
+    Ok(Member::new(scope.alloc, specifiers, declarators)?)
 }
 
 // Declarators of members, and the `;` after them.
 #[cycle(parser)]
 fn member_list<'t>(
-    alloc: Global,
+    scope: Scope<'_, 't>,
     tokens: &mut Tokens<'t>,
-    names: &TypeNames<'t>,
-    depth: usize,
     is_alone: bool,
-    turns: usize,
-) -> Result<Vec<Box<Declarator<'t>>>, ParseError>
-    requires depth { depth ≤ 128 }
+) -> Rows<Declarator<'t>>
+    requires depth { scope.depth ≤ 128 }
     requires count { tokens.old.count ≤ 128 }
-    ensures gives { Gives (types.read_member_list (inside names.now turns) depth (counting_of is_alone tokens.old.count) (list_of tokens.old.rest.now)) declarators_in tokens.new.rest.now result }
+    ensures gives { Gives (types.read_member_list (inside scope.entry.names.now scope.entry.turns) scope.entry.depth (counting_of is_alone tokens.old.count) (list_of tokens.old.rest.now)) declarators_in tokens.new.rest.now result }
     ensures counted { IfOk result (λ x. IsAdvanced is_alone tokens.old.count (operators_of_declarators (declarators_in x)) tokens.new.count) }
     ensures shorter { IfOk result (λ _. length tokens.new.rest.now < length tokens.old.rest.now) }
 {
     let before = tokens.count;
-    let first = declarator(alloc, tokens, names, depth, is_alone, turns)?;
-    more_declarators(alloc, tokens, names, depth, is_alone, before, first, turns)
+    let first = declarator(scope, tokens, is_alone)?;
+    more_declarators(scope, tokens, is_alone, before, first)
 }
 
 // Further declarators after the first, and the `;` after them.
 #[cycle(parser)]
 fn more_declarators<'t>(
-    alloc: Global,
+    scope: Scope<'_, 't>,
     tokens: &mut Tokens<'t>,
-    names: &TypeNames<'t>,
-    depth: usize,
     is_alone: bool,
     before: usize,
     first: Box<Declarator<'t>>,
-    turns: usize,
-) -> Result<Vec<Box<Declarator<'t>>>, ParseError>
-    requires depth { depth ≤ 128 }
+) -> Rows<Declarator<'t>>
+    requires depth { scope.depth ≤ 128 }
     requires count { tokens.old.count ≤ 128 }
     requires before { advance (counting_of is_alone before) (operators_of_declarator (declarator_row first)) ≡ counting_of is_alone tokens.old.count }
-    ensures gives { Gives (read_more_declarators (inside names.now turns) depth (counting_of is_alone tokens.old.count) (declarator_row first.entry) (list_of tokens.old.rest.now)) declarators_in tokens.new.rest.now result }
+    ensures gives { Gives (read_more_declarators (inside scope.entry.names.now scope.entry.turns) scope.entry.depth (counting_of is_alone tokens.old.count) (declarator_row first.entry) (list_of tokens.old.rest.now)) declarators_in tokens.new.rest.now result }
     ensures counted { IfOk result (λ x. IsAdvanced is_alone before (operators_of_declarators (declarators_in x)) tokens.new.count) }
     ensures shorter { IfOk result (λ _. length tokens.new.rest.now < length tokens.old.rest.now) }
 {
     let mut end = member_end(&first);
-    let mut all: Vec<Box<Declarator<'t>>> = Vec::new(alloc);
+    let mut all: Vec<Box<Declarator<'t>>> = Vec::new(scope.alloc);
     all.push(first)?;
     'items: while tokens.next_is(Punctuator::Comma) {
-        let next = next_declarator(alloc, tokens, names, depth, is_alone, turns)?;
+        let next = next_declarator(scope, tokens, is_alone)?;
         end = member_end(&next);
         all.push(next)?;
     }
@@ -799,149 +699,128 @@ fn more_declarators<'t>(
 // A comma and a declarator.
 #[cycle(parser)]
 fn next_declarator<'t>(
-    alloc: Global,
+    scope: Scope<'_, 't>,
     tokens: &mut Tokens<'t>,
-    names: &TypeNames<'t>,
-    depth: usize,
     is_alone: bool,
-    turns: usize,
-) -> Result<Box<Declarator<'t>>, ParseError>
-    requires depth { depth ≤ 128 }
+) -> Parsed<Declarator<'t>>
+    requires depth { scope.depth ≤ 128 }
     requires count { tokens.old.count ≤ 128 }
-    ensures gives { Gives (read_next_declarator (inside names.now turns) depth (counting_of is_alone tokens.old.count) (list_of tokens.old.rest.now)) declarator_row tokens.new.rest.now result }
+    ensures gives { Gives (read_next_declarator (inside scope.entry.names.now scope.entry.turns) scope.entry.depth (counting_of is_alone tokens.old.count) (list_of tokens.old.rest.now)) declarator_row tokens.new.rest.now result }
     ensures counted { IfOk result (λ x. IsAdvanced is_alone tokens.old.count (operators_of_declarator (declarator_row x)) tokens.new.count) }
     ensures shorter { IfOk result (λ _. length tokens.new.rest.now < length tokens.old.rest.now) }
 {
     tokens.mark(Punctuator::Comma, Role::Nothing)?;
-    declarator(alloc, tokens, names, depth, is_alone, turns)
+    declarator(scope, tokens, is_alone)
 }
 
 // A declarator of a member (6.7.6).
 #[cycle(parser)]
 fn declarator<'t>(
-    alloc: Global,
+    scope: Scope<'_, 't>,
     tokens: &mut Tokens<'t>,
-    names: &TypeNames<'t>,
-    depth: usize,
     is_alone: bool,
-    turns: usize,
-) -> Result<Box<Declarator<'t>>, ParseError>
-    requires depth { depth ≤ 128 }
+) -> Parsed<Declarator<'t>>
+    requires depth { scope.depth ≤ 128 }
     requires count { tokens.old.count ≤ 128 }
-    ensures gives { Gives (types.read_declarator name_at (inside names.now turns) depth (counting_of is_alone tokens.old.count) (list_of tokens.old.rest.now)) declarator_row tokens.new.rest.now result }
+    ensures gives { Gives (types.read_declarator name_at (inside scope.entry.names.now scope.entry.turns) scope.entry.depth (counting_of is_alone tokens.old.count) (list_of tokens.old.rest.now)) declarator_row tokens.new.rest.now result }
     ensures counted { IfOk result (λ x. IsAdvanced is_alone tokens.old.count (operators_of_declarator (declarator_row x)) tokens.new.count) }
     ensures shorter { IfOk result (λ _. length tokens.new.rest.now < length tokens.old.rest.now) }
 {
     let pointers = pointer(tokens);
     let name = tokens.name(Role::DeclaredName)?;
-    let dimensions = dimensions(alloc, tokens, names, depth, is_alone, turns)?;
-    Ok(Declarator::new(alloc, pointers, name, dimensions)?)
+    let dimensions = dimensions(scope, tokens, is_alone)?;
+    Ok(Declarator::new(scope.alloc, pointers, name, dimensions)?)
 }
 
 // The lengths of an array, and whether the first is left out (6.7.6.2).
 #[cycle(parser)]
 pub fn dimensions<'t>(
-    alloc: Global,
+    scope: Scope<'_, 't>,
     tokens: &mut Tokens<'t>,
-    names: &TypeNames<'t>,
-    depth: usize,
     is_alone: bool,
-    turns: usize,
-) -> Result<Box<Dimensions<'t>>, ParseError>
-    requires depth { depth ≤ 128 }
+) -> Parsed<Dimensions<'t>>
+    requires depth { scope.depth ≤ 128 }
     requires count { tokens.old.count ≤ 128 }
-    ensures gives { Gives (types.read_dimensions (inside names.now turns) depth (counting_of is_alone tokens.old.count) (list_of tokens.old.rest.now)) array_of tokens.new.rest.now result }
+    ensures gives { Gives (types.read_dimensions (inside scope.entry.names.now scope.entry.turns) scope.entry.depth (counting_of is_alone tokens.old.count) (list_of tokens.old.rest.now)) array_of tokens.new.rest.now result }
     ensures counted { IfOk result (λ x. IsAdvanced is_alone tokens.old.count (operators_of_lengths (array_of x).1) tokens.new.count) }
     ensures shorter { IfOk result (λ _. length tokens.new.rest.now ≤ length tokens.old.rest.now) }
 {
     if !tokens.next_is(Punctuator::LeftBracket) {
-        return Ok(Dimensions::new(alloc, false, Vec::new(alloc))?);
+        return Ok(Dimensions::new(scope.alloc, false, Vec::new(scope.alloc))?);
     }
-    tokens.opening(Punctuator::LeftBracket, depth)?;
+    tokens.opening(Punctuator::LeftBracket, scope.depth)?;
     if tokens.next_is(Punctuator::RightBracket) {
-        open_array(alloc, tokens, names, depth, is_alone, turns)
+        open_array(scope, tokens, is_alone)
     } else {
-        given_array(alloc, tokens, names, depth, is_alone, turns)
+        given_array(scope, tokens, is_alone)
     }
 }
 
 // After `[` an array whose first length is left out.
 #[cycle(parser)]
 fn open_array<'t>(
-    alloc: Global,
+    scope: Scope<'_, 't>,
     tokens: &mut Tokens<'t>,
-    names: &TypeNames<'t>,
-    depth: usize,
     is_alone: bool,
-    turns: usize,
-) -> Result<Box<Dimensions<'t>>, ParseError>
-    requires depth { depth ≤ 128 }
+) -> Parsed<Dimensions<'t>>
+    requires depth { scope.depth ≤ 128 }
     requires count { tokens.old.count ≤ 128 }
-    ensures gives { Gives (read_open_array (inside names.now turns) depth (counting_of is_alone tokens.old.count) (list_of tokens.old.rest.now)) array_of tokens.new.rest.now result }
+    ensures gives { Gives (read_open_array (inside scope.entry.names.now scope.entry.turns) scope.entry.depth (counting_of is_alone tokens.old.count) (list_of tokens.old.rest.now)) array_of tokens.new.rest.now result }
     ensures counted { IfOk result (λ x. IsAdvanced is_alone tokens.old.count (operators_of_lengths (array_of x).1) tokens.new.count) }
     ensures shorter { IfOk result (λ _. length tokens.new.rest.now ≤ length tokens.old.rest.now) }
 {
     tokens.mark(Punctuator::RightBracket, Role::Nothing)?;
     let before = tokens.count;
-    let none: Vec<Box<Expression<'t>>> = Vec::new(alloc);
-    let all = lengths(alloc, tokens, names, depth, is_alone, before, none, turns)?;
-    Ok(Dimensions::new(alloc, true, all)?)
+    let none: Vec<Box<Expression<'t>>> = Vec::new(scope.alloc);
+    let all = lengths(scope, tokens, is_alone, before, none)?;
+    Ok(Dimensions::new(scope.alloc, true, all)?)
 }
 
 // After `[` an array whose first length is given.
 #[cycle(parser)]
 fn given_array<'t>(
-    alloc: Global,
+    scope: Scope<'_, 't>,
     tokens: &mut Tokens<'t>,
-    names: &TypeNames<'t>,
-    depth: usize,
     is_alone: bool,
-    turns: usize,
-) -> Result<Box<Dimensions<'t>>, ParseError>
-    requires depth { depth < 128 }
+) -> Parsed<Dimensions<'t>>
+    requires depth { scope.depth < 128 }
     requires count { tokens.old.count ≤ 128 }
-    ensures gives { Gives (read_given_array (inside names.now turns) depth (counting_of is_alone tokens.old.count) (list_of tokens.old.rest.now)) array_of tokens.new.rest.now result }
+    ensures gives { Gives (read_given_array (inside scope.entry.names.now scope.entry.turns) scope.entry.depth (counting_of is_alone tokens.old.count) (list_of tokens.old.rest.now)) array_of tokens.new.rest.now result }
     ensures counted { IfOk result (λ x. IsAdvanced is_alone tokens.old.count (operators_of_lengths (array_of x).1) tokens.new.count) }
     ensures shorter { IfOk result (λ _. length tokens.new.rest.now ≤ length tokens.old.rest.now) }
 {
     let before = tokens.count;
     begin_whole(tokens, is_alone);
-    let first = ended(
-        alloc,
-        tokens,
-        names,
-        depth + 1,
-        Punctuator::RightBracket,
-        turns,
-    )?;
-    let mut given: Vec<Box<Expression<'t>>> = Vec::new(alloc);
+    let deeper = Scope {
+        depth: scope.depth + 1,
+        ..scope
+    };
+    let first = ended(deeper, tokens, Punctuator::RightBracket)?;
+    let mut given: Vec<Box<Expression<'t>>> = Vec::new(scope.alloc);
     given.push(first)?;
-    let all = lengths(alloc, tokens, names, depth, is_alone, before, given, turns)?;
-    Ok(Dimensions::new(alloc, false, all)?)
+    let all = lengths(scope, tokens, is_alone, before, given)?;
+    Ok(Dimensions::new(scope.alloc, false, all)?)
 }
 
 // Further lengths, after those given.
 #[cycle(parser)]
 fn lengths<'t>(
-    alloc: Global,
+    scope: Scope<'_, 't>,
     tokens: &mut Tokens<'t>,
-    names: &TypeNames<'t>,
-    depth: usize,
     is_alone: bool,
     before: usize,
     given: Vec<Box<Expression<'t>>>,
-    turns: usize,
-) -> Result<Vec<Box<Expression<'t>>>, ParseError>
-    requires depth { depth ≤ 128 }
+) -> Rows<Expression<'t>>
+    requires depth { scope.depth ≤ 128 }
     requires count { tokens.old.count ≤ 128 }
     requires before { advance (counting_of is_alone before) (operators_of_lengths (expressions_in given)) ≡ counting_of is_alone tokens.old.count }
-    ensures gives { Gives (read_lengths_from (length_rows given.entry) (inside names.now turns) depth (counting_of is_alone tokens.old.count) (list_of tokens.old.rest.now)) expressions_in tokens.new.rest.now result }
+    ensures gives { Gives (read_lengths_from (length_rows given.entry) (inside scope.entry.names.now scope.entry.turns) scope.entry.depth (counting_of is_alone tokens.old.count) (list_of tokens.old.rest.now)) expressions_in tokens.new.rest.now result }
     ensures counted { IfOk result (λ x. IsAdvanced is_alone before (operators_of_lengths (expressions_in x)) tokens.new.count) }
     ensures shorter { IfOk result (λ _. length tokens.new.rest.now ≤ length tokens.old.rest.now) }
 {
     let mut all = given;
     'items: while tokens.next_is(Punctuator::LeftBracket) {
-        let next = length(alloc, tokens, names, depth, is_alone, turns)?;
+        let next = length(scope, tokens, is_alone)?;
         all.push(next)?;
     }
     Ok(all)
@@ -950,64 +829,49 @@ fn lengths<'t>(
 // A length in brackets.
 #[cycle(parser)]
 fn length<'t>(
-    alloc: Global,
+    scope: Scope<'_, 't>,
     tokens: &mut Tokens<'t>,
-    names: &TypeNames<'t>,
-    depth: usize,
     is_alone: bool,
-    turns: usize,
-) -> Result<Box<Expression<'t>>, ParseError>
-    requires depth { depth ≤ 128 }
+) -> Parsed<Expression<'t>>
+    requires depth { scope.depth ≤ 128 }
     requires count { tokens.old.count ≤ 128 }
-    ensures gives { Gives (types.read_length (inside names.now turns) depth (counting_of is_alone tokens.old.count) (list_of tokens.old.rest.now)) tree_of tokens.new.rest.now result }
+    ensures gives { Gives (types.read_length (inside scope.entry.names.now scope.entry.turns) scope.entry.depth (counting_of is_alone tokens.old.count) (list_of tokens.old.rest.now)) tree_of tokens.new.rest.now result }
     ensures counted { IfOk result (λ x. IsAdvanced is_alone tokens.old.count (operators (tree_of x)) tokens.new.count) }
     ensures shorter { IfOk result (λ _. length tokens.new.rest.now < length tokens.old.rest.now) }
 {
-    tokens.opening(Punctuator::LeftBracket, depth)?;
+    tokens.opening(Punctuator::LeftBracket, scope.depth)?;
     begin_whole(tokens, is_alone);
-    ended(
-        alloc,
-        tokens,
-        names,
-        depth + 1,
-        Punctuator::RightBracket,
-        turns,
-    )
+    let deeper = Scope {
+        depth: scope.depth + 1,
+        ..scope
+    };
+    ended(deeper, tokens, Punctuator::RightBracket)
 }
 
 // Constants in braces (6.7.2.2).
 #[cycle(parser)]
 fn constants<'t>(
-    alloc: Global,
+    scope: Scope<'_, 't>,
     tokens: &mut Tokens<'t>,
-    names: &TypeNames<'t>,
-    depth: usize,
     is_alone: bool,
-    turns: usize,
-) -> Result<Vec<Box<Constant<'t>>>, ParseError>
-    requires depth { depth ≤ 128 }
+) -> Rows<Constant<'t>>
+    requires depth { scope.depth ≤ 128 }
     requires count { tokens.old.count ≤ 128 }
-    ensures gives { Gives (types.read_constants (names_of names.now) (inside names.now turns) depth (counting_of is_alone tokens.old.count) (list_of tokens.old.rest.now)) constants_in tokens.new.rest.now result }
+    ensures gives { Gives (types.read_constants (names_of scope.entry.names.now) (inside scope.entry.names.now scope.entry.turns) scope.entry.depth (counting_of is_alone tokens.old.count) (list_of tokens.old.rest.now)) constants_in tokens.new.rest.now result }
     ensures counted { IfOk result (λ x. IsAdvanced is_alone tokens.old.count (operators_of_constants (constants_in x)) tokens.new.count) }
     ensures shorter { IfOk result (λ _. length tokens.new.rest.now ≤ length tokens.old.rest.now) }
 {
-    tokens.opening(Punctuator::LeftBrace, depth)?;
+    tokens.opening(Punctuator::LeftBrace, scope.depth)?;
     let before = tokens.count;
-    let first = constant(alloc, tokens, names, depth + 1, is_alone, turns)?;
+    let deeper = Scope {
+        depth: scope.depth + 1,
+        ..scope
+    };
+    let first = constant(deeper, tokens, is_alone)?;
     let end = constant_end(&first);
-    let mut rows: Vec<Box<Constant<'t>>> = Vec::new(alloc);
+    let mut rows: Vec<Box<Constant<'t>>> = Vec::new(scope.alloc);
     rows.push(first)?;
-    let end = more_constants(
-        alloc,
-        tokens,
-        names,
-        depth + 1,
-        is_alone,
-        before,
-        &mut rows,
-        end,
-        turns,
-    )?;
+    let end = more_constants(deeper, tokens, is_alone, before, &mut rows, end)?;
     tokens.mark(Punctuator::RightBrace, end)?;
     Ok(rows)
 }
@@ -1016,30 +880,27 @@ fn constants<'t>(
 // after them, where this is expected after those read.
 #[cycle(parser)]
 fn more_constants<'t>(
-    alloc: Global,
+    scope: Scope<'_, 't>,
     tokens: &mut Tokens<'t>,
-    names: &TypeNames<'t>,
-    depth: usize,
     is_alone: bool,
     before: usize,
     rows: &mut Vec<Box<Constant<'t>>>,
     end: Role,
-    turns: usize,
 ) -> Result<Role, ParseError>
-    requires depth { depth ≤ 128 }
+    requires depth { scope.depth ≤ 128 }
     requires count { tokens.old.count ≤ 128 }
     requires before { advance (counting_of is_alone before) (operators_of_constants (constants_in rows.old)) ≡ counting_of is_alone tokens.old.count }
-    ensures gives { Gives (read_constants_from (names_of names.now) (inside names.now turns) depth (constant_rows rows.old) (types.AfterConstant end (counting_of is_alone tokens.old.count)) (list_of tokens.old.rest.now)) (λ x. (constant_rows rows.new, x)) tokens.new.rest.now result }
+    ensures gives { Gives (read_constants_from (names_of scope.entry.names.now) (inside scope.entry.names.now scope.entry.turns) scope.entry.depth (constant_rows rows.old) (types.AfterConstant end (counting_of is_alone tokens.old.count)) (list_of tokens.old.rest.now)) (λ x. (constant_rows rows.new, x)) tokens.new.rest.now result }
     ensures counted { IfOk result (λ _. IsAdvanced is_alone before (operators_of_constants (constants_in rows.new)) tokens.new.count) }
     ensures shorter { IfOk result (λ _. length tokens.new.rest.now ≤ length tokens.old.rest.now) }
 {
     let mut end = end;
     'items: while tokens.next_is(Punctuator::Comma) {
         tokens.mark(Punctuator::Comma, Role::Nothing)?;
-        if !tokens.starts_plain_name(names) {
+        if !tokens.starts_plain_name(scope.names) {
             return Ok(Role::Nothing);
         }
-        let next = constant(alloc, tokens, names, depth, is_alone, turns)?;
+        let next = constant(scope, tokens, is_alone)?;
         end = constant_end(&next);
         rows.push(next)?;
     }
@@ -1049,25 +910,22 @@ fn more_constants<'t>(
 // A constant, and its value where it has one.
 #[cycle(parser)]
 fn constant<'t>(
-    alloc: Global,
+    scope: Scope<'_, 't>,
     tokens: &mut Tokens<'t>,
-    names: &TypeNames<'t>,
-    depth: usize,
     is_alone: bool,
-    turns: usize,
-) -> Result<Box<Constant<'t>>, ParseError>
-    requires depth { depth ≤ 128 }
+) -> Parsed<Constant<'t>>
+    requires depth { scope.depth ≤ 128 }
     requires count { tokens.old.count ≤ 128 }
-    ensures gives { Gives (types.read_constant (names_of names.now) (inside names.now turns) depth (counting_of is_alone tokens.old.count) (list_of tokens.old.rest.now)) constant_row tokens.new.rest.now result }
+    ensures gives { Gives (types.read_constant (names_of scope.entry.names.now) (inside scope.entry.names.now scope.entry.turns) scope.entry.depth (counting_of is_alone tokens.old.count) (list_of tokens.old.rest.now)) constant_row tokens.new.rest.now result }
     ensures counted { IfOk result (λ x. IsAdvanced is_alone tokens.old.count (types.operators_of_constant (constant_row x)) tokens.new.count) }
     ensures shorter { IfOk result (λ _. length tokens.new.rest.now < length tokens.old.rest.now) }
 {
-    let name = tokens.plain_name(names)?;
+    let name = tokens.plain_name(scope.names)?;
     if !tokens.next_is(Punctuator::Assign) {
-        return Ok(Constant::new(alloc, name, None)?);
+        return Ok(Constant::new(scope.alloc, name, None)?);
     }
     tokens.mark(Punctuator::Assign, Role::Nothing)?;
     begin_whole(tokens, is_alone);
-    let value = conditional(alloc, tokens, names, depth, turns)?;
-    Ok(Constant::new(alloc, name, Some(value))?)
+    let value = conditional(scope, tokens)?;
+    Ok(Constant::new(scope.alloc, name, Some(value))?)
 }

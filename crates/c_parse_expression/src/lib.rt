@@ -17,6 +17,7 @@ ghost use Rattle.c_parse_token.specs.Lists.{list_of, names_of, Gives, IsCounted}
 ghost use Rattle.c_parse_token.specs.Words.{head_of};
 ghost use Rattle.c_parse_expression.specs.Whole.{expressions, read_any_unary};
 
+use crate::expression::Scope;
 use c_parse_token::{Head, ParseError, Tokens, TypeNames};
 use c_spec::token::Punctuator;
 use c_syntax::expression::{Base, Dimensions, Expression, Specifiers};
@@ -24,6 +25,20 @@ use std::alloc::Global;
 
 // How many turns any expression takes at most from one part to another inside it.
 const TURNS: usize = 2068;
+
+// Where a part is parsed with all of them.
+fn scope<'n, 't>(alloc: Global, names: &'n TypeNames<'t>, depth: usize) -> Scope<'n, 't>
+    ensures names { result.names ≡ names.entry }
+    ensures depth { result.depth ≡ depth }
+    ensures turns { result.turns ≡ 2068 }
+{
+    Scope {
+        alloc,
+        names,
+        depth,
+        turns: TURNS,
+    }
+}
 
 /// A conditional expression (6.5.15).
 pub fn conditional<'t>(
@@ -38,7 +53,7 @@ pub fn conditional<'t>(
     ensures counted { IfOk result (λ x. IsCounted tokens.old.count (operators (expression_of x.value)) tokens.new.count) }
     ensures shorter { IfOk result (λ _. length tokens.new.rest.now ≤ length tokens.old.rest.now) }
 {
-    expression::conditional(alloc, tokens, names, depth, TURNS)
+    expression::conditional(scope(alloc, names, depth), tokens)
 }
 
 /// A whole expression: a conditional expression before which no operator stands.
@@ -54,7 +69,7 @@ pub fn whole<'t>(
     ensures shorter { IfOk result (λ _. length tokens.new.rest.now ≤ length tokens.old.rest.now) }
 {
     tokens.count = 0;
-    expression::conditional(alloc, tokens, names, depth, TURNS)
+    expression::conditional(scope(alloc, names, depth), tokens)
 }
 
 /// A unary expression (6.5.3).
@@ -71,11 +86,11 @@ pub fn any_unary<'t>(
     ensures shorter { IfOk result (λ _. length tokens.new.rest.now ≤ length tokens.old.rest.now) }
 {
     if !tokens.next_is(Punctuator::LeftParenthesis) {
-        return expression::unary(alloc, tokens, names, depth, TURNS);
+        return expression::unary(scope(alloc, names, depth), tokens);
     }
     let before = tokens.count;
     let place = tokens.bracket(Punctuator::LeftParenthesis, depth)?;
-    expression::bracketed(alloc, tokens, names, depth, before, place, TURNS)
+    expression::bracketed(scope(alloc, names, depth), tokens, before, place)
 }
 
 /// Specifiers (6.7) that stand in no item and in no declaration of locals.
@@ -90,7 +105,7 @@ pub fn specifiers<'t>(
     ensures shorter { IfOk result (λ _. length tokens.new.rest.now ≤ length tokens.old.rest.now) }
 {
     tokens.count = 0;
-    expression::specifiers(alloc, tokens, names, depth, true, TURNS)
+    expression::specifiers(scope(alloc, names, depth), tokens, true)
 }
 
 /// What stands behind the first token of a type specifier (6.7.2).
@@ -106,7 +121,7 @@ pub fn base<'t>(
     ensures shorter { IfOk result (λ _. length tokens.new.rest.now ≤ length tokens.old.rest.now) }
 {
     tokens.count = 0;
-    expression::base(alloc, tokens, names, depth, true, head, TURNS)
+    expression::base(scope(alloc, names, depth), tokens, true, head)
 }
 
 /// The lengths of an array, and whether the first is left out (6.7.6.2).
@@ -121,5 +136,5 @@ pub fn dimensions<'t>(
     ensures shorter { IfOk result (λ _. length tokens.new.rest.now ≤ length tokens.old.rest.now) }
 {
     tokens.count = 0;
-    expression::dimensions(alloc, tokens, names, depth, true, TURNS)
+    expression::dimensions(scope(alloc, names, depth), tokens, true)
 }

@@ -28,44 +28,44 @@ use Rattle.c_parse_expression.proofs.Suffixes.{suffixing-start, suffixing-step, 
 use Rattle.c_parse_expression.proofs.Turns as turns
 use Rattle.c_parse_expression.proofs.expression.+parser.Goals as goal
 
-pub conditional-returns-then-turns-eq0-clause-gives : goal.conditional-returns-then-turns-eq0-clause-gives
-conditional-returns-then-turns-eq0-clause-gives t c = turns.conditional-none (names_of c.args.names.now) c.args.turns c.args.depth c.args.tokens.now.count (list_of c.args.tokens.now.rest.now) c.if-turns-eq0.true
+pub conditional-returns-then-scope-eq0-clause-gives : goal.conditional-returns-then-scope-eq0-clause-gives
+conditional-returns-then-scope-eq0-clause-gives t c = turns.conditional-none (names_of c.args.scope.names.now) c.args.scope.turns c.args.scope.depth c.args.tokens.now.count (list_of c.args.tokens.now.rest.now) c.if-scope-eq0.true
 
 pub conditional-returns-clause-gives : goal.conditional-returns-clause-gives
-conditional-returns-clause-gives t c = subst (λ o. Gives o tree_of c.choice.new.tokens.rest.now c.choice.result) (sym (turns.conditional-turn (names_of c.args.names.now) c.args.turns c.args.depth c.args.tokens.now.count (list_of c.args.tokens.now.rest.now) c.if-turns-eq0.false)) c.choice.ensures.gives
+conditional-returns-clause-gives t c = subst (λ o. Gives o tree_of c.choice.new.tokens.rest.now c.choice.result) (sym (turns.conditional-turn (names_of c.args.scope.names.now) c.args.scope.turns c.args.scope.depth c.args.tokens.now.count (list_of c.args.tokens.now.rest.now) c.if-scope-eq0.false)) c.choice.ensures.gives
 
-pub cast-returns-then-turns-eq0-clause-gives : goal.cast-returns-then-turns-eq0-clause-gives
-cast-returns-then-turns-eq0-clause-gives t c = turns.cast-none (names_of c.args.names.now) c.args.turns c.args.depth c.args.tokens.now.count (list_of c.args.tokens.now.rest.now) c.if-turns-eq0.true
+pub cast-returns-then-scope-eq0-clause-gives : goal.cast-returns-then-scope-eq0-clause-gives
+cast-returns-then-scope-eq0-clause-gives t c = turns.cast-none (names_of c.args.scope.names.now) c.args.scope.turns c.args.scope.depth c.args.tokens.now.count (list_of c.args.tokens.now.rest.now) c.if-scope-eq0.true
 
 pub cast-returns-clause-gives : goal.cast-returns-clause-gives
-cast-returns-clause-gives t c = subst (λ o. Gives o tree_of c.operand.new.tokens.rest.now c.operand.result) (sym (turns.cast-turn (names_of c.args.names.now) c.args.turns c.args.depth c.args.tokens.now.count (list_of c.args.tokens.now.rest.now) c.if-turns-eq0.false)) c.operand.ensures.gives
+cast-returns-clause-gives t c = subst (λ o. Gives o tree_of c.operand.new.tokens.rest.now c.operand.result) (sym (turns.cast-turn (names_of c.args.scope.names.now) c.args.scope.turns c.args.scope.depth c.args.tokens.now.count (list_of c.args.tokens.now.rest.now) c.if-scope-eq0.false)) c.operand.ensures.gives
 
-pub unary-returns-then-turns-eq0-clause-gives : goal.unary-returns-then-turns-eq0-clause-gives
-unary-returns-then-turns-eq0-clause-gives t c = turns.unary-none (names_of c.args.names.now) c.args.turns c.args.depth c.args.tokens.now.count (list_of c.args.tokens.now.rest.now) c.if-turns-eq0.true
+pub unary-returns-then-scope-eq0-clause-gives : goal.unary-returns-then-scope-eq0-clause-gives
+unary-returns-then-scope-eq0-clause-gives t c = turns.unary-none (names_of c.args.scope.names.now) c.args.scope.turns c.args.scope.depth c.args.tokens.now.count (list_of c.args.tokens.now.rest.now) c.if-scope-eq0.true
 
 pub unary-returns-clause-gives : goal.unary-returns-clause-gives
-unary-returns-clause-gives t c = subst (λ o. Gives o tree_of c.prefix_or_postfix.new.tokens.rest.now c.prefix_or_postfix.result) (sym (turns.unary-turn (names_of c.args.names.now) c.args.turns c.args.depth c.args.tokens.now.count (list_of c.args.tokens.now.rest.now) c.if-turns-eq0.false)) c.prefix_or_postfix.ensures.gives
+unary-returns-clause-gives t c = subst (λ o. Gives o tree_of c.prefix_or_postfix.new.tokens.rest.now c.prefix_or_postfix.result) (sym (turns.unary-turn (names_of c.args.scope.names.now) c.args.scope.turns c.args.scope.depth c.args.tokens.now.count (list_of c.args.tokens.now.rest.now) c.if-scope-eq0.false)) c.prefix_or_postfix.ensures.gives
 
 pub binary-returns-in_err-x-clause-gives : goal.binary-returns-in_err-x-clause-gives
 binary-returns-in_err-x-clause-gives t c =
-    let inner = inside c.args.names.now c.args.turns in
+    let inner = inside c.args.scope.names.now c.args.scope.turns in
     let tokens = list_of c.args.tokens.now.rest.now in
     let count = c.args.tokens.now.count in
-    passed (readers.read_binary inner c.args.depth c.args.level count tokens) tree_of _ _ c.in_err-x.field-0.0 c.from_residual.ensures.1 (gives-from (inner.cast c.args.depth count tokens) (readers.read_binary inner c.args.depth c.args.level count tokens) tree_of tree_of c.cast.new.tokens.rest.now c.in_err-x.field-0.0 (lifted inner c.args.depth c.args.level 0 count tokens (omega arith)) c.in_err-x.ensures.gives)
+    passed (readers.read_binary inner c.args.scope.depth c.args.level count tokens) tree_of _ _ c.in_err-x.field-0.0 c.from_residual.ensures.1 (gives-from (inner.cast c.args.scope.depth count tokens) (readers.read_binary inner c.args.scope.depth c.args.level count tokens) tree_of tree_of c.cast.new.tokens.rest.now c.in_err-x.field-0.0 (lifted inner c.args.scope.depth c.args.level 0 count tokens (omega arith)) c.in_err-x.ensures.gives)
 
 pub binary-returns-in_err-x-2-clause-gives : goal.binary-returns-in_err-x-2-clause-gives
 binary-returns-in_err-x-2-clause-gives t c =
-    let inner = inside c.args.names.now c.args.turns in
+    let inner = inside c.args.scope.names.now c.args.scope.turns in
     let tokens = list_of c.args.tokens.now.rest.now in
     let count = c.args.tokens.now.count in
     let done = c.levels.done in
-    let same : readers.read_binary inner c.args.depth (done + 1) count tokens ≡ readers.read_operations inner c.args.depth done count (tree_of c.levels.x) (list_of c.levels.tokens.rest.now) = level-operations inner c.args.depth (done + 1) done count (tree_of c.levels.x) tokens (list_of c.levels.tokens.rest.now) (omega arith) c.levels.invariant.reads in
-    passed (readers.read_binary inner c.args.depth c.args.level count tokens) tree_of _ _ c.in_err-x-2.field-0.0 c.from_residual-in_err-x-2.ensures.1 (gives-from (readers.read_operations inner c.args.depth done count (tree_of c.levels.x) (list_of c.levels.tokens.rest.now)) (readers.read_binary inner c.args.depth c.args.level count tokens) tree_of tree_of c.operations.new.tokens.rest.now c.in_err-x-2.field-0.0 (λ fault e. lifted inner c.args.depth c.args.level (done + 1) count tokens (omega (arith, c.levels-test.true)) fault (same ∙ e)) c.in_err-x-2.ensures.gives)
+    let same : readers.read_binary inner c.args.scope.depth (done + 1) count tokens ≡ readers.read_operations inner c.args.scope.depth done count (tree_of c.levels.x) (list_of c.levels.tokens.rest.now) = level-operations inner c.args.scope.depth (done + 1) done count (tree_of c.levels.x) tokens (list_of c.levels.tokens.rest.now) (omega arith) c.levels.invariant.reads in
+    passed (readers.read_binary inner c.args.scope.depth c.args.level count tokens) tree_of _ _ c.in_err-x-2.field-0.0 c.from_residual-in_err-x-2.ensures.1 (gives-from (readers.read_operations inner c.args.scope.depth done count (tree_of c.levels.x) (list_of c.levels.tokens.rest.now)) (readers.read_binary inner c.args.scope.depth c.args.level count tokens) tree_of tree_of c.operations.new.tokens.rest.now c.in_err-x-2.field-0.0 (λ fault e. lifted inner c.args.scope.depth c.args.level (done + 1) count tokens (omega (arith, c.levels-test.true)) fault (same ∙ e)) c.in_err-x-2.ensures.gives)
 
 pub operations-items-init : goal.operations-items-init
 operations-items-init t c =
     record {
-      going = operating-start (inside c.args.names.now c.args.turns) c.args.depth c.args.level c.args.before (tree_of c.args.first) (list_of c.args.tokens.now.rest.now);
+      going = operating-start (inside c.args.scope.names.now c.args.scope.turns) c.args.scope.depth c.args.level c.args.before (tree_of c.args.first) (list_of c.args.tokens.now.rest.now);
       counted = c.requires.before;
       within = c.requires.count;
       fewer = omega arith;
@@ -82,8 +82,8 @@ operations-items-preserved t c =
 
 pub operations-returns-in_err-left-clause-gives : goal.operations-returns-in_err-left-clause-gives
 operations-returns-in_err-left-clause-gives t c =
-    let whole = readers.read_operations (inside c.args.names.now c.args.turns) c.args.depth c.args.level c.args.before (tree_of c.args.first) (list_of c.args.tokens.now.rest.now) in
-    let part = read_operation_after (inside c.args.names.now c.args.turns) c.args.depth c.args.level c.items.tokens.count (tree_of c.items.left) (list_of c.items.tokens.rest.now) in
+    let whole = readers.read_operations (inside c.args.scope.names.now c.args.scope.turns) c.args.scope.depth c.args.level c.args.before (tree_of c.args.first) (list_of c.args.tokens.now.rest.now) in
+    let part = read_operation_after (inside c.args.scope.names.now c.args.scope.turns) c.args.scope.depth c.args.level c.items.tokens.count (tree_of c.items.left) (list_of c.items.tokens.rest.now) in
     passed whole tree_of _ _ c.in_err-left.field-0.0 c.from_residual.ensures.1 (gives-from part whole tree_of tree_of c.operation.new.tokens.rest.now c.in_err-left.field-0.0 (operating-fault _ _ _ _ _ _ c.items.tokens.count c.items.tokens.rest.now c.items.invariant.going (sym c.starts_level.ensures ∙ c.items-test.true) c.items.invariant.counted) c.in_err-left.ensures.gives)
 
 pub operations-returns-clause-gives : goal.operations-returns-clause-gives
@@ -92,7 +92,7 @@ operations-returns-clause-gives t c = operating-end _ _ _ _ _ _ (list_of c.items
 pub suffixes-items-init : goal.suffixes-items-init
 suffixes-items-init t c =
     record {
-      going = suffixing-start (inside c.args.names.now c.args.turns) c.args.depth c.args.before (tree_of c.args.first) (list_of c.args.tokens.now.rest.now);
+      going = suffixing-start (inside c.args.scope.names.now c.args.scope.turns) c.args.scope.depth c.args.before (tree_of c.args.first) (list_of c.args.tokens.now.rest.now);
       counted = c.requires.before;
       within = c.requires.count;
       fewer = omega arith;
@@ -109,31 +109,31 @@ suffixes-items-preserved t c =
 
 pub suffixes-returns-in_err-base-clause-gives : goal.suffixes-returns-in_err-base-clause-gives
 suffixes-returns-in_err-base-clause-gives t c =
-    let whole = readers.read_suffixes_behind (inside c.args.names.now c.args.turns) c.args.depth c.args.before (tree_of c.args.first) (list_of c.args.tokens.now.rest.now) in
-    let part = read_suffix_after (inside c.args.names.now c.args.turns) c.args.depth c.items.tokens.count (tree_of c.items.base) (list_of c.items.tokens.rest.now) in
+    let whole = readers.read_suffixes_behind (inside c.args.scope.names.now c.args.scope.turns) c.args.scope.depth c.args.before (tree_of c.args.first) (list_of c.args.tokens.now.rest.now) in
+    let part = read_suffix_after (inside c.args.scope.names.now c.args.scope.turns) c.args.scope.depth c.items.tokens.count (tree_of c.items.base) (list_of c.items.tokens.rest.now) in
     passed whole tree_of _ _ c.in_err-base.field-0.0 c.from_residual.ensures.1 (gives-from part whole tree_of tree_of c.suffix.new.tokens.rest.now c.in_err-base.field-0.0 (suffixing-fault _ _ _ _ _ c.items.tokens.count c.items.tokens.rest.now c.items.invariant.going (sym c.starts_suffix.ensures ∙ c.items-test.true) c.items.invariant.counted) c.in_err-base.ensures.gives)
 
 pub suffixes-returns-clause-gives : goal.suffixes-returns-clause-gives
 suffixes-returns-clause-gives t c = suffixing-end _ _ _ _ _ (list_of c.items.tokens.rest.now) c.items.invariant.going (sym c.starts_suffix.ensures ∙ c.items-test.false)
 
-pub type_name-returns-then-turns-eq0-clause-gives : goal.type_name-returns-then-turns-eq0-clause-gives
-type_name-returns-then-turns-eq0-clause-gives t c = turns.type_name-none (names_of c.args.names.now) c.args.turns c.args.depth (counting_of c.args.is_alone c.args.tokens.now.count) (list_of c.args.tokens.now.rest.now) c.if-turns-eq0.true
+pub type_name-returns-then-scope-eq0-clause-gives : goal.type_name-returns-then-scope-eq0-clause-gives
+type_name-returns-then-scope-eq0-clause-gives t c = turns.type_name-none (names_of c.args.scope.names.now) c.args.scope.turns c.args.scope.depth (counting_of c.args.is_alone c.args.tokens.now.count) (list_of c.args.tokens.now.rest.now) c.if-scope-eq0.true
 
 pub type_name-returns-clause-gives : goal.type_name-returns-clause-gives
-type_name-returns-clause-gives t c = subst (λ o. Gives o type_of c.pointed.new.tokens.rest.now c.pointed.result) (sym (turns.type_name-turn (names_of c.args.names.now) c.args.turns c.args.depth (counting_of c.args.is_alone c.args.tokens.now.count) (list_of c.args.tokens.now.rest.now) c.if-turns-eq0.false)) c.pointed.ensures.gives
+type_name-returns-clause-gives t c = subst (λ o. Gives o type_of c.pointed.new.tokens.rest.now c.pointed.result) (sym (turns.type_name-turn (names_of c.args.scope.names.now) c.args.scope.turns c.args.scope.depth (counting_of c.args.is_alone c.args.tokens.now.count) (list_of c.args.tokens.now.rest.now) c.if-scope-eq0.false)) c.pointed.ensures.gives
 
-pub specifiers-returns-then-turns-eq0-clause-gives : goal.specifiers-returns-then-turns-eq0-clause-gives
-specifiers-returns-then-turns-eq0-clause-gives t c = turns.specifiers-none (names_of c.args.names.now) c.args.turns c.args.depth (counting_of c.args.is_alone c.args.tokens.now.count) (list_of c.args.tokens.now.rest.now) c.if-turns-eq0.true
+pub specifiers-returns-then-scope-eq0-clause-gives : goal.specifiers-returns-then-scope-eq0-clause-gives
+specifiers-returns-then-scope-eq0-clause-gives t c = turns.specifiers-none (names_of c.args.scope.names.now) c.args.scope.turns c.args.scope.depth (counting_of c.args.is_alone c.args.tokens.now.count) (list_of c.args.tokens.now.rest.now) c.if-scope-eq0.true
 
 pub specifiers-returns-clause-gives : goal.specifiers-returns-clause-gives
-specifiers-returns-clause-gives t c = subst (λ o. Gives o specified_of c.specified.new.tokens.rest.now c.specified.result) (sym (turns.specifiers-turn (names_of c.args.names.now) c.args.turns c.args.depth (counting_of c.args.is_alone c.args.tokens.now.count) (list_of c.args.tokens.now.rest.now) c.if-turns-eq0.false)) c.specified.ensures.gives
+specifiers-returns-clause-gives t c = subst (λ o. Gives o specified_of c.specified.new.tokens.rest.now c.specified.result) (sym (turns.specifiers-turn (names_of c.args.scope.names.now) c.args.scope.turns c.args.scope.depth (counting_of c.args.is_alone c.args.tokens.now.count) (list_of c.args.tokens.now.rest.now) c.if-scope-eq0.false)) c.specified.ensures.gives
 
 pub all_members-items-init : goal.all_members-items-init
 all_members-items-init t c =
-    let whole = read_all_members (names_of c.args.names.now) (inside c.args.names.now c.args.turns) c.args.depth (counting_of c.args.is_alone c.args.tokens.now.count) (list_of c.args.tokens.now.rest.now) in
+    let whole = read_all_members (names_of c.args.scope.names.now) (inside c.args.scope.names.now c.args.scope.turns) c.args.scope.depth (counting_of c.args.is_alone c.args.tokens.now.count) (list_of c.args.tokens.now.rest.now) in
     let none : member_rows c.new-rows.result ≡ [] = ap (λ xs. map member_of (map (λ b. b.value) xs)) c.new-rows.ensures.items in
     record {
-      going = subst (λ all. Gathering (starts_member (names_of c.args.names.now)) (read_member_row (inside c.args.names.now c.args.turns) c.args.depth) after_member (λ rows last. Ok (types.members_of rows, last)) whole all (counting_of c.args.is_alone c.args.tokens.now.count) (list_of c.args.tokens.now.rest.now)) (sym none) (gathering-start (starts_member (names_of c.args.names.now)) (read_member_row (inside c.args.names.now c.args.turns) c.args.depth) after_member (λ rows last. Ok (types.members_of rows, last)) [] (counting_of c.args.is_alone c.args.tokens.now.count) (list_of c.args.tokens.now.rest.now));
+      going = subst (λ all. Gathering (starts_member (names_of c.args.scope.names.now)) (read_member_row (inside c.args.scope.names.now c.args.scope.turns) c.args.scope.depth) after_member (λ rows last. Ok (types.members_of rows, last)) whole all (counting_of c.args.is_alone c.args.tokens.now.count) (list_of c.args.tokens.now.rest.now)) (sym none) (gathering-start (starts_member (names_of c.args.scope.names.now)) (read_member_row (inside c.args.scope.names.now c.args.scope.turns) c.args.scope.depth) after_member (λ rows last. Ok (types.members_of rows, last)) [] (counting_of c.args.is_alone c.args.tokens.now.count) (list_of c.args.tokens.now.rest.now));
       counted = subst (λ xs. advance (counting_of c.args.is_alone c.args.tokens.now.count) (operators_of_members (syntax.members_of xs)) ≡ (counting_of c.args.is_alone c.args.tokens.now.count)) (sym none) (stays c.args.is_alone c.args.tokens.now.count);
       within = c.requires.count;
       fewer = omega arith;
@@ -141,14 +141,14 @@ all_members-items-init t c =
 
 pub all_members-items-preserved : goal.all_members-items-preserved
 all_members-items-preserved t c =
-    let whole = read_all_members (names_of c.args.names.now) (inside c.args.names.now c.args.turns) c.args.depth (counting_of c.args.is_alone c.args.tokens.now.count) (list_of c.args.tokens.now.rest.now) in
+    let whole = read_all_members (names_of c.args.scope.names.now) (inside c.args.scope.names.now c.args.scope.turns) c.args.scope.depth (counting_of c.args.is_alone c.args.tokens.now.count) (list_of c.args.tokens.now.rest.now) in
     let read = member_rows c.items.rows in
     let x = member_row c.in_ok-row.row in
     let rest = c.member.new.tokens.rest.now in
     let count = c.member.new.tokens.count in
     let rows : member_rows c.push.new.self ≡ read ++ x ∷ [] = ap (λ xs. map member_of (map (λ b. b.value) xs)) c.in_ok-push.ensures.items ∙ boxes-more member_of c.items.rows.items c.in_ok-row.row in
     record {
-      going = subst (λ all. Gathering (starts_member (names_of c.args.names.now)) (read_member_row (inside c.args.names.now c.args.turns) c.args.depth) after_member (λ rows last. Ok (types.members_of rows, last)) whole all (counting_of c.args.is_alone count) (list_of rest)) (sym rows) (gathering-step (starts_member (names_of c.args.names.now)) (read_member_row (inside c.args.names.now c.args.turns) c.args.depth) after_member (λ rows last. Ok (types.members_of rows, last)) whole read (counting_of c.args.is_alone c.items.tokens.count) (counting_of c.args.is_alone count) x c.items.tokens.rest.now rest c.items.invariant.going (begins-next (λ (_ : Counting). begins_type (names_of c.args.names.now)) (counting_of c.args.is_alone c.items.tokens.count) (list_of c.items.tokens.rest.now) ∙ sym c.starts_type.ensures ∙ c.items-test.true) c.in_ok-row.ensures.gives c.in_ok-row.ensures.shorter c.in_ok-row.ensures.counted.0);
+      going = subst (λ all. Gathering (starts_member (names_of c.args.scope.names.now)) (read_member_row (inside c.args.scope.names.now c.args.scope.turns) c.args.scope.depth) after_member (λ rows last. Ok (types.members_of rows, last)) whole all (counting_of c.args.is_alone count) (list_of rest)) (sym rows) (gathering-step (starts_member (names_of c.args.scope.names.now)) (read_member_row (inside c.args.scope.names.now c.args.scope.turns) c.args.scope.depth) after_member (λ rows last. Ok (types.members_of rows, last)) whole read (counting_of c.args.is_alone c.items.tokens.count) (counting_of c.args.is_alone count) x c.items.tokens.rest.now rest c.items.invariant.going (begins-next (λ (_ : Counting). begins_type (names_of c.args.scope.names.now)) (counting_of c.args.is_alone c.items.tokens.count) (list_of c.items.tokens.rest.now) ∙ sym c.starts_type.ensures ∙ c.items-test.true) c.in_ok-row.ensures.gives c.in_ok-row.ensures.shorter c.in_ok-row.ensures.counted.0);
       counted = advanced c.args.is_alone c.args.tokens.now.count (operators_of_members (syntax.members_of read)) c.items.tokens.count (types.operators_of_member x) count (operators_of_members (syntax.members_of (member_rows c.push.new.self))) c.items.invariant.counted c.in_ok-row.ensures.counted.0 (ap (λ xs. operators_of_members (syntax.members_of xs)) rows ∙ members-more read x);
       within = c.in_ok-row.ensures.counted.1;
       fewer = omega (arith, c.in_ok-row.ensures.shorter, c.items.invariant.fewer);
@@ -156,19 +156,19 @@ all_members-items-preserved t c =
 
 pub all_members-returns-in_err-row-clause-gives : goal.all_members-returns-in_err-row-clause-gives
 all_members-returns-in_err-row-clause-gives t c =
-    let whole = read_all_members (names_of c.args.names.now) (inside c.args.names.now c.args.turns) c.args.depth (counting_of c.args.is_alone c.args.tokens.now.count) (list_of c.args.tokens.now.rest.now) in
-    let part = (read_member_row (inside c.args.names.now c.args.turns) c.args.depth) (counting_of c.args.is_alone c.items.tokens.count) (list_of c.items.tokens.rest.now) in
-    passed whole members_in _ _ c.in_err-row.field-0.0 c.from_residual.ensures.1 (gives-from part whole member_row members_in c.member.new.tokens.rest.now c.in_err-row.field-0.0 (gathering-fault (starts_member (names_of c.args.names.now)) (read_member_row (inside c.args.names.now c.args.turns) c.args.depth) after_member (λ rows last. Ok (types.members_of rows, last)) whole (member_rows c.items.rows) (counting_of c.args.is_alone c.items.tokens.count) (list_of c.items.tokens.rest.now) c.items.invariant.going (begins-next (λ (_ : Counting). begins_type (names_of c.args.names.now)) (counting_of c.args.is_alone c.items.tokens.count) (list_of c.items.tokens.rest.now) ∙ sym c.starts_type.ensures ∙ c.items-test.true)) c.in_err-row.ensures.gives)
+    let whole = read_all_members (names_of c.args.scope.names.now) (inside c.args.scope.names.now c.args.scope.turns) c.args.scope.depth (counting_of c.args.is_alone c.args.tokens.now.count) (list_of c.args.tokens.now.rest.now) in
+    let part = (read_member_row (inside c.args.scope.names.now c.args.scope.turns) c.args.scope.depth) (counting_of c.args.is_alone c.items.tokens.count) (list_of c.items.tokens.rest.now) in
+    passed whole members_in _ _ c.in_err-row.field-0.0 c.from_residual.ensures.1 (gives-from part whole member_row members_in c.member.new.tokens.rest.now c.in_err-row.field-0.0 (gathering-fault (starts_member (names_of c.args.scope.names.now)) (read_member_row (inside c.args.scope.names.now c.args.scope.turns) c.args.scope.depth) after_member (λ rows last. Ok (types.members_of rows, last)) whole (member_rows c.items.rows) (counting_of c.args.is_alone c.items.tokens.count) (list_of c.items.tokens.rest.now) c.items.invariant.going (begins-next (λ (_ : Counting). begins_type (names_of c.args.scope.names.now)) (counting_of c.args.is_alone c.items.tokens.count) (list_of c.items.tokens.rest.now) ∙ sym c.starts_type.ensures ∙ c.items-test.true)) c.in_err-row.ensures.gives)
 
 pub all_members-returns-clause-gives : goal.all_members-returns-clause-gives
-all_members-returns-clause-gives t c = gathering-end (starts_member (names_of c.args.names.now)) (read_member_row (inside c.args.names.now c.args.turns) c.args.depth) after_member (λ rows last. Ok (types.members_of rows, last)) (read_all_members (names_of c.args.names.now) (inside c.args.names.now c.args.turns) c.args.depth (counting_of c.args.is_alone c.args.tokens.now.count) (list_of c.args.tokens.now.rest.now)) (member_rows c.items.rows) (counting_of c.args.is_alone c.items.tokens.count) (list_of c.items.tokens.rest.now) c.items.invariant.going (begins-next (λ (_ : Counting). begins_type (names_of c.args.names.now)) (counting_of c.args.is_alone c.items.tokens.count) (list_of c.items.tokens.rest.now) ∙ sym c.starts_type.ensures ∙ c.items-test.false) ∙ ap (λ made. Ok (made, list_of c.items.tokens.rest.now)) (same-members (member_rows c.items.rows))
+all_members-returns-clause-gives t c = gathering-end (starts_member (names_of c.args.scope.names.now)) (read_member_row (inside c.args.scope.names.now c.args.scope.turns) c.args.scope.depth) after_member (λ rows last. Ok (types.members_of rows, last)) (read_all_members (names_of c.args.scope.names.now) (inside c.args.scope.names.now c.args.scope.turns) c.args.scope.depth (counting_of c.args.is_alone c.args.tokens.now.count) (list_of c.args.tokens.now.rest.now)) (member_rows c.items.rows) (counting_of c.args.is_alone c.items.tokens.count) (list_of c.items.tokens.rest.now) c.items.invariant.going (begins-next (λ (_ : Counting). begins_type (names_of c.args.scope.names.now)) (counting_of c.args.is_alone c.items.tokens.count) (list_of c.items.tokens.rest.now) ∙ sym c.starts_type.ensures ∙ c.items-test.false) ∙ ap (λ made. Ok (made, list_of c.items.tokens.rest.now)) (same-members (member_rows c.items.rows))
 
 pub more_declarators-items-init : goal.more_declarators-items-init
 more_declarators-items-init t c =
-    let whole = read_more_declarators (inside c.args.names.now c.args.turns) c.args.depth (counting_of c.args.is_alone c.args.tokens.now.count) (declarator_row c.args.first) (list_of c.args.tokens.now.rest.now) in
+    let whole = read_more_declarators (inside c.args.scope.names.now c.args.scope.turns) c.args.scope.depth (counting_of c.args.is_alone c.args.tokens.now.count) (declarator_row c.args.first) (list_of c.args.tokens.now.rest.now) in
     let one : declarator_rows c.push.new.self ≡ declarator_row c.args.first ∷ [] = ap (λ xs. map declarator_of (map (λ b. b.value) xs)) (c.in_ok-push.ensures.items ∙ ap (λ xs. xs ++ c.args.first ∷ []) c.new-all.ensures.items) in
     record {
-      going = subst (λ all. Gathering starts_declarator (read_next_declarator (inside c.args.names.now c.args.turns) c.args.depth) after_declarator list_close whole all (counting_of c.args.is_alone c.args.tokens.now.count) (list_of c.args.tokens.now.rest.now)) (sym one) (gathering-start starts_declarator (read_next_declarator (inside c.args.names.now c.args.turns) c.args.depth) after_declarator list_close (declarator_row c.args.first ∷ []) (counting_of c.args.is_alone c.args.tokens.now.count) (list_of c.args.tokens.now.rest.now));
+      going = subst (λ all. Gathering starts_declarator (read_next_declarator (inside c.args.scope.names.now c.args.scope.turns) c.args.scope.depth) after_declarator list_close whole all (counting_of c.args.is_alone c.args.tokens.now.count) (list_of c.args.tokens.now.rest.now)) (sym one) (gathering-start starts_declarator (read_next_declarator (inside c.args.scope.names.now c.args.scope.turns) c.args.scope.depth) after_declarator list_close (declarator_row c.args.first ∷ []) (counting_of c.args.is_alone c.args.tokens.now.count) (list_of c.args.tokens.now.rest.now));
       ends = c.member_end-end.ensures ∙ ap (λ d. member_end (declarator_of d)) c.deref.ensures ∙ ap list_end (sym one);
       counted = subst (λ xs. advance (counting_of c.args.is_alone c.args.before) (operators_of_declarators (syntax.declarators_of xs)) ≡ (counting_of c.args.is_alone c.args.tokens.now.count)) (sym one) (advanced c.args.is_alone c.args.before (operators_of_declarator (declarator_row c.args.first)) c.args.tokens.now.count 0 c.args.tokens.now.count (operators_of_declarators (syntax.declarators_of (declarator_row c.args.first ∷ []))) c.requires.before (stays c.args.is_alone c.args.tokens.now.count) refl);
       within = c.requires.count;
@@ -177,14 +177,14 @@ more_declarators-items-init t c =
 
 pub more_declarators-items-preserved : goal.more_declarators-items-preserved
 more_declarators-items-preserved t c =
-    let whole = read_more_declarators (inside c.args.names.now c.args.turns) c.args.depth (counting_of c.args.is_alone c.args.tokens.now.count) (declarator_row c.args.first) (list_of c.args.tokens.now.rest.now) in
+    let whole = read_more_declarators (inside c.args.scope.names.now c.args.scope.turns) c.args.scope.depth (counting_of c.args.is_alone c.args.tokens.now.count) (declarator_row c.args.first) (list_of c.args.tokens.now.rest.now) in
     let read = declarator_rows c.items.all in
     let x = declarator_row c.in_ok-next.next in
     let rest = c.next_declarator.new.tokens.rest.now in
     let count = c.next_declarator.new.tokens.count in
     let rows : declarator_rows c.push-in-items.new.self ≡ read ++ x ∷ [] = ap (λ xs. map declarator_of (map (λ b. b.value) xs)) c.in_ok-push-2.ensures.items ∙ boxes-more declarator_of c.items.all.items c.in_ok-next.next in
     record {
-      going = subst (λ all. Gathering starts_declarator (read_next_declarator (inside c.args.names.now c.args.turns) c.args.depth) after_declarator list_close whole all (counting_of c.args.is_alone count) (list_of rest)) (sym rows) (gathering-step starts_declarator (read_next_declarator (inside c.args.names.now c.args.turns) c.args.depth) after_declarator list_close whole read (counting_of c.args.is_alone c.items.tokens.count) (counting_of c.args.is_alone count) x c.items.tokens.rest.now rest c.items.invariant.going (begins-next (λ (_ : Counting). is_mark punctuator.Comma) (counting_of c.args.is_alone c.items.tokens.count) (list_of c.items.tokens.rest.now) ∙ sym c.next_is.ensures ∙ c.items-test.true) c.in_ok-next.ensures.gives c.in_ok-next.ensures.shorter c.in_ok-next.ensures.counted.0);
+      going = subst (λ all. Gathering starts_declarator (read_next_declarator (inside c.args.scope.names.now c.args.scope.turns) c.args.scope.depth) after_declarator list_close whole all (counting_of c.args.is_alone count) (list_of rest)) (sym rows) (gathering-step starts_declarator (read_next_declarator (inside c.args.scope.names.now c.args.scope.turns) c.args.scope.depth) after_declarator list_close whole read (counting_of c.args.is_alone c.items.tokens.count) (counting_of c.args.is_alone count) x c.items.tokens.rest.now rest c.items.invariant.going (begins-next (λ (_ : Counting). is_mark punctuator.Comma) (counting_of c.args.is_alone c.items.tokens.count) (list_of c.items.tokens.rest.now) ∙ sym c.next_is.ensures ∙ c.items-test.true) c.in_ok-next.ensures.gives c.in_ok-next.ensures.shorter c.in_ok-next.ensures.counted.0);
       ends = c.member_end-end-in-items.ensures ∙ ap (λ d. member_end (declarator_of d)) c.deref-in-items.ensures ∙ sym (ap list_end rows ∙ end-last read x);
       counted = advanced c.args.is_alone c.args.before (operators_of_declarators (syntax.declarators_of read)) c.items.tokens.count (operators_of_declarator x) count (operators_of_declarators (syntax.declarators_of (declarator_rows c.push-in-items.new.self))) c.items.invariant.counted c.in_ok-next.ensures.counted.0 (ap (λ xs. operators_of_declarators (syntax.declarators_of xs)) rows ∙ declarators-more read x);
       within = c.in_ok-next.ensures.counted.1;
@@ -193,9 +193,9 @@ more_declarators-items-preserved t c =
 
 pub more_declarators-returns-in_err-next-clause-gives : goal.more_declarators-returns-in_err-next-clause-gives
 more_declarators-returns-in_err-next-clause-gives t c =
-    let whole = read_more_declarators (inside c.args.names.now c.args.turns) c.args.depth (counting_of c.args.is_alone c.args.tokens.now.count) (declarator_row c.args.first) (list_of c.args.tokens.now.rest.now) in
-    let part = (read_next_declarator (inside c.args.names.now c.args.turns) c.args.depth) (counting_of c.args.is_alone c.items.tokens.count) (list_of c.items.tokens.rest.now) in
-    passed whole declarators_in _ _ c.in_err-next.field-0.0 c.from_residual-in_err-next.ensures.1 (gives-from part whole declarator_row declarators_in c.next_declarator.new.tokens.rest.now c.in_err-next.field-0.0 (gathering-fault starts_declarator (read_next_declarator (inside c.args.names.now c.args.turns) c.args.depth) after_declarator list_close whole (declarator_rows c.items.all) (counting_of c.args.is_alone c.items.tokens.count) (list_of c.items.tokens.rest.now) c.items.invariant.going (begins-next (λ (_ : Counting). is_mark punctuator.Comma) (counting_of c.args.is_alone c.items.tokens.count) (list_of c.items.tokens.rest.now) ∙ sym c.next_is.ensures ∙ c.items-test.true)) c.in_err-next.ensures.gives)
+    let whole = read_more_declarators (inside c.args.scope.names.now c.args.scope.turns) c.args.scope.depth (counting_of c.args.is_alone c.args.tokens.now.count) (declarator_row c.args.first) (list_of c.args.tokens.now.rest.now) in
+    let part = (read_next_declarator (inside c.args.scope.names.now c.args.scope.turns) c.args.scope.depth) (counting_of c.args.is_alone c.items.tokens.count) (list_of c.items.tokens.rest.now) in
+    passed whole declarators_in _ _ c.in_err-next.field-0.0 c.from_residual-in_err-next.ensures.1 (gives-from part whole declarator_row declarators_in c.next_declarator.new.tokens.rest.now c.in_err-next.field-0.0 (gathering-fault starts_declarator (read_next_declarator (inside c.args.scope.names.now c.args.scope.turns) c.args.scope.depth) after_declarator list_close whole (declarator_rows c.items.all) (counting_of c.args.is_alone c.items.tokens.count) (list_of c.items.tokens.rest.now) c.items.invariant.going (begins-next (λ (_ : Counting). is_mark punctuator.Comma) (counting_of c.args.is_alone c.items.tokens.count) (list_of c.items.tokens.rest.now) ∙ sym c.next_is.ensures ∙ c.items-test.true)) c.in_err-next.ensures.gives)
 
 more_declarators-closed : (inner : Readers) (depth : ℕ) (counting : Counting) (whole : Outcome Placed Role tree.Declarators) (rows : List tree.Declarator) (end : Role) (tokens : List Placed) → whole ≡ list_close rows tokens → end ≡ list_end rows → whole ≡ bind (token end (awaited end) (mark_place punctuator.Semicolon) tokens) (λ _ last. Ok (syntax.declarators_of rows, last))
 more_declarators-closed inner depth counting whole rows end tokens is ends =
@@ -203,21 +203,21 @@ more_declarators-closed inner depth counting whole rows end tokens is ends =
 
 pub more_declarators-returns-in_err-mark-clause-gives : goal.more_declarators-returns-in_err-mark-clause-gives
 more_declarators-returns-in_err-mark-clause-gives t c =
-    let whole = read_more_declarators (inside c.args.names.now c.args.turns) c.args.depth (counting_of c.args.is_alone c.args.tokens.now.count) (declarator_row c.args.first) (list_of c.args.tokens.now.rest.now) in
-    let closed = more_declarators-closed (inside c.args.names.now c.args.turns) c.args.depth (counting_of c.args.is_alone c.args.tokens.now.count) whole (declarator_rows c.items.all) c.items.end (list_of c.items.tokens.rest.now) (gathering-end starts_declarator (read_next_declarator (inside c.args.names.now c.args.turns) c.args.depth) after_declarator list_close whole (declarator_rows c.items.all) (counting_of c.args.is_alone c.items.tokens.count) (list_of c.items.tokens.rest.now) c.items.invariant.going (begins-next (λ (_ : Counting). is_mark punctuator.Comma) (counting_of c.args.is_alone c.items.tokens.count) (list_of c.items.tokens.rest.now) ∙ sym c.next_is.ensures ∙ c.items-test.false)) c.items.invariant.ends in
+    let whole = read_more_declarators (inside c.args.scope.names.now c.args.scope.turns) c.args.scope.depth (counting_of c.args.is_alone c.args.tokens.now.count) (declarator_row c.args.first) (list_of c.args.tokens.now.rest.now) in
+    let closed = more_declarators-closed (inside c.args.scope.names.now c.args.scope.turns) c.args.scope.depth (counting_of c.args.is_alone c.args.tokens.now.count) whole (declarator_rows c.items.all) c.items.end (list_of c.items.tokens.rest.now) (gathering-end starts_declarator (read_next_declarator (inside c.args.scope.names.now c.args.scope.turns) c.args.scope.depth) after_declarator list_close whole (declarator_rows c.items.all) (counting_of c.args.is_alone c.items.tokens.count) (list_of c.items.tokens.rest.now) c.items.invariant.going (begins-next (λ (_ : Counting). is_mark punctuator.Comma) (counting_of c.args.is_alone c.items.tokens.count) (list_of c.items.tokens.rest.now) ∙ sym c.next_is.ensures ∙ c.items-test.false)) c.items.invariant.ends in
     passed whole declarators_in _ _ c.in_err-mark.field-0.0 c.from_residual-in_err-mark.ensures.1 (gives-from (token c.items.end (awaited c.items.end) (mark_place punctuator.Semicolon) (list_of c.items.tokens.rest.now)) whole (λ x. x) declarators_in c.mark.new.self.rest.now c.in_err-mark.field-0.0 (λ fault e. closed ∙ ap (λ o. bind o (λ _ last. Ok (declarators_in c.items.all, last))) e) c.in_err-mark.ensures.gives)
 
 pub more_declarators-returns-clause-gives : goal.more_declarators-returns-clause-gives
 more_declarators-returns-clause-gives t c =
-    let whole = read_more_declarators (inside c.args.names.now c.args.turns) c.args.depth (counting_of c.args.is_alone c.args.tokens.now.count) (declarator_row c.args.first) (list_of c.args.tokens.now.rest.now) in
-    let closed = more_declarators-closed (inside c.args.names.now c.args.turns) c.args.depth (counting_of c.args.is_alone c.args.tokens.now.count) whole (declarator_rows c.items.all) c.items.end (list_of c.items.tokens.rest.now) (gathering-end starts_declarator (read_next_declarator (inside c.args.names.now c.args.turns) c.args.depth) after_declarator list_close whole (declarator_rows c.items.all) (counting_of c.args.is_alone c.items.tokens.count) (list_of c.items.tokens.rest.now) c.items.invariant.going (begins-next (λ (_ : Counting). is_mark punctuator.Comma) (counting_of c.args.is_alone c.items.tokens.count) (list_of c.items.tokens.rest.now) ∙ sym c.next_is.ensures ∙ c.items-test.false)) c.items.invariant.ends in
+    let whole = read_more_declarators (inside c.args.scope.names.now c.args.scope.turns) c.args.scope.depth (counting_of c.args.is_alone c.args.tokens.now.count) (declarator_row c.args.first) (list_of c.args.tokens.now.rest.now) in
+    let closed = more_declarators-closed (inside c.args.scope.names.now c.args.scope.turns) c.args.scope.depth (counting_of c.args.is_alone c.args.tokens.now.count) whole (declarator_rows c.items.all) c.items.end (list_of c.items.tokens.rest.now) (gathering-end starts_declarator (read_next_declarator (inside c.args.scope.names.now c.args.scope.turns) c.args.scope.depth) after_declarator list_close whole (declarator_rows c.items.all) (counting_of c.args.is_alone c.items.tokens.count) (list_of c.items.tokens.rest.now) c.items.invariant.going (begins-next (λ (_ : Counting). is_mark punctuator.Comma) (counting_of c.args.is_alone c.items.tokens.count) (list_of c.items.tokens.rest.now) ∙ sym c.next_is.ensures ∙ c.items-test.false)) c.items.invariant.ends in
     closed ∙ ap (λ o. bind o (λ _ last. Ok (declarators_in c.items.all, last))) c.in_ok-mark.ensures.gives
 
 pub lengths-items-init : goal.lengths-items-init
 lengths-items-init t c =
-    let whole = read_lengths_from (length_rows c.args.given) (inside c.args.names.now c.args.turns) c.args.depth (counting_of c.args.is_alone c.args.tokens.now.count) (list_of c.args.tokens.now.rest.now) in
+    let whole = read_lengths_from (length_rows c.args.given) (inside c.args.scope.names.now c.args.scope.turns) c.args.scope.depth (counting_of c.args.is_alone c.args.tokens.now.count) (list_of c.args.tokens.now.rest.now) in
     record {
-      going = gathering-start starts_length (types.read_length (inside c.args.names.now c.args.turns) c.args.depth) after_length (λ rows last. Ok (types.expressions_of rows, last)) (length_rows c.args.given) (counting_of c.args.is_alone c.args.tokens.now.count) (list_of c.args.tokens.now.rest.now);
+      going = gathering-start starts_length (types.read_length (inside c.args.scope.names.now c.args.scope.turns) c.args.scope.depth) after_length (λ rows last. Ok (types.expressions_of rows, last)) (length_rows c.args.given) (counting_of c.args.is_alone c.args.tokens.now.count) (list_of c.args.tokens.now.rest.now);
       counted = c.requires.before;
       within = c.requires.count;
       fewer = omega arith;
@@ -225,14 +225,14 @@ lengths-items-init t c =
 
 pub lengths-items-preserved : goal.lengths-items-preserved
 lengths-items-preserved t c =
-    let whole = read_lengths_from (length_rows c.args.given) (inside c.args.names.now c.args.turns) c.args.depth (counting_of c.args.is_alone c.args.tokens.now.count) (list_of c.args.tokens.now.rest.now) in
+    let whole = read_lengths_from (length_rows c.args.given) (inside c.args.scope.names.now c.args.scope.turns) c.args.scope.depth (counting_of c.args.is_alone c.args.tokens.now.count) (list_of c.args.tokens.now.rest.now) in
     let read = length_rows c.items.all in
     let x = tree_of c.in_ok-next.next in
     let rest = c.length.new.tokens.rest.now in
     let count = c.length.new.tokens.count in
     let rows : length_rows c.push.new.self ≡ read ++ x ∷ [] = ap (λ xs. map expression_of (map (λ b. b.value) xs)) c.in_ok-push.ensures.items ∙ boxes-more expression_of c.items.all.items c.in_ok-next.next in
     record {
-      going = subst (λ all. Gathering starts_length (types.read_length (inside c.args.names.now c.args.turns) c.args.depth) after_length (λ rows last. Ok (types.expressions_of rows, last)) whole all (counting_of c.args.is_alone count) (list_of rest)) (sym rows) (gathering-step starts_length (types.read_length (inside c.args.names.now c.args.turns) c.args.depth) after_length (λ rows last. Ok (types.expressions_of rows, last)) whole read (counting_of c.args.is_alone c.items.tokens.count) (counting_of c.args.is_alone count) x c.items.tokens.rest.now rest c.items.invariant.going (begins-next (λ (_ : Counting). is_mark punctuator.LeftBracket) (counting_of c.args.is_alone c.items.tokens.count) (list_of c.items.tokens.rest.now) ∙ sym c.next_is.ensures ∙ c.items-test.true) c.in_ok-next.ensures.gives c.in_ok-next.ensures.shorter c.in_ok-next.ensures.counted.0);
+      going = subst (λ all. Gathering starts_length (types.read_length (inside c.args.scope.names.now c.args.scope.turns) c.args.scope.depth) after_length (λ rows last. Ok (types.expressions_of rows, last)) whole all (counting_of c.args.is_alone count) (list_of rest)) (sym rows) (gathering-step starts_length (types.read_length (inside c.args.scope.names.now c.args.scope.turns) c.args.scope.depth) after_length (λ rows last. Ok (types.expressions_of rows, last)) whole read (counting_of c.args.is_alone c.items.tokens.count) (counting_of c.args.is_alone count) x c.items.tokens.rest.now rest c.items.invariant.going (begins-next (λ (_ : Counting). is_mark punctuator.LeftBracket) (counting_of c.args.is_alone c.items.tokens.count) (list_of c.items.tokens.rest.now) ∙ sym c.next_is.ensures ∙ c.items-test.true) c.in_ok-next.ensures.gives c.in_ok-next.ensures.shorter c.in_ok-next.ensures.counted.0);
       counted = advanced c.args.is_alone c.args.before (operators_of_lengths (syntax.expressions_of read)) c.items.tokens.count (operators x) count (operators_of_lengths (syntax.expressions_of (length_rows c.push.new.self))) c.items.invariant.counted c.in_ok-next.ensures.counted.0 (ap (λ xs. operators_of_lengths (syntax.expressions_of xs)) rows ∙ lengths-more read x);
       within = c.in_ok-next.ensures.counted.1;
       fewer = omega (arith, c.in_ok-next.ensures.shorter, c.items.invariant.fewer);
@@ -240,17 +240,17 @@ lengths-items-preserved t c =
 
 pub lengths-returns-in_err-next-clause-gives : goal.lengths-returns-in_err-next-clause-gives
 lengths-returns-in_err-next-clause-gives t c =
-    let whole = read_lengths_from (length_rows c.args.given) (inside c.args.names.now c.args.turns) c.args.depth (counting_of c.args.is_alone c.args.tokens.now.count) (list_of c.args.tokens.now.rest.now) in
-    let part = (types.read_length (inside c.args.names.now c.args.turns) c.args.depth) (counting_of c.args.is_alone c.items.tokens.count) (list_of c.items.tokens.rest.now) in
-    passed whole expressions_in _ _ c.in_err-next.field-0.0 c.from_residual.ensures.1 (gives-from part whole tree_of expressions_in c.length.new.tokens.rest.now c.in_err-next.field-0.0 (gathering-fault starts_length (types.read_length (inside c.args.names.now c.args.turns) c.args.depth) after_length (λ rows last. Ok (types.expressions_of rows, last)) whole (length_rows c.items.all) (counting_of c.args.is_alone c.items.tokens.count) (list_of c.items.tokens.rest.now) c.items.invariant.going (begins-next (λ (_ : Counting). is_mark punctuator.LeftBracket) (counting_of c.args.is_alone c.items.tokens.count) (list_of c.items.tokens.rest.now) ∙ sym c.next_is.ensures ∙ c.items-test.true)) c.in_err-next.ensures.gives)
+    let whole = read_lengths_from (length_rows c.args.given) (inside c.args.scope.names.now c.args.scope.turns) c.args.scope.depth (counting_of c.args.is_alone c.args.tokens.now.count) (list_of c.args.tokens.now.rest.now) in
+    let part = (types.read_length (inside c.args.scope.names.now c.args.scope.turns) c.args.scope.depth) (counting_of c.args.is_alone c.items.tokens.count) (list_of c.items.tokens.rest.now) in
+    passed whole expressions_in _ _ c.in_err-next.field-0.0 c.from_residual.ensures.1 (gives-from part whole tree_of expressions_in c.length.new.tokens.rest.now c.in_err-next.field-0.0 (gathering-fault starts_length (types.read_length (inside c.args.scope.names.now c.args.scope.turns) c.args.scope.depth) after_length (λ rows last. Ok (types.expressions_of rows, last)) whole (length_rows c.items.all) (counting_of c.args.is_alone c.items.tokens.count) (list_of c.items.tokens.rest.now) c.items.invariant.going (begins-next (λ (_ : Counting). is_mark punctuator.LeftBracket) (counting_of c.args.is_alone c.items.tokens.count) (list_of c.items.tokens.rest.now) ∙ sym c.next_is.ensures ∙ c.items-test.true)) c.in_err-next.ensures.gives)
 
 pub lengths-returns-clause-gives : goal.lengths-returns-clause-gives
-lengths-returns-clause-gives t c = gathering-end starts_length (types.read_length (inside c.args.names.now c.args.turns) c.args.depth) after_length (λ rows last. Ok (types.expressions_of rows, last)) (read_lengths_from (length_rows c.args.given) (inside c.args.names.now c.args.turns) c.args.depth (counting_of c.args.is_alone c.args.tokens.now.count) (list_of c.args.tokens.now.rest.now)) (length_rows c.items.all) (counting_of c.args.is_alone c.items.tokens.count) (list_of c.items.tokens.rest.now) c.items.invariant.going (begins-next (λ (_ : Counting). is_mark punctuator.LeftBracket) (counting_of c.args.is_alone c.items.tokens.count) (list_of c.items.tokens.rest.now) ∙ sym c.next_is.ensures ∙ c.items-test.false) ∙ ap (λ made. Ok (made, list_of c.items.tokens.rest.now)) (same-lengths (length_rows c.items.all))
+lengths-returns-clause-gives t c = gathering-end starts_length (types.read_length (inside c.args.scope.names.now c.args.scope.turns) c.args.scope.depth) after_length (λ rows last. Ok (types.expressions_of rows, last)) (read_lengths_from (length_rows c.args.given) (inside c.args.scope.names.now c.args.scope.turns) c.args.scope.depth (counting_of c.args.is_alone c.args.tokens.now.count) (list_of c.args.tokens.now.rest.now)) (length_rows c.items.all) (counting_of c.args.is_alone c.items.tokens.count) (list_of c.items.tokens.rest.now) c.items.invariant.going (begins-next (λ (_ : Counting). is_mark punctuator.LeftBracket) (counting_of c.args.is_alone c.items.tokens.count) (list_of c.items.tokens.rest.now) ∙ sym c.next_is.ensures ∙ c.items-test.false) ∙ ap (λ made. Ok (made, list_of c.items.tokens.rest.now)) (same-lengths (length_rows c.items.all))
 
 pub more_constants-items-init : goal.more_constants-items-init
 more_constants-items-init t c =
     record {
-      going = constants-start (names_of c.args.names.now) (inside c.args.names.now c.args.turns) c.args.depth (constant_rows c.args.rows.now) (types.AfterConstant c.args.end (counting_of c.args.is_alone c.args.tokens.now.count)) (list_of c.args.tokens.now.rest.now);
+      going = constants-start (names_of c.args.scope.names.now) (inside c.args.scope.names.now c.args.scope.turns) c.args.scope.depth (constant_rows c.args.rows.now) (types.AfterConstant c.args.end (counting_of c.args.is_alone c.args.tokens.now.count)) (list_of c.args.tokens.now.rest.now);
       counted = c.requires.before;
       within = c.requires.count;
       fewer = omega arith;
@@ -258,21 +258,21 @@ more_constants-items-init t c =
 
 pub more_constants-items-preserved : goal.more_constants-items-preserved
 more_constants-items-preserved t c =
-    let whole = read_constants_from (names_of c.args.names.now) (inside c.args.names.now c.args.turns) c.args.depth (constant_rows c.args.rows.now) (types.AfterConstant c.args.end (counting_of c.args.is_alone c.args.tokens.now.count)) (list_of c.args.tokens.now.rest.now) in
+    let whole = read_constants_from (names_of c.args.scope.names.now) (inside c.args.scope.names.now c.args.scope.turns) c.args.scope.depth (constant_rows c.args.rows.now) (types.AfterConstant c.args.end (counting_of c.args.is_alone c.args.tokens.now.count)) (list_of c.args.tokens.now.rest.now) in
     let read = constant_rows c.items.rows in
     let x = constant_row c.in_ok-next.next in
     let rest = c.constant.new.tokens.rest.now in
     let count = c.constant.new.tokens.count in
     let same = c.mark.ensures.count in
-    let comma = constants-comma (names_of c.args.names.now) (inside c.args.names.now c.args.turns) c.args.depth whole (constant_rows c.items.rows) c.items.end (counting_of c.args.is_alone c.items.tokens.count) c.in_ok-mark.field-0 c.items.tokens.rest.now c.mark.new.self.rest.now c.items.invariant.going (sym c.next_is.ensures ∙ c.items-test.true) c.in_ok-mark.ensures.gives (omega (arith, c.in_ok-mark.ensures.shorter)) in
+    let comma = constants-comma (names_of c.args.scope.names.now) (inside c.args.scope.names.now c.args.scope.turns) c.args.scope.depth whole (constant_rows c.items.rows) c.items.end (counting_of c.args.is_alone c.items.tokens.count) c.in_ok-mark.field-0 c.items.tokens.rest.now c.mark.new.self.rest.now c.items.invariant.going (sym c.next_is.ensures ∙ c.items-test.true) c.in_ok-mark.ensures.gives (omega (arith, c.in_ok-mark.ensures.shorter)) in
     let rows : constant_rows c.push.new.self ≡ read ++ x ∷ [] = ap (λ xs. map constant_of (map (λ b. b.value) xs)) c.in_ok-push.ensures.items ∙ boxes-more constant_of c.items.rows.items c.in_ok-next.next in
-    let part = subst (λ n. types.read_constant (names_of c.args.names.now) (inside c.args.names.now c.args.turns) c.args.depth (counting_of c.args.is_alone n) (list_of c.mark.new.self.rest.now) ≡ Ok (x, list_of rest)) same c.in_ok-next.ensures.gives in
+    let part = subst (λ n. types.read_constant (names_of c.args.scope.names.now) (inside c.args.scope.names.now c.args.scope.turns) c.args.scope.depth (counting_of c.args.is_alone n) (list_of c.mark.new.self.rest.now) ≡ Ok (x, list_of rest)) same c.in_ok-next.ensures.gives in
     let counted = subst (λ n. advance (counting_of c.args.is_alone n) (types.operators_of_constant x) ≡ counting_of c.args.is_alone count) same c.in_ok-next.ensures.counted.0 in
-    let step = constants-step (names_of c.args.names.now) (inside c.args.names.now c.args.turns) c.args.depth whole read (counting_of c.args.is_alone c.items.tokens.count) x c.mark.new.self.rest.now rest comma (sym c.starts_plain_name.ensures ∙ c.if-not-starts_plain_name.false) part c.in_ok-next.ensures.shorter in
+    let step = constants-step (names_of c.args.scope.names.now) (inside c.args.scope.names.now c.args.scope.turns) c.args.scope.depth whole read (counting_of c.args.is_alone c.items.tokens.count) x c.mark.new.self.rest.now rest comma (sym c.starts_plain_name.ensures ∙ c.if-not-starts_plain_name.false) part c.in_ok-next.ensures.shorter in
     record {
-      going = subst (λ all. Constants (names_of c.args.names.now) (inside c.args.names.now c.args.turns) c.args.depth whole all (types.AfterConstant c.constant_end-end.result (counting_of c.args.is_alone count)) (list_of rest)) (sym rows)
-          (subst (λ end. Constants (names_of c.args.names.now) (inside c.args.names.now c.args.turns) c.args.depth whole (read ++ x ∷ []) (types.AfterConstant end (counting_of c.args.is_alone count)) (list_of rest)) (sym (c.constant_end-end.ensures ∙ ap (λ d. types.constant_end (constant_of d)) c.deref.ensures))
-          (subst (λ counting. Constants (names_of c.args.names.now) (inside c.args.names.now c.args.turns) c.args.depth whole (read ++ x ∷ []) (types.AfterConstant (types.constant_end x) counting) (list_of rest)) counted step));
+      going = subst (λ all. Constants (names_of c.args.scope.names.now) (inside c.args.scope.names.now c.args.scope.turns) c.args.scope.depth whole all (types.AfterConstant c.constant_end-end.result (counting_of c.args.is_alone count)) (list_of rest)) (sym rows)
+          (subst (λ end. Constants (names_of c.args.scope.names.now) (inside c.args.scope.names.now c.args.scope.turns) c.args.scope.depth whole (read ++ x ∷ []) (types.AfterConstant end (counting_of c.args.is_alone count)) (list_of rest)) (sym (c.constant_end-end.ensures ∙ ap (λ d. types.constant_end (constant_of d)) c.deref.ensures))
+          (subst (λ counting. Constants (names_of c.args.scope.names.now) (inside c.args.scope.names.now c.args.scope.turns) c.args.scope.depth whole (read ++ x ∷ []) (types.AfterConstant (types.constant_end x) counting) (list_of rest)) counted step));
       counted = advanced c.args.is_alone c.args.before (operators_of_constants (syntax.constants_of read)) c.items.tokens.count (types.operators_of_constant x) count (operators_of_constants (syntax.constants_of (constant_rows c.push.new.self))) c.items.invariant.counted counted (ap (λ xs. operators_of_constants (syntax.constants_of xs)) rows ∙ constants-more read x);
       within = c.in_ok-next.ensures.counted.1;
       fewer = omega (arith, c.in_ok-mark.ensures.shorter, c.in_ok-next.ensures.shorter, c.items.invariant.fewer);
@@ -280,85 +280,85 @@ more_constants-items-preserved t c =
 
 pub more_constants-returns-in_err-mark-clause-gives : goal.more_constants-returns-in_err-mark-clause-gives
 more_constants-returns-in_err-mark-clause-gives t c =
-    let whole = read_constants_from (names_of c.args.names.now) (inside c.args.names.now c.args.turns) c.args.depth (constant_rows c.args.rows.now) (types.AfterConstant c.args.end (counting_of c.args.is_alone c.args.tokens.now.count)) (list_of c.args.tokens.now.rest.now) in
-    passed whole (λ end. (constant_rows c.items.rows, end)) _ _ c.in_err-mark.field-0.0 c.from_residual.ensures.1 (gives-from (token Nothing plain (mark_place punctuator.Comma) (list_of c.items.tokens.rest.now)) whole (λ x. x) (λ end. (constant_rows c.items.rows, end)) c.mark.new.self.rest.now c.in_err-mark.field-0.0 (comma-fault (names_of c.args.names.now) (inside c.args.names.now c.args.turns) c.args.depth whole (constant_rows c.items.rows) c.items.end (counting_of c.args.is_alone c.items.tokens.count) (list_of c.items.tokens.rest.now) c.items.invariant.going (sym c.next_is.ensures ∙ c.items-test.true)) c.in_err-mark.ensures.gives)
+    let whole = read_constants_from (names_of c.args.scope.names.now) (inside c.args.scope.names.now c.args.scope.turns) c.args.scope.depth (constant_rows c.args.rows.now) (types.AfterConstant c.args.end (counting_of c.args.is_alone c.args.tokens.now.count)) (list_of c.args.tokens.now.rest.now) in
+    passed whole (λ end. (constant_rows c.items.rows, end)) _ _ c.in_err-mark.field-0.0 c.from_residual.ensures.1 (gives-from (token Nothing plain (mark_place punctuator.Comma) (list_of c.items.tokens.rest.now)) whole (λ x. x) (λ end. (constant_rows c.items.rows, end)) c.mark.new.self.rest.now c.in_err-mark.field-0.0 (comma-fault (names_of c.args.scope.names.now) (inside c.args.scope.names.now c.args.scope.turns) c.args.scope.depth whole (constant_rows c.items.rows) c.items.end (counting_of c.args.is_alone c.items.tokens.count) (list_of c.items.tokens.rest.now) c.items.invariant.going (sym c.next_is.ensures ∙ c.items-test.true)) c.in_err-mark.ensures.gives)
 
 pub more_constants-returns-in_err-next-clause-gives : goal.more_constants-returns-in_err-next-clause-gives
 more_constants-returns-in_err-next-clause-gives t c =
-    let whole = read_constants_from (names_of c.args.names.now) (inside c.args.names.now c.args.turns) c.args.depth (constant_rows c.args.rows.now) (types.AfterConstant c.args.end (counting_of c.args.is_alone c.args.tokens.now.count)) (list_of c.args.tokens.now.rest.now) in
-    let comma = constants-comma (names_of c.args.names.now) (inside c.args.names.now c.args.turns) c.args.depth whole (constant_rows c.items.rows) c.items.end (counting_of c.args.is_alone c.items.tokens.count) c.in_ok-mark.field-0 c.items.tokens.rest.now c.mark.new.self.rest.now c.items.invariant.going (sym c.next_is.ensures ∙ c.items-test.true) c.in_ok-mark.ensures.gives (omega (arith, c.in_ok-mark.ensures.shorter)) in
-    let part = types.read_constant (names_of c.args.names.now) (inside c.args.names.now c.args.turns) c.args.depth (counting_of c.args.is_alone c.items.tokens.count) (list_of c.mark.new.self.rest.now) in
-    let given = subst (λ n. Gives (types.read_constant (names_of c.args.names.now) (inside c.args.names.now c.args.turns) c.args.depth (counting_of c.args.is_alone n) (list_of c.mark.new.self.rest.now)) constant_row c.constant.new.tokens.rest.now (Err c.in_err-next.field-0.0)) c.mark.ensures.count c.in_err-next.ensures.gives in
-    passed whole (λ end. (constant_rows c.items.rows, end)) _ _ c.in_err-next.field-0.0 c.from_residual-in_err-next.ensures.1 (gives-from part whole constant_row (λ end. (constant_rows c.items.rows, end)) c.constant.new.tokens.rest.now c.in_err-next.field-0.0 (constants-fault (names_of c.args.names.now) (inside c.args.names.now c.args.turns) c.args.depth whole (constant_rows c.items.rows) (counting_of c.args.is_alone c.items.tokens.count) (list_of c.mark.new.self.rest.now) comma (sym c.starts_plain_name.ensures ∙ c.if-not-starts_plain_name.false)) given)
+    let whole = read_constants_from (names_of c.args.scope.names.now) (inside c.args.scope.names.now c.args.scope.turns) c.args.scope.depth (constant_rows c.args.rows.now) (types.AfterConstant c.args.end (counting_of c.args.is_alone c.args.tokens.now.count)) (list_of c.args.tokens.now.rest.now) in
+    let comma = constants-comma (names_of c.args.scope.names.now) (inside c.args.scope.names.now c.args.scope.turns) c.args.scope.depth whole (constant_rows c.items.rows) c.items.end (counting_of c.args.is_alone c.items.tokens.count) c.in_ok-mark.field-0 c.items.tokens.rest.now c.mark.new.self.rest.now c.items.invariant.going (sym c.next_is.ensures ∙ c.items-test.true) c.in_ok-mark.ensures.gives (omega (arith, c.in_ok-mark.ensures.shorter)) in
+    let part = types.read_constant (names_of c.args.scope.names.now) (inside c.args.scope.names.now c.args.scope.turns) c.args.scope.depth (counting_of c.args.is_alone c.items.tokens.count) (list_of c.mark.new.self.rest.now) in
+    let given = subst (λ n. Gives (types.read_constant (names_of c.args.scope.names.now) (inside c.args.scope.names.now c.args.scope.turns) c.args.scope.depth (counting_of c.args.is_alone n) (list_of c.mark.new.self.rest.now)) constant_row c.constant.new.tokens.rest.now (Err c.in_err-next.field-0.0)) c.mark.ensures.count c.in_err-next.ensures.gives in
+    passed whole (λ end. (constant_rows c.items.rows, end)) _ _ c.in_err-next.field-0.0 c.from_residual-in_err-next.ensures.1 (gives-from part whole constant_row (λ end. (constant_rows c.items.rows, end)) c.constant.new.tokens.rest.now c.in_err-next.field-0.0 (constants-fault (names_of c.args.scope.names.now) (inside c.args.scope.names.now c.args.scope.turns) c.args.scope.depth whole (constant_rows c.items.rows) (counting_of c.args.is_alone c.items.tokens.count) (list_of c.mark.new.self.rest.now) comma (sym c.starts_plain_name.ensures ∙ c.if-not-starts_plain_name.false)) given)
 
 pub more_constants-returns-then-not-starts_plain_name-clause-gives : goal.more_constants-returns-then-not-starts_plain_name-clause-gives
 more_constants-returns-then-not-starts_plain_name-clause-gives t c =
-    let whole = read_constants_from (names_of c.args.names.now) (inside c.args.names.now c.args.turns) c.args.depth (constant_rows c.args.rows.now) (types.AfterConstant c.args.end (counting_of c.args.is_alone c.args.tokens.now.count)) (list_of c.args.tokens.now.rest.now) in
-    constants-end_comma (names_of c.args.names.now) (inside c.args.names.now c.args.turns) c.args.depth whole (constant_rows c.items.rows) (counting_of c.args.is_alone c.items.tokens.count) (list_of c.mark.new.self.rest.now) (constants-comma (names_of c.args.names.now) (inside c.args.names.now c.args.turns) c.args.depth whole (constant_rows c.items.rows) c.items.end (counting_of c.args.is_alone c.items.tokens.count) c.in_ok-mark.field-0 c.items.tokens.rest.now c.mark.new.self.rest.now c.items.invariant.going (sym c.next_is.ensures ∙ c.items-test.true) c.in_ok-mark.ensures.gives (omega (arith, c.in_ok-mark.ensures.shorter))) (sym c.starts_plain_name.ensures ∙ c.if-not-starts_plain_name.true)
+    let whole = read_constants_from (names_of c.args.scope.names.now) (inside c.args.scope.names.now c.args.scope.turns) c.args.scope.depth (constant_rows c.args.rows.now) (types.AfterConstant c.args.end (counting_of c.args.is_alone c.args.tokens.now.count)) (list_of c.args.tokens.now.rest.now) in
+    constants-end_comma (names_of c.args.scope.names.now) (inside c.args.scope.names.now c.args.scope.turns) c.args.scope.depth whole (constant_rows c.items.rows) (counting_of c.args.is_alone c.items.tokens.count) (list_of c.mark.new.self.rest.now) (constants-comma (names_of c.args.scope.names.now) (inside c.args.scope.names.now c.args.scope.turns) c.args.scope.depth whole (constant_rows c.items.rows) c.items.end (counting_of c.args.is_alone c.items.tokens.count) c.in_ok-mark.field-0 c.items.tokens.rest.now c.mark.new.self.rest.now c.items.invariant.going (sym c.next_is.ensures ∙ c.items-test.true) c.in_ok-mark.ensures.gives (omega (arith, c.in_ok-mark.ensures.shorter))) (sym c.starts_plain_name.ensures ∙ c.if-not-starts_plain_name.true)
 
 pub more_constants-returns-clause-gives : goal.more_constants-returns-clause-gives
 more_constants-returns-clause-gives t c =
-    let whole = read_constants_from (names_of c.args.names.now) (inside c.args.names.now c.args.turns) c.args.depth (constant_rows c.args.rows.now) (types.AfterConstant c.args.end (counting_of c.args.is_alone c.args.tokens.now.count)) (list_of c.args.tokens.now.rest.now) in
-    constants-end (names_of c.args.names.now) (inside c.args.names.now c.args.turns) c.args.depth whole (constant_rows c.items.rows) c.items.end (counting_of c.args.is_alone c.items.tokens.count) (list_of c.items.tokens.rest.now) c.items.invariant.going (sym c.next_is.ensures ∙ c.items-test.false)
+    let whole = read_constants_from (names_of c.args.scope.names.now) (inside c.args.scope.names.now c.args.scope.turns) c.args.scope.depth (constant_rows c.args.rows.now) (types.AfterConstant c.args.end (counting_of c.args.is_alone c.args.tokens.now.count)) (list_of c.args.tokens.now.rest.now) in
+    constants-end (names_of c.args.scope.names.now) (inside c.args.scope.names.now c.args.scope.turns) c.args.scope.depth whole (constant_rows c.items.rows) c.items.end (counting_of c.args.is_alone c.items.tokens.count) (list_of c.items.tokens.rest.now) c.items.invariant.going (sym c.next_is.ensures ∙ c.items-test.false)
 
 pub members-returns-in_err-rows-clause-gives : goal.members-returns-in_err-rows-clause-gives
 members-returns-in_err-rows-clause-gives t c =
-    let whole = types.read_members (names_of c.args.names.now) (inside c.args.names.now c.args.turns) c.args.depth (counting_of c.args.is_alone c.args.tokens.now.count) (list_of c.args.tokens.now.rest.now) in
-    let begun = members-begun (names_of c.args.names.now) (inside c.args.names.now c.args.turns) c.args.depth (c.args.depth + 1) c.args.is_alone c.args.tokens.now.count c.opening.new.self.count c.in_ok-opening.field-0 (list_of c.args.tokens.now.rest.now) (list_of c.opening.new.self.rest.now) (omega arith) c.in_ok-opening.ensures.counted.1 c.in_ok-opening.ensures.gives in
-    passed whole members_in _ _ c.in_err-rows.field-0.0 c.from_residual-in_err-rows.ensures.1 (gives-from (read_all_members (names_of c.args.names.now) (inside c.args.names.now c.args.turns) (c.args.depth + 1) (counting_of c.args.is_alone c.opening.new.self.count) (list_of c.opening.new.self.rest.now)) whole members_in members_in c.all_members.new.tokens.rest.now c.in_err-rows.field-0.0 (λ fault e. begun ∙ ap (λ o. bind o close_members) e) c.in_err-rows.ensures.gives)
+    let whole = types.read_members (names_of c.args.scope.names.now) (inside c.args.scope.names.now c.args.scope.turns) c.args.scope.depth (counting_of c.args.is_alone c.args.tokens.now.count) (list_of c.args.tokens.now.rest.now) in
+    let begun = members-begun (names_of c.args.scope.names.now) (inside c.args.scope.names.now c.args.scope.turns) c.args.scope.depth (c.args.scope.depth + 1) c.args.is_alone c.args.tokens.now.count c.opening.new.self.count c.in_ok-opening.field-0 (list_of c.args.tokens.now.rest.now) (list_of c.opening.new.self.rest.now) (omega arith) c.in_ok-opening.ensures.counted.1 c.in_ok-opening.ensures.gives in
+    passed whole members_in _ _ c.in_err-rows.field-0.0 c.from_residual-in_err-rows.ensures.1 (gives-from (read_all_members (names_of c.args.scope.names.now) (inside c.args.scope.names.now c.args.scope.turns) (c.args.scope.depth + 1) (counting_of c.args.is_alone c.opening.new.self.count) (list_of c.opening.new.self.rest.now)) whole members_in members_in c.all_members.new.tokens.rest.now c.in_err-rows.field-0.0 (λ fault e. begun ∙ ap (λ o. bind o close_members) e) c.in_err-rows.ensures.gives)
 
 pub members-returns-in_err-mark-clause-gives : goal.members-returns-in_err-mark-clause-gives
 members-returns-in_err-mark-clause-gives t c =
-    let whole = types.read_members (names_of c.args.names.now) (inside c.args.names.now c.args.turns) c.args.depth (counting_of c.args.is_alone c.args.tokens.now.count) (list_of c.args.tokens.now.rest.now) in
-    let begun = members-begun (names_of c.args.names.now) (inside c.args.names.now c.args.turns) c.args.depth (c.args.depth + 1) c.args.is_alone c.args.tokens.now.count c.opening.new.self.count c.in_ok-opening.field-0 (list_of c.args.tokens.now.rest.now) (list_of c.opening.new.self.rest.now) (omega arith) c.in_ok-opening.ensures.counted.1 c.in_ok-opening.ensures.gives in
+    let whole = types.read_members (names_of c.args.scope.names.now) (inside c.args.scope.names.now c.args.scope.turns) c.args.scope.depth (counting_of c.args.is_alone c.args.tokens.now.count) (list_of c.args.tokens.now.rest.now) in
+    let begun = members-begun (names_of c.args.scope.names.now) (inside c.args.scope.names.now c.args.scope.turns) c.args.scope.depth (c.args.scope.depth + 1) c.args.is_alone c.args.tokens.now.count c.opening.new.self.count c.in_ok-opening.field-0 (list_of c.args.tokens.now.rest.now) (list_of c.opening.new.self.rest.now) (omega arith) c.in_ok-opening.ensures.counted.1 c.in_ok-opening.ensures.gives in
     passed whole members_in _ _ c.in_err-mark.field-0.0 c.from_residual-in_err-mark.ensures.1 (gives-from (token Nothing plain (mark_place punctuator.RightBrace) (list_of c.all_members.new.tokens.rest.now)) whole (λ x. x) members_in c.mark.new.self.rest.now c.in_err-mark.field-0.0 (λ fault e. begun ∙ ap (λ o. bind o close_members) c.in_ok-rows.ensures.gives ∙ ap (λ o. bind o (λ _ last. Ok (members_in c.in_ok-rows.rows, last))) e) c.in_err-mark.ensures.gives)
 
 pub members-returns-clause-gives : goal.members-returns-clause-gives
 members-returns-clause-gives t c =
-    let begun = members-begun (names_of c.args.names.now) (inside c.args.names.now c.args.turns) c.args.depth (c.args.depth + 1) c.args.is_alone c.args.tokens.now.count c.opening.new.self.count c.in_ok-opening.field-0 (list_of c.args.tokens.now.rest.now) (list_of c.opening.new.self.rest.now) (omega arith) c.in_ok-opening.ensures.counted.1 c.in_ok-opening.ensures.gives in
+    let begun = members-begun (names_of c.args.scope.names.now) (inside c.args.scope.names.now c.args.scope.turns) c.args.scope.depth (c.args.scope.depth + 1) c.args.is_alone c.args.tokens.now.count c.opening.new.self.count c.in_ok-opening.field-0 (list_of c.args.tokens.now.rest.now) (list_of c.opening.new.self.rest.now) (omega arith) c.in_ok-opening.ensures.counted.1 c.in_ok-opening.ensures.gives in
     begun ∙ ap (λ o. bind o close_members) c.in_ok-rows.ensures.gives ∙ ap (λ o. bind o (λ _ last. Ok (members_in c.in_ok-rows.rows, last))) c.in_ok-mark.ensures.gives
 
 pub open_array-returns-in_err-all-clause-gives : goal.open_array-returns-in_err-all-clause-gives
 open_array-returns-in_err-all-clause-gives t c =
-    let whole = read_open_array (inside c.args.names.now c.args.turns) c.args.depth (counting_of c.args.is_alone c.args.tokens.now.count) (list_of c.args.tokens.now.rest.now) in
-    let begun = open-begun (inside c.args.names.now c.args.turns) c.args.depth c.args.is_alone c.args.tokens.now.count c.mark.new.self.count c.in_ok-mark.field-0 (length_rows c.new-none.result) (list_of c.args.tokens.now.rest.now) (list_of c.mark.new.self.rest.now) c.mark.ensures.count (ap (λ xs. map expression_of (map (λ b. b.value) xs)) c.new-none.ensures.items) c.in_ok-mark.ensures.gives in
-    passed whole array_of _ _ c.in_err-all.field-0.0 c.from_residual-in_err-all.ensures.1 (gives-from (read_lengths_from (length_rows c.new-none.result) (inside c.args.names.now c.args.turns) c.args.depth (counting_of c.args.is_alone c.mark.new.self.count) (list_of c.mark.new.self.rest.now)) whole expressions_in array_of c.lengths.new.tokens.rest.now c.in_err-all.field-0.0 (λ fault e. begun ∙ ap (λ o. bind o (λ lengths last. Ok ((true, lengths), last))) e) c.in_err-all.ensures.gives)
+    let whole = read_open_array (inside c.args.scope.names.now c.args.scope.turns) c.args.scope.depth (counting_of c.args.is_alone c.args.tokens.now.count) (list_of c.args.tokens.now.rest.now) in
+    let begun = open-begun (inside c.args.scope.names.now c.args.scope.turns) c.args.scope.depth c.args.is_alone c.args.tokens.now.count c.mark.new.self.count c.in_ok-mark.field-0 (length_rows c.new-none.result) (list_of c.args.tokens.now.rest.now) (list_of c.mark.new.self.rest.now) c.mark.ensures.count (ap (λ xs. map expression_of (map (λ b. b.value) xs)) c.new-none.ensures.items) c.in_ok-mark.ensures.gives in
+    passed whole array_of _ _ c.in_err-all.field-0.0 c.from_residual-in_err-all.ensures.1 (gives-from (read_lengths_from (length_rows c.new-none.result) (inside c.args.scope.names.now c.args.scope.turns) c.args.scope.depth (counting_of c.args.is_alone c.mark.new.self.count) (list_of c.mark.new.self.rest.now)) whole expressions_in array_of c.lengths.new.tokens.rest.now c.in_err-all.field-0.0 (λ fault e. begun ∙ ap (λ o. bind o (λ lengths last. Ok ((true, lengths), last))) e) c.in_err-all.ensures.gives)
 
 pub open_array-returns-clause-gives : goal.open_array-returns-clause-gives
 open_array-returns-clause-gives t c =
-    let begun = open-begun (inside c.args.names.now c.args.turns) c.args.depth c.args.is_alone c.args.tokens.now.count c.mark.new.self.count c.in_ok-mark.field-0 (length_rows c.new-none.result) (list_of c.args.tokens.now.rest.now) (list_of c.mark.new.self.rest.now) c.mark.ensures.count (ap (λ xs. map expression_of (map (λ b. b.value) xs)) c.new-none.ensures.items) c.in_ok-mark.ensures.gives in
+    let begun = open-begun (inside c.args.scope.names.now c.args.scope.turns) c.args.scope.depth c.args.is_alone c.args.tokens.now.count c.mark.new.self.count c.in_ok-mark.field-0 (length_rows c.new-none.result) (list_of c.args.tokens.now.rest.now) (list_of c.mark.new.self.rest.now) c.mark.ensures.count (ap (λ xs. map expression_of (map (λ b. b.value) xs)) c.new-none.ensures.items) c.in_ok-mark.ensures.gives in
     begun ∙ ap (λ o. bind o (λ lengths last. Ok ((true, lengths), last))) c.in_ok-all.ensures.gives ∙ ap (λ array. Ok (array, list_of c.lengths.new.tokens.rest.now)) (sym c.in_ok-new.ensures)
 
 pub given_array-returns-in_err-all-clause-gives : goal.given_array-returns-in_err-all-clause-gives
 given_array-returns-in_err-all-clause-gives t c =
-    let whole = read_given_array (inside c.args.names.now c.args.turns) c.args.depth (counting_of c.args.is_alone c.args.tokens.now.count) (list_of c.args.tokens.now.rest.now) in
-    let begun = given-begun (inside c.args.names.now c.args.turns) c.args.depth (c.args.depth + 1) c.args.is_alone c.args.tokens.now.count c.begin_whole.new.tokens.count c.ended.new.tokens.count (tree_of c.in_ok-first.first) (length_rows c.push.new.self) (list_of c.args.tokens.now.rest.now) (list_of c.ended.new.tokens.rest.now) (omega arith) c.begin_whole.ensures.count (ap (λ xs. map expression_of (map (λ b. b.value) xs)) (c.in_ok-push.ensures.items ∙ ap (λ xs. xs ++ c.in_ok-first.first ∷ []) c.new-given.ensures.items)) (counted c.args.is_alone c.args.tokens.now.count c.begin_whole.new.tokens.count (operators (tree_of c.in_ok-first.first)) c.ended.new.tokens.count c.begin_whole.ensures.count c.in_ok-first.ensures.counted.0) (subst (λ ref. read_ended (inside c.args.names.now c.args.turns) (c.args.depth + 1) c.begin_whole.new.tokens.count punctuator.RightBracket (list_of ref.now) ≡ Ok (tree_of c.in_ok-first.first, list_of c.ended.new.tokens.rest.now)) c.begin_whole.ensures.rest c.in_ok-first.ensures.gives) in
-    passed whole array_of _ _ c.in_err-all.field-0.0 c.from_residual-in_err-all.ensures.1 (gives-from (read_lengths_from (length_rows c.push.new.self) (inside c.args.names.now c.args.turns) c.args.depth (counting_of c.args.is_alone c.ended.new.tokens.count) (list_of c.ended.new.tokens.rest.now)) whole expressions_in array_of c.lengths.new.tokens.rest.now c.in_err-all.field-0.0 (λ fault e. begun ∙ ap (λ o. bind o (λ lengths last. Ok ((false, lengths), last))) e) c.in_err-all.ensures.gives)
+    let whole = read_given_array (inside c.args.scope.names.now c.args.scope.turns) c.args.scope.depth (counting_of c.args.is_alone c.args.tokens.now.count) (list_of c.args.tokens.now.rest.now) in
+    let begun = given-begun (inside c.args.scope.names.now c.args.scope.turns) c.args.scope.depth (c.args.scope.depth + 1) c.args.is_alone c.args.tokens.now.count c.begin_whole.new.tokens.count c.ended.new.tokens.count (tree_of c.in_ok-first.first) (length_rows c.push.new.self) (list_of c.args.tokens.now.rest.now) (list_of c.ended.new.tokens.rest.now) (omega arith) c.begin_whole.ensures.count (ap (λ xs. map expression_of (map (λ b. b.value) xs)) (c.in_ok-push.ensures.items ∙ ap (λ xs. xs ++ c.in_ok-first.first ∷ []) c.new-given.ensures.items)) (counted c.args.is_alone c.args.tokens.now.count c.begin_whole.new.tokens.count (operators (tree_of c.in_ok-first.first)) c.ended.new.tokens.count c.begin_whole.ensures.count c.in_ok-first.ensures.counted.0) (subst (λ ref. read_ended (inside c.args.scope.names.now c.args.scope.turns) (c.args.scope.depth + 1) c.begin_whole.new.tokens.count punctuator.RightBracket (list_of ref.now) ≡ Ok (tree_of c.in_ok-first.first, list_of c.ended.new.tokens.rest.now)) c.begin_whole.ensures.rest c.in_ok-first.ensures.gives) in
+    passed whole array_of _ _ c.in_err-all.field-0.0 c.from_residual-in_err-all.ensures.1 (gives-from (read_lengths_from (length_rows c.push.new.self) (inside c.args.scope.names.now c.args.scope.turns) c.args.scope.depth (counting_of c.args.is_alone c.ended.new.tokens.count) (list_of c.ended.new.tokens.rest.now)) whole expressions_in array_of c.lengths.new.tokens.rest.now c.in_err-all.field-0.0 (λ fault e. begun ∙ ap (λ o. bind o (λ lengths last. Ok ((false, lengths), last))) e) c.in_err-all.ensures.gives)
 
 pub given_array-returns-clause-gives : goal.given_array-returns-clause-gives
 given_array-returns-clause-gives t c =
-    let begun = given-begun (inside c.args.names.now c.args.turns) c.args.depth (c.args.depth + 1) c.args.is_alone c.args.tokens.now.count c.begin_whole.new.tokens.count c.ended.new.tokens.count (tree_of c.in_ok-first.first) (length_rows c.push.new.self) (list_of c.args.tokens.now.rest.now) (list_of c.ended.new.tokens.rest.now) (omega arith) c.begin_whole.ensures.count (ap (λ xs. map expression_of (map (λ b. b.value) xs)) (c.in_ok-push.ensures.items ∙ ap (λ xs. xs ++ c.in_ok-first.first ∷ []) c.new-given.ensures.items)) (counted c.args.is_alone c.args.tokens.now.count c.begin_whole.new.tokens.count (operators (tree_of c.in_ok-first.first)) c.ended.new.tokens.count c.begin_whole.ensures.count c.in_ok-first.ensures.counted.0) (subst (λ ref. read_ended (inside c.args.names.now c.args.turns) (c.args.depth + 1) c.begin_whole.new.tokens.count punctuator.RightBracket (list_of ref.now) ≡ Ok (tree_of c.in_ok-first.first, list_of c.ended.new.tokens.rest.now)) c.begin_whole.ensures.rest c.in_ok-first.ensures.gives) in
+    let begun = given-begun (inside c.args.scope.names.now c.args.scope.turns) c.args.scope.depth (c.args.scope.depth + 1) c.args.is_alone c.args.tokens.now.count c.begin_whole.new.tokens.count c.ended.new.tokens.count (tree_of c.in_ok-first.first) (length_rows c.push.new.self) (list_of c.args.tokens.now.rest.now) (list_of c.ended.new.tokens.rest.now) (omega arith) c.begin_whole.ensures.count (ap (λ xs. map expression_of (map (λ b. b.value) xs)) (c.in_ok-push.ensures.items ∙ ap (λ xs. xs ++ c.in_ok-first.first ∷ []) c.new-given.ensures.items)) (counted c.args.is_alone c.args.tokens.now.count c.begin_whole.new.tokens.count (operators (tree_of c.in_ok-first.first)) c.ended.new.tokens.count c.begin_whole.ensures.count c.in_ok-first.ensures.counted.0) (subst (λ ref. read_ended (inside c.args.scope.names.now c.args.scope.turns) (c.args.scope.depth + 1) c.begin_whole.new.tokens.count punctuator.RightBracket (list_of ref.now) ≡ Ok (tree_of c.in_ok-first.first, list_of c.ended.new.tokens.rest.now)) c.begin_whole.ensures.rest c.in_ok-first.ensures.gives) in
     begun ∙ ap (λ o. bind o (λ lengths last. Ok ((false, lengths), last))) c.in_ok-all.ensures.gives ∙ ap (λ array. Ok (array, list_of c.lengths.new.tokens.rest.now)) (sym c.in_ok-new.ensures)
 
 pub member_list-returns-clause-gives : goal.member_list-returns-clause-gives
 member_list-returns-clause-gives t c =
     let x = declarator_row c.in_ok-first.first in
-    let same = declarators-first (inside c.args.names.now c.args.turns) c.args.depth (counting_of c.args.is_alone c.args.tokens.now.count) x (list_of c.args.tokens.now.rest.now) (list_of c.declarator.new.tokens.rest.now) c.in_ok-first.ensures.gives ∙ ap (λ counting. read_more_declarators (inside c.args.names.now c.args.turns) c.args.depth counting x (list_of c.declarator.new.tokens.rest.now)) c.in_ok-first.ensures.counted.0 in
+    let same = declarators-first (inside c.args.scope.names.now c.args.scope.turns) c.args.scope.depth (counting_of c.args.is_alone c.args.tokens.now.count) x (list_of c.args.tokens.now.rest.now) (list_of c.declarator.new.tokens.rest.now) c.in_ok-first.ensures.gives ∙ ap (λ counting. read_more_declarators (inside c.args.scope.names.now c.args.scope.turns) c.args.scope.depth counting x (list_of c.declarator.new.tokens.rest.now)) c.in_ok-first.ensures.counted.0 in
     subst (λ o. Gives o declarators_in c.more_declarators.new.tokens.rest.now c.more_declarators.result) (sym same) c.more_declarators.ensures.gives
 
 pub constants-returns-in_err-end-clause-gives : goal.constants-returns-in_err-end-clause-gives
 constants-returns-in_err-end-clause-gives t c =
-    let whole = types.read_constants (names_of c.args.names.now) (inside c.args.names.now c.args.turns) c.args.depth (counting_of c.args.is_alone c.args.tokens.now.count) (list_of c.args.tokens.now.rest.now) in
-    let begun = constants-begun (names_of c.args.names.now) (inside c.args.names.now c.args.turns) c.args.depth (c.args.depth + 1) c.args.is_alone c.args.tokens.now.count c.opening.new.self.count c.constant.new.tokens.count c.in_ok-opening.field-0 (constant_row c.in_ok-first.first) (constant_rows c.push.new.self) c.constant_end-end.result (list_of c.args.tokens.now.rest.now) (list_of c.opening.new.self.rest.now) (list_of c.constant.new.tokens.rest.now) (omega arith) c.in_ok-opening.ensures.counted.1 (ap (λ xs. map constant_of (map (λ b. b.value) xs)) (c.in_ok-push.ensures.items ∙ ap (λ xs. xs ++ c.in_ok-first.first ∷ []) c.new-rows.ensures.items)) (c.constant_end-end.ensures ∙ ap (λ d. types.constant_end (constant_of d)) c.deref.ensures) c.in_ok-first.ensures.counted.0 c.in_ok-opening.ensures.gives c.in_ok-first.ensures.gives in
-    passed whole constants_in _ _ c.in_err-end.field-0.0 c.from_residual-in_err-end.ensures.1 (gives-from (read_constants_from (names_of c.args.names.now) (inside c.args.names.now c.args.turns) (c.args.depth + 1) (constant_rows c.push.new.self) (types.AfterConstant c.constant_end-end.result (counting_of c.args.is_alone c.constant.new.tokens.count)) (list_of c.constant.new.tokens.rest.now)) whole (λ end. (constant_rows c.more_constants.new.rows, end)) constants_in c.more_constants.new.tokens.rest.now c.in_err-end.field-0.0 (λ fault e. begun ∙ ap (λ o. bind o close_constants) e) c.in_err-end.ensures.gives)
+    let whole = types.read_constants (names_of c.args.scope.names.now) (inside c.args.scope.names.now c.args.scope.turns) c.args.scope.depth (counting_of c.args.is_alone c.args.tokens.now.count) (list_of c.args.tokens.now.rest.now) in
+    let begun = constants-begun (names_of c.args.scope.names.now) (inside c.args.scope.names.now c.args.scope.turns) c.args.scope.depth (c.args.scope.depth + 1) c.args.is_alone c.args.tokens.now.count c.opening.new.self.count c.constant.new.tokens.count c.in_ok-opening.field-0 (constant_row c.in_ok-first.first) (constant_rows c.push.new.self) c.constant_end-end.result (list_of c.args.tokens.now.rest.now) (list_of c.opening.new.self.rest.now) (list_of c.constant.new.tokens.rest.now) (omega arith) c.in_ok-opening.ensures.counted.1 (ap (λ xs. map constant_of (map (λ b. b.value) xs)) (c.in_ok-push.ensures.items ∙ ap (λ xs. xs ++ c.in_ok-first.first ∷ []) c.new-rows.ensures.items)) (c.constant_end-end.ensures ∙ ap (λ d. types.constant_end (constant_of d)) c.deref.ensures) c.in_ok-first.ensures.counted.0 c.in_ok-opening.ensures.gives c.in_ok-first.ensures.gives in
+    passed whole constants_in _ _ c.in_err-end.field-0.0 c.from_residual-in_err-end.ensures.1 (gives-from (read_constants_from (names_of c.args.scope.names.now) (inside c.args.scope.names.now c.args.scope.turns) (c.args.scope.depth + 1) (constant_rows c.push.new.self) (types.AfterConstant c.constant_end-end.result (counting_of c.args.is_alone c.constant.new.tokens.count)) (list_of c.constant.new.tokens.rest.now)) whole (λ end. (constant_rows c.more_constants.new.rows, end)) constants_in c.more_constants.new.tokens.rest.now c.in_err-end.field-0.0 (λ fault e. begun ∙ ap (λ o. bind o close_constants) e) c.in_err-end.ensures.gives)
 
 pub constants-returns-in_err-mark-clause-gives : goal.constants-returns-in_err-mark-clause-gives
 constants-returns-in_err-mark-clause-gives t c =
-    let whole = types.read_constants (names_of c.args.names.now) (inside c.args.names.now c.args.turns) c.args.depth (counting_of c.args.is_alone c.args.tokens.now.count) (list_of c.args.tokens.now.rest.now) in
-    let begun = constants-begun (names_of c.args.names.now) (inside c.args.names.now c.args.turns) c.args.depth (c.args.depth + 1) c.args.is_alone c.args.tokens.now.count c.opening.new.self.count c.constant.new.tokens.count c.in_ok-opening.field-0 (constant_row c.in_ok-first.first) (constant_rows c.push.new.self) c.constant_end-end.result (list_of c.args.tokens.now.rest.now) (list_of c.opening.new.self.rest.now) (list_of c.constant.new.tokens.rest.now) (omega arith) c.in_ok-opening.ensures.counted.1 (ap (λ xs. map constant_of (map (λ b. b.value) xs)) (c.in_ok-push.ensures.items ∙ ap (λ xs. xs ++ c.in_ok-first.first ∷ []) c.new-rows.ensures.items)) (c.constant_end-end.ensures ∙ ap (λ d. types.constant_end (constant_of d)) c.deref.ensures) c.in_ok-first.ensures.counted.0 c.in_ok-opening.ensures.gives c.in_ok-first.ensures.gives in
+    let whole = types.read_constants (names_of c.args.scope.names.now) (inside c.args.scope.names.now c.args.scope.turns) c.args.scope.depth (counting_of c.args.is_alone c.args.tokens.now.count) (list_of c.args.tokens.now.rest.now) in
+    let begun = constants-begun (names_of c.args.scope.names.now) (inside c.args.scope.names.now c.args.scope.turns) c.args.scope.depth (c.args.scope.depth + 1) c.args.is_alone c.args.tokens.now.count c.opening.new.self.count c.constant.new.tokens.count c.in_ok-opening.field-0 (constant_row c.in_ok-first.first) (constant_rows c.push.new.self) c.constant_end-end.result (list_of c.args.tokens.now.rest.now) (list_of c.opening.new.self.rest.now) (list_of c.constant.new.tokens.rest.now) (omega arith) c.in_ok-opening.ensures.counted.1 (ap (λ xs. map constant_of (map (λ b. b.value) xs)) (c.in_ok-push.ensures.items ∙ ap (λ xs. xs ++ c.in_ok-first.first ∷ []) c.new-rows.ensures.items)) (c.constant_end-end.ensures ∙ ap (λ d. types.constant_end (constant_of d)) c.deref.ensures) c.in_ok-first.ensures.counted.0 c.in_ok-opening.ensures.gives c.in_ok-first.ensures.gives in
     passed whole constants_in _ _ c.in_err-mark.field-0.0 c.from_residual-in_err-mark.ensures.1 (gives-from (token c.in_ok-end.end (awaited c.in_ok-end.end) (mark_place punctuator.RightBrace) (list_of c.more_constants.new.tokens.rest.now)) whole (λ x. x) constants_in c.mark.new.self.rest.now c.in_err-mark.field-0.0 (λ fault e. begun ∙ ap (λ o. bind o close_constants) c.in_ok-end.ensures.gives ∙ ap (λ o. bind o (λ _ last. Ok (constants_in c.more_constants.new.rows, last))) e) c.in_err-mark.ensures.gives)
 
 pub constants-returns-clause-gives : goal.constants-returns-clause-gives
 constants-returns-clause-gives t c =
-    let begun = constants-begun (names_of c.args.names.now) (inside c.args.names.now c.args.turns) c.args.depth (c.args.depth + 1) c.args.is_alone c.args.tokens.now.count c.opening.new.self.count c.constant.new.tokens.count c.in_ok-opening.field-0 (constant_row c.in_ok-first.first) (constant_rows c.push.new.self) c.constant_end-end.result (list_of c.args.tokens.now.rest.now) (list_of c.opening.new.self.rest.now) (list_of c.constant.new.tokens.rest.now) (omega arith) c.in_ok-opening.ensures.counted.1 (ap (λ xs. map constant_of (map (λ b. b.value) xs)) (c.in_ok-push.ensures.items ∙ ap (λ xs. xs ++ c.in_ok-first.first ∷ []) c.new-rows.ensures.items)) (c.constant_end-end.ensures ∙ ap (λ d. types.constant_end (constant_of d)) c.deref.ensures) c.in_ok-first.ensures.counted.0 c.in_ok-opening.ensures.gives c.in_ok-first.ensures.gives in
+    let begun = constants-begun (names_of c.args.scope.names.now) (inside c.args.scope.names.now c.args.scope.turns) c.args.scope.depth (c.args.scope.depth + 1) c.args.is_alone c.args.tokens.now.count c.opening.new.self.count c.constant.new.tokens.count c.in_ok-opening.field-0 (constant_row c.in_ok-first.first) (constant_rows c.push.new.self) c.constant_end-end.result (list_of c.args.tokens.now.rest.now) (list_of c.opening.new.self.rest.now) (list_of c.constant.new.tokens.rest.now) (omega arith) c.in_ok-opening.ensures.counted.1 (ap (λ xs. map constant_of (map (λ b. b.value) xs)) (c.in_ok-push.ensures.items ∙ ap (λ xs. xs ++ c.in_ok-first.first ∷ []) c.new-rows.ensures.items)) (c.constant_end-end.ensures ∙ ap (λ d. types.constant_end (constant_of d)) c.deref.ensures) c.in_ok-first.ensures.counted.0 c.in_ok-opening.ensures.gives c.in_ok-first.ensures.gives in
     begun ∙ ap (λ o. bind o close_constants) c.in_ok-end.ensures.gives ∙ ap (λ o. bind o (λ _ last. Ok (constants_in c.more_constants.new.rows, last))) c.in_ok-mark.ensures.gives
