@@ -10,7 +10,7 @@ use Rattle.c_token.specs.declared.Token.{Token as TokenRow}
 use Rattle.c_tree_spec.specs.Unit as unit
 use Rattle.c_grammar_spec.specs.declared.Role.{Role}
 use Rattle.exact_read.specs.Reading.{Fault, Outcome, Reader}
-use Rattle.exact_read.specs.Grammar.{bind, read_map}
+use Rattle.exact_read.specs.Grammar.{read_map}
 use Rattle.read_loop.specs.Going.{begins, Going}
 use Rattle.read_loop.proofs.Loops.{bind-ok, bind-err, going-start, going-step, going-fault, going-end}
 use Rattle.c_expression_reader.specs.Classes.{is_mark}

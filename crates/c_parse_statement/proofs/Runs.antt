@@ -1,5 +1,5 @@
 -- The steps of a run of items.
-use Rattle.std.proofs.Common.{◌≡◌, ℕ, suc, ◌<◌, Bool, true, false, List, [], ◌∷◌, ◌++◌, length, Result, Ok, Err, IsErrAnd, sym, subst, arith}
+use Rattle.std.proofs.Common.{◌≡◌, suc, ◌<◌, Bool, true, false, List, [], ◌∷◌, ◌++◌, length, Result, Ok, Err, IsErrAnd, sym, subst, arith}
 use Rattle.std.proofs.lemmas.List.{length-map}
 use Rattle.c_spec.specs.Lexical.{Placed, Token}
 use Rattle.c_token.specs.declared.Token.{Token as TokenRow}

@@ -7,7 +7,7 @@ use Rattle.c_parse_token.proofs.Steps.{fewer}
 use Rattle.c_parse_expression.specs.Whole.{expressions}
 use Rattle.c_parse_statement.specs.Pieces.{taken_labels}
 use Rattle.c_parse_statement.specs.Runs.{Run, none}
-use Rattle.c_parse_statement.proofs.Runs.{run-last, run-failed, run-no_memory}
+use Rattle.c_parse_statement.proofs.Runs.{run-last, run-failed}
 use Rattle.c_parse_statement.proofs.pieces.labels.Goals as goal
 
 pub items-init : goal.items-init

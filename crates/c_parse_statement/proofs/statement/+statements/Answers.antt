@@ -13,8 +13,8 @@ use Rattle.c_statement_reader.specs.Statements as statements
 use Rattle.c_statement_reader.specs.Statements.{begins_label, read_label, read_groups}
 use Rattle.c_syntax.specs.Expressions.{expression_of, unboxed}
 use Rattle.c_syntax.specs.Simples.{simple_of}
-use Rattle.c_syntax.specs.Locals.{locals_of, start_of, label_of}
-use Rattle.c_syntax.specs.Statements.{part_of, parts_of, parts_in, statement_of, group_of, groups_of, groups_in}
+use Rattle.c_syntax.specs.Locals.{locals_of, start_of}
+use Rattle.c_syntax.specs.Statements.{part_of, parts_in, statement_of, group_of, groups_in}
 use Rattle.c_parse_token.specs.Lists.{list_of, names_of, Gives}
 use Rattle.c_parse_token.proofs.Steps.{fewer}
 use Rattle.c_parse_expression.specs.Whole.{expressions}
