@@ -1,4 +1,4 @@
-//! What a token is where a global begins, and the names of types that an item puts in force.
+//! Classes of tokens in an initial value, and the typedef names that an external declaration brings into scope.
 
 ghost use Rattle.std.specs.Prelude.{◌≡◌, IfOk, false};
 ghost use Rattle.c_grammar_spec.specs.Expressions.{is_type_name};
@@ -57,7 +57,7 @@ pub fn starts_designator(tokens: &Tokens<'_>) -> bool
     }
 }
 
-/// The next token begins an initial value, or what it is for.
+/// The next token begins an initial value, or the designators before one.
 pub fn starts_initial<'a>(tokens: &Tokens<'a>, names: &TypeNames<'a>) -> bool
     ensures { result ≡ next_is (initializers.begins_initial (names_of names.now)) (list_of tokens.now.rest.now) }
 {
@@ -71,7 +71,7 @@ pub fn starts_initial<'a>(tokens: &Tokens<'a>, names: &TypeNames<'a>) -> bool
     }
 }
 
-/// The specifiers are of a `typedef`.
+/// The specifiers have `typedef`.
 pub fn is_typedef(specifiers: &Specifiers<'_>) -> bool
     ensures { result ≡ is_typedef (specifiers_of specifiers.now) }
 {
@@ -88,7 +88,7 @@ fn declared_name<'a>(global: &Global<'a>) -> &'a [u8]
     }
 }
 
-/// Puts the name of a global, none of a type yet, in force as one of a type, where it has `typedef`.
+/// Brings the name of a global, no typedef name yet, into scope as one, where it is declared with `typedef`.
 pub fn declare<'a>(
     names: &mut TypeNames<'a>,
     is_typedef: bool,

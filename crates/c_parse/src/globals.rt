@@ -24,7 +24,7 @@ use std::alloc::Global;
 // How many constructs may be open at once, and one more.
 const ROOM: usize = 129;
 
-// What a global begins with, if anything: what is expected after it.
+// `=` and the initial value of a global, or nothing: what is expected after it.
 fn value<'t>(
     alloc: Global,
     tokens: &mut Tokens<'t>,

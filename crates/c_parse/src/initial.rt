@@ -1,4 +1,4 @@
-//! What a global begins with, of which no tree is kept (6.7.9).
+//! The initial value of a global, of which no tree is kept (6.7.9).
 
 ghost use Rattle.std.specs.Prelude.{◌≡◌, ◌≤◌, ◌<◌, IfOk, length};
 ghost use Rattle.exact_read.specs.Grammar.{read_map};
@@ -55,7 +55,7 @@ fn designators<'t>(
     Ok(())
 }
 
-// Which member or element a value is for, and `=`.
+// The designators of a value, and `=`.
 fn designation<'t>(
     alloc: Global,
     tokens: &mut Tokens<'t>,
@@ -91,7 +91,7 @@ fn designated<'t>(
     Ok(end)
 }
 
-// Initial values behind a `{`, with its `}`.
+// The initial values after a `{`, with its `}`.
 #[cycle(initials)]
 fn initials<'t>(
     alloc: Global,
