@@ -2,15 +2,18 @@
 """Says which edits in crates/*/must-fail/ and attacks/*/ can't be applied; it proves nothing.
 
     scripts/check_edits.py [CRATE..]
+    scripts/check_edits.py --into docs/ATTACKS.md
 
-Each text behind 'old: ' must occur exactly once in its file, with the pairs before it applied. The last line counts
-the edits; status 1 where one can't be applied. `scripts/attack.sh` tries whether the prover refuses them.
+Each text after 'old: ' must occur exactly once in its file, with the pairs before it applied. The last line counts
+the edits; status 1 where one can't be applied. `scripts/attack.sh` tries whether the prover refuses them. With --into
+the table of the edits, by their names, replaces the one in that page.
 """
 
 import sys
 from pathlib import Path
 
 ROOT = Path(__file__).resolve().parent.parent
+BEGIN, END = "<!-- made by scripts/check_edits.py -->", "<!-- end of the edits -->"
 
 
 def fault(edit, crate):
@@ -35,7 +38,34 @@ def fault(edit, crate):
     return None if pairs else "it has no pair 'old:' and 'new:'"
 
 
+def table():
+    """The edits of each crate, in the order of crates.txt."""
+
+    def named(folder):
+        return "; ".join(sorted(it.stem.replace("_", " ") for it in folder.glob("*.edit")))
+
+    rows = ["| Crate | Tried by the gate | In `attacks/` |", "|---|---|---|"]
+    for line in (ROOT / "crates.txt").read_text().splitlines():
+        if ":" in line and not line.startswith("#"):
+            crate = line.split(":")[0].split()[0]
+            cells = [named(ROOT / "crates" / crate / "must-fail"), named(ROOT / "attacks" / crate)]
+            if any(cells):
+                rows.append(f"| `{crate}` | {cells[0]} | {cells[1]} |")
+    return "\n".join(rows)
+
+
+def put_table(page):
+    """Replaces the table in a page."""
+    before, _, rest = page.read_text().partition(BEGIN)
+    _, found, after = rest.partition(END)
+    if not found:
+        sys.exit(f"check_edits: {page} has no lines '{BEGIN}' and '{END}'")
+    page.write_text(f"{before}{BEGIN}\n\n{table()}\n\n{END}{after}")
+
+
 def main():
+    if sys.argv[1:2] == ["--into"] and len(sys.argv) == 3:
+        return put_table(Path(sys.argv[2]))
     gate, attacks = sorted(ROOT.glob("crates/*/must-fail/*.edit")), sorted(ROOT.glob("attacks/*/*.edit"))
     named, bad = set(sys.argv[1:]), 0
     tried = [(it, it.parent.parent.name) for it in gate] + [(it, it.parent.name) for it in attacks]

@@ -4,7 +4,7 @@
     scripts/check_rows.py           each row of the file
     scripts/check_rows.py FILE      each row of this file; one whose answer is `?` is printed with its answer
 
-It stands outside the gate and needs nothing else. Values, normal forms, and clauses are those of `terms.py`; sorts,
+It is run outside the gate and needs nothing else. Values, normal forms, and clauses are those of `terms.py`; sorts,
 flat terms, assignments read back, and steps of logs are written here.
 """
 
@@ -258,6 +258,8 @@ def answer(name, detail, text, form, values):
         return f"{count} {len(rows)}:" + "".join(f" {literal}" for row in rows[int(detail) :] for literal in row + [0]), values
     if name == "digest":
         return f"{count} {len(rows)} {digest(rows)}", values
+    if name == "within":
+        return f"{count} {len(rows)}" if count <= int(detail) else "large", values
     assert name == "model", name
     is_met = len(detail) == count and all(any(holds(literal, detail) for literal in row) for row in rows)
     values = values | read_back(t, detail)

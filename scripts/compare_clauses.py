@@ -4,7 +4,7 @@
     scripts/compare_clauses.py goals        random goals and laws of words, with what is read back of their models
     scripts/compare_clauses.py operators    each operator on 32 bits with operands put in
 
-It stands outside the gate and needs `rt`, minisat and cadical (Debian: minisat, cadical) on the path. The clauses must
+It is run outside the gate and needs `rt`, minisat and cadical (Debian: minisat, cadical) on the path. The clauses must
 be those of `terms.py`, in their order, and these are given to the solvers. Where no values meet them the goal must be
 true under each assignment of few bits, or under random ones of more; else it must be false under the assignment that
 `read_back` gives for a model.
@@ -26,7 +26,7 @@ from terms import Clauses, clauses, normal, sort, text, value
 CRATES = ["term_spec", "term_bank", "term_norm", "clause_spec", "cnf_core", "bit_blast"]
 
 HEAD = r"""//! Reads lines of a question and a goal: which of the goal's clauses are written, or what names are worth as values of
-//! the clauses' variables are read back. A goal behind a tilde is brought into normal form first.
+//! the clauses' variables are read back. A goal after a tilde is brought into normal form first.
 #![tactic(auto)]
 
 use bit_blast::{Blasted, blast, read_back};
@@ -85,7 +85,7 @@ fn blasted(alloc: Global, goal: &str) -> anyhow::Result<Blasted> {
     let mut read = Vec::new(alloc);
     let given = term(&mut bank, &mut read, words)?;
     let made = if is_formed { normal(alloc, &mut bank, given, &runs)? } else { given };
-    let blasted = blast(alloc, &bank, made)?;
+    let blasted = blast(alloc, &bank, made, usize::MAX)?;
     Ok(blasted)
 }
 

@@ -5,7 +5,7 @@
 
 It compiles one source with gcc and, where they are there, clang and lld, at four levels each. The segments and
 symbols are to be readelf's; the code lists, the reached functions, the stacks and the first faults are to be what
-follows from the flow of control in objdump's text. It prints for each executable how many answers agreed. It stands
+follows from the flow of control in objdump's text. It prints for each executable how many answers agreed. It is run
 outside the gate and needs `rt`, riscv64-unknown-elf-gcc and its binutils on the path.
 """
 
@@ -18,7 +18,7 @@ from pathlib import Path
 
 from probe import ask
 
-CRATES = ["elf_read", "decompile"]
+CRATES = ["elf_read", "code_reach"]
 
 SOURCE = """
 typedef unsigned u32; typedef unsigned char u8;
@@ -47,7 +47,7 @@ FLAGS = ["-march=rv32im", "-mabi=ilp32", "-ffreestanding", "-nostdlib", "-fno-bu
 PROBE = r"""//! Lists segments, symbols, and code, reached functions and stack of each function of executables.
 #![tactic(auto)]
 
-use decompile::{code, reach, stack};
+use code_reach::{code, reach, stack};
 use elf_read::read;
 use std::env;
 use std::fs;

@@ -3,7 +3,7 @@
 
     scripts/compare_graphs.py              (Debian: gcc-riscv64-unknown-elf, binutils-riscv64-unknown-elf)
 
-It stands outside the gate and needs `rt` on the path. It compiles some C, has the crates print the graph of each
+It is run outside the gate and needs `rt` on the path. It compiles some C, has the crates print the graph of each
 function that is reached and run the machine from random registers and memory to the return address, and runs the
 graphs here, by an evaluation of terms that is not the crates' own. Where a graph returns the machine has to have
 returned with the same registers and memory; where it fails nothing is compared but that this is so.
@@ -19,7 +19,7 @@ from pathlib import Path
 from probe import ask
 from terms import operate
 
-CRATES = ["rv_instr", "rv_machine", "elf_read", "decompile", "term_spec", "term_core", "graph_spec", "graph_core", "code_graph", "indexmap"]
+CRATES = ["rv_instr", "rv_machine", "elf_read", "code_reach", "term_spec", "term_core", "graph_spec", "graph_core", "decompile", "indexmap"]
 
 # Its arguments are executables. Reads lines of hexadecimal numbers: `graphs`, the place of a file and entries, ascending; or
 # `run`, the place of a file, an entry, a maximum of steps, x1 to x31, and words of memory from 00040000 on. Prints the
@@ -155,7 +155,7 @@ fn machine(alloc: Global, image: &Image<'_>, pc: u32, data: &[u32]) -> Result<Ma
 /// The graphs of the functions at some entries.
 fn show(rt: &HostRuntime, image: &Image<'_>, entries: &[u32]) -> anyhow::Result<()> {
     for entry in entries {
-        match code_graph::decompile(rt.alloc(), image, *entry, entries) {
+        match decompile::decompile(rt.alloc(), image, *entry, entries) {
             Ok(found) => {
                 let first = found.graph.entry;
                 println!(rt; "function {first}")?;

@@ -4,7 +4,7 @@
     scripts/compare_machine.py words       against GNU objdump (Debian: binutils-riscv64-unknown-elf)
     scripts/compare_machine.py programs    against the Unicorn emulator (Debian: python3-unicorn)
 
-It stands outside the gate and needs `rt` on the path. `words` goes over all words of each opcode,
+It is run outside the gate and needs `rt` on the path. `words` goes over all words of each opcode,
 funct3 and funct7, the environment's words and the edges of each immediate; `programs` runs random
 programs of 40 instructions on random registers and compares registers and memory at their end.
 """

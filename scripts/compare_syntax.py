@@ -2,13 +2,13 @@
 """Compares the syntax of C with a second reader of it, the grammar as data with a chart parser (syntax.py).
 
     scripts/compare_syntax.py rows         small texts of every production and of every kind of fault, by hand
-    scripts/compare_syntax.py cuts         programs cut behind each byte
+    scripts/compare_syntax.py cuts         programs cut after each byte
     scripts/compare_syntax.py changes      programs with tokens taken away, put in, put twice, exchanged and swapped
     scripts/compare_syntax.py random       random derivations of the grammar, and changes in them
     scripts/compare_syntax.py sources      programs as gcc's preprocessor gives them, and with each of their tokens changed
     scripts/compare_syntax.py depths       random nests, whose limits are counted as they are made
 
-It stands outside the gate and needs `rt` on the path, and for `sources` gcc.
+It is run outside the gate and needs `rt` on the path, and for `sources` gcc.
 """
 
 import random
@@ -89,7 +89,7 @@ def placed(text):
 
 
 class Whole:
-    """A chart of tokens that can be taken up again behind each of them."""
+    """A chart of tokens that can be continued after each of them."""
 
     def __init__(self, tokens):
         self.chart, self.types, self.end = syntax.Chart(), [set()], None
@@ -131,7 +131,7 @@ def compare(name, texts, answers):
     return bool(unlike)
 
 
-# ---- rows by hand: `@` stands before the token at fault, or at the end; a text without it is a unit
+# ---- rows by hand: `@` is before the token at fault, or at the end; a text without it is a unit
 
 ROWS = [
     # items
@@ -318,7 +318,7 @@ DEPTHS = shallowest()
 
 
 class Derivation:
-    """Random texts of the grammar where T is a name of a type; each further typedef has a name of its own."""
+    """Random texts of the grammar where T is a typedef name; each further typedef has a name of its own."""
 
     def __init__(self):
         self.fresh = 0
@@ -372,7 +372,7 @@ int ring_take(ring *r, uint8_t *byte);
 """
 SOURCES = [
     """#include "ring.h"
-/* puts a byte behind the last */
+/* puts a byte after the last */
 int ring_put(ring *r, uint8_t byte)
 {
     if (r->count == SIZE)
@@ -524,7 +524,7 @@ MOST = 128
 
 
 class Nest:
-    """A random text of the grammar, with the first token at which too much is open or too many operators stand."""
+    """A random text of the grammar, with the first token at which the nesting limit is exceeded or there are too many operators."""
 
     def __init__(self):
         self.tokens, self.open, self.operators, self.over = [], 0, 0, None
@@ -545,7 +545,7 @@ class Nest:
         self.open -= 1
 
     def whole(self, read, room):
-        """An expression that stands in no other one."""
+        """An expression that is in no other one."""
         kept, self.operators = self.operators, 0
         read(room)
         self.operators = kept

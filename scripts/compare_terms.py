@@ -5,7 +5,7 @@
     scripts/compare_terms.py normal     the normal forms that `term_norm` makes, with those worked by hand in
                                         `forms.txt` and with those of the second writing
 
-It stands outside the gate; `rules` needs minisat (Debian: minisat) on the path, and `normal` needs `rt`.
+It is run outside the gate; `rules` needs minisat (Debian: minisat) on the path, and `normal` needs `rt`.
 """
 
 import random
@@ -164,7 +164,7 @@ fn main(rt: HostRuntime) -> anyhow::Result<()> {
 }
 """
 
-# the fixed bytes; the last run is behind the first
+# the fixed bytes; the last run is after the first
 RUNS = [(16, [FIXED[address] for address in range(16, 24)]), (100, [7, 8]), (200, [9]), (101, [1, 2])]
 
 # what the names of `forms.txt` are in the program
@@ -215,7 +215,7 @@ def compare_normal(terms=20000, chains=2000):
         assignment = maker.assignment()
         if sort(term) != "memory" and value(term, assignment) != value(form, assignment):
             values += 1
-            print("WRONG", text(term), "is worth other than", text(form))
+            print("WRONG", text(term), "has another value than", text(form))
     kinds = sum(term == form for term, form in zip(made, forms))
     print(f"{len(worked)} terms worked by hand; {len(made)} terms, {kinds} in normal form; another normal form: {wrong}; another value: {values}")
     return wrong + values

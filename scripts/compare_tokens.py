@@ -5,7 +5,7 @@
     scripts/compare_tokens.py mutations    over pieces of these with random changes
     scripts/compare_tokens.py constants    values and types of random constants, and which are none, by gcc
 
-It stands outside the gate and needs `rt` and gcc (one that takes -m32) on the path.
+It is run outside the gate and needs `rt` and gcc (one that takes -m32) on the path.
 """
 
 import random
@@ -20,7 +20,7 @@ from probe import ask
 
 CRATES = ["c_token"]
 
-# Reads lines of hexadecimal bytes, each a text, and prints for each its fault, or its tokens: behind `!`
+# Reads lines of hexadecimal bytes, each a text, and prints for each its fault, or its tokens: after `!`
 # all of them, else their count and a sum over the bytes in which they would be printed.
 PROBE = r"""//! Prints the tokens of texts that are lines of hexadecimal bytes.
 #![tactic(auto)]
@@ -308,8 +308,8 @@ def compare_constants(count=4000, seed=9):
     with tempfile.TemporaryDirectory() as folder:
         (Path(folder) / "constants.c").write_text("\n".join(rows) + "\n")
         command = ["gcc", "-m32", "-std=c11", "-funsigned-char", "-fsyntax-only", "-pedantic-errors", "-Werror", "-fmax-errors=0", "constants.c"]
-        told = subprocess.run(command, cwd=folder, capture_output=True, text=True).stderr
-    refused = {int(line) - 1 for line in re.findall(r"constants\.c:(\d+):\d+: error", told)}
+        printed = subprocess.run(command, cwd=folder, capture_output=True, text=True).stderr
+    refused = {int(line) - 1 for line in re.findall(r"constants\.c:(\d+):\d+: error", printed)}
     unlike = [i for i in range(len(texts)) if (i in refused) != rows[i].startswith("int")]
     print(f"constants: {len(texts)} texts, {sum(row[0] == '_' for row in rows)} with a value; differ from gcc: {len(unlike)}")
     for i in unlike[:20]:

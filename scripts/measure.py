@@ -1,5 +1,5 @@
 #!/usr/bin/env python3
-"""Measures seconds and peak memory of the program on large inputs. It stands outside the gate.
+"""Measures seconds and peak memory of the program on large inputs. It is run outside the gate.
 
     scripts/measure.py [PROGRAM]      the program, or what `./tv` has built
 

@@ -3,7 +3,7 @@
 
     scripts/measure_blast.py
 
-It stands outside the gate and needs `rt` and GNU `time` (Debian: time) on the path. It proves the clauses and a small
+It is run outside the gate and needs `rt` and GNU `time` (Debian: time) on the path. It proves the clauses and a small
 program in a scratch repository and runs it as it is compiled. The program makes the clauses of one goal on words of 32
 bits again and again: that a product, a quotient or a chain of sums is another word. Each row is a run: the goal, how
 often its clauses were made, their variables and their number, seconds for making them once, and the peak of memory.
@@ -62,8 +62,9 @@ fn goal(bank: &mut Bank, kind: usize, chain: usize) -> Result<TermId, AllocError
 
 fn clauses(alloc: Global, bank: &Bank, goal: TermId) -> Result<(usize, usize), AllocError> {
     if goal < bank.len() {
-        let blasted = blast(alloc, bank, goal)?;
-        return Ok((blasted.cnf.variables(), blasted.cnf.len()));
+        if let Ok(blasted) = blast(alloc, bank, goal, usize::MAX) {
+            return Ok((blasted.cnf.variables(), blasted.cnf.len()));
+        }
     }
     Err(AllocError)
 }

@@ -3,7 +3,7 @@
 
     scripts/measure_flat.py
 
-It stands outside the gate and needs `rt` and GNU `time` (Debian: time) on the path. It proves the crates and a small
+It is run outside the gate and needs `rt` and GNU `time` (Debian: time) on the path. It proves the crates and a small
 program in a scratch repository and runs it as it is compiled. The program makes a term with so many loads of one memory
 at addresses x + 1, x + 2 and so on, and so many times the sum of two equal sums; then it makes the flat term. Each row is
 a run: loads, doublings, terms before and after, seconds, and the peak of memory.

@@ -3,7 +3,7 @@
 
     scripts/measure_graphs.py
 
-It stands outside the gate and needs `rt` and GNU `time` (Debian: time) on the path. It proves the crates and a small
+It is run outside the gate and needs `rt` and GNU `time` (Debian: time) on the path. It proves the crates and a small
 program in a scratch repository, takes over what `rt` has kept in out/, and runs the program as it is compiled. A row is
 a function of straight code, one in four of whose instructions is a store and one a load, in a file with so many runs of
 fixed bytes: its instructions, the nodes of its graph, seconds and the peak of memory, all beside those of the same file
@@ -14,12 +14,12 @@ import struct
 
 from probe import measure, timed
 
-CRATES = ["elf_read", "graph_core", "code_graph"]
+CRATES = ["elf_read", "graph_core", "decompile"]
 
 PROBE = r"""//! Prints how many nodes the graph of the function at 00010000 has.
 #![tactic(auto)]
 
-use code_graph::decompile;
+use decompile::decompile;
 use elf_read::read;
 use std::env;
 use std::fs;

@@ -3,7 +3,7 @@
 
     scripts/measure_log.py
 
-It stands outside the gate and needs `rt` and GNU `time` (Debian: time) on the path. It proves the checker and a small
+It is run outside the gate and needs `rt` and GNU `time` (Debian: time) on the path. It proves the checker and a small
 program in a scratch repository and runs it as it is compiled. The program adds one step again and again over a chain of
 clauses, each of which is a hint. Each row is a run: steps, hints a step, literals a hint's clause, seconds, hints and
 literals a second, and the peak of memory.
@@ -35,7 +35,7 @@ fn literal(variable: usize, is_negated: bool) -> Literal {
     }
 }
 
-/// Not `from`, or `to`, or one of so many variables behind `chain`.
+/// Not `from`, or `to`, or one of so many variables after `chain`.
 fn clause(alloc: Global, from: usize, to: usize, chain: usize, wide: usize) -> Result<Vec<Literal>, AllocError> {
     let mut literals = Vec::new(alloc);
     literals.push(literal(from, true))?;
@@ -95,7 +95,7 @@ fn checked(alloc: Global, steps: usize, hints: usize, wide: usize) -> Result<(),
     let names = names_of(alloc, hints)?;
     let chain = hints.wrapping_add(1);
     let literals = clause(alloc, 1, chain, chain, wide)?;
-    let mut log = Log::new(alloc, &cnf)?;
+    let mut log = Log::new(alloc, cnf)?;
     repeat(&mut log, literals.as_slice(), names.as_slice(), steps)
 }
 

@@ -3,7 +3,7 @@
 
     scripts/measure_machine.py
 
-It stands outside the gate and needs `rt` and GNU `time` (Debian: time) on the path. It proves the machine and a small program in a
+It is run outside the gate and needs `rt` and GNU `time` (Debian: time) on the path. It proves the machine and a small program in a
 scratch repository, takes over what `rt` has kept in out/, and runs the program as it is compiled. Each
 row is a run: instructions, bytes stored at distinct addresses, seconds, instructions a second and the
 peak of memory.

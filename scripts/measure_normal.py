@@ -3,7 +3,7 @@
 
     scripts/measure_normal.py
 
-It stands outside the gate and needs `rt` and GNU `time` (Debian: time) on the path. It proves the normal form and a
+It is run outside the gate and needs `rt` and GNU `time` (Debian: time) on the path. It proves the normal form and a
 small program in a scratch repository and runs it as it is compiled. The program makes a chain of sums of a term with
 itself, or a chain of stores and the sum of loads from it, at addresses that are constants, a base with constants, or
 variables, and brings it into normal form. Each row is a run: the terms of the chain, the loads, the terms in the bank

@@ -3,7 +3,7 @@
 
     scripts/measure_syntax.py
 
-It stands outside the gate and needs `rt` and GNU `time` (Debian: time) on the path. It proves the crates and a small
+It is run outside the gate and needs `rt` and GNU `time` (Debian: time) on the path. It proves the crates and a small
 program in a scratch repository, takes over what `rt` has kept in out/, and runs the program as it is compiled. Each row
 is a text: its bytes, its tokens and its items, the seconds for its tokens and for its tree, the peak of memory, and how
 many bytes of memory more than for the least text each byte of it takes, the text, its tokens and its tree included.
@@ -102,7 +102,7 @@ BASES = ["unsigned int", "int", "unsigned char", "short", "unsigned long long", 
 
 
 def usual(size, count):
-    """So many bytes of usual C at most, whose declarations use so many names of types in turn."""
+    """So many bytes of usual C at most, whose declarations use so many typedef names in turn."""
     names = [f"type{i}_t" for i in range(count)]
     parts = [NAMES.format(base=BASES[i % len(BASES)], name=name) for i, name in enumerate(names)]
     length = sum(len(part) for part in parts)
@@ -130,7 +130,7 @@ def statements(count):
 
 
 def typedefs(count):
-    """So many names of types, each of which is used once."""
+    """So many typedef names, each of which is used once."""
     names = [f"t{i:06}" for i in range(count)]
     return "".join(f"typedef int {name};\n" for name in names) + "".join(f"{name} *a{name};\n" for name in names)
 
@@ -142,15 +142,15 @@ def brackets(count):
 
 KIB, MIB = 1 << 10, 1 << 20
 TEXTS = [
-    ("usual C, 64 KiB, 10 names of types", usual(64 * KIB, 10)),
-    ("usual C, 512 KiB, 10 names of types", usual(512 * KIB, 10)),
-    ("usual C, 4 MiB, 10 names of types", usual(4 * MIB, 10)),
-    ("usual C, 512 KiB, 10,000 names of types", usual(512 * KIB, 10000)),
-    ("usual C, 4 MiB, 10,000 names of types", usual(4 * MIB, 10000)),
+    ("usual C, 64 KiB, 10 typedef names", usual(64 * KIB, 10)),
+    ("usual C, 512 KiB, 10 typedef names", usual(512 * KIB, 10)),
+    ("usual C, 4 MiB, 10 typedef names", usual(4 * MIB, 10)),
+    ("usual C, 512 KiB, 10,000 typedef names", usual(512 * KIB, 10000)),
+    ("usual C, 4 MiB, 10,000 typedef names", usual(4 * MIB, 10000)),
     ("small functions without blanks, 512 KiB", dense(512 * KIB)),
     ("small functions without blanks, 4 MiB", dense(4 * MIB)),
     ("one function of 65,000 statements", statements(65000)),
-    ("40,000 names of types", typedefs(40000)),
+    ("40,000 typedef names", typedefs(40000)),
     ("1,000 expressions of 128 brackets", brackets(1000)),
 ]
 

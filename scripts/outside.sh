@@ -1,5 +1,5 @@
 #!/bin/sh
-# Runs the program against files and outputs that fail, and says what it answered. It stands outside the gate.
+# Runs the program against files and outputs that fail, and says what it answered. It is run outside the gate.
 #
 #     scripts/outside.sh [PROGRAM]      the program, or what `./tv` has built
 #

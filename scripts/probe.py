@@ -39,7 +39,7 @@ pub(crate) fn hexadecimal(text: &str) -> u32 {
     n
 }
 
-/// The number at a place, in decimal digits; 0 where no word stands.
+/// The number at a place, in decimal digits; 0 where there is no word.
 pub(crate) fn argument(words: &[String], place: usize) -> usize {
     match words.get(place) {
         Some(word) => decimal(word.as_str()),
@@ -50,7 +50,7 @@ pub(crate) fn argument(words: &[String], place: usize) -> usize {
 
 
 def with_lower(names):
-    """The lines of crates.txt of these crates and of those of this repository that they stand on, lowest first."""
+    """The lines of crates.txt of these crates and of those of this repository below them, lowest first."""
     lines = [line for line in (ROOT / "crates.txt").read_text().splitlines() if ":" in line and not line.startswith("#")]
     below = {line.split(":")[0]: line.split(":")[1].split() for line in lines}
     wanted, left = set(), list(names)

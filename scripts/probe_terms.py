@@ -2,7 +2,7 @@
 
 from terms import NUMBERED, arguments
 
-# the part of a program, behind its own uses, that reads a term; AllocError is among these
+# the part of a program, after its own uses, that reads a term; AllocError is among these
 READER = r"""use term_bank::{Bank, TermId, TermNode};
 use term_spec::{
     Atom, BinaryOperator, Family, QuaternaryOperator, Sort, TernaryOperator, UnaryOperator,

@@ -1,11 +1,11 @@
 #!/bin/sh
-# Refuses each allocation of a run of the program on the worked example. It stands outside the gate and needs cc.
+# Refuses each allocation of a run of the program on the worked example. It is run outside the gate and needs cc.
 #
 #     scripts/refuse_memory.sh [PROGRAM]      the program, or what `./tv` has built
 #
 # Of a run's allocations it refuses the first alone, the second alone and so on, and then all from the first on,
 # all from the second on and so on. Each run must end with status 5, or with status 0 and the example's own report
-# and certificate; what it reported must be a front of that report, with nothing among the errors. A line for each
+# and certificate; what it reported must be a prefix of that report, with nothing among the errors. A line for each
 # wrong run; the last lines count what the runs ended with and the wrong ones.
 set -u
 top=$(CDPATH= cd -- "$(dirname -- "$0")/.." && pwd)

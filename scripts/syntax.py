@@ -2,7 +2,7 @@
 
 `fault(tokens)` is None for a unit, and else the number of the first token with which those before begin no unit (the
 number of tokens at the end), and its kind. Limits of depth are not looked at. A token is its text; a name, a number and
-a character constant are told by their first character. Whether a name is one of a type hangs on the declarations
+a character constant are told apart by their first character. Whether a name is a typedef name depends on the declarations
 before it.
 """
 
@@ -17,7 +17,7 @@ INTEGERS = [
 ]
 WORDS = sorted({order for names in INTEGERS for order in itertools.permutations(names.split())})
 
-# NAME is no name of a type, TYPE is one, ANY is either. A name that ends in -T is of an item with `typedef`.
+# NAME is no typedef name, TYPE is one, ANY is either. A name that ends in -T is of an item with `typedef`.
 GRAMMAR = r"""
 unit    = { item }
 item    = ";" | specsT ";" | specsN ";" | specsN fdeclr block
@@ -128,7 +128,7 @@ def fits(terminal, token, types):
 
 
 class Chart:
-    """The sets of states behind each token: a nonterminal, its right side, a place in it, and where it began."""
+    """The sets of states after each token: a nonterminal, its right side, a place in it, and where it began."""
 
     def __init__(self, start="unit", types=()):
         self.start, self.types, self.tokens, self.sets = start, set(types), [], []
@@ -152,7 +152,7 @@ class Chart:
                     here.add(state)
                     waiting.append(state)
 
-    def awaited(self):
+    def expected(self):
         return {side[dot] for _, side, dot, _ in self.sets[-1] if dot < len(side) and side[dot] not in RULES}
 
     def push(self, token):
@@ -167,7 +167,7 @@ class Chart:
         return True
 
     def declare(self):
-        """A typedef's name is in force from the end of its declarator."""
+        """A typedef name is in scope from the end of its declarator."""
         for name, side, dot, origin in self.sets[-1]:
             if name == "newtype" and dot == len(side):
                 self.types.add(next(token for token in self.tokens[origin:] if token not in ("*", "const")))
@@ -180,15 +180,15 @@ class Chart:
         return 0 in self.ended(self.start)
 
     def kind(self, token):
-        """The kind of the fault at a token that can't stand here."""
+        """The kind of the fault at a token that can't come here."""
         if token is None:
             return "Unexpected"
         here = len(self.tokens)
         is_name = lambda at: fits("NAME", self.tokens[at], self.types)
         if token in LEFT_OUT:
             return "LeftOut." + LEFT_OUT[token]
-        awaits = lambda name: any(d < len(s) and s[d] == name for _, s, d, _ in self.sets[-1])
-        if token == "(" and (awaits("dname") or awaits("mname")):
+        expects = lambda name: any(d < len(s) and s[d] == name for _, s, d, _ in self.sets[-1])
+        if token == "(" and (expects("dname") or expects("mname")):
             return "LeftOut.FunctionPointer"
         if token == ":" and self.ended("mname"):
             return "LeftOut.BitField"

@@ -16,34 +16,34 @@ use Rattle.term_bank.proofs.Growth.{slice_get-seam, tree_at-front}
 use Rattle.blast_spec.specs.Gates.{give, ◌>>=◌}
 use Rattle.blast_spec.specs.Circuits.{Bits, new_bits, division}
 use Rattle.blast_spec.specs.Goal.{Table, is_there, bits_in, divided}
-use Rattle.word_circuits.specs.Gives.{Gives}
-use Rattle.word_circuits.proofs.Gives.{give_gives, then_gives}
-use Rattle.term_table.specs.Terms.{terms_in}
+use Rattle.word_circuits.specs.Built.{IsBuilt}
+use Rattle.word_circuits.proofs.Built.{give_gives, then_gives}
+use Rattle.bit_blast.specs.Terms.{terms_in}
 use Rattle.bit_blast.specs.declared.entry.Division.TheVariants.{Quotient, Remainder}
 use Rattle.bit_blast.specs.Entries.{division_of}
 
--- ---- places
+-- ---- indices
 
 terms_more : (t : Table) (term : Term) (found : Bits) (more : Table) → terms_in (t ++ (term, found) ∷ more) ≡ terms_in t ++ term ∷ terms_in more
 terms_more t term found more = map-append (λ (e : Term × Bits). e.0) t ((term, found) ∷ more)
 
--- the entry behind others
-pub entry_holds : (t : Table) (term : Term) (found : Bits) (more : Table) (place : ℕ) → place ≡ length t → Holds (terms_in (t ++ (term, found) ∷ more)) place term
-entry_holds t term found more place e =
-    let at : place ≡ length (terms_in t) = omega (arith, length-map t (λ (e : Term × Bits). e.0)) in
+-- the entry after others
+pub entry_holds : (t : Table) (term : Term) (found : Bits) (more : Table) (index : ℕ) → index ≡ length t → Holds (terms_in (t ++ (term, found) ∷ more)) index term
+entry_holds t term found more index e =
+    let at : index ≡ length (terms_in t) = omega (arith, length-map t (λ (e : Term × Bits). e.0)) in
     subst (λ n. slice_get (terms_in (t ++ (term, found) ∷ more)) n ≡ Some term) (sym at)
     (ap (λ list. slice_get list (length (terms_in t))) (terms_more t term found more) ∙ slice_get-seam (terms_in t) (terms_in more) term)
 
-second_holds : (t : Table) (first term : Term) (bits found : Bits) (place : ℕ) → place ≡ length t
-    → Holds (terms_in (t ++ (first, bits) ∷ (term, found) ∷ [])) (place + 1) term
-second_holds t first term bits found place e =
-    subst (λ (list : Table). Holds (terms_in list) (place + 1) term) (append_assoc t ((first, bits) ∷ []) ((term, found) ∷ []))
-    (entry_holds (t ++ (first, bits) ∷ []) term found [] (place + 1) (omega (arith, length-append t ((first, bits) ∷ []))))
+second_holds : (t : Table) (first term : Term) (bits found : Bits) (index : ℕ) → index ≡ length t
+    → Holds (terms_in (t ++ (first, bits) ∷ (term, found) ∷ [])) (index + 1) term
+second_holds t first term bits found index e =
+    subst (λ (list : Table). Holds (terms_in list) (index + 1) term) (append_assoc t ((first, bits) ∷ []) ((term, found) ∷ []))
+    (entry_holds (t ++ (first, bits) ∷ []) term found [] (index + 1) (omega (arith, length-append t ((first, bits) ∷ []))))
 
-pub same_terms : (t : Table) (more : Table) (place : ℕ) → place < length t → tree_at (terms_in (t ++ more)) place ≡ tree_at (terms_in t) place
-same_terms t more place below =
-    let within : place < length (terms_in t) = omega (arith, length-map t (λ (e : Term × Bits). e.0)) in
-    ap (λ list. tree_at list place) (map-append (λ (e : Term × Bits). e.0) t more) ∙ tree_at-front (terms_in t) (terms_in more) place within
+pub same_terms : (t : Table) (more : Table) (index : ℕ) → index < length t → tree_at (terms_in (t ++ more)) index ≡ tree_at (terms_in t) index
+same_terms t more index below =
+    let within : index < length (terms_in t) = omega (arith, length-map t (λ (e : Term × Bits). e.0)) in
+    ap (λ list. tree_at list index) (map-append (λ (e : Term × Bits). e.0) t more) ∙ tree_at-front (terms_in t) (terms_in more) index within
 
 -- ---- one term
 
@@ -73,15 +73,15 @@ remainder_absent (entry ∷ t) x y q absent = by (same_term (remainder x y) entr
     by false e later = later e
 
 pub division_gives : (x y : Term) (t u : Table) (g0 g1 g2 g3 : Cnf) (count : ℕ) (q r : Bits) → count ≡ length (bits_in t x)
-    → Gives (new_bits (divide x y) 0 count) g0 q g1 → Gives (new_bits (remainder x y) 0 count) g1 r g2
-    → Gives (division q r (bits_in t x) (bits_in t y)) g2 tt g3
+    → IsBuilt (new_bits (divide x y) 0 count) g0 q g1 → IsBuilt (new_bits (remainder x y) 0 count) g1 r g2
+    → IsBuilt (division q r (bits_in t x) (bits_in t y)) g2 tt g3
     → u ≡ t ++ (divide x y, q) ∷ (remainder x y, r) ∷ []
-    → Gives (divided x y t) g0 u g3
+    → IsBuilt (divided x y t) g0 u g3
 unfolding divided
 division_gives x y t u g0 g1 g2 g3 count q r long made_q made_r made grown =
-    let q_gives = subst (λ n. Gives (new_bits (divide x y) 0 n) g0 q g1) long made_q in
-    let r_gives = subst (λ n. Gives (new_bits (remainder x y) 0 n) g1 r g2) long made_r in
-    subst (λ (after : Table). Gives (divided x y t) g0 after g3) (sym grown)
+    let q_gives = subst (λ n. IsBuilt (new_bits (divide x y) 0 n) g0 q g1) long made_q in
+    let r_gives = subst (λ n. IsBuilt (new_bits (remainder x y) 0 n) g1 r g2) long made_r in
+    subst (λ (after : Table). IsBuilt (divided x y t) g0 after g3) (sym grown)
     (then_gives
     (λ (q' : Bits). new_bits (remainder x y) 0 (length (bits_in t x)) >>= λ r'. division q' r' (bits_in t x) (bits_in t y) >>= λ unit.
     give (t ++ (divide x y, q') ∷ (remainder x y, r') ∷ []))
@@ -90,15 +90,15 @@ division_gives x y t u g0 g1 g2 g3 count q r long made_q made_r made grown =
     r_gives
     (then_gives (λ unit. give (t ++ (divide x y, q) ∷ (remainder x y, r) ∷ [])) made (give_gives (t ++ (divide x y, q) ∷ (remainder x y, r) ∷ []) g3))))
 
-pub quotient_holds : (x y : Term) (t u : Table) (n place : ℕ) → u ≡ (divided x y t n).out → place ≡ length t → Holds (terms_in u) place (divide x y)
+pub quotient_holds : (x y : Term) (t u : Table) (n index : ℕ) → u ≡ (divided x y t n).out → index ≡ length t → Holds (terms_in u) index (divide x y)
 unfolding divided
-quotient_holds x y t u n place grown e = subst (λ (list : Table). Holds (terms_in list) place (divide x y)) (sym grown) (entry_holds t (divide x y) _ _ place e)
+quotient_holds x y t u n index grown e = subst (λ (list : Table). Holds (terms_in list) index (divide x y)) (sym grown) (entry_holds t (divide x y) _ _ index e)
 
-pub remainder_holds : (x y : Term) (t u : Table) (n place : ℕ) → u ≡ (divided x y t n).out → place ≡ length t → Holds (terms_in u) (place + 1) (remainder x y)
+pub remainder_holds : (x y : Term) (t u : Table) (n index : ℕ) → u ≡ (divided x y t n).out → index ≡ length t → Holds (terms_in u) (index + 1) (remainder x y)
 unfolding divided
-remainder_holds x y t u n place grown e = subst (λ (list : Table). Holds (terms_in list) (place + 1) (remainder x y)) (sym grown) (second_holds t (divide x y) (remainder x y) _ _ place e)
+remainder_holds x y t u n index grown e = subst (λ (list : Table). Holds (terms_in list) (index + 1) (remainder x y)) (sym grown) (second_holds t (divide x y) (remainder x y) _ _ index e)
 
--- ---- the remainder behind the quotient
+-- ---- the remainder after the quotient
 
 module _ (t u : Table) (x y : ℕ) (q : Bits) (below_x : x < length t) (below_y : y < length t)
     (grown : u ≡ t ++ (divide (tree_at (terms_in t) x) (tree_at (terms_in t) y), q) ∷ []) where

@@ -1,7 +1,7 @@
--- Values that meet the clauses read back as an assignment under which the goal is false.
+-- The goal is false under the assignment that is reconstructed from a model.
 use Rattle.std.proofs.Common.{◌≡◌, true, false, List, [], Some, None, refl, ap, sym, ◌∙◌, subst}
 use Rattle.std.proofs.Math.Path.{fun_ext}
-use Rattle.clause_spec.specs.Clause.{Valuation, are_met}
+use Rattle.clause_spec.specs.Clause.{Valuation, satisfies}
 use Rattle.term_spec.specs.declared.Sort.TheVariants as sort
 use Rattle.term_spec.specs.declared.Variable.{Variable}
 use Rattle.term_spec.specs.declared.Atom.TheVariants as atom
@@ -14,28 +14,28 @@ use Rattle.term_bank.specs.declared.node.TermNode.{TermNode}
 use Rattle.term_bank.specs.declared.node.TermNode.TheVariants.{Leaf, Unary, Binary, Ternary, Quaternary, Octonary}
 use Rattle.term_bank.specs.Nodes.{build}
 use Rattle.blast_spec.specs.Goal.{Table, visit, loads_of, goal_gates, cnf_of}
-use Rattle.blast_laws.proofs.Gates.{all_stand}
-use Rattle.goal_laws.proofs.Whole.{goal_is_false}
-use Rattle.goal_read.specs.Back.{read_back, TableLoadsFromVariables}
-use Rattle.goal_read.proofs.Reading.{is_assignment}
-use Rattle.goal_read.proofs.Whole.{goal_reads}
+use Rattle.bit_blast_laws.proofs.Gates.{all_hold}
+use Rattle.bit_blast_laws.proofs.TermsWhole.{goal_is_false}
+use Rattle.bit_blast_laws.specs.Back.{read_back, TableLoadsFromVariables}
+use Rattle.bit_blast_laws.proofs.Reading.{is_assignment}
+use Rattle.bit_blast_laws.proofs.AssignmentsWhole.{goal_reads}
 use Rattle.bit_blast.specs.Loads.{variable_of}
 use Rattle.bit_blast.specs.Backs.{AreShort}
 use Rattle.bit_blast.proofs.Lengths.{goal_short}
 
-one_holds : (values : Valuation) (goal : Term) → are_met values (cnf_of goal).clauses ≡ true → values 1 ≡ true
+one_holds : (values : Valuation) (goal : Term) → satisfies values (cnf_of goal).clauses ≡ true → values 1 ≡ true
 unfolding cnf_of goal_gates
-one_holds values goal met = (all_stand values 0 (goal_gates goal 0).gates met).0
+one_holds values goal satisfied = (all_hold values 0 (goal_gates goal 0).gates satisfied).0
 
 pub falsified : (values : Valuation) (t : Table) (assignment : Assignment) → (values 1 ≡ true → AreShort (loads_of t t) → (v : Variable) → assignment v ≡ read_back values t v)
-    → (goal : Term) → sort_of goal ≡ Some sort.Truth → TableLoadsFromVariables (visit goal [] 1).out → t ≡ (visit goal [] 1).out → are_met values (cnf_of goal).clauses ≡ true
+    → (goal : Term) → sort_of goal ≡ Some sort.Truth → TableLoadsFromVariables (visit goal [] 1).out → t ≡ (visit goal [] 1).out → satisfies values (cnf_of goal).clauses ≡ true
     → value assignment goal ≡ Truth false
-falsified values t assignment reads goal e from same met =
+falsified values t assignment reads goal e from same satisfied =
     let table : Table = (visit goal [] 1).out in
     let short : AreShort (loads_of t t) = subst (λ (u : Table). AreShort (loads_of u u)) (sym same) (goal_short goal e) in
-    let is : assignment ≡ read_back values table = fun_ext (λ v. reads (one_holds values goal met) short v ∙ ap (λ (u : Table). read_back values u v) same) in
+    let is : assignment ≡ read_back values table = fun_ext (λ v. reads (one_holds values goal satisfied) short v ∙ ap (λ (u : Table). read_back values u v) same) in
     subst (λ (a : Assignment). value a goal ≡ Truth false) (sym is)
-    (goal_is_false values (read_back values table) goal (is_assignment values table) e met (goal_reads values goal e from met))
+    (goal_is_false values (read_back values table) goal (is_assignment values table) e satisfied (goal_reads values goal e from satisfied))
 
 -- ---- nodes that are variables
 

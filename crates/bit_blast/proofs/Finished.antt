@@ -5,8 +5,8 @@ use Rattle.term_spec.specs.declared.BinaryOperator.{BinaryOperator}
 use Rattle.term_spec.specs.declared.BinaryOperator.TheVariants as binary
 use Rattle.term_spec.specs.Term.{Term, Leaf, Unary, Binary, Ternary, Quaternary, Octonary}
 use Rattle.blast_spec.specs.Goal.{Table, divided, with_binary}
-use Rattle.visit_steps.specs.Steps.{arguments, finish, AllThere, IsClosed}
-use Rattle.visit_steps.proofs.Closed.{closed_one, closed_two}
+use Rattle.bit_blast.specs.Steps.{arguments, finish, AllThere, IsClosed}
+use Rattle.bit_blast.proofs.Closed.{closed_one, closed_two}
 
 pub record Finished (before after : Table) : Type 0 where
   pub closed : IsClosed after

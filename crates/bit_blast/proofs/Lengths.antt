@@ -4,8 +4,8 @@ use Rattle.term_spec.specs.declared.Sort.TheVariants as sort
 use Rattle.term_spec.specs.Term.{Term}
 use Rattle.term_spec.specs.Sort.{sort_of}
 use Rattle.blast_spec.specs.Goal.{Load, visit, loads_of}
-use Rattle.goal_read.proofs.Alike.{AllLong}
-use Rattle.goal_read.proofs.Whole.{goal_long}
+use Rattle.bit_blast_laws.proofs.Alike.{AllLong}
+use Rattle.bit_blast_laws.proofs.AssignmentsWhole.{goal_long}
 use Rattle.bit_blast.specs.Backs.{AreShort}
 
 short_of : (n : ℕ) → n ≡ 32 → n ≤ 32

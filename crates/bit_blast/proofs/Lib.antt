@@ -4,8 +4,9 @@ pub mod Due
 pub mod Turned
 pub mod Entered
 pub mod Loading
+pub mod Within
 pub mod Ties
-pub mod Walking
+pub mod Traversing
 pub mod Whole
 pub mod Numbers
 pub mod Restored
@@ -13,3 +14,11 @@ pub mod Lengths
 pub mod Written
 pub mod Valued
 pub mod Falsified
+pub mod Builds
+pub mod Runs
+pub mod Keeps
+pub mod Visits
+pub mod Closed
+pub mod Tables
+pub mod Known
+pub mod Bare

@@ -1,4 +1,4 @@
--- A node over the places of its arguments has the same tree.
+-- A node over the indices of its arguments has the same tree.
 use Rattle.std.proofs.Common.{◌≡◌, ◌<◌, ℕ, true, false, List, [], ◌∷◌, length, map, Option, Some, None, refl, sym, subst, arith}
 use Rattle.std.specs.Prelude.{nat_eq, unwrap_or, IsSome}
 use Rattle.std.specs.HashMap.{HashMap, get}
@@ -12,10 +12,10 @@ use Rattle.term_bank.specs.declared.node.TermNode.TheVariants.{Leaf, Unary, Bina
 use Rattle.term_bank.specs.Nodes.{IsNode, tree_at, build, Holds}
 use Rattle.blast_spec.specs.Circuits.{Bits}
 use Rattle.blast_spec.specs.Goal.{Table, is_there}
-use Rattle.visit_steps.specs.Steps.{arguments, AllThere}
-use Rattle.term_table.specs.Terms.{terms_in}
-use Rattle.term_table.proofs.Tables.{there_at}
-use Rattle.bit_blast.specs.Places.{children, IsPlaced, AllPlaced, place_in, moved, ArePlaces}
+use Rattle.bit_blast.specs.Steps.{arguments, AllThere}
+use Rattle.bit_blast.specs.Terms.{terms_in}
+use Rattle.bit_blast.proofs.Tables.{there_at}
+use Rattle.bit_blast.specs.Indices.{children, IsIndexed, AllIndexed, index_in, moved, AreIndices}
 
 pub arguments_of : (trees : List Term) (node : TermNode) → arguments (build trees node) ≡ map (tree_at trees) (children node)
 arguments_of trees (Leaf leaf) = refl
@@ -27,24 +27,24 @@ arguments_of trees (Octonary a b c d e f g h) = refl
 
 some_value : (found : Option ℕ) → IsSome found → found ≡ Some (unwrap_or found 0)
 some_value None h = absurd (cc)
-some_value (Some place) h = refl
+some_value (Some index) h = refl
 
-module _ {S : Type 0} (trees : List Term) (places : HashMap ℕ ℕ S) (table : Table) (standing : ArePlaces trees places table) where
-  -- a term stands at its place
-  pub stands_at : (id : ℕ) → IsPlaced places id → Holds (terms_in table) (place_in places id) (tree_at trees id)
-  stands_at id placed = standing id (place_in places id) (some_value (get nat_eq places id) placed)
+module _ {S : Type 0} (trees : List Term) (indices : HashMap ℕ ℕ S) (table : Table) (are : AreIndices trees indices table) where
+  -- a term is at its index
+  pub consistent_at : (id : ℕ) → IsIndexed indices id → Holds (terms_in table) (index_in indices id) (tree_at trees id)
+  consistent_at id indexed = are id (index_in indices id) (some_value (get nat_eq indices id) indexed)
 
-  pub is_within : (id : ℕ) → IsPlaced places id → place_in places id < length table
-  is_within id placed =
-      omega (arith, slice_get_within (terms_in table) (place_in places id) (tree_at trees id) (stands_at id placed), length-map table (λ (e : Term × Bits). e.0))
+  pub is_within : (id : ℕ) → IsIndexed indices id → index_in indices id < length table
+  is_within id indexed =
+      omega (arith, slice_get_within (terms_in table) (index_in indices id) (tree_at trees id) (consistent_at id indexed), length-map table (λ (e : Term × Bits). e.0))
 
-  pub same_tree : (id : ℕ) → IsPlaced places id → tree_at (terms_in table) (place_in places id) ≡ tree_at trees id
-  same_tree id placed = get_or_from_slice_get (terms_in table) (place_in places id) (tree_at trees id) (tree.Leaf (atom.Truth false)) (stands_at id placed)
+  pub same_tree : (id : ℕ) → IsIndexed indices id → tree_at (terms_in table) (index_in indices id) ≡ tree_at trees id
+  same_tree id indexed = get_or_from_slice_get (terms_in table) (index_in indices id) (tree_at trees id) (tree.Leaf (atom.Truth false)) (consistent_at id indexed)
 
-  pub placed_there : (id : ℕ) → IsPlaced places id → is_there (tree_at trees id) table ≡ true
-  placed_there id placed = there_at table (tree_at trees id) (place_in places id) (stands_at id placed)
+  pub indexed_there : (id : ℕ) → IsIndexed indices id → is_there (tree_at trees id) table ≡ true
+  indexed_there id indexed = there_at table (tree_at trees id) (index_in indices id) (consistent_at id indexed)
 
-  pub same_build : (node : TermNode) → AllPlaced places (children node) → build (terms_in table) (moved places node) ≡ build trees node
+  pub same_build : (node : TermNode) → AllIndexed indices (children node) → build (terms_in table) (moved indices node) ≡ build trees node
   same_build (Leaf leaf) all = refl
   same_build (Unary operator a) all = let ea = same_tree a all.0 in cc
   same_build (Binary operator a b) all =
@@ -73,7 +73,7 @@ module _ {S : Type 0} (trees : List Term) (places : HashMap ℕ ℕ S) (table : 
       let eh = same_tree h all.1.1.1.1.1.1.1.0 in
       cc
 
-  pub is_node : (node : TermNode) → AllPlaced places (children node) → IsNode (length table) (moved places node)
+  pub is_node : (node : TermNode) → AllIndexed indices (children node) → IsNode (length table) (moved indices node)
   is_node (Leaf leaf) all = tt
   is_node (Unary operator a) all = is_within a all.0
   is_node (Binary operator a b) all = (is_within a all.0, is_within b all.1.0)
@@ -90,9 +90,9 @@ module _ {S : Type 0} (trees : List Term) (places : HashMap ℕ ℕ S) (table : 
     is_within h all.1.1.1.1.1.1.1.0,
   )
 
-  placed_all : (ids : List ℕ) → AllPlaced places ids → AllThere (map (tree_at trees) ids) table
-  placed_all [] all = tt
-  placed_all (id ∷ ids) all = (placed_there id all.0, placed_all ids all.1)
+  indexed_all : (ids : List ℕ) → AllIndexed indices ids → AllThere (map (tree_at trees) ids) table
+  indexed_all [] all = tt
+  indexed_all (id ∷ ids) all = (indexed_there id all.0, indexed_all ids all.1)
 
-  pub arguments_there : (node : TermNode) → AllPlaced places (children node) → AllThere (arguments (build trees node)) table
-  arguments_there node all = subst (λ terms. AllThere terms table) (sym (arguments_of trees node)) (placed_all (children node) all)
+  pub arguments_there : (node : TermNode) → AllIndexed indices (children node) → AllThere (arguments (build trees node)) table
+  arguments_there node all = subst (λ terms. AllThere terms table) (sym (arguments_of trees node)) (indexed_all (children node) all)

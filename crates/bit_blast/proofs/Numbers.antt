@@ -8,8 +8,8 @@ use Rattle.term_spec.specs.declared.Width.TheVariants.{W8, W16, W32, W64}
 use Rattle.term_spec.specs.Sort.{bits}
 use Rattle.term_spec.specs.Value.{low_bits}
 use Rattle.blast_spec.specs.Circuits.{Bits}
-use Rattle.blast_laws.specs.Meaning.{digit, number_of}
-use Rattle.blast_laws.proofs.Adders.{below_width}
+use Rattle.bit_blast_laws.specs.Meaning.{digit, number_of}
+use Rattle.bit_blast_laws.proofs.Adders.{below_width}
 
 -- one bit more
 pub number_step : (values : Valuation) (bit : Literal) (rest : Bits) (number : ℕ) → number ≡ number_of values rest % 2 ^ 64
@@ -25,21 +25,21 @@ low_of W16 n = omega arith
 low_of W32 n = omega arith
 low_of W64 n = omega arith
 
--- the bits from a place on
-pub bits_from : (xs : Bits) (place : ℕ) (d : Literal) → place < length xs → drop place xs ≡ get_or xs place d ∷ drop (place + 1) xs
-bits_from [] place d below = absurd (omega arith)
+-- the bits from an index on
+pub bits_from : (xs : Bits) (index : ℕ) (d : Literal) → index < length xs → drop index xs ≡ get_or xs index d ∷ drop (index + 1) xs
+bits_from [] index d below = absurd (omega arith)
 bits_from (x ∷ xs) zero d below = refl
-bits_from (x ∷ xs) (suc place) d below =
-    let next : suc place + 1 ≡ suc (place + 1) = omega arith in
-    bits_from xs place d (omega arith) ∙ ap (λ (n : ℕ). get_or xs place d ∷ drop n (x ∷ xs)) (sym next)
+bits_from (x ∷ xs) (suc index) d below =
+    let next : suc index + 1 ≡ suc (index + 1) = omega arith in
+    bits_from xs index d (omega arith) ∙ ap (λ (n : ℕ). get_or xs index d ∷ drop n (x ∷ xs)) (sym next)
 
 abbrev pub blank_bit : Literal
 blank_bit = record { variable = 0; is_negated = false }
 
-pub number_at : (values : Valuation) (xs : Bits) (place before : ℕ) (old new : ℕ) → place ≡ before + 1 → place ≤ length xs
-    → old ≡ number_of values (drop place xs) % 2 ^ 64 → new ≡ (old * 2 % 2 ^ 64 + digit (holds values (get_or xs before blank_bit))) % 2 ^ 64
+pub number_at : (values : Valuation) (xs : Bits) (index before : ℕ) (old new : ℕ) → index ≡ before + 1 → index ≤ length xs
+    → old ≡ number_of values (drop index xs) % 2 ^ 64 → new ≡ (old * 2 % 2 ^ 64 + digit (holds values (get_or xs before blank_bit))) % 2 ^ 64
     → new ≡ number_of values (drop before xs) % 2 ^ 64
-number_at values xs place before old new e within was made =
+number_at values xs index before old new e within was made =
     let below : before < length xs = omega (arith, e) in
     made
     ∙ number_step values (get_or xs before blank_bit) (drop (before + 1) xs) old (was ∙ ap (λ (n : ℕ). number_of values (drop n xs) % 2 ^ 64) e)

@@ -1,4 +1,4 @@
--- Values of variables that are read back.
+-- Values of variables that are reconstructed.
 use Rattle.std.proofs.Common.{◌≡◌, ◌<◌, ◌≤◌, ◌+◌, ℕ, zero, suc, Bool, true, false, List, [], ◌∷◌, ◌++◌, length, map, take, get_or, filter, Option, Some, None, refl, ap, sym, ◌∙◌, subst, arith, ◌^◌, lt-ltb}
 use Rattle.std.specs.Prelude.{◌==◌, ◌||◌, ◌&&◌, not, if◌then◌else◌, is_some, slice_get, option_map, nat_lt}
 use Rattle.std.specs.List.{find}
@@ -21,16 +21,16 @@ use Rattle.term_spec.specs.Value.{low_bits, with_byte, IsOfSort}
 use Rattle.term_bank.specs.Nodes.{tree_at, Holds, AreDistinct}
 use Rattle.blast_spec.specs.Circuits.{Bits}
 use Rattle.blast_spec.specs.Goal.{Table, Load, is_there, bits_in, bit_of, loads_of, is_of_memory, found_bits}
-use Rattle.blast_laws.specs.Meaning.{number_of}
-use Rattle.goal_read.specs.Back.{first_byte, loads_from, value_back, read_back}
-use Rattle.goal_read.proofs.Reading.{is_assignment}
+use Rattle.bit_blast_laws.specs.Meaning.{number_of}
+use Rattle.bit_blast_laws.specs.Back.{first_byte, loads_from, value_back, read_back}
+use Rattle.bit_blast_laws.proofs.Reading.{is_assignment}
 use Rattle.term_core.specs.declared.value.Value.{Value}
 use Rattle.term_core.specs.declared.value.Value.TheVariants as code
 use Rattle.term_core.specs.Values.{value_of}
 use Rattle.term_core.specs.Assignment.{default_of, given_or_default, is_of_sort}
-use Rattle.term_table.specs.Terms.{terms_in}
-use Rattle.term_table.proofs.Tables.{there_at}
-use Rattle.bit_blast.specs.declared.loads.LoadPlace.{LoadPlace}
+use Rattle.bit_blast.specs.Terms.{terms_in}
+use Rattle.bit_blast.proofs.Tables.{there_at}
+use Rattle.bit_blast.specs.declared.loads.LoadIndices.{LoadIndices}
 use Rattle.bit_blast.specs.Loads.{load_at, AreWithin}
 use Rattle.bit_blast.specs.Backs.{AreShort}
 use Rattle.bit_blast.proofs.Loading.{eqb_swap, loads_same, holds_at}
@@ -82,17 +82,17 @@ zero_word W16 = refl
 zero_word W32 = refl
 zero_word W64 = refl
 
-module _ (t : Table) (distinct : AreDistinct (terms_in t)) (loads : List LoadPlace) (within : AreWithin t loads) (all : map (load_at t) loads ≡ loads_of t t) where
-  -- the loads of the memory at a place
-  pub own_loads : (place : ℕ) (v : Variable) (own : List LoadPlace) → place < length t → Holds (terms_in t) place (Leaf (atom.Open v))
-      → own ≡ filter (λ (load : LoadPlace). load.memory == place) loads → map (load_at t) own ≡ loads_from (Leaf (atom.Open v)) t
-  own_loads place v own below holds e =
-      ap (map (load_at t)) e ∙ sym (loads_same t distinct place below loads within)
-      ∙ ap (λ (m : Term). filter (is_of_memory m) (map (load_at t) loads)) (get_or_from_slice_get (terms_in t) place (Leaf (atom.Open v)) (Leaf (atom.Truth false)) holds)
+module _ (t : Table) (distinct : AreDistinct (terms_in t)) (loads : List LoadIndices) (within : AreWithin t loads) (all : map (load_at t) loads ≡ loads_of t t) where
+  -- the loads of the memory at an index
+  pub own_loads : (index : ℕ) (v : Variable) (own : List LoadIndices) → index < length t → Holds (terms_in t) index (Leaf (atom.Open v))
+      → own ≡ filter (λ (load : LoadIndices). load.memory == index) loads → map (load_at t) own ≡ loads_from (Leaf (atom.Open v)) t
+  own_loads index v own below holds e =
+      ap (map (load_at t)) e ∙ sym (loads_same t distinct index below loads within)
+      ∙ ap (λ (m : Term). filter (is_of_memory m) (map (load_at t) loads)) (get_or_from_slice_get (terms_in t) index (Leaf (atom.Open v)) (Leaf (atom.Truth false)) holds)
       ∙ ap (filter (is_of_memory (Leaf (atom.Open v)))) all
 
   -- a memory that isn't there has none
-  no_loads : (m : Term) → is_there m t ≡ false → (some : List LoadPlace) → AreWithin t some → filter (is_of_memory m) (map (load_at t) some) ≡ []
+  no_loads : (m : Term) → is_there m t ≡ false → (some : List LoadIndices) → AreWithin t some → filter (is_of_memory m) (map (load_at t) some) ≡ []
   no_loads m absent [] inside = refl
   no_loads m absent (load ∷ some) inside = by (same_term (tree_at (terms_in t) load.memory) m) refl (no_loads m absent some inside.1)
     where
@@ -135,13 +135,13 @@ pub record Read (values : Valuation) (t : Table) (count : ℕ) (assignment : spe
   pub others : (v : Variable) → is_there (Leaf (atom.Open v)) (take count t) ≡ false → assignment v ≡ default_of v.sort
 
 -- the first terms with the next
-next_there : (t : Table) (place : ℕ) (term x : Term) → place < length t → Holds (terms_in t) place term → is_there x (take (place + 1) t) ≡ (is_there x (take place t) || same_term x term)
-next_there t place term x below h =
-    let entry : Term × Bits = get_or t place (Leaf (atom.Truth false), []) in
-    let here : slice_get t place ≡ Some entry = slice_get-get_or t place (Leaf (atom.Truth false), []) below in
-    let is : entry.0 ≡ term = same_Some entry.0 term (sym (slice_get-map (λ (e : Term × Bits). e.0) t place ∙ ap (option_map (λ (e : Term × Bits). e.0)) here) ∙ h) in
-    ap (is_there x) (take_more t place (Leaf (atom.Truth false), []) below) ∙ there_last x entry.0 entry.1 (take place t)
-    ∙ ap (λ (y : Term). is_there x (take place t) || same_term x y) is
+next_there : (t : Table) (index : ℕ) (term x : Term) → index < length t → Holds (terms_in t) index term → is_there x (take (index + 1) t) ≡ (is_there x (take index t) || same_term x term)
+next_there t index term x below h =
+    let entry : Term × Bits = get_or t index (Leaf (atom.Truth false), []) in
+    let here : slice_get t index ≡ Some entry = slice_get-get_or t index (Leaf (atom.Truth false), []) below in
+    let is : entry.0 ≡ term = same_Some entry.0 term (sym (slice_get-map (λ (e : Term × Bits). e.0) t index ∙ ap (option_map (λ (e : Term × Bits). e.0)) here) ∙ h) in
+    ap (is_there x) (take_more t index (Leaf (atom.Truth false), []) below) ∙ there_last x entry.0 entry.1 (take index t)
+    ∙ ap (λ (y : Term). is_there x (take index t) || same_term x y) is
 
 or_parts : (a b : Bool) → (a || b) ≡ false → (a ≡ false) × (b ≡ false)
 or_parts false false e = (refl, refl)
@@ -153,13 +153,13 @@ or_cases true b e f = refl
 or_cases false b e f = absurd (cc)
 
 -- a term that is no variable changes nothing
-pub read_other : (values : Valuation) (t : Table) (place : ℕ) (term : Term) (assignment : spec.Assignment) → place < length t → Holds (terms_in t) place term
-    → ((v : Variable) → same_term (Leaf (atom.Open v)) term ≡ false) → Read values t place assignment → Read values t (place + 1) assignment
-read_other values t place term assignment below h apart before = record {
+pub read_other : (values : Valuation) (t : Table) (index : ℕ) (term : Term) (assignment : spec.Assignment) → index < length t → Holds (terms_in t) index term
+    → ((v : Variable) → same_term (Leaf (atom.Open v)) term ≡ false) → Read values t index assignment → Read values t (index + 1) assignment
+read_other values t index term assignment below h apart before = record {
   known = λ v there.
-      before.known v (or_cases (is_there (Leaf (atom.Open v)) (take place t)) (same_term (Leaf (atom.Open v)) term) (sym (next_there t place term (Leaf (atom.Open v)) below h) ∙ there) (apart v));
+      before.known v (or_cases (is_there (Leaf (atom.Open v)) (take index t)) (same_term (Leaf (atom.Open v)) term) (sym (next_there t index term (Leaf (atom.Open v)) below h) ∙ there) (apart v));
   others = λ v absent.
-      before.others v (or_parts (is_there (Leaf (atom.Open v)) (take place t)) (same_term (Leaf (atom.Open v)) term) (sym (next_there t place term (Leaf (atom.Open v)) below h) ∙ absent)).0;
+      before.others v (or_parts (is_there (Leaf (atom.Open v)) (take index t)) (same_term (Leaf (atom.Open v)) term) (sym (next_there t index term (Leaf (atom.Open v)) below h) ∙ absent)).0;
 }
 
 same_number : (w v : Width) → v ≡ w → same_width v w ≡ true
@@ -191,12 +191,12 @@ given s x h = by (is_of_sort s x) (fits s x h)
     by false e = absurd (cc)
 
 -- a variable has its value
-pub read_variable : (values : Valuation) (t : Table) (place : ℕ) (w : Variable) (x : Value) (old new : spec.Assignment) → place < length t
-    → Holds (terms_in t) place (Leaf (atom.Open w)) → value_of x ≡ read_back values t w
-    → ((v : Variable) → new v ≡ (if same_variable w v then given_or_default v.sort (Some x) else old v)) → Read values t place old → Read values t (place + 1) new
-read_variable values t place w x old new below h is updates before = record {
-  known = λ v there. updates v ∙ known_by v (same_variable w v) refl (sym (next_there t place (Leaf (atom.Open w)) (Leaf (atom.Open v)) below h) ∙ there);
-  others = λ v absent. updates v ∙ other_by v (same_variable w v) refl (sym (next_there t place (Leaf (atom.Open w)) (Leaf (atom.Open v)) below h) ∙ absent);
+pub read_variable : (values : Valuation) (t : Table) (index : ℕ) (w : Variable) (x : Value) (old new : spec.Assignment) → index < length t
+    → Holds (terms_in t) index (Leaf (atom.Open w)) → value_of x ≡ read_back values t w
+    → ((v : Variable) → new v ≡ (if same_variable w v then given_or_default v.sort (Some x) else old v)) → Read values t index old → Read values t (index + 1) new
+read_variable values t index w x old new below h is updates before = record {
+  known = λ v there. updates v ∙ known_by v (same_variable w v) refl (sym (next_there t index (Leaf (atom.Open w)) (Leaf (atom.Open v)) below h) ∙ there);
+  others = λ v absent. updates v ∙ other_by v (same_variable w v) refl (sym (next_there t index (Leaf (atom.Open w)) (Leaf (atom.Open v)) below h) ∙ absent);
 }
   where
     of_sort : IsOfSort w.sort (value_of x)
@@ -216,29 +216,29 @@ read_variable values t place w x old new below h is updates before = record {
             let test : same_variable w v ≡ true = subst (λ (u : Variable). same_variable w u ≡ true) (sym same) (variable_laws.lawful.laws.refl w) in
             absurd (cc)
 
-    known_by : (v : Variable) (b : Bool) → same_variable w v ≡ b → (is_there (Leaf (atom.Open v)) (take place t) || same_term (Leaf (atom.Open v)) (Leaf (atom.Open w))) ≡ true
+    known_by : (v : Variable) (b : Bool) → same_variable w v ≡ b → (is_there (Leaf (atom.Open v)) (take index t) || same_term (Leaf (atom.Open v)) (Leaf (atom.Open w))) ≡ true
         → (if b then given_or_default v.sort (Some x) else old v) ≡ read_back values t v
     known_by v true e there =
         let same : w ≡ v = variable-same w v e in
         subst (λ (u : Variable). given_or_default u.sort (Some x) ≡ read_back values t u) same (given w.sort x of_sort ∙ is)
     known_by v false e there =
-        before.known v (or_cases (is_there (Leaf (atom.Open v)) (take place t)) (same_term (Leaf (atom.Open v)) (Leaf (atom.Open w))) there (other_test v e))
+        before.known v (or_cases (is_there (Leaf (atom.Open v)) (take index t)) (same_term (Leaf (atom.Open v)) (Leaf (atom.Open w))) there (other_test v e))
 
-    other_by : (v : Variable) (b : Bool) → same_variable w v ≡ b → (is_there (Leaf (atom.Open v)) (take place t) || same_term (Leaf (atom.Open v)) (Leaf (atom.Open w))) ≡ false
+    other_by : (v : Variable) (b : Bool) → same_variable w v ≡ b → (is_there (Leaf (atom.Open v)) (take index t) || same_term (Leaf (atom.Open v)) (Leaf (atom.Open w))) ≡ false
         → (if b then given_or_default v.sort (Some x) else old v) ≡ default_of v.sort
     other_by v true e absent =
         let there : same_term (Leaf (atom.Open v)) (Leaf (atom.Open w)) ≡ true = same_test v (variable-same w v e) in
-        let none = (or_parts (is_there (Leaf (atom.Open v)) (take place t)) (same_term (Leaf (atom.Open v)) (Leaf (atom.Open w))) absent).1 in
+        let none = (or_parts (is_there (Leaf (atom.Open v)) (take index t)) (same_term (Leaf (atom.Open v)) (Leaf (atom.Open w))) absent).1 in
         absurd (cc)
     other_by v false e absent =
-        before.others v (or_parts (is_there (Leaf (atom.Open v)) (take place t)) (same_term (Leaf (atom.Open v)) (Leaf (atom.Open w))) absent).0
+        before.others v (or_parts (is_there (Leaf (atom.Open v)) (take index t)) (same_term (Leaf (atom.Open v)) (Leaf (atom.Open w))) absent).0
 
 pub read_none : (values : Valuation) (t : Table) (assignment : spec.Assignment) → assignment ≡ (λ (v : Variable). default_of v.sort) → Read values t 0 assignment
 read_none values t assignment e = record { known = λ v there. absurd (cc); others = λ v absent. ap (λ (a : spec.Assignment). a v) e }
 
 -- ---- all variables
 
-pub read_all : (values : Valuation) (t : Table) (count : ℕ) (assignment : spec.Assignment) (loads : List LoadPlace) → AreDistinct (terms_in t) → AreWithin t loads
+pub read_all : (values : Valuation) (t : Table) (count : ℕ) (assignment : spec.Assignment) (loads : List LoadIndices) → AreDistinct (terms_in t) → AreWithin t loads
     → map (load_at t) loads ≡ loads_of t t → length t ≤ count → Read values t count assignment → values 1 ≡ true → (v : Variable) → assignment v ≡ read_back values t v
 read_all values t count assignment loads distinct within all done read one v = by (is_there (Leaf (atom.Open v)) t) refl
   where

@@ -4,31 +4,31 @@ use Rattle.clause_spec.specs.Clause.{Valuation}
 use Rattle.term_spec.specs.Value.{low_bits, with_byte}
 use Rattle.blast_spec.specs.Circuits.{Bits}
 use Rattle.blast_spec.specs.Goal.{Table, Load}
-use Rattle.blast_laws.specs.Meaning.{number_of}
-use Rattle.goal_read.specs.Back.{first_byte}
-use Rattle.bit_blast.specs.declared.loads.LoadPlace.{LoadPlace}
+use Rattle.bit_blast_laws.specs.Meaning.{number_of}
+use Rattle.bit_blast_laws.specs.Back.{first_byte}
+use Rattle.bit_blast.specs.declared.loads.LoadIndices.{LoadIndices}
 use Rattle.bit_blast.specs.Loads.{load_at}
 use Rattle.bit_blast.specs.Backs.{AreShort}
-use Rattle.bit_blast.proofs.Ties.{from_place}
+use Rattle.bit_blast.proofs.Ties.{from_index}
 use Rattle.bit_blast.proofs.Numbers.{short_number, low_byte}
 use Rattle.bit_blast.proofs.Restored.{written_back}
 
-short_at : (t : Table) (loads : List LoadPlace) (place : ℕ) (d : LoadPlace) → AreShort (map (load_at t) loads) → place < length loads
-    → length (load_at t (get_or loads place d)).address ≤ 32
-short_at t [] place d short below = absurd (omega arith)
+short_at : (t : Table) (loads : List LoadIndices) (index : ℕ) (d : LoadIndices) → AreShort (map (load_at t) loads) → index < length loads
+    → length (load_at t (get_or loads index d)).address ≤ 32
+short_at t [] index d short below = absurd (omega arith)
 short_at t (load ∷ loads) zero d short below = short.0
-short_at t (load ∷ loads) (suc place) d short below = short_at t loads place d short.1 (omega arith)
+short_at t (load ∷ loads) (suc index) d short below = short_at t loads index d short.1 (omega arith)
 
--- one byte more, in front
-pub back_one : (values : Valuation) (t : Table) (loads : List LoadPlace) (place before : ℕ) (d : LoadPlace) (old new : ℕ → ℕ) → place ≡ before + 1 → place ≤ length loads
-    → (AreShort (map (load_at t) loads) → (q : ℕ) → old q ≡ low_bits 8 (first_byte values q (map (load_at t) (drop place loads))))
+-- one byte more, before the others
+pub back_one : (values : Valuation) (t : Table) (loads : List LoadIndices) (index before : ℕ) (d : LoadIndices) (old new : ℕ → ℕ) → index ≡ before + 1 → index ≤ length loads
+    → (AreShort (map (load_at t) loads) → (q : ℕ) → old q ≡ low_bits 8 (first_byte values q (map (load_at t) (drop index loads))))
     → (length (load_at t (get_or loads before d)).address ≤ 32
     → new ≡ with_byte old (number_of values (load_at t (get_or loads before d)).address) (low_bits 8 (number_of values (load_at t (get_or loads before d)).byte)))
     → AreShort (map (load_at t) loads) → (q : ℕ) → new q ≡ low_bits 8 (first_byte values q (map (load_at t) (drop before loads)))
-back_one values t loads place before d old new e within was wrote short q =
+back_one values t loads index before d old new e within was wrote short q =
     let below : before < length loads = omega (arith, e) in
     let rest : List Load = map (load_at t) (drop (before + 1) loads) in
-    subst (λ (list : List Load). new q ≡ low_bits 8 (first_byte values q list)) (sym (from_place (load_at t) loads before d below))
+    subst (λ (list : List Load). new q ≡ low_bits 8 (first_byte values q list)) (sym (from_index (load_at t) loads before d below))
     (written_back values (load_at t (get_or loads before d)) rest old new (wrote (short_at t loads before d short below))
     (λ p. was short p ∙ ap (λ (n : ℕ). low_bits 8 (first_byte values p (map (load_at t) (drop n loads)))) e) q)
 

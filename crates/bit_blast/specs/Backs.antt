@@ -1,4 +1,4 @@
--- What is read back.
+-- What is reconstructed of a model.
 use Rattle.std.specs.Prelude.{◌≤◌, List, [], ◌∷◌, length}
 use Rattle.blast_spec.specs.Goal.{Load}
 

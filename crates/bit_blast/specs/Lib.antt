@@ -1,6 +1,12 @@
-pub mod Places
+pub mod Indices
 pub mod Tasks
 pub mod Turns
+pub mod Within
+pub mod Models
 pub mod Entries
 pub mod Loads
 pub mod Backs
+pub mod Steps
+pub mod Terms
+pub mod Entered
+pub mod BitsAt

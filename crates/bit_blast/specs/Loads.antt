@@ -1,4 +1,4 @@
--- Loads by the places of their terms.
+-- Loads by the indices of their terms.
 use Rattle.std.specs.Prelude.{◌<◌, ◌==◌, ℕ, not, List, [], ◌∷◌, length, filter, Option, Some, None}
 use Rattle.term_spec.specs.declared.Variable.{Variable}
 use Rattle.term_spec.specs.declared.Atom.TheVariants as atom
@@ -7,17 +7,17 @@ use Rattle.term_bank.specs.declared.node.TermNode.{TermNode}
 use Rattle.term_bank.specs.declared.node.TermNode.TheVariants.{Leaf, Binary}
 use Rattle.term_bank.specs.Nodes.{tree_at}
 use Rattle.blast_spec.specs.Goal.{Table, Load}
-use Rattle.term_table.specs.Terms.{terms_in}
-use Rattle.term_bits.specs.Places.{bits_at}
-use Rattle.bit_blast.specs.declared.loads.LoadPlace.{LoadPlace}
+use Rattle.bit_blast.specs.Terms.{terms_in}
+use Rattle.bit_blast.specs.BitsAt.{bits_at}
+use Rattle.bit_blast.specs.declared.loads.LoadIndices.{LoadIndices}
 
-abbrev pub load_at : Table → LoadPlace → Load
+abbrev pub load_at : Table → LoadIndices → Load
 load_at table load = record { memory = tree_at (terms_in table) load.memory; address = bits_at table load.address; byte = bits_at table load.byte }
 
-abbrev pub IsWithin : Table → LoadPlace → Type 0
+abbrev pub IsWithin : Table → LoadIndices → Type 0
 IsWithin table load = (load.memory < length table) × (load.address < length table) × (load.byte < length table)
 
-abbrev pub AreWithin : Table → List LoadPlace → Type 0
+abbrev pub AreWithin : Table → List LoadIndices → Type 0
 AreWithin table [] = Unit {0}
 AreWithin table (load ∷ loads) = IsWithin table load × AreWithin table loads
 
@@ -25,14 +25,14 @@ AreWithin table (load ∷ loads) = IsWithin table load × AreWithin table loads
 abbrev pub with_memory : ℕ → List ℕ → List ℕ
 with_memory memory memories = memory ∷ filter (λ other. not (other == memory)) memories
 
-abbrev pub memories_of : List LoadPlace → List ℕ
+abbrev pub memories_of : List LoadIndices → List ℕ
 memories_of [] = []
 memories_of (load ∷ loads) = with_memory load.memory (memories_of loads)
 
--- the load that a node at a place is
-abbrev pub load_of : ℕ → TermNode → Option LoadPlace
-load_of place (Binary binary.Load memory address) = Some (record { memory = memory; address = address; byte = place })
-load_of place node = None
+-- the load that the node of an index is
+abbrev pub load_of : ℕ → TermNode → Option LoadIndices
+load_of index (Binary binary.Load memory address) = Some (record { memory = memory; address = address; byte = index })
+load_of index node = None
 
 -- the variable that a node is
 abbrev pub variable_of : TermNode → Option Variable

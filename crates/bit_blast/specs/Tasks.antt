@@ -2,8 +2,8 @@
 use Rattle.std.specs.Prelude.{ℕ, List, [], ◌∷◌, ◌++◌, map}
 use Rattle.term_spec.specs.Term.{Term}
 use Rattle.term_bank.specs.Nodes.{tree_at, build}
-use Rattle.visit_steps.specs.Steps as steps
-use Rattle.visit_steps.specs.Steps.{Step}
+use Rattle.bit_blast.specs.Steps as steps
+use Rattle.bit_blast.specs.Steps.{Step}
 use Rattle.bit_blast.specs.declared.state.Task.{Task}
 use Rattle.bit_blast.specs.declared.state.Task.TheVariants.{Visit, Finish}
 
@@ -19,7 +19,7 @@ abbrev pub visits_of : List ℕ → List Task
 visits_of [] = []
 visits_of (id ∷ ids) = visits_of ids ++ Visit id ∷ []
 
--- the term that a task gives its place
+-- the term that a task gives its index
 abbrev pub id_of : Task → ℕ
 id_of (Visit id) = id
 id_of (Finish id node) = id

@@ -1,58 +1,85 @@
-ghost use Rattle.std.specs.Prelude.{◌≡◌, ◌<◌, true, false, [], Some, length, IfOk};
-ghost use Rattle.clause_spec.specs.Clause.{Valuation, are_met};
+ghost use Rattle.std.specs.Prelude.{◌≡◌, ◌<◌, ◌≤◌, [], Some, length, IfOk, IfErr, OnOk};
 ghost use Rattle.term_spec.specs.declared.Sort.TheVariants as sort;
 ghost use Rattle.term_spec.specs.Sort.{sort_of};
-ghost use Rattle.term_spec.specs.Value as term_value;
-ghost use Rattle.term_spec.specs.Value.{IsAssignment, value};
 ghost use Rattle.term_bank.specs.Nodes.{tree_at};
 ghost use Rattle.blast_spec.specs.Goal.{visit, cnf_of};
-ghost use Rattle.goal_read.specs.Back.{TableLoadsFromVariables};
+ghost use Rattle.bit_blast_laws.specs.Back.{TableLoadsFromVariables};
+ghost use Rattle.bit_blast.specs.Models.{HasModel, CanBeFalse};
+ghost use Rattle.bit_blast.specs.Within.{IfLarge};
 
+use crate::error::BlastError;
+use crate::indices::index_of;
 use crate::loads::tie_memories;
-use crate::places::place_of;
-use crate::state::Walk;
-use crate::walk::walk;
-use cnf_core::Cnf;
-use std::alloc::{AllocError, Global};
+use crate::operators::bit_of;
+use crate::state::Traversal;
+use crate::table::TermTable;
+use crate::traversal::traversal;
+use cnf_core::{Cnf, negation};
+use std::alloc::Global;
 use term_bank::{Bank, TermId};
-use term_bits::bit_of;
-use term_table::TermTable;
-use word_circuits::{Gates, negation};
+use word_circuits::Gates;
 
 /// The clauses of a goal, with its terms and their bits.
 #[derive(Drop)]
 pub struct Blasted {
-    /// the clauses: something meets them where the goal can be false, and only there if it loads from variables alone
+    /// the clauses: they have a model where the goal can be false, and only there if it loads from
+    /// variables alone
     pub cnf: Cnf,
-    /// the terms, each behind its arguments
+    /// the terms, each after its arguments
     pub table: TermTable,
 }
 
+/// Refuses gates with more variables than the maximum.
+fn within(gates: &Gates, maximum: usize) -> Result<(), BlastError>
+    ensures within { OnOk result (gates.now.variables ≤ maximum) }
+    ensures large { IfErr result (λ error. (error ≡ BlastError.Large gates.now.variables)
+        × (maximum < gates.now.variables)) }
+{
+    if gates.last() > maximum {
+        return Err(BlastError::Large(gates.last()));
+    }
+    Ok(())
+}
+
 /// The clauses of a truth value: that it is false.
-pub fn blast(alloc: Global, bank: &Bank, goal: TermId) -> Result<Blasted, AllocError>
+///
+/// They have at most so many variables; else `Large` reports a number above the maximum, which the
+/// variables reached. Work and memory stop there: past the maximum come at most the gates of one
+/// term, or those that tie two loads.
+pub fn blast(
+    alloc: Global,
+    bank: &Bank,
+    goal: TermId,
+    maximum: usize,
+) -> Result<Blasted, BlastError>
     requires { goal < length bank.now }
     ensures clauses { IfOk result (λ blasted. blasted.cnf ≡ cnf_of (tree_at bank.now goal)) }
-    ensures terms { IfOk result (λ blasted. blasted.table ≡ (visit (tree_at bank.now goal) [] 1).out) }
+    ensures terms { IfOk result (λ blasted. blasted.table
+        ≡ (visit (tree_at bank.now goal) [] 1).out) }
+    ensures within { IfOk result (λ blasted. blasted.cnf.variables ≤ maximum) }
+    ensures large { IfErr result (IfLarge maximum (cnf_of (tree_at bank.now goal))) }
 
-    // Something meets the clauses where the truth value can be false; and only there, if it loads from variables alone.
-    ensures met { IfOk result (λ blasted. let t = tree_at bank.now goal in sort_of t ≡ Some sort.Truth
-        → (a : term_value.Assignment) → IsAssignment a → value a t ≡ term_value.Truth false
-        → (values : Valuation) × (are_met values blasted.cnf.clauses ≡ true)) }
-    ensures only_met { IfOk result (λ blasted. let t = tree_at bank.now goal in sort_of t ≡ Some sort.Truth → TableLoadsFromVariables blasted.table
-        → (values : Valuation) → are_met values blasted.cnf.clauses ≡ true
-        → (a : term_value.Assignment) × IsAssignment a × (value a t ≡ term_value.Truth false)) }
+    // The clauses have a model where the truth value can be false; and only there, if it loads from
+    // variables alone.
+    ensures model { IfOk result (λ blasted. let t = tree_at bank.now goal in sort_of t
+        ≡ Some sort.Truth → CanBeFalse t → HasModel blasted.cnf) }
+    ensures only_model { IfOk result (λ blasted. let t = tree_at bank.now goal in sort_of t
+        ≡ Some sort.Truth → TableLoadsFromVariables blasted.table → HasModel blasted.cnf
+        → CanBeFalse t) }
 {
     let mut gates = Gates::new(alloc);
     let _truth = gates.truth()?;
-    let walk = walk(alloc, bank, gates, goal)?;
-    let place = place_of(&walk.places, goal);
-    let Walk {
+    let traversal = traversal(alloc, bank, gates, goal, maximum)?;
+    within(&traversal.gates, maximum)?;
+    let index = index_of(&traversal.indices, goal);
+    let Traversal {
         mut gates,
         table,
         ..
-    } = walk;
-    tie_memories(alloc, &mut gates, &table)?;
-    gates.claim(&[negation(bit_of(table.bits(place)))])?;
-    let cnf = gates.into_cnf(alloc)?;
+    } = traversal;
+    tie_memories(alloc, &mut gates, &table, maximum)?;
+    within(&gates, maximum)?;
+    gates.claim(&[negation(bit_of(table.bits(index)))])?;
+    let cnf = gates.into_cnf();
     Ok(Blasted { cnf, table })
 }

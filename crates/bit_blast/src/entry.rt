@@ -4,16 +4,16 @@ ghost use Rattle.std.specs.Prelude.{◌≡◌, ◌<◌, ◌+◌, ◌++◌, lengt
 ghost use Rattle.term_spec.specs.Term.{divide, remainder};
 ghost use Rattle.term_bank.specs.Nodes.{IsNode, build, tree_at, Holds};
 ghost use Rattle.blast_spec.specs.Goal.{is_there, divided, once};
-ghost use Rattle.visit_steps.specs.Steps.{finish, IsClosed};
-ghost use Rattle.word_circuits.specs.Gives.{Gives};
-ghost use Rattle.term_table.specs.Terms.{terms_in};
+ghost use Rattle.bit_blast.specs.Steps.{finish, IsClosed};
+ghost use Rattle.word_circuits.specs.Built.{IsBuilt};
+ghost use Rattle.bit_blast.specs.Terms.{terms_in};
 ghost use Rattle.bit_blast.specs.Entries as spec;
 
+use crate::nodes::own_bits;
+use crate::table::TermTable;
 use std::alloc::{AllocError, Global};
 use term_bank::TermNode;
-use term_bits::own_bits;
 use term_spec::{BinaryOperator, WordOperator};
-use term_table::TermTable;
 use word_circuits::Gates;
 
 const DIVIDE: BinaryOperator = BinaryOperator::Word(WordOperator::Divide);
@@ -45,7 +45,8 @@ fn division_of(node: TermNode) -> Division
     }
 }
 
-/// Enters the quotient and the remainder of two terms, which share their gates, and gives their places.
+/// Enters the quotient and the remainder of two terms, which share their gates, and gives their
+/// indices.
 fn enter_division(
     alloc: Global,
     gates: &mut Gates,
@@ -55,22 +56,29 @@ fn enter_division(
 ) -> Result<(usize, usize), AllocError>
     requires dividend { x < length table.old }
     requires divisor { y < length table.old }
-    requires no_quotient { is_there (divide (tree_at (terms_in table.old) x) (tree_at (terms_in table.old) y)) table.old ≡ false }
-    requires no_remainder { is_there (remainder (tree_at (terms_in table.old) x) (tree_at (terms_in table.old) y)) table.old ≡ false }
-    ensures place { IfOk result (λ places. places.0 ≡ length table.old) }
-    ensures rest { IfOk result (λ places. places.1 ≡ length table.old + 1) }
-    ensures gives { IfOk result (λ places. Gives (divided (tree_at (terms_in table.old) x) (tree_at (terms_in table.old) y) table.old) gates.old table.new gates.new) }
+    requires no_quotient { is_there
+        (divide (tree_at (terms_in table.old) x) (tree_at (terms_in table.old) y)) table.old
+        ≡ false }
+    requires no_remainder { is_there
+        (remainder (tree_at (terms_in table.old) x) (tree_at (terms_in table.old) y)) table.old
+        ≡ false }
+    ensures index { IfOk result (λ indices. indices.0 ≡ length table.old) }
+    ensures rest { IfOk result (λ indices. indices.1 ≡ length table.old + 1) }
+    ensures gives { IfOk result (λ indices. IsBuilt
+        (divided (tree_at (terms_in table.old) x)
+        (tree_at (terms_in table.old) y) table.old) gates.old table.new gates.new) }
 {
     let count = table.bits(x).len();
     let q = gates.new_bits(alloc, count)?;
     let r = gates.new_bits(alloc, count)?;
     gates.division(alloc, &q, &r, table.bits(x), table.bits(y))?;
-    let place = table.enter(TermNode::Binary(DIVIDE, x, y), q)?;
+    let index = table.enter(TermNode::Binary(DIVIDE, x, y), q)?;
     let rest = table.enter(TermNode::Binary(REMAINDER, x, y), r)?;
-    Ok((place, rest))
+    Ok((index, rest))
 }
 
-/// Enters a node's term, with the remainder beside a quotient and the other way round, and gives its place.
+/// Enters a node's term, with the remainder beside a quotient and the other way round, and gives
+/// its index.
 fn enter(
     alloc: Global,
     gates: &mut Gates,
@@ -80,28 +88,30 @@ fn enter(
     requires arguments { IsNode (length table.old) node }
     requires absent { is_there (build (terms_in table.old) node) table.old ≡ false }
     requires closed { IsClosed table.old }
-    ensures place { IfOk result (λ place. Holds (terms_in table.new) place (build (terms_in table.old) node)) }
-    ensures gives { IfOk result (λ place. Gives (finish (build (terms_in table.old) node) table.old) gates.old table.new gates.new) }
+    ensures index { IfOk result (λ index. Holds (terms_in table.new) index
+        (build (terms_in table.old) node)) }
+    ensures gives { IfOk result (λ index. IsBuilt
+        (finish (build (terms_in table.old) node) table.old) gates.old table.new gates.new) }
 {
     match division_of(node) {
         Division::Quotient(x, y) => {
-            let places = enter_division(alloc, gates, table, x, y)?;
-            Ok(places.0)
+            let indices = enter_division(alloc, gates, table, x, y)?;
+            Ok(indices.0)
         }
         Division::Remainder(x, y) => {
-            let places = enter_division(alloc, gates, table, x, y)?;
-            Ok(places.1)
+            let indices = enter_division(alloc, gates, table, x, y)?;
+            Ok(indices.1)
         }
         Division::Neither => {
             let bits = own_bits(alloc, gates, node, table)?;
-            let place = table.enter(node, bits)?;
-            Ok(place)
+            let index = table.enter(node, bits)?;
+            Ok(index)
         }
     }
 }
 
-/// The place of a node's term, which is entered where it isn't there.
-pub(crate) fn place_for(
+/// The index of a node's term, which is entered where it isn't there.
+pub(crate) fn index_for(
     alloc: Global,
     gates: &mut Gates,
     table: &mut TermTable,
@@ -109,12 +119,15 @@ pub(crate) fn place_for(
 ) -> Result<usize, AllocError>
     requires arguments { IsNode (length table.old) node }
     requires closed { IsClosed table.old }
-    ensures place { IfOk result (λ place. Holds (terms_in table.new) place (build (terms_in table.old) node)) }
-    ensures gives { IfOk result (λ place. Gives (once (build (terms_in table.old) node) table.old (finish (build (terms_in table.old) node) table.old)) gates.old table.new gates.new) }
+    ensures index { IfOk result (λ index. Holds (terms_in table.new) index
+        (build (terms_in table.old) node)) }
+    ensures gives { IfOk result (λ index. IsBuilt
+        (once (build (terms_in table.old) node) table.old
+        (finish (build (terms_in table.old) node) table.old)) gates.old table.new gates.new) }
 {
-    if let Some(place) = table.find(node) {
-        return Ok(place);
+    if let Some(index) = table.find(node) {
+        return Ok(index);
     }
-    let place = enter(alloc, gates, table, node)?;
-    Ok(place)
+    let index = enter(alloc, gates, table, node)?;
+    Ok(index)
 }

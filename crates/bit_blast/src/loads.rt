@@ -4,31 +4,32 @@ ghost use Rattle.std.specs.Prelude.{◌≡◌, ◌==◌, ◌++◌, ◌∷◌, []
 ghost use Rattle.std.specs.Option.{option_to_list};
 ghost use Rattle.blast_spec.specs.Gates.{claim};
 ghost use Rattle.blast_spec.specs.Goal as goal;
-ghost use Rattle.word_circuits.specs.Gives.{Gives};
-ghost use Rattle.term_table.specs.Terms.{terms_in};
+ghost use Rattle.word_circuits.specs.Built.{MakesClauses};
 ghost use Rattle.bit_blast.specs.Loads as spec;
+ghost use Rattle.bit_blast.specs.Within.{BuiltWithin};
 
+use crate::table::TermTable;
 use clause_spec::Literal;
+use cnf_core::negation;
 use std::alloc::{AllocError, Global};
 use term_bank::TermNode;
 use term_spec::BinaryOperator;
-use term_table::TermTable;
-use word_circuits::{Gates, negation};
+use word_circuits::Gates;
 
-/// The places of a load and of its memory and address.
+/// The indices of a load and of its memory and address.
 #[derive(Clone, Copy)]
-pub(crate) struct LoadPlace {
+pub(crate) struct LoadIndices {
     pub(crate) memory: usize,
     pub(crate) address: usize,
     pub(crate) byte: usize,
 }
 
-/// The load that the node at a place is.
-fn load_of(byte: usize, node: TermNode) -> Option<LoadPlace>
+/// The load that the node of an index is.
+fn load_of(byte: usize, node: TermNode) -> Option<LoadIndices>
     ensures { result ≡ spec.load_of byte node }
 {
     match node {
-        TermNode::Binary(BinaryOperator::Load, memory, address) => Some(LoadPlace {
+        TermNode::Binary(BinaryOperator::Load, memory, address) => Some(LoadIndices {
             memory,
             address,
             byte,
@@ -37,7 +38,7 @@ fn load_of(byte: usize, node: TermNode) -> Option<LoadPlace>
     }
 }
 
-fn push_some(loads: &mut Vec<LoadPlace>, load: Option<LoadPlace>) -> Result<(), AllocError>
+fn push_some(loads: &mut Vec<LoadIndices>, load: Option<LoadIndices>) -> Result<(), AllocError>
     ensures { OnOk result (loads.new.items ≡ loads.old.items ++ option_to_list load) }
 {
     if let Some(load) = load {
@@ -47,15 +48,16 @@ fn push_some(loads: &mut Vec<LoadPlace>, load: Option<LoadPlace>) -> Result<(), 
 }
 
 /// The loads among the terms of a table, in their order.
-pub(crate) fn loads_of(alloc: Global, table: &TermTable) -> Result<Vec<LoadPlace>, AllocError>
-    ensures loads { IfOk result (λ loads. map (spec.load_at table.now) loads.items ≡ goal.loads_of table.now table.now) }
+pub(crate) fn loads_of(alloc: Global, table: &TermTable) -> Result<Vec<LoadIndices>, AllocError>
+    ensures loads { IfOk result (λ loads. map (spec.load_at table.now) loads.items
+        ≡ goal.loads_of table.now table.now) }
     ensures within { IfOk result (λ loads. spec.AreWithin table.now loads.items) }
 {
     table.is_distinct();
     let mut loads = Vec::new(alloc);
-    'terms: for place in 0..table.len() {
-        let node = table.node(place);
-        push_some(&mut loads, load_of(place, node))?;
+    'terms: for index in 0..table.len() {
+        let node = table.node(index);
+        push_some(&mut loads, load_of(index, node))?;
     }
     Ok(loads)
 }
@@ -67,7 +69,7 @@ fn claim_equal(
     x: &[Literal],
     y: &[Literal],
 ) -> Result<(), AllocError>
-    ensures { OnOk result (Gives (claim (goal.equal_where same x.now y.now)) gates.old tt gates.new) }
+    ensures { MakesClauses result (claim (goal.equal_where same x.now y.now)) gates.old gates.new }
 {
     match (x.split_first(), y.split_first()) {
         (Some((a, xs)), Some((b, ys))) => {
@@ -80,43 +82,63 @@ fn claim_equal(
     }
 }
 
-/// Ties a load to later ones of its memory.
+/// Ties a load to later ones of its memory, until there are more variables than the maximum.
 fn tie(
     alloc: Global,
     gates: &mut Gates,
     table: &TermTable,
-    load: LoadPlace,
-    later: &[LoadPlace],
+    load: LoadIndices,
+    later: &[LoadIndices],
+    maximum: usize,
 ) -> Result<(), AllocError>
     requires first { spec.IsWithin table.now load }
     requires others { spec.AreWithin table.now later.now }
-    ensures { OnOk result (Gives (goal.tie (spec.load_at table.now load) (map (spec.load_at table.now) later.now)) gates.old tt gates.new) }
+    ensures { let ties = goal.tie (spec.load_at table.now load)
+        (map (spec.load_at table.now) later.now) in OnOk result
+        (BuiltWithin maximum ties gates.old tt gates.new) }
 {
     'ties: for other in later {
+        if gates.last() > maximum {
+            return Ok(());
+        }
         let same = gates.equal_bits(alloc, table.bits(load.address), table.bits(other.address))?;
         claim_equal(gates, same, table.bits(load.byte), table.bits(other.byte))?;
     }
     Ok(())
 }
 
-/// Ties each of some loads of one memory to the later ones.
+/// Ties each of some loads of one memory to the later ones, until there are more variables than the
+/// maximum.
 fn tie_all(
     alloc: Global,
     gates: &mut Gates,
     table: &TermTable,
-    loads: &[LoadPlace],
+    loads: &[LoadIndices],
+    maximum: usize,
 ) -> Result<(), AllocError>
     requires { spec.AreWithin table.now loads.now }
-    ensures { OnOk result (Gives (goal.tie_all (map (spec.load_at table.now) loads.now)) gates.old tt gates.new) }
+    ensures { let ties = goal.tie_all (map (spec.load_at table.now) loads.now) in OnOk result
+        (BuiltWithin maximum ties gates.old tt gates.new) }
 {
-    'ties: for place in 0..loads.len() {
-        tie(alloc, gates, table, loads[place], &loads[place + 1..])?;
+    'ties: for index in 0..loads.len() {
+        if gates.last() > maximum {
+            return Ok(());
+        }
+        tie(
+            alloc,
+            gates,
+            table,
+            loads[index],
+            &loads[index + 1..],
+            maximum,
+        )?;
     }
     Ok(())
 }
 
 fn push_other(memories: &mut Vec<usize>, memory: usize, other: usize) -> Result<(), AllocError>
-    ensures { OnOk result (memories.new.items ≡ memories.old.items ++ filter (λ o. not (o == memory)) (other ∷ [])) }
+    ensures { OnOk result (memories.new.items
+        ≡ memories.old.items ++ filter (λ o. not (o == memory)) (other ∷ [])) }
 {
     if other != memory {
         memories.push(other)?;
@@ -124,7 +146,7 @@ fn push_other(memories: &mut Vec<usize>, memory: usize, other: usize) -> Result<
     Ok(())
 }
 
-/// A memory in front of the others.
+/// A memory before the others.
 fn with_memory(alloc: Global, memory: usize, memories: &[usize]) -> Result<Vec<usize>, AllocError>
     ensures { IfOk result (λ all. all.items ≡ spec.with_memory memory memories.now) }
 {
@@ -137,14 +159,14 @@ fn with_memory(alloc: Global, memory: usize, memories: &[usize]) -> Result<Vec<u
 }
 
 /// The memories of some loads, in the order of their first loads.
-fn memories_of(alloc: Global, loads: &[LoadPlace]) -> Result<Vec<usize>, AllocError>
+fn memories_of(alloc: Global, loads: &[LoadIndices]) -> Result<Vec<usize>, AllocError>
     ensures { IfOk result (λ memories. memories.items ≡ spec.memories_of loads.now) }
 {
     let mut memories = Vec::new(alloc);
-    let mut place = loads.len();
-    'backwards: while place > 0 {
-        place -= 1;
-        memories = with_memory(alloc, loads[place].memory, &memories)?;
+    let mut index = loads.len();
+    'backwards: while index > 0 {
+        index -= 1;
+        memories = with_memory(alloc, loads[index].memory, &memories)?;
     }
     Ok(memories)
 }
@@ -152,10 +174,11 @@ fn memories_of(alloc: Global, loads: &[LoadPlace]) -> Result<Vec<usize>, AllocEr
 /// The loads of one memory.
 pub(crate) fn loads_from(
     alloc: Global,
-    loads: &[LoadPlace],
+    loads: &[LoadIndices],
     memory: usize,
-) -> Result<Vec<LoadPlace>, AllocError>
-    ensures { IfOk result (λ found. found.items ≡ filter (λ load. load.memory == memory) loads.now) }
+) -> Result<Vec<LoadIndices>, AllocError>
+    ensures { IfOk result (λ found. found.items
+        ≡ filter (λ load. load.memory == memory) loads.now) }
 {
     loads
         .iter()
@@ -164,20 +187,27 @@ pub(crate) fn loads_from(
         .collect(alloc)
 }
 
-/// Ties the loads among the terms of a table, memory by memory.
+/// Ties the loads among the terms of a table, memory by memory, until there are more variables than
+/// the maximum.
 pub(crate) fn tie_memories(
     alloc: Global,
     gates: &mut Gates,
     table: &TermTable,
+    maximum: usize,
 ) -> Result<(), AllocError>
-    ensures { let loads = goal.loads_of table.now table.now in OnOk result (Gives (goal.tie_memories (goal.memories_of loads) loads) gates.old tt gates.new) }
+    ensures { let loads = goal.loads_of table.now table.now in
+        let ties = goal.tie_memories (goal.memories_of loads) loads in OnOk result
+        (BuiltWithin maximum ties gates.old tt gates.new) }
 {
     table.is_distinct();
     let loads = loads_of(alloc, table)?;
     let memories = memories_of(alloc, &loads)?;
     'memories: for memory in &memories {
+        if gates.last() > maximum {
+            return Ok(());
+        }
         let own = loads_from(alloc, &loads, *memory)?;
-        tie_all(alloc, gates, table, &own)?;
+        tie_all(alloc, gates, table, &own, maximum)?;
     }
     Ok(())
 }

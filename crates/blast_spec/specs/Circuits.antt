@@ -92,12 +92,12 @@ less_bit xs ys = carry_bit xs (map negation ys) one >>= λ carry. give (negation
 abbrev pub and_each : Bits → Literal → Build Bits
 and_each xs bit = each (λ x. and_gate x bit) xs
 
--- one row for each bit of y, moved up by its place, is added to what stands
-unfoldable pub add_rows : (xs : Bits) → (place : ℕ) → (ys : Bits) → (so_far : Bits) → Build Bits
-add_rows xs place [] so_far = give so_far
-add_rows xs place (y ∷ ys) so_far =
-    and_each (take (length xs - place) xs) y >>= λ row. sum_bits so_far (zeros place ++ row) none >>= λ sum.
-    add_rows xs (suc place) ys sum
+-- one row for each bit of y, moved up by its index, is added to the sum so far
+unfoldable pub add_rows : (xs : Bits) → (index : ℕ) → (ys : Bits) → (so_far : Bits) → Build Bits
+add_rows xs index [] so_far = give so_far
+add_rows xs index (y ∷ ys) so_far =
+    and_each (take (length xs - index) xs) y >>= λ row. sum_bits so_far (zeros index ++ row) none >>= λ sum.
+    add_rows xs (suc index) ys sum
 
 unfoldable pub product_bits : Bits → Bits → Build Bits
 product_bits xs [] = give []
@@ -105,18 +105,18 @@ product_bits xs (y ∷ ys) = and_each xs y >>= λ row. add_rows xs 1 ys row
 
 -- ---- shifts
 
-abbrev pub moved_up : (places : ℕ) → Bits → Bits
-moved_up places xs = zeros places ++ take (length xs - places) xs
+abbrev pub moved_up : (distance : ℕ) → Bits → Bits
+moved_up distance xs = zeros distance ++ take (length xs - distance) xs
 
-abbrev pub moved_down : Literal → (places : ℕ) → Bits → Bits
-moved_down fill places xs = drop places xs ++ replicate places fill
+abbrev pub moved_down : Literal → (distance : ℕ) → Bits → Bits
+moved_down fill distance xs = drop distance xs ++ replicate distance fill
 
--- the barrel shifter: a stage for each bit of the count that is worth less than the width; and whether one of the
+-- the barrel shifter: a stage for each bit of the count whose power of two is below the width; and whether one of the
 -- higher bits is set
-unfoldable pub shift_stages : (move : ℕ → Bits → Bits) → (places : ℕ) → (counts : Bits) → Bits → Build (Bits × Literal)
-shift_stages move places [] xs = give (xs, none)
-shift_stages move places (c ∷ counts) xs =
-    if nat_lt places (length xs) then choose_bits c (move places xs) xs >>= (λ moved. shift_stages move (2 * places) counts moved)
+unfoldable pub shift_stages : (move : ℕ → Bits → Bits) → (distance : ℕ) → (counts : Bits) → Bits → Build (Bits × Literal)
+shift_stages move distance [] xs = give (xs, none)
+shift_stages move distance (c ∷ counts) xs =
+    if nat_lt distance (length xs) then choose_bits c (move distance xs) xs >>= (λ moved. shift_stages move (2 * distance) counts moved)
     else or_all (c ∷ counts) >>= (λ past. give (xs, past))
 
 -- nothing is left where a higher bit of the count is set
@@ -136,10 +136,10 @@ shift_signed_bits xs counts =
 
 -- ---- quotient and remainder
 
--- so many new bits of a term, from a place on
-unfoldable pub new_bits : Term → (place count : ℕ) → Build Bits
-new_bits term place zero = give []
-new_bits term place (suc count) = make (Bit term place) >>= λ bit. new_bits term (suc place) count >>= λ rest. give (bit ∷ rest)
+-- so many new bits of a term, from an index on
+unfoldable pub new_bits : Term → (index count : ℕ) → Build Bits
+new_bits term index zero = give []
+new_bits term index (suc count) = make (Bit term index) >>= λ bit. new_bits term (suc index) count >>= λ rest. give (bit ∷ rest)
 
 abbrev pub twice_as_wide : Bits → Bits
 twice_as_wide xs = xs ++ zeros (length xs)

@@ -1,15 +1,15 @@
--- Gates over numbered variables, the clauses of each, and how gates are numbered as they are made.
+-- Gates over numbered variables, the clauses of each (Tseitin's), and how gates are numbered as they are made.
 use Rattle.std.specs.Prelude.{ℕ, ◌+◌, Bool, true, false, List, [], ◌∷◌, ◌++◌}
 use Rattle.clause_spec.specs.declared.Literal.{Literal}
 use Rattle.clause_spec.specs.Clause.{Clause, negation}
 use Rattle.term_spec.specs.Term.{Term}
 
--- what a new variable stands for
+-- what a new variable is equal to
 pub data Gate : Type 0 where
   -- truth
   Truth : Gate
   -- a bit, lowest first, of a term that has no gates of its own: a variable, a load, a quotient or a remainder
-  Bit : (term : Term) → (place : ℕ) → Gate
+  Bit : (term : Term) → (index : ℕ) → Gate
   -- both
   And : (a b : Literal) → Gate
   -- one of them alone
@@ -21,10 +21,10 @@ pub data Gate : Type 0 where
   -- no variable, but a clause over those before
   Claim : (clause : Clause) → Gate
 
--- the clauses that say what the literal o of a new variable stands for
+-- the clauses that make the literal o of a new variable equal to its gate
 abbrev pub gate_clauses : (o : Literal) → Gate → List Clause
 gate_clauses o Truth = (o ∷ []) ∷ []
-gate_clauses o (Bit term place) = []
+gate_clauses o (Bit term index) = []
 gate_clauses o (And a b) =
     (negation o ∷ a ∷ [])
     ∷ (negation o ∷ b ∷ [])
@@ -55,7 +55,7 @@ gate_clauses o (Claim clause) = clause ∷ []
 -- the number of the last variable, one gate on
 abbrev pub next : (last : ℕ) → Gate → ℕ
 next last Truth = last + 1
-next last (Bit term place) = last + 1
+next last (Bit term index) = last + 1
 next last (And a b) = last + 1
 next last (Xor a b) = last + 1
 next last (Mux c a b) = last + 1
@@ -89,16 +89,16 @@ Build A = (last : ℕ) → Made A
 abbrev pub give : {A : Type 0} → A → Build A
 give x = λ last. record { out = x; gates = [] }
 
-abbrev pub behind : {A B : Type 0} → ℕ → Made A → (A → Build B) → Made B
-behind last first more = record {
+abbrev pub following : {A B : Type 0} → ℕ → Made A → (A → Build B) → Made B
+following last first more = record {
   out = (more first.out (last_of last first.gates)).out;
   gates = first.gates ++ (more first.out (last_of last first.gates)).gates;
 }
 
--- first these gates, then those for which what came of them is wanted
+-- first these gates, then those that use their outcome
 infixl 15 ◌>>=◌
 abbrev pub ◌>>=◌ : {A B : Type 0} → Build A → (A → Build B) → Build B
-build >>= more = λ last. behind last (build last) more
+build >>= more = λ last. following last (build last) more
 
 -- the literal of a new variable
 abbrev pub make : Gate → Build Literal

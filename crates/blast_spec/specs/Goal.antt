@@ -60,7 +60,7 @@ unary_bits unary.Complement x = give (map negation x)
 unary_bits (unary.ZeroExtend width) x = give (x ++ zeros (bits width - length x))
 unary_bits (unary.SignExtend width) x = give (x ++ replicate (bits width - length x) (sign_of x))
 unary_bits (unary.Low width) x = give (take (bits width) x)
-unary_bits (unary.Byte place) x = give (take 8 (drop (8 * place) x))
+unary_bits (unary.Byte index) x = give (take 8 (drop (8 * index) x))
 
 unfoldable pub word_bits : WordOperator → Bits → Bits → Build Bits
 word_bits word.Add x y = sum_bits x y none

@@ -1,7 +1,6 @@
--- Expressions and types: which leaves spell which tree (ISO C11, 6.5 to 6.7.7). `names` are the names of types
--- that are in force, `depth` is the number of constructs that are open around, and `count` the number of
--- operators that stand before in the same whole expression. A relation has the name of C11's
--- nonterminal where C11 has one.
+-- Expressions and types: which leaves derive which tree (ISO C11, 6.5 to 6.7.7). `names` are the typedef names in
+-- scope, `depth` is the number of constructs that are open, and `count` the number of operators before in the same
+-- whole expression. A relation has the name of C11's nonterminal where C11 has one.
 use Rattle.std.specs.Prelude.{◌≡◌, ℕ, suc, ◌+◌, ◌==◌, ◌&&◌, ◌||◌, bytes_eq, Bool, true, false, List, [], ◌∷◌, ◌++◌, map, length, Option, Some, None, option_map, find, filter}
 use Rattle.std.specs.List.{list_any}
 use Rattle.c_spec.specs.declared.token.Keyword.{Keyword}
@@ -20,11 +19,11 @@ use Rattle.c_tree_spec.specs.declared.IntegerType.TheVariants as integer
 use Rattle.c_tree_spec.specs.Expression as tree
 use Rattle.c_grammar_spec.specs.declared.Role.{Role}
 use Rattle.c_grammar_spec.specs.declared.Role.TheVariants.{Nothing, DeclaredName, MemberEnd, OperandEnd}
-use Rattle.c_grammar_spec.specs.Leaves.{Leaf, plain, awaited, opens, operates, brackets, mark, word, named, number, character, first_place}
+use Rattle.c_grammar_spec.specs.Leaves.{Leaf, plain, expected, opens, operates, brackets, mark, keyword_at, named, number, character, first_offset}
 
--- a name is one of a type
-abbrev pub is_type_name : (names : List (List ℕ)) → (spelling : List ℕ) → Bool
-is_type_name names spelling = list_any (λ name. bytes_eq name spelling) names
+-- the name is a typedef name
+abbrev pub is_typedef_name : (names : List (List ℕ)) → (spelling : List ℕ) → Bool
+is_typedef_name names spelling = list_any (λ name. bytes_eq name spelling) names
 
 -- the tokens of operators
 abbrev pub access_mark : Access → Punctuator
@@ -85,32 +84,32 @@ level_of LogicalOr = 10
 abbrev mutual
   pub operators : tree.Expression → ℕ
   operators (tree.Named name) = 0
-  operators (tree.Number value type place) = 0
-  operators (tree.Character value place) = 0
-  operators (tree.Bracketed inner place) = suc (operators inner)
-  operators (tree.Index base index place) = operators base + suc (operators index)
-  operators (tree.Member base access member place) = suc (operators base)
-  operators (tree.Unary operator operand place) = suc (operators operand)
-  operators (tree.Sizeof operand place) = suc (operators operand)
-  operators (tree.SizeofType type place) = suc (suc (operators_of_type type))
-  operators (tree.Cast type operand place) = suc (operators_of_type type + operators operand)
-  operators (tree.Binary operator left right place) = operators left + suc (operators right)
-  operators (tree.Conditional test first second place) = operators test + suc (operators first + operators second)
+  operators (tree.Number value type offset) = 0
+  operators (tree.Character value offset) = 0
+  operators (tree.Bracketed inner offset) = suc (operators inner)
+  operators (tree.Index base index offset) = operators base + suc (operators index)
+  operators (tree.Member base access member offset) = suc (operators base)
+  operators (tree.Unary operator operand offset) = suc (operators operand)
+  operators (tree.Sizeof operand offset) = suc (operators operand)
+  operators (tree.SizeofType type offset) = suc (suc (operators_of_type type))
+  operators (tree.Cast type operand offset) = suc (operators_of_type type + operators operand)
+  operators (tree.Binary operator left right offset) = operators left + suc (operators right)
+  operators (tree.Conditional test first second offset) = operators test + suc (operators first + operators second)
 
   pub operators_of_type : tree.TypeName → ℕ
   operators_of_type (tree.Pointers specifiers pointers) = operators_of_specifiers specifiers
 
   pub operators_of_specifiers : tree.Specifiers → ℕ
-  operators_of_specifiers (tree.Specified storage base place) = operators_of_base base
+  operators_of_specifiers (tree.Specified storage base offset) = operators_of_type_specifier base
 
-  pub operators_of_base : tree.Base → ℕ
-  operators_of_base tree.Void = 0
-  operators_of_base (tree.Integer type) = 0
-  operators_of_base (tree.TypedefName name) = 0
-  operators_of_base (tree.StructTag tag) = 0
-  operators_of_base (tree.Struct tag inside) = operators_of_members inside
-  operators_of_base (tree.EnumTag tag) = 0
-  operators_of_base (tree.Enum tag inside) = operators_of_constants inside
+  pub operators_of_type_specifier : tree.TypeSpecifier → ℕ
+  operators_of_type_specifier tree.Void = 0
+  operators_of_type_specifier (tree.Integer type) = 0
+  operators_of_type_specifier (tree.TypedefName name) = 0
+  operators_of_type_specifier (tree.StructTag tag) = 0
+  operators_of_type_specifier (tree.Struct tag inside) = operators_of_members inside
+  operators_of_type_specifier (tree.EnumTag tag) = 0
+  operators_of_type_specifier (tree.Enum tag inside) = operators_of_constants inside
 
   pub operators_of_members : tree.Members → ℕ
   operators_of_members tree.no_members = 0
@@ -134,12 +133,12 @@ abbrev mutual
 
 -- Which whole expression the lengths and enumeration values of a type belong to: in a declaration each is one of
 -- its own; in the type of a cast or of `sizeof` they belong to the expression around, of which so many operators
--- stand before.
+-- precede.
 pub data Counting : Type 0 where
   Alone : Counting
   Within : (count : ℕ) → Counting
 
--- how many operators stand before, in the same whole expression
+-- how many operators there are before, in the same whole expression
 abbrev pub count_at : Counting → ℕ
 count_at Alone = 0
 count_at (Within count) = count
@@ -149,27 +148,28 @@ abbrev pub advance : Counting → (more : ℕ) → Counting
 advance Alone more = Alone
 advance (Within count) more = Within (count + more)
 
--- where specifiers stand: directly in an item of the unit, directly in a declaration of locals, or elsewhere
+-- where specifiers occur: directly in an external declaration, directly in a declaration of locals, or elsewhere
 pub data Position : Type 0 where
-  InItem : Position
-  InLocal : Position
-  InPart : Position
+  InExternalDeclaration : Position
+  InLocalDeclaration : Position
+  Elsewhere : Position
 
--- storage words that are given twice count once
+-- storage-class specifiers that are given twice count once
 abbrev pub both : tree.Storage → tree.Storage → tree.Storage
 both one two = record { is_typedef = one.is_typedef || two.is_typedef; is_static = one.is_static || two.is_static }
 
--- the words before or after a base (6.7.1, 6.7.3, 6.7.4)
+-- the storage-class specifiers, qualifiers and function specifiers before or after a type specifier (6.7.1, 6.7.3,
+-- 6.7.4)
 pub data Words : Position → tree.Storage → List Leaf → Type 0 where
   none : (position : Position) → Words position (record { is_typedef = false; is_static = false }) []
-  const : (position : Position) (storage : tree.Storage) (text : List Leaf) (place : ℕ) → Words position storage text → Words position storage (plain (word Const place) ∷ text)
-  typedef : (storage : tree.Storage) (text : List Leaf) (place : ℕ) → Words InItem storage text → Words InItem (record { is_typedef = true; is_static = storage.is_static }) (plain (word Typedef place) ∷ text)
-  extern : (storage : tree.Storage) (text : List Leaf) (place : ℕ) → Words InItem storage text → Words InItem storage (plain (word Extern place) ∷ text)
-  inline : (storage : tree.Storage) (text : List Leaf) (place : ℕ) → Words InItem storage text → Words InItem storage (plain (word Inline place) ∷ text)
-  static_item : (storage : tree.Storage) (text : List Leaf) (place : ℕ) → Words InItem storage text → Words InItem (record { is_typedef = storage.is_typedef; is_static = true }) (plain (word Static place) ∷ text)
-  static_local : (storage : tree.Storage) (text : List Leaf) (place : ℕ) → Words InLocal storage text → Words InLocal (record { is_typedef = storage.is_typedef; is_static = true }) (plain (word Static place) ∷ text)
+  const : (position : Position) (storage : tree.Storage) (text : List Leaf) (offset : ℕ) → Words position storage text → Words position storage (plain (keyword_at Const offset) ∷ text)
+  typedef : (storage : tree.Storage) (text : List Leaf) (offset : ℕ) → Words InExternalDeclaration storage text → Words InExternalDeclaration (record { is_typedef = true; is_static = storage.is_static }) (plain (keyword_at Typedef offset) ∷ text)
+  extern : (storage : tree.Storage) (text : List Leaf) (offset : ℕ) → Words InExternalDeclaration storage text → Words InExternalDeclaration storage (plain (keyword_at Extern offset) ∷ text)
+  inline : (storage : tree.Storage) (text : List Leaf) (offset : ℕ) → Words InExternalDeclaration storage text → Words InExternalDeclaration storage (plain (keyword_at Inline offset) ∷ text)
+  static_external : (storage : tree.Storage) (text : List Leaf) (offset : ℕ) → Words InExternalDeclaration storage text → Words InExternalDeclaration (record { is_typedef = storage.is_typedef; is_static = true }) (plain (keyword_at Static offset) ∷ text)
+  static_local : (storage : tree.Storage) (text : List Leaf) (offset : ℕ) → Words InLocalDeclaration storage text → Words InLocalDeclaration (record { is_typedef = storage.is_typedef; is_static = true }) (plain (keyword_at Static offset) ∷ text)
 
--- which words name an integer type (6.7.2)
+-- which keywords name an integer type (6.7.2)
 abbrev pub combinations : List (List Keyword × IntegerType)
 combinations =
     (Char ∷ [], integer.Char)
@@ -185,7 +185,7 @@ combinations =
     ∷ (Unsigned ∷ Long ∷ Long ∷ [], integer.UnsignedLongLong) ∷ (Unsigned ∷ Long ∷ Long ∷ Int ∷ [], integer.UnsignedLongLong)
     ∷ []
 
--- tests of one word
+-- tests of one keyword
 abbrev pub is_char : Keyword → Bool
 is_char Char = true
 is_char other = false
@@ -227,28 +227,28 @@ integer_type_of words = option_map (λ entry. entry.1) (find (λ entry. same_wor
 -- `const`, any number of times
 pub data Consts : List Leaf → Type 0 where
   none : Consts []
-  const : (text : List Leaf) (place : ℕ) → Consts text → Consts (plain (word Const place) ∷ text)
+  const : (text : List Leaf) (offset : ℕ) → Consts text → Consts (plain (keyword_at Const offset) ∷ text)
 
--- so many `*`, each with `const` behind it or without (6.7.6)
+-- so many `*`, each followed by any number of `const` (6.7.6)
 pub data Pointer : (pointers : ℕ) → List Leaf → Type 0 where
   none : Pointer 0 []
-  star : (pointers place : ℕ) (consts text : List Leaf) → Consts consts → Pointer pointers text → Pointer (suc pointers) (plain (mark punctuator.Star place) ∷ consts ++ text)
+  star : (pointers offset : ℕ) (consts text : List Leaf) → Consts consts → Pointer pointers text → Pointer (suc pointers) (plain (mark punctuator.Star offset) ∷ consts ++ text)
 
 -- a tag, or none
 pub data Tag (names : List (List ℕ)) : Option tree.Name → List Leaf → Type 0 where
   none : Tag names None []
-  tag : (name : tree.Name) → is_type_name names name.spelling ≡ false → Tag names (Some name) (plain (named name) ∷ [])
+  tag : (name : tree.Name) → is_typedef_name names name.spelling ≡ false → Tag names (Some name) (plain (named name) ∷ [])
 
--- a declared name: one of a member may be one of a type too
+-- a declared name: a member may have a typedef name
 abbrev pub can_declare : (is_member : Bool) → (names : List (List ℕ)) → (spelling : List ℕ) → Bool
 can_declare true names spelling = true
-can_declare false names spelling = not_type (is_type_name names spelling)
+can_declare false names spelling = not_type (is_typedef_name names spelling)
   where
     not_type : Bool → Bool
     not_type true = false
     not_type false = true
 
--- what is awaited behind a member's declarator: where it is no array its end stands directly behind the name
+-- what is expected after a member's declarator: where it is no array it ends directly after the name
 abbrev pub member_end : tree.Declarator → Role
 member_end (tree.Declared pointers name true lengths) = Nothing
 member_end (tree.Declared pointers name false tree.no_expressions) = MemberEnd
@@ -257,113 +257,113 @@ member_end (tree.Declared pointers name false (tree.expressions length rest)) = 
 mutual
   -- 6.5.1
   pub data Primary (names : List (List ℕ)) : (depth count : ℕ) → tree.Expression → List Leaf → Type 0 where
-    name : (depth count : ℕ) (n : tree.Name) → is_type_name names n.spelling ≡ false → Primary names depth count (tree.Named n) (plain (named n) ∷ [])
-    constant : (depth count value : ℕ) (type : NumberType) (place : ℕ) → Primary names depth count (tree.Number value type place) (plain (number value type place) ∷ [])
-    character_constant : (depth count value place : ℕ) → Primary names depth count (tree.Character value place) (plain (character value place) ∷ [])
-    bracketed : (depth count : ℕ) (x : tree.Expression) (inside : List Leaf) (place close : ℕ) → Conditional names (suc depth) (suc count) x inside
-        → Primary names depth count (tree.Bracketed x place) (brackets (suc depth) (suc count) (mark punctuator.LeftParenthesis place) ∷ inside ++ awaited OperandEnd (mark punctuator.RightParenthesis close) ∷ [])
+    name : (depth count : ℕ) (n : tree.Name) → is_typedef_name names n.spelling ≡ false → Primary names depth count (tree.Named n) (plain (named n) ∷ [])
+    constant : (depth count value : ℕ) (type : NumberType) (offset : ℕ) → Primary names depth count (tree.Number value type offset) (plain (number value type offset) ∷ [])
+    character_constant : (depth count value offset : ℕ) → Primary names depth count (tree.Character value offset) (plain (character value offset) ∷ [])
+    bracketed : (depth count : ℕ) (x : tree.Expression) (inside : List Leaf) (offset close : ℕ) → Conditional names (suc depth) (suc count) x inside
+        → Primary names depth count (tree.Bracketed x offset) (brackets (suc depth) (suc count) (mark punctuator.LeftParenthesis offset) ∷ inside ++ expected OperandEnd (mark punctuator.RightParenthesis close) ∷ [])
 
   -- 6.5.2
   pub data Postfix (names : List (List ℕ)) : (depth count : ℕ) → tree.Expression → List Leaf → Type 0 where
     primary : (depth count : ℕ) (x : tree.Expression) (text : List Leaf) → Primary names depth count x text → Postfix names depth count x text
-    index : (depth count : ℕ) (base i : tree.Expression) (front inside : List Leaf) (place close : ℕ) → Postfix names depth count base front → Conditional names (suc depth) (suc (count + operators base)) i inside
-        → Postfix names depth count (tree.Index base i place) (front ++ (brackets (suc depth) (suc (count + operators base)) (mark punctuator.LeftBracket place) ∷ inside ++ awaited OperandEnd (mark punctuator.RightBracket close) ∷ []))
-    member : (depth count : ℕ) (base : tree.Expression) (access : Access) (n : tree.Name) (front : List Leaf) (place : ℕ) → Postfix names depth count base front
-        → Postfix names depth count (tree.Member base access n place) (front ++ operates (suc (count + operators base)) (mark (access_mark access) place) ∷ plain (named n) ∷ [])
+    index : (depth count : ℕ) (base i : tree.Expression) (prefix inside : List Leaf) (offset close : ℕ) → Postfix names depth count base prefix → Conditional names (suc depth) (suc (count + operators base)) i inside
+        → Postfix names depth count (tree.Index base i offset) (prefix ++ (brackets (suc depth) (suc (count + operators base)) (mark punctuator.LeftBracket offset) ∷ inside ++ expected OperandEnd (mark punctuator.RightBracket close) ∷ []))
+    member : (depth count : ℕ) (base : tree.Expression) (access : Access) (n : tree.Name) (prefix : List Leaf) (offset : ℕ) → Postfix names depth count base prefix
+        → Postfix names depth count (tree.Member base access n offset) (prefix ++ operates (suc (count + operators base)) (mark (access_mark access) offset) ∷ plain (named n) ∷ [])
 
   -- 6.5.3
   pub data Unary (names : List (List ℕ)) : (depth count : ℕ) → tree.Expression → List Leaf → Type 0 where
     postfix : (depth count : ℕ) (x : tree.Expression) (text : List Leaf) → Postfix names depth count x text → Unary names depth count x text
-    prefixed : (depth count : ℕ) (operator : UnaryOperator) (x : tree.Expression) (text : List Leaf) (place : ℕ) → Cast names depth (suc count) x text
-        → Unary names depth count (tree.Unary operator x place) (operates (suc count) (mark (unary_mark operator) place) ∷ text)
-    sizeof_expression : (depth count : ℕ) (x : tree.Expression) (text : List Leaf) (place : ℕ) → Unary names depth (suc count) x text
-        → Unary names depth count (tree.Sizeof x place) (operates (suc count) (word Sizeof place) ∷ text)
-    sizeof_type : (depth count : ℕ) (type : tree.TypeName) (text : List Leaf) (place open_place close : ℕ) → TypeName names (suc depth) (Within (suc (suc count))) type text
-        → Unary names depth count (tree.SizeofType type place) (operates (suc count) (word Sizeof place) ∷ brackets (suc depth) (suc (suc count)) (mark punctuator.LeftParenthesis open_place) ∷ text ++ plain (mark punctuator.RightParenthesis close) ∷ [])
+    prefixed : (depth count : ℕ) (operator : UnaryOperator) (x : tree.Expression) (text : List Leaf) (offset : ℕ) → Cast names depth (suc count) x text
+        → Unary names depth count (tree.Unary operator x offset) (operates (suc count) (mark (unary_mark operator) offset) ∷ text)
+    sizeof_expression : (depth count : ℕ) (x : tree.Expression) (text : List Leaf) (offset : ℕ) → Unary names depth (suc count) x text
+        → Unary names depth count (tree.Sizeof x offset) (operates (suc count) (keyword_at Sizeof offset) ∷ text)
+    sizeof_type : (depth count : ℕ) (type : tree.TypeName) (text : List Leaf) (offset open_offset close : ℕ) → TypeName names (suc depth) (Within (suc (suc count))) type text
+        → Unary names depth count (tree.SizeofType type offset) (operates (suc count) (keyword_at Sizeof offset) ∷ brackets (suc depth) (suc (suc count)) (mark punctuator.LeftParenthesis open_offset) ∷ text ++ plain (mark punctuator.RightParenthesis close) ∷ [])
 
   -- 6.5.4
   pub data Cast (names : List (List ℕ)) : (depth count : ℕ) → tree.Expression → List Leaf → Type 0 where
     unary : (depth count : ℕ) (x : tree.Expression) (text : List Leaf) → Unary names depth count x text → Cast names depth count x text
-    cast : (depth count : ℕ) (type : tree.TypeName) (x : tree.Expression) (inside text : List Leaf) (place close : ℕ) → TypeName names (suc depth) (Within (suc count)) type inside → Cast names depth (suc count + operators_of_type type) x text
-        → Cast names depth count (tree.Cast type x place) (brackets (suc depth) (suc count) (mark punctuator.LeftParenthesis place) ∷ inside ++ plain (mark punctuator.RightParenthesis close) ∷ text)
+    cast : (depth count : ℕ) (type : tree.TypeName) (x : tree.Expression) (inside text : List Leaf) (offset close : ℕ) → TypeName names (suc depth) (Within (suc count)) type inside → Cast names depth (suc count + operators_of_type type) x text
+        → Cast names depth count (tree.Cast type x offset) (brackets (suc depth) (suc count) (mark punctuator.LeftParenthesis offset) ∷ inside ++ plain (mark punctuator.RightParenthesis close) ∷ text)
 
   -- 6.5.5 to 6.5.14: the operands and operators of the levels up to this one, each level from the left
   pub data Binary (names : List (List ℕ)) : (level depth count : ℕ) → tree.Expression → List Leaf → Type 0 where
     operand : (depth count : ℕ) (x : tree.Expression) (text : List Leaf) → Cast names depth count x text → Binary names 0 depth count x text
     tighter : (level depth count : ℕ) (x : tree.Expression) (text : List Leaf) → Binary names level depth count x text → Binary names (suc level) depth count x text
-    operation : (level depth count : ℕ) (operator : BinaryOperator) (x y : tree.Expression) (left right : List Leaf) (place : ℕ) → level_of operator ≡ suc level
+    operation : (level depth count : ℕ) (operator : BinaryOperator) (x y : tree.Expression) (left right : List Leaf) (offset : ℕ) → level_of operator ≡ suc level
         → Binary names (suc level) depth count x left → Binary names level depth (suc (count + operators x)) y right
-        → Binary names (suc level) depth count (tree.Binary operator x y place) (left ++ operates (suc (count + operators x)) (mark (binary_mark operator) place) ∷ right)
+        → Binary names (suc level) depth count (tree.Binary operator x y offset) (left ++ operates (suc (count + operators x)) (mark (binary_mark operator) offset) ∷ right)
 
   -- 6.5.15
   pub data Conditional (names : List (List ℕ)) : (depth count : ℕ) → tree.Expression → List Leaf → Type 0 where
     logical_or : (depth count : ℕ) (x : tree.Expression) (text : List Leaf) → Binary names 10 depth count x text → Conditional names depth count x text
-    conditional : (depth count : ℕ) (x y z : tree.Expression) (test first second : List Leaf) (place colon : ℕ) → Binary names 10 depth count x test
+    conditional : (depth count : ℕ) (x y z : tree.Expression) (test first second : List Leaf) (offset colon : ℕ) → Binary names 10 depth count x test
         → Conditional names depth (suc (count + operators x)) y first → Conditional names depth (suc (count + operators x) + operators y) z second
-        → Conditional names depth count (tree.Conditional x y z place) (test ++ (operates (suc (count + operators x)) (mark punctuator.Question place) ∷ first ++ awaited OperandEnd (mark punctuator.Colon colon) ∷ second))
+        → Conditional names depth count (tree.Conditional x y z offset) (test ++ (operates (suc (count + operators x)) (mark punctuator.Question offset) ∷ first ++ expected OperandEnd (mark punctuator.Colon colon) ∷ second))
 
   -- 6.7.7: the type of a cast or of `sizeof`
   pub data TypeName (names : List (List ℕ)) : (depth : ℕ) → (counting : Counting) → tree.TypeName → List Leaf → Type 0 where
-    type_name : (depth : ℕ) (counting : Counting) (specifiers : tree.Specifiers) (pointers : ℕ) (left stars : List Leaf) → Specifiers names InPart depth counting specifiers left → Pointer pointers stars
+    type_name : (depth : ℕ) (counting : Counting) (specifiers : tree.Specifiers) (pointers : ℕ) (left stars : List Leaf) → Specifiers names Elsewhere depth counting specifiers left → Pointer pointers stars
         → TypeName names depth counting (tree.Pointers specifiers pointers) (left ++ stars)
 
-  -- 6.7: one base, and words before and after it
+  -- 6.7: one type specifier, and other specifiers before and after it
   pub data Specifiers (names : List (List ℕ)) : Position → (depth : ℕ) → (counting : Counting) → tree.Specifiers → List Leaf → Type 0 where
-    specifiers : (position : Position) (depth : ℕ) (counting : Counting) (one two : tree.Storage) (base : tree.Base) (before middle after : List Leaf) → Words position one before → Base names depth counting base middle → Words position two after
-        → Specifiers names position depth counting (tree.Specified (both one two) base (first_place (before ++ middle))) (before ++ (middle ++ after))
+    specifiers : (position : Position) (depth : ℕ) (counting : Counting) (one two : tree.Storage) (base : tree.TypeSpecifier) (before middle after : List Leaf) → Words position one before → TypeSpecifier names depth counting base middle → Words position two after
+        → Specifiers names position depth counting (tree.Specified (both one two) base (first_offset (before ++ middle))) (before ++ (middle ++ after))
 
   -- 6.7.2
-  pub data Base (names : List (List ℕ)) : (depth : ℕ) → (counting : Counting) → tree.Base → List Leaf → Type 0 where
-    void : (depth : ℕ) (counting : Counting) (place : ℕ) → Base names depth counting tree.Void (plain (word Void place) ∷ [])
+  pub data TypeSpecifier (names : List (List ℕ)) : (depth : ℕ) → (counting : Counting) → tree.TypeSpecifier → List Leaf → Type 0 where
+    void : (depth : ℕ) (counting : Counting) (offset : ℕ) → TypeSpecifier names depth counting tree.Void (plain (keyword_at Void offset) ∷ [])
     integer_type : (depth : ℕ) (counting : Counting) (type : IntegerType) (words : List (Keyword × ℕ)) → integer_type_of (map (λ w. w.0) words) ≡ Some type
-        → Base names depth counting (tree.Integer type) (map (λ w. plain (word w.0 w.1)) words)
-    typedef_name : (depth : ℕ) (counting : Counting) (n : tree.Name) → is_type_name names n.spelling ≡ true → Base names depth counting (tree.TypedefName n) (plain (named n) ∷ [])
-    struct_tag : (depth : ℕ) (counting : Counting) (n : tree.Name) (place : ℕ) → is_type_name names n.spelling ≡ false → Base names depth counting (tree.StructTag n) (plain (word Struct place) ∷ plain (named n) ∷ [])
-    struct : (depth : ℕ) (counting : Counting) (tag : Option tree.Name) (members : tree.Members) (name inside : List Leaf) (place open_place close : ℕ) → Tag names tag name → Members names (suc depth) counting members inside
-        → Base names depth counting (tree.Struct tag members) (plain (word Struct place) ∷ name ++ (opens (suc depth) (mark punctuator.LeftBrace open_place) ∷ inside ++ plain (mark punctuator.RightBrace close) ∷ []))
-    enum_tag : (depth : ℕ) (counting : Counting) (n : tree.Name) (place : ℕ) → is_type_name names n.spelling ≡ false → Base names depth counting (tree.EnumTag n) (plain (word Enum place) ∷ plain (named n) ∷ [])
-    enum : (depth : ℕ) (counting : Counting) (tag : Option tree.Name) (constants : tree.Constants) (name inside : List Leaf) (end : Role) (place open_place close : ℕ) → Tag names tag name → Constants names (suc depth) counting constants end inside
-        → Base names depth counting (tree.Enum tag constants) (plain (word Enum place) ∷ name ++ (opens (suc depth) (mark punctuator.LeftBrace open_place) ∷ inside ++ awaited end (mark punctuator.RightBrace close) ∷ []))
+        → TypeSpecifier names depth counting (tree.Integer type) (map (λ w. plain (keyword_at w.0 w.1)) words)
+    typedef_name : (depth : ℕ) (counting : Counting) (n : tree.Name) → is_typedef_name names n.spelling ≡ true → TypeSpecifier names depth counting (tree.TypedefName n) (plain (named n) ∷ [])
+    struct_tag : (depth : ℕ) (counting : Counting) (n : tree.Name) (offset : ℕ) → is_typedef_name names n.spelling ≡ false → TypeSpecifier names depth counting (tree.StructTag n) (plain (keyword_at Struct offset) ∷ plain (named n) ∷ [])
+    struct : (depth : ℕ) (counting : Counting) (tag : Option tree.Name) (members : tree.Members) (name inside : List Leaf) (offset open_offset close : ℕ) → Tag names tag name → Members names (suc depth) counting members inside
+        → TypeSpecifier names depth counting (tree.Struct tag members) (plain (keyword_at Struct offset) ∷ name ++ (opens (suc depth) (mark punctuator.LeftBrace open_offset) ∷ inside ++ plain (mark punctuator.RightBrace close) ∷ []))
+    enum_tag : (depth : ℕ) (counting : Counting) (n : tree.Name) (offset : ℕ) → is_typedef_name names n.spelling ≡ false → TypeSpecifier names depth counting (tree.EnumTag n) (plain (keyword_at Enum offset) ∷ plain (named n) ∷ [])
+    enum : (depth : ℕ) (counting : Counting) (tag : Option tree.Name) (constants : tree.Constants) (name inside : List Leaf) (end : Role) (offset open_offset close : ℕ) → Tag names tag name → Constants names (suc depth) counting constants end inside
+        → TypeSpecifier names depth counting (tree.Enum tag constants) (plain (keyword_at Enum offset) ∷ name ++ (opens (suc depth) (mark punctuator.LeftBrace open_offset) ∷ inside ++ expected end (mark punctuator.RightBrace close) ∷ []))
 
   -- 6.7.2.1: declarations of members
   pub data Members (names : List (List ℕ)) : (depth : ℕ) → (counting : Counting) → tree.Members → List Leaf → Type 0 where
     no_members : (depth : ℕ) (counting : Counting) → Members names depth counting tree.no_members []
-    members : (depth : ℕ) (counting : Counting) (specifiers : tree.Specifiers) (declarators : tree.Declarators) (rest : tree.Members) (left middle right : List Leaf) → Specifiers names InPart depth counting specifiers left → MemberDeclarators names depth (advance counting (operators_of_specifiers specifiers)) declarators middle
+    members : (depth : ℕ) (counting : Counting) (specifiers : tree.Specifiers) (declarators : tree.Declarators) (rest : tree.Members) (left middle right : List Leaf) → Specifiers names Elsewhere depth counting specifiers left → MemberDeclarators names depth (advance counting (operators_of_specifiers specifiers)) declarators middle
         → Members names depth (advance counting (operators_of_specifiers specifiers + operators_of_declarators declarators)) rest right
         → Members names depth counting (tree.members specifiers declarators rest) (left ++ (middle ++ right))
 
-  -- declarators of members with `,` between them, and the `;` behind
+  -- declarators of members with `,` between them, and the `;` that follows
   pub data MemberDeclarators (names : List (List ℕ)) : (depth : ℕ) → (counting : Counting) → tree.Declarators → List Leaf → Type 0 where
     last_member : (depth : ℕ) (counting : Counting) (declarator : tree.Declarator) (text : List Leaf) (end : ℕ) → Declarator names true depth counting declarator text
-        → MemberDeclarators names depth counting (tree.declarators declarator tree.no_declarators) (text ++ awaited (member_end declarator) (mark punctuator.Semicolon end) ∷ [])
+        → MemberDeclarators names depth counting (tree.declarators declarator tree.no_declarators) (text ++ expected (member_end declarator) (mark punctuator.Semicolon end) ∷ [])
     more_members : (depth : ℕ) (counting : Counting) (declarator : tree.Declarator) (rest : tree.Declarators) (text right : List Leaf) (comma : ℕ) → Declarator names true depth counting declarator text → MemberDeclarators names depth (advance counting (operators_of_declarator declarator)) rest right
         → MemberDeclarators names depth counting (tree.declarators declarator rest) (text ++ plain (mark punctuator.Comma comma) ∷ right)
 
   -- 6.7.6: a name and its type, which is no function's
   pub data Declarator (names : List (List ℕ)) : (is_member : Bool) → (depth : ℕ) → (counting : Counting) → tree.Declarator → List Leaf → Type 0 where
     declarator : (is_member : Bool) (depth : ℕ) (counting : Counting) (pointers : ℕ) (n : tree.Name) (is_open : Bool) (lengths : tree.Expressions) (stars dimensions : List Leaf) → can_declare is_member names n.spelling ≡ true → Pointer pointers stars → Dimensions names depth counting is_open lengths dimensions
-        → Declarator names is_member depth counting (tree.Declared pointers n is_open lengths) (stars ++ awaited DeclaredName (named n) ∷ dimensions)
+        → Declarator names is_member depth counting (tree.Declared pointers n is_open lengths) (stars ++ expected DeclaredName (named n) ∷ dimensions)
 
   -- the lengths of an array: none, or each in brackets, of which the first may be left out
   pub data Dimensions (names : List (List ℕ)) : (depth : ℕ) → (counting : Counting) → (is_open : Bool) → tree.Expressions → List Leaf → Type 0 where
     given : (depth : ℕ) (counting : Counting) (lengths : tree.Expressions) (text : List Leaf) → Lengths names depth counting lengths text → Dimensions names depth counting false lengths text
-    left_out : (depth : ℕ) (counting : Counting) (lengths : tree.Expressions) (text : List Leaf) (place close : ℕ) → Lengths names depth counting lengths text
-        → Dimensions names depth counting true lengths (opens (suc depth) (mark punctuator.LeftBracket place) ∷ plain (mark punctuator.RightBracket close) ∷ text)
+    left_out : (depth : ℕ) (counting : Counting) (lengths : tree.Expressions) (text : List Leaf) (offset close : ℕ) → Lengths names depth counting lengths text
+        → Dimensions names depth counting true lengths (opens (suc depth) (mark punctuator.LeftBracket offset) ∷ plain (mark punctuator.RightBracket close) ∷ text)
 
   pub data Lengths (names : List (List ℕ)) : (depth : ℕ) → (counting : Counting) → tree.Expressions → List Leaf → Type 0 where
     no_lengths : (depth : ℕ) (counting : Counting) → Lengths names depth counting tree.no_expressions []
-    some_length : (depth : ℕ) (counting : Counting) (x : tree.Expression) (rest : tree.Expressions) (inside right : List Leaf) (place close : ℕ) → Conditional names (suc depth) (count_at counting) x inside → Lengths names depth (advance counting (operators x)) rest right
-        → Lengths names depth counting (tree.expressions x rest) (opens (suc depth) (mark punctuator.LeftBracket place) ∷ inside ++ awaited OperandEnd (mark punctuator.RightBracket close) ∷ right)
+    some_length : (depth : ℕ) (counting : Counting) (x : tree.Expression) (rest : tree.Expressions) (inside right : List Leaf) (offset close : ℕ) → Conditional names (suc depth) (count_at counting) x inside → Lengths names depth (advance counting (operators x)) rest right
+        → Lengths names depth counting (tree.expressions x rest) (opens (suc depth) (mark punctuator.LeftBracket offset) ∷ inside ++ expected OperandEnd (mark punctuator.RightBracket close) ∷ right)
 
-  -- 6.7.2.2: constants with `,` between them and behind the last or not, and what is awaited behind them
+  -- 6.7.2.2: constants with `,` between them and after the last or not, and what is expected after them
   pub data Constants (names : List (List ℕ)) : (depth : ℕ) → (counting : Counting) → tree.Constants → (end : Role) → List Leaf → Type 0 where
-    last : (depth : ℕ) (counting : Counting) (n : tree.Name) → is_type_name names n.spelling ≡ false → Constants names depth counting (tree.constants n tree.no_constants) Nothing (plain (named n) ∷ [])
-    last_comma : (depth : ℕ) (counting : Counting) (n : tree.Name) (comma : ℕ) → is_type_name names n.spelling ≡ false → Constants names depth counting (tree.constants n tree.no_constants) Nothing (plain (named n) ∷ plain (mark punctuator.Comma comma) ∷ [])
-    more : (depth : ℕ) (counting : Counting) (n : tree.Name) (rest : tree.Constants) (end : Role) (right : List Leaf) (comma : ℕ) → is_type_name names n.spelling ≡ false → Constants names depth counting rest end right
+    last : (depth : ℕ) (counting : Counting) (n : tree.Name) → is_typedef_name names n.spelling ≡ false → Constants names depth counting (tree.constants n tree.no_constants) Nothing (plain (named n) ∷ [])
+    last_comma : (depth : ℕ) (counting : Counting) (n : tree.Name) (comma : ℕ) → is_typedef_name names n.spelling ≡ false → Constants names depth counting (tree.constants n tree.no_constants) Nothing (plain (named n) ∷ plain (mark punctuator.Comma comma) ∷ [])
+    more : (depth : ℕ) (counting : Counting) (n : tree.Name) (rest : tree.Constants) (end : Role) (right : List Leaf) (comma : ℕ) → is_typedef_name names n.spelling ≡ false → Constants names depth counting rest end right
         → Constants names depth counting (tree.constants n rest) end (plain (named n) ∷ plain (mark punctuator.Comma comma) ∷ right)
-    last_with : (depth : ℕ) (counting : Counting) (n : tree.Name) (x : tree.Expression) (value : List Leaf) (place : ℕ) → is_type_name names n.spelling ≡ false → Conditional names depth (count_at counting) x value
-        → Constants names depth counting (tree.constants_with n x tree.no_constants) OperandEnd (plain (named n) ∷ plain (mark punctuator.Assign place) ∷ value)
-    last_with_comma : (depth : ℕ) (counting : Counting) (n : tree.Name) (x : tree.Expression) (value : List Leaf) (place comma : ℕ) → is_type_name names n.spelling ≡ false → Conditional names depth (count_at counting) x value
-        → Constants names depth counting (tree.constants_with n x tree.no_constants) Nothing (plain (named n) ∷ plain (mark punctuator.Assign place) ∷ value ++ plain (mark punctuator.Comma comma) ∷ [])
-    more_with : (depth : ℕ) (counting : Counting) (n : tree.Name) (x : tree.Expression) (rest : tree.Constants) (end : Role) (value right : List Leaf) (place comma : ℕ) → is_type_name names n.spelling ≡ false → Conditional names depth (count_at counting) x value → Constants names depth (advance counting (operators x)) rest end right
-        → Constants names depth counting (tree.constants_with n x rest) end (plain (named n) ∷ plain (mark punctuator.Assign place) ∷ value ++ plain (mark punctuator.Comma comma) ∷ right)
+    last_with : (depth : ℕ) (counting : Counting) (n : tree.Name) (x : tree.Expression) (value : List Leaf) (offset : ℕ) → is_typedef_name names n.spelling ≡ false → Conditional names depth (count_at counting) x value
+        → Constants names depth counting (tree.constants_with n x tree.no_constants) OperandEnd (plain (named n) ∷ plain (mark punctuator.Assign offset) ∷ value)
+    last_with_comma : (depth : ℕ) (counting : Counting) (n : tree.Name) (x : tree.Expression) (value : List Leaf) (offset comma : ℕ) → is_typedef_name names n.spelling ≡ false → Conditional names depth (count_at counting) x value
+        → Constants names depth counting (tree.constants_with n x tree.no_constants) Nothing (plain (named n) ∷ plain (mark punctuator.Assign offset) ∷ value ++ plain (mark punctuator.Comma comma) ∷ [])
+    more_with : (depth : ℕ) (counting : Counting) (n : tree.Name) (x : tree.Expression) (rest : tree.Constants) (end : Role) (value right : List Leaf) (offset comma : ℕ) → is_typedef_name names n.spelling ≡ false → Conditional names depth (count_at counting) x value → Constants names depth (advance counting (operators x)) rest end right
+        → Constants names depth counting (tree.constants_with n x rest) end (plain (named n) ∷ plain (mark punctuator.Assign offset) ∷ value ++ plain (mark punctuator.Comma comma) ∷ right)

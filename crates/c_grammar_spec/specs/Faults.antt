@@ -1,4 +1,4 @@
--- The first fault of tokens that are no unit: where it stands, and its kind.
+-- The first fault of tokens that are no unit: its token, and its kind.
 use Rattle.std.specs.Prelude.{◌≡◌, ℕ, Bool, true, false, if◌then◌else◌, List, [], ◌∷◌, ◌++◌, Option, Some, None}
 use Rattle.c_spec.specs.declared.token.Keyword.{Keyword}
 use Rattle.c_spec.specs.declared.token.Keyword.TheVariants as keyword
@@ -10,14 +10,14 @@ use Rattle.c_grammar_spec.specs.declared.LeftOut.{LeftOut}
 use Rattle.c_grammar_spec.specs.declared.LeftOut.TheVariants as left_out
 use Rattle.c_grammar_spec.specs.declared.ParseFaultKind.{ParseFaultKind}
 use Rattle.c_grammar_spec.specs.declared.ParseFaultKind.TheVariants.{Unexpected, LeftOut as LeftOutKind, Depth}
-use Rattle.exact_read.specs.Awaited.{Asked}
-use Rattle.exact_read.specs.Whole.{IsWhole, IsWrongAt, IsDeep}
+use Rattle.exact_read.specs.Expected.{Asked}
+use Rattle.exact_read.specs.Whole.{IsWhole, IsWrongAt, IsLimitExceeded}
 use Rattle.c_grammar_spec.specs.declared.Role.{Role}
 use Rattle.c_grammar_spec.specs.declared.Role.TheVariants.{DeclaredName, MemberEnd, OperandEnd, CallEnd, StatementEnd, NameStatementEnd, CallStatementEnd}
 use Rattle.c_grammar_spec.specs.Leaves.{marks, roles}
 use Rattle.c_grammar_spec.specs.Units.{Unit}
 
--- the tokens are a unit with this tree, and nowhere is too much open
+-- the tokens are a unit with this tree, within the limits
 abbrev pub IsUnit : (tokens : List Placed) → TranslationUnit → Type 0
 IsUnit tokens unit = IsWhole marks Unit tokens unit
 
@@ -57,21 +57,21 @@ is_operator punctuator.Semicolon = false
 is_operator punctuator.Comma = false
 is_operator other = true
 
--- what is left out where another thing was awaited, by the token that stands there
-abbrev pub left_out_place : Role → Token → Option LeftOut
-left_out_place DeclaredName (Mark punctuator.LeftParenthesis) = Some left_out.FunctionPointer
-left_out_place MemberEnd (Mark punctuator.Colon) = Some left_out.BitField
-left_out_place OperandEnd (Mark punctuator.LeftParenthesis) = Some left_out.Call
-left_out_place StatementEnd (Mark punctuator.LeftParenthesis) = Some left_out.Call
-left_out_place StatementEnd (Mark punctuator.Comma) = Some left_out.Comma
-left_out_place NameStatementEnd (Mark punctuator.Colon) = Some left_out.Goto
-left_out_place NameStatementEnd (Mark punctuator.Comma) = Some left_out.Comma
-left_out_place CallEnd (Word keyword.Sizeof) = Some left_out.Call
-left_out_place CallEnd (Mark mark) = if is_operator mark then Some left_out.Call else None
-left_out_place CallStatementEnd (Word keyword.Sizeof) = Some left_out.Call
-left_out_place CallStatementEnd (Mark punctuator.Comma) = Some left_out.Comma
-left_out_place CallStatementEnd (Mark mark) = if is_operator mark then Some left_out.Call else None
-left_out_place role token = None
+-- what is left out where this role is expected, by the token that occurs instead
+abbrev pub left_out_by_role : Role → Token → Option LeftOut
+left_out_by_role DeclaredName (Mark punctuator.LeftParenthesis) = Some left_out.FunctionPointer
+left_out_by_role MemberEnd (Mark punctuator.Colon) = Some left_out.BitField
+left_out_by_role OperandEnd (Mark punctuator.LeftParenthesis) = Some left_out.Call
+left_out_by_role StatementEnd (Mark punctuator.LeftParenthesis) = Some left_out.Call
+left_out_by_role StatementEnd (Mark punctuator.Comma) = Some left_out.Comma
+left_out_by_role NameStatementEnd (Mark punctuator.Colon) = Some left_out.Goto
+left_out_by_role NameStatementEnd (Mark punctuator.Comma) = Some left_out.Comma
+left_out_by_role CallEnd (Word keyword.Sizeof) = Some left_out.Call
+left_out_by_role CallEnd (Mark mark) = if is_operator mark then Some left_out.Call else None
+left_out_by_role CallStatementEnd (Word keyword.Sizeof) = Some left_out.Call
+left_out_by_role CallStatementEnd (Mark punctuator.Comma) = Some left_out.Comma
+left_out_by_role CallStatementEnd (Mark mark) = if is_operator mark then Some left_out.Call else None
+left_out_by_role role token = None
 
 abbrev pub left_out_token : Token → Option LeftOut
 left_out_token (Word word) = left_out_keyword word
@@ -82,24 +82,24 @@ abbrev pub kind_of : Option LeftOut → ParseFaultKind
 kind_of None = Unexpected
 kind_of (Some part) = LeftOutKind part
 
--- the kind by the token first, and then by its place
+-- the kind by the token alone first, and then by the expected role
 abbrev pub first_of : Option LeftOut → Option LeftOut → Option LeftOut
 first_of (Some part) other = Some part
 first_of None other = other
 
--- the kind of a fault at the first of these tokens, or at the end, where this is awaited
+-- the kind of a fault at the first of these tokens, or at the end, where this is expected
 abbrev pub fault_kind : Role → List Placed → ParseFaultKind
 fault_kind role [] = Unexpected
-fault_kind role (token ∷ rest) = kind_of (first_of (left_out_token token.token) (left_out_place role token.token))
+fault_kind role (token ∷ rest) = kind_of (first_of (left_out_token token.token) (left_out_by_role role token.token))
 
 -- the offset of the first of these tokens, or of the end
 abbrev pub offset_of : (end : ℕ) → List Placed → ℕ
 offset_of end [] = end
 offset_of end (token ∷ rest) = token.offset
 
--- Tokens that are no unit have this fault at the first of `rest`. A token with which those before begin no
--- unit is told by the kind that it and the role that is awaited behind them give; a token with which they begin
--- one, where too much is open, by `Depth`.
+-- Tokens that are no unit have this fault at the first of `rest`. Where the tokens up to it and with it are a
+-- prefix of no unit, its kind is given by it and by the role that is expected in its place. Where they are a prefix
+-- of a unit that exceeds a limit at it, its kind is `Depth`.
 pub data IsFault (tokens : List Placed) : ParseFaultKind → (rest : List Placed) → Type 0 where
-  wrong : (front rest : List Placed) (role : Role) → IsWrongAt marks Unit tokens rest → tokens ≡ front ++ rest → Asked marks roles Unit front role → IsFault tokens (fault_kind role rest) rest
-  deep : (rest : List Placed) → IsDeep marks Unit tokens rest → IsFault tokens Depth rest
+  wrong : (prefix rest : List Placed) (role : Role) → IsWrongAt marks Unit tokens rest → tokens ≡ prefix ++ rest → Asked marks roles Unit prefix role → IsFault tokens (fault_kind role rest) rest
+  exceeded : (rest : List Placed) → IsLimitExceeded marks Unit tokens rest → IsFault tokens Depth rest

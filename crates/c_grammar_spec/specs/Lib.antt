@@ -1,3 +1,4 @@
+pub mod Limits
 pub mod Leaves
 pub mod Expressions
 pub mod Statements

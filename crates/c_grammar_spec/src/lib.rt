@@ -1,12 +1,25 @@
-//! The grammar of C as derivations: which tokens spell which tree, and the first fault of tokens that spell
-//! none (ISO C11, 6.5 to 6.9).
-//!
-//! `specs/Leaves.antt` has the tokens as a derivation places them, `specs/Expressions.antt`,
-//! `specs/Statements.antt` and `specs/Units.antt` the productions, one constructor each, and
-//! `specs/Faults.antt` the faults, which [`ParseFaultKind`] names. `specs/Source.antt` says it of a text.
+//! The grammar of the C that is read, as derivations: which tokens derive which tree, and the first
+//! fault of tokens that derive none (ISO C11, 6.5 to 6.9). `specs/Units.antt` has the start symbol,
+//! `specs/Faults.antt` the faults, which [`ParseFaultKind`] names. Beside enums and limits nothing
+//! runs.
 #![tactic(auto)]
 
-/// What of C is left out here, of which a token at fault is a part.
+/// How many constructs may be open at once: brackets that are not closed, and `if`, `else`,
+/// `while`, `do`, `for` and `switch` that are not finished.
+pub const NESTING_LIMIT: usize = 128;
+
+/// How many operators may occur in one whole expression.
+pub const OPERATOR_LIMIT: usize = 128;
+
+/// Fuel that suffices for every statement within the limits: a parser uses one up for each
+/// construct that it opens.
+pub const STATEMENT_FUEL: usize = NESTING_LIMIT + 1;
+
+/// Fuel that suffices for every expression within the limits: a parser passes through eight others
+/// at most before it opens a construct or takes an operator.
+pub const EXPRESSION_FUEL: usize = 8 * (NESTING_LIMIT + 1 + (OPERATOR_LIMIT + 1)) + 4;
+
+/// A part of C that is left out, which a token at fault belongs to.
 #[derive(Clone, Copy, Debug, PartialEq, Eq)]
 pub enum LeftOut {
     /// `goto`, and a label that is no label of a `switch`
@@ -40,26 +53,28 @@ pub enum LeftOut {
 /// Why tokens are no unit.
 #[derive(Clone, Copy, Debug, PartialEq, Eq)]
 pub enum ParseFaultKind {
-    /// A token, or the end, stands where none can.
+    /// No unit has this token, or its end, here.
     Unexpected,
     /// A part of C that is left out.
     LeftOut(LeftOut),
-    /// More than 128 constructs are open, or more than 128 operators stand in one expression.
+    /// More than [`NESTING_LIMIT`] constructs are open, or one expression has more than
+    /// [`OPERATOR_LIMIT`] operators.
     Depth,
 }
 
-/// What is awaited where a token stands. It tells what another token in its place would be.
-#[derive(Clone, Copy, Debug, PartialEq, Eq)]
+/// What the grammar expects at an offset. With a token that it does not allow there, this
+/// determines the fault's kind.
+#[derive(Clone, Copy)]
 pub enum Role {
-    /// nothing that tells more
+    /// nothing that determines a kind
     Nothing,
     /// a declared name, or a parameter's
     DeclaredName,
-    /// what stands directly behind a member's name
+    /// what follows a member's name directly
     MemberEnd,
-    /// what stands behind an operand
+    /// what follows an operand
     OperandEnd,
-    /// what stands behind a call
+    /// what follows a call
     CallEnd,
     /// the end of an expression statement
     StatementEnd,

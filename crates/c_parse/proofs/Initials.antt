@@ -5,108 +5,108 @@ use Rattle.c_spec.specs.Lexical.{Placed}
 use Rattle.c_tree_spec.specs.Expression as tree
 use Rattle.c_grammar_spec.specs.declared.Role.{Role}
 use Rattle.c_grammar_spec.specs.declared.Role.TheVariants.{Nothing}
-use Rattle.c_grammar_spec.specs.Leaves.{plain, awaited, opens}
-use Rattle.exact_read.specs.Reading.{Fault, Outcome, Reader}
+use Rattle.c_grammar_spec.specs.Leaves.{plain, expected, opens}
+use Rattle.exact_read.specs.Reading.{Fault, Outcome, Parser}
 use Rattle.exact_read.specs.Grammar.{bind, context_after, read_many, read_map}
-use Rattle.read_loop.specs.Going.{begins, Going}
-use Rattle.read_loop.proofs.Loops.{bind-ok, bind-bind, going-start, going-step, going-fault, going-end, map-ok, map-err}
-use Rattle.c_expression_reader.specs.Classes.{is_mark, mark_place}
-use Rattle.c_expression_reader.specs.Readers.{Readers, token, behind, choose, next_is}
-use Rattle.c_unit_reader.specs.Initializers as initializers
-use Rattle.c_unit_reader.specs.Initializers.{Place, BehindInitial, BehindComma, next_place, end_of_place, end_of_initial, initials_start, begins_initial, begins_designator, read_initials_part, read_designated, read_designator, read_designators}
+use Rattle.exact_read.specs.Going.{begins, Going}
+use Rattle.exact_read.proofs.Loops.{bind-ok, bind-bind, going-start, going-step, going-fault, going-end, map-ok, map-err}
+use Rattle.c_expression_laws.specs.Classes.{is_mark, mark_offset}
+use Rattle.c_expression_laws.specs.Parsers.{Parsers, token, following, choose, next_is}
+use Rattle.c_statement_laws.specs.Initializers as initializers
+use Rattle.c_statement_laws.specs.Initializers.{ListPosition, AfterInitial, FollowingComma, next_position, end_of_position, end_of_initial, initials_start, begins_initial, begins_designator, read_initials_part, read_designated, read_designator, read_designators}
 use Rattle.c_parse_token.proofs.Steps.{begins-next}
-use Rattle.c_parse.proofs.Rooms.{initial-some}
+use Rattle.c_parse.proofs.StatementFuel.{initial-some}
 
 -- designators are being read
-pub Designating : (inner : Readers) → (depth : ℕ) → (whole : Outcome Placed Role (Unit {0})) → List Placed → Type 0
+pub Designating : (inner : Parsers) → (depth : ℕ) → (whole : Outcome Placed Role (Unit {0})) → List Placed → Type 0
 Designating inner depth whole rest = Going (λ (_ : Unit {0}) next. begins_designator next.token) (λ _. read_designator inner depth) (λ _ _. tt {0}) whole (λ more last. Ok (tt {0}, last)) (tt {0}) rest
 
-pub designating-start : (inner : Readers) (depth : ℕ) (tokens rest : List Placed) → read_designator inner depth tokens ≡ Ok (tt {0}, rest) → Designating inner depth (read_designators inner depth tokens) rest
+pub designating-start : (inner : Parsers) (depth : ℕ) (tokens rest : List Placed) → read_designator inner depth tokens ≡ Ok (tt {0}, rest) → Designating inner depth (read_designators inner depth tokens) rest
 unfolding Designating
 designating-start inner depth tokens rest e =
-    let many : Reader Placed Role (List (Unit {0})) = read_many (λ (_ : Unit {0}) next. begins_designator next.token) (λ _. read_designator inner depth) (λ _ _. tt {0}) (tt {0}) in
+    let many : Parser Placed Role (List (Unit {0})) = read_many (λ (_ : Unit {0}) next. begins_designator next.token) (λ _. read_designator inner depth) (λ _ _. tt {0}) (tt {0}) in
     subst (λ whole. Going (λ (_ : Unit {0}) next. begins_designator next.token) (λ _. read_designator inner depth) (λ _ _. tt {0}) whole (λ more last. Ok (tt {0}, last)) (tt {0}) rest)
     (sym (ap (λ o. bind {X = Unit {0} × List (Unit {0})} (bind o (λ x after. bind (many after) (λ xs last. Ok ((x, xs), last)))) (λ _ last. Ok (tt {0}, last))) e ∙ bind-bind {Y = Unit {0} × List (Unit {0})} (many rest) (λ xs last. Ok ((tt {0}, xs), last)) (λ _ last. Ok (tt {0}, last))))
     going-start
 
-pub designating-step : (inner : Readers) (depth : ℕ) (whole : Outcome Placed Role (Unit {0})) (tokens rest : List Placed) → Designating inner depth whole tokens → next_is begins_designator tokens ≡ true → read_designator inner depth tokens ≡ Ok (tt {0}, rest) → length rest < length tokens → Designating inner depth whole rest
+pub designating-step : (inner : Parsers) (depth : ℕ) (whole : Outcome Placed Role (Unit {0})) (tokens rest : List Placed) → Designating inner depth whole tokens → next_is begins_designator tokens ≡ true → read_designator inner depth tokens ≡ Ok (tt {0}, rest) → length rest < length tokens → Designating inner depth whole rest
 unfolding Designating
 designating-step inner depth whole tokens rest going was e less = going-step going (begins-next (λ (_ : Unit {0}). begins_designator) (tt {0}) tokens ∙ was) (tt {0}) rest e less
 
-pub designating-error : (inner : Readers) (depth : ℕ) (whole : Outcome Placed Role (Unit {0})) (tokens : List Placed) → Designating inner depth whole tokens → next_is begins_designator tokens ≡ true → (fault : Fault Role × List Placed) → read_designator inner depth tokens ≡ Err fault → whole ≡ Err fault
+pub designating-error : (inner : Parsers) (depth : ℕ) (whole : Outcome Placed Role (Unit {0})) (tokens : List Placed) → Designating inner depth whole tokens → next_is begins_designator tokens ≡ true → (fault : Fault Role × List Placed) → read_designator inner depth tokens ≡ Err fault → whole ≡ Err fault
 unfolding Designating
 designating-error inner depth whole tokens going was = going-fault going (begins-next (λ (_ : Unit {0}). begins_designator) (tt {0}) tokens ∙ was)
 
-pub designating-end : (inner : Readers) (depth : ℕ) (whole : Outcome Placed Role (Unit {0})) (tokens : List Placed) → Designating inner depth whole tokens → next_is begins_designator tokens ≡ false → whole ≡ Ok (tt {0}, tokens)
+pub designating-end : (inner : Parsers) (depth : ℕ) (whole : Outcome Placed Role (Unit {0})) (tokens : List Placed) → Designating inner depth whole tokens → next_is begins_designator tokens ≡ false → whole ≡ Ok (tt {0}, tokens)
 unfolding Designating
 designating-end inner depth whole tokens going ends = going-end going (begins-next (λ (_ : Unit {0}). begins_designator) (tt {0}) tokens ∙ ends)
 
 -- initial values are being read
-abbrev pub initials_close : Place → List (Option (Option tree.Expression)) → Reader Placed Role (Unit {0})
-initials_close place parts after =
-    bind (token (end_of_place (context_after next_place place parts)) (awaited (end_of_place (context_after next_place place parts))) (mark_place punctuator.RightBrace) after) (λ _ rest. Ok (tt {0}, rest))
+abbrev pub initials_close : ListPosition → List (Option (Option tree.Expression)) → Parser Placed Role (Unit {0})
+initials_close position parts after =
+    bind (token (end_of_position (context_after next_position position parts)) (expected (end_of_position (context_after next_position position parts))) (mark_offset punctuator.RightBrace) after) (λ _ rest. Ok (tt {0}, rest))
 
-pub Initials : (names : List (List ℕ)) → (inner : Readers) → (depth : ℕ) → (initial : Reader Placed Role (Option tree.Expression)) → (whole : Outcome Placed Role (Unit {0})) → Place → List Placed → Type 0
-Initials names inner depth initial whole place rest = Going (initials_start names) (read_initials_part inner depth initial) next_place whole (initials_close place) place rest
+pub Initials : (names : List (List ℕ)) → (inner : Parsers) → (depth : ℕ) → (initial : Parser Placed Role (Option tree.Expression)) → (whole : Outcome Placed Role (Unit {0})) → ListPosition → List Placed → Type 0
+Initials names inner depth initial whole position rest = Going (initials_start names) (read_initials_part inner depth initial) next_position whole (initials_close position) position rest
 
--- they are, and this is awaited behind the last of them
-pub record Awaiting (names : List (List ℕ)) (inner : Readers) (depth : ℕ) (initial : Reader Placed Role (Option tree.Expression)) (whole : Outcome Placed Role (Unit {0})) (end : Role) (rest : List Placed) : Type 0 where
+-- they are, and this is expected after the last of them
+pub record Awaiting (names : List (List ℕ)) (inner : Parsers) (depth : ℕ) (initial : Parser Placed Role (Option tree.Expression)) (whole : Outcome Placed Role (Unit {0})) (end : Role) (rest : List Placed) : Type 0 where
   pub last : Option tree.Expression
   pub same : end ≡ end_of_initial last
-  pub going : Initials names inner depth initial whole (BehindInitial last) rest
+  pub going : Initials names inner depth initial whole (AfterInitial last) rest
 
--- they are, and a `,` stands before
-pub record AfterComma (names : List (List ℕ)) (inner : Readers) (depth : ℕ) (initial : Reader Placed Role (Option tree.Expression)) (whole : Outcome Placed Role (Unit {0})) (rest : List Placed) : Type 0 where
-  pub going : Initials names inner depth initial whole BehindComma rest
+-- they are, and a `,` is before
+pub record AfterComma (names : List (List ℕ)) (inner : Parsers) (depth : ℕ) (initial : Parser Placed Role (Option tree.Expression)) (whole : Outcome Placed Role (Unit {0})) (rest : List Placed) : Type 0 where
+  pub going : Initials names inner depth initial whole FollowingComma rest
 
 -- a first initial value was read
-pub initials-start : (names : List (List ℕ)) (inner : Readers) (depth : ℕ) (initial : Reader Placed Role (Option tree.Expression)) (end : Role) (tokens rest : List Placed) → read_map end_of_initial (read_designated inner depth initial) tokens ≡ Ok (end, rest) → Awaiting names inner depth initial (initializers.read_initials names inner depth initial tokens) end rest
+pub initials-start : (names : List (List ℕ)) (inner : Parsers) (depth : ℕ) (initial : Parser Placed Role (Option tree.Expression)) (end : Role) (tokens rest : List Placed) → read_map end_of_initial (read_designated inner depth initial) tokens ≡ Ok (end, rest) → Awaiting names inner depth initial (initializers.read_initials names inner depth initial tokens) end rest
 unfolding Initials
 initials-start names inner depth initial end tokens rest e =
     let m = map-ok end_of_initial (read_designated inner depth initial) tokens end rest e in
-    record { last = m.0; same = sym m.2; going = subst (λ whole. Going (initials_start names) (read_initials_part inner depth initial) next_place whole (initials_close (BehindInitial m.0)) (BehindInitial m.0) rest) (sym (begun m.0 m.1)) going-start }
+    record { last = m.0; same = sym m.2; going = subst (λ whole. Going (initials_start names) (read_initials_part inner depth initial) next_position whole (initials_close (AfterInitial m.0)) (AfterInitial m.0) rest) (sym (begun m.0 m.1)) going-start }
   where
-    many : Option tree.Expression → Reader Placed Role (List (Option (Option tree.Expression)))
-    many last = read_many (initials_start names) (read_initials_part inner depth initial) next_place (BehindInitial last)
+    many : Option tree.Expression → Parser Placed Role (List (Option (Option tree.Expression)))
+    many last = read_many (initials_start names) (read_initials_part inner depth initial) next_position (AfterInitial last)
 
     by_close : (last : Option tree.Expression) (parts : List (Option (Option tree.Expression))) (o : Outcome Placed Role ℕ) → bind {X = Option tree.Expression × (List (Option (Option tree.Expression)) × ℕ)} {Y = Unit {0}} (bind {X = List (Option (Option tree.Expression)) × ℕ} (bind o (λ y left. Ok ((parts, y), left))) (λ y left. Ok ((last, y), left))) (λ _ left. Ok (tt {0}, left)) ≡ bind o (λ _ left. Ok (tt {0}, left))
     by_close last parts (Ok pair) = refl
     by_close last parts (Err fault) = refl
 
-    by_many : (last : Option tree.Expression) (o : Outcome Placed Role (List (Option (Option tree.Expression)))) → bind {X = Option tree.Expression × (List (Option (Option tree.Expression)) × ℕ)} {Y = Unit {0}} (bind {X = List (Option (Option tree.Expression)) × ℕ} (bind o (λ parts after. bind (token (end_of_place (context_after next_place (BehindInitial last) parts)) (awaited (end_of_place (context_after next_place (BehindInitial last) parts))) (mark_place punctuator.RightBrace) after) (λ y left. Ok ((parts, y), left)))) (λ y left. Ok ((last, y), left))) (λ _ left. Ok (tt {0}, left)) ≡ bind o (initials_close (BehindInitial last))
-    by_many last (Ok pair) = by_close last pair.0 (token (end_of_place (context_after next_place (BehindInitial last) pair.0)) (awaited (end_of_place (context_after next_place (BehindInitial last) pair.0))) (mark_place punctuator.RightBrace) pair.1)
+    by_many : (last : Option tree.Expression) (o : Outcome Placed Role (List (Option (Option tree.Expression)))) → bind {X = Option tree.Expression × (List (Option (Option tree.Expression)) × ℕ)} {Y = Unit {0}} (bind {X = List (Option (Option tree.Expression)) × ℕ} (bind o (λ parts after. bind (token (end_of_position (context_after next_position (AfterInitial last) parts)) (expected (end_of_position (context_after next_position (AfterInitial last) parts))) (mark_offset punctuator.RightBrace) after) (λ y left. Ok ((parts, y), left)))) (λ y left. Ok ((last, y), left))) (λ _ left. Ok (tt {0}, left)) ≡ bind o (initials_close (AfterInitial last))
+    by_many last (Ok pair) = by_close last pair.0 (token (end_of_position (context_after next_position (AfterInitial last) pair.0)) (expected (end_of_position (context_after next_position (AfterInitial last) pair.0))) (mark_offset punctuator.RightBrace) pair.1)
     by_many last (Err fault) = refl
 
-    begun : (last : Option tree.Expression) → read_designated inner depth initial tokens ≡ Ok (last, rest) → initializers.read_initials names inner depth initial tokens ≡ bind (many last rest) (initials_close (BehindInitial last))
+    begun : (last : Option tree.Expression) → read_designated inner depth initial tokens ≡ Ok (last, rest) → initializers.read_initials names inner depth initial tokens ≡ bind (many last rest) (initials_close (AfterInitial last))
     begun last f =
-        ap (λ o. bind {X = Option tree.Expression × (List (Option (Option tree.Expression)) × ℕ)} {Y = Unit {0}} (bind o (λ x after. bind (bind (many x after) (λ parts after. bind (token (end_of_place (context_after next_place (BehindInitial x) parts)) (awaited (end_of_place (context_after next_place (BehindInitial x) parts))) (mark_place punctuator.RightBrace) after) (λ y left. Ok ((parts, y), left)))) (λ y left. Ok ((x, y), left)))) (λ _ left. Ok (tt {0}, left))) f
+        ap (λ o. bind {X = Option tree.Expression × (List (Option (Option tree.Expression)) × ℕ)} {Y = Unit {0}} (bind o (λ x after. bind (bind (many x after) (λ parts after. bind (token (end_of_position (context_after next_position (AfterInitial x) parts)) (expected (end_of_position (context_after next_position (AfterInitial x) parts))) (mark_offset punctuator.RightBrace) after) (λ y left. Ok ((parts, y), left)))) (λ y left. Ok ((x, y), left)))) (λ _ left. Ok (tt {0}, left))) f
         ∙ by_many last (many last rest)
 
-pub initials-first_error : (names : List (List ℕ)) (inner : Readers) (depth : ℕ) (initial : Reader Placed Role (Option tree.Expression)) (tokens : List Placed) (fault : Fault Role × List Placed) → read_map end_of_initial (read_designated inner depth initial) tokens ≡ Err fault → initializers.read_initials names inner depth initial tokens ≡ Err fault
+pub initials-first_error : (names : List (List ℕ)) (inner : Parsers) (depth : ℕ) (initial : Parser Placed Role (Option tree.Expression)) (tokens : List Placed) (fault : Fault Role × List Placed) → read_map end_of_initial (read_designated inner depth initial) tokens ≡ Err fault → initializers.read_initials names inner depth initial tokens ≡ Err fault
 initials-first_error names inner depth initial tokens fault e =
-    ap (λ o. bind {X = Option tree.Expression × (List (Option (Option tree.Expression)) × ℕ)} {Y = Unit {0}} (bind o (λ x after. bind (bind (read_many (initials_start names) (read_initials_part inner depth initial) next_place (BehindInitial x) after) (λ parts after. bind (token (end_of_place (context_after next_place (BehindInitial x) parts)) (awaited (end_of_place (context_after next_place (BehindInitial x) parts))) (mark_place punctuator.RightBrace) after) (λ y left. Ok ((parts, y), left)))) (λ y left. Ok ((x, y), left)))) (λ _ left. Ok (tt {0}, left))) (map-err end_of_initial (read_designated inner depth initial) tokens fault e)
+    ap (λ o. bind {X = Option tree.Expression × (List (Option (Option tree.Expression)) × ℕ)} {Y = Unit {0}} (bind o (λ x after. bind (bind (read_many (initials_start names) (read_initials_part inner depth initial) next_position (AfterInitial x) after) (λ parts after. bind (token (end_of_position (context_after next_position (AfterInitial x) parts)) (expected (end_of_position (context_after next_position (AfterInitial x) parts))) (mark_offset punctuator.RightBrace) after) (λ y left. Ok ((parts, y), left)))) (λ y left. Ok ((x, y), left)))) (λ _ left. Ok (tt {0}, left))) (map-err end_of_initial (read_designated inner depth initial) tokens fault e)
 
-begins-comma : (names : List (List ℕ)) (last : Option tree.Expression) (tokens : List Placed) → begins (initials_start names) (BehindInitial last) tokens ≡ next_is (is_mark punctuator.Comma) tokens
+begins-comma : (names : List (List ℕ)) (last : Option tree.Expression) (tokens : List Placed) → begins (initials_start names) (AfterInitial last) tokens ≡ next_is (is_mark punctuator.Comma) tokens
 begins-comma names last [] = refl
 begins-comma names last (token ∷ more) = refl
 
-begins-initial : (names : List (List ℕ)) (tokens : List Placed) → begins (initials_start names) BehindComma tokens ≡ next_is (begins_initial names) tokens
+begins-initial : (names : List (List ℕ)) (tokens : List Placed) → begins (initials_start names) FollowingComma tokens ≡ next_is (begins_initial names) tokens
 begins-initial names [] = refl
 begins-initial names (token ∷ more) = refl
 
-pub initials-comma : {names : List (List ℕ)} {inner : Readers} {depth : ℕ} {initial : Reader Placed Role (Option tree.Expression)} {whole : Outcome Placed Role (Unit {0})} {end : Role} {place : ℕ} {tokens rest : List Placed} → Awaiting names inner depth initial whole end tokens → next_is (is_mark punctuator.Comma) tokens ≡ true → token end (awaited end) (mark_place punctuator.Comma) tokens ≡ Ok (place, rest) → length rest < length tokens → AfterComma names inner depth initial whole rest
+pub initials-comma : {names : List (List ℕ)} {inner : Parsers} {depth : ℕ} {initial : Parser Placed Role (Option tree.Expression)} {whole : Outcome Placed Role (Unit {0})} {end : Role} {offset : ℕ} {tokens rest : List Placed} → Awaiting names inner depth initial whole end tokens → next_is (is_mark punctuator.Comma) tokens ≡ true → token end (expected end) (mark_offset punctuator.Comma) tokens ≡ Ok (offset, rest) → length rest < length tokens → AfterComma names inner depth initial whole rest
 unfolding Initials
-initials-comma {names} {inner} {depth} {initial} {whole} {end} {place} {tokens} {rest} a was e less =
-    let comma : token (end_of_initial a.last) (awaited (end_of_initial a.last)) (mark_place punctuator.Comma) tokens ≡ Ok (place, rest) = subst (λ r. token r (awaited r) (mark_place punctuator.Comma) tokens ≡ Ok (place, rest)) a.same e in
-    record { going = going-step a.going (begins-comma names a.last tokens ∙ was) None rest (bind-ok (token (end_of_initial a.last) (awaited (end_of_initial a.last)) (mark_place punctuator.Comma) tokens) (λ _ after. Ok (None, after)) place rest comma) less }
+initials-comma {names} {inner} {depth} {initial} {whole} {end} {offset} {tokens} {rest} a was e less =
+    let comma : token (end_of_initial a.last) (expected (end_of_initial a.last)) (mark_offset punctuator.Comma) tokens ≡ Ok (offset, rest) = subst (λ r. token r (expected r) (mark_offset punctuator.Comma) tokens ≡ Ok (offset, rest)) a.same e in
+    record { going = going-step a.going (begins-comma names a.last tokens ∙ was) None rest (bind-ok (token (end_of_initial a.last) (expected (end_of_initial a.last)) (mark_offset punctuator.Comma) tokens) (λ _ after. Ok (None, after)) offset rest comma) less }
 
-pub initials-comma_error : {names : List (List ℕ)} {inner : Readers} {depth : ℕ} {initial : Reader Placed Role (Option tree.Expression)} {whole : Outcome Placed Role (Unit {0})} {end : Role} {tokens : List Placed} → Awaiting names inner depth initial whole end tokens → next_is (is_mark punctuator.Comma) tokens ≡ true → (fault : Fault Role × List Placed) → token end (awaited end) (mark_place punctuator.Comma) tokens ≡ Err fault → whole ≡ Err fault
+pub initials-comma_error : {names : List (List ℕ)} {inner : Parsers} {depth : ℕ} {initial : Parser Placed Role (Option tree.Expression)} {whole : Outcome Placed Role (Unit {0})} {end : Role} {tokens : List Placed} → Awaiting names inner depth initial whole end tokens → next_is (is_mark punctuator.Comma) tokens ≡ true → (fault : Fault Role × List Placed) → token end (expected end) (mark_offset punctuator.Comma) tokens ≡ Err fault → whole ≡ Err fault
 unfolding Initials
 initials-comma_error {names} {inner} {depth} {initial} {whole} {end} {tokens} a was fault g =
-    let h : token (end_of_initial a.last) (awaited (end_of_initial a.last)) (mark_place punctuator.Comma) tokens ≡ Err fault = subst (λ r. token r (awaited r) (mark_place punctuator.Comma) tokens ≡ Err fault) a.same g in
+    let h : token (end_of_initial a.last) (expected (end_of_initial a.last)) (mark_offset punctuator.Comma) tokens ≡ Err fault = subst (λ r. token r (expected r) (mark_offset punctuator.Comma) tokens ≡ Err fault) a.same g in
     going-fault a.going (begins-comma names a.last tokens ∙ was) fault (ap (λ o. bind {Y = Option (Option tree.Expression)} o (λ _ after. Ok (None, after))) h)
 
-pub initials-step : {names : List (List ℕ)} {inner : Readers} {depth : ℕ} {initial : Reader Placed Role (Option tree.Expression)} {whole : Outcome Placed Role (Unit {0})} {end : Role} {tokens rest : List Placed} → AfterComma names inner depth initial whole tokens → next_is (begins_initial names) tokens ≡ true → read_map end_of_initial (read_designated inner depth initial) tokens ≡ Ok (end, rest) → length rest < length tokens → Awaiting names inner depth initial whole end rest
+pub initials-step : {names : List (List ℕ)} {inner : Parsers} {depth : ℕ} {initial : Parser Placed Role (Option tree.Expression)} {whole : Outcome Placed Role (Unit {0})} {end : Role} {tokens rest : List Placed} → AfterComma names inner depth initial whole tokens → next_is (begins_initial names) tokens ≡ true → read_map end_of_initial (read_designated inner depth initial) tokens ≡ Ok (end, rest) → length rest < length tokens → Awaiting names inner depth initial whole end rest
 unfolding Initials
 initials-step {names} {inner} {depth} {initial} {whole} {end} {tokens} {rest} b was e less =
     let m = map-ok end_of_initial (read_designated inner depth initial) tokens end rest e in
@@ -116,72 +116,72 @@ initials-step {names} {inner} {depth} {initial} {whole} {end} {tokens} {rest} b 
       going = going-step b.going (begins-initial names tokens ∙ was) (Some m.0) rest (bind-ok (read_designated inner depth initial tokens) (λ x after. Ok (Some x, after)) m.0 rest m.1) less;
     }
 
-pub initials-error : {names : List (List ℕ)} {inner : Readers} {depth : ℕ} {initial : Reader Placed Role (Option tree.Expression)} {whole : Outcome Placed Role (Unit {0})} {tokens : List Placed} → AfterComma names inner depth initial whole tokens → next_is (begins_initial names) tokens ≡ true → (fault : Fault Role × List Placed) → read_map end_of_initial (read_designated inner depth initial) tokens ≡ Err fault → whole ≡ Err fault
+pub initials-error : {names : List (List ℕ)} {inner : Parsers} {depth : ℕ} {initial : Parser Placed Role (Option tree.Expression)} {whole : Outcome Placed Role (Unit {0})} {tokens : List Placed} → AfterComma names inner depth initial whole tokens → next_is (begins_initial names) tokens ≡ true → (fault : Fault Role × List Placed) → read_map end_of_initial (read_designated inner depth initial) tokens ≡ Err fault → whole ≡ Err fault
 unfolding Initials
 initials-error {names} {inner} {depth} {initial} {whole} {tokens} b was fault h =
     going-fault b.going (begins-initial names tokens ∙ was) fault (ap (λ o. bind {Y = Option (Option tree.Expression)} o (λ x after. Ok (Some x, after))) (map-err end_of_initial (read_designated inner depth initial) tokens fault h))
 
--- the list ends behind a value
-ended : {names : List (List ℕ)} {inner : Readers} {depth : ℕ} {initial : Reader Placed Role (Option tree.Expression)} {whole : Outcome Placed Role (Unit {0})} {end : Role} {tokens : List Placed} → (a : Awaiting names inner depth initial whole end tokens) → next_is (is_mark punctuator.Comma) tokens ≡ false → whole ≡ bind (token (end_of_initial a.last) (awaited (end_of_initial a.last)) (mark_place punctuator.RightBrace) tokens) (λ _ rest. Ok (tt {0}, rest))
+-- the list ends after a value
+ended : {names : List (List ℕ)} {inner : Parsers} {depth : ℕ} {initial : Parser Placed Role (Option tree.Expression)} {whole : Outcome Placed Role (Unit {0})} {end : Role} {tokens : List Placed} → (a : Awaiting names inner depth initial whole end tokens) → next_is (is_mark punctuator.Comma) tokens ≡ false → whole ≡ bind (token (end_of_initial a.last) (expected (end_of_initial a.last)) (mark_offset punctuator.RightBrace) tokens) (λ _ rest. Ok (tt {0}, rest))
 unfolding Initials
 ended {names} {inner} {depth} {initial} {whole} {end} {tokens} a ends = going-end a.going (begins-comma names a.last tokens ∙ ends)
 
-pub initials-end : {names : List (List ℕ)} {inner : Readers} {depth : ℕ} {initial : Reader Placed Role (Option tree.Expression)} {whole : Outcome Placed Role (Unit {0})} {end : Role} {place : ℕ} {tokens rest : List Placed} → Awaiting names inner depth initial whole end tokens → next_is (is_mark punctuator.Comma) tokens ≡ false → token end (awaited end) (mark_place punctuator.RightBrace) tokens ≡ Ok (place, rest) → whole ≡ Ok (tt {0}, rest)
-initials-end {names} {inner} {depth} {initial} {whole} {end} {place} {tokens} {rest} a ends e =
-    let close : token (end_of_initial a.last) (awaited (end_of_initial a.last)) (mark_place punctuator.RightBrace) tokens ≡ Ok (place, rest) = subst (λ r. token r (awaited r) (mark_place punctuator.RightBrace) tokens ≡ Ok (place, rest)) a.same e in
-    ended a ends ∙ bind-ok (token (end_of_initial a.last) (awaited (end_of_initial a.last)) (mark_place punctuator.RightBrace) tokens) (λ _ after. Ok (tt {0}, after)) place rest close
+pub initials-end : {names : List (List ℕ)} {inner : Parsers} {depth : ℕ} {initial : Parser Placed Role (Option tree.Expression)} {whole : Outcome Placed Role (Unit {0})} {end : Role} {offset : ℕ} {tokens rest : List Placed} → Awaiting names inner depth initial whole end tokens → next_is (is_mark punctuator.Comma) tokens ≡ false → token end (expected end) (mark_offset punctuator.RightBrace) tokens ≡ Ok (offset, rest) → whole ≡ Ok (tt {0}, rest)
+initials-end {names} {inner} {depth} {initial} {whole} {end} {offset} {tokens} {rest} a ends e =
+    let close : token (end_of_initial a.last) (expected (end_of_initial a.last)) (mark_offset punctuator.RightBrace) tokens ≡ Ok (offset, rest) = subst (λ r. token r (expected r) (mark_offset punctuator.RightBrace) tokens ≡ Ok (offset, rest)) a.same e in
+    ended a ends ∙ bind-ok (token (end_of_initial a.last) (expected (end_of_initial a.last)) (mark_offset punctuator.RightBrace) tokens) (λ _ after. Ok (tt {0}, after)) offset rest close
 
-pub initials-unclosed : {names : List (List ℕ)} {inner : Readers} {depth : ℕ} {initial : Reader Placed Role (Option tree.Expression)} {whole : Outcome Placed Role (Unit {0})} {end : Role} {tokens : List Placed} → Awaiting names inner depth initial whole end tokens → next_is (is_mark punctuator.Comma) tokens ≡ false → (fault : Fault Role × List Placed) → token end (awaited end) (mark_place punctuator.RightBrace) tokens ≡ Err fault → whole ≡ Err fault
+pub initials-unclosed : {names : List (List ℕ)} {inner : Parsers} {depth : ℕ} {initial : Parser Placed Role (Option tree.Expression)} {whole : Outcome Placed Role (Unit {0})} {end : Role} {tokens : List Placed} → Awaiting names inner depth initial whole end tokens → next_is (is_mark punctuator.Comma) tokens ≡ false → (fault : Fault Role × List Placed) → token end (expected end) (mark_offset punctuator.RightBrace) tokens ≡ Err fault → whole ≡ Err fault
 initials-unclosed {names} {inner} {depth} {initial} {whole} {end} {tokens} a ends fault g =
-    let h : token (end_of_initial a.last) (awaited (end_of_initial a.last)) (mark_place punctuator.RightBrace) tokens ≡ Err fault = subst (λ r. token r (awaited r) (mark_place punctuator.RightBrace) tokens ≡ Err fault) a.same g in
+    let h : token (end_of_initial a.last) (expected (end_of_initial a.last)) (mark_offset punctuator.RightBrace) tokens ≡ Err fault = subst (λ r. token r (expected r) (mark_offset punctuator.RightBrace) tokens ≡ Err fault) a.same g in
     ended a ends ∙ ap (λ o. bind o (λ _ after. Ok (tt {0}, after))) h
 
--- the list ends behind a `,`
-ended_comma : {names : List (List ℕ)} {inner : Readers} {depth : ℕ} {initial : Reader Placed Role (Option tree.Expression)} {whole : Outcome Placed Role (Unit {0})} {tokens : List Placed} → AfterComma names inner depth initial whole tokens → next_is (begins_initial names) tokens ≡ false → whole ≡ bind (token Nothing (awaited Nothing) (mark_place punctuator.RightBrace) tokens) (λ _ rest. Ok (tt {0}, rest))
+-- the list ends after a `,`
+ended_comma : {names : List (List ℕ)} {inner : Parsers} {depth : ℕ} {initial : Parser Placed Role (Option tree.Expression)} {whole : Outcome Placed Role (Unit {0})} {tokens : List Placed} → AfterComma names inner depth initial whole tokens → next_is (begins_initial names) tokens ≡ false → whole ≡ bind (token Nothing (expected Nothing) (mark_offset punctuator.RightBrace) tokens) (λ _ rest. Ok (tt {0}, rest))
 unfolding Initials
 ended_comma {names} {inner} {depth} {initial} {whole} {tokens} b ends = going-end b.going (begins-initial names tokens ∙ ends)
 
-pub initials-end_comma : {names : List (List ℕ)} {inner : Readers} {depth : ℕ} {initial : Reader Placed Role (Option tree.Expression)} {whole : Outcome Placed Role (Unit {0})} {place : ℕ} {tokens rest : List Placed} → AfterComma names inner depth initial whole tokens → next_is (begins_initial names) tokens ≡ false → token Nothing (awaited Nothing) (mark_place punctuator.RightBrace) tokens ≡ Ok (place, rest) → whole ≡ Ok (tt {0}, rest)
-initials-end_comma {names} {inner} {depth} {initial} {whole} {place} {tokens} {rest} b ends e = ended_comma b ends ∙ bind-ok (token Nothing (awaited Nothing) (mark_place punctuator.RightBrace) tokens) (λ _ after. Ok (tt {0}, after)) place rest e
+pub initials-end_comma : {names : List (List ℕ)} {inner : Parsers} {depth : ℕ} {initial : Parser Placed Role (Option tree.Expression)} {whole : Outcome Placed Role (Unit {0})} {offset : ℕ} {tokens rest : List Placed} → AfterComma names inner depth initial whole tokens → next_is (begins_initial names) tokens ≡ false → token Nothing (expected Nothing) (mark_offset punctuator.RightBrace) tokens ≡ Ok (offset, rest) → whole ≡ Ok (tt {0}, rest)
+initials-end_comma {names} {inner} {depth} {initial} {whole} {offset} {tokens} {rest} b ends e = ended_comma b ends ∙ bind-ok (token Nothing (expected Nothing) (mark_offset punctuator.RightBrace) tokens) (λ _ after. Ok (tt {0}, after)) offset rest e
 
-pub initials-unclosed_comma : {names : List (List ℕ)} {inner : Readers} {depth : ℕ} {initial : Reader Placed Role (Option tree.Expression)} {whole : Outcome Placed Role (Unit {0})} {tokens : List Placed} → AfterComma names inner depth initial whole tokens → next_is (begins_initial names) tokens ≡ false → (fault : Fault Role × List Placed) → token Nothing (awaited Nothing) (mark_place punctuator.RightBrace) tokens ≡ Err fault → whole ≡ Err fault
+pub initials-unclosed_comma : {names : List (List ℕ)} {inner : Parsers} {depth : ℕ} {initial : Parser Placed Role (Option tree.Expression)} {whole : Outcome Placed Role (Unit {0})} {tokens : List Placed} → AfterComma names inner depth initial whole tokens → next_is (begins_initial names) tokens ≡ false → (fault : Fault Role × List Placed) → token Nothing (expected Nothing) (mark_offset punctuator.RightBrace) tokens ≡ Err fault → whole ≡ Err fault
 initials-unclosed_comma {names} {inner} {depth} {initial} {whole} {tokens} b ends fault h = ended_comma b ends ∙ ap (λ o. bind o (λ _ after. Ok (tt {0}, after))) h
 
 -- initial values in braces
-braced : (names : List (List ℕ)) (inner : Readers) (room depth place : ℕ) (tokens rest : List Placed) → (room ≡ 0 → ⊥) → next_is (is_mark punctuator.LeftBrace) tokens ≡ true → token Nothing (opens (suc depth)) (mark_place punctuator.LeftBrace) tokens ≡ Ok (place, rest) → next_is (is_mark punctuator.RightBrace) rest ≡ false
-    → read_map end_of_initial (initializers.read_initial names inner room depth) tokens ≡ bind (initializers.read_initials names inner (suc depth) (initializers.read_initial names inner (room - 1) (suc depth)) rest) (λ _ after. Ok (Nothing, after))
-braced names inner room depth place tokens rest some was e none =
+braced : (names : List (List ℕ)) (inner : Parsers) (fuel depth offset : ℕ) (tokens rest : List Placed) → (fuel ≡ 0 → ⊥) → next_is (is_mark punctuator.LeftBrace) tokens ≡ true → token Nothing (opens (suc depth)) (mark_offset punctuator.LeftBrace) tokens ≡ Ok (offset, rest) → next_is (is_mark punctuator.RightBrace) rest ≡ false
+    → read_map end_of_initial (initializers.read_initial names inner fuel depth) tokens ≡ bind (initializers.read_initials names inner (suc depth) (initializers.read_initial names inner (fuel - 1) (suc depth)) rest) (λ _ after. Ok (Nothing, after))
+braced names inner fuel depth offset tokens rest some was e none =
     ap (λ o. bind o (λ x after. Ok (end_of_initial x, after)))
-    (initial-some names inner room depth tokens some
-    ∙ ap (λ b. if b then behind_brace tokens else read_map (λ x. Some x) (inner.conditional depth 0) tokens) was
-    ∙ bind-ok (token Nothing (opens (suc depth)) (mark_place punctuator.LeftBrace) tokens) (λ _ after. in_braces after) place rest e
+    (initial-some names inner fuel depth tokens some
+    ∙ ap (λ b. if b then after_brace tokens else read_map (λ x. Some x) (inner.conditional depth 0) tokens) was
+    ∙ bind-ok (token Nothing (opens (suc depth)) (mark_offset punctuator.LeftBrace) tokens) (λ _ after. in_braces after) offset rest e
     ∙ ap (λ b. if b then empty rest else read_map (λ _. None) inside rest) none)
     ∙ by_outcome (inside rest)
   where
-    inside : Reader Placed Role (Unit {0})
-    inside = initializers.read_initials names inner (suc depth) (initializers.read_initial names inner (room - 1) (suc depth))
+    inside : Parser Placed Role (Unit {0})
+    inside = initializers.read_initials names inner (suc depth) (initializers.read_initial names inner (fuel - 1) (suc depth))
 
-    empty : Reader Placed Role (Option tree.Expression)
-    empty = read_map (λ _. None) (token Nothing plain (mark_place punctuator.RightBrace))
+    empty : Parser Placed Role (Option tree.Expression)
+    empty = read_map (λ _. None) (token Nothing plain (mark_offset punctuator.RightBrace))
 
-    in_braces : Reader Placed Role (Option tree.Expression)
+    in_braces : Parser Placed Role (Option tree.Expression)
     in_braces = choose (is_mark punctuator.RightBrace) empty (read_map (λ _. None) inside)
 
-    behind_brace : Reader Placed Role (Option tree.Expression)
-    behind_brace = behind (token Nothing (opens (suc depth)) (mark_place punctuator.LeftBrace)) (λ _. in_braces)
+    after_brace : Parser Placed Role (Option tree.Expression)
+    after_brace = following (token Nothing (opens (suc depth)) (mark_offset punctuator.LeftBrace)) (λ _. in_braces)
 
     by_outcome : (o : Outcome Placed Role (Unit {0})) → bind {Y = Role} (bind {Y = Option tree.Expression} o (λ _ after. Ok (None, after))) (λ x after. Ok (end_of_initial x, after)) ≡ bind o (λ _ after. Ok (Nothing, after))
     by_outcome (Ok pair) = refl
     by_outcome (Err fault) = refl
 
-pub braced-found : (names : List (List ℕ)) (inner : Readers) (room left depth opened place : ℕ) (tokens middle rest : List Placed) → left ≡ room - 1 → opened ≡ suc depth → (room ≡ 0 → ⊥) → next_is (is_mark punctuator.LeftBrace) tokens ≡ true → token Nothing (opens (suc depth)) (mark_place punctuator.LeftBrace) tokens ≡ Ok (place, middle) → next_is (is_mark punctuator.RightBrace) middle ≡ false
-    → initializers.read_initials names inner opened (initializers.read_initial names inner left opened) middle ≡ Ok (tt {0}, rest) → read_map end_of_initial (initializers.read_initial names inner room depth) tokens ≡ Ok (Nothing, rest)
-braced-found names inner room left depth opened place tokens middle rest less deeper some was e none g =
-    braced names inner room depth place tokens middle some was e none
+pub braced-found : (names : List (List ℕ)) (inner : Parsers) (fuel left depth opened offset : ℕ) (tokens middle rest : List Placed) → left ≡ fuel - 1 → opened ≡ suc depth → (fuel ≡ 0 → ⊥) → next_is (is_mark punctuator.LeftBrace) tokens ≡ true → token Nothing (opens (suc depth)) (mark_offset punctuator.LeftBrace) tokens ≡ Ok (offset, middle) → next_is (is_mark punctuator.RightBrace) middle ≡ false
+    → initializers.read_initials names inner opened (initializers.read_initial names inner left opened) middle ≡ Ok (tt {0}, rest) → read_map end_of_initial (initializers.read_initial names inner fuel depth) tokens ≡ Ok (Nothing, rest)
+braced-found names inner fuel left depth opened offset tokens middle rest less deeper some was e none g =
+    braced names inner fuel depth offset tokens middle some was e none
     ∙ ap (λ o. bind o (λ _ after. Ok (Nothing, after))) (subst (λ n. initializers.read_initials names inner (suc depth) (initializers.read_initial names inner n (suc depth)) middle ≡ Ok (tt {0}, rest)) less (subst (λ n. initializers.read_initials names inner n (initializers.read_initial names inner left n) middle ≡ Ok (tt {0}, rest)) deeper g))
 
-pub braced-error : (names : List (List ℕ)) (inner : Readers) (room left depth opened place : ℕ) (tokens middle : List Placed) → left ≡ room - 1 → opened ≡ suc depth → (room ≡ 0 → ⊥) → next_is (is_mark punctuator.LeftBrace) tokens ≡ true → token Nothing (opens (suc depth)) (mark_place punctuator.LeftBrace) tokens ≡ Ok (place, middle) → next_is (is_mark punctuator.RightBrace) middle ≡ false
-    → (fault : Fault Role × List Placed) → initializers.read_initials names inner opened (initializers.read_initial names inner left opened) middle ≡ Err fault → read_map end_of_initial (initializers.read_initial names inner room depth) tokens ≡ Err fault
-braced-error names inner room left depth opened place tokens middle less deeper some was e none fault g =
-    braced names inner room depth place tokens middle some was e none
+pub braced-error : (names : List (List ℕ)) (inner : Parsers) (fuel left depth opened offset : ℕ) (tokens middle : List Placed) → left ≡ fuel - 1 → opened ≡ suc depth → (fuel ≡ 0 → ⊥) → next_is (is_mark punctuator.LeftBrace) tokens ≡ true → token Nothing (opens (suc depth)) (mark_offset punctuator.LeftBrace) tokens ≡ Ok (offset, middle) → next_is (is_mark punctuator.RightBrace) middle ≡ false
+    → (fault : Fault Role × List Placed) → initializers.read_initials names inner opened (initializers.read_initial names inner left opened) middle ≡ Err fault → read_map end_of_initial (initializers.read_initial names inner fuel depth) tokens ≡ Err fault
+braced-error names inner fuel left depth opened offset tokens middle less deeper some was e none fault g =
+    braced names inner fuel depth offset tokens middle some was e none
     ∙ ap (λ o. bind o (λ _ after. Ok (Nothing, after))) (subst (λ n. initializers.read_initials names inner (suc depth) (initializers.read_initial names inner n (suc depth)) middle ≡ Err fault) less (subst (λ n. initializers.read_initials names inner n (initializers.read_initial names inner left n) middle ≡ Err fault) deeper g))

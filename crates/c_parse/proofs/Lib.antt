@@ -1,7 +1,8 @@
 mod Initials
-mod Rooms
+mod StatementFuel
 mod Named
 mod Shorter
 mod Listed
 mod AllItems
-mod Told
+mod Reported
+mod Bodies

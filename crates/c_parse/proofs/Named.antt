@@ -14,4 +14,4 @@ declarator-name x =
 pub specifiers-typedef : (x : Specifiers) → (out-Specifiers x).storage.is_typedef ≡ is_typedef (specifiers_of x)
 specifiers-typedef x =
     let s = out-Specifiers x in
-    subst (λ z. s.storage.is_typedef ≡ is_typedef (specifiers_of z)) (roll-out-Specifiers x) (sym (ap is_typedef (Specifiers-struct-view s.storage s.base s.place)))
+    subst (λ z. s.storage.is_typedef ≡ is_typedef (specifiers_of z)) (roll-out-Specifiers x) (sym (ap is_typedef (Specifiers-struct-view s.storage s.base s.offset)))

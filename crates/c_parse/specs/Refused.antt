@@ -5,16 +5,16 @@ use Rattle.c_grammar_spec.specs.declared.ParseFaultKind.{ParseFaultKind}
 use Rattle.c_grammar_spec.specs.declared.ParseFaultKind.TheVariants.{Depth}
 use Rattle.c_grammar_spec.specs.declared.Role.{Role}
 use Rattle.c_grammar_spec.specs.Faults.{IsFault, fault_kind}
-use Rattle.exact_read.specs.Reading.{Fault as Stop, Deep, Wrong}
+use Rattle.exact_read.specs.Reading.{Fault as Stop, LimitExceeded, Wrong}
 use Rattle.c_parse.specs.declared.ParseError.{ParseError}
 use Rattle.c_parse.specs.declared.ParseError.TheVariants.{Fault, NoMemory}
 
--- the fault of the tokens: want of memory may always come
+-- the fault of the tokens: out of memory may always come
 abbrev pub IsFaultOf : (tokens : List Placed) → ParseError → Type 0
 IsFaultOf tokens (Fault fault) = (fault.token ≤ length tokens) × IsFault tokens fault.kind (drop fault.token tokens)
 IsFaultOf tokens NoMemory = Unit {0}
 
--- the kind of a fault at which the reader of units stopped
-abbrev pub told : Stop Role → (rest : List Placed) → ParseFaultKind
-told Deep rest = Depth
-told (Wrong role) rest = fault_kind role rest
+-- the kind of a fault at which the parser of units stopped
+abbrev pub reported : Stop Role → (rest : List Placed) → ParseFaultKind
+reported LimitExceeded rest = Depth
+reported (Wrong role) rest = fault_kind role rest

@@ -1,18 +1,19 @@
-//! Classes of tokens in an initial value, and the typedef names that an external declaration brings into scope.
+//! Classes of tokens in an initial value, and the typedef names that an external declaration brings
+//! into scope.
 
 ghost use Rattle.std.specs.Prelude.{◌≡◌, IfOk, false};
-ghost use Rattle.c_grammar_spec.specs.Expressions.{is_type_name};
+ghost use Rattle.c_grammar_spec.specs.Expressions.{is_typedef_name};
 ghost use Rattle.c_grammar_spec.specs.Units.{is_typedef, name_of_global, names_after};
-ghost use Rattle.c_expression_reader.specs.Readers.{next_is};
-ghost use Rattle.c_type_reader.specs.Firsts as firsts;
-ghost use Rattle.c_unit_reader.specs.Initializers as initializers;
+ghost use Rattle.c_expression_laws.specs.Parsers.{next_is};
+ghost use Rattle.c_expression_laws.specs.Firsts as firsts;
+ghost use Rattle.c_statement_laws.specs.Initializers as initializers;
 ghost use Rattle.c_syntax.specs.Expressions.{specifiers_of};
 ghost use Rattle.c_syntax.specs.Units.{global_of};
 ghost use Rattle.c_parse_token.specs.Lists.{list_of, names_of};
 ghost use Rattle.c_token.specs.Pieces.{token_of};
 
 use c_parse_token::class::is_mark;
-use c_parse_token::{Tokens, TypeNames};
+use c_parse_token::{Tokens, TypedefNames};
 use c_spec::token::{Keyword, Punctuator};
 use c_syntax::expression::Specifiers;
 use c_syntax::unit::Global;
@@ -20,7 +21,7 @@ use c_token::Kind;
 use std::alloc::AllocError;
 
 // The token begins an expression.
-fn begins_expression(kind: Kind<'_>, names: &TypeNames<'_>) -> bool
+fn begins_expression(kind: Kind<'_>, names: &TypedefNames<'_>) -> bool
     ensures { result ≡ firsts.begins_expression (names_of names.now) (token_of kind.entry) }
 {
     match kind {
@@ -58,8 +59,9 @@ pub fn starts_designator(tokens: &Tokens<'_>) -> bool
 }
 
 /// The next token begins an initial value, or the designators before one.
-pub fn starts_initial<'a>(tokens: &Tokens<'a>, names: &TypeNames<'a>) -> bool
-    ensures { result ≡ next_is (initializers.begins_initial (names_of names.now)) (list_of tokens.now.rest.now) }
+pub fn starts_initial<'a>(tokens: &Tokens<'a>, names: &TypedefNames<'a>) -> bool
+    ensures { result ≡ next_is (initializers.begins_initial (names_of names.now))
+        (list_of tokens.now.rest.now) }
 {
     match tokens.rest {
         [first, ..] => {
@@ -88,14 +90,17 @@ fn declared_name<'a>(global: &Global<'a>) -> &'a [u8]
     }
 }
 
-/// Brings the name of a global, no typedef name yet, into scope as one, where it is declared with `typedef`.
+/// Brings the name of a global, no typedef name yet, into scope as one, where it is declared with
+/// `typedef`.
 pub fn declare<'a>(
-    names: &mut TypeNames<'a>,
+    names: &mut TypedefNames<'a>,
     is_typedef: bool,
     global: &Global<'a>,
 ) -> Result<(), AllocError>
-    requires fresh { is_type_name (names_of names.old) (name_of_global (global_of global.now)) ≡ false }
-    ensures { IfOk result (λ _. names_of names.new ≡ names_after is_typedef (global_of global.now) (names_of names.old)) }
+    requires fresh { is_typedef_name (names_of names.old) (name_of_global (global_of global.now))
+        ≡ false }
+    ensures { IfOk result (λ _. names_of names.new ≡ names_after is_typedef (global_of global.now)
+        (names_of names.old)) }
 {
     if is_typedef {
         names.add(declared_name(global))?;

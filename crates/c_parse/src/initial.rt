@@ -1,16 +1,17 @@
 //! The initial value of a global, of which no tree is kept (6.7.9).
 
-ghost use Rattle.std.specs.Prelude.{◌≡◌, ◌≤◌, ◌<◌, IfOk, length};
+ghost use Rattle.std.specs.Prelude.{◌≤◌, IfOk};
 ghost use Rattle.exact_read.specs.Grammar.{read_map};
-ghost use Rattle.c_unit_reader.specs.Initializers as initializers;
-ghost use Rattle.c_parse_token.specs.Lists.{list_of, names_of, Gives};
+ghost use Rattle.c_statement_laws.specs.Initializers as initializers;
+ghost use Rattle.c_parse_token.specs.Lists.{names_of, Parses, IsShorter};
 ghost use Rattle.c_parse_expression.specs.Whole.{expressions};
-ghost use Rattle.c_parse.specs.Behind.{read_designation};
+ghost use Rattle.c_parse.specs.Following.{read_designation};
+ghost use Rattle.c_grammar_spec.specs.Limits.{nesting_limit};
 
 use crate::class::{starts_designator, starts_initial};
 use c_grammar_spec::Role;
 use c_parse_expression::whole;
-use c_parse_token::{Fault, ParseError, Tokens, TypeNames};
+use c_parse_token::{Fault, Stopped, Tokens, TypedefNames};
 use c_spec::token::Punctuator;
 use std::alloc::Global;
 
@@ -18,12 +19,13 @@ use std::alloc::Global;
 fn designator<'t>(
     alloc: Global,
     tokens: &mut Tokens<'t>,
-    names: &TypeNames<'t>,
+    names: &TypedefNames<'t>,
     depth: usize,
-) -> Result<(), ParseError>
-    requires depth { depth ≤ 128 }
-    ensures gives { Gives (initializers.read_designator (expressions names.now) depth (list_of tokens.old.rest.now)) (λ _. tt {0}) tokens.new.rest.now result }
-    ensures shorter { IfOk result (λ _. length tokens.new.rest.now < length tokens.old.rest.now) }
+) -> Result<(), Stopped>
+    requires depth { depth ≤ nesting_limit }
+    ensures gives { Parses (initializers.read_designator (expressions names.now) depth)
+        (λ _. tt {0}) tokens.old tokens.new result }
+    ensures shorter { IfOk result (λ _. IsShorter tokens.new tokens.old) }
 {
     if tokens.next_is(Punctuator::Dot) {
         tokens.mark(Punctuator::Dot, Role::Nothing)?;
@@ -41,12 +43,13 @@ fn designator<'t>(
 fn designators<'t>(
     alloc: Global,
     tokens: &mut Tokens<'t>,
-    names: &TypeNames<'t>,
+    names: &TypedefNames<'t>,
     depth: usize,
-) -> Result<(), ParseError>
-    requires depth { depth ≤ 128 }
-    ensures gives { Gives (initializers.read_designators (expressions names.now) depth (list_of tokens.old.rest.now)) (λ _. tt {0}) tokens.new.rest.now result }
-    ensures shorter { IfOk result (λ _. length tokens.new.rest.now < length tokens.old.rest.now) }
+) -> Result<(), Stopped>
+    requires depth { depth ≤ nesting_limit }
+    ensures gives { Parses (initializers.read_designators (expressions names.now) depth)
+        (λ _. tt {0}) tokens.old tokens.new result }
+    ensures shorter { IfOk result (λ _. IsShorter tokens.new tokens.old) }
 {
     designator(alloc, tokens, names, depth)?;
     'items: while starts_designator(tokens) {
@@ -59,12 +62,13 @@ fn designators<'t>(
 fn designation<'t>(
     alloc: Global,
     tokens: &mut Tokens<'t>,
-    names: &TypeNames<'t>,
+    names: &TypedefNames<'t>,
     depth: usize,
-) -> Result<(), ParseError>
-    requires depth { depth ≤ 128 }
-    ensures gives { Gives (read_designation (expressions names.now) depth (list_of tokens.old.rest.now)) (λ _. tt {0}) tokens.new.rest.now result }
-    ensures shorter { IfOk result (λ _. length tokens.new.rest.now < length tokens.old.rest.now) }
+) -> Result<(), Stopped>
+    requires depth { depth ≤ nesting_limit }
+    ensures gives { Parses (read_designation (expressions names.now) depth) (λ _. tt {0}) tokens.old
+        tokens.new result }
+    ensures shorter { IfOk result (λ _. IsShorter tokens.new tokens.old) }
 {
     designators(alloc, tokens, names, depth)?;
     tokens.mark(Punctuator::Assign, Role::Nothing)?;
@@ -76,18 +80,20 @@ fn designation<'t>(
 fn designated<'t>(
     alloc: Global,
     tokens: &mut Tokens<'t>,
-    names: &TypeNames<'t>,
+    names: &TypedefNames<'t>,
     depth: usize,
-    room: usize,
-) -> Result<Role, ParseError>
-    requires depth { depth ≤ 128 }
-    ensures gives { Gives (read_map initializers.end_of_initial (initializers.read_designated (expressions names.now) depth (initializers.read_initial (names_of names.now) (expressions names.now) room depth)) (list_of tokens.old.rest.now)) (λ x. x) tokens.new.rest.now result }
-    ensures shorter { IfOk result (λ _. length tokens.new.rest.now < length tokens.old.rest.now) }
+    fuel: usize,
+) -> Result<Role, Stopped>
+    requires depth { depth ≤ nesting_limit }
+    ensures gives { Parses (read_map initializers.end_of_initial (initializers.read_designated
+        (expressions names.now) depth (initializers.read_initial (names_of names.now)
+        (expressions names.now) fuel depth))) (λ x. x) tokens.old tokens.new result }
+    ensures shorter { IfOk result (λ _. IsShorter tokens.new tokens.old) }
 {
     if starts_designator(tokens) {
         designation(alloc, tokens, names, depth)?;
     }
-    let end = initial(alloc, tokens, names, depth, room)?;
+    let end = initial(alloc, tokens, names, depth, fuel)?;
     Ok(end)
 }
 
@@ -96,43 +102,47 @@ fn designated<'t>(
 fn initials<'t>(
     alloc: Global,
     tokens: &mut Tokens<'t>,
-    names: &TypeNames<'t>,
+    names: &TypedefNames<'t>,
     depth: usize,
-    room: usize,
-) -> Result<(), ParseError>
-    requires depth { depth ≤ 128 }
-    ensures gives { Gives (initializers.read_initials (names_of names.now) (expressions names.now) depth (initializers.read_initial (names_of names.now) (expressions names.now) room depth) (list_of tokens.old.rest.now)) (λ _. tt {0}) tokens.new.rest.now result }
-    ensures shorter { IfOk result (λ _. length tokens.new.rest.now < length tokens.old.rest.now) }
+    fuel: usize,
+) -> Result<(), Stopped>
+    requires depth { depth ≤ nesting_limit }
+    ensures gives { Parses (initializers.read_initials (names_of names.now) (expressions names.now)
+        depth (initializers.read_initial (names_of names.now) (expressions names.now) fuel depth))
+        (λ _. tt {0}) tokens.old tokens.new result }
+    ensures shorter { IfOk result (λ _. IsShorter tokens.new tokens.old) }
 {
-    let mut end = designated(alloc, tokens, names, depth, room)?;
+    let mut end = designated(alloc, tokens, names, depth, fuel)?;
     'items: while tokens.next_is(Punctuator::Comma) {
         tokens.mark(Punctuator::Comma, end)?;
         if !starts_initial(tokens, names) {
             tokens.mark(Punctuator::RightBrace, Role::Nothing)?;
             return Ok(());
         }
-        end = designated(alloc, tokens, names, depth, room)?;
+        end = designated(alloc, tokens, names, depth, fuel)?;
     }
     tokens.mark(Punctuator::RightBrace, end)?;
     Ok(())
 }
 
-/// An initial value, with room for so many braces inside: what is expected after it.
-#[tactic(auto, using(crate::proofs::Rooms::rooms))]
+/// An initial value, in which so many braces may be open: what is expected after it.
+#[tactic(auto, using(crate::proofs::StatementFuel::fuel_cases))]
 #[cycle(initials)]
 pub fn initial<'t>(
     alloc: Global,
     tokens: &mut Tokens<'t>,
-    names: &TypeNames<'t>,
+    names: &TypedefNames<'t>,
     depth: usize,
-    room: usize,
-) -> Result<Role, ParseError>
-    requires { depth ≤ 128 }
-    ensures gives { Gives (read_map initializers.end_of_initial (initializers.read_initial (names_of names.now) (expressions names.now) room depth) (list_of tokens.old.rest.now)) (λ x. x) tokens.new.rest.now result }
-    ensures shorter { IfOk result (λ _. length tokens.new.rest.now < length tokens.old.rest.now) }
+    fuel: usize,
+) -> Result<Role, Stopped>
+    requires { depth ≤ nesting_limit }
+    ensures gives { Parses (read_map initializers.end_of_initial (initializers.read_initial
+        (names_of names.now) (expressions names.now) fuel depth)) (λ x. x) tokens.old tokens.new
+        result }
+    ensures shorter { IfOk result (λ _. IsShorter tokens.new tokens.old) }
 {
-    if room == 0 {
-        return Err(ParseError::At(Fault::Deep));
+    if fuel == 0 {
+        return Err(Stopped::At(Fault::LimitExceeded));
     }
     if !tokens.next_is(Punctuator::LeftBrace) {
         let value = whole(alloc, tokens, names, depth)?;
@@ -144,6 +154,6 @@ pub fn initial<'t>(
         tokens.mark(Punctuator::RightBrace, Role::Nothing)?;
         return Ok(Role::Nothing);
     }
-    initials(alloc, tokens, names, depth + 1, room - 1)?;
+    initials(alloc, tokens, names, depth + 1, fuel - 1)?;
     Ok(Role::Nothing)
 }

@@ -1,52 +1,79 @@
 //! External declarations, and the unit (6.9).
 
-ghost use Rattle.std.specs.Prelude.{◌≡◌, ◌<◌, IfOk, [], false, length, map};
-ghost use Rattle.c_grammar_spec.specs.Expressions.{is_type_name};
+ghost use Rattle.std.specs.Prelude.{◌≡◌, IfOk, [], false, map};
+ghost use Rattle.c_grammar_spec.specs.Expressions.{is_typedef_name};
 ghost use Rattle.c_grammar_spec.specs.Units.{name_of_global};
-ghost use Rattle.c_unit_reader.specs.Units as units;
+ghost use Rattle.c_statement_laws.specs.Units as units;
 ghost use Rattle.c_syntax.specs.Expressions.{specifiers_of, unboxed};
-ghost use Rattle.c_syntax.specs.Units.{function_of, global_of, item_of, unit_of};
-ghost use Rattle.c_parse_token.specs.Lists.{list_of, names_of, Gives};
+ghost use Rattle.c_syntax.specs.Statements.{parts_in};
+ghost use Rattle.c_syntax.specs.Units.{function_of, global_of, external_declaration_of, unit_of};
+ghost use Rattle.c_parse_token.specs.Lists.{names_of, Parses, IsShorter};
+ghost use Rattle.c_parse.specs.Following.{read_block, read_after_specifiers};
 
 use crate::class::is_typedef;
 use crate::globals::globals;
 use c_grammar_spec::Role;
-use c_parse_declaration::{global, item_specifiers};
+use c_parse_declaration::{external_specifiers, global};
 use c_parse_statement::parts;
-use c_parse_token::{ParseError, Tokens, TypeNames};
+use c_parse_token::{Stopped, Tokens, TypedefNames};
 use c_spec::token::Punctuator;
 use c_syntax::expression::{Specifiers, boxed};
-use c_syntax::unit::{FunctionDeclarator, Global as GlobalDeclarator, Item, TranslationUnit};
+use c_syntax::statement::Part;
+use c_syntax::unit::{
+    ExternalDeclaration, FunctionDeclarator, Global as GlobalDeclarator, TranslationUnit,
+};
 use std::alloc::Global;
+
+// The body of a function in braces, and the offset of its `}`.
+fn body<'t>(
+    alloc: Global,
+    tokens: &mut Tokens<'t>,
+    names: &TypedefNames<'t>,
+) -> Result<(Vec<Part<'t>>, usize), Stopped>
+    ensures gives { Parses (read_block (names_of names.now)) (λ x. (parts_in x.0, x.1)) tokens.old
+        tokens.new result }
+    ensures shorter { IfOk result (λ _. IsShorter tokens.new tokens.old) }
+{
+    tokens.opening(Punctuator::LeftBrace, 0)?;
+    let parts = parts(alloc, tokens, names, 1)?;
+    let close = tokens.mark(Punctuator::RightBrace, Role::Nothing)?;
+    Ok((parts, close))
+}
 
 // The body of a function, with its specifiers and its declarator.
 fn definition<'t>(
     alloc: Global,
     tokens: &mut Tokens<'t>,
-    names: &TypeNames<'t>,
+    names: &TypedefNames<'t>,
     specifiers: Box<Specifiers<'t>>,
     declarator: Box<FunctionDeclarator<'t>>,
-) -> Result<Box<Item<'t>>, ParseError>
-    ensures gives { Gives (units.read_body (names_of names.now) (specifiers_of specifiers.entry.value) (function_of declarator.entry.value) (list_of tokens.old.rest.now)) (λ x. (item_of x.value, names_of names.now)) tokens.new.rest.now result }
-    ensures shorter { IfOk result (λ _. length tokens.new.rest.now < length tokens.old.rest.now) }
+) -> Result<Box<ExternalDeclaration<'t>>, Stopped>
+    ensures gives { Parses (units.read_body (names_of names.now) (specifiers_of
+        specifiers.entry.value) (function_of declarator.entry.value))
+        (λ x. (external_declaration_of x.value, names_of names.now)) tokens.old tokens.new result }
+    ensures shorter { IfOk result (λ _. IsShorter tokens.new tokens.old) }
 {
-    tokens.opening(Punctuator::LeftBrace, 0)?;
-    let body = parts(alloc, tokens, names, 1)?;
-    tokens.mark(Punctuator::RightBrace, Role::Nothing)?;
-    Ok(boxed(alloc, Item::Definition(specifiers, declarator, body))?)
+    let (parts, close) = body(alloc, tokens, names)?;
+    Ok(boxed(
+        alloc,
+        ExternalDeclaration::Definition(specifiers, declarator, parts, close),
+    )?)
 }
 
 // The rest of an external declaration after its specifiers and its first declarator, with them.
-fn behind_global<'t>(
+fn after_global<'t>(
     alloc: Global,
     tokens: &mut Tokens<'t>,
-    names: &mut TypeNames<'t>,
+    names: &mut TypedefNames<'t>,
     specifiers: Box<Specifiers<'t>>,
     first: Box<GlobalDeclarator<'t>>,
-) -> Result<Box<Item<'t>>, ParseError>
-    requires fresh { is_type_name (names_of names.old) (name_of_global (global_of first.value)) ≡ false }
-    ensures gives { Gives (units.read_behind_global (names_of names.old) (specifiers_of specifiers.entry.value) (global_of first.entry.value) (list_of tokens.old.rest.now)) (λ x. (item_of x.value, names_of names.new)) tokens.new.rest.now result }
-    ensures shorter { IfOk result (λ _. length tokens.new.rest.now < length tokens.old.rest.now) }
+) -> Result<Box<ExternalDeclaration<'t>>, Stopped>
+    requires fresh { is_typedef_name (names_of names.old) (name_of_global (global_of first.value))
+        ≡ false }
+    ensures gives { Parses (units.read_after_global (names_of names.old) (specifiers_of
+        specifiers.entry.value) (global_of first.entry.value))
+        (λ x. (external_declaration_of x.value, names_of names.new)) tokens.old tokens.new result }
+    ensures shorter { IfOk result (λ _. IsShorter tokens.new tokens.old) }
 {
     if !tokens.next_is(Punctuator::LeftBrace) {
         return globals(alloc, tokens, names, specifiers, first);
@@ -62,38 +89,58 @@ fn behind_global<'t>(
     }
 }
 
+// The rest of an external declaration after its specifiers, with them.
+fn after_specifiers<'t>(
+    alloc: Global,
+    tokens: &mut Tokens<'t>,
+    names: &mut TypedefNames<'t>,
+    specifiers: Box<Specifiers<'t>>,
+) -> Result<Box<ExternalDeclaration<'t>>, Stopped>
+    ensures gives { Parses (read_after_specifiers (names_of names.old) (specifiers_of
+        specifiers.entry.value)) (λ x. (external_declaration_of x.value, names_of names.new))
+        tokens.old tokens.new result }
+    ensures shorter { IfOk result (λ _. IsShorter tokens.new tokens.old) }
+{
+    if tokens.next_is(Punctuator::Semicolon) {
+        tokens.mark(Punctuator::Semicolon, Role::Nothing)?;
+        return Ok(boxed(
+            alloc,
+            ExternalDeclaration::Declaration(specifiers, Vec::new(alloc)),
+        )?);
+    }
+    let first = global(alloc, tokens, names, is_typedef(&specifiers))?;
+    after_global(alloc, tokens, names, specifiers, first)
+}
+
 // An external declaration. The typedef names that it declares are in scope after it.
 fn item<'t>(
     alloc: Global,
     tokens: &mut Tokens<'t>,
-    names: &mut TypeNames<'t>,
-) -> Result<Box<Item<'t>>, ParseError>
-    ensures gives { Gives (units.read_item (names_of names.old) (list_of tokens.old.rest.now)) (λ x. (item_of x.value, names_of names.new)) tokens.new.rest.now result }
-    ensures shorter { IfOk result (λ _. length tokens.new.rest.now < length tokens.old.rest.now) }
+    names: &mut TypedefNames<'t>,
+) -> Result<Box<ExternalDeclaration<'t>>, Stopped>
+    ensures gives { Parses (units.read_external_declaration (names_of names.old))
+        (λ x. (external_declaration_of x.value, names_of names.new)) tokens.old tokens.new result }
+    ensures shorter { IfOk result (λ _. IsShorter tokens.new tokens.old) }
 {
     if tokens.next_is(Punctuator::Semicolon) {
         tokens.mark(Punctuator::Semicolon, Role::Nothing)?;
-        return Ok(boxed(alloc, Item::Empty)?);
+        return Ok(boxed(alloc, ExternalDeclaration::Empty)?);
     }
-    let specifiers = item_specifiers(alloc, tokens, names)?;
-    if tokens.next_is(Punctuator::Semicolon) {
-        tokens.mark(Punctuator::Semicolon, Role::Nothing)?;
-        return Ok(boxed(alloc, Item::Declaration(specifiers, Vec::new(alloc)))?);
-    }
-    let first = global(alloc, tokens, names, is_typedef(&specifiers))?;
-    behind_global(alloc, tokens, names, specifiers, first)
+    let specifiers = external_specifiers(alloc, tokens, names)?;
+    after_specifiers(alloc, tokens, names, specifiers)
 }
 
 // The external declarations up to the end of the tokens.
 fn items<'t>(
     alloc: Global,
     tokens: &mut Tokens<'t>,
-    names: &mut TypeNames<'t>,
-    all: &mut Vec<Box<Item<'t>>>,
-) -> Result<(), ParseError>
+    names: &mut TypedefNames<'t>,
+    all: &mut Vec<Box<ExternalDeclaration<'t>>>,
+) -> Result<(), Stopped>
     requires none { all.old.items ≡ [] }
     requires unnamed { names_of names.old ≡ [] }
-    ensures gives { Gives (units.read_items (list_of tokens.old.rest.now)) (λ _. map item_of (unboxed all.new)) tokens.new.rest.now result }
+    ensures gives { Parses units.read_external_declarations (λ _. map external_declaration_of
+        (unboxed all.new)) tokens.old tokens.new result }
     ensures whole { IfOk result (λ _. tokens.new.rest.now ≡ []) }
 {
     'items: while !tokens.rest.is_empty() {
@@ -104,11 +151,11 @@ fn items<'t>(
 }
 
 /// The unit that the tokens are, up to their end.
-pub fn unit<'t>(alloc: Global, tokens: &mut Tokens<'t>) -> Result<TranslationUnit<'t>, ParseError>
-    ensures gives { Gives (units.read_items (list_of tokens.old.rest.now)) unit_of tokens.new.rest.now result }
+pub fn unit<'t>(alloc: Global, tokens: &mut Tokens<'t>) -> Result<TranslationUnit<'t>, Stopped>
+    ensures gives { Parses units.read_external_declarations unit_of tokens.old tokens.new result }
     ensures whole { IfOk result (λ _. tokens.new.rest.now ≡ []) }
 {
-    let mut names = TypeNames::new(alloc);
+    let mut names = TypedefNames::new(alloc);
     let mut all = Vec::new(alloc);
     items(alloc, tokens, &mut names, &mut all)?;
     Ok(TranslationUnit { items: all })

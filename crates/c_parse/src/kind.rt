@@ -1,4 +1,4 @@
-//! The kind of a fault, by the token at fault and by what is awaited in its place.
+//! The kind of a fault, by the token at fault and by what is expected in its place.
 
 ghost use Rattle.std.specs.Prelude.{◌≡◌};
 ghost use Rattle.c_grammar_spec.specs.declared.Role.TheVariants.{CallEnd};
@@ -54,9 +54,9 @@ fn is_operator(mark: Punctuator) -> bool
     )
 }
 
-// What an operator behind a call is of.
-fn behind_call(kind: Kind<'_>) -> Option<LeftOut>
-    ensures { result ≡ faults.left_out_place CallEnd (token_of kind.entry) }
+// The part of C that an operator after a call is of.
+fn after_call(kind: Kind<'_>) -> Option<LeftOut>
+    ensures { result ≡ faults.left_out_by_role CallEnd (token_of kind.entry) }
 {
     match kind {
         Kind::Word(Keyword::Sizeof) => Some(LeftOut::Call),
@@ -71,9 +71,9 @@ fn behind_call(kind: Kind<'_>) -> Option<LeftOut>
     }
 }
 
-// The part of C that a token is of, where it is left out and another thing was awaited.
-fn left_out_place(role: Role, kind: Kind<'_>) -> Option<LeftOut>
-    ensures { result ≡ faults.left_out_place role (token_of kind.entry) }
+// The part of C that a token is of, where it is left out and something else was expected.
+fn left_out_by_role(role: Role, kind: Kind<'_>) -> Option<LeftOut>
+    ensures { result ≡ faults.left_out_by_role role (token_of kind.entry) }
 {
     match (role, kind) {
         (Role::DeclaredName, Kind::Mark(Punctuator::LeftParenthesis)) => {
@@ -86,7 +86,7 @@ fn left_out_place(role: Role, kind: Kind<'_>) -> Option<LeftOut>
         (Role::NameStatementEnd, Kind::Mark(Punctuator::Colon)) => Some(LeftOut::Goto),
         (Role::NameStatementEnd, Kind::Mark(Punctuator::Comma)) => Some(LeftOut::Comma),
         (Role::CallStatementEnd, Kind::Mark(Punctuator::Comma)) => Some(LeftOut::Comma),
-        (Role::CallEnd | Role::CallStatementEnd, kind) => behind_call(kind),
+        (Role::CallEnd | Role::CallStatementEnd, kind) => after_call(kind),
         _ => None,
     }
 }
@@ -102,7 +102,7 @@ fn left_out_token(kind: Kind<'_>) -> Option<LeftOut>
     }
 }
 
-/// The kind of a fault at the first of these tokens, or at the end, where this is awaited.
+/// The kind of a fault at the first of these tokens, or at the end, where this is expected.
 pub fn fault_kind(role: Role, rest: &[Token<'_>]) -> ParseFaultKind
     ensures { result ≡ faults.fault_kind role (list_of rest.now) }
 {
@@ -112,7 +112,7 @@ pub fn fault_kind(role: Role, rest: &[Token<'_>]) -> ParseFaultKind
     if let Some(part) = left_out_token(first.kind) {
         return ParseFaultKind::LeftOut(part);
     }
-    match left_out_place(role, first.kind) {
+    match left_out_by_role(role, first.kind) {
         Some(part) => ParseFaultKind::LeftOut(part),
         None => ParseFaultKind::Unexpected,
     }

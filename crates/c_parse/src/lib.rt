@@ -1,17 +1,17 @@
 //! The syntax of C: what unit tokens are, or their first fault (ISO C11, 6.5 to 6.9).
 //!
-//! [`parse`] has the crate's contract: it gives the tree of a unit exactly where the tokens are one, and else the
-//! fault of the tokens with its kind. Both are defined in `c_grammar_spec`, by the grammar's derivations alone
-//! (`specs/Units.antt`, `specs/Faults.antt`).
+//! [`parse`] has the crate's contract: it gives the tree of a unit exactly where the tokens are
+//! one, and else the fault of the tokens with its kind. Both are defined in `c_grammar_spec`, by
+//! the grammar's derivations alone (`specs/Units.antt`, `specs/Faults.antt`).
 #![tactic(auto)]
 
-ghost use Rattle.std.specs.Prelude.{◌≡◌, IfOk, IfErr, Err, length, drop};
+ghost use Rattle.std.specs.Prelude.{◌≡◌, IfOk, IfErr, Err, drop};
 ghost use Rattle.c_tree_spec.specs.Unit as tree;
 ghost use Rattle.c_grammar_spec.specs.Faults.{IsUnit, offset_of};
 ghost use Rattle.c_syntax.specs.Units.{unit_of};
-ghost use Rattle.c_unit_reader.specs.Units.{read_items};
+ghost use Rattle.c_statement_laws.specs.Units.{read_external_declarations};
 ghost use Rattle.c_parse_token.specs.Lists.{list_of, fault_of, Gives};
-ghost use Rattle.c_parse.specs.Refused.{IsFaultOf, told};
+ghost use Rattle.c_parse.specs.Refused.{IsFaultOf, reported};
 
 mod class;
 mod globals;
@@ -20,7 +20,7 @@ mod items;
 mod kind;
 
 use c_grammar_spec::ParseFaultKind;
-use c_parse_token::{Fault, ParseError as Stopped, Tokens};
+use c_parse_token::{Fault, Stopped, Tokens};
 use c_syntax::unit::TranslationUnit;
 use c_token::Token;
 use items::unit;
@@ -28,25 +28,25 @@ use kind::fault_kind;
 use std::alloc::Global;
 
 /// Where and why tokens are no unit.
-#[derive(Clone, Copy, Debug, PartialEq, Eq)]
+#[derive(Clone, Copy)]
 pub struct ParseFault {
-    /// How many tokens stand before the one at fault: all of them, where the end is.
+    /// How many tokens are before the one at fault: all of them, where the end is at fault.
     pub token: usize,
     /// Why.
     pub kind: ParseFaultKind,
 }
 
 /// Why tokens gave no unit.
-#[derive(Clone, Copy, Debug, PartialEq, Eq)]
+#[derive(Clone, Copy)]
 pub enum ParseError {
     /// The tokens are no unit: their first fault.
     Fault(ParseFault),
-    /// There was no memory.
+    /// Out of memory.
     NoMemory,
 }
 
 impl ParseFault {
-    /// The place of the fault in bytes from the front of the text, which has so many.
+    /// The offset of the fault in bytes from the start of the text, which has `end` bytes.
     pub fn offset(&self, tokens: &[Token<'_>], end: usize) -> usize
         ensures { result ≡ offset_of end (drop self.now.token (list_of tokens.now)) }
     {
@@ -60,17 +60,18 @@ impl ParseFault {
 
 // The kind of the fault at the first of these tokens, or at the end.
 fn kind_of(fault: Fault, rest: &[Token<'_>]) -> ParseFaultKind
-    ensures { result ≡ told (fault_of fault) (list_of rest.now) }
+    ensures { result ≡ reported (fault_of fault) (list_of rest.now) }
 {
     match fault {
-        Fault::Deep => ParseFaultKind::Depth,
+        Fault::LimitExceeded => ParseFaultKind::Depth,
         Fault::Wrong(role) => fault_kind(role, rest),
     }
 }
 
 // The fault where the parser stopped, at the first of these tokens or at the end.
 fn fault_at(tokens: &[Token<'_>], rest: &[Token<'_>], stopped: Stopped) -> ParseError
-    requires { Gives (read_items (list_of tokens.now)) unit_of rest.now (Err stopped) }
+    requires { Gives (read_external_declarations (list_of tokens.now)) unit_of rest.now
+        (Err stopped) }
     ensures { IsFaultOf (list_of tokens.now) result }
 {
     match stopped {
@@ -83,13 +84,15 @@ fn fault_at(tokens: &[Token<'_>], rest: &[Token<'_>], stopped: Stopped) -> Parse
     }
 }
 
-/// The unit that the tokens are; or their first fault, which stands at the first token with which those so far
-/// begin no unit, or where too much is open.
+/// The unit that the tokens are; or their first fault, which is at the first token with which
+/// those so far begin no unit, or where the nesting limit is exceeded.
 pub fn parse<'t>(alloc: Global, tokens: &'t [Token<'t>]) -> Result<TranslationUnit<'t>, ParseError>
     ensures found { IfOk result (λ unit. IsUnit (list_of tokens.now) (unit_of unit)) }
-    ensures same { IfOk result (λ unit. (other : tree.TranslationUnit) → IsUnit (list_of tokens.now) other → other ≡ unit_of unit) }
+    ensures same { IfOk result (λ unit. (other : tree.TranslationUnit) → IsUnit (list_of tokens.now)
+        other → other ≡ unit_of unit) }
     ensures fault { IfErr result (λ error. IsFaultOf (list_of tokens.now) error) }
-    ensures only { IfErr result (λ error. (other : tree.TranslationUnit) → IsUnit (list_of tokens.now) other → error ≡ ParseError.NoMemory) }
+    ensures only { IfErr result (λ error. (other : tree.TranslationUnit) → IsUnit
+        (list_of tokens.now) other → error ≡ ParseError.NoMemory) }
 {
     let mut left = Tokens {
         rest: tokens,

@@ -6,25 +6,25 @@ use Rattle.c_tree_spec.specs.Expression as tree
 use Rattle.c_tree_spec.specs.Unit as unit
 use Rattle.c_grammar_spec.specs.declared.Role.{Role}
 use Rattle.c_grammar_spec.specs.declared.Role.TheVariants.{OperandEnd}
-use Rattle.c_grammar_spec.specs.Leaves.{awaited}
+use Rattle.c_grammar_spec.specs.Leaves.{expected}
 use Rattle.c_grammar_spec.specs.Expressions.{operators}
-use Rattle.exact_read.specs.Reading.{Reader}
+use Rattle.exact_read.specs.Reading.{Parser}
 use Rattle.exact_read.specs.Grammar.{read_then, read_map, read_many, read_nothing}
-use Rattle.c_expression_reader.specs.Classes.{is_mark, mark_place}
-use Rattle.c_expression_reader.specs.Readers.{Readers, token, behind}
-use Rattle.c_expression_reader.specs.Types.{expressions_of}
-use Rattle.c_global_reader.specs.Parameters as parameters
+use Rattle.c_expression_laws.specs.Classes.{is_mark, mark_offset}
+use Rattle.c_expression_laws.specs.Parsers.{Parsers, token, following}
+use Rattle.c_expression_laws.specs.Types.{expressions_of}
+use Rattle.c_declaration_laws.specs.Parameters as parameters
 
--- arguments after a first one, up to which so many operators stand, and the `)`
-abbrev pub read_arguments_from : Readers → (depth count : ℕ) → (first : tree.Expression) → Reader Placed Role tree.Expressions
+-- arguments after a first one, up to which there are so many operators, and the `)`
+abbrev pub read_arguments_from : Parsers → (depth count : ℕ) → (first : tree.Expression) → Parser Placed Role tree.Expressions
 read_arguments_from inner depth count first =
     read_map (λ made. tree.expressions made.0 (expressions_of made.1.0))
     (read_then (read_nothing first)
-    (λ _. read_then (read_many (λ (_ : ℕ) next. is_mark punctuator.Comma next.token) (λ so_far. behind (token OperandEnd (awaited OperandEnd) (mark_place punctuator.Comma)) (λ _. inner.conditional depth so_far)) (λ so_far x. so_far + operators x) count)
-    (λ more. token OperandEnd (awaited OperandEnd) (mark_place punctuator.RightParenthesis))))
+    (λ _. read_then (read_many (λ (_ : ℕ) next. is_mark punctuator.Comma next.token) (λ so_far. following (token OperandEnd (expected OperandEnd) (mark_offset punctuator.Comma)) (λ _. inner.conditional depth so_far)) (λ so_far x. so_far + operators x) count)
+    (λ more. token OperandEnd (expected OperandEnd) (mark_offset punctuator.RightParenthesis))))
 
 -- what is after the name of a function
-abbrev pub read_function : (names : List (List ℕ)) → Readers → (pointers : ℕ) → tree.Name → Reader Placed Role unit.Global
+abbrev pub read_function : (names : List (List ℕ)) → Parsers → (pointers : ℕ) → tree.Name → Parser Placed Role unit.Global
 read_function names inner pointers name = read_map (λ function. unit.Function function) (parameters.read_function names inner 0 pointers name)
 
 -- the dimensions of no array

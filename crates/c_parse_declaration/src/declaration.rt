@@ -1,30 +1,33 @@
 //! Specifiers with words around their type specifier, and declarations of locals (6.7).
 
-ghost use Rattle.std.specs.Prelude.{◌≡◌, ◌≤◌, ◌<◌, IfOk, IfSome, IfNone, Ok, Some, None, length, suc, drop, map, [], option_map, false};
+ghost use Rattle.std.specs.Prelude.{◌≡◌, ◌≤◌, IfOk, IfSome, IfNone, Ok, Some, None};
+ghost use Rattle.std.specs.Prelude.{drop, map, [], option_map, false};
 ghost use Rattle.c_spec.specs.declared.token.Punctuator.TheVariants.{Semicolon};
 ghost use Rattle.c_grammar_spec.specs.declared.Role.TheVariants.{DeclaredName};
-ghost use Rattle.c_grammar_spec.specs.Expressions.{Alone, both, is_type_name};
-ghost use Rattle.c_grammar_spec.specs.Leaves.{awaited};
+ghost use Rattle.c_grammar_spec.specs.Expressions.{Alone, both, is_typedef_name};
+ghost use Rattle.c_grammar_spec.specs.Leaves.{expected};
 ghost use Rattle.c_grammar_spec.specs.Statements as grammar;
 ghost use Rattle.exact_read.specs.Grammar.{read_nothing};
-ghost use Rattle.c_expression_reader.specs.Readers.{token, next_is};
-ghost use Rattle.c_expression_reader.specs.Types.{plain_name_at, read_declarator};
-ghost use Rattle.c_declaration_reader.specs.Around.{read_item_specifiers};
-ghost use Rattle.c_declaration_reader.specs.Declarations as declarations;
+ghost use Rattle.c_expression_laws.specs.Parsers.{token, next_is};
+ghost use Rattle.c_expression_laws.specs.Types.{plain_name_at, read_declarator};
+ghost use Rattle.c_declaration_laws.specs.Around.{read_external_specifiers};
+ghost use Rattle.c_declaration_laws.specs.Declarations as declarations;
 ghost use Rattle.c_syntax.specs.Names.{name_of, storage_of};
 ghost use Rattle.c_syntax.specs.Expressions.{specifiers_of, declarator_of, unboxed};
 ghost use Rattle.c_syntax.specs.Simples.{value_of};
 ghost use Rattle.c_syntax.specs.Locals.{local_of, locals_of};
 ghost use Rattle.c_token.specs.Pieces.{token_of};
-ghost use Rattle.c_parse_token.specs.Lists.{list_of, names_of, Gives};
+ghost use Rattle.c_parse_token.specs.Lists.{list_of, names_of};
+ghost use Rattle.c_parse_token.specs.Lists.{Parses, TakesOne, IsShorter, IsNoLonger};
 ghost use Rattle.c_parse_expression.specs.Whole.{expressions};
 ghost use Rattle.c_parse_declaration.specs.Words.{says, next_says, read_words, read_specifiers};
+ghost use Rattle.c_grammar_spec.specs.Limits.{nesting_limit};
 
 use crate::statement::value;
 use c_grammar_spec::Role;
 use c_parse_expression::{base, dimensions};
 use c_parse_token::class::begins_type;
-use c_parse_token::{Fault, ParseError, Tokens, TypeNames, base_head, pointer};
+use c_parse_token::{Fault, Stopped, Tokens, TypedefNames, pointer, type_specifier_head};
 use c_spec::token::{Keyword, Punctuator};
 use c_syntax::expression::{Declarator, Name, Specifiers, Storage, boxed};
 use c_syntax::simple::Value;
@@ -52,7 +55,7 @@ fn both(one: Storage, two: Storage) -> Storage
     )
 }
 
-// What a token says that can stand around the base of locals, or of an item.
+// What a token says that can be around the type specifier of locals, or of an external declaration.
 fn around(kind: Kind<'_>, of_item: bool) -> Option<Storage>
     ensures { option_map storage_of result ≡ says of_item (token_of kind.entry) }
 {
@@ -65,12 +68,15 @@ fn around(kind: Kind<'_>, of_item: bool) -> Option<Storage>
     }
 }
 
-// A word that can stand around a base, if one stands next: what it says, and its place.
+// A word that can be around a type specifier, if it is next: what it says, and its offset.
 fn take_word(tokens: &mut Tokens<'_>, of_item: bool) -> Option<(Storage, usize)>
-    ensures said { IfSome result (λ x. next_says of_item (list_of tokens.old.rest.now) ≡ Some (storage_of x.0, x.1)) }
-    ensures rest { IfSome result (λ _. list_of tokens.new.rest.now ≡ drop 1 (list_of tokens.old.rest.now)) }
-    ensures shorter { IfSome result (λ _. length tokens.old.rest.now ≡ suc (length tokens.new.rest.now)) }
-    ensures none { IfNone result ((next_says of_item (list_of tokens.old.rest.now) ≡ None) × (tokens.new.rest.now ≡ tokens.old.rest.now)) }
+    ensures said { IfSome result (λ x. next_says of_item (list_of tokens.old.rest.now) ≡ Some
+        (storage_of x.0, x.1)) }
+    ensures rest { IfSome result (λ _. list_of tokens.new.rest.now ≡ drop 1
+        (list_of tokens.old.rest.now)) }
+    ensures shorter { IfSome result (λ _. TakesOne tokens.old tokens.new) }
+    ensures none { IfNone result ((next_says of_item (list_of tokens.old.rest.now) ≡ None) ×
+        (tokens.new.rest.now ≡ tokens.old.rest.now)) }
 {
     let [first, rest @ ..] = tokens.rest else {
         return None;
@@ -80,55 +86,59 @@ fn take_word(tokens: &mut Tokens<'_>, of_item: bool) -> Option<(Storage, usize)>
     Some((said, first.offset))
 }
 
-// Such words, any number of times: what they say, and the place of the first.
+// Such words, any number of times: what they say, and the offset of the first.
 fn words(tokens: &mut Tokens<'_>, of_item: bool) -> (Storage, Option<usize>)
-    ensures found { read_words of_item (list_of tokens.old.rest.now) ≡ Ok ((storage_of result.0, result.1), list_of tokens.new.rest.now) }
-    ensures shorter { length tokens.new.rest.now ≤ length tokens.old.rest.now }
+    ensures found { read_words of_item (list_of tokens.old.rest.now) ≡ Ok
+        ((storage_of result.0, result.1), list_of tokens.new.rest.now) }
+    ensures shorter { IsNoLonger tokens.new tokens.old }
 {
     let mut storage = stored(false, false);
     let mut first = None;
-    'items: while let Some((said, place)) = take_word(tokens, of_item) {
+    'items: while let Some((said, offset)) = take_word(tokens, of_item) {
         storage = both(storage, said);
-        first = Some(first.unwrap_or(place));
+        first = Some(first.unwrap_or(offset));
     }
     (storage, first)
 }
 
-// Specifiers with words around their base.
+// Specifiers with words around their type specifier.
 fn specifiers<'t>(
     alloc: Global,
     tokens: &mut Tokens<'t>,
-    names: &TypeNames<'t>,
+    names: &TypedefNames<'t>,
     depth: usize,
     of_item: bool,
-) -> Result<Box<Specifiers<'t>>, ParseError>
-    requires depth { depth ≤ 128 }
-    ensures gives { Gives (read_specifiers of_item (names_of names.now) (expressions names.now) depth (list_of tokens.old.rest.now)) (λ x. specifiers_of x.value) tokens.new.rest.now result }
-    ensures shorter { IfOk result (λ _. length tokens.new.rest.now < length tokens.old.rest.now) }
+) -> Result<Box<Specifiers<'t>>, Stopped>
+    requires depth { depth ≤ nesting_limit }
+    ensures gives { Parses (read_specifiers of_item (names_of names.now) (expressions names.now)
+        depth) (λ x. specifiers_of x.value) tokens.old tokens.new result }
+    ensures shorter { IfOk result (λ _. IsShorter tokens.new tokens.old) }
 {
     let (before, first) = words(tokens, of_item);
-    let (head, place) = base_head(tokens, names)?;
+    let (head, offset) = type_specifier_head(tokens, names)?;
     let base = base(alloc, tokens, names, depth, head)?;
-    let (behind, _) = words(tokens, of_item);
-    let storage = both(before, behind);
-    Ok(Specifiers::new(alloc, storage, base, first.unwrap_or(place))?)
+    let (following, _) = words(tokens, of_item);
+    let storage = both(before, following);
+    Ok(Specifiers::new(alloc, storage, base, first.unwrap_or(offset))?)
 }
 
-/// The specifiers of an item (6.7).
-pub fn item_specifiers<'t>(
+/// The specifiers of an external declaration (6.7).
+pub fn external_specifiers<'t>(
     alloc: Global,
     tokens: &mut Tokens<'t>,
-    names: &TypeNames<'t>,
-) -> Result<Box<Specifiers<'t>>, ParseError>
-    ensures gives { Gives (read_item_specifiers (names_of names.now) (expressions names.now) 0 (list_of tokens.old.rest.now)) (λ x. specifiers_of x.value) tokens.new.rest.now result }
-    ensures shorter { IfOk result (λ _. length tokens.new.rest.now < length tokens.old.rest.now) }
+    names: &TypedefNames<'t>,
+) -> Result<Box<Specifiers<'t>>, Stopped>
+    ensures gives { Parses (read_external_specifiers (names_of names.now) (expressions names.now) 0)
+        (λ x. specifiers_of x.value) tokens.old tokens.new result }
+    ensures shorter { IfOk result (λ _. IsShorter tokens.new tokens.old) }
 {
     specifiers(alloc, tokens, names, 0, true)
 }
 
 /// The next token begins a declaration of locals.
-pub fn starts_locals<'t>(tokens: &Tokens<'t>, names: &TypeNames<'t>) -> bool
-    ensures { result ≡ next_is (declarations.begins_locals (names_of names.now)) (list_of tokens.now.rest.now) }
+pub fn starts_locals<'t>(tokens: &Tokens<'t>, names: &TypedefNames<'t>) -> bool
+    ensures { result ≡ next_is (declarations.begins_locals (names_of names.now))
+        (list_of tokens.now.rest.now) }
 {
     match tokens.rest {
         [first, ..] => around(first.kind, false).is_some() || begins_type(first.kind, names),
@@ -136,39 +146,41 @@ pub fn starts_locals<'t>(tokens: &Tokens<'t>, names: &TypeNames<'t>) -> bool
     }
 }
 
-/// A name that is declared, and none of a type.
+/// A name that is declared, and no typedef name.
 pub fn declared_name<'t>(
     tokens: &mut Tokens<'t>,
-    names: &TypeNames<'t>,
-) -> Result<Name<'t>, ParseError>
-    ensures gives { Gives (token DeclaredName (awaited DeclaredName) (plain_name_at (names_of names.now)) (list_of tokens.old.rest.now)) name_of tokens.new.rest.now result }
-    ensures shorter { IfOk result (λ _. length tokens.old.rest.now ≡ suc (length tokens.new.rest.now)) }
-    ensures fresh { IfOk result (λ x. is_type_name (names_of names.now) x.spelling.now ≡ false) }
+    names: &TypedefNames<'t>,
+) -> Result<Name<'t>, Stopped>
+    ensures gives { Parses (token DeclaredName (expected DeclaredName)
+        (plain_name_at (names_of names.now))) name_of tokens.old tokens.new result }
+    ensures shorter { IfOk result (λ _. TakesOne tokens.old tokens.new) }
+    ensures fresh { IfOk result (λ x. is_typedef_name (names_of names.now) x.spelling.now ≡ false) }
 {
     let [first, rest @ ..] = tokens.rest else {
-        return Err(ParseError::At(Fault::Wrong(Role::DeclaredName)));
+        return Err(Stopped::At(Fault::Wrong(Role::DeclaredName)));
     };
     let Kind::Name(spelling) = first.kind else {
-        return Err(ParseError::At(Fault::Wrong(Role::DeclaredName)));
+        return Err(Stopped::At(Fault::Wrong(Role::DeclaredName)));
     };
     if names.contains(spelling) {
-        return Err(ParseError::At(Fault::Wrong(Role::DeclaredName)));
+        return Err(Stopped::At(Fault::Wrong(Role::DeclaredName)));
     }
-    let place = first.offset;
+    let offset = first.offset;
     tokens.rest = rest;
-    Ok(Name { spelling, place })
+    Ok(Name { spelling, offset })
 }
 
 // A local's declarator (6.7.6).
 fn declarator<'t>(
     alloc: Global,
     tokens: &mut Tokens<'t>,
-    names: &TypeNames<'t>,
+    names: &TypedefNames<'t>,
     depth: usize,
-) -> Result<Box<Declarator<'t>>, ParseError>
-    requires depth { depth ≤ 128 }
-    ensures gives { Gives (read_declarator (plain_name_at (names_of names.now)) (expressions names.now) depth Alone (list_of tokens.old.rest.now)) (λ x. declarator_of x.value) tokens.new.rest.now result }
-    ensures shorter { IfOk result (λ _. length tokens.new.rest.now < length tokens.old.rest.now) }
+) -> Result<Box<Declarator<'t>>, Stopped>
+    requires depth { depth ≤ nesting_limit }
+    ensures gives { Parses (read_declarator (plain_name_at (names_of names.now)) (expressions
+        names.now) depth Alone) (λ x. declarator_of x.value) tokens.old tokens.new result }
+    ensures shorter { IfOk result (λ _. IsShorter tokens.new tokens.old) }
 {
     let pointers = pointer(tokens);
     let name = declared_name(tokens, names)?;
@@ -176,16 +188,17 @@ fn declarator<'t>(
     Ok(Declarator::new(alloc, pointers, name, dimensions)?)
 }
 
-// A local, and what it begins with, which is a whole expression.
+// A local, and its initial value, which is a whole expression.
 fn local<'t>(
     alloc: Global,
     tokens: &mut Tokens<'t>,
-    names: &TypeNames<'t>,
+    names: &TypedefNames<'t>,
     depth: usize,
-) -> Result<Box<Local<'t>>, ParseError>
-    requires depth { depth ≤ 128 }
-    ensures gives { Gives (declarations.read_local (names_of names.now) (expressions names.now) depth (list_of tokens.old.rest.now)) (λ x. local_of x.value) tokens.new.rest.now result }
-    ensures shorter { IfOk result (λ _. length tokens.new.rest.now < length tokens.old.rest.now) }
+) -> Result<Box<Local<'t>>, Stopped>
+    requires depth { depth ≤ nesting_limit }
+    ensures gives { Parses (declarations.read_local (names_of names.now) (expressions names.now)
+        depth) (λ x. local_of x.value) tokens.old tokens.new result }
+    ensures shorter { IfOk result (λ _. IsShorter tokens.new tokens.old) }
 {
     let declarator = declarator(alloc, tokens, names, depth)?;
     if !tokens.next_is(Punctuator::Assign) {
@@ -198,7 +211,7 @@ fn local<'t>(
     Ok(boxed(alloc, Local { declarator, value })?)
 }
 
-// What is expected behind a value.
+// What is expected after a value.
 fn value_end(value: &Value<'_>) -> Role
     ensures { result ≡ grammar.value_end (value_of value.now) }
 {
@@ -208,7 +221,7 @@ fn value_end(value: &Value<'_>) -> Role
     }
 }
 
-// What is expected behind a local.
+// What is expected after a local.
 fn end_of_local(local: &Local<'_>) -> Role
     ensures { result ≡ declarations.end_of_local (local_of local.now) }
 {
@@ -222,15 +235,18 @@ fn end_of_local(local: &Local<'_>) -> Role
 fn more_locals<'t>(
     alloc: Global,
     tokens: &mut Tokens<'t>,
-    names: &TypeNames<'t>,
+    names: &TypedefNames<'t>,
     depth: usize,
     first: Box<Local<'t>>,
     locals: &mut Vec<Box<Local<'t>>>,
-) -> Result<(), ParseError>
-    requires depth { depth ≤ 128 }
+) -> Result<(), Stopped>
+    requires depth { depth ≤ nesting_limit }
     requires empty { locals.old.items ≡ [] }
-    ensures gives { Gives (declarations.read_list_from declarations.end_of_local Semicolon (read_nothing (local_of first.entry.value)) (declarations.read_local (names_of names.now) (expressions names.now) depth) (list_of tokens.old.rest.now)) (λ _. map local_of (unboxed locals.new)) tokens.new.rest.now result }
-    ensures shorter { IfOk result (λ _. length tokens.new.rest.now < length tokens.old.rest.now) }
+    ensures gives { Parses (declarations.read_list_from declarations.end_of_local Semicolon
+        (read_nothing (local_of first.entry.value)) (declarations.read_local (names_of names.now)
+        (expressions names.now) depth)) (λ _. map local_of (unboxed locals.new)) tokens.old
+        tokens.new result }
+    ensures shorter { IfOk result (λ _. IsShorter tokens.new tokens.old) }
 {
     let mut end = end_of_local(&first);
     locals.push(first)?;
@@ -248,12 +264,13 @@ fn more_locals<'t>(
 pub fn locals<'t>(
     alloc: Global,
     tokens: &mut Tokens<'t>,
-    names: &TypeNames<'t>,
+    names: &TypedefNames<'t>,
     depth: usize,
-) -> Result<Box<Locals<'t>>, ParseError>
-    requires depth { depth ≤ 128 }
-    ensures gives { Gives (declarations.read_locals (names_of names.now) (expressions names.now) depth (list_of tokens.old.rest.now)) (λ x. locals_of x.value) tokens.new.rest.now result }
-    ensures shorter { IfOk result (λ _. length tokens.new.rest.now < length tokens.old.rest.now) }
+) -> Result<Box<Locals<'t>>, Stopped>
+    requires depth { depth ≤ nesting_limit }
+    ensures gives { Parses (declarations.read_locals (names_of names.now) (expressions names.now)
+        depth) (λ x. locals_of x.value) tokens.old tokens.new result }
+    ensures shorter { IfOk result (λ _. IsShorter tokens.new tokens.old) }
 {
     let specifiers = specifiers(alloc, tokens, names, depth, false)?;
     let first = local(alloc, tokens, names, depth)?;

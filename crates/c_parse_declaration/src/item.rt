@@ -1,38 +1,44 @@
-//! Parameters, and declarators in items (6.7.6, 6.9).
+//! Parameters, and declarators in external declarations (6.7.6, 6.9).
 
-ghost use Rattle.std.specs.Prelude.{◌≡◌, ◌≤◌, ◌<◌, IfOk, IfSome, IfNone, Ok, length, suc, map, option_map, [], true, false};
+ghost use Rattle.std.specs.Prelude.{◌≡◌, ◌≤◌, IfOk, IfSome, IfNone, Ok, map};
+ghost use Rattle.std.specs.Prelude.{option_map, [], true, false};
 ghost use Rattle.c_spec.specs.declared.token.Punctuator.TheVariants.{RightParenthesis};
 ghost use Rattle.c_grammar_spec.specs.declared.Role.TheVariants.{Nothing};
-ghost use Rattle.c_grammar_spec.specs.Expressions.{is_type_name};
+ghost use Rattle.c_grammar_spec.specs.Expressions.{is_typedef_name};
 ghost use Rattle.c_grammar_spec.specs.Leaves.{plain};
 ghost use Rattle.c_grammar_spec.specs.Units.{name_of_global};
 ghost use Rattle.exact_read.specs.Grammar.{read_map, read_nothing};
-ghost use Rattle.c_expression_reader.specs.Readers.{token, next_is};
-ghost use Rattle.c_declaration_reader.specs.Declarations.{read_list_from};
-ghost use Rattle.c_global_reader.specs.Parameters as parameters;
+ghost use Rattle.c_expression_laws.specs.Parsers.{token, next_is};
+ghost use Rattle.c_declaration_laws.specs.Declarations.{read_list_from};
+ghost use Rattle.c_declaration_laws.specs.Parameters as parameters;
 ghost use Rattle.c_syntax.specs.Names.{name_of};
 ghost use Rattle.c_syntax.specs.Expressions.{specifiers_of, dimensions_of, unboxed};
 ghost use Rattle.c_syntax.specs.Units.{parameter_of, global_of};
-ghost use Rattle.c_parse_token.specs.Lists.{list_of, names_of, Gives};
+ghost use Rattle.c_parse_token.specs.Lists.{list_of, names_of};
+ghost use Rattle.c_parse_token.specs.Lists.{Parses, TakesOne, IsShorter, IsNoLonger};
 ghost use Rattle.c_parse_expression.specs.Whole.{expressions};
 ghost use Rattle.c_parse_declaration.specs.Parts.{has_none, read_function};
+ghost use Rattle.c_grammar_spec.specs.Limits.{nesting_limit};
 
 use crate::declaration::{declared_name, stored};
 use c_grammar_spec::Role;
 use c_parse_expression::{dimensions, specifiers};
-use c_parse_token::{ParseError, Tokens, TypeNames, consts, pointer};
+use c_parse_token::{Stopped, Tokens, TypedefNames, consts, pointer};
 use c_spec::token::{Keyword, Punctuator};
-use c_syntax::expression::{Base, Declarator, Dimensions, Name, Specifiers, boxed};
+use c_syntax::expression::{Declarator, Dimensions, Name, Specifiers, TypeSpecifier, boxed};
 use c_syntax::unit::{FunctionDeclarator, Global as GlobalDeclarator, Parameter};
 use c_token::Kind;
 use std::alloc::Global;
 
-// `void`, if it is next: its place.
+// `void`, if it is next: its offset.
 fn take_void(tokens: &mut Tokens<'_>) -> Option<usize>
-    ensures taken { IfSome result (λ x. token Nothing plain parameters.void_place (list_of tokens.old.rest.now) ≡ Ok (x, list_of tokens.new.rest.now)) }
-    ensures was { IfSome result (λ _. next_is parameters.is_void (list_of tokens.old.rest.now) ≡ true) }
-    ensures shorter { IfSome result (λ _. length tokens.old.rest.now ≡ suc (length tokens.new.rest.now)) }
-    ensures none { IfNone result ((next_is parameters.is_void (list_of tokens.old.rest.now) ≡ false) × (tokens.new.rest.now ≡ tokens.old.rest.now)) }
+    ensures taken { IfSome result (λ x. token Nothing plain parameters.void_offset
+        (list_of tokens.old.rest.now) ≡ Ok (x, list_of tokens.new.rest.now)) }
+    ensures was { IfSome result (λ _. next_is parameters.is_void (list_of tokens.old.rest.now)
+        ≡ true) }
+    ensures shorter { IfSome result (λ _. TakesOne tokens.old tokens.new) }
+    ensures none { IfNone result ((next_is parameters.is_void (list_of tokens.old.rest.now) ≡ false)
+        × (tokens.new.rest.now ≡ tokens.old.rest.now)) }
 {
     match tokens.rest {
         [first, rest @ ..] if matches!(first.kind, Kind::Word(Keyword::Void)) => {
@@ -43,13 +49,14 @@ fn take_void(tokens: &mut Tokens<'_>) -> Option<usize>
     }
 }
 
-// A parameter's name, if one stands next.
+// A parameter's name, if it is next.
 fn optional_name<'t>(
     tokens: &mut Tokens<'t>,
-    names: &TypeNames<'t>,
-) -> Result<Option<Name<'t>>, ParseError>
-    ensures gives { Gives (parameters.read_optional_name (names_of names.now) (list_of tokens.old.rest.now)) (λ x. option_map name_of x) tokens.new.rest.now result }
-    ensures shorter { IfOk result (λ _. length tokens.new.rest.now ≤ length tokens.old.rest.now) }
+    names: &TypedefNames<'t>,
+) -> Result<Option<Name<'t>>, Stopped>
+    ensures gives { Parses (parameters.read_optional_name (names_of names.now))
+        (λ x. option_map name_of x) tokens.old tokens.new result }
+    ensures shorter { IfOk result (λ _. IsNoLonger tokens.new tokens.old) }
 {
     if !tokens.starts_plain_name(names) {
         return Ok(None);
@@ -58,17 +65,19 @@ fn optional_name<'t>(
     Ok(Some(name))
 }
 
-// What stands behind the specifiers of a parameter, with them.
-fn parameter_behind<'t>(
+// What follows the specifiers of a parameter, with them.
+fn parameter_after<'t>(
     alloc: Global,
     tokens: &mut Tokens<'t>,
-    names: &TypeNames<'t>,
+    names: &TypedefNames<'t>,
     depth: usize,
     specifiers: Box<Specifiers<'t>>,
-) -> Result<Box<Parameter<'t>>, ParseError>
-    requires depth { depth ≤ 128 }
-    ensures gives { Gives (read_map (parameters.parameter_of (specifiers_of specifiers.entry.value)) (parameters.read_parameter_rest (names_of names.now) (expressions names.now) depth) (list_of tokens.old.rest.now)) (λ x. parameter_of x.value) tokens.new.rest.now result }
-    ensures shorter { IfOk result (λ _. length tokens.new.rest.now ≤ length tokens.old.rest.now) }
+) -> Result<Box<Parameter<'t>>, Stopped>
+    requires depth { depth ≤ nesting_limit }
+    ensures gives { Parses (read_map (parameters.parameter_of (specifiers_of
+        specifiers.entry.value)) (parameters.read_parameter_rest (names_of names.now)
+        (expressions names.now) depth)) (λ x. parameter_of x.value) tokens.old tokens.new result }
+    ensures shorter { IfOk result (λ _. IsNoLonger tokens.new tokens.old) }
 {
     let pointers = pointer(tokens);
     let name = optional_name(tokens, names)?;
@@ -88,36 +97,38 @@ fn parameter_behind<'t>(
 fn parameter<'t>(
     alloc: Global,
     tokens: &mut Tokens<'t>,
-    names: &TypeNames<'t>,
+    names: &TypedefNames<'t>,
     depth: usize,
-) -> Result<Box<Parameter<'t>>, ParseError>
-    requires depth { depth ≤ 128 }
-    ensures gives { Gives (parameters.read_parameter (names_of names.now) (expressions names.now) depth (list_of tokens.old.rest.now)) (λ x. parameter_of x.value) tokens.new.rest.now result }
-    ensures shorter { IfOk result (λ _. length tokens.new.rest.now ≤ length tokens.old.rest.now) }
+) -> Result<Box<Parameter<'t>>, Stopped>
+    requires depth { depth ≤ nesting_limit }
+    ensures gives { Parses (parameters.read_parameter (names_of names.now) (expressions names.now)
+        depth) (λ x. parameter_of x.value) tokens.old tokens.new result }
+    ensures shorter { IfOk result (λ _. IsNoLonger tokens.new tokens.old) }
 {
     let specifiers = specifiers(alloc, tokens, names, depth)?;
-    parameter_behind(alloc, tokens, names, depth, specifiers)
+    parameter_after(alloc, tokens, names, depth, specifiers)
 }
 
-// A parameter of which `void` at this place was read.
+// A parameter of which `void` at this offset was read.
 fn void_parameter<'t>(
     alloc: Global,
     tokens: &mut Tokens<'t>,
-    names: &TypeNames<'t>,
+    names: &TypedefNames<'t>,
     depth: usize,
-    place: usize,
-) -> Result<Box<Parameter<'t>>, ParseError>
-    requires depth { depth ≤ 128 }
-    ensures gives { Gives (parameters.read_void_parameter (names_of names.now) (expressions names.now) depth place (list_of tokens.old.rest.now)) (λ x. parameter_of x.value) tokens.new.rest.now result }
-    ensures shorter { IfOk result (λ _. length tokens.new.rest.now ≤ length tokens.old.rest.now) }
+    offset: usize,
+) -> Result<Box<Parameter<'t>>, Stopped>
+    requires depth { depth ≤ nesting_limit }
+    ensures gives { Parses (parameters.read_void_parameter (names_of names.now) (expressions
+        names.now) depth offset) (λ x. parameter_of x.value) tokens.old tokens.new result }
+    ensures shorter { IfOk result (λ _. IsNoLonger tokens.new tokens.old) }
 {
     consts(tokens);
-    let base = Base::void(alloc)?;
-    let specifiers = Specifiers::new(alloc, stored(false, false), base, place)?;
-    parameter_behind(alloc, tokens, names, depth, specifiers)
+    let base = TypeSpecifier::void(alloc)?;
+    let specifiers = Specifiers::new(alloc, stored(false, false), base, offset)?;
+    parameter_after(alloc, tokens, names, depth, specifiers)
 }
 
-// They are no array's.
+// They are those of no array.
 #[tactic(auto, using(c_syntax::proofs::Views::views))]
 fn is_none(dimensions: &Dimensions<'_>) -> bool
     ensures { result ≡ has_none (dimensions_of dimensions.now) }
@@ -125,7 +136,7 @@ fn is_none(dimensions: &Dimensions<'_>) -> bool
     !dimensions.is_open && dimensions.lengths.is_empty()
 }
 
-// What is expected behind a parameter.
+// What is expected after a parameter.
 fn parameter_end(parameter: &Parameter<'_>) -> Role
     ensures { result ≡ parameters.end_of_parameter (parameter_of parameter.now) }
 {
@@ -140,15 +151,18 @@ fn parameter_end(parameter: &Parameter<'_>) -> Role
 fn more_parameters<'t>(
     alloc: Global,
     tokens: &mut Tokens<'t>,
-    names: &TypeNames<'t>,
+    names: &TypedefNames<'t>,
     depth: usize,
     first: Box<Parameter<'t>>,
     list: &mut Vec<Box<Parameter<'t>>>,
-) -> Result<(), ParseError>
-    requires depth { depth ≤ 128 }
+) -> Result<(), Stopped>
+    requires depth { depth ≤ nesting_limit }
     requires empty { list.old.items ≡ [] }
-    ensures gives { Gives (read_list_from parameters.end_of_parameter RightParenthesis (read_nothing (parameter_of first.entry.value)) (parameters.read_parameter (names_of names.now) (expressions names.now) depth) (list_of tokens.old.rest.now)) (λ _. map parameter_of (unboxed list.new)) tokens.new.rest.now result }
-    ensures shorter { IfOk result (λ _. length tokens.new.rest.now < length tokens.old.rest.now) }
+    ensures gives { Parses (read_list_from parameters.end_of_parameter RightParenthesis
+        (read_nothing (parameter_of first.entry.value)) (parameters.read_parameter (names_of
+        names.now) (expressions names.now) depth)) (λ _. map parameter_of (unboxed list.new))
+        tokens.old tokens.new result }
+    ensures shorter { IfOk result (λ _. IsShorter tokens.new tokens.old) }
 {
     let mut end = parameter_end(&first);
     list.push(first)?;
@@ -162,24 +176,25 @@ fn more_parameters<'t>(
     Ok(())
 }
 
-// What stands behind the `(` of a function, with its `)`.
+// The parameters after the `(` of a function, with its `)`.
 fn parameters<'t>(
     alloc: Global,
     tokens: &mut Tokens<'t>,
-    names: &TypeNames<'t>,
+    names: &TypedefNames<'t>,
     depth: usize,
     list: &mut Vec<Box<Parameter<'t>>>,
-) -> Result<(), ParseError>
-    requires depth { depth ≤ 128 }
+) -> Result<(), Stopped>
+    requires depth { depth ≤ nesting_limit }
     requires empty { list.old.items ≡ [] }
-    ensures gives { Gives (parameters.read_parameters (names_of names.now) (expressions names.now) depth (list_of tokens.old.rest.now)) (λ _. map parameter_of (unboxed list.new)) tokens.new.rest.now result }
-    ensures shorter { IfOk result (λ _. length tokens.new.rest.now < length tokens.old.rest.now) }
+    ensures gives { Parses (parameters.read_parameters (names_of names.now) (expressions names.now)
+        depth) (λ _. map parameter_of (unboxed list.new)) tokens.old tokens.new result }
+    ensures shorter { IfOk result (λ _. IsShorter tokens.new tokens.old) }
 {
     if tokens.next_is(Punctuator::RightParenthesis) {
         tokens.mark(Punctuator::RightParenthesis, Role::Nothing)?;
         return Ok(());
     }
-    let Some(place) = take_void(tokens) else {
+    let Some(offset) = take_void(tokens) else {
         let first = parameter(alloc, tokens, names, depth)?;
         return more_parameters(alloc, tokens, names, depth, first, list);
     };
@@ -187,20 +202,21 @@ fn parameters<'t>(
         tokens.mark(Punctuator::RightParenthesis, Role::DeclaredName)?;
         return Ok(());
     }
-    let first = void_parameter(alloc, tokens, names, depth, place)?;
+    let first = void_parameter(alloc, tokens, names, depth, offset)?;
     more_parameters(alloc, tokens, names, depth, first, list)
 }
 
-// What stands behind the name of a function, with the name and the `*` before it.
+// The parameters after the name of a function, with the name and the `*` before it.
 fn function<'t>(
     alloc: Global,
     tokens: &mut Tokens<'t>,
-    names: &TypeNames<'t>,
+    names: &TypedefNames<'t>,
     pointers: usize,
     name: Name<'t>,
-) -> Result<Box<GlobalDeclarator<'t>>, ParseError>
-    ensures gives { Gives (read_function (names_of names.now) (expressions names.now) pointers (name_of name.entry) (list_of tokens.old.rest.now)) (λ x. global_of x.value) tokens.new.rest.now result }
-    ensures shorter { IfOk result (λ _. length tokens.new.rest.now ≤ length tokens.old.rest.now) }
+) -> Result<Box<GlobalDeclarator<'t>>, Stopped>
+    ensures gives { Parses (read_function (names_of names.now) (expressions names.now) pointers
+        (name_of name.entry)) (λ x. global_of x.value) tokens.old tokens.new result }
+    ensures shorter { IfOk result (λ _. IsNoLonger tokens.new tokens.old) }
     ensures named { IfOk result (λ x. name_of_global (global_of x.value) ≡ name.entry.spelling.now) }
 {
     tokens.opening(Punctuator::LeftParenthesis, 0)?;
@@ -217,16 +233,19 @@ fn function<'t>(
     Ok(boxed(alloc, GlobalDeclarator::Function(declarator))?)
 }
 
-/// A declarator in an item, with `typedef` or without: with it there is no function's. Its name is none of a type.
+/// A declarator in an external declaration, with `typedef` (then it is of no function) or without.
+/// Its name is no typedef name in scope.
 pub fn global<'t>(
     alloc: Global,
     tokens: &mut Tokens<'t>,
-    names: &TypeNames<'t>,
+    names: &TypedefNames<'t>,
     is_typedef: bool,
-) -> Result<Box<GlobalDeclarator<'t>>, ParseError>
-    ensures gives { Gives (parameters.read_global (names_of names.now) (expressions names.now) is_typedef (list_of tokens.old.rest.now)) (λ x. global_of x.value) tokens.new.rest.now result }
-    ensures shorter { IfOk result (λ _. length tokens.new.rest.now < length tokens.old.rest.now) }
-    ensures fresh { IfOk result (λ x. is_type_name (names_of names.now) (name_of_global (global_of x.value)) ≡ false) }
+) -> Result<Box<GlobalDeclarator<'t>>, Stopped>
+    ensures gives { Parses (parameters.read_global (names_of names.now) (expressions names.now)
+        is_typedef) (λ x. global_of x.value) tokens.old tokens.new result }
+    ensures shorter { IfOk result (λ _. IsShorter tokens.new tokens.old) }
+    ensures fresh { IfOk result (λ x. is_typedef_name (names_of names.now)
+        (name_of_global (global_of x.value)) ≡ false) }
 {
     let pointers = pointer(tokens);
     let name = declared_name(tokens, names)?;

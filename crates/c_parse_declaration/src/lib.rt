@@ -1,15 +1,16 @@
-//! Parsers of values, expression statements, declarations, parameters and declarators (ISO C11, 6.5.16, 6.7, 6.9).
+//! Parsers of values, expression statements, declarations, parameters and declarators (ISO C11,
+//! 6.5.16, 6.7, 6.9).
 //!
 //! The main calls are [`simple`], [`locals`] and [`global`]. Each parser takes its tokens off
-//! [`Tokens`](c_parse_token::Tokens), and gives exactly what the reference parser gives that its contract names, of
-//! `specs/Values.antt`, `specs/Declarations.antt` and `specs/Around.antt` of `c_declaration_reader` and of
-//! `specs/Parameters.antt` of `c_global_reader`.
+//! [`Tokens`](c_parse_token::Tokens), and gives exactly what the reference parser gives that its
+//! contract names, of `specs/Values.antt`, `specs/Declarations.antt` and `specs/Around.antt` of
+//! `c_declaration_laws` and of `specs/Parameters.antt` of `c_declaration_laws`.
 #![tactic(auto)]
 
 mod declaration;
 mod item;
 mod statement;
 
-pub use declaration::{item_specifiers, locals, starts_locals};
+pub use declaration::{external_specifiers, locals, starts_locals};
 pub use item::global;
 pub use statement::{simple, value};

@@ -1,24 +1,25 @@
 //! Calls, what is assigned or returned, and expression statements (6.5.2.2, 6.5.16, 6.8.3).
 
-ghost use Rattle.std.specs.Prelude.{◌≡◌, ◌≤◌, IfOk, length, suc, [], option_map};
+ghost use Rattle.std.specs.Prelude.{◌≡◌, ◌≤◌, IfOk, suc, [], option_map};
 ghost use Rattle.std.specs.Option.{is_some};
 ghost use Rattle.c_grammar_spec.specs.declared.Role.TheVariants.{Nothing};
 ghost use Rattle.c_grammar_spec.specs.Expressions.{operators};
 ghost use Rattle.c_grammar_spec.specs.Leaves.{operates};
-ghost use Rattle.c_expression_reader.specs.Classes.{with_place};
-ghost use Rattle.c_expression_reader.specs.Readers.{token, next_is};
-ghost use Rattle.c_declaration_reader.specs.Values as values;
+ghost use Rattle.c_expression_laws.specs.Classes.{with_offset};
+ghost use Rattle.c_expression_laws.specs.Parsers.{token, next_is};
+ghost use Rattle.c_declaration_laws.specs.Values as values;
 ghost use Rattle.c_syntax.specs.Names.{name_of};
 ghost use Rattle.c_syntax.specs.Expressions.{expression_of, expressions_in};
 ghost use Rattle.c_syntax.specs.Simples.{call_of, value_of, simple_of};
 ghost use Rattle.c_token.specs.Pieces.{token_of};
-ghost use Rattle.c_parse_token.specs.Lists.{list_of, Gives};
+ghost use Rattle.c_parse_token.specs.Lists.{list_of, Parses, TakesOne, IsNoLonger};
 ghost use Rattle.c_parse_expression.specs.Whole.{expressions};
 ghost use Rattle.c_parse_declaration.specs.Parts.{read_arguments_from};
+ghost use Rattle.c_grammar_spec.specs.Limits.{nesting_limit, operator_limit};
 
-use c_grammar_spec::Role;
+use c_grammar_spec::{OPERATOR_LIMIT, Role};
 use c_parse_expression::{any_unary, conditional, whole};
-use c_parse_token::{Fault, ParseError, Tokens, TypeNames};
+use c_parse_token::{Fault, Stopped, Tokens, TypedefNames};
 use c_spec::token::Punctuator;
 use c_syntax::expression::{Expression, Name, boxed};
 use c_syntax::simple::{Call, Simple, Value};
@@ -26,10 +27,7 @@ use c_token::Kind;
 use c_tree_spec::{BinaryOperator, StepOperator};
 use std::alloc::Global;
 
-// How many operators may stand in one expression.
-const MOST: usize = 128;
-
-// The operator that stands before the `=` of an assignment.
+// The operator of an assignment with an operator.
 fn assign_operator(kind: Kind<'_>) -> Option<BinaryOperator>
     ensures { result ≡ values.assign_operator (token_of kind.entry) }
 {
@@ -61,7 +59,8 @@ fn step_operator(kind: Kind<'_>) -> Option<StepOperator>
 
 // The next token is an operator with `=`.
 fn starts_assignment(tokens: &Tokens<'_>) -> bool
-    ensures { result ≡ next_is (λ next. is_some (values.assign_operator next)) (list_of tokens.now.rest.now) }
+    ensures { result ≡ next_is (λ next. is_some (values.assign_operator next))
+        (list_of tokens.now.rest.now) }
 {
     match tokens.rest {
         [first, ..] => assign_operator(first.kind).is_some(),
@@ -71,7 +70,8 @@ fn starts_assignment(tokens: &Tokens<'_>) -> bool
 
 // The next token is `++` or `--`.
 fn starts_step(tokens: &Tokens<'_>) -> bool
-    ensures { result ≡ next_is (λ next. is_some (values.step_operator next)) (list_of tokens.now.rest.now) }
+    ensures { result ≡ next_is (λ next. is_some (values.step_operator next))
+        (list_of tokens.now.rest.now) }
 {
     match tokens.rest {
         [first, ..] => step_operator(first.kind).is_some(),
@@ -79,40 +79,44 @@ fn starts_step(tokens: &Tokens<'_>) -> bool
     }
 }
 
-// An operator with `=`, and its place.
-fn assignment(tokens: &mut Tokens<'_>) -> Result<(BinaryOperator, usize), ParseError>
-    ensures gives { Gives (token Nothing (operates (suc tokens.old.count)) (with_place values.assign_operator) (list_of tokens.old.rest.now)) (λ x. x) tokens.new.rest.now result }
-    ensures shorter { IfOk result (λ _. length tokens.old.rest.now ≡ suc (length tokens.new.rest.now)) }
-    ensures counted { IfOk result (λ _. (tokens.new.count ≡ suc tokens.old.count) × (tokens.new.count ≤ 128)) }
+// An operator with `=`, and its offset.
+fn assignment(tokens: &mut Tokens<'_>) -> Result<(BinaryOperator, usize), Stopped>
+    ensures gives { Parses (token Nothing (operates (suc tokens.old.count))
+        (with_offset values.assign_operator)) (λ x. x) tokens.old tokens.new result }
+    ensures shorter { IfOk result (λ _. TakesOne tokens.old tokens.new) }
+    ensures counted { IfOk result (λ _. (tokens.new.count ≡ suc tokens.old.count) ×
+        (tokens.new.count ≤ operator_limit)) }
 {
     let [first, rest @ ..] = tokens.rest else {
-        return Err(ParseError::At(Fault::Wrong(Role::Nothing)));
+        return Err(Stopped::At(Fault::Wrong(Role::Nothing)));
     };
     let Some(operator) = assign_operator(first.kind) else {
-        return Err(ParseError::At(Fault::Wrong(Role::Nothing)));
+        return Err(Stopped::At(Fault::Wrong(Role::Nothing)));
     };
-    if tokens.count >= MOST {
-        return Err(ParseError::At(Fault::Deep));
+    if tokens.count >= OPERATOR_LIMIT {
+        return Err(Stopped::At(Fault::LimitExceeded));
     }
     tokens.rest = rest;
     tokens.count += 1;
     Ok((operator, first.offset))
 }
 
-// `++` or `--`, and its place.
-fn step(tokens: &mut Tokens<'_>) -> Result<(StepOperator, usize), ParseError>
-    ensures gives { Gives (token Nothing (operates (suc tokens.old.count)) (with_place values.step_operator) (list_of tokens.old.rest.now)) (λ x. x) tokens.new.rest.now result }
-    ensures shorter { IfOk result (λ _. length tokens.old.rest.now ≡ suc (length tokens.new.rest.now)) }
-    ensures counted { IfOk result (λ _. (tokens.new.count ≡ suc tokens.old.count) × (tokens.new.count ≤ 128)) }
+// `++` or `--`, and its offset.
+fn step(tokens: &mut Tokens<'_>) -> Result<(StepOperator, usize), Stopped>
+    ensures gives { Parses (token Nothing (operates (suc tokens.old.count))
+        (with_offset values.step_operator)) (λ x. x) tokens.old tokens.new result }
+    ensures shorter { IfOk result (λ _. TakesOne tokens.old tokens.new) }
+    ensures counted { IfOk result (λ _. (tokens.new.count ≡ suc tokens.old.count) ×
+        (tokens.new.count ≤ operator_limit)) }
 {
     let [first, rest @ ..] = tokens.rest else {
-        return Err(ParseError::At(Fault::Wrong(Role::Nothing)));
+        return Err(Stopped::At(Fault::Wrong(Role::Nothing)));
     };
     let Some(operator) = step_operator(first.kind) else {
-        return Err(ParseError::At(Fault::Wrong(Role::Nothing)));
+        return Err(Stopped::At(Fault::Wrong(Role::Nothing)));
     };
-    if tokens.count >= MOST {
-        return Err(ParseError::At(Fault::Deep));
+    if tokens.count >= OPERATOR_LIMIT {
+        return Err(Stopped::At(Fault::LimitExceeded));
     }
     tokens.rest = rest;
     tokens.count += 1;
@@ -182,16 +186,18 @@ fn name_alone<'t>(x: &Expression<'t>) -> Option<Name<'t>>
 fn more_arguments<'t>(
     alloc: Global,
     tokens: &mut Tokens<'t>,
-    names: &TypeNames<'t>,
+    names: &TypedefNames<'t>,
     depth: usize,
     first: Box<Expression<'t>>,
     arguments: &mut Vec<Box<Expression<'t>>>,
-) -> Result<(), ParseError>
-    requires depth { depth ≤ 128 }
-    requires count { tokens.old.count ≤ 128 }
+) -> Result<(), Stopped>
+    requires depth { depth ≤ nesting_limit }
+    requires count { tokens.old.count ≤ operator_limit }
     requires empty { arguments.old.items ≡ [] }
-    ensures gives { Gives (read_arguments_from (expressions names.now) depth tokens.old.count (expression_of first.entry.value) (list_of tokens.old.rest.now)) (λ _. expressions_in arguments.new) tokens.new.rest.now result }
-    ensures shorter { IfOk result (λ _. length tokens.new.rest.now ≤ length tokens.old.rest.now) }
+    ensures gives { Parses (read_arguments_from (expressions names.now) depth tokens.old.count
+        (expression_of first.entry.value)) (λ _. expressions_in arguments.new) tokens.old tokens.new
+        result }
+    ensures shorter { IfOk result (λ _. IsNoLonger tokens.new tokens.old) }
 {
     arguments.push(first)?;
     'items: while tokens.next_is(Punctuator::Comma) {
@@ -203,18 +209,19 @@ fn more_arguments<'t>(
     Ok(())
 }
 
-// A call behind its name (6.5.2.2).
+// A call after its name (6.5.2.2).
 fn call<'t>(
     alloc: Global,
     tokens: &mut Tokens<'t>,
-    names: &TypeNames<'t>,
+    names: &TypedefNames<'t>,
     depth: usize,
     callee: Name<'t>,
-) -> Result<Box<Call<'t>>, ParseError>
-    requires depth { depth ≤ 128 }
-    requires count { tokens.old.count ≤ 128 }
-    ensures gives { Gives (values.read_call (expressions names.now) depth tokens.old.count (name_of callee.entry) (list_of tokens.old.rest.now)) (λ x. call_of x.value) tokens.new.rest.now result }
-    ensures shorter { IfOk result (λ _. length tokens.new.rest.now ≤ length tokens.old.rest.now) }
+) -> Result<Box<Call<'t>>, Stopped>
+    requires depth { depth ≤ nesting_limit }
+    requires count { tokens.old.count ≤ operator_limit }
+    ensures gives { Parses (values.read_call (expressions names.now) depth tokens.old.count
+        (name_of callee.entry)) (λ x. call_of x.value) tokens.old tokens.new result }
+    ensures shorter { IfOk result (λ _. IsNoLonger tokens.new tokens.old) }
 {
     tokens.bracket(Punctuator::LeftParenthesis, depth)?;
     let mut arguments = Vec::new(alloc);
@@ -227,18 +234,19 @@ fn call<'t>(
     Ok(boxed(alloc, Call { callee, arguments })?)
 }
 
-// A value whose first part was read: a call, where that is a name with `(` behind it.
+// A value whose first part was read: a call, where that is a name with `(` after it.
 fn called<'t>(
     alloc: Global,
     tokens: &mut Tokens<'t>,
-    names: &TypeNames<'t>,
+    names: &TypedefNames<'t>,
     depth: usize,
     first: Box<Expression<'t>>,
-) -> Result<Box<Value<'t>>, ParseError>
-    requires depth { depth ≤ 128 }
-    requires count { tokens.old.count ≤ 128 }
-    ensures gives { Gives (values.read_called (expressions names.now) depth tokens.old.count (expression_of first.entry.value) (list_of tokens.old.rest.now)) (λ x. value_of x.value) tokens.new.rest.now result }
-    ensures shorter { IfOk result (λ _. length tokens.new.rest.now ≤ length tokens.old.rest.now) }
+) -> Result<Box<Value<'t>>, Stopped>
+    requires depth { depth ≤ nesting_limit }
+    requires count { tokens.old.count ≤ operator_limit }
+    ensures gives { Parses (values.read_called (expressions names.now) depth tokens.old.count
+        (expression_of first.entry.value)) (λ x. value_of x.value) tokens.old tokens.new result }
+    ensures shorter { IfOk result (λ _. IsNoLonger tokens.new tokens.old) }
 {
     let Some(callee) = name_alone(&first) else {
         return Ok(boxed(alloc, Value::Computed(first))?);
@@ -254,13 +262,14 @@ fn called<'t>(
 pub fn value<'t>(
     alloc: Global,
     tokens: &mut Tokens<'t>,
-    names: &TypeNames<'t>,
+    names: &TypedefNames<'t>,
     depth: usize,
-) -> Result<Box<Value<'t>>, ParseError>
-    requires depth { depth ≤ 128 }
-    requires count { tokens.old.count ≤ 128 }
-    ensures gives { Gives (values.read_value (expressions names.now) depth tokens.old.count (list_of tokens.old.rest.now)) (λ x. value_of x.value) tokens.new.rest.now result }
-    ensures shorter { IfOk result (λ _. length tokens.new.rest.now ≤ length tokens.old.rest.now) }
+) -> Result<Box<Value<'t>>, Stopped>
+    requires depth { depth ≤ nesting_limit }
+    requires count { tokens.old.count ≤ operator_limit }
+    ensures gives { Parses (values.read_value (expressions names.now) depth tokens.old.count)
+        (λ x. value_of x.value) tokens.old tokens.new result }
+    ensures shorter { IfOk result (λ _. IsNoLonger tokens.new tokens.old) }
 {
     let first = conditional(alloc, tokens, names, depth)?;
     called(alloc, tokens, names, depth, first)
@@ -270,82 +279,87 @@ pub fn value<'t>(
 fn step_before<'t>(
     alloc: Global,
     tokens: &mut Tokens<'t>,
-    names: &TypeNames<'t>,
+    names: &TypedefNames<'t>,
     depth: usize,
-) -> Result<Box<Simple<'t>>, ParseError>
-    requires depth { depth ≤ 128 }
-    ensures gives { Gives (values.read_step_before (expressions names.now) depth (list_of tokens.old.rest.now)) (λ x. simple_of x.value) tokens.new.rest.now result }
-    ensures shorter { IfOk result (λ _. length tokens.new.rest.now ≤ length tokens.old.rest.now) }
+) -> Result<Box<Simple<'t>>, Stopped>
+    requires depth { depth ≤ nesting_limit }
+    ensures gives { Parses (values.read_step_before (expressions names.now) depth)
+        (λ x. simple_of x.value) tokens.old tokens.new result }
+    ensures shorter { IfOk result (λ _. IsNoLonger tokens.new tokens.old) }
 {
     tokens.count = 0;
-    let (operator, place) = step(tokens)?;
+    let (operator, offset) = step(tokens)?;
     let target = any_unary(alloc, tokens, names, depth)?;
-    Ok(boxed(alloc, Simple::StepBefore(operator, target, place))?)
+    Ok(boxed(alloc, Simple::StepBefore(operator, target, offset))?)
 }
 
-// `=` and a value behind a target.
+// `=` and a value after a target.
 fn assign<'t>(
     alloc: Global,
     tokens: &mut Tokens<'t>,
-    names: &TypeNames<'t>,
+    names: &TypedefNames<'t>,
     depth: usize,
     target: Box<Expression<'t>>,
-) -> Result<Box<Simple<'t>>, ParseError>
-    requires depth { depth ≤ 128 }
+) -> Result<Box<Simple<'t>>, Stopped>
+    requires depth { depth ≤ nesting_limit }
     requires counted { tokens.old.count ≡ operators (expression_of target.value) }
-    ensures gives { Gives (values.read_assign (expressions names.now) depth (expression_of target.entry.value) (list_of tokens.old.rest.now)) (λ x. simple_of x.value) tokens.new.rest.now result }
-    ensures shorter { IfOk result (λ _. length tokens.new.rest.now ≤ length tokens.old.rest.now) }
+    ensures gives { Parses (values.read_assign (expressions names.now) depth
+        (expression_of target.entry.value)) (λ x. simple_of x.value) tokens.old tokens.new result }
+    ensures shorter { IfOk result (λ _. IsNoLonger tokens.new tokens.old) }
 {
-    let place = tokens.operator(Punctuator::Assign)?;
+    let offset = tokens.operator(Punctuator::Assign)?;
     let value = value(alloc, tokens, names, depth)?;
-    Ok(boxed(alloc, Simple::Assign(target, value, place))?)
+    Ok(boxed(alloc, Simple::Assign(target, value, offset))?)
 }
 
-// An operator with `=`, and its operand, behind a target.
+// An operator with `=`, and its operand, after a target.
 fn assign_by<'t>(
     alloc: Global,
     tokens: &mut Tokens<'t>,
-    names: &TypeNames<'t>,
+    names: &TypedefNames<'t>,
     depth: usize,
     target: Box<Expression<'t>>,
-) -> Result<Box<Simple<'t>>, ParseError>
-    requires depth { depth ≤ 128 }
+) -> Result<Box<Simple<'t>>, Stopped>
+    requires depth { depth ≤ nesting_limit }
     requires counted { tokens.old.count ≡ operators (expression_of target.value) }
-    ensures gives { Gives (values.read_assign_by (expressions names.now) depth (expression_of target.entry.value) (list_of tokens.old.rest.now)) (λ x. simple_of x.value) tokens.new.rest.now result }
-    ensures shorter { IfOk result (λ _. length tokens.new.rest.now ≤ length tokens.old.rest.now) }
+    ensures gives { Parses (values.read_assign_by (expressions names.now) depth
+        (expression_of target.entry.value)) (λ x. simple_of x.value) tokens.old tokens.new result }
+    ensures shorter { IfOk result (λ _. IsNoLonger tokens.new tokens.old) }
 {
-    let (operator, place) = assignment(tokens)?;
+    let (operator, offset) = assignment(tokens)?;
     let operand = conditional(alloc, tokens, names, depth)?;
-    Ok(boxed(alloc, Simple::AssignBy(operator, target, operand, place))?)
+    Ok(boxed(alloc, Simple::AssignBy(operator, target, operand, offset))?)
 }
 
-// `++` or `--` behind a target.
+// `++` or `--` after a target.
 fn step_after<'t>(
     alloc: Global,
     tokens: &mut Tokens<'t>,
     target: Box<Expression<'t>>,
-) -> Result<Box<Simple<'t>>, ParseError>
+) -> Result<Box<Simple<'t>>, Stopped>
     requires counted { tokens.old.count ≡ operators (expression_of target.value) }
-    ensures gives { Gives (values.read_step_after (expression_of target.entry.value) (list_of tokens.old.rest.now)) (λ x. simple_of x.value) tokens.new.rest.now result }
-    ensures shorter { IfOk result (λ _. length tokens.new.rest.now ≤ length tokens.old.rest.now) }
+    ensures gives { Parses (values.read_step_after (expression_of target.entry.value))
+        (λ x. simple_of x.value) tokens.old tokens.new result }
+    ensures shorter { IfOk result (λ _. IsNoLonger tokens.new tokens.old) }
 {
-    let (operator, place) = step(tokens)?;
-    Ok(boxed(alloc, Simple::StepAfter(operator, target, place))?)
+    let (operator, offset) = step(tokens)?;
+    Ok(boxed(alloc, Simple::StepAfter(operator, target, offset))?)
 }
 
-// What stands behind an expression that begins an expression statement, with it.
-fn simple_behind<'t>(
+// What follows an expression that begins an expression statement, with it.
+fn simple_after<'t>(
     alloc: Global,
     tokens: &mut Tokens<'t>,
-    names: &TypeNames<'t>,
+    names: &TypedefNames<'t>,
     depth: usize,
     first: Box<Expression<'t>>,
-) -> Result<Box<Simple<'t>>, ParseError>
-    requires depth { depth ≤ 128 }
+) -> Result<Box<Simple<'t>>, Stopped>
+    requires depth { depth ≤ nesting_limit }
     requires counted { tokens.old.count ≡ operators (expression_of first.value) }
-    requires count { tokens.old.count ≤ 128 }
-    ensures gives { Gives (values.read_simple_behind (expressions names.now) depth (expression_of first.entry.value) (list_of tokens.old.rest.now)) (λ x. simple_of x.value) tokens.new.rest.now result }
-    ensures shorter { IfOk result (λ _. length tokens.new.rest.now ≤ length tokens.old.rest.now) }
+    requires count { tokens.old.count ≤ operator_limit }
+    ensures gives { Parses (values.read_simple_after (expressions names.now) depth
+        (expression_of first.entry.value)) (λ x. simple_of x.value) tokens.old tokens.new result }
+    ensures shorter { IfOk result (λ _. IsNoLonger tokens.new tokens.old) }
 {
     if is_unary(&first) && tokens.next_is(Punctuator::Assign) {
         return assign(alloc, tokens, names, depth, first);
@@ -360,20 +374,22 @@ fn simple_behind<'t>(
     Ok(boxed(alloc, Simple::Evaluate(value))?)
 }
 
-/// An expression statement without its `;`, or a piece of a `for` (6.8.3, 6.8.5.3). It begins a whole expression.
+/// An expression statement without its `;`, or a piece of a `for` (6.8.3, 6.8.5.3). It begins a
+/// whole expression.
 pub fn simple<'t>(
     alloc: Global,
     tokens: &mut Tokens<'t>,
-    names: &TypeNames<'t>,
+    names: &TypedefNames<'t>,
     depth: usize,
-) -> Result<Box<Simple<'t>>, ParseError>
-    requires depth { depth ≤ 128 }
-    ensures gives { Gives (values.read_simple (expressions names.now) depth (list_of tokens.old.rest.now)) (λ x. simple_of x.value) tokens.new.rest.now result }
-    ensures shorter { IfOk result (λ _. length tokens.new.rest.now ≤ length tokens.old.rest.now) }
+) -> Result<Box<Simple<'t>>, Stopped>
+    requires depth { depth ≤ nesting_limit }
+    ensures gives { Parses (values.read_simple (expressions names.now) depth)
+        (λ x. simple_of x.value) tokens.old tokens.new result }
+    ensures shorter { IfOk result (λ _. IsNoLonger tokens.new tokens.old) }
 {
     if starts_step(tokens) {
         return step_before(alloc, tokens, names, depth);
     }
     let first = whole(alloc, tokens, names, depth)?;
-    simple_behind(alloc, tokens, names, depth, first)
+    simple_after(alloc, tokens, names, depth, first)
 }

@@ -2,7 +2,7 @@
 use Rattle.std.proofs.Common.{◌≡◌, ℕ, ◌+◌, Bool, true, false, List, [], ◌∷◌, ◌++◌, refl, ap, arith, Option, Some, None}
 use Rattle.c_tree_spec.specs.Expression as tree
 use Rattle.c_grammar_spec.specs.Expressions.{Within, advance, count_at, operators, operators_of_members, operators_of_declarators, operators_of_declarator, operators_of_lengths, operators_of_constants}
-use Rattle.c_expression_reader.specs.Types as types
+use Rattle.c_expression_laws.specs.Types as types
 use Rattle.c_syntax.specs.Expressions as syntax
 use Rattle.c_parse_expression.specs.Steps.{counting_of}
 

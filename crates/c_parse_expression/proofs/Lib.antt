@@ -1,10 +1,9 @@
 pub mod Begun
 pub mod Constants
 pub mod Counts
-pub mod Errors
 pub mod Gathering
 pub mod Levels
 pub mod Operations
 pub mod Parts
 pub mod Suffixes
-pub mod Turns
+pub mod Fuel

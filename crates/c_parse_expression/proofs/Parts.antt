@@ -6,7 +6,7 @@ use Rattle.std.specs.Option.{option_map_or}
 use Rattle.c_tree_spec.specs.Expression as tree
 use Rattle.c_grammar_spec.specs.declared.Role.TheVariants.{Nothing, OperandEnd, MemberEnd}
 use Rattle.c_grammar_spec.specs.Expressions as grammar
-use Rattle.c_expression_reader.specs.Types as types
+use Rattle.c_expression_laws.specs.Types as types
 use Rattle.c_syntax.specs.declared.expression.Expression.{Expression}
 use Rattle.c_syntax.specs.declared.expression.Constant.{Constant, roll-out-Constant}
 use Rattle.c_syntax.specs.declared.expression.Declarator.{Declarator, out-Declarator, roll-out-Declarator}

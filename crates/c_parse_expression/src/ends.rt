@@ -2,7 +2,7 @@
 
 ghost use Rattle.std.specs.Prelude.{◌≡◌};
 ghost use Rattle.c_grammar_spec.specs.Expressions as grammar;
-ghost use Rattle.c_expression_reader.specs.Types as types;
+ghost use Rattle.c_expression_laws.specs.Types as types;
 ghost use Rattle.c_syntax.specs.Expressions.{declarator_of, constant_of};
 
 use c_grammar_spec::Role;

@@ -1,42 +1,44 @@
-//! Parsers of C expressions (ISO C11, 6.5), and of the types that stand in them.
+//! Parsers of C expressions (ISO C11, 6.5), and of the types in them.
 //!
 //! The main calls are [`conditional`] and [`specifiers`]. Each parser takes its tokens off
-//! [`Tokens`](c_parse_token::Tokens), and gives exactly what the reference parser gives that its contract names,
-//! of `specs/Readers.antt` and `specs/Types.antt` of `c_expression_reader`.
+//! [`Tokens`](c_parse_token::Tokens), and gives exactly what the reference parser gives that its
+//! contract names, of `specs/Parsers.antt` and `specs/Types.antt` of `c_expression_laws`.
 #![tactic(auto)]
 
 mod ends;
 mod expression;
 mod operand;
+mod specifier;
 
-ghost use Rattle.std.specs.Prelude.{◌≡◌, ◌≤◌, IfOk, length};
+ghost use Rattle.std.specs.Prelude.{◌≡◌, ◌≤◌, IfOk};
 ghost use Rattle.c_grammar_spec.specs.Expressions.{operators, Alone};
-ghost use Rattle.c_expression_reader.specs.Types as types;
-ghost use Rattle.c_syntax.specs.Expressions.{expression_of, specifiers_of, base_of, dimensions_of};
-ghost use Rattle.c_parse_token.specs.Lists.{list_of, names_of, Gives, IsCounted};
+ghost use Rattle.c_expression_laws.specs.Types as types;
+ghost use Rattle.c_syntax.specs.Expressions.{expression_of, specifiers_of, type_specifier_of};
+ghost use Rattle.c_syntax.specs.Expressions.{dimensions_of};
+ghost use Rattle.c_parse_token.specs.Lists.{names_of, IsCounted, Parses, IsNoLonger};
 ghost use Rattle.c_parse_token.specs.Words.{head_of};
 ghost use Rattle.c_parse_expression.specs.Whole.{expressions, read_any_unary};
+ghost use Rattle.c_grammar_spec.specs.Limits.{nesting_limit, operator_limit, expression_fuel};
 
 use crate::expression::Scope;
-use c_parse_token::{Head, ParseError, Tokens, TypeNames};
+use c_grammar_spec::EXPRESSION_FUEL;
+use c_parse_token::{Head, Stopped, Tokens, TypedefNames};
 use c_spec::token::Punctuator;
-use c_syntax::expression::{Base, Dimensions, Expression, Specifiers};
+use c_syntax::expression::{Dimensions, Expression, Specifiers, TypeSpecifier};
 use std::alloc::Global;
 
-// How many turns any expression takes at most from one part to another inside it.
-const TURNS: usize = 2068;
-
-// Where a part is parsed with all of them.
-fn scope<'n, 't>(alloc: Global, names: &'n TypeNames<'t>, depth: usize) -> Scope<'n, 't>
+// Where an expression is parsed.
+fn scope<'n, 't>(alloc: Global, names: &'n TypedefNames<'t>, depth: usize) -> Scope<'n, 't>
     ensures names { result.names ≡ names.entry }
     ensures depth { result.depth ≡ depth }
-    ensures turns { result.turns ≡ 2068 }
+    ensures fuel { result.fuel ≡ expression_fuel }
 {
     Scope {
         alloc,
         names,
         depth,
-        turns: TURNS,
+        fuel: EXPRESSION_FUEL,
+        is_alone: false,
     }
 }
 
@@ -44,29 +46,33 @@ fn scope<'n, 't>(alloc: Global, names: &'n TypeNames<'t>, depth: usize) -> Scope
 pub fn conditional<'t>(
     alloc: Global,
     tokens: &mut Tokens<'t>,
-    names: &TypeNames<'t>,
+    names: &TypedefNames<'t>,
     depth: usize,
-) -> Result<Box<Expression<'t>>, ParseError>
-    requires depth { depth ≤ 128 }
-    requires count { tokens.old.count ≤ 128 }
-    ensures gives { Gives ((expressions names.now).conditional depth tokens.old.count (list_of tokens.old.rest.now)) (λ x. expression_of x.value) tokens.new.rest.now result }
-    ensures counted { IfOk result (λ x. IsCounted tokens.old.count (operators (expression_of x.value)) tokens.new.count) }
-    ensures shorter { IfOk result (λ _. length tokens.new.rest.now ≤ length tokens.old.rest.now) }
+) -> Result<Box<Expression<'t>>, Stopped>
+    requires depth { depth ≤ nesting_limit }
+    requires count { tokens.old.count ≤ operator_limit }
+    ensures gives { Parses ((expressions names.now).conditional depth tokens.old.count)
+        (λ x. expression_of x.value) tokens.old tokens.new result }
+    ensures counted { IfOk result (λ x. IsCounted tokens.old.count
+        (operators (expression_of x.value)) tokens.new.count) }
+    ensures shorter { IfOk result (λ _. IsNoLonger tokens.new tokens.old) }
 {
     expression::conditional(scope(alloc, names, depth), tokens)
 }
 
-/// A whole expression: a conditional expression before which no operator stands.
+/// A whole expression: a conditional expression with no operator before it.
 pub fn whole<'t>(
     alloc: Global,
     tokens: &mut Tokens<'t>,
-    names: &TypeNames<'t>,
+    names: &TypedefNames<'t>,
     depth: usize,
-) -> Result<Box<Expression<'t>>, ParseError>
-    requires depth { depth ≤ 128 }
-    ensures gives { Gives ((expressions names.now).conditional depth 0 (list_of tokens.old.rest.now)) (λ x. expression_of x.value) tokens.new.rest.now result }
-    ensures counted { IfOk result (λ x. IsCounted 0 (operators (expression_of x.value)) tokens.new.count) }
-    ensures shorter { IfOk result (λ _. length tokens.new.rest.now ≤ length tokens.old.rest.now) }
+) -> Result<Box<Expression<'t>>, Stopped>
+    requires depth { depth ≤ nesting_limit }
+    ensures gives { Parses ((expressions names.now).conditional depth 0)
+        (λ x. expression_of x.value) tokens.old tokens.new result }
+    ensures counted { IfOk result (λ x. IsCounted 0 (operators (expression_of x.value))
+        tokens.new.count) }
+    ensures shorter { IfOk result (λ _. IsNoLonger tokens.new tokens.old) }
 {
     tokens.count = 0;
     expression::conditional(scope(alloc, names, depth), tokens)
@@ -76,65 +82,83 @@ pub fn whole<'t>(
 pub fn any_unary<'t>(
     alloc: Global,
     tokens: &mut Tokens<'t>,
-    names: &TypeNames<'t>,
+    names: &TypedefNames<'t>,
     depth: usize,
-) -> Result<Box<Expression<'t>>, ParseError>
-    requires depth { depth ≤ 128 }
-    requires count { tokens.old.count ≤ 128 }
-    ensures gives { Gives (read_any_unary (expressions names.now) depth tokens.old.count (list_of tokens.old.rest.now)) (λ x. expression_of x.value) tokens.new.rest.now result }
-    ensures counted { IfOk result (λ x. IsCounted tokens.old.count (operators (expression_of x.value)) tokens.new.count) }
-    ensures shorter { IfOk result (λ _. length tokens.new.rest.now ≤ length tokens.old.rest.now) }
+) -> Result<Box<Expression<'t>>, Stopped>
+    requires depth { depth ≤ nesting_limit }
+    requires count { tokens.old.count ≤ operator_limit }
+    ensures gives { Parses (read_any_unary (expressions names.now) depth tokens.old.count)
+        (λ x. expression_of x.value) tokens.old tokens.new result }
+    ensures counted { IfOk result (λ x. IsCounted tokens.old.count
+        (operators (expression_of x.value)) tokens.new.count) }
+    ensures shorter { IfOk result (λ _. IsNoLonger tokens.new tokens.old) }
 {
     if !tokens.next_is(Punctuator::LeftParenthesis) {
         return expression::unary(scope(alloc, names, depth), tokens);
     }
     let before = tokens.count;
-    let place = tokens.bracket(Punctuator::LeftParenthesis, depth)?;
-    expression::bracketed(scope(alloc, names, depth), tokens, before, place)
+    let offset = tokens.bracket(Punctuator::LeftParenthesis, depth)?;
+    expression::bracketed(scope(alloc, names, depth), tokens, before, offset)
 }
 
-/// Specifiers (6.7) that stand in no item and in no declaration of locals.
+/// Specifiers (6.7) without storage-class words, as in a type name, a member or a parameter.
 pub fn specifiers<'t>(
     alloc: Global,
     tokens: &mut Tokens<'t>,
-    names: &TypeNames<'t>,
+    names: &TypedefNames<'t>,
     depth: usize,
-) -> Result<Box<Specifiers<'t>>, ParseError>
-    requires depth { depth ≤ 128 }
-    ensures gives { Gives ((expressions names.now).specifiers depth Alone (list_of tokens.old.rest.now)) (λ x. specifiers_of x.value) tokens.new.rest.now result }
-    ensures shorter { IfOk result (λ _. length tokens.new.rest.now ≤ length tokens.old.rest.now) }
+) -> Result<Box<Specifiers<'t>>, Stopped>
+    requires depth { depth ≤ nesting_limit }
+    ensures gives { Parses ((expressions names.now).specifiers depth Alone)
+        (λ x. specifiers_of x.value) tokens.old tokens.new result }
+    ensures shorter { IfOk result (λ _. IsNoLonger tokens.new tokens.old) }
 {
     tokens.count = 0;
-    expression::specifiers(scope(alloc, names, depth), tokens, true)
+    let alone = Scope {
+        is_alone: true,
+        ..scope(alloc, names, depth)
+    };
+    specifier::specifiers(alone, tokens)
 }
 
-/// What stands behind the first token of a type specifier (6.7.2).
+/// What follows the first token of a type specifier (6.7.2).
 pub fn base<'t>(
     alloc: Global,
     tokens: &mut Tokens<'t>,
-    names: &TypeNames<'t>,
+    names: &TypedefNames<'t>,
     depth: usize,
     head: Head<'t>,
-) -> Result<Box<Base<'t>>, ParseError>
-    requires depth { depth ≤ 128 }
-    ensures gives { Gives (types.read_base_rest (names_of names.now) (expressions names.now) depth Alone (head_of head.entry) (list_of tokens.old.rest.now)) (λ x. base_of x.value) tokens.new.rest.now result }
-    ensures shorter { IfOk result (λ _. length tokens.new.rest.now ≤ length tokens.old.rest.now) }
+) -> Result<Box<TypeSpecifier<'t>>, Stopped>
+    requires depth { depth ≤ nesting_limit }
+    ensures gives { Parses (types.read_type_specifier_rest (names_of names.now) (expressions
+        names.now) depth Alone (head_of head.entry)) (λ x. type_specifier_of x.value) tokens.old
+        tokens.new result }
+    ensures shorter { IfOk result (λ _. IsNoLonger tokens.new tokens.old) }
 {
     tokens.count = 0;
-    expression::base(scope(alloc, names, depth), tokens, true, head)
+    let alone = Scope {
+        is_alone: true,
+        ..scope(alloc, names, depth)
+    };
+    specifier::base(alone, tokens, head)
 }
 
 /// The lengths of an array, and whether the first is left out (6.7.6.2).
 pub fn dimensions<'t>(
     alloc: Global,
     tokens: &mut Tokens<'t>,
-    names: &TypeNames<'t>,
+    names: &TypedefNames<'t>,
     depth: usize,
-) -> Result<Box<Dimensions<'t>>, ParseError>
-    requires depth { depth ≤ 128 }
-    ensures gives { Gives (types.read_dimensions (expressions names.now) depth Alone (list_of tokens.old.rest.now)) (λ x. dimensions_of x.value) tokens.new.rest.now result }
-    ensures shorter { IfOk result (λ _. length tokens.new.rest.now ≤ length tokens.old.rest.now) }
+) -> Result<Box<Dimensions<'t>>, Stopped>
+    requires depth { depth ≤ nesting_limit }
+    ensures gives { Parses (types.read_dimensions (expressions names.now) depth Alone)
+        (λ x. dimensions_of x.value) tokens.old tokens.new result }
+    ensures shorter { IfOk result (λ _. IsNoLonger tokens.new tokens.old) }
 {
     tokens.count = 0;
-    expression::dimensions(scope(alloc, names, depth), tokens, true)
+    let alone = Scope {
+        is_alone: true,
+        ..scope(alloc, names, depth)
+    };
+    specifier::dimensions(alone, tokens)
 }

@@ -1,5 +1,4 @@
-pub mod Rooms
-pub mod Steps
+pub mod StatementFuel
 pub mod Runs
 pub mod Loops
 pub mod Split

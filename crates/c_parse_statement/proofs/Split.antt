@@ -6,11 +6,11 @@ use Rattle.c_tree_spec.specs.Expression as tree
 use Rattle.c_tree_spec.specs.Unit as unit
 use Rattle.c_grammar_spec.specs.declared.Role.TheVariants.{Nothing}
 use Rattle.c_grammar_spec.specs.Leaves.{opens}
-use Rattle.c_expression_reader.specs.Readers.{Readers, token}
-use Rattle.c_statement_reader.specs.Statements as statements
+use Rattle.c_expression_laws.specs.Parsers.{Parsers, token}
+use Rattle.c_statement_laws.specs.Statements as statements
 use Rattle.c_parse_statement.specs.Pieces.{read_else}
 
 -- an `if` up to its body
-pub if-parts : (inner : Readers) (inside : statements.Statements) (depth below place : ℕ) (x : tree.Expression) (body : unit.Statement) (t0 t1 t2 t3 : List Placed) → below ≡ suc depth → token Nothing (opens (suc depth)) (statements.keyword_place If) t0 ≡ Ok (place, t1) → statements.read_test inner below t1 ≡ Ok (x, t2) → inside below t2 ≡ Ok (body, t3)
-    → statements.read_if inner inside depth t0 ≡ read_else inside depth x body place t3
-if-parts inner inside depth below place x body t0 t1 t2 t3 same e0 e1 e2 = rw (e0, rw same at e1, rw same at e2) refl
+pub if-parts : (inner : Parsers) (inside : statements.Statements) (depth below offset : ℕ) (x : tree.Expression) (body : unit.Statement) (t0 t1 t2 t3 : List Placed) → below ≡ suc depth → token Nothing (opens (suc depth)) (statements.keyword_offset If) t0 ≡ Ok (offset, t1) → statements.read_test inner below t1 ≡ Ok (x, t2) → inside below t2 ≡ Ok (body, t3)
+    → statements.read_if inner inside depth t0 ≡ read_else inside depth x body offset t3
+if-parts inner inside depth below offset x body t0 t1 t2 t3 same e0 e1 e2 = rw (e0, rw same at e1, rw same at e2) refl

@@ -1,22 +1,20 @@
 //! What a token is where a statement is read, and parsers of keywords.
 
-ghost use Rattle.std.specs.Prelude.{◌≡◌, ◌<◌, IfOk, length, suc};
+ghost use Rattle.std.specs.Prelude.{◌≡◌, ◌<◌, IfOk, suc};
 ghost use Rattle.c_grammar_spec.specs.declared.Role.TheVariants.{Nothing};
 ghost use Rattle.c_grammar_spec.specs.Leaves.{plain, opens};
-ghost use Rattle.c_expression_reader.specs.Readers.{token, next_is};
-ghost use Rattle.c_statement_reader.specs.Statements as statements;
-ghost use Rattle.c_parse_token.specs.Lists.{list_of, Gives};
+ghost use Rattle.c_expression_laws.specs.Parsers.{token, next_is};
+ghost use Rattle.c_statement_laws.specs.Statements as statements;
+ghost use Rattle.c_parse_token.specs.Lists.{list_of, Parses, TakesOne};
 ghost use Rattle.c_parse_statement.specs.Pieces.{starts_part};
 ghost use Rattle.c_token.specs.Pieces.{token_of};
+ghost use Rattle.c_grammar_spec.specs.Limits.{nesting_limit};
 
-use c_grammar_spec::Role;
+use c_grammar_spec::{NESTING_LIMIT, Role};
 use c_parse_token::class::is_mark;
-use c_parse_token::{Fault, ParseError, Tokens};
+use c_parse_token::{Fault, Stopped, Tokens};
 use c_spec::token::{Keyword, Punctuator};
 use c_token::Kind;
-
-// How many constructs may be open.
-const MOST: usize = 128;
 
 // The token is this keyword.
 fn is_keyword(kind: Kind<'_>, wanted: Keyword) -> bool
@@ -63,34 +61,36 @@ pub fn starts_label(tokens: &Tokens<'_>) -> bool
     matches!(tokens.rest, [first, ..] if begins_label(first.kind))
 }
 
-/// A keyword: its place.
-pub fn keyword(tokens: &mut Tokens<'_>, wanted: Keyword) -> Result<usize, ParseError>
-    ensures gives { Gives (token Nothing plain (statements.keyword_place wanted) (list_of tokens.old.rest.now)) (λ x. x) tokens.new.rest.now result }
-    ensures shorter { IfOk result (λ _. length tokens.old.rest.now ≡ suc (length tokens.new.rest.now)) }
+/// A keyword: its offset.
+pub fn keyword(tokens: &mut Tokens<'_>, wanted: Keyword) -> Result<usize, Stopped>
+    ensures gives { Parses (token Nothing plain (statements.keyword_offset wanted)) (λ x. x)
+        tokens.old tokens.new result }
+    ensures shorter { IfOk result (λ _. TakesOne tokens.old tokens.new) }
 {
     match tokens.rest {
         [first, rest @ ..] if is_keyword(first.kind, wanted) => {
             tokens.rest = rest;
             Ok(first.offset)
         }
-        _ => Err(ParseError::At(Fault::Wrong(Role::Nothing))),
+        _ => Err(Stopped::At(Fault::Wrong(Role::Nothing))),
     }
 }
 
-/// A keyword with which a construct more is open: its place.
-pub fn opening(tokens: &mut Tokens<'_>, wanted: Keyword, depth: usize) -> Result<usize, ParseError>
-    ensures gives { Gives (token Nothing (opens (suc depth)) (statements.keyword_place wanted) (list_of tokens.old.rest.now)) (λ x. x) tokens.new.rest.now result }
-    ensures within { IfOk result (λ _. depth < 128) }
-    ensures shorter { IfOk result (λ _. length tokens.old.rest.now ≡ suc (length tokens.new.rest.now)) }
+/// A keyword with which a construct more is open: its offset.
+pub fn opening(tokens: &mut Tokens<'_>, wanted: Keyword, depth: usize) -> Result<usize, Stopped>
+    ensures gives { Parses (token Nothing (opens (suc depth)) (statements.keyword_offset wanted))
+        (λ x. x) tokens.old tokens.new result }
+    ensures within { IfOk result (λ _. depth < nesting_limit) }
+    ensures shorter { IfOk result (λ _. TakesOne tokens.old tokens.new) }
 {
     match tokens.rest {
         [first, rest @ ..] if is_keyword(first.kind, wanted) => {
-            if MOST <= depth {
-                return Err(ParseError::At(Fault::Deep));
+            if NESTING_LIMIT <= depth {
+                return Err(Stopped::At(Fault::LimitExceeded));
             }
             tokens.rest = rest;
             Ok(first.offset)
         }
-        _ => Err(ParseError::At(Fault::Wrong(Role::Nothing))),
+        _ => Err(Stopped::At(Fault::Wrong(Role::Nothing))),
     }
 }

@@ -1,7 +1,8 @@
-//! Parsers of statements, and of what stands in a block (ISO C11, 6.8).
+//! Parsers of statements and blocks (ISO C11, 6.8).
 //!
-//! The main call is [`parts`]: it gives exactly what the reference parser gives that its contract names, of
-//! `specs/Statements.antt` of `c_statement_reader`. Statements inside others are read by the same functions.
+//! The main call is [`parts`]: it gives exactly what the reference parser gives that its contract
+//! names, of `specs/Statements.antt` of `c_statement_laws`. Statements inside others are read by
+//! the same functions.
 #![tactic(auto)]
 
 mod class;

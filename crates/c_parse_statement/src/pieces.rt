@@ -1,28 +1,30 @@
-//! Tests, the parts of a `for`, labels, and statements that contain no other (6.8.1, 6.8.3 to 6.8.6).
+//! Tests, the parts of a `for`, labels, and statements that contain no other (6.8.1, 6.8.3 to
+//! 6.8.6).
 
-ghost use Rattle.std.specs.Prelude.{◌≡◌, ◌≤◌, ◌<◌, IfOk, length};
+ghost use Rattle.std.specs.Prelude.{◌≤◌, IfOk};
 ghost use Rattle.std.specs.Option.{option_map};
 ghost use Rattle.c_spec.specs.declared.token.Punctuator.TheVariants as punctuator;
 ghost use Rattle.c_grammar_spec.specs.declared.Role.TheVariants.{Nothing};
 ghost use Rattle.c_grammar_spec.specs.Leaves.{plain};
-ghost use Rattle.c_expression_reader.specs.Classes.{mark_place};
-ghost use Rattle.c_expression_reader.specs.Readers.{token, before};
-ghost use Rattle.c_statement_reader.specs.Statements as statements;
+ghost use Rattle.c_expression_laws.specs.Classes.{mark_offset};
+ghost use Rattle.c_expression_laws.specs.Parsers.{token, before};
+ghost use Rattle.c_statement_laws.specs.Statements as statements;
 ghost use Rattle.c_syntax.specs.Expressions.{expression_of};
 ghost use Rattle.c_syntax.specs.Simples.{simple_of};
 ghost use Rattle.c_syntax.specs.Locals.{start_of, label_of};
 ghost use Rattle.c_syntax.specs.Statements.{statement_of};
-ghost use Rattle.c_parse_token.specs.Lists.{list_of, names_of, Gives};
+ghost use Rattle.c_parse_token.specs.Lists.{names_of, Parses, IsShorter};
 ghost use Rattle.c_parse_expression.specs.Whole.{expressions};
 ghost use Rattle.c_parse_statement.specs.Pieces.{read_plain, read_start_simple, taken_labels};
 ghost use Rattle.c_parse_statement.specs.Runs.{Runs};
+ghost use Rattle.c_grammar_spec.specs.Limits.{nesting_limit};
 
 use crate::class::{keyword, next_keyword, starts_label};
 use crate::ends::{simple_end, statement_end, value_end};
 use c_grammar_spec::Role;
 use c_parse_declaration::{locals, simple, starts_locals, value};
 use c_parse_expression::whole;
-use c_parse_token::{ParseError, Tokens, TypeNames};
+use c_parse_token::{Stopped, Tokens, TypedefNames};
 use c_spec::token::{Keyword, Punctuator};
 use c_syntax::expression::{Expression, boxed};
 use c_syntax::simple::Simple;
@@ -33,12 +35,13 @@ use std::alloc::Global;
 pub fn test<'t>(
     alloc: Global,
     tokens: &mut Tokens<'t>,
-    names: &TypeNames<'t>,
+    names: &TypedefNames<'t>,
     depth: usize,
-) -> Result<Box<Expression<'t>>, ParseError>
-    requires depth { depth ≤ 128 }
-    ensures gives { Gives (statements.read_test (expressions names.now) depth (list_of tokens.old.rest.now)) (λ x. expression_of x.value) tokens.new.rest.now result }
-    ensures shorter { IfOk result (λ _. length tokens.new.rest.now < length tokens.old.rest.now) }
+) -> Result<Box<Expression<'t>>, Stopped>
+    requires depth { depth ≤ nesting_limit }
+    ensures gives { Parses (statements.read_test (expressions names.now) depth)
+        (λ x. expression_of x.value) tokens.old tokens.new result }
+    ensures shorter { IfOk result (λ _. IsShorter tokens.new tokens.old) }
 {
     tokens.opening(Punctuator::LeftParenthesis, depth)?;
     let test = whole(alloc, tokens, names, depth + 1)?;
@@ -50,12 +53,13 @@ pub fn test<'t>(
 fn simple_start<'t>(
     alloc: Global,
     tokens: &mut Tokens<'t>,
-    names: &TypeNames<'t>,
+    names: &TypedefNames<'t>,
     depth: usize,
-) -> Result<Box<ForStart<'t>>, ParseError>
-    requires depth { depth ≤ 128 }
-    ensures gives { Gives (read_start_simple (expressions names.now) depth (list_of tokens.old.rest.now)) (λ x. start_of x.value) tokens.new.rest.now result }
-    ensures shorter { IfOk result (λ _. length tokens.new.rest.now < length tokens.old.rest.now) }
+) -> Result<Box<ForStart<'t>>, Stopped>
+    requires depth { depth ≤ nesting_limit }
+    ensures gives { Parses (read_start_simple (expressions names.now) depth) (λ x. start_of x.value)
+        tokens.old tokens.new result }
+    ensures shorter { IfOk result (λ _. IsShorter tokens.new tokens.old) }
 {
     let start = simple(alloc, tokens, names, depth)?;
     let end = simple_end(&start);
@@ -67,12 +71,13 @@ fn simple_start<'t>(
 pub fn for_start<'t>(
     alloc: Global,
     tokens: &mut Tokens<'t>,
-    names: &TypeNames<'t>,
+    names: &TypedefNames<'t>,
     depth: usize,
-) -> Result<Box<ForStart<'t>>, ParseError>
-    requires depth { depth ≤ 128 }
-    ensures gives { Gives (statements.read_for_start (names_of names.now) (expressions names.now) depth (list_of tokens.old.rest.now)) (λ x. start_of x.value) tokens.new.rest.now result }
-    ensures shorter { IfOk result (λ _. length tokens.new.rest.now < length tokens.old.rest.now) }
+) -> Result<Box<ForStart<'t>>, Stopped>
+    requires depth { depth ≤ nesting_limit }
+    ensures gives { Parses (statements.read_for_start (names_of names.now) (expressions names.now)
+        depth) (λ x. start_of x.value) tokens.old tokens.new result }
+    ensures shorter { IfOk result (λ _. IsShorter tokens.new tokens.old) }
 {
     if tokens.next_is(Punctuator::Semicolon) {
         tokens.mark(Punctuator::Semicolon, Role::Nothing)?;
@@ -89,12 +94,13 @@ pub fn for_start<'t>(
 pub fn for_test<'t>(
     alloc: Global,
     tokens: &mut Tokens<'t>,
-    names: &TypeNames<'t>,
+    names: &TypedefNames<'t>,
     depth: usize,
-) -> Result<Option<Box<Expression<'t>>>, ParseError>
-    requires depth { depth ≤ 128 }
-    ensures gives { Gives (statements.read_for_test (expressions names.now) depth (list_of tokens.old.rest.now)) (λ x. option_map (λ test. expression_of test.value) x) tokens.new.rest.now result }
-    ensures shorter { IfOk result (λ _. length tokens.new.rest.now < length tokens.old.rest.now) }
+) -> Result<Option<Box<Expression<'t>>>, Stopped>
+    requires depth { depth ≤ nesting_limit }
+    ensures gives { Parses (statements.read_for_test (expressions names.now) depth)
+        (λ x. option_map (λ test. expression_of test.value) x) tokens.old tokens.new result }
+    ensures shorter { IfOk result (λ _. IsShorter tokens.new tokens.old) }
 {
     if tokens.next_is(Punctuator::Semicolon) {
         tokens.mark(Punctuator::Semicolon, Role::Nothing)?;
@@ -109,12 +115,13 @@ pub fn for_test<'t>(
 pub fn for_step<'t>(
     alloc: Global,
     tokens: &mut Tokens<'t>,
-    names: &TypeNames<'t>,
+    names: &TypedefNames<'t>,
     depth: usize,
-) -> Result<Option<Box<Simple<'t>>>, ParseError>
-    requires depth { depth ≤ 128 }
-    ensures gives { Gives (statements.read_for_step (expressions names.now) depth (list_of tokens.old.rest.now)) (λ x. option_map (λ step. simple_of step.value) x) tokens.new.rest.now result }
-    ensures shorter { IfOk result (λ _. length tokens.new.rest.now < length tokens.old.rest.now) }
+) -> Result<Option<Box<Simple<'t>>>, Stopped>
+    requires depth { depth ≤ nesting_limit }
+    ensures gives { Parses (statements.read_for_step (expressions names.now) depth)
+        (λ x. option_map (λ step. simple_of step.value) x) tokens.old tokens.new result }
+    ensures shorter { IfOk result (λ _. IsShorter tokens.new tokens.old) }
 {
     if tokens.next_is(Punctuator::RightParenthesis) {
         tokens.mark(Punctuator::RightParenthesis, Role::Nothing)?;
@@ -130,33 +137,35 @@ pub fn for_step<'t>(
 fn label<'t>(
     alloc: Global,
     tokens: &mut Tokens<'t>,
-    names: &TypeNames<'t>,
+    names: &TypedefNames<'t>,
     depth: usize,
-) -> Result<Label<'t>, ParseError>
-    requires depth { depth ≤ 128 }
-    ensures gives { Gives (statements.read_label (expressions names.now) depth (list_of tokens.old.rest.now)) label_of tokens.new.rest.now result }
-    ensures shorter { IfOk result (λ _. length tokens.new.rest.now < length tokens.old.rest.now) }
+) -> Result<Label<'t>, Stopped>
+    requires depth { depth ≤ nesting_limit }
+    ensures gives { Parses (statements.read_label (expressions names.now) depth) label_of tokens.old
+        tokens.new result }
+    ensures shorter { IfOk result (λ _. IsShorter tokens.new tokens.old) }
 {
     if !next_keyword(tokens, Keyword::Case) {
-        let place = keyword(tokens, Keyword::Default)?;
+        let offset = keyword(tokens, Keyword::Default)?;
         tokens.mark(Punctuator::Colon, Role::Nothing)?;
-        return Ok(Label::Default(place));
+        return Ok(Label::Default(offset));
     }
-    let place = keyword(tokens, Keyword::Case)?;
+    let offset = keyword(tokens, Keyword::Case)?;
     let value = whole(alloc, tokens, names, depth)?;
     tokens.mark(Punctuator::Colon, Role::OperandEnd)?;
-    Ok(Label::Case(value, place))
+    Ok(Label::Case(value, offset))
 }
 
-/// Labels, as long as one stands next.
+/// Labels, as long as one is next.
 pub fn labels<'t>(
     alloc: Global,
     tokens: &mut Tokens<'t>,
-    names: &TypeNames<'t>,
+    names: &TypedefNames<'t>,
     depth: usize,
-) -> Result<Vec<Label<'t>>, ParseError>
-    requires depth { depth ≤ 128 }
-    ensures runs { Runs statements.begins_label (statements.read_label (expressions names.now) depth) taken_labels tokens.old.rest.now tokens.new.rest.now result }
+) -> Result<Vec<Label<'t>>, Stopped>
+    requires depth { depth ≤ nesting_limit }
+    ensures runs { Runs statements.begins_label (statements.read_label (expressions names.now)
+        depth) taken_labels tokens.old.rest.now tokens.new.rest.now result }
 {
     let mut all: Vec<Label<'t>> = Vec::new(alloc);
     'items: while starts_label(tokens) {
@@ -166,49 +175,52 @@ pub fn labels<'t>(
     Ok(all)
 }
 
-// A keyword and its `;`: the keyword's place.
-fn jump(tokens: &mut Tokens<'_>, word: Keyword) -> Result<usize, ParseError>
-    ensures gives { Gives (before (token Nothing plain (statements.keyword_place word)) (token Nothing plain (mark_place punctuator.Semicolon)) (list_of tokens.old.rest.now)) (λ x. x) tokens.new.rest.now result }
-    ensures shorter { IfOk result (λ _. length tokens.new.rest.now < length tokens.old.rest.now) }
+// A keyword and its `;`: the keyword's offset.
+fn jump(tokens: &mut Tokens<'_>, word: Keyword) -> Result<usize, Stopped>
+    ensures gives { Parses (before (token Nothing plain (statements.keyword_offset word)) (token
+        Nothing plain (mark_offset punctuator.Semicolon))) (λ x. x) tokens.old tokens.new result }
+    ensures shorter { IfOk result (λ _. IsShorter tokens.new tokens.old) }
 {
-    let place = keyword(tokens, word)?;
+    let offset = keyword(tokens, word)?;
     tokens.mark(Punctuator::Semicolon, Role::Nothing)?;
-    Ok(place)
+    Ok(offset)
 }
 
 // `return`, with a value or without.
 fn return_statement<'t>(
     alloc: Global,
     tokens: &mut Tokens<'t>,
-    names: &TypeNames<'t>,
+    names: &TypedefNames<'t>,
     depth: usize,
-) -> Result<Box<Statement<'t>>, ParseError>
-    requires depth { depth ≤ 128 }
-    ensures gives { Gives (statements.read_return (expressions names.now) depth (list_of tokens.old.rest.now)) (λ x. statement_of x.value) tokens.new.rest.now result }
-    ensures shorter { IfOk result (λ _. length tokens.new.rest.now < length tokens.old.rest.now) }
+) -> Result<Box<Statement<'t>>, Stopped>
+    requires depth { depth ≤ nesting_limit }
+    ensures gives { Parses (statements.read_return (expressions names.now) depth)
+        (λ x. statement_of x.value) tokens.old tokens.new result }
+    ensures shorter { IfOk result (λ _. IsShorter tokens.new tokens.old) }
 {
-    let place = keyword(tokens, Keyword::Return)?;
+    let offset = keyword(tokens, Keyword::Return)?;
     if tokens.next_is(Punctuator::Semicolon) {
         tokens.mark(Punctuator::Semicolon, Role::Nothing)?;
-        return Ok(Statement::return_at(alloc, None, place)?);
+        return Ok(Statement::return_at(alloc, None, offset)?);
     }
     tokens.count = 0;
     let value = value(alloc, tokens, names, depth)?;
     let end = value_end(&value);
     tokens.mark(Punctuator::Semicolon, end)?;
-    Ok(Statement::return_at(alloc, Some(value), place)?)
+    Ok(Statement::return_at(alloc, Some(value), offset)?)
 }
 
 // An expression statement.
 fn perform<'t>(
     alloc: Global,
     tokens: &mut Tokens<'t>,
-    names: &TypeNames<'t>,
+    names: &TypedefNames<'t>,
     depth: usize,
-) -> Result<Box<Statement<'t>>, ParseError>
-    requires depth { depth ≤ 128 }
-    ensures gives { Gives (statements.read_perform (expressions names.now) depth (list_of tokens.old.rest.now)) (λ x. statement_of x.value) tokens.new.rest.now result }
-    ensures shorter { IfOk result (λ _. length tokens.new.rest.now < length tokens.old.rest.now) }
+) -> Result<Box<Statement<'t>>, Stopped>
+    requires depth { depth ≤ nesting_limit }
+    ensures gives { Parses (statements.read_perform (expressions names.now) depth)
+        (λ x. statement_of x.value) tokens.old tokens.new result }
+    ensures shorter { IfOk result (λ _. IsShorter tokens.new tokens.old) }
 {
     let simple = simple(alloc, tokens, names, depth)?;
     let end = statement_end(&simple);
@@ -220,20 +232,21 @@ fn perform<'t>(
 pub fn plain_statement<'t>(
     alloc: Global,
     tokens: &mut Tokens<'t>,
-    names: &TypeNames<'t>,
+    names: &TypedefNames<'t>,
     depth: usize,
-) -> Result<Box<Statement<'t>>, ParseError>
-    requires depth { depth ≤ 128 }
-    ensures gives { Gives (read_plain (expressions names.now) depth (list_of tokens.old.rest.now)) (λ x. statement_of x.value) tokens.new.rest.now result }
-    ensures shorter { IfOk result (λ _. length tokens.new.rest.now < length tokens.old.rest.now) }
+) -> Result<Box<Statement<'t>>, Stopped>
+    requires depth { depth ≤ nesting_limit }
+    ensures gives { Parses (read_plain (expressions names.now) depth) (λ x. statement_of x.value)
+        tokens.old tokens.new result }
+    ensures shorter { IfOk result (λ _. IsShorter tokens.new tokens.old) }
 {
     if next_keyword(tokens, Keyword::Continue) {
-        let place = jump(tokens, Keyword::Continue)?;
-        return Ok(Statement::continue_at(alloc, place)?);
+        let offset = jump(tokens, Keyword::Continue)?;
+        return Ok(Statement::continue_at(alloc, offset)?);
     }
     if next_keyword(tokens, Keyword::Break) {
-        let place = jump(tokens, Keyword::Break)?;
-        return Ok(Statement::break_at(alloc, place)?);
+        let offset = jump(tokens, Keyword::Break)?;
+        return Ok(Statement::break_at(alloc, offset)?);
     }
     if next_keyword(tokens, Keyword::Return) {
         return return_statement(alloc, tokens, names, depth);

@@ -1,66 +1,69 @@
-//! Statements (6.8), and what stands in a block.
+//! Statements (6.8) and blocks.
 
-ghost use Rattle.std.specs.Prelude.{◌≡◌, ◌≤◌, ◌<◌, IfOk, length};
-ghost use Rattle.c_statement_reader.specs.Statements as statements;
+ghost use Rattle.std.specs.Prelude.{◌≤◌, IfOk};
+ghost use Rattle.c_statement_laws.specs.Statements as statements;
 ghost use Rattle.c_syntax.specs.Expressions.{expression_of};
 ghost use Rattle.c_syntax.specs.Statements.{statement_of, part_of, parts_in, groups_in};
-ghost use Rattle.c_parse_token.specs.Lists.{list_of, names_of, Gives};
+ghost use Rattle.c_parse_token.specs.Lists.{names_of, Parses, IsShorter, IsNoLonger};
 ghost use Rattle.c_parse_expression.specs.Whole.{expressions};
-ghost use Rattle.c_parse_statement.specs.Pieces.{room, within, read_of, read_else, starts_part, taken_parts};
+ghost use Rattle.c_parse_statement.specs.Pieces.{within, read_of, read_else, starts_part};
+ghost use Rattle.c_parse_statement.specs.Pieces.{taken_parts};
 ghost use Rattle.c_parse_statement.specs.Runs.{Runs};
+ghost use Rattle.c_grammar_spec.specs.Limits.{nesting_limit, statement_fuel};
 
 use crate::class::{keyword, next_keyword, opening, starts_label, starts_part};
 use crate::ends::takes_else;
 use crate::pieces::{for_start, for_step, for_test, labels, plain_statement, test};
-use c_grammar_spec::Role;
+use c_grammar_spec::{Role, STATEMENT_FUEL};
 use c_parse_declaration::{locals, starts_locals};
-use c_parse_token::{Fault, ParseError, Tokens, TypeNames};
+use c_parse_token::{Fault, Stopped, Tokens, TypedefNames};
 use c_spec::token::{Keyword, Punctuator};
 use c_syntax::expression::Expression;
 use c_syntax::statement::{Group, Part, Statement};
 use std::alloc::Global;
-
-// How many constructs may open, one in the other, where none is open, and one more.
-const ROOM: usize = 129;
 
 // A declaration or a statement.
 #[cycle(statements)]
 fn part<'t>(
     alloc: Global,
     tokens: &mut Tokens<'t>,
-    names: &TypeNames<'t>,
+    names: &TypedefNames<'t>,
     depth: usize,
-    room: usize,
-) -> Result<Part<'t>, ParseError>
-    requires depth { depth ≤ 128 }
-    ensures gives { Gives (statements.read_part (names_of names.now) (expressions names.now) (within names.now room) depth (list_of tokens.old.rest.now)) (λ x. read_of (part_of x)) tokens.new.rest.now result }
-    ensures shorter { IfOk result (λ _. length tokens.new.rest.now < length tokens.old.rest.now) }
+    fuel: usize,
+) -> Result<Part<'t>, Stopped>
+    requires depth { depth ≤ nesting_limit }
+    ensures gives { Parses (statements.read_part (names_of names.now) (expressions names.now)
+        (within names.now fuel) depth) (λ x. read_of (part_of x)) tokens.old tokens.new result }
+    ensures shorter { IfOk result (λ _. IsShorter tokens.new tokens.old) }
 {
     if starts_locals(tokens, names) {
         let locals = locals(alloc, tokens, names, depth)?;
         return Ok(Part::declared(locals));
     }
-    let statement = statement(alloc, tokens, names, depth, room)?;
+    let statement = statement(alloc, tokens, names, depth, fuel)?;
     Ok(Part::stated(statement))
 }
 
-// What stands in a block, as long as a token stands next with which a part of it can begin.
+// The parts of a block, as long as one can begin with the next token.
 #[cycle(statements)]
 fn all_parts<'t>(
     alloc: Global,
     tokens: &mut Tokens<'t>,
-    names: &TypeNames<'t>,
+    names: &TypedefNames<'t>,
     depth: usize,
-    room: usize,
-) -> Result<Vec<Part<'t>>, ParseError>
-    requires depth { depth ≤ 128 }
-    ensures gives { Gives (statements.read_parts (names_of names.now) (expressions names.now) (within names.now room) depth (list_of tokens.old.rest.now)) parts_in tokens.new.rest.now result }
-    ensures shorter { IfOk result (λ _. length tokens.new.rest.now ≤ length tokens.old.rest.now) }
-    ensures runs { Runs starts_part (statements.read_part (names_of names.now) (expressions names.now) (within names.now room) depth) taken_parts tokens.old.rest.now tokens.new.rest.now result }
+    fuel: usize,
+) -> Result<Vec<Part<'t>>, Stopped>
+    requires depth { depth ≤ nesting_limit }
+    ensures gives { Parses (statements.read_parts (names_of names.now) (expressions names.now)
+        (within names.now fuel) depth) parts_in tokens.old tokens.new result }
+    ensures shorter { IfOk result (λ _. IsNoLonger tokens.new tokens.old) }
+    ensures runs { Runs starts_part (statements.read_part (names_of names.now) (expressions
+        names.now) (within names.now fuel) depth) taken_parts tokens.old.rest.now
+        tokens.new.rest.now result }
 {
     let mut all: Vec<Part<'t>> = Vec::new(alloc);
     'items: while starts_part(tokens) {
-        let next = part(alloc, tokens, names, depth, room)?;
+        let next = part(alloc, tokens, names, depth, fuel)?;
         all.push(next)?;
     }
     Ok(all)
@@ -71,42 +74,45 @@ fn all_parts<'t>(
 fn block<'t>(
     alloc: Global,
     tokens: &mut Tokens<'t>,
-    names: &TypeNames<'t>,
+    names: &TypedefNames<'t>,
     depth: usize,
-    room: usize,
-) -> Result<Box<Statement<'t>>, ParseError>
-    requires depth { depth ≤ 128 }
-    ensures gives { Gives (statements.read_block (names_of names.now) (expressions names.now) (within names.now room) depth (list_of tokens.old.rest.now)) (λ x. statement_of x.value) tokens.new.rest.now result }
-    ensures shorter { IfOk result (λ _. length tokens.new.rest.now < length tokens.old.rest.now) }
+    fuel: usize,
+) -> Result<Box<Statement<'t>>, Stopped>
+    requires depth { depth ≤ nesting_limit }
+    ensures gives { Parses (statements.read_block (names_of names.now) (expressions names.now)
+        (within names.now fuel) depth) (λ x. statement_of x.value) tokens.old tokens.new result }
+    ensures shorter { IfOk result (λ _. IsShorter tokens.new tokens.old) }
 {
-    let place = tokens.opening(Punctuator::LeftBrace, depth)?;
-    let parts = all_parts(alloc, tokens, names, depth + 1, room)?;
+    let offset = tokens.opening(Punctuator::LeftBrace, depth)?;
+    let parts = all_parts(alloc, tokens, names, depth + 1, fuel)?;
     tokens.mark(Punctuator::RightBrace, Role::Nothing)?;
-    Ok(Statement::block(alloc, parts, place)?)
+    Ok(Statement::block(alloc, parts, offset)?)
 }
 
-// What stands after an `if` with its body: an `else` belongs to the last `if` that can take it.
+// The end of an `if` after its body: an `else` belongs to the last `if` that can take it.
 #[cycle(statements)]
 fn else_part<'t>(
     alloc: Global,
     tokens: &mut Tokens<'t>,
-    names: &TypeNames<'t>,
+    names: &TypedefNames<'t>,
     depth: usize,
-    room: usize,
+    fuel: usize,
     test: Box<Expression<'t>>,
     body: Box<Statement<'t>>,
-    place: usize,
-) -> Result<Box<Statement<'t>>, ParseError>
-    requires depth { depth ≤ 128 }
-    ensures gives { Gives (read_else (within names.now room) depth (expression_of test.entry.value) (statement_of body.entry.value) place (list_of tokens.old.rest.now)) (λ x. statement_of x.value) tokens.new.rest.now result }
-    ensures shorter { IfOk result (λ _. length tokens.new.rest.now ≤ length tokens.old.rest.now) }
+    offset: usize,
+) -> Result<Box<Statement<'t>>, Stopped>
+    requires depth { depth ≤ nesting_limit }
+    ensures gives { Parses (read_else (within names.now fuel) depth (expression_of test.entry.value)
+        (statement_of body.entry.value) offset) (λ x. statement_of x.value) tokens.old tokens.new
+        result }
+    ensures shorter { IfOk result (λ _. IsNoLonger tokens.new tokens.old) }
 {
     if takes_else(&body) || !next_keyword(tokens, Keyword::Else) {
-        return Ok(Statement::if_only(alloc, test, body, place)?);
+        return Ok(Statement::if_only(alloc, test, body, offset)?);
     }
     opening(tokens, Keyword::Else, depth + 1)?;
-    let otherwise = statement(alloc, tokens, names, depth + 2, room)?;
-    Ok(Statement::if_else(alloc, test, body, otherwise, place)?)
+    let otherwise = statement(alloc, tokens, names, depth + 2, fuel)?;
+    Ok(Statement::if_else(alloc, test, body, otherwise, offset)?)
 }
 
 // `if`
@@ -114,18 +120,19 @@ fn else_part<'t>(
 fn if_statement<'t>(
     alloc: Global,
     tokens: &mut Tokens<'t>,
-    names: &TypeNames<'t>,
+    names: &TypedefNames<'t>,
     depth: usize,
-    room: usize,
-) -> Result<Box<Statement<'t>>, ParseError>
-    requires depth { depth ≤ 128 }
-    ensures gives { Gives (statements.read_if (expressions names.now) (within names.now room) depth (list_of tokens.old.rest.now)) (λ x. statement_of x.value) tokens.new.rest.now result }
-    ensures shorter { IfOk result (λ _. length tokens.new.rest.now < length tokens.old.rest.now) }
+    fuel: usize,
+) -> Result<Box<Statement<'t>>, Stopped>
+    requires depth { depth ≤ nesting_limit }
+    ensures gives { Parses (statements.read_if (expressions names.now) (within names.now fuel)
+        depth) (λ x. statement_of x.value) tokens.old tokens.new result }
+    ensures shorter { IfOk result (λ _. IsShorter tokens.new tokens.old) }
 {
-    let place = opening(tokens, Keyword::If, depth)?;
+    let offset = opening(tokens, Keyword::If, depth)?;
     let test = test(alloc, tokens, names, depth + 1)?;
-    let body = statement(alloc, tokens, names, depth + 1, room)?;
-    else_part(alloc, tokens, names, depth, room, test, body, place)
+    let body = statement(alloc, tokens, names, depth + 1, fuel)?;
+    else_part(alloc, tokens, names, depth, fuel, test, body, offset)
 }
 
 // `while`
@@ -133,18 +140,19 @@ fn if_statement<'t>(
 fn while_statement<'t>(
     alloc: Global,
     tokens: &mut Tokens<'t>,
-    names: &TypeNames<'t>,
+    names: &TypedefNames<'t>,
     depth: usize,
-    room: usize,
-) -> Result<Box<Statement<'t>>, ParseError>
-    requires depth { depth ≤ 128 }
-    ensures gives { Gives (statements.read_while (expressions names.now) (within names.now room) depth (list_of tokens.old.rest.now)) (λ x. statement_of x.value) tokens.new.rest.now result }
-    ensures shorter { IfOk result (λ _. length tokens.new.rest.now < length tokens.old.rest.now) }
+    fuel: usize,
+) -> Result<Box<Statement<'t>>, Stopped>
+    requires depth { depth ≤ nesting_limit }
+    ensures gives { Parses (statements.read_while (expressions names.now) (within names.now fuel)
+        depth) (λ x. statement_of x.value) tokens.old tokens.new result }
+    ensures shorter { IfOk result (λ _. IsShorter tokens.new tokens.old) }
 {
-    let place = opening(tokens, Keyword::While, depth)?;
+    let offset = opening(tokens, Keyword::While, depth)?;
     let test = test(alloc, tokens, names, depth + 1)?;
-    let body = statement(alloc, tokens, names, depth + 1, room)?;
-    Ok(Statement::while_loop(alloc, test, body, place)?)
+    let body = statement(alloc, tokens, names, depth + 1, fuel)?;
+    Ok(Statement::while_loop(alloc, test, body, offset)?)
 }
 
 // `do`
@@ -152,20 +160,21 @@ fn while_statement<'t>(
 fn do_statement<'t>(
     alloc: Global,
     tokens: &mut Tokens<'t>,
-    names: &TypeNames<'t>,
+    names: &TypedefNames<'t>,
     depth: usize,
-    room: usize,
-) -> Result<Box<Statement<'t>>, ParseError>
-    requires depth { depth ≤ 128 }
-    ensures gives { Gives (statements.read_do (expressions names.now) (within names.now room) depth (list_of tokens.old.rest.now)) (λ x. statement_of x.value) tokens.new.rest.now result }
-    ensures shorter { IfOk result (λ _. length tokens.new.rest.now < length tokens.old.rest.now) }
+    fuel: usize,
+) -> Result<Box<Statement<'t>>, Stopped>
+    requires depth { depth ≤ nesting_limit }
+    ensures gives { Parses (statements.read_do (expressions names.now) (within names.now fuel)
+        depth) (λ x. statement_of x.value) tokens.old tokens.new result }
+    ensures shorter { IfOk result (λ _. IsShorter tokens.new tokens.old) }
 {
-    let place = opening(tokens, Keyword::Do, depth)?;
-    let body = statement(alloc, tokens, names, depth + 1, room)?;
+    let offset = opening(tokens, Keyword::Do, depth)?;
+    let body = statement(alloc, tokens, names, depth + 1, fuel)?;
     keyword(tokens, Keyword::While)?;
     let test = test(alloc, tokens, names, depth + 1)?;
     tokens.mark(Punctuator::Semicolon, Role::Nothing)?;
-    Ok(Statement::do_loop(alloc, body, test, place)?)
+    Ok(Statement::do_loop(alloc, body, test, offset)?)
 }
 
 // `for`
@@ -173,21 +182,22 @@ fn do_statement<'t>(
 fn for_statement<'t>(
     alloc: Global,
     tokens: &mut Tokens<'t>,
-    names: &TypeNames<'t>,
+    names: &TypedefNames<'t>,
     depth: usize,
-    room: usize,
-) -> Result<Box<Statement<'t>>, ParseError>
-    requires depth { depth ≤ 128 }
-    ensures gives { Gives (statements.read_for (names_of names.now) (expressions names.now) (within names.now room) depth (list_of tokens.old.rest.now)) (λ x. statement_of x.value) tokens.new.rest.now result }
-    ensures shorter { IfOk result (λ _. length tokens.new.rest.now < length tokens.old.rest.now) }
+    fuel: usize,
+) -> Result<Box<Statement<'t>>, Stopped>
+    requires depth { depth ≤ nesting_limit }
+    ensures gives { Parses (statements.read_for (names_of names.now) (expressions names.now)
+        (within names.now fuel) depth) (λ x. statement_of x.value) tokens.old tokens.new result }
+    ensures shorter { IfOk result (λ _. IsShorter tokens.new tokens.old) }
 {
-    let place = opening(tokens, Keyword::For, depth)?;
+    let offset = opening(tokens, Keyword::For, depth)?;
     tokens.opening(Punctuator::LeftParenthesis, depth + 1)?;
     let start = for_start(alloc, tokens, names, depth + 2)?;
     let test = for_test(alloc, tokens, names, depth + 2)?;
     let step = for_step(alloc, tokens, names, depth + 2)?;
-    let body = statement(alloc, tokens, names, depth + 1, room)?;
-    Ok(Statement::for_loop(alloc, start, test, step, body, place)?)
+    let body = statement(alloc, tokens, names, depth + 1, fuel)?;
+    Ok(Statement::for_loop(alloc, start, test, step, body, offset)?)
 }
 
 // The groups of a `switch`.
@@ -195,18 +205,19 @@ fn for_statement<'t>(
 fn groups<'t>(
     alloc: Global,
     tokens: &mut Tokens<'t>,
-    names: &TypeNames<'t>,
+    names: &TypedefNames<'t>,
     depth: usize,
-    room: usize,
-) -> Result<Vec<Box<Group<'t>>>, ParseError>
-    requires depth { depth ≤ 128 }
-    ensures gives { Gives (statements.read_groups (names_of names.now) (expressions names.now) (within names.now room) depth (list_of tokens.old.rest.now)) groups_in tokens.new.rest.now result }
-    ensures shorter { IfOk result (λ _. length tokens.new.rest.now ≤ length tokens.old.rest.now) }
+    fuel: usize,
+) -> Result<Vec<Box<Group<'t>>>, Stopped>
+    requires depth { depth ≤ nesting_limit }
+    ensures gives { Parses (statements.read_groups (names_of names.now) (expressions names.now)
+        (within names.now fuel) depth) groups_in tokens.old tokens.new result }
+    ensures shorter { IfOk result (λ _. IsNoLonger tokens.new tokens.old) }
 {
     let mut all: Vec<Box<Group<'t>>> = Vec::new(alloc);
     'items: while starts_label(tokens) {
         let labels = labels(alloc, tokens, names, depth)?;
-        let parts = all_parts(alloc, tokens, names, depth, room)?;
+        let parts = all_parts(alloc, tokens, names, depth, fuel)?;
         let group = Group::new(alloc, labels, parts)?;
         all.push(group)?;
     }
@@ -218,46 +229,48 @@ fn groups<'t>(
 fn switch_statement<'t>(
     alloc: Global,
     tokens: &mut Tokens<'t>,
-    names: &TypeNames<'t>,
+    names: &TypedefNames<'t>,
     depth: usize,
-    room: usize,
-) -> Result<Box<Statement<'t>>, ParseError>
-    requires depth { depth ≤ 128 }
-    ensures gives { Gives (statements.read_switch (names_of names.now) (expressions names.now) (within names.now room) depth (list_of tokens.old.rest.now)) (λ x. statement_of x.value) tokens.new.rest.now result }
-    ensures shorter { IfOk result (λ _. length tokens.new.rest.now < length tokens.old.rest.now) }
+    fuel: usize,
+) -> Result<Box<Statement<'t>>, Stopped>
+    requires depth { depth ≤ nesting_limit }
+    ensures gives { Parses (statements.read_switch (names_of names.now) (expressions names.now)
+        (within names.now fuel) depth) (λ x. statement_of x.value) tokens.old tokens.new result }
+    ensures shorter { IfOk result (λ _. IsShorter tokens.new tokens.old) }
 {
-    let place = opening(tokens, Keyword::Switch, depth)?;
+    let offset = opening(tokens, Keyword::Switch, depth)?;
     let test = test(alloc, tokens, names, depth + 1)?;
     tokens.opening(Punctuator::LeftBrace, depth + 1)?;
-    let groups = groups(alloc, tokens, names, depth + 2, room)?;
+    let groups = groups(alloc, tokens, names, depth + 2, fuel)?;
     tokens.mark(Punctuator::RightBrace, Role::Nothing)?;
-    Ok(Statement::switch(alloc, test, groups, place)?)
+    Ok(Statement::switch(alloc, test, groups, offset)?)
 }
 
 // A statement in which so many constructs may open, by its first token.
-#[tactic(auto, using(crate::proofs::Rooms::rooms))]
+#[tactic(auto, using(crate::proofs::StatementFuel::fuel_cases))]
 #[cycle(statements)]
 fn statement<'t>(
     alloc: Global,
     tokens: &mut Tokens<'t>,
-    names: &TypeNames<'t>,
+    names: &TypedefNames<'t>,
     depth: usize,
-    room: usize,
-) -> Result<Box<Statement<'t>>, ParseError>
-    requires depth { depth ≤ 128 }
-    ensures gives { Gives (within names.now room depth (list_of tokens.old.rest.now)) (λ x. statement_of x.value) tokens.new.rest.now result }
-    ensures shorter { IfOk result (λ _. length tokens.new.rest.now < length tokens.old.rest.now) }
+    fuel: usize,
+) -> Result<Box<Statement<'t>>, Stopped>
+    requires depth { depth ≤ nesting_limit }
+    ensures gives { Parses (within names.now fuel depth) (λ x. statement_of x.value) tokens.old
+        tokens.new result }
+    ensures shorter { IfOk result (λ _. IsShorter tokens.new tokens.old) }
 {
-    if room == 0 {
-        return Err(ParseError::At(Fault::Deep));
+    if fuel == 0 {
+        return Err(Stopped::At(Fault::LimitExceeded));
     }
-    let inner = room - 1;
+    let inner = fuel - 1;
     if tokens.next_is(Punctuator::LeftBrace) {
         return block(alloc, tokens, names, depth, inner);
     }
     if tokens.next_is(Punctuator::Semicolon) {
-        let place = tokens.mark(Punctuator::Semicolon, Role::Nothing)?;
-        return Ok(Statement::empty(alloc, place)?);
+        let offset = tokens.mark(Punctuator::Semicolon, Role::Nothing)?;
+        return Ok(Statement::empty(alloc, offset)?);
     }
     if next_keyword(tokens, Keyword::If) {
         return if_statement(alloc, tokens, names, depth, inner);
@@ -277,16 +290,18 @@ fn statement<'t>(
     plain_statement(alloc, tokens, names, depth)
 }
 
-/// What stands in a block, as long as a token stands next with which a part of it can begin.
+/// The parts of a block, as long as one can begin with the next token.
 pub fn parts<'t>(
     alloc: Global,
     tokens: &mut Tokens<'t>,
-    names: &TypeNames<'t>,
+    names: &TypedefNames<'t>,
     depth: usize,
-) -> Result<Vec<Part<'t>>, ParseError>
-    requires depth { depth ≤ 128 }
-    ensures gives { Gives (statements.read_parts (names_of names.now) (expressions names.now) (statements.read_statement (names_of names.now) (expressions names.now) room) depth (list_of tokens.old.rest.now)) parts_in tokens.new.rest.now result }
-    ensures shorter { IfOk result (λ _. length tokens.new.rest.now ≤ length tokens.old.rest.now) }
+) -> Result<Vec<Part<'t>>, Stopped>
+    requires depth { depth ≤ nesting_limit }
+    ensures gives { Parses (statements.read_parts (names_of names.now) (expressions names.now)
+        (statements.read_statement (names_of names.now) (expressions names.now) statement_fuel)
+        depth) parts_in tokens.old tokens.new result }
+    ensures shorter { IfOk result (λ _. IsNoLonger tokens.new tokens.old) }
 {
-    all_parts(alloc, tokens, names, depth, ROOM)
+    all_parts(alloc, tokens, names, depth, STATEMENT_FUEL)
 }

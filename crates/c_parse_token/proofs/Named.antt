@@ -5,14 +5,14 @@ use Rattle.std.proofs.lemmas.Cmp.{nat_list_eq_equiv}
 use Rattle.std.proofs.lemmas.List.{reverse-append, map-append}
 use Rattle.std.proofs.lemmas.List.Sorted.{list_any-IsPermutation, IsPermutation-reverse}
 use Rattle.indexmap.specs.IndexSet.{insert_key}
-use Rattle.c_grammar_spec.specs.Expressions.{is_type_name}
+use Rattle.c_grammar_spec.specs.Expressions.{is_typedef_name}
 use Rattle.c_parse_token.specs.Lists.{with_name}
 
 in_order : (keys : List (Bor (List ℕ))) (spelling : List ℕ) → list_any (λ name. bytes_eq name spelling) (map (λ name. name.now) keys) ≡ list_any (λ key. bytes_eq spelling key.now) keys
 in_order [] spelling = refl
 in_order (key ∷ keys) spelling = ap (λ b. bytes_eq key.now spelling || b) (in_order keys spelling) ∙ ap (λ b. b || list_any (λ key. bytes_eq spelling key.now) keys) (nat_list_eq_equiv.symm key.now spelling)
 
-pub found : (keys : List (Bor (List ℕ))) (spelling : List ℕ) → list_any (λ key. bytes_eq spelling key.now) keys ≡ is_type_name (reverse (map (λ name. name.now) keys)) spelling
+pub found : (keys : List (Bor (List ℕ))) (spelling : List ℕ) → list_any (λ key. bytes_eq spelling key.now) keys ≡ is_typedef_name (reverse (map (λ name. name.now) keys)) spelling
 found keys spelling =
     sym (in_order keys spelling) ∙ list_any-IsPermutation (λ name. bytes_eq name spelling) (map (λ name. name.now) keys) (reverse (map (λ name. name.now) keys)) (IsPermutation-reverse (map (λ name. name.now) keys))
 

@@ -1,17 +1,17 @@
 //! What a token is where an expression is read.
 
-ghost use Rattle.std.specs.Prelude.{◌≡◌, ℕ};
+ghost use Rattle.std.specs.Prelude.{◌≡◌};
 ghost use Rattle.c_grammar_spec.specs.Expressions as grammar;
-ghost use Rattle.c_expression_reader.specs.Classes as classes;
+ghost use Rattle.c_expression_laws.specs.Classes as classes;
 ghost use Rattle.c_parse_token.specs.Lists.{names_of};
 ghost use Rattle.c_token.specs.Pieces.{token_of};
 
-use crate::names::TypeNames;
+use crate::names::TypedefNames;
 use c_spec::token::{Keyword, Punctuator};
 use c_token::Kind;
 use c_tree_spec::{Access, BinaryOperator, UnaryOperator};
 
-/// The operator that stands before an operand.
+/// The operator before an operand.
 pub fn unary_operator(kind: Kind<'_>) -> Option<UnaryOperator>
     ensures { result ≡ classes.unary_operator (token_of kind.entry) }
 {
@@ -37,7 +37,7 @@ pub fn access_operator(kind: Kind<'_>) -> Option<Access>
     }
 }
 
-/// The operator that stands between operands.
+/// The operator between operands.
 pub fn binary_operator(kind: Kind<'_>) -> Option<BinaryOperator>
     ensures { result ≡ classes.binary_operator (token_of kind.entry) }
 {
@@ -106,7 +106,7 @@ pub fn is_mark(kind: Kind<'_>, wanted: Punctuator) -> bool
 }
 
 /// A type in brackets begins with it.
-pub fn begins_type(kind: Kind<'_>, names: &TypeNames<'_>) -> bool
+pub fn begins_type(kind: Kind<'_>, names: &TypedefNames<'_>) -> bool
     ensures { result ≡ classes.begins_type (names_of names.now) (token_of kind.entry) }
 {
     match kind {

@@ -1,11 +1,12 @@
 //! The words of an integer type (6.7.2).
 
-ghost use Rattle.std.specs.Prelude.{◌≡◌, ◌≤◌, ◌∷◌, [], Ok, IfOk, IfSome, IfNone, length, suc, filter, map, drop};
+ghost use Rattle.std.specs.Prelude.{◌≡◌, ◌∷◌, [], Ok, IfOk, IfSome, IfNone, length};
+ghost use Rattle.std.specs.Prelude.{filter, map, drop};
 ghost use Rattle.c_grammar_spec.specs.Expressions as grammar;
 ghost use Rattle.exact_read.specs.Grammar.{read_map};
 ghost use Rattle.c_tree_spec.specs.Expression as tree;
-ghost use Rattle.c_expression_reader.specs.Types as types;
-ghost use Rattle.c_parse_token.specs.Lists.{list_of};
+ghost use Rattle.c_expression_laws.specs.Types as types;
+ghost use Rattle.c_parse_token.specs.Lists.{list_of, TakesOne, IsNoLonger};
 ghost use Rattle.c_parse_token.specs.Words.{type_among, entry_of, type_next, with_next};
 
 use crate::tokens::Tokens;
@@ -80,7 +81,7 @@ fn is_long(word: Keyword) -> bool
     matches!(word, Keyword::Long)
 }
 
-// How many `char` stand among words; and so for the other words.
+// How many `char` are among words; and so for the other words.
 fn chars(words: &[Keyword]) -> usize
     ensures { result ≡ length (filter grammar.is_char words.now) }
 {
@@ -130,7 +131,7 @@ fn same_words(one: &[Keyword], two: &[Keyword]) -> bool
         && longs(one) == longs(two)
 }
 
-// The type that stands in a table beside these words.
+// The type of these words in a table.
 fn type_in(table: &[(&[Keyword], IntegerType)], words: &[Keyword]) -> Option<IntegerType>
     ensures { result ≡ type_among words.now (map entry_of table.now) }
 {
@@ -150,16 +151,19 @@ fn type_of(words: &[Keyword]) -> Option<IntegerType>
     type_in(&COMBINATIONS, words)
 }
 
-// Takes a keyword that stands next, where with the words before it names a type: that type. It stands behind the
-// words then.
+// Takes the next keyword, where with the words before it names a type: that type. It is the
+// last of the words then.
 fn take_word(
     tokens: &mut Tokens<'_>,
     words: &mut Vec<Keyword>,
 ) -> Result<Option<IntegerType>, AllocError>
-    ensures named { IfOk result (λ named. named ≡ type_next words.old.items (list_of tokens.old.rest.now)) }
-    ensures words { IfOk result (λ named. IfSome named (λ _. words.new.items ≡ with_next words.old.items (list_of tokens.old.rest.now))) }
-    ensures rest { IfOk result (λ named. IfSome named (λ _. list_of tokens.new.rest.now ≡ drop 1 (list_of tokens.old.rest.now))) }
-    ensures shorter { IfOk result (λ named. IfSome named (λ _. length tokens.old.rest.now ≡ suc (length tokens.new.rest.now))) }
+    ensures named { IfOk result (λ named. named ≡ type_next words.old.items
+        (list_of tokens.old.rest.now)) }
+    ensures words { IfOk result (λ named. IfSome named (λ _. words.new.items ≡ with_next
+        words.old.items (list_of tokens.old.rest.now))) }
+    ensures rest { IfOk result (λ named. IfSome named (λ _. list_of tokens.new.rest.now ≡ drop 1
+        (list_of tokens.old.rest.now))) }
+    ensures shorter { IfOk result (λ named. IfSome named (λ _. TakesOne tokens.old tokens.new)) }
     ensures none { IfOk result (λ named. IfNone named (tokens.new.rest.now ≡ tokens.old.rest.now)) }
     ensures count { tokens.new.count ≡ tokens.old.count }
 {
@@ -177,14 +181,17 @@ fn take_word(
     Ok(Some(named))
 }
 
-/// The integer type whose first word was read; further words are taken as long as they name one with those before.
+/// The integer type whose first word was read; further words are taken as long as they name one
+/// with those before.
 pub fn integer_type(
     alloc: Global,
     tokens: &mut Tokens<'_>,
     first: Keyword,
 ) -> Result<IntegerType, AllocError>
-    ensures found { IfOk result (λ named. read_map (λ words. types.integer_of (first ∷ words)) (types.read_words (first ∷ [])) (list_of tokens.old.rest.now) ≡ Ok (tree.Integer named, list_of tokens.new.rest.now)) }
-    ensures shorter { IfOk result (λ _. length tokens.new.rest.now ≤ length tokens.old.rest.now) }
+    ensures found { IfOk result (λ named. read_map (λ words. types.integer_of (first ∷ words))
+        (types.read_words (first ∷ [])) (list_of tokens.old.rest.now) ≡ Ok
+        (tree.Integer named, list_of tokens.new.rest.now)) }
+    ensures shorter { IfOk result (λ _. IsNoLonger tokens.new tokens.old) }
     ensures count { tokens.new.count ≡ tokens.old.count }
 {
     let mut words = Vec::new(alloc);

@@ -6,39 +6,39 @@ use std::alloc::{AllocError, AllocFailed};
 /// Why the next token is at fault.
 #[derive(Clone, Copy)]
 pub enum Fault {
-    /// The nesting limit is exceeded there, or too many operators stand in one expression.
-    Deep,
-    /// It goes on with nothing, where this was expected.
+    /// The nesting limit is exceeded there, or one expression has too many operators.
+    LimitExceeded,
+    /// No unit continues with it, where this was expected.
     Wrong(Role),
 }
 
 /// Why a parser gives no value.
 #[derive(Clone, Copy)]
-pub enum ParseError {
+pub enum Stopped {
     /// Out of memory.
     NoMemory,
     /// The first of the tokens that are left is at fault, or their end.
     At(Fault),
 }
 
-impl From<AllocError> for ParseError {
+impl From<AllocError> for Stopped {
     ghost use Rattle.std.specs.Prelude.{◌≡◌};
-    ghost use Rattle.c_parse_token.specs.declared.outcome.ParseError.TheVariants.{NoMemory};
+    ghost use Rattle.c_parse_token.specs.declared.outcome.Stopped.TheVariants.{NoMemory};
 
     ghost from_gives = { λ _ error. error ≡ NoMemory };
 
     fn from(_: AllocError) -> Self {
-        ParseError::NoMemory
+        Stopped::NoMemory
     }
 }
 
-impl<X: Drop> From<AllocFailed<X>> for ParseError {
+impl<X: Drop> From<AllocFailed<X>> for Stopped {
     ghost use Rattle.std.specs.Prelude.{◌≡◌};
-    ghost use Rattle.c_parse_token.specs.declared.outcome.ParseError.TheVariants.{NoMemory};
+    ghost use Rattle.c_parse_token.specs.declared.outcome.Stopped.TheVariants.{NoMemory};
 
     ghost from_gives = { λ _ error. error ≡ NoMemory };
 
     fn from(_: AllocFailed<X>) -> Self {
-        ParseError::NoMemory
+        Stopped::NoMemory
     }
 }

@@ -1,17 +1,17 @@
-//! Expressions and types as text: `(operator@offset operand ..)`, a name or a number with its offset, and a type as its
-//! words with a `*` for each pointer.
+//! Expressions and types as text: `(operator@offset operand ..)`, a name or a number with its
+//! offset, and a type as its words with a `*` for each pointer.
 
 use crate::out::Out;
 use crate::tokens::put_number;
 use c_syntax::expression::{
-    Base, Constant, Declarator, Expression, Member, Name, Specifiers, TypeName,
+    Constant, Declarator, Expression, Member, Name, Specifiers, TypeName, TypeSpecifier,
 };
 
 /// A name and its offset.
 pub(crate) fn put_name(name: Name<'_>, out: &mut Out) {
     out.put(" ");
     out.bytes(name.spelling);
-    out.place(name.place);
+    out.offset(name.offset);
 }
 
 pub(crate) fn put_pointers(count: usize, out: &mut Out) {
@@ -28,20 +28,20 @@ fn put_tag(word: &str, tag: Option<Name<'_>>, out: &mut Out) {
     }
 }
 
-/// An expression behind a blank.
+/// An expression after a blank.
 #[cycle(tree)]
 pub(crate) fn put_expression(tree: &Expression<'_>, out: &mut Out) {
     match tree {
         Expression::Named(name) => put_name(*name, out),
-        Expression::Number(value, number_type, place) => {
+        Expression::Number(value, number_type, offset) => {
             out.put(" ");
             put_number(*value, *number_type, out);
-            out.place(*place);
+            out.offset(*offset);
         }
-        Expression::Character(value, place) => {
+        Expression::Character(value, offset) => {
             out.put(" '");
             out.show(value);
-            out.place(*place);
+            out.offset(*offset);
         }
         _ => {
             out.put(" (");
@@ -55,29 +55,29 @@ pub(crate) fn put_expression(tree: &Expression<'_>, out: &mut Out) {
 #[cycle(tree)]
 fn put_operation(tree: &Expression<'_>, out: &mut Out) {
     match tree {
-        Expression::Bracketed(inner, place) => {
-            out.head("brackets", *place);
+        Expression::Bracketed(inner, offset) => {
+            out.head("brackets", *offset);
             put_expression(inner, out);
         }
-        Expression::Index(base, index, place) => {
-            out.head("index", *place);
+        Expression::Index(base, index, offset) => {
+            out.head("index", *offset);
             put_expression(base, out);
             put_expression(index, out);
         }
-        Expression::Member(base, access, name, place) => {
+        Expression::Member(base, access, name, offset) => {
             out.show(access);
-            out.place(*place);
+            out.offset(*offset);
             put_expression(base, out);
             put_name(*name, out);
         }
-        Expression::Binary(operator, left, right, place) => {
+        Expression::Binary(operator, left, right, offset) => {
             out.show(operator);
-            out.place(*place);
+            out.offset(*offset);
             put_expression(left, out);
             put_expression(right, out);
         }
-        Expression::Conditional(test, first, second, place) => {
-            out.head("if", *place);
+        Expression::Conditional(test, first, second, offset) => {
+            out.head("if", *offset);
             put_expression(test, out);
             put_expression(first, out);
             put_expression(second, out);
@@ -90,21 +90,21 @@ fn put_operation(tree: &Expression<'_>, out: &mut Out) {
 #[cycle(tree)]
 fn put_prefix(tree: &Expression<'_>, out: &mut Out) {
     match tree {
-        Expression::Unary(operator, operand, place) => {
+        Expression::Unary(operator, operand, offset) => {
             out.show(operator);
-            out.place(*place);
+            out.offset(*offset);
             put_expression(operand, out);
         }
-        Expression::Sizeof(operand, place) => {
-            out.head("sizeof", *place);
+        Expression::Sizeof(operand, offset) => {
+            out.head("sizeof", *offset);
             put_expression(operand, out);
         }
-        Expression::SizeofType(of, place) => {
-            out.head("sizeof", *place);
+        Expression::SizeofType(of, offset) => {
+            out.head("sizeof", *offset);
             put_type(of, out);
         }
-        Expression::Cast(to, operand, place) => {
-            out.head("cast", *place);
+        Expression::Cast(to, operand, offset) => {
+            out.head("cast", *offset);
             put_type(to, out);
             put_expression(operand, out);
         }
@@ -118,11 +118,11 @@ fn put_type(of: &TypeName<'_>, out: &mut Out) {
     put_pointers(of.pointers, out);
 }
 
-/// The offset of the first word, the words of storage and the base.
+/// The offset of the first word, the storage-class words and the type specifier.
 #[cycle(tree)]
 pub(crate) fn put_specifiers(of: &Specifiers<'_>, out: &mut Out) {
     out.put(" type");
-    out.place(of.place);
+    out.offset(of.offset);
     if of.storage.is_typedef {
         out.put(" typedef");
     }
@@ -133,21 +133,21 @@ pub(crate) fn put_specifiers(of: &Specifiers<'_>, out: &mut Out) {
 }
 
 #[cycle(tree)]
-fn put_base(base: &Base<'_>, out: &mut Out) {
+fn put_base(base: &TypeSpecifier<'_>, out: &mut Out) {
     match base {
-        Base::Void => out.put(" void"),
-        Base::Integer(integer) => {
+        TypeSpecifier::Void => out.put(" void"),
+        TypeSpecifier::Integer(integer) => {
             out.put(" ");
             out.show(integer);
         }
-        Base::TypedefName(name) => put_name(*name, out),
-        Base::StructTag(tag) => put_tag(" struct", Some(*tag), out),
-        Base::EnumTag(tag) => put_tag(" enum", Some(*tag), out),
-        Base::Struct(tag, members) => {
+        TypeSpecifier::TypedefName(name) => put_name(*name, out),
+        TypeSpecifier::StructTag(tag) => put_tag(" struct", Some(*tag), out),
+        TypeSpecifier::EnumTag(tag) => put_tag(" enum", Some(*tag), out),
+        TypeSpecifier::Struct(tag, members) => {
             put_tag(" struct", *tag, out);
             put_members(members.as_slice(), out);
         }
-        Base::Enum(tag, constants) => {
+        TypeSpecifier::Enum(tag, constants) => {
             put_tag(" enum", *tag, out);
             put_constants(constants.as_slice(), out);
         }

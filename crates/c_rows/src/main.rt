@@ -1,9 +1,11 @@
-//! Rows of C: each line of the input is a row, a name, a colon, what is asked, and a text; a line of the output is the name of
-//! the row and its outcome. Asked are `tokens`, `tree` (of the unit, each node with the offset of its operator or first token) or
-//! `fault`; where there is a fault, the outcome is the kind and the offset of the first.
+//! Rows of C: each line of the input is a row, a name, a colon, what is asked, and a text; a line
+//! of the output is the name of the row and its outcome. Asked are `tokens`, `tree` (of the unit,
+//! each node with the offset of its operator or first token) or `fault`; where there is a fault,
+//! the outcome is the kind and the offset of the first.
 //!
-//! In a text, what stands between two backquotes is bytes in hexadecimal, or with a star a piece that is repeated so often:
-//! `3*-` is three times a minus sign. A line that begins with `#` says where the outcomes of the rows behind it come from.
+//! In a text, what is between two backquotes is bytes in hexadecimal, or with a star a piece
+//! that is repeated so often: `3*-` is three times a minus sign. A line that begins with `#` says
+//! where the outcomes of the rows after it come from.
 #![tactic(auto)]
 
 mod expressions;

@@ -3,7 +3,7 @@
 use std::alloc::{AllocError, Global};
 use std::fmt::Debug;
 
-/// A text that grows, up to a want of memory.
+/// A text that grows, until memory runs out.
 #[derive(Drop)]
 pub(crate) struct Out {
     text: String,
@@ -41,15 +41,15 @@ impl Out {
     }
 
     /// An offset.
-    pub(crate) fn place(&mut self, place: usize) {
+    pub(crate) fn offset(&mut self, offset: usize) {
         self.put("@");
-        self.show(&place);
+        self.show(&offset);
     }
 
     /// A word and its offset.
-    pub(crate) fn head(&mut self, word: &str, place: usize) {
+    pub(crate) fn head(&mut self, word: &str, offset: usize) {
         self.put(word);
-        self.place(place);
+        self.offset(offset);
     }
 
     /// All that was written.

@@ -24,28 +24,28 @@ fn put_value(value: &Value<'_>, out: &mut Out) {
 fn put_simple(simple: &Simple<'_>, out: &mut Out) {
     out.put(" (");
     match simple {
-        Simple::Assign(target, value, place) => {
-            out.head("assign", *place);
+        Simple::Assign(target, value, offset) => {
+            out.head("assign", *offset);
             put_expression(target, out);
             put_value(value, out);
         }
-        Simple::AssignBy(operator, target, value, place) => {
+        Simple::AssignBy(operator, target, value, offset) => {
             out.put("assign ");
             out.show(operator);
-            out.place(*place);
+            out.offset(*offset);
             put_expression(target, out);
             put_expression(value, out);
         }
-        Simple::StepAfter(operator, target, place) => {
+        Simple::StepAfter(operator, target, offset) => {
             out.put("after ");
             out.show(operator);
-            out.place(*place);
+            out.offset(*offset);
             put_expression(target, out);
         }
-        Simple::StepBefore(operator, target, place) => {
+        Simple::StepBefore(operator, target, offset) => {
             out.put("before ");
             out.show(operator);
-            out.place(*place);
+            out.offset(*offset);
             put_expression(target, out);
         }
         Simple::Evaluate(value) => {
@@ -86,14 +86,14 @@ fn put_start(start: &ForStart<'_>, out: &mut Out) {
 
 fn put_label(label: &Label<'_>, out: &mut Out) {
     match label {
-        Label::Case(value, place) => put_test(" (case", value, *place, out),
-        Label::Default(place) => out.head(" (default", *place),
+        Label::Case(value, offset) => put_test(" (case", value, *offset, out),
+        Label::Default(offset) => out.head(" (default", *offset),
     }
     out.put(")");
 }
 
-fn put_test(word: &str, test: &Expression<'_>, place: usize, out: &mut Out) {
-    out.head(word, place);
+fn put_test(word: &str, test: &Expression<'_>, offset: usize, out: &mut Out) {
+    out.head(word, offset);
     put_expression(test, out);
 }
 
@@ -138,11 +138,11 @@ fn put_statement(statement: &Statement<'_>, out: &mut Out) {
 fn put_jump(statement: &Statement<'_>, out: &mut Out) {
     out.put(" (");
     match statement {
-        Statement::Empty(place) => out.head("empty", *place),
-        Statement::Break(place) => out.head("break", *place),
-        Statement::Continue(place) => out.head("continue", *place),
-        Statement::Return(value, place) => {
-            out.head("return", *place);
+        Statement::Empty(offset) => out.head("empty", *offset),
+        Statement::Break(offset) => out.head("break", *offset),
+        Statement::Continue(offset) => out.head("continue", *offset),
+        Statement::Return(value, offset) => {
+            out.head("return", *offset);
             if let Some(value) = value {
                 put_value(value, out);
             }
@@ -156,21 +156,21 @@ fn put_jump(statement: &Statement<'_>, out: &mut Out) {
 #[cycle(statements)]
 fn put_compound(statement: &Statement<'_>, out: &mut Out) {
     match statement {
-        Statement::Block(parts, place) => {
-            out.head("block", *place);
+        Statement::Block(parts, offset) => {
+            out.head("block", *offset);
             put_parts(parts.as_slice(), out);
         }
-        Statement::If(test, body, place) => {
-            put_test("if", test, *place, out);
+        Statement::If(test, body, offset) => {
+            put_test("if", test, *offset, out);
             put_statement(body, out);
         }
-        Statement::IfElse(test, body, otherwise, place) => {
-            put_test("if else", test, *place, out);
+        Statement::IfElse(test, body, otherwise, offset) => {
+            put_test("if else", test, *offset, out);
             put_statement(body, out);
             put_statement(otherwise, out);
         }
-        Statement::Switch(test, groups, place) => {
-            put_test("switch", test, *place, out);
+        Statement::Switch(test, groups, offset) => {
+            put_test("switch", test, *offset, out);
             put_groups(groups.as_slice(), out);
         }
         _ => put_loop(statement, out),
@@ -180,16 +180,16 @@ fn put_compound(statement: &Statement<'_>, out: &mut Out) {
 #[cycle(statements)]
 fn put_loop(statement: &Statement<'_>, out: &mut Out) {
     match statement {
-        Statement::While(test, body, place) => {
-            put_test("while", test, *place, out);
+        Statement::While(test, body, offset) => {
+            put_test("while", test, *offset, out);
             put_statement(body, out);
         }
-        Statement::Do(body, test, place) => {
-            put_test("do", test, *place, out);
+        Statement::Do(body, test, offset) => {
+            put_test("do", test, *offset, out);
             put_statement(body, out);
         }
-        Statement::For(start, test, step, body, place) => {
-            out.head("for", *place);
+        Statement::For(start, test, step, body, offset) => {
+            out.head("for", *offset);
             put_start(start, out);
             put_turns(test.as_ref(), step.as_ref(), out);
             put_statement(body, out);

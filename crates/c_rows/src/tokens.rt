@@ -34,7 +34,7 @@ pub(crate) fn put_tokens(tokens: &[Token<'_>], out: &mut Out) {
     }
     for token in tokens {
         put_kind(token.kind, out);
-        out.place(token.offset);
+        out.offset(token.offset);
         out.put(" ");
     }
 }

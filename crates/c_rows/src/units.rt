@@ -3,7 +3,7 @@
 use crate::expressions::{put_declarator, put_lengths, put_name, put_pointers, put_specifiers};
 use crate::out::Out;
 use crate::statements::put_parts;
-use c_syntax::unit::{FunctionDeclarator, Global, Item, Parameter, TranslationUnit};
+use c_syntax::unit::{ExternalDeclaration, FunctionDeclarator, Global, Parameter, TranslationUnit};
 
 fn put_parameter(parameter: &Parameter<'_>, out: &mut Out) {
     put_specifiers(&parameter.specifiers, out);
@@ -34,17 +34,17 @@ fn put_global(global: &Global<'_>, out: &mut Out) {
     }
 }
 
-fn put_item(item: &Item<'_>, out: &mut Out) {
+fn put_item(item: &ExternalDeclaration<'_>, out: &mut Out) {
     match item {
-        Item::Empty => out.put(" (empty"),
-        Item::Declaration(specifiers, globals) => {
+        ExternalDeclaration::Empty => out.put(" (empty"),
+        ExternalDeclaration::Declaration(specifiers, globals) => {
             out.put(" (declare");
             put_specifiers(specifiers, out);
             for global in globals {
                 put_global(global, out);
             }
         }
-        Item::Definition(specifiers, function, parts) => {
+        ExternalDeclaration::Definition(specifiers, function, parts, _) => {
             out.put(" (define");
             put_specifiers(specifiers, out);
             put_function(function, out);

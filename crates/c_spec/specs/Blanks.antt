@@ -11,7 +11,7 @@ is_blank_in_line byte = (byte == 32) || (byte == 9) || (byte == 11) || (byte == 
 abbrev pub is_blank_byte : ℕ → Bool
 is_blank_byte byte = is_blank_in_line byte || (byte == 10)
 
--- how many bytes stand before the end of the line
+-- how many bytes precede the end of the line
 abbrev pub line_len : List ℕ → ℕ
 line_len text = prefix_len (λ byte. not (byte == 10)) text
 
@@ -24,6 +24,6 @@ abbrev pub begins_with_digit : List ℕ → Bool
 begins_with_digit [] = false
 begins_with_digit (byte ∷ text) = is_digit byte
 
--- behind the `#` of a line marker stand blanks and a digit
+-- the `#` of a line marker is followed by blanks and a digit
 abbrev pub is_marker : List ℕ → Bool
 is_marker text = begins_with_digit (drop (prefix_len is_blank_in_line text) text)

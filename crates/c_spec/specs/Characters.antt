@@ -11,14 +11,14 @@ escapes =
 abbrev pub escape_of : (letter : ℕ) → Option ℕ
 escape_of letter = option_map (λ entry. entry.1) (find (λ entry. entry.0 == letter) escapes)
 
--- at most so many digits in front of a text: their value, if it is below 256, and their number
+-- at most so many digits at the start of a text: their value, if it is below 256, and their number
 abbrev pub digits_of : (base most : ℕ) → List ℕ → Option (ℕ × ℕ)
 digits_of base most text =
     let count = min most (prefix_len (is_digit_to base) text) in
     let value = digits_value base (take count text) in
     if not (count == 0) && nat_lt value 256 then Some (value, count) else None
 
--- what stands behind a backslash: its value, and how many bytes it has
+-- what follows a backslash: its value, and how many bytes it has
 abbrev pub escaped : List ℕ → Option (ℕ × ℕ)
 escaped [] = None
 escaped (byte ∷ text) =
@@ -26,7 +26,7 @@ escaped (byte ∷ text) =
     else if is_digit_to 8 byte then digits_of 8 3 (byte ∷ text)
     else option_map (λ value. (value, 1)) (escape_of byte)
 
--- what stands between the quotes
+-- the character between the quotes: its value, and how many bytes it has
 abbrev pub element_of : List ℕ → Option (ℕ × ℕ)
 element_of [] = None
 element_of (byte ∷ text) =
@@ -38,6 +38,6 @@ abbrev pub begins_with_quote : List ℕ → Bool
 begins_with_quote [] = false
 begins_with_quote (byte ∷ text) = byte == 39
 
--- behind a quote: the value, and how many bytes there are with the quote that closes
+-- after a quote: the value, and how many bytes there are with the quote that closes
 unfoldable pub character_of : List ℕ → Option (ℕ × ℕ)
 character_of text = option_and_then (λ found. if begins_with_quote (drop found.1 text) then Some (found.0, suc found.1) else None) (element_of text)

@@ -21,14 +21,14 @@ pub data Token : Type 0 where
   Character : (value : ℕ) → Token
   Mark : (punctuator : Punctuator) → Token
 
--- a token and the place of its first byte
+-- a token and the offset of its first byte
 pub record Placed : Type 0 where
   pub token : Token
   pub offset : ℕ
 
 -- what a text begins with, and how many bytes it has
 pub data Piece : Type 0 where
-  -- blank space, and whether nothing but blank bytes then stands in the line
+  -- blank space, and whether the line has nothing but blank bytes up to its end
   Blank : (count : ℕ) → (fresh : Bool) → Piece
   Lexeme : (token : Token) → (count : ℕ) → Piece
   Fault : (kind : TokenFaultKind) → Piece
@@ -53,7 +53,7 @@ comment_piece text = option_map_or (λ count. Blank (2 + count) false) (close_le
 abbrev pub mark_piece : (text : List ℕ) → Piece
 mark_piece text = option_map_or (λ found. Lexeme (Mark found.1) (length found.0)) (punctuator_of text) (Fault Byte)
 
--- what a text begins with; `fresh` says that nothing but blank bytes stands before it in its line
+-- what a text begins with; `fresh` says that nothing but blank bytes precedes it in its line
 unfoldable pub first_piece : (fresh : Bool) → (byte : ℕ) → (text : List ℕ) → Piece
 first_piece fresh byte text =
     if is_blank_byte byte then Blank 1 (fresh || (byte == 10))
@@ -69,7 +69,7 @@ abbrev pub with_token : Placed → Result (List Placed) (TokenFaultKind × ℕ) 
 with_token placed (Ok tokens) = Ok (placed ∷ tokens)
 with_token placed (Err fault) = Err fault
 
--- the tokens of what stands at an offset, or the first fault there and its place
+-- the tokens of a text that begins at an offset, or its first fault and that fault's offset
 pub data Lexes : (fresh : Bool) → (offset : ℕ) → (text : List ℕ) → Result (List Placed) (TokenFaultKind × ℕ) → Type 0 where
   ended : (fresh : Bool) (offset : ℕ) → Lexes fresh offset [] (Ok [])
   blank : (fresh after : Bool) (offset byte : ℕ) (text : List ℕ) (count : ℕ) (outcome : Result (List Placed) (TokenFaultKind × ℕ)) →

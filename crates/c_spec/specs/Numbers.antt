@@ -6,14 +6,14 @@ use Rattle.c_spec.specs.declared.token.Suffix.{Suffix}
 use Rattle.c_spec.specs.declared.token.NumberType.{NumberType}
 use Rattle.c_spec.specs.declared.token.NumberType.TheVariants.{SignedInt, UnsignedInt, SignedLongLong, UnsignedLongLong}
 
--- behind `e`, `E`, `p` and `P` a sign goes on with a number
+-- after `e`, `E`, `p` and `P` a sign is part of a number
 abbrev pub takes_sign : ℕ → Bool
 takes_sign byte = list_any (λ letter. byte == letter) (codes "eEpP")
 
 abbrev pub goes_on : (before byte : ℕ) → Bool
 goes_on before byte = is_word_byte byte || (byte == 46) || (takes_sign before && ((byte == 43) || (byte == 45)))
 
--- how many bytes of a text go on with a number, behind a byte of it
+-- how many bytes at the start of a text continue a number, after a byte of it
 abbrev pub number_len : (before : ℕ) → List ℕ → ℕ
 number_len before [] = 0
 number_len before (byte ∷ text) = if goes_on before byte then suc (number_len byte text) else 0
@@ -68,7 +68,7 @@ number_to base text =
     then None
     else option_and_then (λ suffix. option_map (λ type. (value, type)) (type_of (base == 10) suffix value)) (entry_of suffixes (drop count text))
 
--- `0x` or `0X` stands in front of hexadecimal digits
+-- `0x` or `0X`, which begins hexadecimal numbers
 abbrev pub is_hexadecimal : List ℕ → Bool
 is_hexadecimal [] = false
 is_hexadecimal (byte ∷ []) = false

@@ -22,9 +22,9 @@ punctuators =
     (codes ":", Colon) ∷ (codes ";", Semicolon) ∷ (codes "=", Assign) ∷ (codes ",", Comma) ∷ []
 
 -- the first of a table's spellings that a text begins with
-abbrev pub front_of : {V : Type 0} → List (List ℕ × V) → List ℕ → Option (List ℕ × V)
-front_of table text = find (λ entry. starts_with nat_eq text entry.0) table
+abbrev pub prefix_entry : {V : Type 0} → List (List ℕ × V) → List ℕ → Option (List ℕ × V)
+prefix_entry table text = find (λ entry. starts_with nat_eq text entry.0) table
 
 -- the longest punctuator that a text begins with, and its spelling
 unfoldable pub punctuator_of : List ℕ → Option (List ℕ × Punctuator)
-punctuator_of = front_of punctuators
+punctuator_of = prefix_entry punctuators

@@ -28,7 +28,7 @@ abbrev pub goes_on : List ℕ → Bool
 goes_on [] = false
 goes_on (byte ∷ text) = is_word_byte byte
 
--- a byte in front of the tokens of the text that it stands before: of the same word, or a word of its own
+-- a byte before a text with these tokens: part of the first word, or a word of its own
 abbrev pub with_byte : ℕ → Bool → List Token → List Token
 with_byte byte true (Word text ∷ tokens) = Word (byte ∷ text) ∷ tokens
 with_byte byte true tokens = Word (byte ∷ []) ∷ tokens

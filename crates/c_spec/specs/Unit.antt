@@ -1,13 +1,10 @@
--- The tree of a source, and which text spells it (ISO C11, 6.9).
+-- The tree of a source, and the texts that have it (ISO C11, 6.9).
 -- For now: unsigned F(unsigned A,unsigned B){return X+Y;} with `+` or `-`, X and Y each being A or B.
 use Rattle.std.specs.Prelude.{◌≡◌, ◌≢◌, ℕ, List, [], ◌∷◌, codes, IsTrue, Some}
 use Rattle.c_spec.specs.declared.Operand.{Operand}
 use Rattle.c_spec.specs.declared.Operand.TheVariants.{First, Second}
 use Rattle.c_spec.specs.declared.Operator.{Operator}
 use Rattle.c_spec.specs.declared.Operator.TheVariants.{Plus, Minus}
-use Rattle.c_spec.specs.declared.SourceKind.{SourceKind}
-use Rattle.c_spec.specs.declared.SourceKind.TheVariants.{Token as token_fault, Later}
-use Rattle.c_spec.specs.Lexical.{IsTokenFault}
 use Rattle.c_spec.specs.Tokens.{Token, Word, Mark, tokens_of, is_name}
 
 -- a function of two unsigned parameters, and the expression that it returns
@@ -50,8 +47,3 @@ pub record IsC (text : List ℕ) (unit : Unit) : Type 0 where
 -- the functions that have a body, in source order
 abbrev pub bodies : Unit → List (List ℕ)
 bodies unit = unit.name ∷ []
-
--- this is a reason to refuse the text, at this offset: a text without tokens is of no form either
-abbrev pub IsRefusedSource : (text : List ℕ) → SourceKind → (offset : ℕ) → Type 0
-IsRefusedSource text (token_fault kind) offset = IsTokenFault text kind offset
-IsRefusedSource text Later offset = (offset ≡ 0) × ((unit : Unit) → IsC text unit → ⊥)

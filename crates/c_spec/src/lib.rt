@@ -1,9 +1,6 @@
-//! What a C source is: its tokens and its tree.
-//!
-//! `specs/Lexical.antt` has the tokens of a text, by `Words.antt`, `Numbers.antt`, `Characters.antt`, `Punctuators.antt`
-//! and `Blanks.antt` beside it. The one form that is judged so far, a function that returns the sum or the difference of
-//! its two parameters, has its tokens in `specs/Tokens.antt`, its trees and which text spells which in `specs/Unit.antt`.
-//! [`SourceKind`] names the refusals.
+//! What a C source is: its tokens (`specs/Lexical.antt`, ISO C11, 6.4), and the one form that is
+//! judged so far, a function that returns the sum or the difference of its two parameters
+//! (`specs/Unit.antt`). [`SourceKind`] names the refusals. Only enums run.
 #![tactic(auto)]
 
 pub mod token;

@@ -216,7 +216,7 @@ pub struct Suffix {
     pub is_long_long: bool,
 }
 
-/// Why a text has no tokens. Each stands at the first byte of what is at fault.
+/// Why a text has no tokens. The offset of each is that of the first byte of what is at fault.
 #[derive(Clone, Copy, Debug, PartialEq, Eq)]
 pub enum TokenFaultKind {
     /// A byte that begins no token.

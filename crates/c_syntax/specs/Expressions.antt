@@ -3,8 +3,8 @@ use Rattle.std.specs.Prelude.{List, [], ◌∷◌, Bool, Option, Some, None, opt
 use Rattle.std.specs.declared.alloc.Global.{Global}
 use Rattle.std.specs.declared.boxed.Box.{Box}
 use Rattle.c_tree_spec.specs.Expression as tree
-use Rattle.c_syntax.specs.declared.expression.Base.{Base, Base-F, fold-Base}
-use Rattle.c_syntax.specs.declared.expression.Base.TheOpen as open_tree
+use Rattle.c_syntax.specs.declared.expression.TypeSpecifier.{TypeSpecifier, TypeSpecifier-F, fold-TypeSpecifier}
+use Rattle.c_syntax.specs.declared.expression.Expression.TheOpen as open_tree
 use Rattle.c_syntax.specs.declared.expression.Expression.{Expression, Expression-F, fold-Expression}
 use Rattle.c_syntax.specs.declared.expression.Constant.{Constant, Constant-F, fold-Constant}
 use Rattle.c_syntax.specs.declared.expression.Declarator.{Declarator, Declarator-F, fold-Declarator}
@@ -39,73 +39,73 @@ constants_of (x ∷ xs) = constant_before x (constants_of xs)
 abbrev pub unboxed : {X : Type 0} → Vec (Box X Global) Global → List X
 unboxed boxes = map (λ b. b.value) boxes.items
 
--- one level, with what stands inside already seen as its tree
-abbrev pub base_step : Base-F tree.Base tree.Expression (tree.Name × Option tree.Expression) tree.Declarator (Bool × tree.Expressions) (tree.Specifiers × tree.Declarators) tree.Specifiers tree.TypeName → tree.Base
-base_step open_tree.Void = tree.Void
-base_step (open_tree.Integer type) = tree.Integer type
-base_step (open_tree.TypedefName name) = tree.TypedefName (name_of name)
-base_step (open_tree.StructTag tag) = tree.StructTag (name_of tag)
-base_step (open_tree.Struct tag members) = tree.Struct (option_map name_of tag) (members_of (unboxed members))
-base_step (open_tree.EnumTag tag) = tree.EnumTag (name_of tag)
-base_step (open_tree.Enum tag constants) = tree.Enum (option_map name_of tag) (constants_of (unboxed constants))
+-- one level, whose parts are seen as trees already
+abbrev pub type_specifier_step : TypeSpecifier-F tree.Expression tree.TypeSpecifier (tree.Name × Option tree.Expression) tree.Declarator (Bool × tree.Expressions) (tree.Specifiers × tree.Declarators) tree.Specifiers tree.TypeName → tree.TypeSpecifier
+type_specifier_step open_tree.Void = tree.Void
+type_specifier_step (open_tree.Integer type) = tree.Integer type
+type_specifier_step (open_tree.TypedefName name) = tree.TypedefName (name_of name)
+type_specifier_step (open_tree.StructTag tag) = tree.StructTag (name_of tag)
+type_specifier_step (open_tree.Struct tag members) = tree.Struct (option_map name_of tag) (members_of (unboxed members))
+type_specifier_step (open_tree.EnumTag tag) = tree.EnumTag (name_of tag)
+type_specifier_step (open_tree.Enum tag constants) = tree.Enum (option_map name_of tag) (constants_of (unboxed constants))
 
-abbrev pub expression_step : Expression-F tree.Base tree.Expression (tree.Name × Option tree.Expression) tree.Declarator (Bool × tree.Expressions) (tree.Specifiers × tree.Declarators) tree.Specifiers tree.TypeName → tree.Expression
+abbrev pub expression_step : Expression-F tree.Expression tree.TypeSpecifier (tree.Name × Option tree.Expression) tree.Declarator (Bool × tree.Expressions) (tree.Specifiers × tree.Declarators) tree.Specifiers tree.TypeName → tree.Expression
 expression_step (open_tree.Named name) = tree.Named (name_of name)
-expression_step (open_tree.Number value type place) = tree.Number value type place
-expression_step (open_tree.Character value place) = tree.Character value place
-expression_step (open_tree.Bracketed inner place) = tree.Bracketed inner.value place
-expression_step (open_tree.Index base index place) = tree.Index base.value index.value place
-expression_step (open_tree.Member base access member place) = tree.Member base.value access (name_of member) place
-expression_step (open_tree.Unary operator operand place) = tree.Unary operator operand.value place
-expression_step (open_tree.Sizeof operand place) = tree.Sizeof operand.value place
-expression_step (open_tree.SizeofType type place) = tree.SizeofType type.value place
-expression_step (open_tree.Cast type operand place) = tree.Cast type.value operand.value place
-expression_step (open_tree.Binary operator left right place) = tree.Binary operator left.value right.value place
-expression_step (open_tree.Conditional test first second place) = tree.Conditional test.value first.value second.value place
+expression_step (open_tree.Number value type offset) = tree.Number value type offset
+expression_step (open_tree.Character value offset) = tree.Character value offset
+expression_step (open_tree.Bracketed inner offset) = tree.Bracketed inner.value offset
+expression_step (open_tree.Index base index offset) = tree.Index base.value index.value offset
+expression_step (open_tree.Member base access member offset) = tree.Member base.value access (name_of member) offset
+expression_step (open_tree.Unary operator operand offset) = tree.Unary operator operand.value offset
+expression_step (open_tree.Sizeof operand offset) = tree.Sizeof operand.value offset
+expression_step (open_tree.SizeofType type offset) = tree.SizeofType type.value offset
+expression_step (open_tree.Cast type operand offset) = tree.Cast type.value operand.value offset
+expression_step (open_tree.Binary operator left right offset) = tree.Binary operator left.value right.value offset
+expression_step (open_tree.Conditional test first second offset) = tree.Conditional test.value first.value second.value offset
 
-abbrev pub constant_step : Constant-F tree.Base tree.Expression (tree.Name × Option tree.Expression) tree.Declarator (Bool × tree.Expressions) (tree.Specifiers × tree.Declarators) tree.Specifiers tree.TypeName → tree.Name × Option tree.Expression
+abbrev pub constant_step : Constant-F tree.Expression tree.TypeSpecifier (tree.Name × Option tree.Expression) tree.Declarator (Bool × tree.Expressions) (tree.Specifiers × tree.Declarators) tree.Specifiers tree.TypeName → tree.Name × Option tree.Expression
 constant_step constant = (name_of constant.name, option_map (λ b. b.value) constant.value)
 
-abbrev pub declarator_step : Declarator-F tree.Base tree.Expression (tree.Name × Option tree.Expression) tree.Declarator (Bool × tree.Expressions) (tree.Specifiers × tree.Declarators) tree.Specifiers tree.TypeName → tree.Declarator
+abbrev pub declarator_step : Declarator-F tree.Expression tree.TypeSpecifier (tree.Name × Option tree.Expression) tree.Declarator (Bool × tree.Expressions) (tree.Specifiers × tree.Declarators) tree.Specifiers tree.TypeName → tree.Declarator
 declarator_step declarator = tree.Declared declarator.pointers (name_of declarator.name) declarator.dimensions.value.0 declarator.dimensions.value.1
 
-abbrev pub dimensions_step : Dimensions-F tree.Base tree.Expression (tree.Name × Option tree.Expression) tree.Declarator (Bool × tree.Expressions) (tree.Specifiers × tree.Declarators) tree.Specifiers tree.TypeName → Bool × tree.Expressions
+abbrev pub dimensions_step : Dimensions-F tree.Expression tree.TypeSpecifier (tree.Name × Option tree.Expression) tree.Declarator (Bool × tree.Expressions) (tree.Specifiers × tree.Declarators) tree.Specifiers tree.TypeName → Bool × tree.Expressions
 dimensions_step dimensions = (dimensions.is_open, expressions_of (unboxed dimensions.lengths))
 
-abbrev pub member_step : Member-F tree.Base tree.Expression (tree.Name × Option tree.Expression) tree.Declarator (Bool × tree.Expressions) (tree.Specifiers × tree.Declarators) tree.Specifiers tree.TypeName → tree.Specifiers × tree.Declarators
+abbrev pub member_step : Member-F tree.Expression tree.TypeSpecifier (tree.Name × Option tree.Expression) tree.Declarator (Bool × tree.Expressions) (tree.Specifiers × tree.Declarators) tree.Specifiers tree.TypeName → tree.Specifiers × tree.Declarators
 member_step member = (member.specifiers.value, declarators_of (unboxed member.declarators))
 
-abbrev pub specifiers_step : Specifiers-F tree.Base tree.Expression (tree.Name × Option tree.Expression) tree.Declarator (Bool × tree.Expressions) (tree.Specifiers × tree.Declarators) tree.Specifiers tree.TypeName → tree.Specifiers
-specifiers_step specifiers = tree.Specified (storage_of specifiers.storage) specifiers.base.value specifiers.place
+abbrev pub specifiers_step : Specifiers-F tree.Expression tree.TypeSpecifier (tree.Name × Option tree.Expression) tree.Declarator (Bool × tree.Expressions) (tree.Specifiers × tree.Declarators) tree.Specifiers tree.TypeName → tree.Specifiers
+specifiers_step specifiers = tree.Specified (storage_of specifiers.storage) specifiers.base.value specifiers.offset
 
-abbrev pub type_name_step : TypeName-F tree.Base tree.Expression (tree.Name × Option tree.Expression) tree.Declarator (Bool × tree.Expressions) (tree.Specifiers × tree.Declarators) tree.Specifiers tree.TypeName → tree.TypeName
+abbrev pub type_name_step : TypeName-F tree.Expression tree.TypeSpecifier (tree.Name × Option tree.Expression) tree.Declarator (Bool × tree.Expressions) (tree.Specifiers × tree.Declarators) tree.Specifiers tree.TypeName → tree.TypeName
 type_name_step type = tree.Pointers type.specifiers.value type.pointers
 
-unfoldable pub base_of : Base → tree.Base
-base_of = fold-Base tree.Base tree.Expression (tree.Name × Option tree.Expression) tree.Declarator (Bool × tree.Expressions) (tree.Specifiers × tree.Declarators) tree.Specifiers tree.TypeName base_step expression_step constant_step declarator_step dimensions_step member_step specifiers_step type_name_step
+unfoldable pub type_specifier_of : TypeSpecifier → tree.TypeSpecifier
+type_specifier_of = fold-TypeSpecifier tree.Expression tree.TypeSpecifier (tree.Name × Option tree.Expression) tree.Declarator (Bool × tree.Expressions) (tree.Specifiers × tree.Declarators) tree.Specifiers tree.TypeName expression_step type_specifier_step constant_step declarator_step dimensions_step member_step specifiers_step type_name_step
 
 unfoldable pub expression_of : Expression → tree.Expression
-expression_of = fold-Expression tree.Base tree.Expression (tree.Name × Option tree.Expression) tree.Declarator (Bool × tree.Expressions) (tree.Specifiers × tree.Declarators) tree.Specifiers tree.TypeName base_step expression_step constant_step declarator_step dimensions_step member_step specifiers_step type_name_step
+expression_of = fold-Expression tree.Expression tree.TypeSpecifier (tree.Name × Option tree.Expression) tree.Declarator (Bool × tree.Expressions) (tree.Specifiers × tree.Declarators) tree.Specifiers tree.TypeName expression_step type_specifier_step constant_step declarator_step dimensions_step member_step specifiers_step type_name_step
 
 unfoldable pub constant_of : Constant → tree.Name × Option tree.Expression
-constant_of = fold-Constant tree.Base tree.Expression (tree.Name × Option tree.Expression) tree.Declarator (Bool × tree.Expressions) (tree.Specifiers × tree.Declarators) tree.Specifiers tree.TypeName base_step expression_step constant_step declarator_step dimensions_step member_step specifiers_step type_name_step
+constant_of = fold-Constant tree.Expression tree.TypeSpecifier (tree.Name × Option tree.Expression) tree.Declarator (Bool × tree.Expressions) (tree.Specifiers × tree.Declarators) tree.Specifiers tree.TypeName expression_step type_specifier_step constant_step declarator_step dimensions_step member_step specifiers_step type_name_step
 
 unfoldable pub declarator_of : Declarator → tree.Declarator
-declarator_of = fold-Declarator tree.Base tree.Expression (tree.Name × Option tree.Expression) tree.Declarator (Bool × tree.Expressions) (tree.Specifiers × tree.Declarators) tree.Specifiers tree.TypeName base_step expression_step constant_step declarator_step dimensions_step member_step specifiers_step type_name_step
+declarator_of = fold-Declarator tree.Expression tree.TypeSpecifier (tree.Name × Option tree.Expression) tree.Declarator (Bool × tree.Expressions) (tree.Specifiers × tree.Declarators) tree.Specifiers tree.TypeName expression_step type_specifier_step constant_step declarator_step dimensions_step member_step specifiers_step type_name_step
 
 unfoldable pub dimensions_of : Dimensions → Bool × tree.Expressions
-dimensions_of = fold-Dimensions tree.Base tree.Expression (tree.Name × Option tree.Expression) tree.Declarator (Bool × tree.Expressions) (tree.Specifiers × tree.Declarators) tree.Specifiers tree.TypeName base_step expression_step constant_step declarator_step dimensions_step member_step specifiers_step type_name_step
+dimensions_of = fold-Dimensions tree.Expression tree.TypeSpecifier (tree.Name × Option tree.Expression) tree.Declarator (Bool × tree.Expressions) (tree.Specifiers × tree.Declarators) tree.Specifiers tree.TypeName expression_step type_specifier_step constant_step declarator_step dimensions_step member_step specifiers_step type_name_step
 
 unfoldable pub member_of : Member → tree.Specifiers × tree.Declarators
-member_of = fold-Member tree.Base tree.Expression (tree.Name × Option tree.Expression) tree.Declarator (Bool × tree.Expressions) (tree.Specifiers × tree.Declarators) tree.Specifiers tree.TypeName base_step expression_step constant_step declarator_step dimensions_step member_step specifiers_step type_name_step
+member_of = fold-Member tree.Expression tree.TypeSpecifier (tree.Name × Option tree.Expression) tree.Declarator (Bool × tree.Expressions) (tree.Specifiers × tree.Declarators) tree.Specifiers tree.TypeName expression_step type_specifier_step constant_step declarator_step dimensions_step member_step specifiers_step type_name_step
 
 unfoldable pub specifiers_of : Specifiers → tree.Specifiers
-specifiers_of = fold-Specifiers tree.Base tree.Expression (tree.Name × Option tree.Expression) tree.Declarator (Bool × tree.Expressions) (tree.Specifiers × tree.Declarators) tree.Specifiers tree.TypeName base_step expression_step constant_step declarator_step dimensions_step member_step specifiers_step type_name_step
+specifiers_of = fold-Specifiers tree.Expression tree.TypeSpecifier (tree.Name × Option tree.Expression) tree.Declarator (Bool × tree.Expressions) (tree.Specifiers × tree.Declarators) tree.Specifiers tree.TypeName expression_step type_specifier_step constant_step declarator_step dimensions_step member_step specifiers_step type_name_step
 
 unfoldable pub type_name_of : TypeName → tree.TypeName
-type_name_of = fold-TypeName tree.Base tree.Expression (tree.Name × Option tree.Expression) tree.Declarator (Bool × tree.Expressions) (tree.Specifiers × tree.Declarators) tree.Specifiers tree.TypeName base_step expression_step constant_step declarator_step dimensions_step member_step specifiers_step type_name_step
+type_name_of = fold-TypeName tree.Expression tree.TypeSpecifier (tree.Name × Option tree.Expression) tree.Declarator (Bool × tree.Expressions) (tree.Specifiers × tree.Declarators) tree.Specifiers tree.TypeName expression_step type_specifier_step constant_step declarator_step dimensions_step member_step specifiers_step type_name_step
 
--- what stands in boxes
+-- the values in boxes
 abbrev pub expressions_in : Vec (Box Expression Global) Global → tree.Expressions
 expressions_in boxes = expressions_of (map expression_of (unboxed boxes))
 

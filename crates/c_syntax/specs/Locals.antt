@@ -1,4 +1,4 @@
--- The tree of a declaration of locals, and of what else stands in a statement, without the program's pointers.
+-- The tree of a declaration of locals, and of the other parts of a statement, without the program's pointers.
 use Rattle.std.specs.Prelude.{map}
 use Rattle.std.specs.Option.{option_map}
 use Rattle.c_tree_spec.specs.Unit as tree
@@ -23,5 +23,5 @@ start_of (start.Locals locals) = tree.StartsLocals (locals_of locals.value)
 start_of (start.Simple simple) = tree.StartsSimple (simple_of simple.value)
 
 abbrev pub label_of : Label → tree.Label
-label_of (label.Case value place) = tree.Case (expression_of value.value) place
-label_of (label.Default place) = tree.Default place
+label_of (label.Case value offset) = tree.Case (expression_of value.value) offset
+label_of (label.Default offset) = tree.Default offset

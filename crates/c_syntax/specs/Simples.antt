@@ -16,8 +16,8 @@ value_of (Called call) = tree.Called (call_of call.value)
 value_of (Computed x) = tree.Computed (expression_of x.value)
 
 abbrev pub simple_of : Simple → tree.Simple
-simple_of (Assign target value place) = tree.Assign (expression_of target.value) (value_of value.value) place
-simple_of (AssignBy operator target value place) = tree.AssignBy operator (expression_of target.value) (expression_of value.value) place
-simple_of (StepAfter operator target place) = tree.StepAfter operator (expression_of target.value) place
-simple_of (StepBefore operator target place) = tree.StepBefore operator (expression_of target.value) place
+simple_of (Assign target value offset) = tree.Assign (expression_of target.value) (value_of value.value) offset
+simple_of (AssignBy operator target value offset) = tree.AssignBy operator (expression_of target.value) (expression_of value.value) offset
+simple_of (StepAfter operator target offset) = tree.StepAfter operator (expression_of target.value) offset
+simple_of (StepBefore operator target offset) = tree.StepBefore operator (expression_of target.value) offset
 simple_of (Evaluate value) = tree.Evaluate (value_of value.value)

@@ -12,7 +12,7 @@ use Rattle.c_syntax.specs.declared.statement.Part.TheOpen as open_tree
 use Rattle.c_syntax.specs.declared.statement.Group.{Group, Group-F, fold-Group}
 use Rattle.c_syntax.specs.Locals.{locals_of, start_of, label_of}
 
--- what stands in a block, alone
+-- one part of a block
 pub data Piece : Type 0 where
   Declares : (locals : tree.Locals) → Piece
   States : (statement : tree.Statement) → Piece
@@ -27,25 +27,25 @@ abbrev pub groups_of : List (List tree.Label × tree.Parts) → tree.Groups
 groups_of [] = tree.no_groups
 groups_of (group ∷ rest) = tree.groups group.0 group.1 (groups_of rest)
 
--- one level, with what stands inside already seen as its tree
+-- one level, whose parts are seen as trees already
 abbrev pub part_step : Part-F Piece tree.Statement (List tree.Label × tree.Parts) → Piece
 part_step (open_tree.Locals locals) = Declares (locals_of locals.value)
 part_step (open_tree.Statement statement) = States statement.value
 
 abbrev pub statement_step : Statement-F Piece tree.Statement (List tree.Label × tree.Parts) → tree.Statement
-statement_step (open_tree.Block parts place) = tree.Block (parts_of parts.items) place
-statement_step (open_tree.Empty place) = tree.Empty place
+statement_step (open_tree.Block parts offset) = tree.Block (parts_of parts.items) offset
+statement_step (open_tree.Empty offset) = tree.Empty offset
 statement_step (open_tree.Perform simple) = tree.Perform (simple_of simple.value)
-statement_step (open_tree.Break place) = tree.Break place
-statement_step (open_tree.Continue place) = tree.Continue place
-statement_step (open_tree.Return value place) = tree.Return (option_map (λ x. value_of x.value) value) place
-statement_step (open_tree.If test body place) = tree.If (expression_of test.value) body.value place
-statement_step (open_tree.IfElse test body otherwise place) = tree.IfElse (expression_of test.value) body.value otherwise.value place
-statement_step (open_tree.While test body place) = tree.While (expression_of test.value) body.value place
-statement_step (open_tree.Do body test place) = tree.Do body.value (expression_of test.value) place
-statement_step (open_tree.For start test step body place) =
-    tree.For (start_of start.value) (option_map (λ x. expression_of x.value) test) (option_map (λ x. simple_of x.value) step) body.value place
-statement_step (open_tree.Switch test groups place) = tree.Switch (expression_of test.value) (groups_of (unboxed groups)) place
+statement_step (open_tree.Break offset) = tree.Break offset
+statement_step (open_tree.Continue offset) = tree.Continue offset
+statement_step (open_tree.Return value offset) = tree.Return (option_map (λ x. value_of x.value) value) offset
+statement_step (open_tree.If test body offset) = tree.If (expression_of test.value) body.value offset
+statement_step (open_tree.IfElse test body otherwise offset) = tree.IfElse (expression_of test.value) body.value otherwise.value offset
+statement_step (open_tree.While test body offset) = tree.While (expression_of test.value) body.value offset
+statement_step (open_tree.Do body test offset) = tree.Do body.value (expression_of test.value) offset
+statement_step (open_tree.For start test step body offset) =
+    tree.For (start_of start.value) (option_map (λ x. expression_of x.value) test) (option_map (λ x. simple_of x.value) step) body.value offset
+statement_step (open_tree.Switch test groups offset) = tree.Switch (expression_of test.value) (groups_of (unboxed groups)) offset
 
 abbrev pub group_step : Group-F Piece tree.Statement (List tree.Label × tree.Parts) → List tree.Label × tree.Parts
 group_step group = (map label_of group.labels.items, parts_of group.parts.items)
@@ -59,7 +59,7 @@ part_of = fold-Part Piece tree.Statement (List tree.Label × tree.Parts) part_st
 unfoldable pub group_of : Group → List tree.Label × tree.Parts
 group_of = fold-Group Piece tree.Statement (List tree.Label × tree.Parts) part_step statement_step group_step
 
--- what stands in lists of the program
+-- the trees of lists of the program
 abbrev pub parts_in : Vec Part Global → tree.Parts
 parts_in parts = parts_of (map part_of parts.items)
 

@@ -8,8 +8,8 @@ use Rattle.c_syntax.specs.declared.unit.Parameter.{Parameter}
 use Rattle.c_syntax.specs.declared.unit.FunctionDeclarator.{FunctionDeclarator}
 use Rattle.c_syntax.specs.declared.unit.Global.{Global}
 use Rattle.c_syntax.specs.declared.unit.Global.TheVariants.{Object, Function}
-use Rattle.c_syntax.specs.declared.unit.Item.{Item}
-use Rattle.c_syntax.specs.declared.unit.Item.TheVariants.{Empty, Declaration, Definition}
+use Rattle.c_syntax.specs.declared.unit.ExternalDeclaration.{ExternalDeclaration}
+use Rattle.c_syntax.specs.declared.unit.ExternalDeclaration.TheVariants.{Empty, Declaration, Definition}
 use Rattle.c_syntax.specs.declared.unit.TranslationUnit.{TranslationUnit}
 use Rattle.c_syntax.specs.Statements.{parts_in}
 
@@ -29,10 +29,10 @@ abbrev pub global_of : Global → tree.Global
 global_of (Object declarator) = tree.Object (declarator_of declarator.value)
 global_of (Function declarator) = tree.Function (function_of declarator.value)
 
-abbrev pub item_of : Item → tree.Item
-item_of Empty = tree.EmptyItem
-item_of (Declaration specifiers globals) = tree.Declaration (specifiers_of specifiers.value) (map global_of (unboxed globals))
-item_of (Definition specifiers declarator body) = tree.Definition (specifiers_of specifiers.value) (function_of declarator.value) (parts_in body)
+abbrev pub external_declaration_of : ExternalDeclaration → tree.ExternalDeclaration
+external_declaration_of Empty = tree.EmptyDeclaration
+external_declaration_of (Declaration specifiers globals) = tree.Declaration (specifiers_of specifiers.value) (map global_of (unboxed globals))
+external_declaration_of (Definition specifiers declarator body close) = tree.Definition (specifiers_of specifiers.value) (function_of declarator.value) (parts_in body) close
 
 abbrev pub unit_of : TranslationUnit → tree.TranslationUnit
-unit_of unit = map item_of (unboxed unit.items)
+unit_of unit = map external_declaration_of (unboxed unit.items)

@@ -3,7 +3,11 @@
 ghost use Rattle.std.specs.Prelude.{◌≡◌, IfOk, option_map};
 ghost use Rattle.c_tree_spec.specs.Expression as tree;
 ghost use Rattle.c_syntax.specs.Names.{name_of, storage_of};
-ghost use Rattle.c_syntax.specs.Expressions.{expression_of, type_name_of, specifiers_of, base_of, member_of, constant_of, declarator_of, dimensions_of, expressions_in, declarators_in, members_in, constants_in, value_in};
+ghost use Rattle.c_syntax.specs.Expressions.{expression_of, type_name_of, specifiers_of};
+ghost use Rattle.c_syntax.specs.Expressions.{type_specifier_of};
+ghost use Rattle.c_syntax.specs.Expressions.{member_of, constant_of, declarator_of, dimensions_of};
+ghost use Rattle.c_syntax.specs.Expressions.{expressions_in, declarators_in, members_in};
+ghost use Rattle.c_syntax.specs.Expressions.{constants_in, value_in};
 
 use c_spec::token::NumberType;
 use c_tree_spec::{Access, BinaryOperator, IntegerType, UnaryOperator};
@@ -14,20 +18,20 @@ use std::alloc::{AllocError, Global};
 pub struct Name<'a> {
     /// Its bytes.
     pub spelling: &'a [u8],
-    /// The place of its first byte.
-    pub place: usize,
+    /// The offset of its first byte.
+    pub offset: usize,
 }
 
-/// Which of `typedef` and `static` stand among specifiers.
+/// Which of `typedef` and `static` are among specifiers.
 #[derive(Clone, Copy)]
 pub struct Storage {
-    /// `typedef` stands among them.
+    /// `typedef` is among them.
     pub is_typedef: bool,
-    /// `static` stands among them.
+    /// `static` is among them.
     pub is_static: bool,
 }
 
-/// An expression. The last part of a variant is the place of its operator, or of its first token.
+/// An expression. The last part of a variant is the offset of its operator, or of its first token.
 #[derive(Drop)]
 #[cycle(tree)]
 pub enum Expression<'a> {
@@ -61,9 +65,9 @@ pub enum Expression<'a> {
 #[derive(Drop)]
 #[cycle(tree)]
 pub struct TypeName<'a> {
-    /// What stands before the `*`.
+    /// The specifiers before the `*`.
     pub specifiers: Box<Specifiers<'a>>,
-    /// How many `*` stand.
+    /// How many `*` there are.
     pub pointers: usize,
 }
 
@@ -71,23 +75,23 @@ pub struct TypeName<'a> {
 #[derive(Drop)]
 #[cycle(tree)]
 pub struct Specifiers<'a> {
-    /// The words of storage.
+    /// The storage-class words.
     pub storage: Storage,
-    /// The one base.
-    pub base: Box<Base<'a>>,
-    /// The place of the first word.
-    pub place: usize,
+    /// The type specifier.
+    pub base: Box<TypeSpecifier<'a>>,
+    /// The offset of the first word.
+    pub offset: usize,
 }
 
-/// The base of a type (6.7.2).
+/// A type specifier (6.7.2).
 #[derive(Drop)]
 #[cycle(tree)]
-pub enum Base<'a> {
+pub enum TypeSpecifier<'a> {
     /// `void`
     Void,
     /// An integer type that keywords name.
     Integer(IntegerType),
-    /// A name of a type.
+    /// A typedef name.
     TypedefName(Name<'a>),
     /// `struct tag`
     StructTag(Name<'a>),
@@ -113,7 +117,7 @@ pub struct Member<'a> {
 #[derive(Drop)]
 #[cycle(tree)]
 pub struct Declarator<'a> {
-    /// How many `*` stand before the name.
+    /// How many `*` are before the name.
     pub pointers: usize,
     /// The name.
     pub name: Name<'a>,
@@ -162,33 +166,34 @@ impl<'a> Expression<'a> {
         alloc: Global,
         value: u64,
         of: NumberType,
-        place: usize,
+        offset: usize,
     ) -> Result<Box<Expression<'a>>, AllocError>
-        ensures { IfOk result (λ x. expression_of x.value ≡ tree.Number value of place) }
+        ensures { IfOk result (λ x. expression_of x.value ≡ tree.Number value of offset) }
     {
-        boxed(alloc, Expression::Number(value, of, place))
+        boxed(alloc, Expression::Number(value, of, offset))
     }
 
     /// A character constant.
     pub fn character(
         alloc: Global,
         value: u8,
-        place: usize,
+        offset: usize,
     ) -> Result<Box<Expression<'a>>, AllocError>
-        ensures { IfOk result (λ x. expression_of x.value ≡ tree.Character value place) }
+        ensures { IfOk result (λ x. expression_of x.value ≡ tree.Character value offset) }
     {
-        boxed(alloc, Expression::Character(value, place))
+        boxed(alloc, Expression::Character(value, offset))
     }
 
     /// `(inner)`
     pub fn bracketed(
         alloc: Global,
         inner: Box<Expression<'a>>,
-        place: usize,
+        offset: usize,
     ) -> Result<Box<Expression<'a>>, AllocError>
-        ensures { IfOk result (λ x. expression_of x.value ≡ tree.Bracketed (expression_of inner.entry.value) place) }
+        ensures { IfOk result (λ x. expression_of x.value ≡ tree.Bracketed
+            (expression_of inner.entry.value) offset) }
     {
-        boxed(alloc, Expression::Bracketed(inner, place))
+        boxed(alloc, Expression::Bracketed(inner, offset))
     }
 
     /// `base[index]`
@@ -196,11 +201,12 @@ impl<'a> Expression<'a> {
         alloc: Global,
         base: Box<Expression<'a>>,
         index: Box<Expression<'a>>,
-        place: usize,
+        offset: usize,
     ) -> Result<Box<Expression<'a>>, AllocError>
-        ensures { IfOk result (λ x. expression_of x.value ≡ tree.Index (expression_of base.entry.value) (expression_of index.entry.value) place) }
+        ensures { IfOk result (λ x. expression_of x.value ≡ tree.Index
+            (expression_of base.entry.value) (expression_of index.entry.value) offset) }
     {
-        boxed(alloc, Expression::Index(base, index, place))
+        boxed(alloc, Expression::Index(base, index, offset))
     }
 
     /// `base.member`, `base->member`
@@ -209,11 +215,12 @@ impl<'a> Expression<'a> {
         base: Box<Expression<'a>>,
         access: Access,
         member: Name<'a>,
-        place: usize,
+        offset: usize,
     ) -> Result<Box<Expression<'a>>, AllocError>
-        ensures { IfOk result (λ x. expression_of x.value ≡ tree.Member (expression_of base.entry.value) access (name_of member.entry) place) }
+        ensures { IfOk result (λ x. expression_of x.value ≡ tree.Member
+            (expression_of base.entry.value) access (name_of member.entry) offset) }
     {
-        boxed(alloc, Expression::Member(base, access, member, place))
+        boxed(alloc, Expression::Member(base, access, member, offset))
     }
 
     /// An operator before its operand.
@@ -221,33 +228,36 @@ impl<'a> Expression<'a> {
         alloc: Global,
         operator: UnaryOperator,
         operand: Box<Expression<'a>>,
-        place: usize,
+        offset: usize,
     ) -> Result<Box<Expression<'a>>, AllocError>
-        ensures { IfOk result (λ x. expression_of x.value ≡ tree.Unary operator (expression_of operand.entry.value) place) }
+        ensures { IfOk result (λ x. expression_of x.value ≡ tree.Unary operator
+            (expression_of operand.entry.value) offset) }
     {
-        boxed(alloc, Expression::Unary(operator, operand, place))
+        boxed(alloc, Expression::Unary(operator, operand, offset))
     }
 
     /// `sizeof operand`
     pub fn sizeof(
         alloc: Global,
         operand: Box<Expression<'a>>,
-        place: usize,
+        offset: usize,
     ) -> Result<Box<Expression<'a>>, AllocError>
-        ensures { IfOk result (λ x. expression_of x.value ≡ tree.Sizeof (expression_of operand.entry.value) place) }
+        ensures { IfOk result (λ x. expression_of x.value ≡ tree.Sizeof
+            (expression_of operand.entry.value) offset) }
     {
-        boxed(alloc, Expression::Sizeof(operand, place))
+        boxed(alloc, Expression::Sizeof(operand, offset))
     }
 
     /// `sizeof (type)`
     pub fn sizeof_type(
         alloc: Global,
         of: Box<TypeName<'a>>,
-        place: usize,
+        offset: usize,
     ) -> Result<Box<Expression<'a>>, AllocError>
-        ensures { IfOk result (λ x. expression_of x.value ≡ tree.SizeofType (type_name_of of.entry.value) place) }
+        ensures { IfOk result (λ x. expression_of x.value ≡ tree.SizeofType
+            (type_name_of of.entry.value) offset) }
     {
-        boxed(alloc, Expression::SizeofType(of, place))
+        boxed(alloc, Expression::SizeofType(of, offset))
     }
 
     /// `(type) operand`
@@ -255,11 +265,12 @@ impl<'a> Expression<'a> {
         alloc: Global,
         to: Box<TypeName<'a>>,
         operand: Box<Expression<'a>>,
-        place: usize,
+        offset: usize,
     ) -> Result<Box<Expression<'a>>, AllocError>
-        ensures { IfOk result (λ x. expression_of x.value ≡ tree.Cast (type_name_of to.entry.value) (expression_of operand.entry.value) place) }
+        ensures { IfOk result (λ x. expression_of x.value ≡ tree.Cast (type_name_of to.entry.value)
+            (expression_of operand.entry.value) offset) }
     {
-        boxed(alloc, Expression::Cast(to, operand, place))
+        boxed(alloc, Expression::Cast(to, operand, offset))
     }
 
     /// An operator between its operands.
@@ -268,11 +279,12 @@ impl<'a> Expression<'a> {
         operator: BinaryOperator,
         left: Box<Expression<'a>>,
         right: Box<Expression<'a>>,
-        place: usize,
+        offset: usize,
     ) -> Result<Box<Expression<'a>>, AllocError>
-        ensures { IfOk result (λ x. expression_of x.value ≡ tree.Binary operator (expression_of left.entry.value) (expression_of right.entry.value) place) }
+        ensures { IfOk result (λ x. expression_of x.value ≡ tree.Binary operator
+            (expression_of left.entry.value) (expression_of right.entry.value) offset) }
     {
-        boxed(alloc, Expression::Binary(operator, left, right, place))
+        boxed(alloc, Expression::Binary(operator, left, right, offset))
     }
 
     /// `test ? first : second`
@@ -281,42 +293,45 @@ impl<'a> Expression<'a> {
         test: Box<Expression<'a>>,
         first: Box<Expression<'a>>,
         second: Box<Expression<'a>>,
-        place: usize,
+        offset: usize,
     ) -> Result<Box<Expression<'a>>, AllocError>
-        ensures { IfOk result (λ x. expression_of x.value ≡ tree.Conditional (expression_of test.entry.value) (expression_of first.entry.value) (expression_of second.entry.value) place) }
+        ensures { IfOk result (λ x. expression_of x.value ≡ tree.Conditional (expression_of
+            test.entry.value) (expression_of first.entry.value) (expression_of second.entry.value)
+            offset) }
     {
-        boxed(alloc, Expression::Conditional(test, first, second, place))
+        boxed(alloc, Expression::Conditional(test, first, second, offset))
     }
 }
 
 #[tactic(auto, using(crate::proofs::Views::views))]
-impl<'a> Base<'a> {
+impl<'a> TypeSpecifier<'a> {
     /// `void`
-    pub fn void(alloc: Global) -> Result<Box<Base<'a>>, AllocError>
-        ensures { IfOk result (λ x. base_of x.value ≡ tree.Void) }
+    pub fn void(alloc: Global) -> Result<Box<TypeSpecifier<'a>>, AllocError>
+        ensures { IfOk result (λ x. type_specifier_of x.value ≡ tree.Void) }
     {
-        boxed(alloc, Base::Void)
+        boxed(alloc, TypeSpecifier::Void)
     }
 
     /// An integer type.
-    pub fn integer(alloc: Global, of: IntegerType) -> Result<Box<Base<'a>>, AllocError>
-        ensures { IfOk result (λ x. base_of x.value ≡ tree.Integer of) }
+    pub fn integer(alloc: Global, of: IntegerType) -> Result<Box<TypeSpecifier<'a>>, AllocError>
+        ensures { IfOk result (λ x. type_specifier_of x.value ≡ tree.Integer of) }
     {
-        boxed(alloc, Base::Integer(of))
+        boxed(alloc, TypeSpecifier::Integer(of))
     }
 
     /// A typedef name.
-    pub fn typedef_name(alloc: Global, name: Name<'a>) -> Result<Box<Base<'a>>, AllocError>
-        ensures { IfOk result (λ x. base_of x.value ≡ tree.TypedefName (name_of name.entry)) }
+    pub fn typedef_name(alloc: Global, name: Name<'a>) -> Result<Box<TypeSpecifier<'a>>, AllocError>
+        ensures { IfOk result (λ x. type_specifier_of x.value ≡ tree.TypedefName
+            (name_of name.entry)) }
     {
-        boxed(alloc, Base::TypedefName(name))
+        boxed(alloc, TypeSpecifier::TypedefName(name))
     }
 
     /// `struct tag`
-    pub fn struct_tag(alloc: Global, tag: Name<'a>) -> Result<Box<Base<'a>>, AllocError>
-        ensures { IfOk result (λ x. base_of x.value ≡ tree.StructTag (name_of tag.entry)) }
+    pub fn struct_tag(alloc: Global, tag: Name<'a>) -> Result<Box<TypeSpecifier<'a>>, AllocError>
+        ensures { IfOk result (λ x. type_specifier_of x.value ≡ tree.StructTag (name_of tag.entry)) }
     {
-        boxed(alloc, Base::StructTag(tag))
+        boxed(alloc, TypeSpecifier::StructTag(tag))
     }
 
     /// `struct tag { .. }`
@@ -324,17 +339,18 @@ impl<'a> Base<'a> {
         alloc: Global,
         tag: Option<Name<'a>>,
         members: Vec<Box<Member<'a>>>,
-    ) -> Result<Box<Base<'a>>, AllocError>
-        ensures { IfOk result (λ x. base_of x.value ≡ tree.Struct (option_map name_of tag.entry) (members_in members.entry)) }
+    ) -> Result<Box<TypeSpecifier<'a>>, AllocError>
+        ensures { IfOk result (λ x. type_specifier_of x.value ≡ tree.Struct
+            (option_map name_of tag.entry) (members_in members.entry)) }
     {
-        boxed(alloc, Base::Struct(tag, members))
+        boxed(alloc, TypeSpecifier::Struct(tag, members))
     }
 
     /// `enum tag`
-    pub fn enum_tag(alloc: Global, tag: Name<'a>) -> Result<Box<Base<'a>>, AllocError>
-        ensures { IfOk result (λ x. base_of x.value ≡ tree.EnumTag (name_of tag.entry)) }
+    pub fn enum_tag(alloc: Global, tag: Name<'a>) -> Result<Box<TypeSpecifier<'a>>, AllocError>
+        ensures { IfOk result (λ x. type_specifier_of x.value ≡ tree.EnumTag (name_of tag.entry)) }
     {
-        boxed(alloc, Base::EnumTag(tag))
+        boxed(alloc, TypeSpecifier::EnumTag(tag))
     }
 
     /// `enum tag { .. }`
@@ -342,10 +358,11 @@ impl<'a> Base<'a> {
         alloc: Global,
         tag: Option<Name<'a>>,
         constants: Vec<Box<Constant<'a>>>,
-    ) -> Result<Box<Base<'a>>, AllocError>
-        ensures { IfOk result (λ x. base_of x.value ≡ tree.Enum (option_map name_of tag.entry) (constants_in constants.entry)) }
+    ) -> Result<Box<TypeSpecifier<'a>>, AllocError>
+        ensures { IfOk result (λ x. type_specifier_of x.value ≡ tree.Enum
+            (option_map name_of tag.entry) (constants_in constants.entry)) }
     {
-        boxed(alloc, Base::Enum(tag, constants))
+        boxed(alloc, TypeSpecifier::Enum(tag, constants))
     }
 }
 
@@ -357,7 +374,8 @@ impl<'a> TypeName<'a> {
         specifiers: Box<Specifiers<'a>>,
         pointers: usize,
     ) -> Result<Box<TypeName<'a>>, AllocError>
-        ensures { IfOk result (λ x. type_name_of x.value ≡ tree.Pointers (specifiers_of specifiers.entry.value) pointers) }
+        ensures { IfOk result (λ x. type_name_of x.value ≡ tree.Pointers
+            (specifiers_of specifiers.entry.value) pointers) }
     {
         boxed(
             alloc,
@@ -375,17 +393,18 @@ impl<'a> Specifiers<'a> {
     pub fn new(
         alloc: Global,
         storage: Storage,
-        base: Box<Base<'a>>,
-        place: usize,
+        base: Box<TypeSpecifier<'a>>,
+        offset: usize,
     ) -> Result<Box<Specifiers<'a>>, AllocError>
-        ensures { IfOk result (λ x. specifiers_of x.value ≡ tree.Specified (storage_of storage) (base_of base.entry.value) place) }
+        ensures { IfOk result (λ x. specifiers_of x.value ≡ tree.Specified (storage_of storage)
+            (type_specifier_of base.entry.value) offset) }
     {
         boxed(
             alloc,
             Specifiers {
                 storage,
                 base,
-                place,
+                offset,
             },
         )
     }
@@ -399,7 +418,10 @@ impl<'a> Member<'a> {
         specifiers: Box<Specifiers<'a>>,
         declarators: Vec<Box<Declarator<'a>>>,
     ) -> Result<Box<Member<'a>>, AllocError>
-        ensures { IfOk result (λ x. member_of x.value ≡ (specifiers_of specifiers.entry.value, declarators_in declarators.entry)) }
+        ensures { IfOk result (λ x. member_of x.value ≡ (
+          specifiers_of specifiers.entry.value,
+          declarators_in declarators.entry,
+        )) }
     {
         boxed(
             alloc,
@@ -420,7 +442,9 @@ impl<'a> Declarator<'a> {
         name: Name<'a>,
         dimensions: Box<Dimensions<'a>>,
     ) -> Result<Box<Declarator<'a>>, AllocError>
-        ensures { IfOk result (λ x. declarator_of x.value ≡ tree.Declared pointers (name_of name.entry) (dimensions_of dimensions.entry.value).0 (dimensions_of dimensions.entry.value).1) }
+        ensures { IfOk result (λ x. declarator_of x.value ≡ tree.Declared pointers (name_of
+            name.entry) (dimensions_of dimensions.entry.value).0
+            (dimensions_of dimensions.entry.value).1) }
     {
         boxed(
             alloc,
@@ -455,7 +479,11 @@ impl<'a> Constant<'a> {
         name: Name<'a>,
         value: Option<Box<Expression<'a>>>,
     ) -> Result<Box<Constant<'a>>, AllocError>
-        ensures { IfOk result (λ x. constant_of x.value ≡ (name_of name.entry, value_in value.entry)) }
+        ensures { IfOk result (λ x. constant_of x.value ≡ (
+          name_of name.entry,
+          value_in
+              value.entry,
+        )) }
     {
         boxed(alloc, Constant { name, value })
     }

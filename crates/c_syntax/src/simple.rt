@@ -24,13 +24,13 @@ pub enum Value<'a> {
 /// An expression statement without its semicolon, or a piece of a `for`.
 #[derive(Drop)]
 pub enum Simple<'a> {
-    /// `target = value`, and the place of the operator.
+    /// `target = value`, and the offset of the operator.
     Assign(Box<Expression<'a>>, Box<Value<'a>>, usize),
-    /// `target op= value`, and the place of the operator.
+    /// `target op= value`, and the offset of the operator.
     AssignBy(BinaryOperator, Box<Expression<'a>>, Box<Expression<'a>>, usize),
-    /// `target++`, `target--`, and the place of the operator.
+    /// `target++`, `target--`, and the offset of the operator.
     StepAfter(StepOperator, Box<Expression<'a>>, usize),
-    /// `++target`, `--target`, and the place of the operator.
+    /// `++target`, `--target`, and the offset of the operator.
     StepBefore(StepOperator, Box<Expression<'a>>, usize),
     /// A value that is dropped.
     Evaluate(Box<Value<'a>>),

@@ -1,4 +1,4 @@
-//! Statements (6.8), and the declarations of locals that stand among them (6.7).
+//! Statements (6.8), and the declarations of locals among them (6.7).
 
 ghost use Rattle.std.specs.Prelude.{◌≡◌, IfOk, map};
 ghost use Rattle.std.specs.Option.{option_map};
@@ -6,7 +6,8 @@ ghost use Rattle.c_tree_spec.specs.Unit as tree;
 ghost use Rattle.c_syntax.specs.Expressions.{expression_of};
 ghost use Rattle.c_syntax.specs.Simples.{value_of, simple_of};
 ghost use Rattle.c_syntax.specs.Locals.{start_of, locals_of, label_of};
-ghost use Rattle.c_syntax.specs.Statements.{Declares, States, statement_of, part_of, group_of, parts_in, groups_in};
+ghost use Rattle.c_syntax.specs.Statements.{Declares, States, statement_of, part_of, group_of};
+ghost use Rattle.c_syntax.specs.Statements.{parts_in, groups_in};
 
 use crate::expression::{Declarator, Expression, Specifiers, boxed};
 use crate::simple::{Simple, Value};
@@ -41,7 +42,7 @@ pub enum ForStart<'a> {
     Simple(Box<Simple<'a>>),
 }
 
-/// A label of a `switch`. The last part is the place of its keyword.
+/// A label of a `switch`. The last part is the offset of its keyword.
 #[derive(Drop)]
 pub enum Label<'a> {
     /// `case value:`
@@ -50,7 +51,7 @@ pub enum Label<'a> {
     Default(usize),
 }
 
-/// A statement. The last part of a variant is the place of its first token.
+/// A statement. The last part of a variant is the offset of its first token.
 #[derive(Drop)]
 #[cycle(statements)]
 pub enum Statement<'a> {
@@ -86,7 +87,7 @@ pub enum Statement<'a> {
     Switch(Box<Expression<'a>>, Vec<Box<Group<'a>>>, usize),
 }
 
-/// What stands in a block, or in a group of a `switch`.
+/// A part of a block, or of a group of a `switch`.
 #[derive(Drop)]
 #[cycle(statements)]
 pub enum Part<'a> {
@@ -96,7 +97,8 @@ pub enum Part<'a> {
     Statement(Box<Statement<'a>>),
 }
 
-/// Labels of a `switch`, one at least, and what stands behind them, which only in the last group may be nothing.
+/// Labels of a `switch`, one at least, and the parts after them, which only in the last group
+/// may be none.
 #[derive(Drop)]
 #[cycle(statements)]
 pub struct Group<'a> {
@@ -112,50 +114,52 @@ impl<'a> Statement<'a> {
     pub fn block(
         alloc: Global,
         parts: Vec<Part<'a>>,
-        place: usize,
+        offset: usize,
     ) -> Result<Box<Statement<'a>>, AllocError>
-        ensures { IfOk result (λ x. statement_of x.value ≡ tree.Block (parts_in parts.entry) place) }
+        ensures { IfOk result (λ x. statement_of x.value ≡ tree.Block (parts_in parts.entry) offset) }
     {
-        boxed(alloc, Statement::Block(parts, place))
+        boxed(alloc, Statement::Block(parts, offset))
     }
 
     /// `;`
-    pub fn empty(alloc: Global, place: usize) -> Result<Box<Statement<'a>>, AllocError>
-        ensures { IfOk result (λ x. statement_of x.value ≡ tree.Empty place) }
+    pub fn empty(alloc: Global, offset: usize) -> Result<Box<Statement<'a>>, AllocError>
+        ensures { IfOk result (λ x. statement_of x.value ≡ tree.Empty offset) }
     {
-        boxed(alloc, Statement::Empty(place))
+        boxed(alloc, Statement::Empty(offset))
     }
 
     /// An expression statement.
     pub fn perform(alloc: Global, simple: Box<Simple<'a>>) -> Result<Box<Statement<'a>>, AllocError>
-        ensures { IfOk result (λ x. statement_of x.value ≡ tree.Perform (simple_of simple.entry.value)) }
+        ensures { IfOk result (λ x. statement_of x.value ≡ tree.Perform
+            (simple_of simple.entry.value)) }
     {
         boxed(alloc, Statement::Perform(simple))
     }
 
     /// `break;`
-    pub fn break_at(alloc: Global, place: usize) -> Result<Box<Statement<'a>>, AllocError>
-        ensures { IfOk result (λ x. statement_of x.value ≡ tree.Break place) }
+    pub fn break_at(alloc: Global, offset: usize) -> Result<Box<Statement<'a>>, AllocError>
+        ensures { IfOk result (λ x. statement_of x.value ≡ tree.Break offset) }
     {
-        boxed(alloc, Statement::Break(place))
+        boxed(alloc, Statement::Break(offset))
     }
 
     /// `continue;`
-    pub fn continue_at(alloc: Global, place: usize) -> Result<Box<Statement<'a>>, AllocError>
-        ensures { IfOk result (λ x. statement_of x.value ≡ tree.Continue place) }
+    pub fn continue_at(alloc: Global, offset: usize) -> Result<Box<Statement<'a>>, AllocError>
+        ensures { IfOk result (λ x. statement_of x.value ≡ tree.Continue offset) }
     {
-        boxed(alloc, Statement::Continue(place))
+        boxed(alloc, Statement::Continue(offset))
     }
 
     /// `return;`, `return value;`
     pub fn return_at(
         alloc: Global,
         value: Option<Box<Value<'a>>>,
-        place: usize,
+        offset: usize,
     ) -> Result<Box<Statement<'a>>, AllocError>
-        ensures { IfOk result (λ x. statement_of x.value ≡ tree.Return (option_map (λ v. value_of v.value) value.entry) place) }
+        ensures { IfOk result (λ x. statement_of x.value ≡ tree.Return
+            (option_map (λ v. value_of v.value) value.entry) offset) }
     {
-        boxed(alloc, Statement::Return(value, place))
+        boxed(alloc, Statement::Return(value, offset))
     }
 
     /// `if (test) body`
@@ -163,11 +167,12 @@ impl<'a> Statement<'a> {
         alloc: Global,
         test: Box<Expression<'a>>,
         body: Box<Statement<'a>>,
-        place: usize,
+        offset: usize,
     ) -> Result<Box<Statement<'a>>, AllocError>
-        ensures { IfOk result (λ x. statement_of x.value ≡ tree.If (expression_of test.entry.value) (statement_of body.entry.value) place) }
+        ensures { IfOk result (λ x. statement_of x.value ≡ tree.If (expression_of test.entry.value)
+            (statement_of body.entry.value) offset) }
     {
-        boxed(alloc, Statement::If(test, body, place))
+        boxed(alloc, Statement::If(test, body, offset))
     }
 
     /// `if (test) body else otherwise`
@@ -176,11 +181,13 @@ impl<'a> Statement<'a> {
         test: Box<Expression<'a>>,
         body: Box<Statement<'a>>,
         otherwise: Box<Statement<'a>>,
-        place: usize,
+        offset: usize,
     ) -> Result<Box<Statement<'a>>, AllocError>
-        ensures { IfOk result (λ x. statement_of x.value ≡ tree.IfElse (expression_of test.entry.value) (statement_of body.entry.value) (statement_of otherwise.entry.value) place) }
+        ensures { IfOk result (λ x. statement_of x.value ≡ tree.IfElse (expression_of
+            test.entry.value) (statement_of body.entry.value) (statement_of otherwise.entry.value)
+            offset) }
     {
-        boxed(alloc, Statement::IfElse(test, body, otherwise, place))
+        boxed(alloc, Statement::IfElse(test, body, otherwise, offset))
     }
 
     /// `while (test) body`
@@ -188,11 +195,12 @@ impl<'a> Statement<'a> {
         alloc: Global,
         test: Box<Expression<'a>>,
         body: Box<Statement<'a>>,
-        place: usize,
+        offset: usize,
     ) -> Result<Box<Statement<'a>>, AllocError>
-        ensures { IfOk result (λ x. statement_of x.value ≡ tree.While (expression_of test.entry.value) (statement_of body.entry.value) place) }
+        ensures { IfOk result (λ x. statement_of x.value ≡ tree.While
+            (expression_of test.entry.value) (statement_of body.entry.value) offset) }
     {
-        boxed(alloc, Statement::While(test, body, place))
+        boxed(alloc, Statement::While(test, body, offset))
     }
 
     /// `do body while (test);`
@@ -200,11 +208,12 @@ impl<'a> Statement<'a> {
         alloc: Global,
         body: Box<Statement<'a>>,
         test: Box<Expression<'a>>,
-        place: usize,
+        offset: usize,
     ) -> Result<Box<Statement<'a>>, AllocError>
-        ensures { IfOk result (λ x. statement_of x.value ≡ tree.Do (statement_of body.entry.value) (expression_of test.entry.value) place) }
+        ensures { IfOk result (λ x. statement_of x.value ≡ tree.Do (statement_of body.entry.value)
+            (expression_of test.entry.value) offset) }
     {
-        boxed(alloc, Statement::Do(body, test, place))
+        boxed(alloc, Statement::Do(body, test, offset))
     }
 
     /// `for (start; test; step) body`
@@ -214,11 +223,13 @@ impl<'a> Statement<'a> {
         test: Option<Box<Expression<'a>>>,
         step: Option<Box<Simple<'a>>>,
         body: Box<Statement<'a>>,
-        place: usize,
+        offset: usize,
     ) -> Result<Box<Statement<'a>>, AllocError>
-        ensures { IfOk result (λ x. statement_of x.value ≡ tree.For (start_of start.entry.value) (option_map (λ t. expression_of t.value) test.entry) (option_map (λ t. simple_of t.value) step.entry) (statement_of body.entry.value) place) }
+        ensures { IfOk result (λ x. statement_of x.value ≡ tree.For (start_of start.entry.value)
+            (option_map (λ t. expression_of t.value) test.entry) (option_map
+            (λ t. simple_of t.value) step.entry) (statement_of body.entry.value) offset) }
     {
-        boxed(alloc, Statement::For(start, test, step, body, place))
+        boxed(alloc, Statement::For(start, test, step, body, offset))
     }
 
     /// `switch (test) { .. }`
@@ -226,15 +237,16 @@ impl<'a> Statement<'a> {
         alloc: Global,
         test: Box<Expression<'a>>,
         groups: Vec<Box<Group<'a>>>,
-        place: usize,
+        offset: usize,
     ) -> Result<Box<Statement<'a>>, AllocError>
-        ensures { IfOk result (λ x. statement_of x.value ≡ tree.Switch (expression_of test.entry.value) (groups_in groups.entry) place) }
+        ensures { IfOk result (λ x. statement_of x.value ≡ tree.Switch
+            (expression_of test.entry.value) (groups_in groups.entry) offset) }
     {
-        boxed(alloc, Statement::Switch(test, groups, place))
+        boxed(alloc, Statement::Switch(test, groups, offset))
     }
 }
 
-// What stands in a block or in a group.
+// A part of a block or of a group.
 #[tactic(auto, using(crate::proofs::StatementViews::statement_views))]
 impl<'a> Part<'a> {
     /// A declaration as a part.
@@ -260,7 +272,11 @@ impl<'a> Group<'a> {
         labels: Vec<Label<'a>>,
         parts: Vec<Part<'a>>,
     ) -> Result<Box<Group<'a>>, AllocError>
-        ensures { IfOk result (λ x. group_of x.value ≡ (map label_of labels.entry.items, parts_in parts.entry)) }
+        ensures { IfOk result (λ x. group_of x.value ≡ (
+          map label_of labels.entry.items,
+          parts_in
+              parts.entry,
+        )) }
     {
         boxed(alloc, Group { labels, parts })
     }

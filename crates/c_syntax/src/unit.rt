@@ -1,4 +1,4 @@
-//! Units, their items and what these declare (6.9).
+//! Translation units, their external declarations and what these declare (6.9).
 
 use crate::expression::{Declarator, Dimensions, Name, Specifiers};
 use crate::statement::Part;
@@ -8,7 +8,7 @@ use crate::statement::Part;
 pub struct Parameter<'a> {
     /// Its specifiers.
     pub specifiers: Box<Specifiers<'a>>,
-    /// How many `*` stand before the name.
+    /// How many `*` are before the name.
     pub pointers: usize,
     /// The name, or none.
     pub name: Option<Name<'a>>,
@@ -30,26 +30,26 @@ pub struct FunctionDeclarator<'a> {
 /// What a declaration of the unit declares.
 #[derive(Drop)]
 pub enum Global<'a> {
-    /// An object, or with `typedef` the name of a type.
+    /// An object, or with `typedef` a typedef name.
     Object(Box<Declarator<'a>>),
     /// A function.
     Function(Box<FunctionDeclarator<'a>>),
 }
 
-/// An item of a unit.
+/// An external declaration.
 #[derive(Drop)]
-pub enum Item<'a> {
+pub enum ExternalDeclaration<'a> {
     /// `;`
     Empty,
-    /// A declaration, of no name too. What a global begins with is left out.
+    /// A declaration, which may declare no name. Initial values are left out.
     Declaration(Box<Specifiers<'a>>, Vec<Box<Global<'a>>>),
-    /// A function with its body.
-    Definition(Box<Specifiers<'a>>, Box<FunctionDeclarator<'a>>, Vec<Part<'a>>),
+    /// A function with its body, and the offset of the `}` that closes the body.
+    Definition(Box<Specifiers<'a>>, Box<FunctionDeclarator<'a>>, Vec<Part<'a>>, usize),
 }
 
-/// A source: its items in order.
+/// A translation unit: its external declarations in order.
 #[derive(Drop)]
 pub struct TranslationUnit<'a> {
-    /// The items.
-    pub items: Vec<Box<Item<'a>>>,
+    /// The external declarations.
+    pub items: Vec<Box<ExternalDeclaration<'a>>>,
 }

@@ -9,24 +9,24 @@ use Rattle.c_spec.specs.declared.token.NumberType.{NumberType}
 use Rattle.c_spec.specs.Words.{entry_of}
 use Rattle.c_spec.specs.Numbers.{digit_value, digits_value, is_digit_to, suffixes, type_of, number_to}
 
-abbrev pub value_behind : (base value : ℕ) → List ℕ → ℕ
-value_behind base value digits = fold (λ v digit. base * v + digit_value digit) value digits
+abbrev pub value_after : (base value : ℕ) → List ℕ → ℕ
+value_after base value digits = fold (λ v digit. base * v + digit_value digit) value digits
 
 no_less : (base value : ℕ) → 0 < base → value ≤ base * value
 no_less base value some = grind (arith, common_steps)
 
 -- more digits make no value less
-pub value_behind-grows : (base value : ℕ) (digits : List ℕ) → 0 < base → value ≤ value_behind base value digits
-value_behind-grows base value [] some = omega arith
-value_behind-grows base value (digit ∷ digits) some = let h = value_behind-grows base (base * value + digit_value digit) digits some in omega (arith, no_less base value some)
+pub value_after-grows : (base value : ℕ) (digits : List ℕ) → 0 < base → value ≤ value_after base value digits
+value_after-grows base value [] some = omega arith
+value_after-grows base value (digit ∷ digits) some = let h = value_after-grows base (base * value + digit_value digit) digits some in omega (arith, no_less base value some)
 
 -- with one digit more the value is at least the product
-pub value_behind-digit : (base value i : ℕ) (digits : List ℕ) → 0 < base → i < length digits → base * value + digit_value (get_or digits i 0) ≤ value_behind base value (drop i digits)
-value_behind-digit base value i digits some h = rw (drop-cons digits i 0 h) (value_behind-grows base (base * value + digit_value (get_or digits i 0)) (drop (suc i) digits) some)
+pub value_after-digit : (base value i : ℕ) (digits : List ℕ) → 0 < base → i < length digits → base * value + digit_value (get_or digits i 0) ≤ value_after base value (drop i digits)
+value_after-digit base value i digits some h = rw (drop-cons digits i 0 h) (value_after-grows base (base * value + digit_value (get_or digits i 0)) (drop (suc i) digits) some)
 
 -- where the product with one digit more is too large, so is the value of all digits
-pub product_fits : (base value i total : ℕ) (digits : List ℕ) → 0 < base → i < length digits → value_behind base value (drop i digits) ≡ total → total < 2 ^ 64 → value * base + digit_value (get_or digits i 0) < 2 ^ 64
-product_fits base value i total digits some h e small = let g = value_behind-digit base value i digits some h in let m : value * base ≡ base * value = mul_comm value base in omega arith
+pub product_fits : (base value i total : ℕ) (digits : List ℕ) → 0 < base → i < length digits → value_after base value (drop i digits) ≡ total → total < 2 ^ 64 → value * base + digit_value (get_or digits i 0) < 2 ^ 64
+product_fits base value i total digits some h e small = let g = value_after-digit base value i digits some h in let m : value * base ≡ base * value = mul_comm value base in omega arith
 
 -- digits and a suffix, put together
 put_together : {S V : Type 0} (none : Bool) (suffix : Option S) (make : S → Option V) (s : S) (v : V) → none ≡ false → suffix ≡ Some s → make s ≡ Some v → cond none None (option_and_then make suffix) ≡ Some v

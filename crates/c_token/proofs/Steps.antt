@@ -6,12 +6,12 @@ use Rattle.c_spec.specs.Lexical.{Token, Placed, Blank, Lexeme, Fault, first_piec
 abbrev pub Outcome : Type 0
 Outcome = Result (List Placed) (TokenFaultKind × ℕ)
 
--- some tokens in front of an outcome
+-- some tokens before those of an outcome
 abbrev pub with_tokens : List Placed → Outcome → Outcome
 with_tokens placed (Ok tokens) = Ok (placed ++ tokens)
 with_tokens placed (Err stop) = Err stop
 
--- what stands at an offset goes on with what was read before it
+-- the outcome at an offset continues what was read before it
 pub record GoesOn (whole : List ℕ) (placed : List Placed) (fresh : Bool) (offset : ℕ) (rest : List ℕ) : Type 0 where
   pub on : (outcome : Outcome) → Lexes fresh offset rest outcome → Lexes true 0 whole (with_tokens placed outcome)
 
@@ -26,12 +26,12 @@ one_more : (placed : List Placed) (token : Placed) (outcome : Outcome) → with_
 one_more placed token (Ok tokens) = ap (λ t. Ok t) (sym (append_assoc placed (token ∷ []) tokens))
 one_more placed token (Err f) = refl
 
-pub behind_blank : {whole : List ℕ} {placed : List Placed} {fresh : Bool} {offset : ℕ} {rest : List ℕ} (byte : ℕ) (text : List ℕ) (count : ℕ) (after : Bool) → GoesOn whole placed fresh offset rest → rest ≡ byte ∷ text → first_piece fresh byte text ≡ Blank count after → GoesOn whole placed after (offset + count) (drop count rest)
-behind_blank {fresh = fresh} {offset = offset} byte text count after before cut piece =
+pub after_blank : {whole : List ℕ} {placed : List Placed} {fresh : Bool} {offset : ℕ} {rest : List ℕ} (byte : ℕ) (text : List ℕ) (count : ℕ) (after : Bool) → GoesOn whole placed fresh offset rest → rest ≡ byte ∷ text → first_piece fresh byte text ≡ Blank count after → GoesOn whole placed after (offset + count) (drop count rest)
+after_blank {fresh = fresh} {offset = offset} byte text count after before cut piece =
     record { on = λ outcome h. before.on outcome (subst (λ t. Lexes fresh offset t outcome) (sym cut) (blank fresh after offset byte text count outcome piece (subst (λ t. Lexes after (offset + count) (drop count t) outcome) cut h))) }
 
-pub behind_token : {whole : List ℕ} {placed : List Placed} {fresh : Bool} {offset : ℕ} {rest : List ℕ} (byte : ℕ) (text : List ℕ) (token : Token) (count : ℕ) → GoesOn whole placed fresh offset rest → rest ≡ byte ∷ text → first_piece fresh byte text ≡ Lexeme token count → GoesOn whole (placed ++ record { token = token; offset = offset } ∷ []) false (offset + count) (drop count rest)
-behind_token {whole = whole} {placed = placed} {fresh = fresh} {offset = offset} byte text token count before cut piece =
+pub after_token : {whole : List ℕ} {placed : List Placed} {fresh : Bool} {offset : ℕ} {rest : List ℕ} (byte : ℕ) (text : List ℕ) (token : Token) (count : ℕ) → GoesOn whole placed fresh offset rest → rest ≡ byte ∷ text → first_piece fresh byte text ≡ Lexeme token count → GoesOn whole (placed ++ record { token = token; offset = offset } ∷ []) false (offset + count) (drop count rest)
+after_token {whole = whole} {placed = placed} {fresh = fresh} {offset = offset} byte text token count before cut piece =
     let placed_here : Placed = record { token = token; offset = offset } in
     record {
       on = λ outcome h. subst (Lexes true 0 whole) (one_more placed placed_here outcome)

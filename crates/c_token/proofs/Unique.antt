@@ -5,29 +5,29 @@ use Rattle.c_spec.specs.Lexical.{Token, Placed, Blank, Lexeme, Fault, first_piec
 use Rattle.c_token.proofs.Steps.{Outcome}
 
 -- what follows a blank, whatever the outcome
-behind : (fresh after : Bool) (offset byte : ℕ) (text : List ℕ) (count : ℕ) (outcome : Outcome) → first_piece fresh byte text ≡ Blank count after → Lexes fresh offset (byte ∷ text) outcome → Lexes after (offset + count) (drop count (byte ∷ text)) outcome
-behind fresh after offset byte text count outcome e (blank f a o b t n r e' more) =
+following : (fresh after : Bool) (offset byte : ℕ) (text : List ℕ) (count : ℕ) (outcome : Outcome) → first_piece fresh byte text ≡ Blank count after → Lexes fresh offset (byte ∷ text) outcome → Lexes after (offset + count) (drop count (byte ∷ text)) outcome
+following fresh after offset byte text count outcome e (blank f a o b t n r e' more) =
     let p : Blank n a ≡ Blank count after = sym e' ∙ e in
     let h1 : n ≡ count = cc in
     let h2 : a ≡ after = cc in
     subst (λ k. Lexes after (offset + k) (drop k (byte ∷ text)) outcome) h1 (subst (λ v. Lexes v (offset + n) (drop n (byte ∷ text)) outcome) h2 more)
-behind fresh after offset byte text count outcome e (lexeme f o b t token n r e' more) = absurd (cc)
-behind fresh after offset byte text count outcome e (fault f o b t kind e') = absurd (cc)
+following fresh after offset byte text count outcome e (lexeme f o b t token n r e' more) = absurd (cc)
+following fresh after offset byte text count outcome e (fault f o b t kind e') = absurd (cc)
 
 -- what follows a token
-record Behind (offset byte : ℕ) (text : List ℕ) (token : Token) (count : ℕ) (outcome : Outcome) : Type 0 where
+record Following (offset byte : ℕ) (text : List ℕ) (token : Token) (count : ℕ) (outcome : Outcome) : Type 0 where
   more : Outcome
   rest : Lexes false (offset + count) (drop count (byte ∷ text)) more
   is : outcome ≡ with_token (record { token = token; offset = offset }) more
 
-behind_token : (fresh : Bool) (offset byte : ℕ) (text : List ℕ) (token : Token) (count : ℕ) (outcome : Outcome) → first_piece fresh byte text ≡ Lexeme token count → Lexes fresh offset (byte ∷ text) outcome → Behind offset byte text token count outcome
-behind_token fresh offset byte text token count outcome e (blank f a o b t n r e' more) = absurd (cc)
-behind_token fresh offset byte text token count outcome e (lexeme f o b t other n r e' more) =
+after_token : (fresh : Bool) (offset byte : ℕ) (text : List ℕ) (token : Token) (count : ℕ) (outcome : Outcome) → first_piece fresh byte text ≡ Lexeme token count → Lexes fresh offset (byte ∷ text) outcome → Following offset byte text token count outcome
+after_token fresh offset byte text token count outcome e (blank f a o b t n r e' more) = absurd (cc)
+after_token fresh offset byte text token count outcome e (lexeme f o b t other n r e' more) =
     let p : Lexeme other n ≡ Lexeme token count = sym e' ∙ e in
     let h1 : n ≡ count = cc in
     let h2 : other ≡ token = cc in
     record { more = r; rest = subst (λ k. Lexes false (offset + k) (drop k (byte ∷ text)) r) h1 more; is = ap (λ v. with_token (record { token = v; offset = offset }) r) h2 }
-behind_token fresh offset byte text token count outcome e (fault f o b t kind e') = absurd (cc)
+after_token fresh offset byte text token count outcome e (fault f o b t kind e') = absurd (cc)
 
 at_fault : (fresh : Bool) (offset byte : ℕ) (text : List ℕ) (kind : TokenFaultKind) (outcome : Outcome) → first_piece fresh byte text ≡ Fault kind → Lexes fresh offset (byte ∷ text) outcome → outcome ≡ Err (kind, offset)
 at_fault fresh offset byte text kind outcome e (blank f a o b t n r e' more) = absurd (cc)
@@ -40,9 +40,9 @@ at_end fresh offset outcome (ended f o) = refl
 pub Lexes-unique : (fresh : Bool) (offset : ℕ) (text : List ℕ) (one two : Outcome) → Lexes fresh offset text one → Lexes fresh offset text two → one ≡ two
 Lexes-unique fresh offset text one two (ended f o) other = sym (at_end fresh offset two other)
 Lexes-unique fresh offset text one two (blank f after o byte t count r e more) other =
-    Lexes-unique after (offset + count) (drop count (byte ∷ t)) one two more (behind fresh after offset byte t count two e other)
+    Lexes-unique after (offset + count) (drop count (byte ∷ t)) one two more (following fresh after offset byte t count two e other)
 Lexes-unique fresh offset text one two (lexeme f o byte t token count r e more) other =
-    let b = behind_token fresh offset byte t token count two e other in
+    let b = after_token fresh offset byte t token count two e other in
     ap (with_token (record { token = token; offset = offset })) (Lexes-unique false (offset + count) (drop count (byte ∷ t)) r b.more more b.rest) ∙ sym b.is
 Lexes-unique fresh offset text one two (fault f o byte t kind e) other = sym (at_fault fresh offset byte t kind two e other)
 

@@ -1,4 +1,4 @@
--- What the program's tokens and pieces stand for.
+-- The tokens and pieces of the definition that the program's are.
 use Rattle.std.specs.Prelude.{ℕ}
 use Rattle.c_spec.specs.Lexical.{Token, Name, Word, Number, Character, Mark, Placed, Piece, Blank, Lexeme, Fault}
 use Rattle.c_token.specs.declared.Kind.{Kind}
@@ -15,7 +15,7 @@ token_of (a_number value type) = Number value type
 token_of (a_character value) = Character value
 token_of (a_mark punctuator) = Mark punctuator
 
--- the token at its place
+-- the token with its offset
 abbrev pub placed_of : TokenRow → Placed
 placed_of token = record { token = token_of token.kind; offset = token.offset }
 
@@ -25,7 +25,7 @@ piece_of (a_blank count fresh) = Blank count fresh
 piece_of (a_lexeme kind count) = Lexeme (token_of kind) count
 piece_of (a_fault kind) = Fault kind
 
--- how many bytes a piece has; a fault has the byte where it stands
+-- how many bytes a piece has; a fault has one
 abbrev pub count_of : PieceRow → ℕ
 count_of (a_blank count fresh) = count
 count_of (a_lexeme kind count) = count

@@ -2,7 +2,8 @@
 
 ghost use Rattle.std.specs.Prelude.{◌≡◌, ◌≤◌, length, IfSome};
 ghost use Rattle.std.specs.List.{prefix_len};
-ghost use Rattle.c_spec.specs.Blanks.{is_blank_in_line, is_blank_byte, line_len, close_len, is_marker};
+ghost use Rattle.c_spec.specs.Blanks.{is_blank_in_line, is_blank_byte, line_len, close_len};
+ghost use Rattle.c_spec.specs.Blanks.{is_marker};
 
 /// Whether a byte is blank and ends no line.
 fn is_blank_in_line(byte: u8) -> bool
@@ -18,7 +19,7 @@ pub fn is_blank_byte(byte: u8) -> bool
     is_blank_in_line(byte) || byte == b'\n'
 }
 
-/// How many bytes stand before the end of the line.
+/// How many bytes are before the end of the line.
 #[tactic(auto, using(crate::proofs::Fronts::fronts))]
 pub fn line_len(text: &[u8]) -> usize
     ensures count { result ≡ line_len text.now }
@@ -52,7 +53,7 @@ fn count_blanks(text: &[u8]) -> usize
         .count()
 }
 
-/// Whether blanks and a digit stand behind the `#` of a line marker.
+/// Whether blanks and a digit follow the `#`, as in a line marker.
 pub fn is_marker(text: &[u8]) -> bool
     ensures { result ≡ is_marker text.now }
 {

@@ -41,7 +41,7 @@ fn digits_of(base: u8, most: usize, text: &[u8]) -> Option<(u8, usize)>
     Some((value as u8, count))
 }
 
-/// The value of what stands behind a backslash, and how many bytes it has.
+/// The value of what follows a backslash, and how many bytes it has.
 fn escaped(text: &[u8]) -> Option<(u8, usize)>
     ensures value { result ≡ escaped text.now }
     ensures within { IfSome result (λ found. found.1 ≤ length text.now) }
@@ -60,7 +60,7 @@ fn escaped(text: &[u8]) -> Option<(u8, usize)>
     }
 }
 
-/// The value of what stands between the quotes, and how many bytes it has.
+/// The value of what is between the quotes, and how many bytes it has.
 fn element_of(text: &[u8]) -> Option<(u8, usize)>
     ensures value { result ≡ element_of text.now }
     ensures within { IfSome result (λ found. found.1 ≤ length text.now) }

@@ -1,8 +1,8 @@
 //! The tokens of a C text.
 //!
-//! The main type is [`Token`], which borrows its bytes from the text. [`tokens`] has the crate's contract:
-//! it gives exactly the tokens of a text by longest match, or the first fault with its place. What these are
-//! is defined in `c_spec`'s `specs/Lexical.antt`.
+//! The main type is [`Token`], which borrows its bytes from the text. [`tokens`] has the crate's
+//! contract: it gives exactly the tokens of a text by longest match, or the first fault with its
+//! offset. What these are is defined in `c_spec`'s `specs/Lexical.antt`.
 #![tactic(auto)]
 
 ghost use Rattle.std.specs.Prelude.{◌≡◌, IfOk, IfErr, List, map};
@@ -21,7 +21,7 @@ use piece::{Piece, first_piece};
 use std::alloc::{AllocFailed, Global};
 
 /// What a token is.
-#[derive(Clone, Copy, Debug, PartialEq, Eq)]
+#[derive(Clone, Copy)]
 pub enum Kind<'a> {
     /// A name, with its bytes.
     Name(&'a [u8]),
@@ -36,29 +36,29 @@ pub enum Kind<'a> {
 }
 
 /// A token.
-#[derive(Clone, Copy, Debug, PartialEq, Eq)]
+#[derive(Clone, Copy)]
 pub struct Token<'a> {
     /// What it is.
     pub kind: Kind<'a>,
-    /// The place of its first byte, in bytes from the front of the text.
+    /// The offset of its first byte, in bytes from the start of the text.
     pub offset: usize,
 }
 
 /// Where and why a text has no tokens.
-#[derive(Clone, Copy, Debug, PartialEq, Eq)]
+#[derive(Clone, Copy)]
 pub struct TokenFault {
     /// Why.
     pub kind: TokenFaultKind,
-    /// The place, in bytes from the front of the text.
+    /// The offset, in bytes from the start of the text.
     pub offset: usize,
 }
 
 /// Why a text's tokens were not read.
-#[derive(Clone, Copy, Debug, PartialEq, Eq)]
+#[derive(Clone, Copy)]
 pub enum TokenError {
     /// The text has no tokens: its first fault.
     Fault(TokenFault),
-    /// There was no memory.
+    /// Out of memory.
     NoMemory,
 }
 
@@ -72,13 +72,16 @@ impl From<AllocFailed<Token<'_>>> for TokenError {
     }
 }
 
-/// The tokens of a text, in order, in work linear in its bytes; or its first fault. It refuses a byte that
-/// begins no token, a number or a character constant that is none, and a comment that is not closed.
+/// The tokens of a text, in order, in work linear in its bytes; or its first fault. It refuses a
+/// byte that begins no token, a number or a character constant that is none, and a comment that is
+/// not closed.
 pub fn tokens<'a>(alloc: Global, text: &'a [u8]) -> Result<Vec<Token<'a>>, TokenError>
     ensures found { IfOk result (λ tokens. AreTokens text.now (map placed_of tokens.items)) }
-    ensures same { IfOk result (λ tokens. (placed : List Placed) → AreTokens text.now placed → placed ≡ map placed_of tokens.items) }
+    ensures same { IfOk result (λ tokens. (placed : List Placed) → AreTokens text.now placed →
+        placed ≡ map placed_of tokens.items) }
     ensures fault { IfErr result (λ error. IsFaultOf text.now error) }
-    ensures only { IfErr result (λ error. (placed : List Placed) → AreTokens text.now placed → error ≡ TokenError.NoMemory) }
+    ensures only { IfErr result (λ error. (placed : List Placed) → AreTokens text.now placed → error
+        ≡ TokenError.NoMemory) }
 {
     let mut tokens = Vec::new(alloc);
     let mut offset = 0;

@@ -3,7 +3,8 @@
 ghost use Rattle.std.specs.Prelude.{◌≡◌, ◌≤◌, ◌<◌, ◌^◌, length, SomeIff};
 ghost use Rattle.std.specs.List.{prefix_len};
 ghost use Rattle.c_spec.specs.Words.{entry_of};
-ghost use Rattle.c_spec.specs.Numbers.{goes_on, number_len, is_digit_to, digit_value, digits_value, suffixes, type_of, number_to, number_of};
+ghost use Rattle.c_spec.specs.Numbers.{goes_on, number_len, is_digit_to, digit_value, digits_value};
+ghost use Rattle.c_spec.specs.Numbers.{suffixes, type_of, number_to, number_of};
 
 use crate::word::{entry_of, is_word_byte};
 use c_spec::token::{NumberType, Suffix};
@@ -55,7 +56,7 @@ static SUFFIXES: [(&[u8], Suffix); 23] = [
     (b"LLU", UNSIGNED_LONG_LONG),
 ];
 
-/// Whether a byte goes on with a number behind another.
+/// Whether a byte continues a number after another byte of it.
 fn goes_on(before: u8, byte: u8) -> bool
     ensures { result ≡ goes_on before byte }
 {
@@ -64,7 +65,7 @@ fn goes_on(before: u8, byte: u8) -> bool
         || (matches!(before, b'e' | b'E' | b'p' | b'P') && matches!(byte, b'+' | b'-'))
 }
 
-/// How many bytes of a text go on with a number, behind a byte of it.
+/// How many bytes of a text continue a number, after a byte of it.
 pub fn number_len(before: u8, text: &[u8]) -> usize
     ensures count { result ≡ number_len before text.now }
     ensures within { result ≤ length text.now }

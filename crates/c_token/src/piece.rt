@@ -3,7 +3,8 @@
 ghost use Rattle.std.specs.Prelude.{◌≡◌, ◌≤◌, ◌<◌, ◌+◌, ◌∷◌, length, Some};
 ghost use Rattle.std.specs.List.{prefix_len};
 ghost use Rattle.c_spec.specs.Words.{is_word_byte};
-ghost use Rattle.c_spec.specs.Lexical.{first_piece, word_piece, number_piece, character_piece, comment_piece, mark_piece};
+ghost use Rattle.c_spec.specs.Lexical.{first_piece, word_piece, number_piece, character_piece};
+ghost use Rattle.c_spec.specs.Lexical.{comment_piece, mark_piece};
 ghost use Rattle.c_token.specs.Pieces.{piece_of, count_of};
 
 use crate::Kind;
@@ -14,9 +15,9 @@ use crate::word::{begins_word, keyword_of, punctuator_of, word_len};
 use c_spec::token::TokenFaultKind;
 
 /// What a text begins with, and how many bytes it has.
-#[derive(Clone, Copy, Debug)]
+#[derive(Clone, Copy)]
 pub enum Piece<'a> {
-    /// Blank space of so many bytes, and whether nothing but blank bytes then stands in the line.
+    /// Blank space of so many bytes, and whether the line has only blank bytes up to there.
     Blank(usize, bool),
     /// A token of so many bytes.
     Lexeme(Kind<'a>, usize),
@@ -38,7 +39,7 @@ fn word_piece<'a>(text: &'a [u8]) -> Piece<'a>
     }
 }
 
-/// A number, behind its first digit.
+/// A number after its first digit.
 fn number_piece<'a>(first: u8, text: &'a [u8], rest: &[u8]) -> Piece<'a>
     requires { text.now ≡ first ∷ rest.now }
     ensures piece { piece_of result ≡ number_piece first rest.now }
@@ -53,7 +54,7 @@ fn number_piece<'a>(first: u8, text: &'a [u8], rest: &[u8]) -> Piece<'a>
     }
 }
 
-/// A character constant, behind its first quote.
+/// A character constant after its first quote.
 fn character_piece<'a>(rest: &[u8]) -> Piece<'a>
     ensures piece { piece_of result ≡ character_piece rest.now }
     ensures within { count_of result ≤ length rest.now + 1 }
@@ -92,7 +93,7 @@ fn mark_piece<'a>(text: &[u8]) -> Piece<'a>
     }
 }
 
-/// What a text begins with; `fresh` says that nothing but blank bytes stands before it in its line.
+/// What a text begins with; `fresh` says that only blank bytes are before it in its line.
 #[tactic(auto, unfolding(c_spec::specs::Lexical::first_piece))]
 pub fn first_piece<'a>(fresh: bool, first: u8, rest: &[u8], text: &'a [u8]) -> Piece<'a>
     requires { text.now ≡ first ∷ rest.now }

@@ -3,7 +3,7 @@
 ghost use Rattle.std.specs.Prelude.{◌≡◌, ◌<◌, ◌≤◌, length, option_map, map, IfSome};
 ghost use Rattle.std.specs.List.{prefix_len};
 ghost use Rattle.c_spec.specs.Words.{is_word_byte, begins_word, entry_of, keyword_of};
-ghost use Rattle.c_spec.specs.Punctuators.{front_of, punctuator_of};
+ghost use Rattle.c_spec.specs.Punctuators.{prefix_entry, punctuator_of};
 ghost use Rattle.c_token.specs.Tables.{spelled, measured};
 
 use c_spec::token::{Keyword, Punctuator};
@@ -110,7 +110,7 @@ static PUNCTUATORS: [(&[u8], Punctuator); 46] = [
     (b",", Punctuator::Comma),
 ];
 
-/// Whether a byte stands in words.
+/// Whether a byte occurs in words.
 pub fn is_word_byte(byte: u8) -> bool
     ensures { result ≡ is_word_byte byte }
 {
@@ -155,7 +155,7 @@ pub fn keyword_of(word: &[u8]) -> Option<Keyword>
 
 /// The first punctuator of a table that a text begins with, and how many bytes it has.
 fn find_front(table: &[(&[u8], Punctuator)], text: &[u8]) -> Option<(Punctuator, usize)>
-    ensures front { result ≡ option_map measured (front_of (map spelled table.now) text.now) }
+    ensures front { result ≡ option_map measured (prefix_entry (map spelled table.now) text.now) }
     ensures within { IfSome result (λ front. front.1 ≤ length text.now) }
 {
     for entry in table {

@@ -1,5 +1,5 @@
--- Expressions and types as trees (ISO C11, 6.5 to 6.7). Brackets stay in the tree. The place of a node is
--- that of its operator, or of its first token where it has none, in bytes from the front of the text.
+-- Expressions and types as trees (ISO C11, 6.5 to 6.7). Brackets stay in the tree. The offset of a node is
+-- that of its operator, or of its first token where it has none, in bytes from the start of the text.
 use Rattle.std.specs.Prelude.{ℕ, Bool, List, Option}
 use Rattle.c_spec.specs.declared.token.NumberType.{NumberType}
 use Rattle.c_tree_spec.specs.declared.BinaryOperator.{BinaryOperator}
@@ -7,12 +7,12 @@ use Rattle.c_tree_spec.specs.declared.UnaryOperator.{UnaryOperator}
 use Rattle.c_tree_spec.specs.declared.Access.{Access}
 use Rattle.c_tree_spec.specs.declared.IntegerType.{IntegerType}
 
--- a name, and the place of its first byte
+-- a name, and the offset of its first byte
 pub record Name : Type 0 where
   pub spelling : List ℕ
-  pub place : ℕ
+  pub offset : ℕ
 
--- which of `typedef` and `static` stand among the specifiers; the other words carry no meaning
+-- which of `typedef` and `static` are among the specifiers; the others carry no meaning here
 pub record Storage : Type 0 where
   pub is_typedef : Bool
   pub is_static : Bool
@@ -20,44 +20,44 @@ pub record Storage : Type 0 where
 mutual
   pub data Expression : Type 0 where
     Named : (name : Name) → Expression
-    Number : (value : ℕ) → (type : NumberType) → (place : ℕ) → Expression
+    Number : (value : ℕ) → (type : NumberType) → (offset : ℕ) → Expression
     -- a character constant; its type is int
-    Character : (value : ℕ) → (place : ℕ) → Expression
-    -- what stands in brackets
-    Bracketed : (inner : Expression) → (place : ℕ) → Expression
+    Character : (value : ℕ) → (offset : ℕ) → Expression
+    -- an expression in brackets
+    Bracketed : (inner : Expression) → (offset : ℕ) → Expression
     -- `base[index]`
-    Index : (base index : Expression) → (place : ℕ) → Expression
+    Index : (base index : Expression) → (offset : ℕ) → Expression
     -- `base.member`, `base->member`
-    Member : (base : Expression) → (access : Access) → (member : Name) → (place : ℕ) → Expression
-    Unary : (operator : UnaryOperator) → (operand : Expression) → (place : ℕ) → Expression
+    Member : (base : Expression) → (access : Access) → (member : Name) → (offset : ℕ) → Expression
+    Unary : (operator : UnaryOperator) → (operand : Expression) → (offset : ℕ) → Expression
     -- `sizeof operand`
-    Sizeof : (operand : Expression) → (place : ℕ) → Expression
+    Sizeof : (operand : Expression) → (offset : ℕ) → Expression
     -- `sizeof (type)`
-    SizeofType : (type : TypeName) → (place : ℕ) → Expression
+    SizeofType : (type : TypeName) → (offset : ℕ) → Expression
     -- `(type) operand`
-    Cast : (type : TypeName) → (operand : Expression) → (place : ℕ) → Expression
-    Binary : (operator : BinaryOperator) → (left right : Expression) → (place : ℕ) → Expression
+    Cast : (type : TypeName) → (operand : Expression) → (offset : ℕ) → Expression
+    Binary : (operator : BinaryOperator) → (left right : Expression) → (offset : ℕ) → Expression
     -- `test ? then : otherwise`
-    Conditional : (test first second : Expression) → (place : ℕ) → Expression
+    Conditional : (test first second : Expression) → (offset : ℕ) → Expression
 
-  -- specifiers, and so many `*` behind them
+  -- specifiers, followed by so many `*`
   pub data TypeName : Type 0 where
     Pointers : (specifiers : Specifiers) → (pointers : ℕ) → TypeName
 
-  -- the place is that of the first word
+  -- the offset is that of the first token
   pub data Specifiers : Type 0 where
-    Specified : (storage : Storage) → (base : Base) → (place : ℕ) → Specifiers
+    Specified : (storage : Storage) → (base : TypeSpecifier) → (offset : ℕ) → Specifiers
 
-  pub data Base : Type 0 where
-    Void : Base
-    Integer : (type : IntegerType) → Base
-    TypedefName : (name : Name) → Base
+  pub data TypeSpecifier : Type 0 where
+    Void : TypeSpecifier
+    Integer : (type : IntegerType) → TypeSpecifier
+    TypedefName : (name : Name) → TypeSpecifier
     -- `struct tag`
-    StructTag : (tag : Name) → Base
-    Struct : (tag : Option Name) → (members : Members) → Base
+    StructTag : (tag : Name) → TypeSpecifier
+    Struct : (tag : Option Name) → (members : Members) → TypeSpecifier
     -- `enum tag`
-    EnumTag : (tag : Name) → Base
-    Enum : (tag : Option Name) → (constants : Constants) → Base
+    EnumTag : (tag : Name) → TypeSpecifier
+    Enum : (tag : Option Name) → (constants : Constants) → TypeSpecifier
 
   -- a list of declarations of members
   pub data Members : Type 0 where
@@ -68,7 +68,7 @@ mutual
     no_declarators : Declarators
     declarators : (declarator : Declarator) → (rest : Declarators) → Declarators
 
-  -- so many `*`, the name, and the lengths of an array: of an open one the first is left out
+  -- so many `*`, the name, and the lengths of an array, of which an open array lacks the first
   pub data Declarator : Type 0 where
     Declared : (pointers : ℕ) → (name : Name) → (is_open : Bool) → (lengths : Expressions) → Declarator
 

@@ -16,16 +16,16 @@ pub data Value : Type 0 where
 
 -- an expression statement without its semicolon, or a piece of a `for`
 pub data Simple : Type 0 where
-  Assign : (target : Expression) → (value : Value) → (place : ℕ) → Simple
+  Assign : (target : Expression) → (value : Value) → (offset : ℕ) → Simple
   -- `target op= value`
-  AssignBy : (operator : BinaryOperator) → (target value : Expression) → (place : ℕ) → Simple
+  AssignBy : (operator : BinaryOperator) → (target value : Expression) → (offset : ℕ) → Simple
   -- `target++`, `target--`
-  StepAfter : (operator : StepOperator) → (target : Expression) → (place : ℕ) → Simple
+  StepAfter : (operator : StepOperator) → (target : Expression) → (offset : ℕ) → Simple
   -- `++target`, `--target`
-  StepBefore : (operator : StepOperator) → (target : Expression) → (place : ℕ) → Simple
+  StepBefore : (operator : StepOperator) → (target : Expression) → (offset : ℕ) → Simple
   Evaluate : (value : Value) → Simple
 
--- a declared local, and what it begins with
+-- a declared local, and its initial value
 pub record Local : Type 0 where
   pub declarator : Declarator
   pub value : Option Value
@@ -42,32 +42,32 @@ pub data ForStart : Type 0 where
   StartsSimple : (simple : Simple) → ForStart
 
 pub data Label : Type 0 where
-  Case : (value : Expression) → (place : ℕ) → Label
-  Default : (place : ℕ) → Label
+  Case : (value : Expression) → (offset : ℕ) → Label
+  Default : (offset : ℕ) → Label
 
--- the place of a statement is that of its first token
+-- the offset of a statement is that of its first token
 mutual
   pub data Statement : Type 0 where
-    Block : (parts : Parts) → (place : ℕ) → Statement
-    Empty : (place : ℕ) → Statement
+    Block : (parts : Parts) → (offset : ℕ) → Statement
+    Empty : (offset : ℕ) → Statement
     Perform : (simple : Simple) → Statement
-    Break : (place : ℕ) → Statement
-    Continue : (place : ℕ) → Statement
-    Return : (value : Option Value) → (place : ℕ) → Statement
-    If : (test : Expression) → (body : Statement) → (place : ℕ) → Statement
-    IfElse : (test : Expression) → (body otherwise : Statement) → (place : ℕ) → Statement
-    While : (test : Expression) → (body : Statement) → (place : ℕ) → Statement
-    Do : (body : Statement) → (test : Expression) → (place : ℕ) → Statement
-    For : (start : ForStart) → (test : Option Expression) → (step : Option Simple) → (body : Statement) → (place : ℕ) → Statement
-    Switch : (test : Expression) → (groups : Groups) → (place : ℕ) → Statement
+    Break : (offset : ℕ) → Statement
+    Continue : (offset : ℕ) → Statement
+    Return : (value : Option Value) → (offset : ℕ) → Statement
+    If : (test : Expression) → (body : Statement) → (offset : ℕ) → Statement
+    IfElse : (test : Expression) → (body otherwise : Statement) → (offset : ℕ) → Statement
+    While : (test : Expression) → (body : Statement) → (offset : ℕ) → Statement
+    Do : (body : Statement) → (test : Expression) → (offset : ℕ) → Statement
+    For : (start : ForStart) → (test : Option Expression) → (step : Option Simple) → (body : Statement) → (offset : ℕ) → Statement
+    Switch : (test : Expression) → (groups : Groups) → (offset : ℕ) → Statement
 
-  -- what stands in a block or in a group of a switch
+  -- the declarations and statements of a block or of a group of a `switch`
   pub data Parts : Type 0 where
     no_parts : Parts
     parts_local : (locals : Locals) → (rest : Parts) → Parts
     parts_statement : (statement : Statement) → (rest : Parts) → Parts
 
-  -- labels, and what stands behind them
+  -- labels, and the parts that follow them
   pub data Groups : Type 0 where
     no_groups : Groups
     groups : (labels : List Label) → (parts : Parts) → (rest : Groups) → Groups
@@ -91,12 +91,15 @@ pub data Global : Type 0 where
   Object : (declarator : Declarator) → Global
   Function : (declarator : FunctionDeclarator) → Global
 
-pub data Item : Type 0 where
-  EmptyItem : Item
-  -- a declaration, of no name too; what a global begins with is left out
-  Declaration : (specifiers : Specifiers) → (globals : List Global) → Item
-  Definition : (specifiers : Specifiers) → (declarator : FunctionDeclarator) → (body : Parts) → Item
+-- an external declaration (6.9)
+pub data ExternalDeclaration : Type 0 where
+  -- `;` alone
+  EmptyDeclaration : ExternalDeclaration
+  -- a declaration, of no name too; the initial values of globals are left out
+  Declaration : (specifiers : Specifiers) → (globals : List Global) → ExternalDeclaration
+  -- a function with its body; `close` is the offset of the `}` that ends it
+  Definition : (specifiers : Specifiers) → (declarator : FunctionDeclarator) → (body : Parts) → (close : ℕ) → ExternalDeclaration
 
--- a source
+-- a translation unit
 abbrev pub TranslationUnit : Type 0
-TranslationUnit = List Item
+TranslationUnit = List ExternalDeclaration

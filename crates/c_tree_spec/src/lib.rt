@@ -1,11 +1,10 @@
-//! What a C source says, as a tree (ISO C11, 6.5 to 6.9): the operators, and in `specs/` the trees.
-//!
-//! The main definitions are `Expression` and the types around it in `specs/Expression.antt`, and
-//! `TranslationUnit` in `specs/Unit.antt`. Brackets stay in a tree, each name and each operator has its place, and the value that
-//! a global begins with is left out, since it has no meaning here.
+//! A C unit as a tree (ISO C11, 6.5 to 6.9): its operators here, and in `specs/Expression.antt` and
+//! `specs/Unit.antt` the trees, `TranslationUnit` above all. Brackets stay in a tree, each name and
+//! operator has its offset, and initial values of globals are left out. Only enums run.
 #![tactic(auto)]
 
-/// An operator between two operands (6.5.5 to 6.5.14), the loosest first. In `a op= b` it is the `op`.
+/// An operator between two operands (6.5.5 to 6.5.14), the loosest first. In `a op= b` it is the
+/// `op`.
 #[derive(Clone, Copy, Debug, PartialEq, Eq)]
 pub enum BinaryOperator {
     /// `||`

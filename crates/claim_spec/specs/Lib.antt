@@ -1,2 +1,2 @@
+pub mod Convention
 pub mod Claim
-pub mod Verdict

@@ -1,6 +1,6 @@
 mod Marked
-mod Told
-mod Places
+mod Reported
+mod Indices
 mod More
-mod Walks
+mod Propagation
 mod Keeping

@@ -21,11 +21,11 @@ none_shown now (mark ∷ marks) below =
     let tail = none_shown now marks (λ k d h. below (suc k) d (omega arith)) in cc
 
 -- one more mark of this round
-pub one_set : (round : ℕ) (marks : List Mark) (place : ℕ) (mark : Mark) → mark.round ≡ round
-    → map (show round) (set marks place mark) ≡ set (map (show round) marks) place (Some mark.is_negated)
-one_set round marks place mark same =
-    map-set (show round) marks place mark
-    ∙ ap (λ o. set (map (show round) marks) place o) (subst (λ r. shown r mark.round mark.is_negated ≡ Some mark.is_negated) same (own mark.round mark.is_negated))
+pub one_set : (round : ℕ) (marks : List Mark) (index : ℕ) (mark : Mark) → mark.round ≡ round
+    → map (show round) (set marks index mark) ≡ set (map (show round) marks) index (Some mark.is_negated)
+one_set round marks index mark same =
+    map-set (show round) marks index mark
+    ∙ ap (λ o. set (map (show round) marks) index o) (subst (λ r. shown r mark.round mark.is_negated ≡ Some mark.is_negated) same (own mark.round mark.is_negated))
 
 -- marks that were made at the start
 pub none_at_first : (marks : List Mark) (blank : Mark) (n : ℕ) → blank.round ≡ 0 → marks ≡ replicate n blank → map (show 1) marks ≡ replicate n None

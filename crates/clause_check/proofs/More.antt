@@ -7,7 +7,7 @@ use Rattle.std.proofs.lemmas.List.Folds.{list_any-append, list_all-append}
 use Rattle.clause_spec.specs.declared.Literal.{Literal}
 use Rattle.clause_spec.specs.Clause.{is_of, negation, same_sign, same_literal}
 use Rattle.clause_spec.specs.Step.{is_true, are_apart, are_fit}
-use Rattle.clause_check.specs.Signs.{is_sign, sign_of, Tells}
+use Rattle.clause_check.specs.Signs.{is_sign, sign_of, Reports}
 
 -- ---- one more true literal
 
@@ -38,17 +38,17 @@ other_variable : (a b : Bool) → (a || ((false && b) || false)) ≡ a
 other_variable true b = refl
 other_variable false b = refl
 
-at_own : (signs : List (Option Bool)) (truths : List Literal) (l k : Literal) → Tells signs truths → is_of (length signs) l ≡ true
+at_own : (signs : List (Option Bool)) (truths : List Literal) (l k : Literal) → Reports signs truths → is_of (length signs) l ≡ true
     → sign_of signs l ≡ None → is_of (length signs) k ≡ true → (k.variable == l.variable) ≡ true
     → (is_true truths k || ((k.variable == l.variable) && same_sign k.is_negated l.is_negated || false)) ≡ is_sign (sign_of (with_true signs l) k) k.is_negated
-at_own signs truths l k tells named sign here same =
-    let place : k.variable ≡ l.variable = equal_numbers k.variable l.variable same in
+at_own signs truths l k reports named sign here same =
+    let index : k.variable ≡ l.variable = equal_numbers k.variable l.variable same in
     let range = in_range (length signs) l named in
     let unmarked : is_true truths k ≡ false =
-    tells k here ∙ ap (λ v. is_sign (get_or signs (v - 1) None) k.is_negated) place ∙ ap (λ o. is_sign o k.is_negated) sign
+    reports k here ∙ ap (λ v. is_sign (get_or signs (v - 1) None) k.is_negated) index ∙ ap (λ o. is_sign o k.is_negated) sign
     in
     let marked : sign_of (with_true signs l) k ≡ Some l.is_negated =
-    ap (λ v. get_or (with_true signs l) (v - 1) None) place
+    ap (λ v. get_or (with_true signs l) (v - 1) None) index
     ∙ get_or-set_same signs (l.variable - 1) (Some l.is_negated) None (omega (arith, range.0, range.1))
     in
     ap (λ b. is_true truths k || (b && same_sign k.is_negated l.is_negated || false)) same
@@ -56,39 +56,39 @@ at_own signs truths l k tells named sign here same =
     ∙ same_sign_sym k.is_negated l.is_negated
     ∙ sym (ap (λ o. is_sign o k.is_negated) marked)
 
-at_other : (signs : List (Option Bool)) (truths : List Literal) (l k : Literal) → Tells signs truths → is_of (length signs) l ≡ true
+at_other : (signs : List (Option Bool)) (truths : List Literal) (l k : Literal) → Reports signs truths → is_of (length signs) l ≡ true
     → is_of (length signs) k ≡ true → (k.variable == l.variable) ≡ false
     → (is_true truths k || ((k.variable == l.variable) && same_sign k.is_negated l.is_negated || false)) ≡ is_sign (sign_of (with_true signs l) k) k.is_negated
-at_other signs truths l k tells named here other =
+at_other signs truths l k reports named here other =
     let range = in_range (length signs) l named in
     let range_here = in_range (length signs) k here in
     let apart = other_numbers k.variable l.variable other in
     ap (λ b. is_true truths k || (b && same_sign k.is_negated l.is_negated || false)) other
     ∙ other_variable (is_true truths k) (same_sign k.is_negated l.is_negated)
-    ∙ tells k here
+    ∙ reports k here
     ∙ sym (ap (λ o. is_sign o k.is_negated)
     (get_or-set_other signs (l.variable - 1) (k.variable - 1) (Some l.is_negated) None
     (λ e. apart (omega (arith, e, range.0, range_here.0)))))
 
-pub tells_more : (signs : List (Option Bool)) (truths : List Literal) (l : Literal) → Tells signs truths → is_of (length signs) l ≡ true
-    → sign_of signs l ≡ None → Tells (set signs (l.variable - 1) (Some l.is_negated)) (truths ++ l ∷ [])
-tells_more signs truths l tells named sign k here =
+pub reports_more : (signs : List (Option Bool)) (truths : List Literal) (l : Literal) → Reports signs truths → is_of (length signs) l ≡ true
+    → sign_of signs l ≡ None → Reports (set signs (l.variable - 1) (Some l.is_negated)) (truths ++ l ∷ [])
+reports_more signs truths l reports named sign k here =
     let named_here : is_of (length signs) k ≡ true =
     subst (λ n. is_of n k ≡ true) (length-set signs (l.variable - 1) (Some l.is_negated)) here
     in
-    list_any-append (same_literal k) truths (l ∷ []) ∙ by_place (k.variable == l.variable) refl named_here
+    list_any-append (same_literal k) truths (l ∷ []) ∙ by_index (k.variable == l.variable) refl named_here
   where
-    by_place : (b : Bool) → (k.variable == l.variable) ≡ b → is_of (length signs) k ≡ true
+    by_index : (b : Bool) → (k.variable == l.variable) ≡ b → is_of (length signs) k ≡ true
         → (is_true truths k || ((k.variable == l.variable) && same_sign k.is_negated l.is_negated || false)) ≡ is_sign (sign_of (with_true signs l) k) k.is_negated
-    by_place true e named_here = at_own signs truths l k tells named sign named_here e
-    by_place false e named_here = at_other signs truths l k tells named named_here e
+    by_index true e named_here = at_own signs truths l k reports named sign named_here e
+    by_index false e named_here = at_other signs truths l k reports named named_here e
 
-pub tells_denied : (signs : List (Option Bool)) (before : List Literal) (l : Literal) → Tells signs (map negation before)
+pub reports_denied : (signs : List (Option Bool)) (before : List Literal) (l : Literal) → Reports signs (map negation before)
     → is_of (length signs) l ≡ true → sign_of signs l ≡ None
-    → Tells (set signs (l.variable - 1) (Some (not l.is_negated))) (map negation (before ++ l ∷ []))
-tells_denied signs before l tells named sign =
-    subst (Tells (set signs (l.variable - 1) (Some (not l.is_negated)))) (sym (map_push negation before l))
-    (tells_more signs (map negation before) (negation l) tells named sign)
+    → Reports (set signs (l.variable - 1) (Some (not l.is_negated))) (map negation (before ++ l ∷ []))
+reports_denied signs before l reports named sign =
+    subst (Reports (set signs (l.variable - 1) (Some (not l.is_negated)))) (sym (map_push negation before l))
+    (reports_more signs (map negation before) (negation l) reports named sign)
 
 -- ---- one more literal of a step
 
@@ -129,12 +129,12 @@ has_sign None = refl
 has_sign (Some true) = refl
 has_sign (Some false) = refl
 
-denied_before : (signs : List (Option Bool)) (before : List Literal) (l : Literal) → Tells signs (map negation before) → is_of (length signs) l ≡ true
+denied_before : (signs : List (Option Bool)) (before : List Literal) (l : Literal) → Reports signs (map negation before) → is_of (length signs) l ≡ true
     → list_any (is_of_variable l.variable) before ≡ is_some (sign_of signs l)
-denied_before signs before l tells named =
+denied_before signs before l reports named =
     there_before l.variable before
-    ∙ ap (λ b. b || is_true (map negation before) (literal_of l.variable false)) (tells (literal_of l.variable true) named)
-    ∙ ap (λ b. is_sign (sign_of signs l) true || b) (tells (literal_of l.variable false) named)
+    ∙ ap (λ b. b || is_true (map negation before) (literal_of l.variable false)) (reports (literal_of l.variable true) named)
+    ∙ ap (λ b. is_sign (sign_of signs l) true || b) (reports (literal_of l.variable false) named)
     ∙ has_sign (sign_of signs l)
 
 regroup : (a s b c : Bool) → (not (a || (s || false)) && (b && not c)) ≡ ((not a && b) && not (s || c))
@@ -178,45 +178,45 @@ unfit_by_variable variables before l fit e =
     fit_more variables before l fit ∙ ap (λ b. b && not (list_any (is_of_variable l.variable) before)) e
 
 pub fit_by_sign : (signs : List (Option Bool)) (before : List Literal) (l : Literal) (b : Bool) → are_fit (length signs) before ≡ true
-    → Tells signs (map negation before) → is_of (length signs) l ≡ true → is_some (sign_of signs l) ≡ b
+    → Reports signs (map negation before) → is_of (length signs) l ≡ true → is_some (sign_of signs l) ≡ b
     → are_fit (length signs) (before ++ l ∷ []) ≡ not b
-fit_by_sign signs before l b fit tells named sign =
+fit_by_sign signs before l b fit reports named sign =
     fit_more (length signs) before l fit
     ∙ ap (λ n. n && not (list_any (is_of_variable l.variable) before)) named
-    ∙ ap not (denied_before signs before l tells named ∙ sign)
+    ∙ ap not (denied_before signs before l reports named ∙ sign)
 
--- ---- literals of which a front is not fit
+-- ---- literals of which a prefix is not fit
 
 not_all : (a b : Bool) → a ≡ false → (a && b) ≡ false
 not_all true b e = cc
 not_all false b e = refl
 
-front_cases : (a b c d : Bool) → (a && b) ≡ false → (a ≡ false → c ≡ false) → (b ≡ false → d ≡ false) → (c && d) ≡ false
-front_cases true true c d e f g = cc
-front_cases true false c d e f g = and_false c d (g refl)
+prefix_cases : (a b c d : Bool) → (a && b) ≡ false → (a ≡ false → c ≡ false) → (b ≡ false → d ≡ false) → (c && d) ≡ false
+prefix_cases true true c d e f g = cc
+prefix_cases true false c d e f g = and_false c d (g refl)
   where
     and_false : (a b : Bool) → b ≡ false → (a && b) ≡ false
     and_false true b e = e
     and_false false b e = refl
-front_cases false b c d e f g = not_all c d (f refl)
+prefix_cases false b c d e f g = not_all c d (f refl)
 
-any_front : (v : ℕ) (xs ys : List Literal) → not (list_any (is_of_variable v) xs) ≡ false → not (list_any (is_of_variable v) (xs ++ ys)) ≡ false
-any_front v xs ys e = ap not (list_any-append (is_of_variable v) xs ys) ∙ front (list_any (is_of_variable v) xs) (list_any (is_of_variable v) ys) e
+any_prefix : (v : ℕ) (xs ys : List Literal) → not (list_any (is_of_variable v) xs) ≡ false → not (list_any (is_of_variable v) (xs ++ ys)) ≡ false
+any_prefix v xs ys e = ap not (list_any-append (is_of_variable v) xs ys) ∙ prefix (list_any (is_of_variable v) xs) (list_any (is_of_variable v) ys) e
   where
-    front : (a b : Bool) → not a ≡ false → not (a || b) ≡ false
-    front true b e = refl
-    front false b e = cc
+    prefix : (a b : Bool) → not a ≡ false → not (a || b) ≡ false
+    prefix true b e = refl
+    prefix false b e = cc
 
-apart_front : (xs ys : List Literal) → are_apart xs ≡ false → are_apart (xs ++ ys) ≡ false
-apart_front [] ys e = cc
-apart_front (x ∷ xs) ys e =
-    front_cases (not (list_any (is_of_variable x.variable) xs)) (are_apart xs)
-    (not (list_any (is_of_variable x.variable) (xs ++ ys))) (are_apart (xs ++ ys)) e (any_front x.variable xs ys) (apart_front xs ys)
+apart_prefix : (xs ys : List Literal) → are_apart xs ≡ false → are_apart (xs ++ ys) ≡ false
+apart_prefix [] ys e = cc
+apart_prefix (x ∷ xs) ys e =
+    prefix_cases (not (list_any (is_of_variable x.variable) xs)) (are_apart xs)
+    (not (list_any (is_of_variable x.variable) (xs ++ ys))) (are_apart (xs ++ ys)) e (any_prefix x.variable xs ys) (apart_prefix xs ys)
 
-pub unfit_front : (variables : ℕ) (xs ys : List Literal) → are_fit variables xs ≡ false → are_fit variables (xs ++ ys) ≡ false
-unfit_front variables xs ys e =
-    front_cases (list_all (is_of variables) xs) (are_apart xs) (list_all (is_of variables) (xs ++ ys)) (are_apart (xs ++ ys)) e
-    (λ f. list_all-append (is_of variables) xs ys ∙ not_all (list_all (is_of variables) xs) (list_all (is_of variables) ys) f) (apart_front xs ys)
+pub unfit_prefix : (variables : ℕ) (xs ys : List Literal) → are_fit variables xs ≡ false → are_fit variables (xs ++ ys) ≡ false
+unfit_prefix variables xs ys e =
+    prefix_cases (list_all (is_of variables) xs) (are_apart xs) (list_all (is_of variables) (xs ++ ys)) (are_apart (xs ++ ys)) e
+    (λ f. list_all-append (is_of variables) xs ys ∙ not_all (list_all (is_of variables) xs) (list_all (is_of variables) ys) f) (apart_prefix xs ys)
 
 pub unmarked : (o : Option Bool) → is_some o ≡ false → o ≡ None
 unmarked None e = refl
@@ -226,9 +226,9 @@ unmarked (Some b) e = cc
 pub unfit_at : (variables : ℕ) (literals : List Literal) (i : ℕ) (d : Literal) → i < length literals
     → are_fit variables (take i literals ++ get_or literals i d ∷ []) ≡ false → are_fit variables literals ≡ false
 unfit_at variables literals i d below e =
-    let front : are_fit variables (take (i + 1) literals) ≡ false = ap (are_fit variables) (take_more literals i d below) ∙ e in
-    ap (are_fit variables) (sym (take-append-drop (i + 1) literals)) ∙ unfit_front variables (take (i + 1) literals) (drop (i + 1) literals) front
+    let prefix : are_fit variables (take (i + 1) literals) ≡ false = ap (are_fit variables) (take_more literals i d below) ∙ e in
+    ap (are_fit variables) (sym (take-append-drop (i + 1) literals)) ∙ unfit_prefix variables (take (i + 1) literals) (drop (i + 1) literals) prefix
 
--- what stands past the end
+-- past the end
 abbrev pub blank : Literal
 blank = record { variable = 0; is_negated = false }

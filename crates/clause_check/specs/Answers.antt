@@ -9,12 +9,12 @@ use Rattle.clause_check.specs.declared.hints.Finding.{Finding}
 use Rattle.clause_check.specs.declared.hints.Finding.TheVariants.{Missing, Holds, Several, Forces, Fails}
 use Rattle.clause_check.specs.declared.hints.StepFault.{StepFault}
 
-abbrev pub told : Finding → spec.Finding
-told Missing = spec.Missing
-told Holds = spec.Holds
-told Several = spec.Several
-told (Forces literal) = spec.Forces literal
-told Fails = spec.Fails
+abbrev pub reported : Finding → spec.Finding
+reported Missing = spec.Missing
+reported Holds = spec.Holds
+reported Several = spec.Several
+reported (Forces literal) = spec.Forces literal
+reported Fails = spec.Fails
 
 abbrev pub outcome_of : Result (Unit {0}) StepFault → spec.Outcome
 outcome_of (Ok unit) = spec.Follows

@@ -15,7 +15,7 @@ is_sign (Some sign) is_negated = same_sign sign is_negated
 abbrev pub sign_of : List (Option Bool) → Literal → Option Bool
 sign_of signs literal = get_or signs (literal.variable - 1) None
 
--- the signs tell which literals are among the true ones
-abbrev pub Tells : List (Option Bool) → List Literal → Type 0
-Tells signs truths =
+-- the signs report which literals are among the true ones
+abbrev pub Reports : List (Option Bool) → List Literal → Type 0
+Reports signs truths =
     (literal : Literal) → is_of (length signs) literal ≡ true → is_true truths literal ≡ is_sign (sign_of signs literal) literal.is_negated

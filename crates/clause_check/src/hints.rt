@@ -1,14 +1,16 @@
-ghost use Rattle.std.specs.Prelude.{◌≡◌, ◌+◌, ◌-◌, ◌++◌, ◌∷◌, ℕ, [], List, Option, Bool, length, map, replicate, true, None, Some, IsTrue};
+ghost use Rattle.std.specs.Prelude.{◌≡◌, ◌+◌, ◌-◌, ◌++◌, ◌∷◌, ℕ, [], List, Option, Bool, length};
+ghost use Rattle.std.specs.Prelude.{map, replicate, true, None, Some, IsTrue};
 ghost use Rattle.std.specs.List.{list_all};
 ghost use Rattle.clause_spec.specs.Clause as spec;
 ghost use Rattle.clause_spec.specs.Step as step;
 ghost use Rattle.clause_spec.specs.declared.Literal.{Literal as Lit};
-ghost use Rattle.clause_check.specs.Signs.{Tells};
-ghost use Rattle.clause_check.specs.Answers.{told, outcome_of, outcome_after, IsOpen, IsOpenAfter};
+ghost use Rattle.clause_check.specs.Signs.{Reports};
+ghost use Rattle.clause_check.specs.Answers.{reported, outcome_of, outcome_after, IsOpen};
+ghost use Rattle.clause_check.specs.Answers.{IsOpenAfter};
 
 use crate::marks::Marks;
 use clause_spec::{Literal, StepFaultKind};
-use cnf_core::ClauseList;
+use cnf_core::{ClauseList, negation};
 use thiserror::Error;
 
 /// Why and where a step doesn't follow: its first fault.
@@ -21,7 +23,7 @@ pub struct StepFault {
     pub kind: StepFaultKind,
 }
 
-/// What a hint's clause comes to.
+/// The status of a hint's clause, some literals being true.
 #[derive(Clone, Copy)]
 pub enum Finding {
     /// There is no such clause.
@@ -36,11 +38,13 @@ pub enum Finding {
     Fails,
 }
 
-/// What literals that are not false come to with one more.
+/// The status of literals that are not false, with one more.
 fn with_open(seen: Finding, literal: Literal) -> Finding
-    ensures told { (before : List Lit) → told seen ≡ step.found_among before → told result ≡ step.found_among (before ++ literal ∷ []) }
-    ensures held { told seen ≡ step.Holds → told result ≡ step.Holds }
-    ensures open { (signs : List (Option Bool)) → IsOpen signs seen → IsOpen signs (Finding.Forces literal) → IsOpen signs result }
+    ensures reported { (before : List Lit) → reported seen ≡ step.found_among before
+        → reported result ≡ step.found_among (before ++ literal ∷ []) }
+    ensures held { reported seen ≡ step.Holds → reported result ≡ step.Holds }
+    ensures open { (signs : List (Option Bool)) → IsOpen signs seen
+        → IsOpen signs (Finding.Forces literal) → IsOpen signs result }
 {
     match seen {
         Finding::Fails => Finding::Forces(literal),
@@ -50,11 +54,12 @@ fn with_open(seen: Finding, literal: Literal) -> Finding
     }
 }
 
-/// What literals of a clause come to with one more.
+/// The status of literals of a clause, with one more.
 fn with_literal(seen: Finding, literal: Literal, marks: &Marks) -> Finding
     requires { spec.is_of (length marks.now) literal ≡ true }
-    ensures told { (truths before : List Lit) → Tells marks.now truths
-        → told seen ≡ step.finding truths before → told result ≡ step.finding truths (before ++ literal ∷ []) }
+    ensures reported { (truths before : List Lit) → Reports marks.now truths
+        → reported seen ≡ step.finding truths before
+        → reported result ≡ step.finding truths (before ++ literal ∷ []) }
     ensures open { IsOpen marks.now seen → IsOpen marks.now result }
 {
     match marks.sign(literal) {
@@ -64,10 +69,11 @@ fn with_literal(seen: Finding, literal: Literal, marks: &Marks) -> Finding
     }
 }
 
-/// What a clause comes to.
+/// The status of a clause.
 fn found_in(clause: &[Literal], marks: &Marks) -> Finding
     requires { list_all (spec.is_of (length marks.now)) clause.now ≡ true }
-    ensures told { (truths : List Lit) → Tells marks.now truths → told result ≡ step.finding truths clause.now }
+    ensures reported { (truths : List Lit) → Reports marks.now truths
+        → reported result ≡ step.finding truths clause.now }
     ensures open { IsOpen marks.now result }
 {
     let mut seen = Finding::Fails;
@@ -77,10 +83,11 @@ fn found_in(clause: &[Literal], marks: &Marks) -> Finding
     seen
 }
 
-/// What the clause of a number comes to.
+/// The status of the clause of a number.
 fn found_at(clauses: &ClauseList, marks: &Marks, number: usize) -> Finding
     requires { spec.are_of (length marks.now) clauses.now.clauses ≡ true }
-    ensures told { (truths : List Lit) → Tells marks.now truths → told result ≡ step.finding_at clauses.now.clauses truths number }
+    ensures reported { (truths : List Lit) → Reports marks.now truths
+        → reported result ≡ step.finding_at clauses.now.clauses truths number }
     ensures open { IsOpen marks.now result }
 {
     if number == 0 {
@@ -94,7 +101,8 @@ fn found_at(clauses: &ClauseList, marks: &Marks, number: usize) -> Finding
 
 /// The literal that a hint makes true, none at the end of the step; or the hint's fault.
 fn forced(finding: Finding, is_last: bool) -> Result<Option<Literal>, StepFaultKind>
-    ensures after { (hint : ℕ) (on : Lit → step.Outcome) → outcome_after hint result on ≡ step.outcome_of hint is_last (told finding) on }
+    ensures after { (hint : ℕ) (on : Lit → step.Outcome)
+        → outcome_after hint result on ≡ step.outcome_of hint is_last (reported finding) on }
     ensures open { (signs : List (Option Bool)) → IsOpen signs finding → IsOpenAfter signs result }
 {
     match finding {
@@ -107,10 +115,11 @@ fn forced(finding: Finding, is_last: bool) -> Result<Option<Literal>, StepFaultK
     }
 }
 
-/// Whether the hints, one after the other, lead to a clause whose literals are all false.
-fn walk(clauses: &ClauseList, hints: &[usize], marks: &mut Marks) -> Result<(), StepFault>
+/// Unit propagation along the hints: whether they lead to a clause whose literals are all false.
+fn propagate(clauses: &ClauseList, hints: &[usize], marks: &mut Marks) -> Result<(), StepFault>
     requires { spec.are_of (length marks.old) clauses.now.clauses ≡ true }
-    ensures outcome { (truths : List Lit) → Tells marks.old truths → outcome_of result ≡ step.walk clauses.now.clauses hints.now truths 0 }
+    ensures outcome { (truths : List Lit) → Reports marks.old truths
+        → outcome_of result ≡ step.propagate clauses.now.clauses hints.now truths 0 }
     ensures len { length marks.new ≡ length marks.old }
 {
     for (done, number) in hints.iter().enumerate() {
@@ -136,22 +145,14 @@ fn is_of(literal: Literal, variables: usize) -> bool
     1 <= literal.variable && literal.variable <= variables
 }
 
-/// The literal of the other sign.
-fn negation(literal: Literal) -> Literal
-    ensures { result ≡ spec.negation literal }
-{
-    Literal {
-        variable: literal.variable,
-        is_negated: !literal.is_negated,
-    }
-}
-
 /// Makes one more literal false, if it is of the variables and no other one of its own was.
 fn deny_one(literal: Literal, marks: &mut Marks) -> bool
-    ensures fit { (before : List Lit) → step.are_fit (length marks.old) before ≡ true → Tells marks.old (map spec.negation before)
+    ensures fit { (before : List Lit) → step.are_fit (length marks.old) before ≡ true
+        → Reports marks.old (map spec.negation before)
         → result ≡ step.are_fit (length marks.old) (before ++ literal ∷ []) }
-    ensures told { (before : List Lit) → IsTrue result → Tells marks.old (map spec.negation before)
-        → Tells marks.new (map spec.negation (before ++ literal ∷ [])) }
+    ensures reported { (before : List Lit) → IsTrue result
+        → Reports marks.old (map spec.negation before)
+        → Reports marks.new (map spec.negation (before ++ literal ∷ [])) }
     ensures len { length marks.new ≡ length marks.old }
 {
     if !is_of(literal, marks.len()) {
@@ -164,11 +165,11 @@ fn deny_one(literal: Literal, marks: &mut Marks) -> bool
     true
 }
 
-/// Makes the literals false, if they are of the variables and none stands twice.
+/// Makes the literals false, if they are of the variables and no variable occurs twice.
 fn deny(literals: &[Literal], marks: &mut Marks) -> bool
     requires { marks.old ≡ replicate (length marks.old) None }
     ensures fit { result ≡ step.are_fit (length marks.old) literals.now }
-    ensures told { IsTrue result → Tells marks.new (map spec.negation literals.now) }
+    ensures reported { IsTrue result → Reports marks.new (map spec.negation literals.now) }
     ensures len { length marks.new ≡ length marks.old }
 {
     for literal in literals {
@@ -187,7 +188,8 @@ pub fn follows(
     hints: &[usize],
 ) -> Result<(), StepFault>
     requires { spec.are_of (length marks.old) clauses.now.clauses ≡ true }
-    ensures outcome { outcome_of result ≡ step.outcome (length marks.old) clauses.now.clauses literals.now hints.now }
+    ensures outcome { outcome_of result
+        ≡ step.outcome (length marks.old) clauses.now.clauses literals.now hints.now }
     ensures len { length marks.new ≡ length marks.old }
 {
     marks.clear();
@@ -197,5 +199,5 @@ pub fn follows(
             kind: StepFaultKind::Literals,
         });
     }
-    walk(clauses, hints, marks)
+    propagate(clauses, hints, marks)
 }

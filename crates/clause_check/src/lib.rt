@@ -1,8 +1,9 @@
 //! Logs of steps, each checked as it is added.
 //!
-//! The main type is [`Log`]: clauses, and the steps that were added so far. [`Log::step`] accepts exactly the
-//! steps that follow by their hints, and else tells the first fault; what follows is defined in `clause_spec`
-//! (`specs/Step.antt`). Where a log is closed, no values of the variables meet all clauses that it began with.
+//! The main type is [`Log`]: clauses, and the steps that were added so far. [`Log::step`] accepts
+//! exactly the RUP steps whose hints lead to a conflict (as in LRAT), and else reports the first
+//! fault; `clause_spec` (`specs/Step.antt`) defines both. Where a log is closed, no assignment
+//! satisfies all clauses that it began with.
 #![tactic(auto)]
 
 mod hints;

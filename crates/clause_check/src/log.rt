@@ -1,5 +1,6 @@
-ghost use Rattle.std.specs.Prelude.{◌≡◌, ◌+◌, ◌-◌, ◌≤◌, ◌++◌, ◌∷◌, ◌↔◌, ℕ, [], length, slice_get, false, Some, Err, IfOk, OnOk, OnErr, IsOk, IsTrue};
-ghost use Rattle.clause_spec.specs.Clause.{Valuation, are_met};
+ghost use Rattle.std.specs.Prelude.{◌≡◌, ◌+◌, ◌-◌, ◌≤◌, ◌++◌, ◌∷◌, ◌↔◌, ℕ, [], length, slice_get};
+ghost use Rattle.std.specs.Prelude.{false, Some, Err, IfOk, OnOk, OnErr, IsOk, IsTrue};
+ghost use Rattle.clause_spec.specs.Clause.{Valuation, satisfies};
 ghost use Rattle.clause_spec.specs.Step.{outcome, Follows, Refused};
 ghost use Rattle.clause_spec.specs.declared.StepFaultKind.{StepFaultKind};
 ghost use Rattle.clause_check.specs.Logged.{clauses_of};
@@ -19,8 +20,8 @@ pub enum StepError {
     /// It doesn't follow.
     #[error(transparent)]
     Fault(StepFault),
-    /// There was no memory.
-    #[error("no memory")]
+    /// Out of memory.
+    #[error("out of memory")]
     NoMemory,
 }
 
@@ -44,7 +45,8 @@ impl From<StepFault> for StepError {
     }
 }
 
-/// Clauses, and the steps that were added to them, each of which follows from what stood before it.
+/// Clauses, and the steps that were added to them, each of which follows from the clauses and the
+/// steps before it.
 #[derive(Drop)]
 pub struct Log {
     given: usize,
@@ -69,24 +71,21 @@ impl Model for Log {
 }
 
 impl Log {
-    /// No steps yet. Makes the room for the variables' values.
-    pub fn new(alloc: Global, cnf: &Cnf) -> Result<Log, AllocError>
-        ensures cnf { IfOk result (λ log. log.cnf ≡ cnf.now) }
+    /// No steps yet. The clauses are moved, not copied; the values of the variables take memory.
+    pub fn new(alloc: Global, cnf: Cnf) -> Result<Log, AllocError>
+        ensures cnf { IfOk result (λ log. log.cnf ≡ cnf) }
         ensures added { IfOk result (λ log. log.added ≡ []) }
     {
-        let mut clauses = ClauseList::new(alloc);
-        for place in 0..cnf.len() {
-            let clause = cnf.clause(place).unwrap();
-            clauses.push(clause)?;
-        }
+        let marks = Marks::new(alloc, cnf.variables())?;
         Ok(Log {
             given: cnf.len(),
-            clauses,
-            marks: Marks::new(alloc, cnf.variables())?,
+            clauses: cnf.into_clauses(),
+            marks,
         })
     }
 
-    /// Makes room: steps that have with one for each so many literals are then added without taking memory.
+    /// Makes room: steps that have with one for each so many literals are then added without taking
+    /// memory.
     pub fn reserve(&mut self, room: usize) -> Result<(), AllocError>
         ensures room { OnOk result (room ≤ self.new.spare) }
         ensures kept { self.old.spare ≤ self.new.spare }
@@ -96,21 +95,26 @@ impl Log {
         self.clauses.reserve(room)
     }
 
-    /// Adds a step with these literals, if it follows by these hints; they are numbers of clauses, counted from
-    /// 1, the steps behind the clauses. Work is linear in the literals, in the hints, and in the literals of their clauses.
+    /// Adds a step with these literals, if it follows by these hints (a RUP step, as in LRAT).
+    /// Hints are numbers of clauses, counted from 1, the steps after the clauses. Work is linear in
+    /// the literals, in the hints, and in the literals of their clauses.
     pub fn step(&mut self, literals: &[Literal], hints: &[usize]) -> Result<(), StepError>
-        ensures follows { OnOk result (outcome self.old.cnf.variables (clauses_of self.old) literals.now hints.now ≡ Follows) }
+        ensures follows { OnOk result (outcome self.old.cnf.variables
+            (clauses_of self.old) literals.now hints.now ≡ Follows) }
         ensures fault { (hint : ℕ) (kind : StepFaultKind) →
             (result ≡ Err (StepError.Fault (record { hint = hint; kind = kind })))
-            ↔ (outcome self.old.cnf.variables (clauses_of self.old) literals.now hints.now ≡ Refused hint kind) }
+            ↔ (outcome self.old.cnf.variables (clauses_of self.old) literals.now hints.now
+            ≡ Refused hint kind) }
         ensures cnf { self.new.cnf ≡ self.old.cnf }
         ensures added { OnOk result (self.new.added ≡ self.old.added ++ literals.now ∷ []) }
         ensures refused { OnErr result (self.new.added ≡ self.old.added) }
-        ensures as_before { (fault : StepFault) → result ≡ Err (StepError.Fault fault) → self.new ≡ self.old }
+        ensures as_before { (fault : StepFault) → result ≡ Err (StepError.Fault fault)
+            → self.new ≡ self.old }
 
         // A step that follows takes no memory where there is room for it.
         ensures fits { length literals.now + 1 ≤ self.old.spare
-            → outcome self.old.cnf.variables (clauses_of self.old) literals.now hints.now ≡ Follows → IsOk result }
+            → outcome self.old.cnf.variables (clauses_of self.old) literals.now hints.now ≡ Follows
+            → IsOk result }
         ensures spare { OnOk result (self.old.spare ≤ self.new.spare + (length literals.now + 1)) }
         ensures kept { OnErr result (self.old.spare ≤ self.new.spare) }
     {
@@ -121,8 +125,10 @@ impl Log {
 
     /// Whether there are steps and the last has no literal.
     pub fn is_closed(&self) -> bool
-        ensures last { IsTrue result ↔ (slice_get self.now.added (length self.now.added - 1) ≡ Some []) }
-        ensures unmet { IsTrue result → (values : Valuation) → are_met values self.now.cnf.clauses ≡ false }
+        ensures last { IsTrue result ↔ (slice_get self.now.added (length self.now.added - 1)
+            ≡ Some []) }
+        ensures unsatisfied { IsTrue result → (values : Valuation)
+            → satisfies values self.now.cnf.clauses ≡ false }
     {
         let Some(last) = self.clauses.len().checked_sub(1) else {
             return false;
@@ -131,11 +137,11 @@ impl Log {
     }
 }
 
-/// Whether the clause at a place has no literal.
-fn is_empty(clauses: &ClauseList, place: usize) -> bool
-    ensures { IsTrue result ↔ (slice_get clauses.now.clauses place ≡ Some []) }
+/// Whether the clause of an index has no literal.
+fn is_empty(clauses: &ClauseList, index: usize) -> bool
+    ensures { IsTrue result ↔ (slice_get clauses.now.clauses index ≡ Some []) }
 {
-    match clauses.get(place) {
+    match clauses.get(index) {
         Some(clause) => clause.is_empty(),
         None => false,
     }

@@ -1,4 +1,5 @@
-ghost use Rattle.std.specs.Prelude.{◌≡◌, ◌-◌, ◌<◌, ◌≤◌, length, replicate, true, None, Some, IfOk, slice_set, All};
+ghost use Rattle.std.specs.Prelude.{◌≡◌, ◌-◌, ◌<◌, ◌≤◌, length, replicate, true, None, Some, IfOk};
+ghost use Rattle.std.specs.Prelude.{slice_set, All};
 ghost use Rattle.clause_spec.specs.Clause.{is_of};
 ghost use Rattle.clause_check.specs.Signs.{sign_of};
 

@@ -1,9 +1,9 @@
--- Clauses, and which values of the variables meet them.
+-- Clauses, and which assignments satisfy them.
 use Rattle.std.specs.Prelude.{ℕ, ◌==◌, ◌&&◌, nat_le, not, Bool, true, false, if◌then◌else◌, List}
 use Rattle.std.specs.List.{list_any, list_all}
 use Rattle.clause_spec.specs.declared.Literal.{Literal}
 
--- a clause is met where one of its literals holds; it is a set, so order and repetition don't matter
+-- an assignment satisfies a clause where one of its literals holds; a clause is a set, so order and repetition don't matter
 abbrev pub Clause : Type 0
 Clause = List Literal
 
@@ -12,18 +12,18 @@ pub record Cnf : Type 0 where
   pub variables : ℕ
   pub clauses : List Clause
 
--- a truth value for each variable
+-- an assignment: a truth value for each variable
 abbrev pub Valuation : Type 0
 Valuation = ℕ → Bool
 
 abbrev pub holds : Valuation → Literal → Bool
 holds values literal = if literal.is_negated then not (values literal.variable) else values literal.variable
 
-abbrev pub is_met : Valuation → Clause → Bool
-is_met values clause = list_any (holds values) clause
+abbrev pub satisfies_clause : Valuation → Clause → Bool
+satisfies_clause values clause = list_any (holds values) clause
 
-abbrev pub are_met : Valuation → List Clause → Bool
-are_met values clauses = list_all (is_met values) clauses
+abbrev pub satisfies : Valuation → List Clause → Bool
+satisfies values clauses = list_all (satisfies_clause values) clauses
 
 abbrev pub negation : Literal → Literal
 negation literal = record { variable = literal.variable; is_negated = not literal.is_negated }

@@ -15,10 +15,10 @@ pub data AllFollow (variables : ℕ) : List Clause → List Step → Type 0 wher
   some : (clauses : List Clause) (step : Step) (rest : List Step) → outcome variables clauses step.literals step.hints ≡ Follows
       → AllFollow variables (clauses ++ step.literals ∷ []) rest → AllFollow variables clauses (step ∷ rest)
 
--- the steps show that nothing meets the clauses: each follows, and the last has no literal
+-- the steps show that no assignment satisfies the clauses: each follows, and the last has no literal
 pub record Refutes (cnf : Cnf) (steps : List Step) : Type 0 where
   pub follows : AllFollow cnf.variables cnf.clauses steps
-  pub front : List Step
+  pub prefix : List Step
   pub last : Step
-  pub ends : steps ≡ front ++ last ∷ []
+  pub ends : steps ≡ prefix ++ last ∷ []
   pub closes : last.literals ≡ []

@@ -1,4 +1,4 @@
--- When a step of a log follows from the clauses before it: reverse unit propagation along its hints.
+-- When a step of a log follows from the clauses before it: reverse unit propagation (RUP) along its hints, as in LRAT.
 use Rattle.std.specs.Prelude.{ℕ, ◌+◌, ◌-◌, ◌==◌, ◌&&◌, not, Bool, true, false, if◌then◌else◌, List, [], ◌∷◌, ◌++◌, map, filter, slice_get, Option, Some, None}
 use Rattle.std.specs.List.{list_any, list_all}
 use Rattle.clause_spec.specs.declared.Literal.{Literal}
@@ -6,7 +6,7 @@ use Rattle.clause_spec.specs.declared.StepFaultKind.{StepFaultKind}
 use Rattle.clause_spec.specs.declared.StepFaultKind.TheVariants.{Literals, Range, True, Two, Early, Open}
 use Rattle.clause_spec.specs.Clause.{Clause, negation, same_literal, is_of}
 
--- ---- what a clause comes to, where some literals were made true
+-- ---- the status of a clause, where some literals were made true
 
 abbrev pub is_true : (truths : List Literal) → Literal → Bool
 is_true truths literal = list_any (same_literal literal) truths
@@ -51,7 +51,7 @@ pub data Outcome : Type 0 where
   -- are no hints
   Refused : (hint : ℕ) → (kind : StepFaultKind) → Outcome
 
--- what a finding comes to: `on` goes on with a literal made true
+-- the outcome by a finding: `on` continues with a literal made true
 abbrev pub outcome_of : (hint : ℕ) → (is_last : Bool) → Finding → (on : Literal → Outcome) → Outcome
 outcome_of hint is_last Missing on = Refused hint Range
 outcome_of hint is_last Holds on = Refused hint True
@@ -64,13 +64,13 @@ is_nothing [] = true
 is_nothing (hint ∷ hints) = false
 
 -- from some true literals on, `count` hints being done
-unfoldable pub walk : (clauses : List Clause) → (hints : List ℕ) → (truths : List Literal) → (count : ℕ) → Outcome
-walk clauses [] truths count = Refused count Open
-walk clauses (number ∷ hints) truths count =
+unfoldable pub propagate : (clauses : List Clause) → (hints : List ℕ) → (truths : List Literal) → (count : ℕ) → Outcome
+propagate clauses [] truths count = Refused count Open
+propagate clauses (number ∷ hints) truths count =
     outcome_of (count + 1) (is_nothing hints) (finding_at clauses truths number)
-    (λ literal. walk clauses hints (truths ++ literal ∷ []) (count + 1))
+    (λ literal. propagate clauses hints (truths ++ literal ∷ []) (count + 1))
 
--- no variable stands twice
+-- no variable occurs twice
 abbrev pub are_apart : List Literal → Bool
 are_apart [] = true
 are_apart (literal ∷ others) = not (list_any (λ other. other.variable == literal.variable) others) && are_apart others
@@ -82,4 +82,4 @@ are_fit variables literals = list_all (is_of variables) literals && are_apart li
 -- a step with these literals and hints
 unfoldable pub outcome : (variables : ℕ) → (clauses : List Clause) → (literals : List Literal) → (hints : List ℕ) → Outcome
 outcome variables clauses literals hints =
-    if are_fit variables literals then walk clauses hints (map negation literals) 0 else Refused 0 Literals
+    if are_fit variables literals then propagate clauses hints (map negation literals) 0 else Refused 0 Literals

@@ -1,9 +1,6 @@
-//! Clauses of literals, and which steps of a log follow from them.
-//!
-//! `specs/Clause.antt` has clauses and which values of the variables meet them; `specs/Step.antt` when a step of
-//! a log follows by its hints, and else its first fault, which [`StepFaultKind`] names. `proofs/Sound.antt`
-//! shows that a step that follows is met wherever the clauses before it are. Of the crate only the types here
-//! run.
+//! Clauses of literals, which assignments satisfy them (`specs/Clause.antt`), and which steps of a
+//! log follow from them by reverse unit propagation along hints, as in LRAT (`specs/Step.antt`). Of
+//! the crate only [`Literal`] and the names of faults, [`StepFaultKind`], run.
 #![tactic(auto)]
 
 /// A variable or its negation. Variables are numbered from 1.

@@ -1,4 +1,4 @@
--- Clauses in one list of literals: what stands at a place, and one clause more.
+-- Clauses in one list of literals: the clause of an index, and one clause more.
 use Rattle.std.proofs.Common.{◌≡◌, ◌≤◌, ◌<◌, ◌+◌, ◌-◌, ◌++◌, ℕ, zero, suc, List, [], ◌∷◌, length, get_or, take, drop, Option, Some, None, refl, ap, sym, ◌∙◌, subst, arith}
 use Rattle.std.specs.Prelude.{slice_get, slice_range}
 use Rattle.std.proofs.lemmas.List.{length-drop, length-append, take-append-le, drop-append-le, take_all}
@@ -7,25 +7,25 @@ use Rattle.clause_spec.specs.declared.Literal.{Literal}
 use Rattle.clause_spec.specs.Clause.{Clause}
 use Rattle.cnf_core.specs.Laid.{clauses_from, clauses_in, start_of, AreEnds}
 
--- ---- places
+-- ---- indices
 
-first_place : (from end : ℕ) (ends : List ℕ) (place : ℕ) → start_of end ends place ≡ start_of from (end ∷ ends) (suc place)
-first_place from end ends zero = refl
-first_place from end ends (suc place) = refl
+first_index : (from end : ℕ) (ends : List ℕ) (index : ℕ) → start_of end ends index ≡ start_of from (end ∷ ends) (suc index)
+first_index from end ends zero = refl
+first_index from end ends (suc index) = refl
 
-pub clause_at : (from : ℕ) (literals : List Literal) (ends : List ℕ) (place end : ℕ) → slice_get ends place ≡ Some end
-    → slice_get (clauses_from from literals ends) place ≡ Some (slice_range literals (start_of from ends place) end)
-clause_at from literals [] place end here = cc
+pub clause_at : (from : ℕ) (literals : List Literal) (ends : List ℕ) (index end : ℕ) → slice_get ends index ≡ Some end
+    → slice_get (clauses_from from literals ends) index ≡ Some (slice_range literals (start_of from ends index) end)
+clause_at from literals [] index end here = cc
 clause_at from literals (e ∷ ends) zero end here =
     let same : e ≡ end = cc in ap (λ to. Some (slice_range literals from to)) same
-clause_at from literals (e ∷ ends) (suc place) end here =
-    clause_at e literals ends place end here ∙ ap (λ s. Some (slice_range literals s end)) (first_place from e ends place)
+clause_at from literals (e ∷ ends) (suc index) end here =
+    clause_at e literals ends index end here ∙ ap (λ s. Some (slice_range literals s end)) (first_index from e ends index)
 
-pub no_clause_at : (from : ℕ) (literals : List Literal) (ends : List ℕ) (place : ℕ) → slice_get ends place ≡ None
-    → slice_get (clauses_from from literals ends) place ≡ None
-no_clause_at from literals [] place here = refl
+pub no_clause_at : (from : ℕ) (literals : List Literal) (ends : List ℕ) (index : ℕ) → slice_get ends index ≡ None
+    → slice_get (clauses_from from literals ends) index ≡ None
+no_clause_at from literals [] index here = refl
 no_clause_at from literals (e ∷ ends) zero here = cc
-no_clause_at from literals (e ∷ ends) (suc place) here = no_clause_at e literals ends place here
+no_clause_at from literals (e ∷ ends) (suc index) here = no_clause_at e literals ends index here
 
 pub clause_count : (from : ℕ) (literals : List Literal) (ends : List ℕ) → length (clauses_from from literals ends) ≡ length ends
 clause_count from literals [] = refl
@@ -36,16 +36,16 @@ ends_rise from to [] same = omega (arith, same)
 ends_rise from to (e ∷ ends) rising = let later = ends_rise e to ends rising.1 in omega (arith, rising.0, later)
 
 -- a clause lies inside the list
-pub inside : (from to : ℕ) (ends : List ℕ) (place end : ℕ) → AreEnds from to ends → slice_get ends place ≡ Some end
-    → (start_of from ends place ≤ end) × (end ≤ to)
-inside from to [] place end rising here = cc
+pub inside : (from to : ℕ) (ends : List ℕ) (index end : ℕ) → AreEnds from to ends → slice_get ends index ≡ Some end
+    → (start_of from ends index ≤ end) × (end ≤ to)
+inside from to [] index end rising here = cc
 inside from to (e ∷ ends) zero end rising here =
     let same : e ≡ end = cc in
     let later = ends_rise e to ends rising.1 in
     (omega (arith, same, rising.0), omega (arith, same, later))
-inside from to (e ∷ ends) (suc place) end rising here =
-    let below = inside e to ends place end rising.1 here in
-    (subst (λ s. s ≤ end) (first_place from e ends place) below.0, below.1)
+inside from to (e ∷ ends) (suc index) end rising here =
+    let below = inside e to ends index end rising.1 here in
+    (subst (λ s. s ≤ end) (first_index from e ends index) below.0, below.1)
 
 -- ---- one clause more
 

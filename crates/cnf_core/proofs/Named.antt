@@ -38,14 +38,14 @@ wider_clauses variables (c ∷ clauses) named =
     (wider_clause variables c (left_true (list_all (is_of variables) c) (are_of variables clauses) named))
     (wider_clauses variables clauses (right_true (list_all (is_of variables) c) (are_of variables clauses) named))
 
--- of the clause at a place
-named_at : (variables : ℕ) (clauses : List Clause) (place : ℕ) (clause : Clause) → are_of variables clauses ≡ true
-    → slice_get clauses place ≡ Some clause → list_all (is_of variables) clause ≡ true
-named_at variables clauses place clause named here =
-    subst (λ c. list_all (is_of variables) c ≡ true) (get_or_from_slice_get clauses place clause clause here)
-    (AllPass-from_list_all (list_all (is_of variables)) clauses named place clause (slice_get_within clauses place clause here))
+-- of the clause at an index
+named_at : (variables : ℕ) (clauses : List Clause) (index : ℕ) (clause : Clause) → are_of variables clauses ≡ true
+    → slice_get clauses index ≡ Some clause → list_all (is_of variables) clause ≡ true
+named_at variables clauses index clause named here =
+    subst (λ c. list_all (is_of variables) c ≡ true) (get_or_from_slice_get clauses index clause clause here)
+    (AllPass-from_list_all (list_all (is_of variables)) clauses named index clause (slice_get_within clauses index clause here))
 
-pub named_if : {B : Type 0} (now : B → Clause) (variables : ℕ) (clauses : List Clause) (place : ℕ) (found : Option B) → are_of variables clauses ≡ true
-    → option_map now found ≡ slice_get clauses place → IfSome found (λ b. list_all (is_of variables) (now b) ≡ true)
-named_if now variables clauses place None named here = tt
-named_if now variables clauses place (Some b) named here = named_at variables clauses place (now b) named (sym here)
+pub named_if : {B : Type 0} (now : B → Clause) (variables : ℕ) (clauses : List Clause) (index : ℕ) (found : Option B) → are_of variables clauses ≡ true
+    → option_map now found ≡ slice_get clauses index → IfSome found (λ b. list_all (is_of variables) (now b) ≡ true)
+named_if now variables clauses index None named here = tt
+named_if now variables clauses index (Some b) named here = named_at variables clauses index (now b) named (sym here)

@@ -1,9 +1,9 @@
--- Clauses in one list of literals, with the places at which they end.
+-- Clauses in one list of literals, with the offsets at which they end.
 use Rattle.std.specs.Prelude.{◌≡◌, ◌≤◌, ℕ, zero, suc, get_or, List, [], ◌∷◌, slice_range}
 use Rattle.clause_spec.specs.declared.Literal.{Literal}
 use Rattle.clause_spec.specs.Clause.{Clause}
 
--- the clauses that begin at a place
+-- the clauses that begin at an offset
 abbrev pub clauses_from : (from : ℕ) → List Literal → List ℕ → List Clause
 clauses_from from literals [] = []
 clauses_from from literals (end ∷ ends) = slice_range literals from end ∷ clauses_from end literals ends
@@ -11,12 +11,12 @@ clauses_from from literals (end ∷ ends) = slice_range literals from end ∷ cl
 abbrev pub clauses_in : List Literal → List ℕ → List Clause
 clauses_in literals ends = clauses_from 0 literals ends
 
--- where the clause at a place begins: at the end of the one before
-abbrev pub start_of : (from : ℕ) → List ℕ → (place : ℕ) → ℕ
+-- where the clause at an index begins: at the end of the one before
+abbrev pub start_of : (from : ℕ) → List ℕ → (index : ℕ) → ℕ
 start_of from ends zero = from
-start_of from ends (suc place) = get_or ends place 0
+start_of from ends (suc index) = get_or ends index 0
 
--- the ends rise from one place to another
+-- the ends rise from one offset to another
 abbrev pub AreEnds : (from to : ℕ) → List ℕ → Type 0
 AreEnds from to [] = from ≡ to
 AreEnds from to (end ∷ ends) = (from ≤ end) × AreEnds end to ends

@@ -1,4 +1,4 @@
--- Clauses one after the other, and the room behind them.
+-- Clauses one after the other, and the room after them.
 use Rattle.std.specs.Prelude.{ℕ, List}
 use Rattle.clause_spec.specs.Clause.{Clause}
 

@@ -1,4 +1,5 @@
-ghost use Rattle.std.specs.Prelude.{◌≡◌, ◌==◌, ◌+◌, ◌-◌, ◌^◌, ◌<◌, ◌++◌, ◌∷◌, [], length, slice_get, true, IfSome, OnOk, OnErr};
+ghost use Rattle.std.specs.Prelude.{◌≡◌, ◌==◌, ◌+◌, ◌-◌, ◌^◌, ◌<◌, ◌++◌, ◌∷◌, [], length};
+ghost use Rattle.std.specs.Prelude.{slice_get, true, IfSome, OnOk, OnErr};
 ghost use Rattle.std.specs.List.{list_all};
 ghost use Rattle.std.specs.Option.{option_map};
 ghost use Rattle.clause_spec.specs.Clause as spec;
@@ -37,6 +38,22 @@ impl Cnf {
         }
     }
 
+    /// Clauses of a list over so many variables. The list is moved, not copied.
+    pub fn from_clauses(variables: usize, clauses: ClauseList) -> Self
+        requires { spec.are_of variables clauses.clauses ≡ true }
+        ensures { result ≡ record { variables = variables; clauses = clauses.clauses } }
+    {
+        Cnf { variables, clauses }
+    }
+
+    /// The list of the clauses, moved out.
+    pub fn into_clauses(self) -> ClauseList
+        ensures clauses { result.clauses ≡ self.clauses }
+        ensures named { spec.are_of self.variables self.clauses ≡ true }
+    {
+        self.clauses
+    }
+
     /// How many variables there are.
     pub fn variables(&self) -> usize
         ensures { result ≡ self.now.variables }
@@ -58,12 +75,14 @@ impl Cnf {
         self.clauses.is_empty()
     }
 
-    /// The clause at a place, counted from 0.
-    pub fn clause(&self, place: usize) -> Option<&[Literal]>
-        ensures found { option_map (λ clause. clause.now) result ≡ slice_get self.now.clauses place }
-        ensures named { IfSome result (λ clause. list_all (spec.is_of self.now.variables) clause.now ≡ true) }
+    /// The clause of an index, counted from 0.
+    pub fn clause(&self, index: usize) -> Option<&[Literal]>
+        ensures found { option_map (λ clause. clause.now) result
+            ≡ slice_get self.now.clauses index }
+        ensures named { IfSome result (λ clause. list_all (spec.is_of self.now.variables) clause.now
+            ≡ true) }
     {
-        self.clauses.get(place)
+        self.clauses.get(index)
     }
 
     /// One more variable, which has the number of the answer.
@@ -76,10 +95,11 @@ impl Cnf {
         self.variables
     }
 
-    /// Adds a clause behind the others. After a refusal the clauses are as before.
+    /// Adds a clause after the others. After a refusal the clauses are as before.
     pub fn push(&mut self, clause: &[Literal]) -> Result<(), AllocError>
         requires { list_all (spec.is_of self.old.variables) clause.now ≡ true }
-        ensures added { OnOk result (self.new ≡ record self.old { clauses = self.old.clauses ++ clause.now ∷ [] }) }
+        ensures added { OnOk result (self.new
+            ≡ record self.old { clauses = self.old.clauses ++ clause.now ∷ [] }) }
         ensures refused { OnErr result (self.new ≡ self.old) }
     {
         self.clauses.push(clause)

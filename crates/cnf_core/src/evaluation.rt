@@ -15,9 +15,9 @@ fn holds(literal: Literal, bits: &[bool]) -> bool
 }
 
 /// Whether a literal of the clause holds.
-fn is_met(clause: &[Literal], bits: &[bool]) -> bool
+fn satisfies_clause(clause: &[Literal], bits: &[bool]) -> bool
     requires { list_all (spec.is_of (length bits.now)) clause.now ≡ true }
-    ensures { result ≡ spec.is_met (valuation bits.now) clause.now }
+    ensures { result ≡ spec.satisfies_clause (valuation bits.now) clause.now }
 {
     for literal in clause {
         if holds(*literal, bits) {
@@ -27,14 +27,15 @@ fn is_met(clause: &[Literal], bits: &[bool]) -> bool
     false
 }
 
-/// Whether the values of the variables, that of variable 1 first, meet all clauses.
+/// Whether an assignment satisfies all clauses: the values of the variables, that of variable 1
+/// first.
 pub fn eval(cnf: &Cnf, bits: &[bool]) -> bool
     requires { length bits.now ≡ cnf.now.variables }
-    ensures { result ≡ spec.are_met (valuation bits.now) cnf.now.clauses }
+    ensures { result ≡ spec.satisfies (valuation bits.now) cnf.now.clauses }
 {
-    for place in 0..cnf.len() {
-        let clause = cnf.clause(place).unwrap();
-        if !is_met(clause, bits) {
+    for index in 0..cnf.len() {
+        let clause = cnf.clause(index).unwrap();
+        if !satisfies_clause(clause, bits) {
             return false;
         }
     }

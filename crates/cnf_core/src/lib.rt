@@ -1,14 +1,17 @@
 //! Clauses over numbered variables.
 //!
-//! The main type is [`Cnf`], which a clause sees as the clauses of `clause_spec` (`specs/Clause.antt`), over a
-//! [`ClauseList`]. [`eval`] says whether values of the variables meet all clauses.
+//! The main type is [`Cnf`], which a contract sees as the clauses of `clause_spec`
+//! (`specs/Clause.antt`), over a [`ClauseList`]. [`eval`] says whether an assignment satisfies all
+//! clauses.
 #![tactic(auto)]
 
 mod cnf;
 mod evaluation;
 mod list;
+mod literals;
 
 pub use clause_spec::Literal;
 pub use cnf::Cnf;
 pub use evaluation::eval;
 pub use list::ClauseList;
+pub use literals::negation;

@@ -1,4 +1,5 @@
-ghost use Rattle.std.specs.Prelude.{◌≡◌, ◌==◌, ◌+◌, ◌≤◌, ◌++◌, ◌∷◌, [], length, slice_get, slice_range, None, Some, IfSome, IfNone, IsOk, OnOk, OnErr};
+ghost use Rattle.std.specs.Prelude.{◌≡◌, ◌==◌, ◌+◌, ◌≤◌, ◌++◌, ◌∷◌, [], length, slice_get};
+ghost use Rattle.std.specs.Prelude.{slice_range, None, Some, IfSome, IfNone, IsOk, OnOk, OnErr};
 ghost use Rattle.std.specs.Option.{option_map};
 ghost use Rattle.cnf_core.specs.Laid.{start_of};
 
@@ -6,7 +7,8 @@ use clause_spec::Literal;
 use std::alloc::{AllocError, Global};
 use std::marker::Model;
 
-/// Clauses one after the other. Their literals lie in one list, with an index of where each clause ends.
+/// Clauses one after the other. Their literals are in one list, and a second list has the end of
+/// each clause in it.
 #[derive(Drop)]
 pub struct ClauseList {
     literals: Vec<Literal>,
@@ -23,7 +25,8 @@ impl Model for ClauseList {
 
     ghost view = { λ c. record {
       clauses = clauses_in c.literals.items c.ends.items;
-      spare = min (vec_capacity c.literals - vec_len c.literals) (vec_capacity c.ends - vec_len c.ends);
+      spare = min (vec_capacity c.literals - vec_len c.literals)
+          (vec_capacity c.ends - vec_len c.ends);
     } };
 
     ghost invariant = { λ c. AreEnds 0 (length c.literals.items) c.ends.items };
@@ -54,15 +57,16 @@ impl ClauseList {
         self.ends.is_empty()
     }
 
-    /// The clause at a place, counted from 0.
-    pub fn get(&self, place: usize) -> Option<&[Literal]>
-        ensures { option_map (λ clause. clause.now) result ≡ slice_get self.now.clauses place }
+    /// The clause of an index, counted from 0.
+    pub fn get(&self, index: usize) -> Option<&[Literal]>
+        ensures { option_map (λ clause. clause.now) result ≡ slice_get self.now.clauses index }
     {
-        let (start, end) = bounds_of(self.ends.as_slice(), place)?;
+        let (start, end) = bounds_of(self.ends.as_slice(), index)?;
         Some(part_of(self.literals.as_slice(), start, end))
     }
 
-    /// Makes room: clauses that have with one for each so many literals are then added without taking memory.
+    /// Makes room: clauses that have with one for each so many literals are then added without
+    /// taking memory.
     pub fn reserve(&mut self, room: usize) -> Result<(), AllocError>
         ensures room { OnOk result (room ≤ self.new.spare) }
         ensures kept { self.old.spare ≤ self.new.spare }
@@ -73,7 +77,8 @@ impl ClauseList {
         Ok(())
     }
 
-    /// Adds a clause behind the others. After a refusal the clauses are as before, and no room is lost.
+    /// Adds a clause after the others. After a refusal the clauses are as before, and no room is
+    /// lost.
     pub fn push(&mut self, clause: &[Literal]) -> Result<(), AllocError>
         ensures added { OnOk result (self.new.clauses ≡ self.old.clauses ++ clause.now ∷ []) }
         ensures refused { OnErr result (self.new.clauses ≡ self.old.clauses) }
@@ -88,19 +93,20 @@ impl ClauseList {
     }
 }
 
-/// Where the clause at a place begins and ends, by the ends of all clauses.
-fn bounds_of(ends: &[usize], place: usize) -> Option<(usize, usize)>
-    ensures there { IfSome result (λ bounds. (bounds.0 ≡ start_of 0 ends.now place) × (slice_get ends.now place ≡ Some bounds.1)) }
-    ensures nowhere { IfNone result (slice_get ends.now place ≡ None) }
+/// Where the clause of an index begins and ends, by the ends of all clauses.
+fn bounds_of(ends: &[usize], index: usize) -> Option<(usize, usize)>
+    ensures there { IfSome result (λ bounds. (bounds.0 ≡ start_of 0 ends.now index)
+        × (slice_get ends.now index ≡ Some bounds.1)) }
+    ensures nowhere { IfNone result (slice_get ends.now index ≡ None) }
 {
-    let end = *ends.get(place)?;
-    if place == 0 {
+    let end = *ends.get(index)?;
+    if index == 0 {
         return Some((0, end));
     }
-    Some((ends[place - 1], end))
+    Some((ends[index - 1], end))
 }
 
-/// The literals from a place on, up to another.
+/// The literals from one offset up to another.
 fn part_of(literals: &[Literal], start: usize, end: usize) -> &[Literal]
     requires rising { start ≤ end }
     requires inside { end ≤ length literals.now }

@@ -1,4 +1,4 @@
 pub mod State
-pub mod Forms
+pub mod InstructionTerms
 pub mod Blocks
 pub mod CodeGraph

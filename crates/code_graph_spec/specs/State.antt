@@ -1,11 +1,12 @@
--- The variables of code, and how a machine stands in them.
+-- The variables of code, and the values that a machine gives them.
 use Rattle.std.specs.Prelude.{◌≡◌, ◌≢◌, ℕ, ◌<◌}
 use Rattle.term_spec.specs.declared.Width.TheVariants.{W32}
 use Rattle.term_spec.specs.declared.Sort.TheVariants as sort
 use Rattle.term_spec.specs.declared.Family.TheVariants.{Register, Entry, BinaryMemory}
 use Rattle.term_spec.specs.declared.Variable.{Variable}
 use Rattle.term_spec.specs.Value.{Value, Number, Bytes, Assignment}
-use Rattle.rv_spec.specs.Machine.{Machine, Memory, read_register, byte_at}
+use Rattle.memory_spec.specs.Memory.{Memory, byte_at}
+use Rattle.rv_spec.specs.Machine.{Machine, read_register}
 
 -- a machine register
 abbrev pub register : ℕ → Variable

@@ -1,5 +1,6 @@
-//! Executables by parts, laid out by hand from the System V ABI: `@ADDRESS:FLAGS` begins a segment, a word of eight digits lies
-//! in it, and `ADDRESS+SIZE` is a function without a name; all in hexadecimal.
+//! Executables by parts, laid out by hand from the System V ABI: `@ADDRESS:FLAGS` begins a segment,
+//! a word of eight digits lies in it, and `ADDRESS+SIZE` is a function without a name; all in
+//! hexadecimal.
 
 use crate::numbers::hexadecimal;
 use std::alloc::{AllocError, Global};
@@ -43,7 +44,7 @@ fn take(made: &mut Made, part: &str) -> Result<(), AllocError> {
     }
 }
 
-/// The program header of each segment, whose bytes begin behind the headers.
+/// The program header of each segment, whose bytes begin after the headers.
 fn put_programs(made: &Made, out: &mut Words) {
     let contents = size(made.spans.len()).wrapping_mul(8).wrapping_add(52);
     for (place, span) in made.spans.iter().enumerate() {
@@ -56,7 +57,8 @@ fn put_programs(made: &Made, out: &mut Words) {
     }
 }
 
-/// The words of the file: header, program headers, segments, symbols, the empty name, and the headers of three sections.
+/// The words of the file: header, program headers, segments, symbols, the empty name, and the
+/// headers of three sections.
 fn put_file(made: &Made, out: &mut Words) {
     let count = size(made.spans.len());
     let table = count
@@ -77,7 +79,7 @@ fn put_file(made: &Made, out: &mut Words) {
     out.put(&[0, 3, 0, 0, strings, 1, 0, 0, 1, 0]);
 }
 
-/// The bytes of words, one word at a time, up to a want of memory.
+/// The bytes of words, one word at a time, until out of memory.
 #[derive(Drop)]
 struct Words<'a> {
     bytes: &'a mut Vec<u8>,
@@ -102,7 +104,7 @@ fn take_parts(made: &mut Made, row: &str) -> Result<(), AllocError> {
     Ok(())
 }
 
-/// The file of a row, behind the bytes that are there.
+/// The file of a row, after the bytes that are there.
 pub(crate) fn put_executable(
     alloc: Global,
     row: &str,

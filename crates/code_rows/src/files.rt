@@ -1,15 +1,17 @@
 //! The bytes of files.
 //!
-//! - `file HEX`: the file of the rows `read` behind it; its size
-//! - `read CHANGE.. QUERY..`: of that file, cut by `cut=SIZE` and with another byte by `OFFSET=BYTE`, the fault, or what the
-//!   queries give: `segment=N`, `symbol=N`, `run=N`, `at=ADDRESS`, `function=NAME`, `object=NAME`, `pointer=`
-//! - `made one`, `made none`: the bytes that are written of a function `f` of two words, and of nothing with the flags 16
+//! - `file HEX`: the file of the rows `read` after it; its size
+//! - `read CHANGE.. QUERY..`: of that file, cut by `cut=SIZE` and with another byte by
+//!   `OFFSET=BYTE`, the fault, or what the queries give: `segment=N`, `symbol=N`, `run=N`,
+//!   `bytes=N`, `at=ADDRESS`, `function=NAME`, `object=NAME`, `pointer=`
+//! - `made one`, `made none`: the bytes that are written of a function `f` of two words, and of
+//!   nothing with the flags 16
 
 use crate::numbers::{decimal, hexadecimal};
 use crate::out::Out;
 use elf_make::{Parts, write};
-use elf_read::{ElfError, Image, Segment, Symbol, read};
-use elf_spec::Named;
+use elf_read::{ElfError, Image, Run, Segment, Symbol, read};
+use elf_spec::SymbolValues;
 use std::alloc::{AllocError, Global};
 
 const ONE: Parts<'static> = Parts {
@@ -59,11 +61,11 @@ fn put_number(number: Option<u32>, out: &mut Out) {
     }
 }
 
-fn put_named(named: Named, out: &mut Out) {
+fn put_named(named: SymbolValues, out: &mut Out) {
     match named {
-        Named::Absent => out.put(" none"),
-        Named::One(value) => put_number(Some(value), out),
-        Named::Two(first, other) => {
+        SymbolValues::Absent => out.put(" none"),
+        SymbolValues::One(value) => put_number(Some(value), out),
+        SymbolValues::Two(first, other) => {
             put_number(Some(first), out);
             put_number(Some(other), out);
         }
@@ -94,8 +96,25 @@ fn put_symbol(symbol: Option<&Symbol<'_>>, out: &mut Out) {
     out.show(&symbol.kind);
 }
 
+fn put_run(run: Option<&Run>, out: &mut Out) {
+    let Some(run) = run else {
+        return out.put(" none");
+    };
+    put_number(Some(run.start), out);
+    out.put(" bytes");
+    for byte in run.bytes.as_slice() {
+        put_number(Some(u32::from(*byte)), out);
+    }
+}
+
 /// What a query gives.
-fn put_answer(image: &Image<'_>, query: &str, value: &str, out: &mut Out) {
+fn put_answer(
+    alloc: Global,
+    image: &Image<'_>,
+    query: &str,
+    value: &str,
+    out: &mut Out,
+) -> Result<(), AllocError> {
     match query {
         "segment" => put_segment(image.segment(decimal(value)), out),
         "symbol" => put_symbol(image.symbol(decimal(value)), out),
@@ -103,6 +122,10 @@ fn put_answer(image: &Image<'_>, query: &str, value: &str, out: &mut Out) {
             let run = image.run(decimal(value));
             put_number(run.map(|run| run.first), out);
             put_number(run.map(|run| run.last), out);
+        }
+        "bytes" => {
+            let runs = image.runs(alloc)?;
+            put_run(runs.get(decimal(value)), out);
         }
         "at" => {
             put_number(image.size_at(hexadecimal(value)), out);
@@ -113,16 +136,23 @@ fn put_answer(image: &Image<'_>, query: &str, value: &str, out: &mut Out) {
         "pointer" => put_number(image.global_pointer(), out),
         _ => {}
     }
+    Ok(())
 }
 
 /// What the queries of a row give of an image.
-fn put_answers(image: &Image<'_>, row: &str, out: &mut Out) {
+fn put_answers(
+    alloc: Global,
+    image: &Image<'_>,
+    row: &str,
+    out: &mut Out,
+) -> Result<(), AllocError> {
     out.put("read");
     for word in row.split_whitespace() {
         if let Some((query, value)) = word.split_once('=') {
-            put_answer(image, query, value, out);
+            put_answer(alloc, image, query, value, out)?;
         }
     }
+    Ok(())
 }
 
 /// A change of a row, made.
@@ -151,7 +181,7 @@ pub(crate) fn put_read(
         }
     }
     match read(alloc, bytes.as_slice()) {
-        Ok(image) => put_answers(&image, row, out),
+        Ok(image) => put_answers(alloc, &image, row, out)?,
         Err(ElfError::Fault(fault)) => {
             out.show(&fault.kind);
             out.put(" at ");

@@ -1,13 +1,14 @@
-//! What the functions of an executable reach: `code PART..` gives of the first function its instructions, the entries of all that
-//! it reaches and its stack, or a fault in the place of each; `graphs PART..` the graph of each function that it reaches, a line a
-//! node, and whether all are valid.
+//! What the functions of an executable reach: `code PART..` gives of the first function its
+//! instructions, the entries of all that it reaches and its stack, or a fault in the place of each;
+//! `graphs PART..` the graph of each function that it reaches, a line a node, and whether all are
+//! valid.
 
 ghost use Rattle.std.specs.List.Sorted.{IsStrictlyIncreasing};
 
 use crate::executables::put_executable;
 use crate::out::Out;
 use crate::texts::put_graph;
-use decompile::{CodeError, code, reach, stack};
+use decompile::{CodeError, GraphError, code, decompile, reach, stack};
 use elf_read::{Image, read};
 use graph_core::{Graph, GraphRun, Walks, callee_runs_as_alone, run_goes_on, validate};
 use std::alloc::{AllocError, Global};
@@ -20,6 +21,23 @@ fn put_error(error: CodeError, out: &mut Out) {
             out.hexadecimal(fault.address);
         }
         CodeError::NoMemory => out.put("no memory"),
+    }
+}
+
+fn put_graph_error(error: GraphError, out: &mut Out) {
+    match error {
+        GraphError::Fault(fault) => put_error(CodeError::Fault(fault), out),
+        GraphError::Unlisted { address, callee } => {
+            out.put("unlisted ");
+            out.hexadecimal(callee);
+            out.put(" at ");
+            out.hexadecimal(address);
+        }
+        GraphError::Large(count) => {
+            out.put("large ");
+            out.show(&count);
+        }
+        GraphError::NoMemory => out.put("no memory"),
     }
 }
 
@@ -61,7 +79,7 @@ fn put_code(alloc: Global, image: &Image<'_>, entry: u32, out: &mut Out) {
     }
 }
 
-/// The graphs of the functions at these entries, one behind the other.
+/// The graphs of the functions at these entries, one after the other.
 fn put_graphs(
     alloc: Global,
     image: &Image<'_>,
@@ -75,8 +93,8 @@ fn put_graphs(
         if image.size_at(*entry).is_none() {
             continue;
         }
-        match code_graph::decompile(alloc, image, *entry, entries) {
-            Err(error) => put_error(error, out),
+        match decompile(alloc, image, *entry, entries) {
+            Err(error) => put_graph_error(error, out),
             Ok(found) => {
                 put_graph(&found, out);
                 if graphs.push(found.graph).is_err() {

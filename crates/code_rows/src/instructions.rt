@@ -1,5 +1,6 @@
-//! Instructions: `word WORD` gives the form of a word, and the word of that form; `form NAME NUMBER..` the word of a form,
-//! or that no word has it; `effect WORD A B` what an instruction at 00010000 does where its sources are A and B.
+//! Instructions: `word WORD` gives the instruction of a word, and the word of that instruction;
+//! `encode NAME NUMBER..` the word of an instruction, or that there is none; `effect WORD A B` what
+//! an instruction at 00010000 does where its sources are A and B.
 
 use crate::numbers::{hexadecimal, signed};
 use crate::out::Out;
@@ -15,83 +16,91 @@ fn x(number: i32) -> Reg {
     Reg::new((number & 31) as u8)
 }
 
-/// A form of each format, from its numbers in the order of the assembler's operands.
-fn form(name: &str, a: i32, b: i32, c: i32) -> Option<Instr> {
-    let (rd, left, right) = (x(a), x(b), x(c));
+/// An instruction of each format with an immediate of its own, from its numbers in the order of the
+/// assembler's operands.
+fn upper_or_jump(name: &str, a: i32, b: i32, c: i32) -> Option<Instr> {
+    let rd = x(a);
+    let imm = b.cast_unsigned();
     Some(match name {
-        "lui" => Instr::Lui {
-            rd,
-            imm: b.cast_unsigned(),
-        },
-        "auipc" => Instr::Auipc {
-            rd,
-            imm: b.cast_unsigned(),
-        },
+        "lui" => Instr::Lui { rd, imm },
+        "auipc" => Instr::Auipc { rd, imm },
         "jal" => Instr::Jal { rd, offset: b },
         "jalr" => Instr::Jalr {
             rd,
-            base: left,
+            base: x(b),
             offset: c,
         },
         "blt" => Instr::Branch {
             test: BranchTest::Less,
             left: rd,
-            right: left,
+            right: x(b),
             offset: c,
         },
+        _ => return None,
+    })
+}
+
+/// The same of loads, stores and operations.
+fn access_or_operation(name: &str, a: i32, b: i32, c: i32) -> Option<Instr> {
+    let (rd, source) = (x(a), x(b));
+    Some(match name {
         "lh" => Instr::Load {
             kind: LoadKind::Half,
             rd,
-            base: left,
+            base: source,
             offset: c,
         },
         "sb" => Instr::Store {
             kind: StoreKind::Byte,
             source: rd,
-            base: left,
+            base: source,
             offset: c,
         },
         "xori" => Instr::Immediate {
             operation: ImmediateOperation::Xor,
             rd,
-            source: left,
+            source,
             imm: c,
         },
         "slli" => Instr::Shift {
             operation: ShiftOperation::Left,
             rd,
-            source: left,
+            source,
             amount: (c & 255) as u8,
         },
         "sub" => Instr::Arithmetic {
             operation: ArithmeticOperation::Subtract,
             rd,
-            left,
-            right,
+            left: source,
+            right: x(c),
         },
         "fence" => Instr::Fence {
             rd,
-            source: left,
+            source,
             bits: (c & 65535) as u16,
         },
         _ => return None,
     })
 }
 
-/// The word of a form.
-fn put_word(form: &Instr, out: &mut Out) {
-    if fits(form) {
-        out.word(encode(form));
+/// The word of an instruction.
+fn put_word(instruction: &Instr, out: &mut Out) {
+    if fits(instruction) {
+        out.word(encode(instruction));
     } else {
         out.put("no word");
     }
 }
 
-/// The outcome of a row `form`.
-fn put_form(name: &str, a: &str, b: &str, c: &str, out: &mut Out) {
-    match form(name, signed(a), signed(b), signed(c)) {
-        Some(form) => put_word(&form, out),
-        None => out.put("no form"),
+/// The outcome of a row `encode`.
+fn put_encoded(name: &str, a: &str, b: &str, c: &str, out: &mut Out) {
+    let (a, b, c) = (signed(a), signed(b), signed(c));
+    if let Some(instruction) = upper_or_jump(name, a, b, c) {
+        return put_word(&instruction, out);
+    }
+    match access_or_operation(name, a, b, c) {
+        Some(instruction) => put_word(&instruction, out),
+        None => out.put("no instruction"),
     }
 }
 
@@ -101,18 +110,18 @@ pub(crate) fn put_instruction(asked: &str, row: &str, out: &mut Out) {
     let first = words.next().unwrap_or("");
     let a = words.next().unwrap_or("0");
     let b = words.next().unwrap_or("0");
-    if asked == "form" {
-        return put_form(first, a, b, words.next().unwrap_or("0"), out);
+    if asked == "encode" {
+        return put_encoded(first, a, b, words.next().unwrap_or("0"), out);
     }
     match decode(hexadecimal(first)) {
-        None => out.put("no form"),
-        Some(form) if asked == "effect" => {
-            out.show(&effect(&form, hexadecimal(a), hexadecimal(b), 0x1_0000));
+        None => out.put("no instruction"),
+        Some(instruction) if asked == "effect" => {
+            out.show(&effect(&instruction, hexadecimal(a), hexadecimal(b), 0x1_0000));
         }
-        Some(form) => {
-            out.show(&form);
+        Some(instruction) => {
+            out.show(&instruction);
             out.put(" ");
-            put_word(&form, out);
+            put_word(&instruction, out);
         }
     }
 }

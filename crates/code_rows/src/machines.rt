@@ -1,6 +1,7 @@
-//! What a machine does: `machine WORD.. x1=V x2=V .. STEP..`. The words lie at 00010000, where the machine begins; registers
-//! without a value are 0. A step is `step`, `run=N@STOP` (in hexadecimal), `x7` or `pc` (its value), `at=A` (the byte
-//! there), or `all`: pc, the registers from x1 on, and a sum over the 4,096 bytes from 00040000 on.
+//! What a machine does: `machine WORD.. x1=V x2=V .. STEP..`. The words lie at 00010000, where the
+//! machine begins; registers without a value are 0. A step is `step`, `run=N@STOP` (in
+//! hexadecimal), `x7` or `pc` (its value), `at=A` (the byte there), or `all`: pc, the registers
+//! from x1 on, and a sum over the 4,096 bytes from 00040000 on.
 
 use crate::numbers::{decimal, hexadecimal};
 use crate::out::Out;

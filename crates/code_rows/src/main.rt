@@ -1,12 +1,14 @@
-//! Rows of files and code: each line of the input is a row, a name, a colon and words; each line of the output is
-//! the name of its row and an outcome. The first word says what is asked:
+//! Rows of files and code: each line of the input is a row, a name, a colon and words; each line of
+//! the output is the name of its row and an outcome. The first word says what is asked:
 //!
-//! - `word`, `form`, `effect`: instructions (`instructions`); `machine`: what a machine does (`machines`)
+//! - `word`, `encode`, `effect`: instructions (`instructions`); `machine`: what a machine does
+//!   (`machines`)
 //! - `file`, `made`, `read`: the bytes of files and what is read off them (`files`)
 //! - `code`, `graphs`: what the functions of made files reach, and their graphs (`functions`)
-//! - `nodes`: whether a graph is valid (`nodes`); `countdown`: a walk that has nothing of graphs (`walks`)
+//! - `nodes`: whether a graph is valid (`nodes`); `countdown`: a walk that has nothing of graphs
+//!   (`walks`)
 //!
-//! A line that begins with `#` says where the outcomes of the rows behind it come from.
+//! A line that begins with `#` says where the outcomes of the rows after it come from.
 #![tactic(auto)]
 
 mod executables;
@@ -24,7 +26,8 @@ use crate::out::Out;
 use std::alloc::{AllocError, Global};
 use std::io::{BufRead, BufReader};
 
-/// The outcome of a row, a line for each part of it; `file` is the bytes that the last row `file` gave.
+/// The outcome of a row, a line for each part of it; `file` is the bytes that the last row `file`
+/// gave.
 fn put_outcome(
     alloc: Global,
     row: &str,
@@ -33,7 +36,7 @@ fn put_outcome(
 ) -> Result<(), AllocError> {
     let (asked, rest) = row.split_once(' ').unwrap_or((row, ""));
     match asked {
-        "word" | "form" | "effect" => instructions::put_instruction(asked, rest, out),
+        "word" | "encode" | "effect" => instructions::put_instruction(asked, rest, out),
         "file" => files::take_file(alloc, rest, file, out),
         "countdown" => walks::put_countdown(out),
         "machine" => return machines::put_machine(alloc, rest, out),
@@ -45,7 +48,7 @@ fn put_outcome(
     Ok(())
 }
 
-/// Prints the outcome of a row, each line behind its name.
+/// Prints the outcome of a row, each line after its name.
 fn print_row(rt: &HostRuntime, line: &str, file: &mut Vec<u8>) -> anyhow::Result<()> {
     let (name, row) = line.split_once(": ").unwrap_or((line, ""));
     let mut out = Out::new(rt.alloc());

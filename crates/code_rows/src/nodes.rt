@@ -1,7 +1,9 @@
-//! Whether a graph is valid: `nodes ENTRY WORD..`. The words are read in order, over a stack of terms: a number of 32 bits,
-//! `parameter`, `local` and `truth` go onto it; `add`, `multiply`, `less` and `equal` take two terms off it and put one on it. A node
-//! takes its terms off the stack: `to=N` goes on, `set=N` sets the local and goes on, `test=N,N` tests, and `call=G,N` calls graph
-//! G with the parameter and goes on behind its landing node. N is the number of a node, `ret` or `err`.
+//! Whether a graph is valid: `nodes ENTRY WORD..`. The words are read in order, over a stack of
+//! terms: a number of 32 bits, `parameter`, `local` and `truth` go onto it; `add`, `multiply`,
+//! `less` and `equal` take two terms off it and put one on it. A node takes its terms off the
+//! stack: `to=N` goes on, `set=N` sets the local and goes on, `test=N,N` tests, and `call=G,N`
+//! calls graph G with the parameter and continues after its landing node. N is the number of a
+//! node, `ret` or `err`.
 
 use crate::numbers::decimal;
 use crate::out::Out;

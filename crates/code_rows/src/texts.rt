@@ -1,7 +1,8 @@
-//! Graphs as text: a line for each node, its number, the address if it is the first of an instruction, and what it does.
+//! Graphs as text: a line for each node, its number, the address if it is the first of an
+//! instruction, and what it does.
 
 use crate::out::Out;
-use code_graph::CodeGraph;
+use decompile::CodeGraph;
 use graph_core::{Binding, Next, Node};
 use term_core::Term;
 use term_spec::{Atom, BinaryOperator, Family, Variable};
@@ -35,7 +36,7 @@ fn put_operator(operator: BinaryOperator, out: &mut Out) {
     }
 }
 
-/// A term behind a blank: an operator and its arguments in brackets.
+/// A term after a blank: an operator and its arguments in brackets.
 fn put_term(term: &Term, out: &mut Out) {
     match term {
         Term::Leaf(atom) => return put_atom(*atom, out),

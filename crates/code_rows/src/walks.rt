@@ -1,8 +1,8 @@
 //! A walk that has nothing of graphs: its states are numbers.
 
 ghost use Rattle.std.specs.Prelude.{⊤, ℕ};
-ghost use Rattle.graph_examples.specs.Countdown.{countdown, leads_back, no_call};
-ghost use Rattle.graph_examples.proofs.Countdown.{countdown_is_walk};
+ghost use Rattle.example_laws.specs.Countdown.{countdown, leads_back, no_call};
+ghost use Rattle.example_laws.proofs.GraphCountdown.{countdown_is_system};
 
 use crate::out::Out;
 use graph_core::{
@@ -15,7 +15,7 @@ struct Countdown;
 impl Walks for Countdown {
     ghost State = { ℕ };
 
-    ghost walk = { λ _. countdown };
+    ghost system = { λ _. countdown };
 
     ghost leads = { λ _. leads_back };
 
@@ -25,7 +25,7 @@ impl Walks for Countdown {
 
     ghost count = { λ _. 1 };
 
-    ghost is_walk = { λ _. countdown_is_walk };
+    ghost is_system = { λ _. countdown_is_system };
 
     fn nodes(&self) -> usize {
         1

@@ -6,9 +6,9 @@ use Rattle.rv_instr.specs.declared.Instr.TheVariants.{Lui, Auipc, Jal, Jalr, Bra
 use Rattle.elf_spec.specs.Image.{Image, size_at}
 use Rattle.code_spec.specs.declared.CodeKind.{CodeKind}
 use Rattle.code_spec.specs.declared.CodeKind.TheVariants.{NoFunction, Ambiguous, Empty, Writable, Misplaced, Undecoded, Indirect, Leaves, Overlap}
-use Rattle.code_spec.specs.Code.{instr_at, InRange, Flow, Falls, Branches, Jumps, Calls, Leads, Returns, Stops, flow_of, flow_of_pair, pair_target, flow_at, nexts_of, IsReachable, CallsOn, Reaches}
+use Rattle.code_spec.specs.Code.{instr_at, Flow, Jumps, Returns, Stops, flow_of, flow_of_pair, pair_target, flow_at, IsReachable, CallsOn, Reaches}
 use Rattle.code_spec.specs.Code as code
-use Rattle.code_spec.specs.Faults.{direct_flow, IsDirectlyReachable, CallsDirectly, ReachesDirectly, is_indirect, goes_to, IsInstructionFault, IsFunctionFault, IsReachFault, rank, IsFirst, indirect, leaves, of_instruction, of_function, HasNoFault, ReachesNoFault}
+use Rattle.code_spec.specs.Faults.{direct_flow, IsDirectlyReachable, CallsDirectly, ReachesDirectly, is_indirect, rank, IsFirst, indirect, leaves, of_instruction, of_function, HasNoFault, ReachesNoFault}
 use Rattle.code_spec.specs.Faults as direct
 
 -- ---- the first fault

@@ -8,12 +8,14 @@ use Rattle.rv_instr.specs.declared.Instr.TheVariants.{Lui, Auipc, Jal, Jalr, Bra
 use Rattle.rv_instr.specs.declared.ImmediateOperation.TheVariants.{Add}
 use Rattle.rv_instr.specs.Instr.{instr}
 use Rattle.rv_spec.specs.Arithmetic.{word}
-use Rattle.rv_spec.specs.Machine.{Memory, byte_at, past}
+use Rattle.memory_spec.specs.Memory.{Memory, byte_at}
+use Rattle.memory_spec.specs.Zones.{zone_from, InZone}
+use Rattle.rv_spec.specs.Machine.{past}
 use Rattle.elf_spec.specs.Image.{Image, fixed_byte, size_at}
 use Rattle.code_spec.specs.declared.CodeKind.{CodeKind}
 use Rattle.code_spec.specs.declared.CodeKind.TheVariants.{Empty, Writable, Misplaced}
 
--- every fixed byte stands in memory
+-- memory holds every fixed byte
 abbrev pub HoldsFixed : Image → Memory → Type 0
 HoldsFixed image memory = (address byte : ℕ) → fixed_byte image address ≡ Some byte → byte_at memory address ≡ byte
 
@@ -21,15 +23,17 @@ abbrev pub word_of_bytes : Option ℕ → Option ℕ → Option ℕ → Option �
 word_of_bytes (Some a) (Some b) (Some c) (Some d) = Some (little_number 4 (a ∷ b ∷ c ∷ d ∷ []))
 word_of_bytes a b c d = None
 
--- the instruction at an address, if four fixed bytes there have a form
+-- the word at an address, if its four bytes are fixed
+abbrev pub word_at : Image → ℕ → Option ℕ
+word_at image address = word_of_bytes (fixed_byte image address) (fixed_byte image (address + 1)) (fixed_byte image (address + 2)) (fixed_byte image (address + 3))
+
+-- the instruction at an address
 unfoldable pub instr_at : Image → ℕ → Option Instr
-instr_at image address =
-    option_and_then instr (word_of_bytes (fixed_byte image address) (fixed_byte image (address + 1)) (fixed_byte image (address + 2)) (fixed_byte image (address + 3)))
+instr_at image address = option_and_then instr (word_at image address)
 
 -- an address of the range of a function: from its entry on, as many bytes as its size
-pub record InRange (entry size address : ℕ) : Type 0 where
-  pub from : entry ≤ address
-  pub below : address < entry + size
+abbrev pub InRange : (entry size address : ℕ) → Type 0
+InRange entry size address = InZone (zone_from entry size) address
 
 -- every byte of the range is fixed, and the range doesn't wrap
 pub record IsFixedRange (image : Image) (entry size : ℕ) : Type 0 where
@@ -45,26 +49,25 @@ pub data IsRangeFault (image : Image) (entry size : ℕ) : CodeKind → Type 0 w
 -- the function has code: it isn't empty, doesn't wrap, no code may write it, and its words are aligned
 pub record HasCode (image : Image) (entry size : ℕ) : Type 0 where
   pub not_empty : 0 < size
-  pub in_space : entry + size ≤ 2 ^ 32
-  pub fixed : (address : ℕ) → InRange entry size address → IsSome (fixed_byte image address)
+  pub range_fixed : IsFixedRange image entry size
   pub entry_aligned : entry % 4 ≡ 0
   pub size_aligned : size % 4 ≡ 0
 
--- where control goes behind an instruction
+-- where control goes after an instruction
 pub data Flow : Type 0 where
   -- to the next instruction
   Falls : Flow
   -- to the next instruction or to the target
   Branches : (target : ℕ) → Flow
-  -- to the target, and isn't to come back
+  -- to the target, and does not return
   Jumps : (target : ℕ) → Flow
-  -- to the target, and is to come back to the next instruction
+  -- to the target, which returns to the next instruction
   Calls : (target : ℕ) → Flow
-  -- to the target, with the address behind in a register other than x1
-  Leads : (target : ℕ) → Flow
+  -- to the target, with the return address in a register other than x1
+  Links : (target : ℕ) → Flow
   -- to the return address
   Returns : Flow
-  -- nowhere that the file tells
+  -- to no address that the file determines
   Stops : Flow
 
 abbrev pub target_of : ℕ → ℤ → ℕ
@@ -79,6 +82,10 @@ pair_target (Some (Auipc register imm)) address rd base offset =
     else None
 pair_target before address rd base offset = None
 
+abbrev pub is_zero : ℤ → Bool
+is_zero (pos n) = n == 0
+is_zero (negsuc n) = false
+
 abbrev pub flow_of_pair : Option ℕ → (rd : ℕ) → Flow
 flow_of_pair None rd = Stops
 flow_of_pair (Some target) rd = if rd == 0 then Jumps target else Calls target
@@ -90,14 +97,10 @@ flow_of before address (Auipc rd imm) = Falls
 flow_of before address (Jal rd offset) =
     if rd == 0 then Jumps (target_of address offset)
     else if rd == 1 then Calls (target_of address offset)
-    else Leads (target_of address offset)
+    else Links (target_of address offset)
 flow_of before address (Jalr rd base offset) =
     if (rd == 0) && (base == 1) && is_zero offset then Returns
     else flow_of_pair (pair_target before address rd base offset) rd
-  where
-    is_zero : ℤ → Bool
-    is_zero (pos n) = n == 0
-    is_zero (negsuc n) = false
 flow_of before address (Branch test left right offset) = Branches (target_of address offset)
 flow_of before address (Load kind rd base offset) = Falls
 flow_of before address (Store kind base source offset) = Falls
@@ -123,7 +126,7 @@ nexts_of address Falls = (address + 4) ∷ []
 nexts_of address (Branches target) = (address + 4) ∷ aligned target
 nexts_of address (Jumps target) = aligned target
 nexts_of address (Calls target) = (address + 4) ∷ []
-nexts_of address (Leads target) = aligned target
+nexts_of address (Links target) = aligned target
 nexts_of address Returns = []
 nexts_of address Stops = []
 

@@ -6,16 +6,13 @@
 use Rattle.std.specs.Prelude.{◌≡◌, ◌+◌, ◌<◌, ◌≤◌, ℕ, Bool, true, false, List, [], ◌∷◌, Contains, Option, Some, None, IsSome, option_and_then}
 use Rattle.rv_instr.specs.declared.Instr.{Instr}
 use Rattle.rv_instr.specs.declared.Instr.TheVariants.{Jalr}
-use Rattle.elf_spec.specs.Image.{Image, fixed_byte, size_at}
+use Rattle.memory_spec.specs.Zones.{zone_from, ZonesMeet}
+use Rattle.elf_spec.specs.Image.{Image, size_at}
 use Rattle.code_spec.specs.declared.CodeKind.{CodeKind}
 use Rattle.code_spec.specs.declared.CodeKind.TheVariants.{NoFunction, Ambiguous, Empty, Writable, Misplaced, Undecoded, Indirect, Leaves, Overlap}
-use Rattle.code_spec.specs.Code.{word_of_bytes, instr_at, InRange, IsRangeFault, HasCode, Flow, Falls, Branches, Jumps, Calls, Leads, Returns, Stops, flow_of, nexts_of}
+use Rattle.code_spec.specs.Code.{instr_at, InRange, IsRangeFault, HasCode, Flow, Falls, Branches, Jumps, Calls, Links, Returns, Stops, flow_of, nexts_of}
 
 -- ---- direct flow
-
--- the word at an address, if its four bytes are fixed
-abbrev pub word_at : Image → ℕ → Option ℕ
-word_at image address = word_of_bytes (fixed_byte image address) (fixed_byte image (address + 1)) (fixed_byte image (address + 2)) (fixed_byte image (address + 3))
 
 -- the flow of the instruction at an address where no pair is taken: it is looked at without the one before it
 unfoldable pub direct_flow : Image → (address : ℕ) → Option Flow
@@ -40,9 +37,9 @@ pub data ReachesDirectly (image : Image) (entry : ℕ) : ℕ → Type 0 where
 
 -- ---- faults of one function
 
--- a JALR that is no return, or a JAL that keeps the address behind it in a register other than x1
+-- a JALR that is no return, or a JAL that keeps the return address in a register other than x1
 abbrev pub is_indirect : Instr → Flow → Bool
-is_indirect i (Leads target) = true
+is_indirect i (Links target) = true
 is_indirect (Jalr rd base offset) Stops = true
 is_indirect i flow = false
 
@@ -53,7 +50,7 @@ goes_to address Falls = (address + 4) ∷ []
 goes_to address (Branches target) = (address + 4) ∷ target ∷ []
 goes_to address (Jumps target) = target ∷ []
 goes_to address (Calls target) = []
-goes_to address (Leads target) = []
+goes_to address (Links target) = []
 goes_to address Returns = []
 goes_to address Stops = []
 
@@ -64,7 +61,7 @@ pub data IsInstructionFault (image : Image) (entry size address : ℕ) : CodeKin
       → IsInstructionFault image entry size address NoFunction
   -- the word has no form
   undecoded : instr_at image address ≡ None → IsInstructionFault image entry size address Undecoded
-  -- it goes to an address that the file doesn't tell, or keeps the address behind it elsewhere than in x1
+  -- it goes to an address that the file doesn't determine, or keeps the return address elsewhere than in x1
   indirect : (i : Instr) → instr_at image address ≡ Some i → is_indirect i (flow_of None address i) ≡ true
       → IsInstructionFault image entry size address Indirect
   -- it goes out of the range
@@ -85,13 +82,11 @@ HasNoFault image entry size = (kind : CodeKind) (address : ℕ) → IsFunctionFa
 -- ---- faults of all that is reached
 
 -- two ranges share an address
-pub record RangesMeet (entry size other other_size : ℕ) : Type 0 where
-  pub address : ℕ
-  pub in_one : InRange entry size address
-  pub in_other : InRange other other_size address
+abbrev pub RangesMeet : (entry size other other_size : ℕ) → Type 0
+RangesMeet entry size other other_size = ZonesMeet (zone_from entry size) (zone_from other other_size)
 
 -- what is wrong with the functions that are reached from the one at an entry: with one of them, or that two share
--- bytes, and then it stands at the greater entry
+-- bytes, and then it is reported at the greater entry
 pub data IsReachFault (image : Image) (entry : ℕ) : CodeKind → (address : ℕ) → Type 0 where
   of_function : (other size : ℕ) (kind : CodeKind) (address : ℕ) → ReachesDirectly image entry other → size_at image other ≡ Some size
       → IsFunctionFault image other size kind address → IsReachFault image entry kind address
@@ -105,7 +100,7 @@ ReachesNoFault image entry = (kind : CodeKind) (address : ℕ) → IsReachFault 
 
 -- ---- the first fault
 
--- the place of each kind among those at one address
+-- the rank of each kind among those at one address
 abbrev pub rank : CodeKind → ℕ
 rank NoFunction = 1
 rank Ambiguous = 2

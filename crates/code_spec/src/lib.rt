@@ -1,8 +1,8 @@
 //! The functions of a file, and what is wrong with them.
 //!
-//! `specs/Code.antt` has which instructions a function reaches, what it calls, how deep its stack goes, and what it
-//! means that a memory holds the fixed bytes. `specs/Faults.antt` has what is wrong with a function, where, and which
-//! fault is the first. [`CodeKind`] names the kinds.
+//! `specs/Code.antt` has which instructions a function reaches, what it calls, how deep its stack
+//! goes, and what it means that a memory holds the fixed bytes. `specs/Faults.antt` has what is
+//! wrong with a function, where, and which fault is the first. [`CodeKind`] names the kinds.
 #![tactic(auto)]
 
 /// Why the code of a function is refused, in the order in which kinds at one address are answered.
@@ -20,8 +20,8 @@ pub enum CodeKind {
     Misplaced,
     /// A word that is reached is no instruction.
     Undecoded,
-    /// A jump to an address that the file doesn't tell, or one that keeps the address behind it in a register
-    /// other than x1.
+    /// A jump to an address that the file doesn't determine, or one that keeps the return address
+    /// in a register other than x1.
     Indirect,
     /// Control goes out of the function by other means than a call or a return.
     Leaves,

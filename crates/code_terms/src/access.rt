@@ -1,13 +1,14 @@
 //! Loads and stores, and the tests before them.
 
-ghost use Rattle.std.specs.Prelude.{◌≡◌, IfOk};
+ghost use Rattle.std.specs.Prelude.{◌≡◌};
 ghost use Rattle.term_core.specs.Trees.{term_of};
 ghost use Rattle.term_spec.specs.Term as tree;
 ghost use Rattle.term_spec.specs.Shapes as shapes;
 ghost use Rattle.term_spec.specs.declared.Width.TheVariants.{W32};
 ghost use Rattle.code_graph_spec.specs.State as state;
-ghost use Rattle.code_graph_spec.specs.Forms as forms;
+ghost use Rattle.code_graph_spec.specs.InstructionTerms as forms;
 ghost use Rattle.code_terms.specs.Between.{avoids_between};
+ghost use Rattle.code_terms.specs.Built.{Builds};
 
 use crate::basic::{memory, number, on_words, open};
 use crate::products::byte;
@@ -20,7 +21,7 @@ use term_spec::{
 
 /// The address so many bytes past another.
 fn past(alloc: Global, a: &Term, count: u32) -> Result<Box<Term>, AllocError>
-    ensures { IfOk result (λ t. term_of t.value ≡ shapes.past (term_of a.now) count) }
+    ensures { Builds result (shapes.past (term_of a.now) count) }
 {
     let copy = a.copy(alloc)?;
     let count = number(alloc, count)?;
@@ -29,7 +30,7 @@ fn past(alloc: Global, a: &Term, count: u32) -> Result<Box<Term>, AllocError>
 
 /// The byte of the binary's memory at an address.
 fn load(alloc: Global, a: Box<Term>) -> Result<Box<Term>, AllocError>
-    ensures { IfOk result (λ t. term_of t.value ≡ tree.load (tree.open_term state.memory) (term_of a.value)) }
+    ensures { Builds result (tree.load (tree.open_term state.memory) (term_of a.value)) }
 {
     let memory = open(alloc, memory())?;
     Term::binary(alloc, BinaryOperator::Load, memory, a)
@@ -37,7 +38,7 @@ fn load(alloc: Global, a: Box<Term>) -> Result<Box<Term>, AllocError>
 
 /// The byte at an address.
 fn first_byte(alloc: Global, a: &Term) -> Result<Box<Term>, AllocError>
-    ensures { IfOk result (λ t. term_of t.value ≡ tree.load (tree.open_term state.memory) (term_of a.now)) }
+    ensures { Builds result (tree.load (tree.open_term state.memory) (term_of a.now)) }
 {
     let copy = a.copy(alloc)?;
     load(alloc, copy)
@@ -45,14 +46,15 @@ fn first_byte(alloc: Global, a: &Term) -> Result<Box<Term>, AllocError>
 
 /// The byte so many bytes past an address.
 fn further_byte(alloc: Global, a: &Term, count: u32) -> Result<Box<Term>, AllocError>
-    ensures { IfOk result (λ t. term_of t.value ≡ tree.load (tree.open_term state.memory) (shapes.past (term_of a.now) count)) }
+    ensures { Builds result (tree.load (tree.open_term state.memory) (shapes.past (term_of a.now)
+        count)) }
 {
     let place = past(alloc, a, count)?;
     load(alloc, place)
 }
 
 fn load_half(alloc: Global, a: &Term) -> Result<Box<Term>, AllocError>
-    ensures { IfOk result (λ t. term_of t.value ≡ shapes.load_half (tree.open_term state.memory) (term_of a.now)) }
+    ensures { Builds result (shapes.load_half (tree.open_term state.memory) (term_of a.now)) }
 {
     let first = first_byte(alloc, a)?;
     let second = further_byte(alloc, a, 1)?;
@@ -60,7 +62,7 @@ fn load_half(alloc: Global, a: &Term) -> Result<Box<Term>, AllocError>
 }
 
 fn load_word(alloc: Global, a: &Term) -> Result<Box<Term>, AllocError>
-    ensures { IfOk result (λ t. term_of t.value ≡ shapes.load_word (tree.open_term state.memory) (term_of a.now)) }
+    ensures { Builds result (shapes.load_word (tree.open_term state.memory) (term_of a.now)) }
 {
     let first = first_byte(alloc, a)?;
     let second = further_byte(alloc, a, 1)?;
@@ -77,9 +79,9 @@ fn load_word(alloc: Global, a: &Term) -> Result<Box<Term>, AllocError>
 }
 
 /// What a load puts into its register.
-#[tactic(auto, unfolding(code_graph_spec::specs::Forms::loaded))]
+#[tactic(auto, unfolding(code_graph_spec::specs::InstructionTerms::loaded))]
 pub fn loaded(alloc: Global, kind: LoadKind, a: &Term) -> Result<Box<Term>, AllocError>
-    ensures { IfOk result (λ t. term_of t.value ≡ forms.loaded kind (term_of a.now)) }
+    ensures { Builds result (forms.loaded kind (term_of a.now)) }
 {
     match kind {
         LoadKind::Byte => {
@@ -110,14 +112,16 @@ fn store(
     place: u8,
     x: &Term,
 ) -> Result<Box<Term>, AllocError>
-    ensures { IfOk result (λ t. term_of t.value ≡ tree.store (term_of m.value) (term_of a.value) (tree.byte place (term_of x.now))) }
+    ensures { Builds result (tree.store (term_of m.value) (term_of a.value) (tree.byte place
+        (term_of x.now))) }
 {
     let value = byte(alloc, place, x)?;
     Term::ternary(alloc, TernaryOperator::Store, m, a, value)
 }
 
 fn store_byte(alloc: Global, a: &Term, x: &Term) -> Result<Box<Term>, AllocError>
-    ensures { IfOk result (λ t. term_of t.value ≡ shapes.store_byte (tree.open_term state.memory) (term_of a.now) (term_of x.now)) }
+    ensures { Builds result (shapes.store_byte (tree.open_term state.memory) (term_of a.now)
+        (term_of x.now)) }
 {
     let copy = a.copy(alloc)?;
     let memory = open(alloc, memory())?;
@@ -125,7 +129,8 @@ fn store_byte(alloc: Global, a: &Term, x: &Term) -> Result<Box<Term>, AllocError
 }
 
 fn store_half(alloc: Global, a: &Term, x: &Term) -> Result<Box<Term>, AllocError>
-    ensures { IfOk result (λ t. term_of t.value ≡ shapes.store_half (tree.open_term state.memory) (term_of a.now) (term_of x.now)) }
+    ensures { Builds result (shapes.store_half (tree.open_term state.memory) (term_of a.now)
+        (term_of x.now)) }
 {
     let first = store_byte(alloc, a, x)?;
     let place = past(alloc, a, 1)?;
@@ -133,7 +138,8 @@ fn store_half(alloc: Global, a: &Term, x: &Term) -> Result<Box<Term>, AllocError
 }
 
 fn store_word(alloc: Global, a: &Term, x: &Term) -> Result<Box<Term>, AllocError>
-    ensures { IfOk result (λ t. term_of t.value ≡ shapes.store_word (tree.open_term state.memory) (term_of a.now) (term_of x.now)) }
+    ensures { Builds result (shapes.store_word (tree.open_term state.memory) (term_of a.now)
+        (term_of x.now)) }
 {
     let half = store_half(alloc, a, x)?;
     let third = past(alloc, a, 2)?;
@@ -143,9 +149,9 @@ fn store_word(alloc: Global, a: &Term, x: &Term) -> Result<Box<Term>, AllocError
 }
 
 /// The memory after a store.
-#[tactic(auto, unfolding(code_graph_spec::specs::Forms::stored))]
+#[tactic(auto, unfolding(code_graph_spec::specs::InstructionTerms::stored))]
 pub fn stored(alloc: Global, kind: StoreKind, a: &Term, x: &Term) -> Result<Box<Term>, AllocError>
-    ensures { IfOk result (λ t. term_of t.value ≡ forms.stored kind (term_of a.now) (term_of x.now)) }
+    ensures { Builds result (forms.stored kind (term_of a.now) (term_of x.now)) }
 {
     match kind {
         StoreKind::Byte => store_byte(alloc, a, x),
@@ -156,7 +162,7 @@ pub fn stored(alloc: Global, kind: StoreKind, a: &Term, x: &Term) -> Result<Box<
 
 /// The address is a multiple of a power of 2, of which 1 is taken here.
 pub fn is_multiple(alloc: Global, mask: u32, a: &Term) -> Result<Box<Term>, AllocError>
-    ensures { IfOk result (λ t. term_of t.value ≡ forms.is_multiple mask (term_of a.now)) }
+    ensures { Builds result (forms.is_multiple mask (term_of a.now)) }
 {
     let copy = a.copy(alloc)?;
     let mask = number(alloc, mask)?;
@@ -167,7 +173,7 @@ pub fn is_multiple(alloc: Global, mask: u32, a: &Term) -> Result<Box<Term>, Allo
 
 /// The last byte that a store writes.
 pub fn last_written(alloc: Global, kind: StoreKind, a: &Term) -> Result<Box<Term>, AllocError>
-    ensures { IfOk result (λ t. term_of t.value ≡ forms.last_written kind (term_of a.now)) }
+    ensures { Builds result (forms.last_written kind (term_of a.now)) }
 {
     match kind {
         StoreKind::Byte => a.copy(alloc),
@@ -178,7 +184,7 @@ pub fn last_written(alloc: Global, kind: StoreKind, a: &Term) -> Result<Box<Term
 
 /// The number is less than the word.
 fn is_above(alloc: Global, n: u32, a: &Term) -> Result<Box<Term>, AllocError>
-    ensures { IfOk result (λ t. term_of t.value ≡ tree.less (forms.number n) (term_of a.now)) }
+    ensures { Builds result (tree.less (forms.number n) (term_of a.now)) }
 {
     let n = number(alloc, n)?;
     let copy = a.copy(alloc)?;
@@ -187,14 +193,15 @@ fn is_above(alloc: Global, n: u32, a: &Term) -> Result<Box<Term>, AllocError>
 
 /// The word is less than the number.
 fn is_below(alloc: Global, a: &Term, n: u32) -> Result<Box<Term>, AllocError>
-    ensures { IfOk result (λ t. term_of t.value ≡ tree.less (term_of a.now) (forms.number n)) }
+    ensures { Builds result (tree.less (term_of a.now) (forms.number n)) }
 {
     let copy = a.copy(alloc)?;
     let n = number(alloc, n)?;
     Term::binary(alloc, BinaryOperator::Less, copy, n)
 }
 
-/// The bytes from an address to another meet none of a run of fixed bytes, of which these are the first and the last.
+/// The bytes from an address to another meet none of a run of fixed bytes, of which these are the
+/// first and the last.
 pub fn avoids(
     alloc: Global,
     a: &Term,
@@ -202,9 +209,9 @@ pub fn avoids(
     first: u32,
     last: u32,
 ) -> Result<Box<Term>, AllocError>
-    ensures { IfOk result (λ t. term_of t.value ≡ avoids_between (term_of a.now) (term_of e.now) first last) }
+    ensures { Builds result (avoids_between (term_of a.now) (term_of e.now) first last) }
 {
     let before = is_above(alloc, last, a)?;
-    let behind = is_below(alloc, e, first)?;
-    Term::binary(alloc, BinaryOperator::Or, before, behind)
+    let following = is_below(alloc, e, first)?;
+    Term::binary(alloc, BinaryOperator::Or, before, following)
 }

@@ -1,11 +1,12 @@
 //! What is computed of two words, and the tests of branches.
 
-ghost use Rattle.std.specs.Prelude.{◌≡◌, IfOk};
+ghost use Rattle.std.specs.Prelude.{◌≡◌};
 ghost use Rattle.term_core.specs.Trees.{term_of};
 ghost use Rattle.term_spec.specs.Term as tree;
 ghost use Rattle.term_spec.specs.Shapes as shapes;
 ghost use Rattle.term_spec.specs.declared.Width.TheVariants.{W32};
-ghost use Rattle.code_graph_spec.specs.Forms as forms;
+ghost use Rattle.code_graph_spec.specs.InstructionTerms as forms;
+ghost use Rattle.code_terms.specs.Built.{Builds};
 
 use crate::basic::{number, on_words, operand};
 use crate::division::{signed_quotient, signed_remainder};
@@ -17,20 +18,20 @@ use term_spec::{BinaryOperator, TernaryOperator, UnaryOperator, WordOperator};
 
 /// A word with its top bit flipped.
 fn flipped(alloc: Global, x: Box<Term>) -> Result<Box<Term>, AllocError>
-    ensures { IfOk result (λ t. term_of t.value ≡ tree.bit_xor (term_of x.value) (shapes.sign_bit W32)) }
+    ensures { Builds result (tree.bit_xor (term_of x.value) (shapes.sign_bit W32)) }
 {
     let sign = number(alloc, 0x8000_0000)?;
     on_words(alloc, WordOperator::Xor, x, sign)
 }
 
 fn less(alloc: Global, x: Box<Term>, y: Box<Term>) -> Result<Box<Term>, AllocError>
-    ensures { IfOk result (λ t. term_of t.value ≡ tree.less (term_of x.value) (term_of y.value)) }
+    ensures { Builds result (tree.less (term_of x.value) (term_of y.value)) }
 {
     Term::binary(alloc, BinaryOperator::Less, x, y)
 }
 
 fn signed_less(alloc: Global, x: Box<Term>, y: Box<Term>) -> Result<Box<Term>, AllocError>
-    ensures { IfOk result (λ t. term_of t.value ≡ shapes.signed_less W32 (term_of x.value) (term_of y.value)) }
+    ensures { Builds result (shapes.signed_less W32 (term_of x.value) (term_of y.value)) }
 {
     let left = flipped(alloc, x)?;
     let right = flipped(alloc, y)?;
@@ -39,7 +40,7 @@ fn signed_less(alloc: Global, x: Box<Term>, y: Box<Term>) -> Result<Box<Term>, A
 
 /// 1 where the test holds, else 0.
 fn set_if(alloc: Global, test: Box<Term>) -> Result<Box<Term>, AllocError>
-    ensures { IfOk result (λ t. term_of t.value ≡ forms.set_if (term_of test.value)) }
+    ensures { Builds result (forms.set_if (term_of test.value)) }
 {
     let one = number(alloc, 1)?;
     let zero = number(alloc, 0)?;
@@ -53,7 +54,8 @@ fn shift(
     x: Box<Term>,
     y: Box<Term>,
 ) -> Result<Box<Term>, AllocError>
-    ensures { IfOk result (λ t. term_of t.value ≡ tree.on_words operator (term_of x.value) (forms.places (term_of y.value))) }
+    ensures { Builds result (tree.on_words operator (term_of x.value) (forms.places (term_of
+        y.value))) }
 {
     let mask = number(alloc, 31)?;
     let places = on_words(alloc, WordOperator::And, y, mask)?;
@@ -61,28 +63,29 @@ fn shift(
 }
 
 fn set_less(alloc: Global, x: Box<Term>, y: Box<Term>) -> Result<Box<Term>, AllocError>
-    ensures { IfOk result (λ t. term_of t.value ≡ forms.set_if (shapes.signed_less W32 (term_of x.value) (term_of y.value))) }
+    ensures { Builds result (forms.set_if (shapes.signed_less W32 (term_of x.value) (term_of
+        y.value))) }
 {
     let test = signed_less(alloc, x, y)?;
     set_if(alloc, test)
 }
 
 fn set_less_unsigned(alloc: Global, x: Box<Term>, y: Box<Term>) -> Result<Box<Term>, AllocError>
-    ensures { IfOk result (λ t. term_of t.value ≡ forms.set_if (tree.less (term_of x.value) (term_of y.value))) }
+    ensures { Builds result (forms.set_if (tree.less (term_of x.value) (term_of y.value))) }
 {
     let test = less(alloc, x, y)?;
     set_if(alloc, test)
 }
 
 /// What an operation gives of two words.
-#[tactic(auto, unfolding(code_graph_spec::specs::Forms::computed))]
+#[tactic(auto, unfolding(code_graph_spec::specs::InstructionTerms::computed))]
 pub fn computed(
     alloc: Global,
     operation: ArithmeticOperation,
     x: Box<Term>,
     y: Box<Term>,
 ) -> Result<Box<Term>, AllocError>
-    ensures { IfOk result (λ t. term_of t.value ≡ forms.computed operation (term_of x.value) (term_of y.value)) }
+    ensures { Builds result (forms.computed operation (term_of x.value) (term_of y.value)) }
 {
     match operation {
         ArithmeticOperation::Add => on_words(alloc, WordOperator::Add, x, y),
@@ -111,26 +114,26 @@ pub fn computed(
 }
 
 fn equal(alloc: Global, x: Box<Term>, y: Box<Term>) -> Result<Box<Term>, AllocError>
-    ensures { IfOk result (λ t. term_of t.value ≡ tree.equal (term_of x.value) (term_of y.value)) }
+    ensures { Builds result (tree.equal (term_of x.value) (term_of y.value)) }
 {
     Term::binary(alloc, BinaryOperator::Equal, x, y)
 }
 
 fn opposite(alloc: Global, test: Box<Term>) -> Result<Box<Term>, AllocError>
-    ensures { IfOk result (λ t. term_of t.value ≡ tree.not_term (term_of test.value)) }
+    ensures { Builds result (tree.not_term (term_of test.value)) }
 {
     Term::unary(alloc, UnaryOperator::Not, test)
 }
 
 /// Whether a branch is taken.
-#[tactic(auto, unfolding(code_graph_spec::specs::Forms::taken))]
+#[tactic(auto, unfolding(code_graph_spec::specs::InstructionTerms::taken))]
 pub fn taken(
     alloc: Global,
     test: BranchTest,
     x: Box<Term>,
     y: Box<Term>,
 ) -> Result<Box<Term>, AllocError>
-    ensures { IfOk result (λ t. term_of t.value ≡ forms.taken test (term_of x.value) (term_of y.value)) }
+    ensures { Builds result (forms.taken test (term_of x.value) (term_of y.value)) }
 {
     match test {
         BranchTest::Equal => equal(alloc, x, y),
@@ -158,7 +161,7 @@ pub fn branch_test(
     left: Reg,
     right: Reg,
 ) -> Result<Box<Term>, AllocError>
-    ensures { IfOk result (λ t. term_of t.value ≡ forms.taken test (forms.operand left) (forms.operand right)) }
+    ensures { Builds result (forms.taken test (forms.operand left) (forms.operand right)) }
 {
     let left = operand(alloc, left)?;
     let right = operand(alloc, right)?;

@@ -1,10 +1,11 @@
 //! Variables, operands and the least terms.
 
-ghost use Rattle.std.specs.Prelude.{◌≡◌, IfOk};
+ghost use Rattle.std.specs.Prelude.{◌≡◌};
 ghost use Rattle.term_core.specs.Trees.{term_of};
 ghost use Rattle.term_spec.specs.Term as tree;
 ghost use Rattle.code_graph_spec.specs.State as state;
-ghost use Rattle.code_graph_spec.specs.Forms as forms;
+ghost use Rattle.code_graph_spec.specs.InstructionTerms as forms;
+ghost use Rattle.code_terms.specs.Built.{Builds};
 
 use rv_instr::Reg;
 use std::alloc::{AllocError, Global};
@@ -49,21 +50,21 @@ pub fn memory() -> Variable
 
 /// A variable as a term.
 pub(crate) fn open(alloc: Global, variable: Variable) -> Result<Box<Term>, AllocError>
-    ensures { IfOk result (λ t. term_of t.value ≡ tree.open_term variable) }
+    ensures { Builds result (tree.open_term variable) }
 {
     Term::leaf(alloc, Atom::Open(variable))
 }
 
 /// A word of 32 bits as a term.
 pub fn number(alloc: Global, n: u32) -> Result<Box<Term>, AllocError>
-    ensures { IfOk result (λ t. term_of t.value ≡ forms.number n) }
+    ensures { Builds result (forms.number n) }
 {
     Term::leaf(alloc, Atom::Constant(Width::W32, u64::from(n)))
 }
 
 /// A register as an operand: x0 is the number 0.
 pub fn operand(alloc: Global, r: Reg) -> Result<Box<Term>, AllocError>
-    ensures { IfOk result (λ t. term_of t.value ≡ forms.operand r) }
+    ensures { Builds result (forms.operand r) }
 {
     if r.number() == 0 {
         number(alloc, 0)
@@ -79,14 +80,14 @@ pub(crate) fn on_words(
     x: Box<Term>,
     y: Box<Term>,
 ) -> Result<Box<Term>, AllocError>
-    ensures { IfOk result (λ t. term_of t.value ≡ tree.on_words operator (term_of x.value) (term_of y.value)) }
+    ensures { Builds result (tree.on_words operator (term_of x.value) (term_of y.value)) }
 {
     Term::binary(alloc, BinaryOperator::Word(operator), x, y)
 }
 
 /// The address x[base] + offset.
 pub fn address(alloc: Global, base: Reg, offset: i32) -> Result<Box<Term>, AllocError>
-    ensures { IfOk result (λ t. term_of t.value ≡ forms.address base offset) }
+    ensures { Builds result (forms.address base offset) }
 {
     let base = operand(alloc, base)?;
     let offset = number(alloc, offset.cast_unsigned())?;
@@ -95,7 +96,7 @@ pub fn address(alloc: Global, base: Reg, offset: i32) -> Result<Box<Term>, Alloc
 
 /// That x1 is as it was when the function began.
 pub fn returns_home(alloc: Global) -> Result<Box<Term>, AllocError>
-    ensures { IfOk result (λ t. term_of t.value ≡ forms.returns_home) }
+    ensures { Builds result forms.returns_home }
 {
     let now = open(alloc, register(Reg::new(1)))?;
     let entry = open(alloc, entry_register(Reg::new(1)))?;

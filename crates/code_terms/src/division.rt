@@ -1,10 +1,11 @@
 //! Signed division of words of 32 bits by their magnitudes.
 
-ghost use Rattle.std.specs.Prelude.{◌≡◌, IfOk};
+ghost use Rattle.std.specs.Prelude.{◌≡◌};
 ghost use Rattle.term_core.specs.Trees.{term_of};
 ghost use Rattle.term_spec.specs.Term as tree;
 ghost use Rattle.term_spec.specs.Shapes as shapes;
 ghost use Rattle.term_spec.specs.declared.Width.TheVariants.{W32};
+ghost use Rattle.code_terms.specs.Built.{Builds};
 
 use crate::basic::{number, on_words};
 use std::alloc::{AllocError, Global};
@@ -13,7 +14,7 @@ use term_spec::{BinaryOperator, TernaryOperator, UnaryOperator, WordOperator};
 
 /// The top bit is clear.
 fn is_positive(alloc: Global, x: &Term) -> Result<Box<Term>, AllocError>
-    ensures { IfOk result (λ t. term_of t.value ≡ shapes.is_positive (term_of x.now)) }
+    ensures { Builds result (shapes.is_positive (term_of x.now)) }
 {
     let copy = x.copy(alloc)?;
     let bound = number(alloc, 0x8000_0000)?;
@@ -21,14 +22,14 @@ fn is_positive(alloc: Global, x: &Term) -> Result<Box<Term>, AllocError>
 }
 
 fn negated(alloc: Global, x: Box<Term>) -> Result<Box<Term>, AllocError>
-    ensures { IfOk result (λ t. term_of t.value ≡ shapes.negated (term_of x.value)) }
+    ensures { Builds result (shapes.negated (term_of x.value)) }
 {
     let zero = number(alloc, 0)?;
     on_words(alloc, WordOperator::Subtract, zero, x)
 }
 
 fn magnitude(alloc: Global, x: &Term) -> Result<Box<Term>, AllocError>
-    ensures { IfOk result (λ t. term_of t.value ≡ shapes.magnitude (term_of x.now)) }
+    ensures { Builds result (shapes.magnitude (term_of x.now)) }
 {
     let test = is_positive(alloc, x)?;
     let plain = x.copy(alloc)?;
@@ -44,7 +45,8 @@ fn of_magnitudes(
     x: &Term,
     y: &Term,
 ) -> Result<Box<Term>, AllocError>
-    ensures { IfOk result (λ t. term_of t.value ≡ tree.on_words operator (shapes.magnitude (term_of x.now)) (shapes.magnitude (term_of y.now))) }
+    ensures { Builds result (tree.on_words operator (shapes.magnitude (term_of x.now))
+        (shapes.magnitude (term_of y.now))) }
 {
     let first = magnitude(alloc, x)?;
     let second = magnitude(alloc, y)?;
@@ -53,7 +55,8 @@ fn of_magnitudes(
 
 /// The signs differ.
 fn signs_differ(alloc: Global, x: &Term, y: &Term) -> Result<Box<Term>, AllocError>
-    ensures { IfOk result (λ t. term_of t.value ≡ tree.not_term (tree.equal (shapes.is_positive (term_of x.now)) (shapes.is_positive (term_of y.now)))) }
+    ensures { Builds result (tree.not_term (tree.equal (shapes.is_positive (term_of x.now))
+        (shapes.is_positive (term_of y.now)))) }
 {
     let first = is_positive(alloc, x)?;
     let second = is_positive(alloc, y)?;
@@ -63,7 +66,7 @@ fn signs_differ(alloc: Global, x: &Term, y: &Term) -> Result<Box<Term>, AllocErr
 
 /// The word is not 0.
 fn is_not_zero(alloc: Global, x: &Term) -> Result<Box<Term>, AllocError>
-    ensures { IfOk result (λ t. term_of t.value ≡ tree.not_term (tree.equal (term_of x.now) (tree.constant W32 0))) }
+    ensures { Builds result (tree.not_term (tree.equal (term_of x.now) (tree.constant W32 0))) }
 {
     let copy = x.copy(alloc)?;
     let zero = number(alloc, 0)?;
@@ -72,7 +75,7 @@ fn is_not_zero(alloc: Global, x: &Term) -> Result<Box<Term>, AllocError>
 }
 
 pub(crate) fn signed_quotient(alloc: Global, x: &Term, y: &Term) -> Result<Box<Term>, AllocError>
-    ensures { IfOk result (λ t. term_of t.value ≡ shapes.signed_quotient (term_of x.now) (term_of y.now)) }
+    ensures { Builds result (shapes.signed_quotient (term_of x.now) (term_of y.now)) }
 {
     let differ = signs_differ(alloc, x, y)?;
     let some = is_not_zero(alloc, y)?;
@@ -84,7 +87,7 @@ pub(crate) fn signed_quotient(alloc: Global, x: &Term, y: &Term) -> Result<Box<T
 }
 
 pub(crate) fn signed_remainder(alloc: Global, x: &Term, y: &Term) -> Result<Box<Term>, AllocError>
-    ensures { IfOk result (λ t. term_of t.value ≡ shapes.signed_remainder (term_of x.now) (term_of y.now)) }
+    ensures { Builds result (shapes.signed_remainder (term_of x.now) (term_of y.now)) }
 {
     let test = is_positive(alloc, x)?;
     let plain = of_magnitudes(alloc, WordOperator::Remainder, x, y)?;

@@ -1,7 +1,8 @@
 //! The terms of instructions, built.
 //!
-//! Each call builds the term that `code_graph_spec` (`specs/Forms.antt`) has for a part of an instruction: an operand,
-//! an address, what is computed, loaded or stored, and the tests before an access.
+//! Each call builds the term that `code_graph_spec` (`specs/InstructionTerms.antt`) has for a part
+//! of an instruction: an operand, an address, what is computed, loaded or stored, and the tests
+//! before an access.
 #![tactic(auto)]
 
 mod access;

@@ -1,9 +1,10 @@
 //! High words of products.
 
-ghost use Rattle.std.specs.Prelude.{◌≡◌, IfOk};
+ghost use Rattle.std.specs.Prelude.{◌≡◌};
 ghost use Rattle.term_core.specs.Trees.{term_of};
 ghost use Rattle.term_spec.specs.Term as tree;
 ghost use Rattle.term_spec.specs.Shapes as shapes;
+ghost use Rattle.code_terms.specs.Built.{Builds};
 
 use crate::basic::on_words;
 use std::alloc::{AllocError, Global};
@@ -12,7 +13,7 @@ use term_spec::{QuaternaryOperator, UnaryOperator, Width, WordOperator};
 
 /// One byte of a word.
 pub(crate) fn byte(alloc: Global, place: u8, x: &Term) -> Result<Box<Term>, AllocError>
-    ensures { IfOk result (λ t. term_of t.value ≡ tree.byte place (term_of x.now)) }
+    ensures { Builds result (tree.byte place (term_of x.now)) }
 {
     let copy = x.copy(alloc)?;
     Term::unary(alloc, UnaryOperator::Byte(place), copy)
@@ -20,7 +21,7 @@ pub(crate) fn byte(alloc: Global, place: u8, x: &Term) -> Result<Box<Term>, Allo
 
 /// Bytes 4 to 7 of a word of 64 bits.
 fn high_half(alloc: Global, x: &Term) -> Result<Box<Term>, AllocError>
-    ensures { IfOk result (λ t. term_of t.value ≡ shapes.high_half (term_of x.now)) }
+    ensures { Builds result (shapes.high_half (term_of x.now)) }
 {
     let a = byte(alloc, 4, x)?;
     let b = byte(alloc, 5, x)?;
@@ -37,7 +38,8 @@ fn high_product_of(
     x: Box<Term>,
     y: Box<Term>,
 ) -> Result<Box<Term>, AllocError>
-    ensures { IfOk result (λ t. term_of t.value ≡ shapes.high_half (tree.multiply (tree.Unary first (term_of x.value)) (tree.Unary second (term_of y.value)))) }
+    ensures { Builds result (shapes.high_half (tree.multiply (tree.Unary first (term_of x.value))
+        (tree.Unary second (term_of y.value)))) }
 {
     let left = Term::unary(alloc, first, x)?;
     let right = Term::unary(alloc, second, y)?;
@@ -54,7 +56,7 @@ pub(crate) fn high_product(
     x: Box<Term>,
     y: Box<Term>,
 ) -> Result<Box<Term>, AllocError>
-    ensures { IfOk result (λ t. term_of t.value ≡ shapes.high_product (term_of x.value) (term_of y.value)) }
+    ensures { Builds result (shapes.high_product (term_of x.value) (term_of y.value)) }
 {
     high_product_of(alloc, ZERO, ZERO, x, y)
 }
@@ -64,7 +66,7 @@ pub(crate) fn high_product_signed(
     x: Box<Term>,
     y: Box<Term>,
 ) -> Result<Box<Term>, AllocError>
-    ensures { IfOk result (λ t. term_of t.value ≡ shapes.high_product_signed (term_of x.value) (term_of y.value)) }
+    ensures { Builds result (shapes.high_product_signed (term_of x.value) (term_of y.value)) }
 {
     high_product_of(alloc, SIGN, SIGN, x, y)
 }
@@ -74,7 +76,8 @@ pub(crate) fn high_product_signed_unsigned(
     x: Box<Term>,
     y: Box<Term>,
 ) -> Result<Box<Term>, AllocError>
-    ensures { IfOk result (λ t. term_of t.value ≡ shapes.high_product_signed_unsigned (term_of x.value) (term_of y.value)) }
+    ensures { Builds result (shapes.high_product_signed_unsigned (term_of x.value) (term_of
+        y.value)) }
 {
     high_product_of(alloc, SIGN, ZERO, x, y)
 }

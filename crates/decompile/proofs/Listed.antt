@@ -1,170 +1,140 @@
--- The words of the addresses that are reached, and the first fault among them.
-use Rattle.std.proofs.Common.{Bool, true, false, ◌≡◌, ◌⊎◌, ◌+◌, ◌<◌, ◌≤◌, ℕ, List, [], ◌∷◌, ◌++◌, length, get_or, map, take, refl, sym, ◌∙◌, ap, subst, inl, inr, arith}
-use Rattle.std.specs.Prelude.{Contains, All, Some, None, nat_le, Result, Ok, Err, IfOk, IfErr}
-use Rattle.std.proofs.lemmas.List.{take_more, map-append, take_all, get_or_default}
-use Rattle.std.proofs.lemmas.List.Elements.{All-nil, All-push, Contains-get_or}
-use Rattle.std.proofs.lemmas.Bool.{leb-true, leb-false}
-use Rattle.std.specs.List.Sorted.{IsStrictlyIncreasing}
-use Rattle.std.proofs.lemmas.Map.Keys.{non_decreasing_from_sorted, sorted_from_strictly_increasing}
+-- Calls of a function whose callees are listed.
+use Rattle.std.proofs.Common.{◌≡◌, ◌∙◌, inl, inr, ℕ, ◌<◌, ◌≤◌, refl, sym, ap, subst, arith, List, [], All, length, map, get_or, Some}
+use Rattle.std.specs.Prelude.{Contains}
+use Rattle.std.proofs.lemmas.Bool.{cases_lt}
+use Rattle.std.proofs.lemmas.List.{length-map, get_or-map}
+use Rattle.std.proofs.lemmas.List.Kept.{AllPairs-from_increasing}
+use Rattle.std.proofs.lemmas.Option.{same_Some}
+use Rattle.rv_instr.specs.declared.Instr.TheVariants as instr
 use Rattle.elf_spec.specs.Image.{Image, size_at}
-use Rattle.code_spec.specs.declared.CodeKind.{CodeKind}
-use Rattle.code_spec.specs.Code.{HasCode, IsRangeFault, empty, writable, misplaced}
-use Rattle.code_spec.specs.Faults.{word_at, IsDirectlyReachable, IsInstructionFault, IsFunctionFault, of_range, of_instruction, HasNoFault, IsFirst, rank}
-use Rattle.code_spec.proofs.Direct.{reachable-direct, direct-reachable}
-use Rattle.decompile.specs.Flows.{fault_at}
-use Rattle.decompile.specs.Growth.{IsPlace, AreReached}
-use Rattle.decompile.specs.Listing.{AreWords, IsStop, IsListingError}
-use Rattle.decompile.specs.Found.{IsCode, IsCodeError}
-use Rattle.decompile.specs.declared.faults.CodeError.{CodeError}
-use Rattle.decompile.specs.declared.faults.CodeError.TheVariants.{Fault, NoMemory}
-use Rattle.decompile.proofs.Wrong.{fault-is, is-fault}
-use Rattle.decompile.proofs.Places.{place, has-code}
+use Rattle.code_spec.specs.Code.{Flow, Falls, Branches, Jumps, Calls, Links, Returns, Stops, flow_at}
+use Rattle.code_spec.specs.Faults.{HasNoFault}
+use Rattle.code_reach.specs.Found.{IsCodeError}
+use Rattle.code_reach.specs.declared.faults.CodeError.{CodeError}
+use Rattle.code_reach.specs.declared.faults.CodeError.TheVariants as code
+use Rattle.code_graph_spec.specs.Blocks.{Setting, callee_of}
+use Rattle.code_graph_spec.specs.CodeGraph.{IsCall}
+use Rattle.code_graph_laws.specs.Layout.{Item, AreItems}
+use Rattle.decompile.specs.declared.items.Item.{Item as CodeItem}
+use Rattle.decompile.specs.declared.error.GraphError.{GraphError}
+use Rattle.decompile.specs.declared.error.GraphError.TheVariants.{Fault, Unlisted, Large, NoMemory}
+use Rattle.decompile.specs.Items.{item_of}
+use Rattle.decompile.specs.Answer.{setting}
+use Rattle.decompile.specs.Callees.{called, callee_of_item, IsListed, IsFirstUnlisted}
+use Rattle.decompile.specs.Errors.{error_of, IsGraphError}
+use Rattle.decompile.specs.Settings.{Stays}
+use Rattle.decompile.proofs.Whole.{stays}
 
--- the words of the first so many addresses
-pub record IsListed (image : Image) (entry size : ℕ) (addresses : List ℕ) (index : ℕ) (words : List (ℕ × ℕ)) : Type 0 where
-  pub sound : (k : ℕ) → k < index → fault_at image entry size (get_or addresses k 0) ≡ None
-  pub places : map (λ w. w.0) words ≡ take index addresses
-  pub words_are : All (λ w. word_at image w.0 ≡ Some w.1) words
+pub code_error : (image : Image) (entry : ℕ) (entries : List ℕ) (maximum : ℕ) (error : CodeError) → IsCodeError image entry error → IsGraphError image entry entries maximum (error_of error)
+code_error image entry entries maximum (code.Fault fault) is = is
+code_error image entry entries maximum code.NoMemory is = tt
 
-module _ (image : Image) (entry size : ℕ) (addresses : List ℕ) where
-  pub listed-none : IsListed image entry size addresses 0 []
-  listed-none = record { sound = λ k below. absurd (omega (arith, below)); places = refl; words_are = All-nil (λ w. word_at image w.0 ≡ Some w.1) }
+module _ (image : Image) (entry size : ℕ) (entries : List ℕ) (items : List CodeItem) (size_is : size_at image entry ≡ Some size) (sound : HasNoFault image entry size)
+    (are : AreItems image entry size (map item_of items)) where
+  abbrev f : Setting
+  f = setting entry size [] entries []
 
-  pub listed-more : (index a w : ℕ) (words : List (ℕ × ℕ)) → IsListed image entry size addresses index words → index < length addresses
-      → a ≡ get_or addresses index 0 → word_at image a ≡ Some w → fault_at image entry size a ≡ None
-      → IsListed image entry size addresses (index + 1) (words ++ (a, w) ∷ [])
-  listed-more index a w words so_far inside is word none = record {
-    sound = λ k below. elim (split k below) [
-      | inl before ↦ so_far.sound k before
-      | inr e ↦ subst (λ z. fault_at image entry size z ≡ None) (is ∙ ap (λ i. get_or addresses i 0) (sym e)) none
-    ];
-    places = map-append (λ w. w.0) words ((a, w) ∷ []) ∙ (ap (λ l. l ++ a ∷ []) so_far.places ∙ (ap (λ x. take index addresses ++ x ∷ []) is ∙ sym (take_more addresses index 0 inside)));
-    words_are = All-push (λ w. word_at image w.0 ≡ Some w.1) words (a, w) so_far.words_are word;
+  same_callee : (flow : Flow) → Stays f flow → callee_of entry size flow ≡ called flow
+  unfolding callee_of
+  same_callee Falls s = refl
+  same_callee (Branches target) s = refl
+  same_callee (Jumps target) s = rw s refl
+  same_callee (Calls target) s = refl
+  same_callee (Links target) s = refl
+  same_callee Returns s = refl
+  same_callee Stops s = refl
+
+  stays_of : (item : Item) → Contains (map item_of items) item → Stays f item.flow
+  stays_of item among = stays image f item sound (are.reached item among) (are.instructions item among) (are.flows item among)
+
+  -- the instruction of a call
+  record Found (address callee : ℕ) : Type 0 where
+    index : ℕ
+    within : index < length items
+    address_is : (d : CodeItem) → (get_or items index d).address ≡ address
+    calls : (d : CodeItem) → callee_of_item (get_or items index d) ≡ Some callee
+
+  found : (address callee : ℕ) → IsCall image entry size address callee → Found address callee
+  found address callee call = record {
+    index = it.1.0;
+    within = short;
+    address_is = λ d. ap (λ (x : Item). x.address) (same d) ∙ it.2;
+    calls = λ d. ap (λ (x : Item). called x.flow) (same d) ∙ calls_it;
   }
     where
-      split : (k : ℕ) → k < index + 1 → (k < index) ⊎ (k ≡ index)
-      split k below = grind (arith, below)
+      it : (item : Item) × Contains (map item_of items) item × (item.address ≡ address)
+      it = are.all address call.reached
 
-  pub listed-all : (index : ℕ) (words : List (ℕ × ℕ)) → IsListed image entry size addresses index words → index ≡ length addresses
-      → AreWords image entry size addresses words
-  listed-all index words so_far e = record {
-    sound = λ k below. so_far.sound k (omega (arith, below, e));
-    places = so_far.places ∙ (ap (λ n. take n addresses) e ∙ take_all (length addresses) addresses (omega arith));
-    words_are = so_far.words_are;
-  }
+      short : it.1.0 < length items
+      short = omega (arith, it.1.1, length-map items item_of)
 
--- ---- the first fault of a function
+      same : (d : CodeItem) → item_of (get_or items it.1.0 d) ≡ it.0
+      same d = sym (get_or-map item_of items it.1.0 d it.0 short) ∙ it.1.2
 
-pub no-range-fault : (image : Image) (entry size : ℕ) (kind : CodeKind) → HasCode image entry size → IsRangeFault image entry size kind → ⊥
-no-range-fault image entry size _ has (empty e) = omega (arith, has.not_empty, e)
-no-range-fault image entry size _ has (writable above never) = never (record { in_space = has.in_space; fixed = has.fixed })
-no-range-fault image entry size _ has (misplaced above fixed never) = never has.entry_aligned has.size_aligned
+      flow_same : it.0.flow ≡ call.flow
+      flow_same = same_Some it.0.flow call.flow (sym (are.flows it.0 it.1) ∙ ap (flow_at image entry) it.2 ∙ call.flow_is)
 
-one-range-fault : (image : Image) (entry size : ℕ) (kind other : CodeKind) → IsRangeFault image entry size kind → IsRangeFault image entry size other → rank kind ≤ rank other
-one-range-fault image entry size _ _ (empty e) (empty f) = omega arith
-one-range-fault image entry size _ _ (empty e) (writable above never) = omega arith
-one-range-fault image entry size _ _ (empty e) (misplaced above fixed never) = omega arith
-one-range-fault image entry size _ _ (writable above never) (empty f) = absurd (omega (arith, above, f))
-one-range-fault image entry size _ _ (writable above never) (writable other_above other_never) = omega arith
-one-range-fault image entry size _ _ (writable above never) (misplaced other_above fixed other_never) = omega arith
-one-range-fault image entry size _ _ (misplaced above fixed never) (empty f) = absurd (omega (arith, above, f))
-one-range-fault image entry size _ _ (misplaced above fixed never) (writable other_above other_never) = absurd (other_never fixed)
-one-range-fault image entry size _ _ (misplaced above fixed never) (misplaced other_above other_fixed other_never) = omega arith
+      calls_it : called it.0.flow ≡ Some callee
+      calls_it = sym (same_callee it.0.flow (stays_of it.0 it.1)) ∙ ap (callee_of entry size) flow_same ∙ call.calls
 
-pub first-of-range : (image : Image) (entry size : ℕ) (kind : CodeKind) → IsRangeFault image entry size kind → IsFirst (IsFunctionFault image entry size) kind entry
-first-of-range image entry size kind fault = record { fault = of_range kind fault; lowest = lowest; least = λ other f. least other entry f }
-  where
-    lowest : (other : CodeKind) (at : ℕ) → IsFunctionFault image entry size other at → entry ≤ at
-    lowest other _ (of_range _ f) = omega arith
-    lowest other at (of_instruction _ _ reached f) = absurd (no-range-fault image entry size kind (has-code image entry size at reached) fault)
-
-    least : (other : CodeKind) (at : ℕ) → IsFunctionFault image entry size other at → rank kind ≤ rank other
-    least other _ (of_range _ f) = one-range-fault image entry size kind other fault f
-    least other at (of_instruction _ _ reached f) = absurd (no-range-fault image entry size kind (has-code image entry size at reached) fault)
-
-module _ (image : Image) (entry size : ℕ) (has : HasCode image entry size) (addresses : List ℕ) (are : AreReached image entry size addresses) where
-  pub places-reached : All (IsPlace entry size) addresses
-  places-reached = λ k d below. place image entry size (get_or addresses k d) ((are.exactly (get_or addresses k d)).0 (Contains-get_or addresses k d below))
-
-  -- a place of an address that is reached
-  pub record PlaceOf (address : ℕ) : Type 0 where
-    pub index : ℕ
-    pub among : index < length addresses
-    pub there : get_or addresses index 0 ≡ address
-
-  pub place-in : (address : ℕ) → IsDirectlyReachable image entry size address → PlaceOf address
-  place-in address reached = at ((are.exactly address).1 reached)
+  pub all_listed : All (IsListed entries) items → (address callee : ℕ) → IsCall image entry size address callee → Contains entries callee
+  all_listed listed address callee call =
+      let it = found address callee call in
+      let d : CodeItem = get_or_none it.index in
+      listed it.index d it.within callee (it.calls d)
     where
-      at : Contains addresses address → PlaceOf address
-      at (k, below, here) = record { index = k; among = below; there = sym (get_or_default addresses k address 0 below) ∙ here }
+      get_or_none : ℕ → CodeItem
+      get_or_none k = record { address = 0; instruction = instr.Ecall }
 
-  no-fault-below : (n : ℕ) → ((k : ℕ) → k < n → fault_at image entry size (get_or addresses k 0) ≡ None) → (kind : CodeKind) (address : ℕ) (p : PlaceOf address)
-      → IsInstructionFault image entry size address kind → n ≤ p.index
-  no-fault-below n none kind address p fault = at (nat_le n p.index) refl
-    where
-      at : (b : Bool) → nat_le n p.index ≡ b → n ≤ p.index
-      at true e = leb-true n p.index e
-      at false e =
-          let is = fault-is image entry size address kind fault in
-          let not = subst (λ z. fault_at image entry size z ≡ None) p.there (none p.index (leb-false n p.index e)) in absurd (cc)
-
-  pub sound-words : ((k : ℕ) → k < length addresses → fault_at image entry size (get_or addresses k 0) ≡ None) → HasNoFault image entry size
-  sound-words none = no
-    where
-      no : (kind : CodeKind) (address : ℕ) → IsFunctionFault image entry size kind address → ⊥
-      no kind _ (of_range _ f) = no-range-fault image entry size kind has f
-      no kind address (of_instruction _ _ reached f) =
-          let p = place-in address reached in omega (arith, no-fault-below (length addresses) none kind address p f, p.among)
-
-  pub first-of-stop : (kind : CodeKind) (address : ℕ) → IsStop image entry size addresses kind address → IsFirst (IsFunctionFault image entry size) kind address
-  first-of-stop kind address stop = record {
-    fault = of_instruction kind address
-        (subst (IsDirectlyReachable image entry size) (sym stop.address_is)
-        ((are.exactly (get_or addresses stop.index 0)).0 (Contains-get_or addresses stop.index 0 stop.among)))
-        (is-fault image entry size address kind stop.fault);
-    lowest = lowest;
-    least = λ other f. least other address refl f;
-  }
-    where
-      lowest : (other : CodeKind) (at : ℕ) → IsFunctionFault image entry size other at → address ≤ at
-      lowest other _ (of_range _ f) = absurd (no-range-fault image entry size other has f)
-      lowest other at (of_instruction _ _ reached f) =
-          let p = place-in at reached in
-          let rises = non_decreasing_from_sorted addresses (sorted_from_strictly_increasing addresses are.rising) stop.index p.index 0
-          (no-fault-below stop.index stop.before other at p f) p.among in
-          omega (arith, rises, stop.address_is, p.there)
-
-      least : (other : CodeKind) (at : ℕ) → at ≡ address → IsFunctionFault image entry size other at → rank kind ≤ rank other
-      least other _ e (of_range _ f) = absurd (no-range-fault image entry size other has f)
-      least other at e (of_instruction _ _ reached f) =
-          let is = fault-is image entry size at other f in
-          let here = subst (λ z. fault_at image entry size z ≡ Some kind) (sym e) stop.fault in
-          let same : kind ≡ other = cc in
-          subst (λ k. rank kind ≤ rank k) same (omega arith)
-
-  -- ---- what the call answers
-
-  pub found-code : size_at image entry ≡ Some size → (words : List (ℕ × ℕ)) → AreWords image entry size addresses words → IsCode image entry words
-  found-code is words listed = record {
+  pub first_unlisted : (maximum : ℕ) (error : GraphError) → IsFirstUnlisted entries items error → IsGraphError image entry entries maximum error
+  first_unlisted maximum (Fault fault) o = absurd o.unlisted
+  first_unlisted maximum (Large count) o = absurd o.unlisted
+  first_unlisted maximum NoMemory o = absurd o.unlisted
+  first_unlisted maximum (Unlisted address callee) o = record {
     size = size;
-    size_is = is;
-    sound = sound-words listed.sound;
-    places = record {
-      rising = subst IsStrictlyIncreasing (sym listed.places) are.rising;
-      exactly = λ a. (
-        λ among. reachable-direct image entry size a (sound-words listed.sound) ((are.exactly a).0 (subst (λ l. Contains l a) listed.places among)),
-        λ reached. subst (λ l. Contains l a) (sym listed.places) ((are.exactly a).1 (direct-reachable image entry size a (sound-words listed.sound) reached)),
-      );
-    };
-    words_are = listed.words_are;
+    size_is = size_is;
+    sound = sound;
+    calls = subst (λ (a : ℕ). IsCall image entry size a callee) (sym o.unlisted.0) (record {
+      flow = it.flow;
+      reached = are.reached it among;
+      flow_is = are.flows it among;
+      calls = same_callee it.flow (stays_of it among) ∙ o.unlisted.1;
+    });
+    missing = o.unlisted.2;
+    first = earlier;
   }
+    where
+      it : Item
+      it = item_of o.item
 
-  pub ok-code : {E : Type 0} {T : Type 0} (list : T → List (ℕ × ℕ)) (r : Result T E) → size_at image entry ≡ Some size
-      → IfOk r (λ words. AreWords image entry size addresses (list words)) → IfOk r (λ words. IsCode image entry (list words))
-  ok-code list (Ok words) is listed = found-code is (list words) listed
-  ok-code list (Err error) is listed = tt
+      among : Contains (map item_of items) it
+      among = (o.index, omega (arith, o.within, length-map items item_of), get_or-map item_of items o.index o.item it o.within ∙ ap item_of (sym o.item_is))
 
-  pub err-code : {T : Type 0} (r : Result T CodeError) → size_at image entry ≡ Some size → IfErr r (IsListingError image entry size addresses) → IfErr r (IsCodeError image entry)
-  err-code (Ok words) is listed = tt
-  err-code (Err (Fault fault)) is stop = record { size = size; size_is = is; first = first-of-stop fault.kind fault.address stop }
-  err-code (Err NoMemory) is stop = tt
+      addresses : List ℕ
+      addresses = map (λ (item : Item). item.address) (map item_of items)
+
+      address_at : (k : ℕ) (d : CodeItem) → k < length items → get_or addresses k 0 ≡ (get_or items k d).address
+      address_at k d short =
+          get_or-map (λ (item : Item). item.address) (map item_of items) k (item_of d) 0 (omega (arith, short, length-map items item_of))
+          ∙ ap (λ (x : Item). x.address) (get_or-map item_of items k d (item_of d) short)
+
+      earlier : (other target : ℕ) → IsCall image entry size other target → other < address → Contains entries target
+      earlier other target call less =
+          let at = found other target call in
+          elim (cases_lt at.index o.index) [
+            | inl before ↦ o.before at.index o.item before target (at.calls o.item)
+            | inr past ↦ absurd (not_past at.index past at.within (at.address_is o.item))
+          ]
+        where
+          not_past : (k : ℕ) → o.index ≤ k → k < length items → (get_or items k o.item).address ≡ other → ⊥
+          not_past k past within is =
+              let here : address ≡ (get_or items o.index o.item).address = o.unlisted.0 ∙ ap (λ (x : CodeItem). x.address) o.item_is in
+              elim (cases_lt o.index k) [
+                | inl later ↦
+                    let rises : get_or addresses o.index 0 < get_or addresses k 0 =
+                    AllPairs-from_increasing addresses are.rising o.index k 0 later (omega (arith, within, length-map items item_of, length-map (map item_of items) (λ (item : Item). item.address))) in
+                    omega (arith, rises, address_at o.index o.item o.within, address_at k o.item within, here, is, less)
+                | inr same ↦
+                    let one : k ≡ o.index = omega arith in
+                    omega (arith, ap (λ j. (get_or items j o.item).address) one, here, is, less)
+              ]

@@ -1,6 +1,7 @@
-pub mod Flows
-pub mod Growth
-pub mod Found
-pub mod Listing
-pub mod Surveys
-pub mod Stacks
+pub mod Answer
+pub mod Items
+pub mod Counts
+pub mod Settings
+pub mod Callees
+pub mod Errors
+pub mod Built

@@ -1,25 +1,22 @@
-//! The code of the functions of an executable.
+//! The graph of a function of an executable.
 //!
-//! [`code`] lists the words that a function reaches, [`reach`] the functions that calls reach from it, and
-//! [`stack`] tells how much stack it takes with them. Each answers the first fault where there is one: `code`
-//! of the function alone, `reach` and `stack` of all that is reached.
-//! [`range_fault`] says whether the range of a function is one that has code: not empty, fixed by the file and
-//! aligned. The meaning is defined in `code_spec`: what is reached in `specs/Code.antt`, the faults and which
-//! of them is the first in `specs/Faults.antt`.
+//! [`decompile`] answers the graph and, for the address of each instruction, the number of its
+//! first node; [`decompile_within`] does so for at most so many nodes. When a graph is that of a
+//! function is defined in `code_graph_spec`, what the machine and such graphs do together is the
+//! law of `code_graph_laws`.
 #![tactic(auto)]
 
-mod faults;
-mod flows;
-mod functions;
-mod listing;
-mod range;
-mod stacks;
-mod survey;
-mod walk;
+mod accesses;
+mod bindings;
+mod blocks;
+mod callees;
+mod error;
+mod function;
+mod graphs;
+mod items;
+mod numbers;
+mod runs;
 
-pub use faults::{CodeError, CodeFault};
-pub use flows::instruction;
-pub use listing::code;
-pub use range::range_fault;
-pub use stacks::stack;
-pub use survey::reach;
+pub use code_reach::{CodeError, CodeFault, code, reach, stack};
+pub use error::GraphError;
+pub use graphs::{CodeGraph, decompile, decompile_within};

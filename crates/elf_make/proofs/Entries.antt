@@ -40,13 +40,13 @@ pub record HasEntries (file strings : List ℕ) (base place : ℕ) (symbols : Li
   pub names : drop place strings ≡ layout.names symbols
   pub words : All IsSymbolOfWords symbols
   pub named : All IsNamed symbols
-  pub behind_empty : 0 < place
+  pub after_empty : 0 < place
   pub short : place + length (layout.names symbols) < 2 ^ 32
 
 next_entries : (file strings : List ℕ) (base place : ℕ) (s : Symbol) (symbols : List Symbol) → HasEntries file strings base place (s ∷ symbols)
     → HasEntries file strings (base + 16) (place + length s.name + 1) symbols
 next_entries file strings base place s symbols so =
-    let behind : drop (place + length s.name) strings ≡ 0 ∷ layout.names symbols =
+    let following : drop (place + length s.name) strings ≡ 0 ∷ layout.names symbols =
     after strings s.name (0 ∷ layout.names symbols) place (length s.name) so.names refl in
     record {
       entries_rest = so.entries_rest;
@@ -54,10 +54,10 @@ next_entries file strings base place s symbols so =
           after file (layout.entry place s) (layout.symbol_entries (place + length s.name + 1) symbols ++ so.entries_rest) base 16
           (so.entries ∙ append_assoc (layout.entry place s) (layout.symbol_entries (place + length s.name + 1) symbols) so.entries_rest)
           (length_entry place s);
-      names = after strings (0 ∷ []) (layout.names symbols) (place + length s.name) 1 behind refl;
+      names = after strings (0 ∷ []) (layout.names symbols) (place + length s.name) 1 following refl;
       words = λ k d h. so.words (suc k) d (omega arith);
       named = λ k d h. so.named (suc k) d (omega arith);
-      behind_empty = omega arith;
+      after_empty = omega arith;
       short = omega (arith, so.short, length-append s.name (0 ∷ layout.names symbols));
     }
 
@@ -68,7 +68,7 @@ first_entry file strings base place s symbols so =
     (so.entries ∙ append_assoc (layout.entry place s) (layout.symbol_entries (place + length s.name + 1) symbols) so.entries_rest)
     (so.words 0 s (omega arith)) (omega (arith, so.short))
 
--- what stands before the first 0 byte of a name and a 0 byte is the name
+-- what comes before the first 0 byte of a name and a 0 byte is the name
 name_before : (name rest : List ℕ) → (Contains name 0 → ⊥) → before_first (λ b. b == 0) (name ++ 0 ∷ rest) ≡ name
 name_before name rest no_zero =
     let position : position_or_len (λ b. b == 0) (name ++ 0 ∷ rest) ≡ length name =
@@ -80,9 +80,9 @@ name_before name rest no_zero =
     (λ h. eq-eqb _ 0 (get_or-append_seam name 0 rest 0)) in
     ap (λ n. take n (name ++ 0 ∷ rest)) position ∙ take-append_seam name (0 ∷ rest)
 
--- a place behind the empty name is that of a name
+-- an offset after the empty name is that of a name
 named_in : (strings : List ℕ) (place : ℕ) → 0 < place → spec.name_in strings place ≡ before_first (λ b. b == 0) (drop place strings)
-named_in strings place behind = rw (ne_eqb place 0 (λ e. omega arith)) refl
+named_in strings place following = rw (ne_eqb place 0 (λ e. omega arith)) refl
 
 pub ended_name : (name rest : List ℕ) → Contains (name ++ 0 ∷ rest) 0
 ended_name name rest = (length name, omega (arith, length-append name (0 ∷ rest)), get_or-append_seam name 0 rest 0)
@@ -102,7 +102,7 @@ symbol_read file strings table base place s symbols strings_are so =
     let kind : (16 + s.kind) % 16 ≡ s.kind = omega (arith, named.kind) in
     symbol_eq (spec.symbol_at file table base) s
     (ap (λ n. spec.name_in (spec.strings_of file table) n) e.name ∙ ap (λ xs. spec.name_in xs place) strings_are
-    ∙ named_in strings place so.behind_empty ∙ ap (λ xs. before_first (λ b. b == 0) xs) so.names
+    ∙ named_in strings place so.after_empty ∙ ap (λ xs. before_first (λ b. b == 0) xs) so.names
     ∙ name_before s.name (layout.names symbols) named.no_zero)
     e.value e.size (ap (λ n. n % 16) e.info ∙ kind)
 

@@ -1,11 +1,11 @@
--- Where the parts of a written file stand, and the numbers that are read there.
+-- Where the parts of a written file are, and the numbers that are read there.
 use Rattle.std.proofs.Common.{◌≡◌, ◌+◌, ◌*◌, ◌++◌, ◌∙◌, ℕ, List, [], ◌∷◌, length, length-append, drop, append_assoc, replicate, ap, sym, refl, arith}
 use Rattle.std.proofs.Math.Seq.{drop-append_seam}
 use Rattle.std.proofs.lemmas.List.{drop-drop, length-drop}
 use Rattle.elf_spec.specs.Image.{Image, Segment, Symbol}
 use Rattle.elf_make.specs.Layout as layout
 
--- behind a part of a known length stands the rest
+-- after a part of a known length comes the rest
 pub after : (file part rest : List ℕ) (base long : ℕ) → drop base file ≡ part ++ rest → length part ≡ long → drop (base + long) file ≡ rest
 after file part rest base long here is =
     sym (drop-drop long base file) ∙ ap (λ xs. drop long xs) here ∙ ap (λ n. drop n (part ++ rest)) (sym is) ∙ drop-append_seam part rest

@@ -27,7 +27,7 @@ unfolding u16_at
 half_at file part rest base k n here there small =
     ap (λ xs. little_number 2 xs) (sym (drop-drop k base file) ∙ ap (λ xs. drop k xs) here ∙ there) ∙ read_half n rest small
 
--- the same from the front of the file
+-- the same from the start of the file
 pub front_word : (file rest : List ℕ) (k n : ℕ) → drop k file ≡ word n ++ rest → n < 2 ^ 32 → u32_at file k ≡ n
 unfolding u32_at
 front_word file rest k n there small = ap (λ xs. little_number 4 xs) there ∙ read_word n rest small

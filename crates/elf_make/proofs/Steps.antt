@@ -10,8 +10,8 @@ use Rattle.elf_read.specs.Values.{segment_of, symbol_of}
 use Rattle.elf_make.specs.Layout as layout
 use Rattle.elf_make.specs.Parts.{IsNamed, IsSegmentOfWords, IsSymbolOfWords}
 
-front : {X : Type 0} (xs : List X) (i : ℕ) (d : X) → i < length xs → drop i xs ≡ get_or xs i d ∷ drop (i + 1) xs
-front xs i d h = drop-cons xs i d h ∙ ap (λ n. get_or xs i d ∷ drop n xs) (sym (add-one i))
+head_and_rest : {X : Type 0} (xs : List X) (i : ℕ) (d : X) → i < length xs → drop i xs ≡ get_or xs i d ∷ drop (i + 1) xs
+head_and_rest xs i d h = drop-cons xs i d h ∙ ap (λ n. get_or xs i d ∷ drop n xs) (sym (add-one i))
 
 -- numbers, one after the other
 pub eight : (old a b c d e f g h : List ℕ)
@@ -24,7 +24,7 @@ ten old a b c d e f g h i j = simp (append_assoc, append-nil)
 
 -- what is written, and what is left
 pub record ProgramsLeft (out whole : List ℕ) (at end i : ℕ) (segments : List Segment) : Type 0 where
-  pub room : at + length (layout.contents (map segment_of (drop i segments))) ≡ end
+  pub space_left : at + length (layout.contents (map segment_of (drop i segments))) ≡ end
   pub so_far : out ++ layout.program_headers at (map segment_of (drop i segments)) ≡ whole
   pub words : (k : ℕ) (d : Segment) → k < i → IsSegmentOfWords (segment_of (get_or segments k d))
 
@@ -34,11 +34,11 @@ pub program_written : (out whole : List ℕ) (at end i : ℕ) (d : Segment) (seg
 program_written out whole at end i d segments h word so =
     let s = get_or segments i d in
     let rest = drop (i + 1) segments in
-    let next : drop i segments ≡ get_or segments i d ∷ drop (i + 1) segments = front segments i d h in
+    let next : drop i segments ≡ get_or segments i d ∷ drop (i + 1) segments = head_and_rest segments i d h in
     record {
-      room =
+      space_left =
           let was : at + length (s.bytes.now ++ layout.contents (map segment_of rest)) ≡ end =
-          ap (λ xs. at + length (layout.contents (map segment_of xs))) (sym next) ∙ so.room in
+          ap (λ xs. at + length (layout.contents (map segment_of xs))) (sym next) ∙ so.space_left in
           omega (arith, was, length-append s.bytes.now (layout.contents (map segment_of rest)));
       so_far =
           append_assoc out (layout.program_header at (segment_of s)) (layout.program_headers (at + length s.bytes.now) (map segment_of rest))
@@ -56,7 +56,7 @@ segment_fits out whole at end i d segments h so =
     let s = get_or segments i d in
     let rest = drop (i + 1) segments in
     let was : at + length (s.bytes.now ++ layout.contents (map segment_of rest)) ≡ end =
-    ap (λ xs. at + length (layout.contents (map segment_of xs))) (sym (front segments i d h)) ∙ so.room in
+    ap (λ xs. at + length (layout.contents (map segment_of xs))) (sym (head_and_rest segments i d h)) ∙ so.space_left in
     omega (arith, was, length-append s.bytes.now (layout.contents (map segment_of rest)))
 
 -- nothing is left
@@ -65,7 +65,7 @@ programs_done out whole at end i segments h so =
     sym (append-nil out) ∙ ap (λ xs. out ++ layout.program_headers at (map segment_of xs)) (sym (drop_all i segments h)) ∙ so.so_far
 
 pub record EntriesLeft (out whole : List ℕ) (at end i : ℕ) (symbols : List Symbol) : Type 0 where
-  pub room : at + length (layout.names (map symbol_of (drop i symbols))) ≡ end
+  pub space_left : at + length (layout.names (map symbol_of (drop i symbols))) ≡ end
   pub so_far : out ++ layout.symbol_entries at (map symbol_of (drop i symbols)) ≡ whole
   pub words : (k : ℕ) (d : Symbol) → k < i → IsSymbolOfWords (symbol_of (get_or symbols k d))
 
@@ -75,11 +75,11 @@ pub entry_written : (out whole : List ℕ) (at end i next : ℕ) (d : Symbol) (s
 entry_written out whole at end i next d symbols h next_is word so =
     let s = get_or symbols i d in
     let rest = drop (i + 1) symbols in
-    let left : drop i symbols ≡ get_or symbols i d ∷ drop (i + 1) symbols = front symbols i d h in
+    let left : drop i symbols ≡ get_or symbols i d ∷ drop (i + 1) symbols = head_and_rest symbols i d h in
     record {
-      room =
+      space_left =
           let was : at + length (s.name.now ++ 0 ∷ layout.names (map symbol_of rest)) ≡ end =
-          ap (λ xs. at + length (layout.names (map symbol_of xs))) (sym left) ∙ so.room in
+          ap (λ xs. at + length (layout.names (map symbol_of xs))) (sym left) ∙ so.space_left in
           omega (arith, was, length-append s.name.now (0 ∷ layout.names (map symbol_of rest)));
       so_far =
           ap (λ n. (out ++ layout.entry at (symbol_of s)) ++ layout.symbol_entries n (map symbol_of rest)) next_is
@@ -98,7 +98,7 @@ symbol_fits out whole at end i d symbols h so =
     let s = get_or symbols i d in
     let rest = drop (i + 1) symbols in
     let was : at + length (s.name.now ++ 0 ∷ layout.names (map symbol_of rest)) ≡ end =
-    ap (λ xs. at + length (layout.names (map symbol_of xs))) (sym (front symbols i d h)) ∙ so.room in
+    ap (λ xs. at + length (layout.names (map symbol_of xs))) (sym (head_and_rest symbols i d h)) ∙ so.space_left in
     omega (arith, was, length-append s.name.now (0 ∷ layout.names (map symbol_of rest)))
 
 -- nothing is left

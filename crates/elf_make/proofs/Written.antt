@@ -2,12 +2,13 @@
 use Rattle.std.proofs.Common.{◌≡◌, ◌==◌, ◌+◌, ◌*◌, ◌/◌, ◌%◌, ◌^◌, ◌<◌, ◌≤◌, ◌++◌, ◌∙◌, not, ℕ, zero, suc, Bool, true, false, List, [], ◌∷◌, All, Contains, Some, IsSome, length, get_or, slice_index, take, drop, filter, find, map, ap, sym, refl, arith, subst, mul-suc, lit<}
 use Rattle.std.proofs.Math.Seq.{take-append_seam}
 use Rattle.std.proofs.lemmas.List.Elements.{All-contains, All-filter}
+use Rattle.memory_spec.specs.Zones.{InZone}
 use Rattle.elf_spec.specs.declared.ElfKind.{ElfKind}
 use Rattle.elf_spec.specs.declared.ElfKind.TheVariants.{Short, Magic, Class, Endian, Version, Kind, Machine, Flags, HeaderSize, Table, SegmentRange, SegmentOverlap, NoSymbols, SymbolTable, StringTable}
 use Rattle.elf_spec.specs.Image.{Image, Segment, Symbol}
 use Rattle.elf_spec.specs.File as spec
 use Rattle.elf_make.specs.Layout as layout
-use Rattle.elf_make.specs.Parts.{CanBeWritten, IsWritten, IsPlaced, AreApart, IsInMemory, IsSegmentOfWords, IsSymbolOfWords}
+use Rattle.elf_make.specs.Parts.{CanBeWritten, IsWritten, IsPlaced, AreApart, memory_of, IsSegmentOfWords, IsSymbolOfWords}
 use Rattle.elf_make.proofs.Read.{front_word, front_half, word_at, half_at}
 use Rattle.elf_make.proofs.Places.{AreThere, are_there, file_is, from_programs, from_strings, sections_of}
 use Rattle.elf_make.proofs.Programs.{IsProgram, HasPrograms, segments_read, program_there}
@@ -212,7 +213,7 @@ has_entries image file flags w r words = record {
   names = refl;
   words = words;
   named = w.named;
-  behind_empty = lit< tt;
+  after_empty = lit< tt;
   short = omega (arith, w.short);
 }
 
@@ -286,7 +287,7 @@ placed_at image file flags w r words at within =
     subst (spec.IsPlaced file) place.2
     (placed_of file (52 + 32 * place.0) there.0 (get_or image.segments place.0 d) there.1 (w.placed place.0 d place.1) there.2)
 
-in_memory : (file : List ℕ) (at place address : ℕ) (s : Segment) → IsProgram file at place s → spec.InMemory file at address → IsInMemory s address
+in_memory : (file : List ℕ) (at place address : ℕ) (s : Segment) → IsProgram file at place s → InZone (spec.memory_of file at) address → InZone (memory_of s) address
 in_memory file at place address s p inside = record {
   from = omega (arith, p.vaddr, inside.from);
   below = omega (arith, p.vaddr, p.memsz, inside.below);

@@ -1,7 +1,9 @@
 -- Which parts can be written, and what was written.
-use Rattle.std.specs.Prelude.{◌≡◌, ◌+◌, ◌-◌, ◌^◌, ◌%◌, ◌<◌, ◌≤◌, ℕ, List, length, map, All, AllPairs, Contains}
+use Rattle.std.specs.Prelude.{◌≡◌, ◌+◌, ◌-◌, ◌*◌, ◌^◌, ◌%◌, ◌<◌, ◌≤◌, ℕ, List, length, map, All, AllPairs, Contains}
+use Rattle.memory_spec.specs.Zones.{Zone, AreDisjoint, zone_from}
 use Rattle.elf_spec.specs.Image.{Image, Segment, Symbol}
 use Rattle.elf_spec.specs.File.{IsElf, u32_at}
+use Rattle.elf_spec.specs.declared.fields.TheConstants.{E_FLAGS, SHDR_SIZE}
 use Rattle.elf_read.specs.Values.{segment_of, symbol_of}
 use Rattle.elf_make.specs.declared.parts.Parts.{Parts}
 use Rattle.elf_make.specs.declared.writer.Places.{Places}
@@ -11,14 +13,13 @@ use Rattle.elf_make.specs.Layout.{contents_at, table_at, table_size, strings_at,
 abbrev pub image_of_parts : Parts → Image
 image_of_parts parts = record { segments = map segment_of parts.segments.now; symbols = map symbol_of parts.symbols.now }
 
--- an address of the memory of a segment
-pub record IsInMemory (segment : Segment) (address : ℕ) : Type 0 where
-  pub from : segment.vaddr ≤ address
-  pub below : address < segment.vaddr + segment.memsz
+-- the memory of a segment
+abbrev pub memory_of : Segment → Zone
+memory_of segment = zone_from segment.vaddr segment.memsz
 
 -- the memories of two segments share no address
-pub record AreApart (one other : Segment) : Type 0 where
-  pub apart : (address : ℕ) → IsInMemory one address → IsInMemory other address → ⊥
+abbrev pub AreApart : (one other : Segment) → Type 0
+AreApart one other = AreDisjoint (memory_of one) (memory_of other)
 
 -- the segment has no more bytes than memory, and its memory lies below 2^32
 pub record IsPlaced (segment : Segment) : Type 0 where
@@ -47,7 +48,7 @@ pub record CanBeWritten (image : Image) (flags : ℕ) : Type 0 where
   pub apart : AllPairs AreApart image.segments
   pub named : All IsNamed image.symbols
   pub few : length image.segments < 65535
-  pub short : sections_at image + 120 < 2 ^ 32
+  pub short : sections_at image + 3 * SHDR_SIZE < 2 ^ 32
 
 -- how many program headers the file has, and where its parts are
 pub record ArePlaces (image : Image) (places : Places) : Type 0 where
@@ -63,4 +64,4 @@ pub record ArePlaces (image : Image) (places : Places) : Type 0 where
 -- the file is an executable with this image and these flags (e_flags)
 pub record IsWritten (file : List ℕ) (image : Image) (flags : ℕ) : Type 0 where
   pub is_elf : IsElf file image
-  pub flags_are : u32_at file 36 ≡ flags
+  pub flags_are : u32_at file E_FLAGS ≡ flags

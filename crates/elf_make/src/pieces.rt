@@ -1,12 +1,17 @@
 //! The pieces of a file, each written at its end.
 
-ghost use Rattle.std.specs.Prelude.{◌≡◌, ◌+◌, ◌^◌, ◌<◌, ◌≤◌, ◌++◌, All, flat_map, length, map, replicate, OnOk};
+ghost use Rattle.std.specs.Prelude.{◌≡◌, ◌+◌, ◌^◌, ◌<◌, ◌≤◌, ◌++◌, All, flat_map, length, map};
+ghost use Rattle.std.specs.Prelude.{replicate, OnOk};
 ghost use Rattle.elf_read.specs.Values.{segment_of, symbol_of};
 ghost use Rattle.elf_make.specs.Layout as layout;
 ghost use Rattle.elf_make.specs.Parts.{IsSegmentOfWords, IsSymbolOfWords};
 
 use crate::fields::{put_half, put_word};
 use elf_read::{Segment, Symbol};
+use elf_spec::fields::{
+    EHDR_SIZE, EM_RISCV, ET_EXEC, EV_CURRENT, PHDR_SIZE, PT_LOAD, SHDR_SIZE, SHT_STRTAB,
+    SHT_SYMTAB, SYM_SIZE,
+};
 use std::alloc::AllocError;
 
 /// The ELF header.
@@ -19,7 +24,7 @@ pub(crate) fn put_header(
     ensures { OnOk result (out.new.items ≡ out.old.items ++ layout.header programs sections flags) }
 {
     put_identity(out)?;
-    put_word(out, 52)?;
+    put_word(out, EHDR_SIZE as u32)?;
     put_word(out, sections)?;
     put_word(out, flags)?;
     put_header_sizes(out, programs)
@@ -27,12 +32,15 @@ pub(crate) fn put_header(
 
 /// The ELF header up to its offsets: an executable for RISC-V.
 fn put_identity(out: &mut Vec<u8>) -> Result<(), AllocError>
-    ensures { OnOk result (out.new.items ≡ out.old.items ++ (layout.ident ++ layout.half 2 ++ layout.half 243 ++ layout.word 1 ++ layout.word 0)) }
+    ensures { OnOk result (out.new.items
+        ≡ out.old.items ++ (layout.ident ++ layout.half ET_EXEC ++ layout.half EM_RISCV ++
+        layout.word EV_CURRENT ++
+        layout.word 0)) }
 {
     put_ident(out)?;
-    put_half(out, 2)?;
-    put_half(out, 243)?;
-    put_word(out, 1)?;
+    put_half(out, ET_EXEC)?;
+    put_half(out, EM_RISCV)?;
+    put_word(out, u32::from(EV_CURRENT))?;
     put_word(out, 0)
 }
 
@@ -45,12 +53,14 @@ fn put_ident(out: &mut Vec<u8>) -> Result<(), AllocError>
 
 /// The sizes and numbers at the end of the ELF header.
 fn put_header_sizes(out: &mut Vec<u8>, programs: u16) -> Result<(), AllocError>
-    ensures { OnOk result (out.new.items ≡ out.old.items ++ (layout.half 52 ++ layout.half 32 ++ layout.half programs ++ layout.half 40 ++ layout.half 3 ++ layout.half 0)) }
+    ensures { OnOk result (out.new.items
+        ≡ out.old.items ++ (layout.half EHDR_SIZE ++ layout.half PHDR_SIZE ++ layout.half programs
+        ++ layout.half SHDR_SIZE ++ layout.half 3 ++ layout.half 0)) }
 {
-    put_half(out, 52)?;
-    put_half(out, 32)?;
+    put_half(out, EHDR_SIZE as u16)?;
+    put_half(out, PHDR_SIZE as u16)?;
     put_half(out, programs)?;
-    put_half(out, 40)?;
+    put_half(out, SHDR_SIZE as u16)?;
     put_half(out, 3)?;
     put_half(out, 0)
 }
@@ -65,17 +75,18 @@ fn put_words(out: &mut Vec<u8>, words: &[u32]) -> Result<(), AllocError>
     Ok(())
 }
 
-/// The program header of a segment whose bytes stand at an offset.
+/// The program header of a segment whose bytes are at an offset.
 fn put_program(out: &mut Vec<u8>, offset: u32, segment: &Segment) -> Result<(), AllocError>
     requires { length segment.now.bytes.now < 2 ^ 32 }
-    ensures items { OnOk result (out.new.items ≡ out.old.items ++ layout.program_header offset (segment_of segment.now)) }
+    ensures items { OnOk result (out.new.items
+        ≡ out.old.items ++ layout.program_header offset (segment_of segment.now)) }
     ensures words { OnOk result (IsSegmentOfWords (segment_of segment.now)) }
 {
     let size = segment.bytes.len() as u32;
     put_words(
         out,
         &[
-            1,
+            PT_LOAD,
             offset,
             segment.vaddr,
             segment.vaddr,
@@ -88,14 +99,15 @@ fn put_program(out: &mut Vec<u8>, offset: u32, segment: &Segment) -> Result<(), 
     Ok(())
 }
 
-/// The program headers of segments whose bytes stand from an offset on.
+/// The program headers of segments whose bytes are from an offset on.
 pub(crate) fn put_programs(
     out: &mut Vec<u8>,
     offset: u32,
     segments: &[Segment],
 ) -> Result<(), AllocError>
     requires { offset + length (layout.contents (map segment_of segments.now)) < 2 ^ 32 }
-    ensures items { OnOk result (out.new.items ≡ out.old.items ++ layout.program_headers offset (map segment_of segments.now)) }
+    ensures items { OnOk result (out.new.items
+        ≡ out.old.items ++ layout.program_headers offset (map segment_of segments.now)) }
     ensures words { OnOk result (All IsSegmentOfWords (map segment_of segments.now)) }
 {
     let mut at = offset;
@@ -108,7 +120,8 @@ pub(crate) fn put_programs(
 
 /// The segments' bytes.
 pub(crate) fn put_contents(out: &mut Vec<u8>, segments: &[Segment]) -> Result<(), AllocError>
-    ensures { OnOk result (out.new.items ≡ out.old.items ++ layout.contents (map segment_of segments.now)) }
+    ensures { OnOk result (out.new.items
+        ≡ out.old.items ++ layout.contents (map segment_of segments.now)) }
 {
     for segment in segments {
         out.extend_from_slice(segment.bytes)?;
@@ -125,10 +138,11 @@ pub(crate) fn put_zeros(out: &mut Vec<u8>, count: usize) -> Result<(), AllocErro
     out.resize(length + count, 0)
 }
 
-/// The entry of a symbol whose name stands at a place.
+/// The entry of a symbol whose name is at an offset.
 fn put_entry(out: &mut Vec<u8>, place: u32, symbol: &Symbol) -> Result<(), AllocError>
     requires { symbol.now.kind < 16 }
-    ensures items { OnOk result (out.new.items ≡ out.old.items ++ layout.entry place (symbol_of symbol.now)) }
+    ensures items { OnOk result (out.new.items
+        ≡ out.old.items ++ layout.entry place (symbol_of symbol.now)) }
     ensures words { OnOk result (IsSymbolOfWords (symbol_of symbol.now)) }
 {
     put_word(out, place)?;
@@ -139,7 +153,7 @@ fn put_entry(out: &mut Vec<u8>, place: u32, symbol: &Symbol) -> Result<(), Alloc
     put_half(out, 1)
 }
 
-/// The entries of symbols whose names stand from a place on.
+/// The entries of symbols whose names are from an offset on.
 pub(crate) fn put_entries(
     out: &mut Vec<u8>,
     place: u32,
@@ -147,7 +161,8 @@ pub(crate) fn put_entries(
 ) -> Result<(), AllocError>
     requires kinds { All (λ s. s.kind < 16) symbols.now }
     requires short { place + length (layout.names (map symbol_of symbols.now)) < 2 ^ 32 }
-    ensures items { OnOk result (out.new.items ≡ out.old.items ++ layout.symbol_entries place (map symbol_of symbols.now)) }
+    ensures items { OnOk result (out.new.items
+        ≡ out.old.items ++ layout.symbol_entries place (map symbol_of symbols.now)) }
     ensures words { OnOk result (All IsSymbolOfWords (map symbol_of symbols.now)) }
 {
     let mut at = place;
@@ -158,9 +173,10 @@ pub(crate) fn put_entries(
     Ok(())
 }
 
-/// The names of symbols, each with a 0 byte behind it.
+/// The names of symbols, each with a 0 byte after it.
 pub(crate) fn put_names(out: &mut Vec<u8>, symbols: &[Symbol]) -> Result<(), AllocError>
-    ensures { OnOk result (out.new.items ≡ out.old.items ++ layout.names (map symbol_of symbols.now)) }
+    ensures { OnOk result (out.new.items
+        ≡ out.old.items ++ layout.names (map symbol_of symbols.now)) }
 {
     for symbol in symbols {
         out.extend_from_slice(symbol.name)?;
@@ -173,14 +189,17 @@ pub(crate) fn put_names(out: &mut Vec<u8>, symbols: &[Symbol]) -> Result<(), All
 fn put_table_section(out: &mut Vec<u8>, offset: u32, size: u32) -> Result<(), AllocError>
     ensures { OnOk result (out.new.items ≡ out.old.items ++ layout.table_section offset size) }
 {
-    put_words(out, &[0, 2, 0, 0, offset, size, 2, 1, 4, 16])
+    put_words(
+        out,
+        &[0, SHT_SYMTAB, 0, 0, offset, size, 2, 1, 4, SYM_SIZE as u32],
+    )
 }
 
 /// The section header of the string table.
 fn put_strings_section(out: &mut Vec<u8>, offset: u32, size: u32) -> Result<(), AllocError>
     ensures { OnOk result (out.new.items ≡ out.old.items ++ layout.strings_section offset size) }
 {
-    put_words(out, &[0, 3, 0, 0, offset, size, 0, 0, 1, 0])
+    put_words(out, &[0, SHT_STRTAB, 0, 0, offset, size, 0, 0, 1, 0])
 }
 
 /// The three section headers.
@@ -191,7 +210,8 @@ pub(crate) fn put_sections(
     strings: u32,
     strings_size: u32,
 ) -> Result<(), AllocError>
-    ensures { OnOk result (out.new.items ≡ out.old.items ++ layout.section_headers table table_size strings strings_size) }
+    ensures { OnOk result (out.new.items
+        ≡ out.old.items ++ layout.section_headers table table_size strings strings_size) }
 {
     put_no_section(out)?;
     put_table_section(out, table, table_size)?;
@@ -202,5 +222,5 @@ pub(crate) fn put_sections(
 fn put_no_section(out: &mut Vec<u8>) -> Result<(), AllocError>
     ensures { OnOk result (out.new.items ≡ out.old.items ++ layout.no_section) }
 {
-    put_zeros(out, 40)
+    put_zeros(out, SHDR_SIZE)
 }

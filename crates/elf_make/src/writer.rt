@@ -10,13 +10,16 @@ use crate::pieces::{
     put_contents, put_entries, put_header, put_names, put_programs, put_sections, put_zeros,
 };
 use elf_read::{Segment, Symbol};
+use elf_spec::fields::{EHDR_SIZE, PHDR_SIZE, SYM_SIZE};
 use std::alloc::{AllocError, Global};
 
-/// Writes an executable of these parts. Only memory can be wanting.
+/// Writes an executable of these parts. The only error is out of memory.
 pub fn write(alloc: Global, parts: &Parts) -> Result<Vec<u8>, AllocError>
     requires { CanBeWritten (image_of_parts parts.now) parts.now.flags }
-    ensures layout { IfOk result (λ file. file.items ≡ layout.file_of (image_of_parts parts.now) parts.now.flags) }
-    ensures written { IfOk result (λ file. IsWritten file.items (image_of_parts parts.now) parts.now.flags) }
+    ensures layout { IfOk result (λ file. file.items
+        ≡ layout.file_of (image_of_parts parts.now) parts.now.flags) }
+    ensures written { IfOk result (λ file. IsWritten file.items
+        (image_of_parts parts.now) parts.now.flags) }
 {
     let mut out = Vec::new(alloc);
     put_file(&mut out, parts, lay_out(parts))?;
@@ -36,14 +39,14 @@ pub(crate) struct Places {
     sections: u32,
 }
 
-/// The places of the parts of a file.
+/// The offsets and sizes of the parts of a file.
 fn lay_out(parts: &Parts) -> Places
     requires { CanBeWritten (image_of_parts parts.now) parts.now.flags }
     ensures { ArePlaces (image_of_parts parts.now) result }
 {
-    let contents = 52 + 32 * parts.segments.len();
+    let contents = EHDR_SIZE + PHDR_SIZE * parts.segments.len();
     let table = contents + contents_length(parts.segments);
-    let table_size = 16 + 16 * parts.symbols.len();
+    let table_size = SYM_SIZE + SYM_SIZE * parts.symbols.len();
     let strings = table + table_size;
     let strings_size = 1 + names_length(parts.symbols);
     let end = strings + strings_size;
@@ -66,13 +69,15 @@ fn put_file(out: &mut Vec<u8>, parts: &Parts, places: Places) -> Result<(), Allo
     requires none_yet { out.old.items ≡ [] }
     requires writable { CanBeWritten (image_of_parts parts.now) parts.now.flags }
     requires places { ArePlaces (image_of_parts parts.now) places }
-    ensures layout { OnOk result (out.new.items ≡ layout.file_of (image_of_parts parts.now) parts.now.flags) }
-    ensures written { OnOk result (IsWritten out.new.items (image_of_parts parts.now) parts.now.flags) }
+    ensures layout { OnOk result (out.new.items
+        ≡ layout.file_of (image_of_parts parts.now) parts.now.flags) }
+    ensures written { OnOk result (IsWritten out.new.items
+        (image_of_parts parts.now) parts.now.flags) }
 {
     put_header(out, places.programs, places.sections, parts.flags)?;
     put_programs(out, places.contents, parts.segments)?;
     put_contents(out, parts.segments)?;
-    put_zeros(out, 16)?;
+    put_zeros(out, SYM_SIZE)?;
     put_entries(out, 1, parts.symbols)?;
     put_zeros(out, 1)?;
     put_names(out, parts.symbols)?;

@@ -4,6 +4,7 @@ use Rattle.std.proofs.lemmas.List.{get_or_default, length-take, length-map}
 use Rattle.std.proofs.Math.ListN.{get_or-map}
 use Rattle.elf_spec.specs.declared.ElfKind.{ElfKind}
 use Rattle.elf_spec.specs.declared.ElfKind.TheVariants.{SegmentRange, SegmentOverlap}
+use Rattle.memory_spec.specs.Zones.{InZone}
 use Rattle.elf_spec.specs.Image.{Image, Segment, Symbol}
 use Rattle.elf_spec.specs.File as spec
 use Rattle.elf_read.specs.Offsets.{IsRising}
@@ -22,7 +23,7 @@ long_bytes bytes at placed =
     omega (arith, length-take (spec.u32_at bytes (at + 16)) (drop (spec.u32_at bytes (at + 4)) bytes), placed.sizes)
 
 in_memory : (bytes : List ℕ) (at address : ℕ) → spec.IsPlaced bytes at → Covers (spec.segment_at bytes at) address
-    → spec.InMemory bytes at address
+    → InZone (spec.memory_of bytes at) address
 in_memory bytes at address placed covers = record {
   from = covers.from;
   below = omega (arith, long_bytes bytes at placed, covers.below);

@@ -75,7 +75,7 @@ chains_begin symbols heads nexts at end buckets places empty = record {
   nexts_are = λ i d from w. absurd (omega arith);
 }
 
--- one more symbol, at the front, where the code reads the place before `at`
+-- one more symbol, at the start, where the code reads the place before `at`
 pub chain_steps : (symbols : List Symbol) (heads nexts : List ℕ) (at place head : ℕ) (d : Symbol) → 0 < at → AreChainedFrom symbols heads nexts at
     → place < length heads → place ≡ bucket_of (get_or symbols (at - 1) d).name.now (length heads) → head ≡ get_or heads place head
     → AreChainedFrom symbols (set heads place (at - 1)) (set nexts (at - 1) head) (at - 1)

@@ -1,6 +1,6 @@
 -- Following the chain of a bucket passes over symbols of other names only.
 use Rattle.std.proofs.Common.{◌≡◌, ◌==◌, ◌+◌, ◌<◌, ◌≤◌, ◌∙◌, ◌&&◌, ℕ, suc, Bool, true, false, not, List, [], ◌∷◌, length, get_or, drop, map, filter, bytes_eq, ap, sym, refl, arith, subst, add-one, eqb-true, eq-eqb, find, Some, if◌then◌else◌}
-use Rattle.elf_spec.specs.declared.Named.TheVariants.{One}
+use Rattle.elf_spec.specs.declared.SymbolValues.TheVariants.{One}
 use Rattle.std.specs.List.{position_or_len}
 use Rattle.std.proofs.Math.Seq.{drop-cons}
 use Rattle.std.proofs.lemmas.List.{length-drop, drop-drop, drop_all, get_or-drop}
@@ -11,7 +11,7 @@ use Rattle.elf_read.specs.declared.parts.Symbol.{Symbol}
 use Rattle.elf_read.specs.Values.{symbol_of}
 use Rattle.elf_read.specs.Buckets.{AreChained, bucket_of, next_in}
 
--- a symbol that stands where none is read
+-- the symbol that is given where none is read
 abbrev pub blank : Symbol
 blank = record { name = record { ref_ptr = (0, 0); now = [] }; value = 0; size = 0; kind = 0 }
 
@@ -45,15 +45,15 @@ pub next_after : (symbols : List Symbol) (count bucket i : ℕ) (b : Bool) (d : 
     → next_in symbols count bucket i ≡ (if b then i else next_in symbols count bucket (i + 1))
 unfolding next_in
 next_after symbols count bucket i true d h e =
-    let front : drop i symbols ≡ get_or symbols i d ∷ drop (suc i) symbols = drop-cons symbols i d h in
+    let head_and_rest : drop i symbols ≡ get_or symbols i d ∷ drop (suc i) symbols = drop-cons symbols i d h in
     let none : i + 0 ≡ i = omega arith in
-    ap (λ xs. i + position_or_len (λ s. bucket_of s.name.now count == bucket) xs) front
+    ap (λ xs. i + position_or_len (λ s. bucket_of s.name.now count == bucket) xs) head_and_rest
     ∙ ap (λ n. i + n) (position_hit (λ s. bucket_of s.name.now count == bucket) (get_or symbols i d) (drop (suc i) symbols) e) ∙ none
 next_after symbols count bucket i false d h e =
     let p : Symbol → Bool = λ s. bucket_of s.name.now count == bucket in
-    let front : drop i symbols ≡ get_or symbols i d ∷ drop (suc i) symbols = drop-cons symbols i d h in
+    let head_and_rest : drop i symbols ≡ get_or symbols i d ∷ drop (suc i) symbols = drop-cons symbols i d h in
     let more : i + suc (position_or_len p (drop (suc i) symbols)) ≡ i + 1 + position_or_len p (drop (suc i) symbols) = omega arith in
-    ap (λ xs. i + position_or_len p xs) front
+    ap (λ xs. i + position_or_len p xs) head_and_rest
     ∙ ap (λ n. i + n) (position_miss p (get_or symbols i d) (drop (suc i) symbols) e) ∙ more
     ∙ ap (λ n. i + 1 + position_or_len p (drop n symbols)) (sym (add-one i))
 
@@ -163,13 +163,13 @@ pub chain_goes_on : (symbols : List Symbol) (heads nexts : List ℕ) (kind : ℕ
     → spec.has_name kind name (symbol_of (get_or symbols at d)) ≡ false → IsOnChain symbols kind (length heads) name from (get_or nexts at 0)
 chain_goes_on symbols heads nexts kind name from at d chained h so other =
     let next = chain_next symbols heads nexts kind name at d chained h (so.bucket d h) in
-    let front : drop at symbols ≡ get_or symbols at d ∷ drop (at + 1) symbols =
+    let head_and_rest : drop at symbols ≡ get_or symbols at d ∷ drop (at + 1) symbols =
     drop-cons symbols at d h ∙ ap (λ n. get_or symbols at d ∷ drop n symbols) (sym (add-one at)) in
     record {
       upto = next.upto;
       bucket = next.bucket;
       skips =
-          so.skips ∙ ap (λ xs. filter (spec.has_name kind name) (map symbol_of xs)) front
+          so.skips ∙ ap (λ xs. filter (spec.has_name kind name) (map symbol_of xs)) head_and_rest
           ∙ filter_miss (spec.has_name kind name) (symbol_of (get_or symbols at d)) (map symbol_of (drop (at + 1) symbols)) other ∙ next.skips;
     }
 
@@ -189,14 +189,14 @@ find_hit p x xs e = rw e refl
 find_miss : (p : ℕ → Bool) (x : ℕ) (xs : List ℕ) → p x ≡ false → find p (x ∷ xs) ≡ find p xs
 find_miss p x xs e = rw e refl
 
-front : (symbols : List Symbol) (at : ℕ) (d : Symbol) → at < length symbols → drop at symbols ≡ get_or symbols at d ∷ drop (at + 1) symbols
-front symbols at d h = drop-cons symbols at d h ∙ ap (λ n. get_or symbols at d ∷ drop n symbols) (sym (add-one at))
+head_and_rest : (symbols : List Symbol) (at : ℕ) (d : Symbol) → at < length symbols → drop at symbols ≡ get_or symbols at d ∷ drop (at + 1) symbols
+head_and_rest symbols at d h = drop-cons symbols at d h ∙ ap (λ n. get_or symbols at d ∷ drop n symbols) (sym (add-one at))
 
 pub values_hit : (symbols : List Symbol) (kind : ℕ) (name : List ℕ) (at : ℕ) (d : Symbol) → at < length symbols
     → spec.has_name kind name (symbol_of (get_or symbols at d)) ≡ true
     → values_from symbols kind name at ≡ (get_or symbols at d).value ∷ values_from symbols kind name (at + 1)
 values_hit symbols kind name at d h named =
-    ap (λ xs. map (λ s. s.value) (filter (spec.has_name kind name) (map symbol_of xs))) (front symbols at d h)
+    ap (λ xs. map (λ s. s.value) (filter (spec.has_name kind name) (map symbol_of xs))) (head_and_rest symbols at d h)
     ∙ ap (λ xs. map (λ s. s.value) xs)
     (filter_hit (spec.has_name kind name) (symbol_of (get_or symbols at d)) (map symbol_of (drop (at + 1) symbols)) named)
 
@@ -204,7 +204,7 @@ values_miss : (symbols : List Symbol) (kind : ℕ) (name : List ℕ) (at : ℕ) 
     → spec.has_name kind name (symbol_of (get_or symbols at d)) ≡ false
     → values_from symbols kind name at ≡ values_from symbols kind name (at + 1)
 values_miss symbols kind name at d h other =
-    ap (λ xs. map (λ s. s.value) (filter (spec.has_name kind name) (map symbol_of xs))) (front symbols at d h)
+    ap (λ xs. map (λ s. s.value) (filter (spec.has_name kind name) (map symbol_of xs))) (head_and_rest symbols at d h)
     ∙ ap (λ xs. map (λ s. s.value) xs)
     (filter_miss (spec.has_name kind name) (symbol_of (get_or symbols at d)) (map symbol_of (drop (at + 1) symbols)) other)
 

@@ -11,11 +11,11 @@ pub taken : {X Y : Type 0} (f : X → Y) (g : ℕ → Y) (p : ℕ → Bool) (ite
     → map f (items ++ x ∷ []) ++ map g (filter p (spec.entries (from + size * (i + 1)) size (count - (i + 1))))
     ≡ map f items ++ map g (filter p (spec.entries (from + size * i) size (count - i)))
 taken f g p items x from size count i h passes same =
-    let behind = spec.entries (from + size * (i + 1)) size (count - (i + 1)) in
-    let kept : filter p ((from + size * i) ∷ behind) ≡ (from + size * i) ∷ filter p behind = rw passes refl in
-    let old : filter p (spec.entries (from + size * i) size (count - i)) ≡ (from + size * i) ∷ filter p behind =
+    let following = spec.entries (from + size * (i + 1)) size (count - (i + 1)) in
+    let kept : filter p ((from + size * i) ∷ following) ≡ (from + size * i) ∷ filter p following = rw passes refl in
+    let old : filter p (spec.entries (from + size * i) size (count - i)) ≡ (from + size * i) ∷ filter p following =
     ap (λ xs. filter p xs) (entries_next from size count i h) ∙ kept in
-    let rest = map g (filter p behind) in
+    let rest = map g (filter p following) in
     ap (λ xs. xs ++ rest) (map-append f items (x ∷ [])) ∙ append_assoc (map f items) (f x ∷ []) rest
     ∙ ap (λ y. map f items ++ (y ∷ rest)) same ∙ ap (λ xs. map f items ++ map g xs) (sym old)
 
@@ -24,8 +24,8 @@ pub passed : {X Y : Type 0} (f : X → Y) (g : ℕ → Y) (p : ℕ → Bool) (it
     → map f items ++ map g (filter p (spec.entries (from + size * (i + 1)) size (count - (i + 1))))
     ≡ map f items ++ map g (filter p (spec.entries (from + size * i) size (count - i)))
 passed f g p items from size count i h fails =
-    let behind = spec.entries (from + size * (i + 1)) size (count - (i + 1)) in
-    let kept : filter p ((from + size * i) ∷ behind) ≡ filter p behind = rw fails refl in
+    let following = spec.entries (from + size * (i + 1)) size (count - (i + 1)) in
+    let kept : filter p ((from + size * i) ∷ following) ≡ filter p following = rw fails refl in
     ap (λ xs. map f items ++ map g xs) (sym (ap (λ xs. filter p xs) (entries_next from size count i h) ∙ kept))
 
 -- the first entry whose name isn't ended

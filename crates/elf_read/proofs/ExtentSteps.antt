@@ -82,7 +82,7 @@ of_pushed extents e address inside =
       | inr w ↦ inl (inside.0, w, λ d. subst (λ x. IsInside x address) (get_or_append_left extents (e ∷ []) d inside.0 w) (inside.2 d))
     ]
 
--- an extent that does not touch the last one stands for itself
+-- an extent that does not touch the last one is one of its own
 gap_before : (segments : List Segment) (extents : List Extent) (i : ℕ) (d : Segment) (e : Extent) → AreExtentsBelow segments extents i
     → i < length segments → IsExtentOf (get_or segments i d) e → (EndsBefore extents e.first → ⊥) → (k : ℕ) (x : Extent)
     → k < length extents → (get_or extents k x).last + 1 < e.first
@@ -191,8 +191,8 @@ extent_joined segments extents i n d e q in_order so h is joined =
           let inside : b < length extents = omega (arith, length-set extents n q) in
           let before : a < n = omega (arith, joined.last_place) in
           let upto : b ≤ n = omega (arith, joined.last_place) in
-          let front : get_or (set extents n q) a x ≡ get_or extents a x = get_or-set_other extents n a q x (omega arith) in
-          subst (λ y. y.last + 1 < (get_or (set extents n q) b x).first) (sym front)
+          let head_and_rest : get_or (set extents n q) a x ≡ get_or extents a x = get_or-set_other extents n a q x (omega arith) in
+          subst (λ y. y.last + 1 < (get_or (set extents n q) b x).first) (sym head_and_rest)
           (elim (eq-or-lt_of_le upto) [
             | inl same ↦
                 let gap : (get_or extents a x).last + 1 < (get_or extents n x).first = so.gaps a n x before there in

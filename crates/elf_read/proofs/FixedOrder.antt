@@ -63,12 +63,12 @@ same_inserted : (segments fixed : List Segment) (i k : ℕ) (p d : Segment) (add
     → option_or (among (insert fixed k p) address) (among (drop (i + 1) segments) address) ≡ among segments address
 same_inserted segments fixed i k p d address so h here apart =
     let whole : take k fixed ++ drop k fixed ≡ fixed = take-append-drop k fixed in
-    let front : All (λ s. IsApart (segment_of s) (segment_of p)) (take k fixed) =
+    let head_and_rest : All (λ s. IsApart (segment_of s) (segment_of p)) (take k fixed) =
     λ n e w.
     subst (λ s. IsApart (segment_of s) (segment_of p)) (sym (get_or-take k fixed n e (omega (arith, length-take k fixed))))
     (apart n e (omega (arith, length-take k fixed))) in
     let inserted : among (insert fixed k p) address ≡ option_or (byte_of p address) (among fixed address) =
-    among_insert (take k fixed) (drop k fixed) p address front ∙ ap (λ xs. option_or (byte_of p address) (among xs address)) whole in
+    among_insert (take k fixed) (drop k fixed) p address head_and_rest ∙ ap (λ xs. option_or (byte_of p address) (among xs address)) whole in
     let rest = among (drop (i + 1) segments) address in
     let next : drop i segments ≡ p ∷ drop (i + 1) segments =
     drop-cons segments i d h ∙ ap (λ s. s ∷ drop (suc i) segments) here ∙ ap (λ n. p ∷ drop n segments) (sym (add-one i)) in

@@ -1,10 +1,17 @@
 -- The runs of fixed bytes, by their extents.
-use Rattle.std.proofs.Common.{◌≡◌, ◌≢◌, ◌+◌, ◌-◌, ◌<◌, ◌≤◌, ◌∙◌, ℕ, zero, suc, List, [], ◌∷◌, All, AllPairs, Option, Some, None, IsSome, option_map, unwrap_or, length, get_or, slice_get, map, ap, sym, refl, arith, subst}
+use Rattle.std.proofs.Common.{◌≡◌, ◌≢◌, ◌+◌, ◌-◌, ◌^◌, ◌<◌, ◌≤◌, ◌++◌, ◌∙◌, ℕ, zero, suc, List, [], ◌∷◌, All, AllPairs, Option, Some, None, IsSome, option_map, unwrap_or, length, get_or, slice_get, map, take, ap, sym, refl, arith, subst, add-one}
 use Rattle.std.proofs.Math.ListN.{get_or-map}
-use Rattle.std.proofs.lemmas.List.{get_or_default, length-map, ext_get_or}
+use Rattle.std.proofs.lemmas.List.{get_or_default, length-map, ext_get_or, map-append, take_all, take_more}
+use Rattle.std.proofs.lemmas.List.Elements.{All-push}
 use Rattle.std.proofs.lemmas.Option.{slice_get-map, slice_get-get_or, slice_get_within}
 use Rattle.elf_spec.specs.Image as spec
-use Rattle.elf_spec.specs.Runs.{Run, IsRun, AreRuns}
+use Rattle.memory_spec.specs.Runs.{Run, AreBytes}
+use Rattle.memory_spec.specs.Viewed.{runs_of}
+use Rattle.memory_spec.specs.Viewed.{run_of as kept}
+use Rattle.memory_spec.specs.declared.Run.{Run as KeptRun}
+use Rattle.memory_spec.proofs.Runs.{are_bytes}
+use Rattle.elf_spec.specs.Runs.{IsRun, AreRuns, bytes_from}
+use Rattle.elf_spec.proofs.Runs.{length-bytes_from, bytes_from-read}
 use Rattle.elf_read.specs.declared.parts.Extent.{Extent}
 use Rattle.elf_read.specs.declared.parts.Segment.{Segment}
 use Rattle.elf_read.specs.Values.{segment_of, MayExtend, IsExtentAt}
@@ -12,36 +19,9 @@ use Rattle.elf_read.specs.Fixed.{AreFixed}
 use Rattle.elf_read.proofs.FixedBytes.{covered_among, among_covered}
 use Rattle.elf_read.specs.Extents.{IsInside, IsIn, AreExtents}
 
--- the fixed bytes of an image at addresses one after the other
-unfoldable pub bytes_of : spec.Image → (start count : ℕ) → List ℕ
-bytes_of image start zero = []
-bytes_of image start (suc n) = unwrap_or (spec.fixed_byte image start) 0 ∷ bytes_of image (start + 1) n
-
 -- the run of an extent
 unfoldable pub run_of : spec.Image → Extent → Run
-run_of image e = record { start = e.first; bytes = bytes_of image e.first (e.last + 1 - e.first) }
-
-length_bytes_of : (image : spec.Image) (start n : ℕ) → length (bytes_of image start n) ≡ n
-unfolding bytes_of
-length_bytes_of image start zero = refl
-length_bytes_of image start (suc n) = omega (arith, length_bytes_of image (start + 1) n)
-
-byte_read : (o : Option ℕ) → IsSome o → Some (unwrap_or o 0) ≡ o
-byte_read None some = absurd cc
-byte_read (Some b) some = refl
-
-bytes_of_read : (image : spec.Image) (start n k : ℕ) → k < n → IsSome (spec.fixed_byte image (start + k))
-    → slice_get (bytes_of image start n) k ≡ spec.fixed_byte image (start + k)
-unfolding bytes_of
-bytes_of_read image start zero k h some = absurd (omega arith)
-bytes_of_read image start (suc n) zero h some =
-    let here : start + 0 ≡ start = omega arith in
-    byte_read (spec.fixed_byte image start) (subst (λ a. IsSome (spec.fixed_byte image a)) here some)
-    ∙ ap (λ a. spec.fixed_byte image a) (sym here)
-bytes_of_read image start (suc n) (suc k) h some =
-    let next : start + 1 + k ≡ start + suc k = omega arith in
-    bytes_of_read image (start + 1) n k (omega arith) (subst (λ a. IsSome (spec.fixed_byte image a)) (sym next) some)
-    ∙ ap (λ a. spec.fixed_byte image a) next
+run_of image e = record { start = e.first; bytes = bytes_from image e.first (e.last + 1 - e.first) }
 
 -- the extents have the addresses of fixed bytes, in order, with a gap between each two
 pub record AreExtentsOf (image : spec.Image) (extents : List Extent) : Type 0 where
@@ -75,13 +55,13 @@ unfolding run_of
 is_run image extents k d so h =
     let e = get_or extents k d in
     let order : e.first ≤ e.last = so.ordered k d h in
-    let count : length (bytes_of image e.first (e.last + 1 - e.first)) ≡ e.last + 1 - e.first = length_bytes_of image e.first (e.last + 1 - e.first) in
+    let count : length (bytes_from image e.first (e.last + 1 - e.first)) ≡ e.last + 1 - e.first = length-bytes_from image e.first (e.last + 1 - e.first) in
     record {
-      not_empty = λ empty. let none : length (bytes_of image e.first (e.last + 1 - e.first)) ≡ 0 = ap length empty in omega arith;
+      not_empty = λ empty. let none : length (bytes_from image e.first (e.last + 1 - e.first)) ≡ 0 = ap length empty in omega arith;
       fixed =
           λ n less.
           let there : n < e.last + 1 - e.first = omega arith in
-          sym (bytes_of_read image e.first (e.last + 1 - e.first) n there
+          sym (bytes_from-read image e.first (e.last + 1 - e.first) n there
           (so.fixed (e.first + n) (within extents k (e.first + n) d h (record { from = omega arith; to = omega arith }))));
       begins =
           λ address before.
@@ -93,12 +73,12 @@ is_run image extents k d so h =
           let here : IsInside e address = subst (λ n. IsInside (get_or extents n d) address) (sym same) inside in
           omega (arith, here.from));
       ends =
-          none_when (spec.fixed_byte image (e.first + length (bytes_of image e.first (e.last + 1 - e.first))))
+          none_when (spec.fixed_byte image (e.first + length (bytes_from image e.first (e.last + 1 - e.first))))
           (λ some.
-          let other = so.every (e.first + length (bytes_of image e.first (e.last + 1 - e.first))) some in
+          let other = so.every (e.first + length (bytes_from image e.first (e.last + 1 - e.first))) some in
           let inside = other.2 d in
           let same : k ≡ other.0 = same_extent extents k other.0 d so.gaps h other.1 (omega (arith, inside.to)) (omega (arith, inside.from)) in
-          let here = subst (λ n. IsInside (get_or extents n d) (e.first + length (bytes_of image e.first (e.last + 1 - e.first)))) (sym same) inside in
+          let here = subst (λ n. IsInside (get_or extents n d) (e.first + length (bytes_from image e.first (e.last + 1 - e.first)))) (sym same) inside in
           omega (arith, here.to));
     }
 
@@ -170,19 +150,19 @@ unfolding run_of
 is_run_of image extents run k d so is h inside =
     let e = get_or extents k d in
     let bounds = run_bounds image extents run k d so is h inside in
-    let count : length (bytes_of image e.first (e.last + 1 - e.first)) ≡ e.last + 1 - e.first = length_bytes_of image e.first (e.last + 1 - e.first) in
+    let count : length (bytes_from image e.first (e.last + 1 - e.first)) ≡ e.last + 1 - e.first = length-bytes_from image e.first (e.last + 1 - e.first) in
     let order : e.first ≤ e.last = so.ordered k d h in
-    let long : length (bytes_of image e.first (e.last + 1 - e.first)) ≡ length run.bytes = omega (arith, bounds.0, bounds.1) in
-    let same : bytes_of image e.first (e.last + 1 - e.first) ≡ run.bytes =
-    same_list (bytes_of image e.first (e.last + 1 - e.first)) run.bytes long
+    let long : length (bytes_from image e.first (e.last + 1 - e.first)) ≡ length run.bytes = omega (arith, bounds.0, bounds.1) in
+    let same : bytes_from image e.first (e.last + 1 - e.first) ≡ run.bytes =
+    same_list (bytes_from image e.first (e.last + 1 - e.first)) run.bytes long
     (λ n less.
     let short : n < length run.bytes = omega arith in
     let read : spec.fixed_byte image (e.first + n) ≡ slice_get run.bytes n =
     ap (λ a. spec.fixed_byte image (a + n)) (sym bounds.0) ∙ is.fixed n short in
-    bytes_of_read image e.first (e.last + 1 - e.first) n (omega arith)
+    bytes_from-read image e.first (e.last + 1 - e.first) n (omega arith)
     (some_of (spec.fixed_byte image (e.first + n)) (slice_get run.bytes n) read (get_some run.bytes n short))
     ∙ read) in
-    run_eq (record { start = e.first; bytes = bytes_of image e.first (e.last + 1 - e.first) }) run (sym bounds.0) same
+    run_eq (record { start = e.first; bytes = bytes_from image e.first (e.last + 1 - e.first) }) run (sym bounds.0) same
 
 pub are_runs : (image : spec.Image) (extents : List Extent) → AreExtentsOf image extents → AreRuns image (map (run_of image) extents)
 unfolding run_of
@@ -235,7 +215,7 @@ extends_when image extents i (Some x) so e =
     let inside : i < length extents = slice_get_within extents i x e in
     let here : get_or extents i x ≡ x = some_same (get_or extents i x) x (sym (slice_get-get_or extents i x inside) ∙ e) in
     let order : x.first ≤ x.last = subst (λ y. y.first ≤ y.last) here (so.ordered i x inside) in
-    record { first = refl; last = omega (arith, length_bytes_of image x.first (x.last + 1 - x.first)) }
+    record { first = refl; last = omega (arith, length-bytes_from image x.first (x.last + 1 - x.first)) }
   where
     some_same : (x y : Extent) → Some x ≡ Some y → x ≡ y
     some_same x y e = cc
@@ -265,3 +245,68 @@ pub extent_is_at : (image : spec.Image) (segments fixed : List Segment) (extents
 extent_is_at image segments fixed extents i e are so =
     let of_image = extents_of_image image segments fixed extents e are so in
     record { runs = map (run_of image) extents; are_runs = are_runs image extents of_image; extents = extends_at image extents i of_image }
+
+-- ---- the runs as the program lists them
+
+bytes_from-suc : (image : spec.Image) (start n : ℕ)
+    → bytes_from image start (suc n) ≡ bytes_from image start n ++ unwrap_or (spec.fixed_byte image (start + n)) 0 ∷ []
+unfolding bytes_from
+bytes_from-suc image start zero =
+    let here : start ≡ start + 0 = omega arith in
+    ap (λ a. unwrap_or (spec.fixed_byte image a) 0 ∷ []) here
+bytes_from-suc image start (suc n) =
+    let next : start + 1 + n ≡ start + suc n = omega arith in
+    ap (λ xs. unwrap_or (spec.fixed_byte image start) 0 ∷ xs)
+    (bytes_from-suc image (start + 1) n ∙ ap (λ a. bytes_from image (start + 1) n ++ unwrap_or (spec.fixed_byte image a) 0 ∷ []) next)
+
+-- these are the fixed bytes at the first k addresses
+pub record AreBytesBelow (image : spec.Image) (start : ℕ) (bytes : List ℕ) (k : ℕ) : Type 0 where
+  pub same : bytes ≡ bytes_from image start k
+  pub small : All (λ b. b < 2 ^ 8) bytes
+
+pub no_bytes : (image : spec.Image) (start : ℕ) (bytes : List ℕ) → bytes ≡ [] → AreBytesBelow image start bytes 0
+unfolding bytes_from
+no_bytes image start bytes e = record { same = e; small = subst (All (λ b. b < 2 ^ 8)) (sym e) (λ k d h. absurd (omega (arith, h))) }
+
+pub byte_pushed : (image : spec.Image) (start : ℕ) (bytes more : List ℕ) (k byte : ℕ) → AreBytesBelow image start bytes k
+    → byte ≡ unwrap_or (spec.fixed_byte image (start + k)) 0 → byte < 2 ^ 8 → more ≡ bytes ++ byte ∷ [] → AreBytesBelow image start more (k + 1)
+byte_pushed image start bytes more k byte so is small e = record {
+  same =
+      e ∙ ap (λ xs. xs ++ byte ∷ []) so.same ∙ ap (λ b. bytes_from image start k ++ b ∷ []) is ∙ sym (bytes_from-suc image start k)
+      ∙ ap (bytes_from image start) (sym (add-one k));
+  small = subst (All (λ b. b < 2 ^ 8)) (sym e) (All-push (λ b. b < 2 ^ 8) bytes byte so.small small);
+}
+
+abbrev HasBytes : Run → Type 0
+HasBytes run = All (λ b. b < 2 ^ 8) run.bytes
+
+-- these are the runs of the first i extents
+pub record AreRunsBelow (image : spec.Image) (extents : List Extent) (runs : List KeptRun) (i : ℕ) : Type 0 where
+  pub same : runs_of runs ≡ map (run_of image) (take i extents)
+  pub small : All HasBytes (runs_of runs)
+
+pub no_runs : (image : spec.Image) (extents : List Extent) → AreRunsBelow image extents [] 0
+no_runs image extents = record { same = refl; small = λ k d h. absurd (omega (arith, h)) }
+
+pub run_pushed : (image : spec.Image) (extents : List Extent) (runs : List KeptRun) (run : KeptRun) (i : ℕ) (d : Extent)
+    → AreRunsBelow image extents runs i → i < length extents → run.start ≡ (get_or extents i d).first
+    → run.bytes.items ≡ bytes_from image (get_or extents i d).first ((get_or extents i d).last + 1 - (get_or extents i d).first)
+    → All (λ b. b < 2 ^ 8) run.bytes.items → AreRunsBelow image extents (runs ++ run ∷ []) (i + 1)
+unfolding run_of
+run_pushed image extents runs run i d so h start bytes small =
+    let pushed : runs_of (runs ++ run ∷ []) ≡ runs_of runs ++ kept run ∷ [] = map-append kept runs (run ∷ []) in
+    record {
+      same =
+          pushed ∙ ap (λ xs. xs ++ kept run ∷ []) so.same
+          ∙ ap (λ r. map (run_of image) (take i extents) ++ r ∷ []) (run_eq (kept run) (run_of image (get_or extents i d)) start bytes)
+          ∙ sym (ap (map (run_of image)) (take_more extents i d h) ∙ map-append (run_of image) (take i extents) (get_or extents i d ∷ []));
+      small = subst (All HasBytes) (sym pushed) (All-push HasBytes (runs_of runs) (kept run) so.small small);
+    }
+
+pub all_runs : (image : spec.Image) (extents : List Extent) (runs : List KeptRun) (i : ℕ) → AreExtentsOf image extents
+    → AreRunsBelow image extents runs i → length extents ≤ i → AreRuns image (runs_of runs)
+all_runs image extents runs i so below over =
+    subst (AreRuns image) (sym (below.same ∙ ap (map (run_of image)) (take_all i extents over))) (are_runs image extents so)
+
+pub runs_of_bytes : (image : spec.Image) (extents : List Extent) (runs : List KeptRun) (i : ℕ) → AreRunsBelow image extents runs i → AreBytes (runs_of runs)
+runs_of_bytes image extents runs i below = are_bytes (runs_of runs) below.small

@@ -15,25 +15,25 @@ entries_next from size count i h =
     entries_front (from + size * i) size (count - (i + 1)) (count - i) left
     ∙ ap (λ n. (from + size * i) ∷ entries n size (count - (i + 1))) place
 
--- the first entry that passes is looked for behind one that fails
+-- the first entry that passes is looked for after one that fails
 pub find_passed : (p : ℕ → Bool) (from size count i : ℕ) → i < count → p (from + size * i) ≡ false
     → find p (entries (from + size * (i + 1)) size (count - (i + 1))) ≡ find p (entries (from + size * i) size (count - i))
 find_passed p from size count i h e =
-    let behind = entries (from + size * (i + 1)) size (count - (i + 1)) in
-    let passed : find p ((from + size * i) ∷ behind) ≡ find p behind = rw e refl in
+    let following = entries (from + size * (i + 1)) size (count - (i + 1)) in
+    let passed : find p ((from + size * i) ∷ following) ≡ find p following = rw e refl in
     sym (ap (λ xs. find p xs) (entries_next from size count i h) ∙ passed)
 
 pub length_entries : (from size count : ℕ) → length (entries from size count) ≡ count
 length_entries from size zero = refl
 length_entries from size (suc count) = grind (arith, length_entries (from + size) size count)
 
--- where entry k stands
+-- the offset of entry k
 pub entry_at : (from size count k : ℕ) → k < count → get_or (entries from size count) k 0 ≡ from + size * k
 entry_at from size zero k h = absurd (omega arith)
 entry_at from size (suc count) zero h = omega arith
 entry_at from size (suc count) (suc k) h =
-    let behind : get_or (entries (from + size) size count) k 0 ≡ from + size + size * k = entry_at (from + size) size count k (omega arith) in
-    behind ∙ omega (arith, mul-suc size k)
+    let following : get_or (entries (from + size) size count) k 0 ≡ from + size + size * k = entry_at (from + size) size count k (omega arith) in
+    following ∙ omega (arith, mul-suc size k)
 
 -- an element is one of the entries
 pub entry_of_contained : (from size count x : ℕ) → Contains (entries from size count) x → (k : ℕ) × (k < count) × (from + size * k ≡ x)

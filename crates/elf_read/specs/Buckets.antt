@@ -11,11 +11,11 @@ mixed start bytes = fold (λ mix byte. (mix * 257 + byte) % 1000003) start bytes
 unfoldable pub bucket_of : List ℕ → (count : ℕ) → ℕ
 bucket_of name count = mixed (mixed (length name % 1000003) (take 8 name)) (drop (length name - 8) name) % count
 
--- the place of the next symbol of a bucket from a place on, or the number of symbols
+-- the index of the next symbol of a bucket from an index on, or the number of symbols
 unfoldable pub next_in : List Symbol → (count bucket from : ℕ) → ℕ
 next_in symbols count bucket from = from + position_or_len (λ s. bucket_of s.name.now count == bucket) (drop from symbols)
 
--- the first symbol of each bucket, and behind each symbol the next one of its bucket
+-- the first symbol of each bucket, and after each symbol the next one of its bucket
 pub record AreChained (symbols : List Symbol) (heads nexts : List ℕ) : Type 0 where
   pub buckets : length heads ≡ length symbols + 1
   pub places : length nexts ≡ length symbols

@@ -7,7 +7,7 @@ use Rattle.elf_spec.specs.File.{Keeps, rank}
 abbrev pub KeepsKind : List ℕ → ElfKind → Type 0
 KeepsKind bytes kind = (at : ℕ) → Keeps bytes kind at
 
--- the file has no fault of the kinds whose place in the order is below this one
+-- the file has no fault of the kinds of lower rank
 abbrev pub KeepsBelow : List ℕ → ℕ → Type 0
 KeepsBelow bytes place = (kind : ElfKind) → rank kind < place → (at : ℕ) → Keeps bytes kind at
 

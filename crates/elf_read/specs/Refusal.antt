@@ -4,7 +4,7 @@ use Rattle.elf_spec.specs.File.{IsRefusedFile}
 use Rattle.elf_read.specs.declared.reader.ElfError.{ElfError}
 use Rattle.elf_read.specs.declared.reader.ElfError.TheVariants.{Fault, NoMemory}
 
--- a fault comes only where the file is refused for its reason at its offset; want of memory is free
+-- a fault comes only where the file is refused for its reason at its offset; out of memory may come at any time
 abbrev pub IsRefusal : List ℕ → ElfError → Type 0
 IsRefusal bytes (Fault fault) = IsRefusedFile bytes fault.kind fault.offset
 IsRefusal bytes NoMemory = ⊤

@@ -1,7 +1,8 @@
--- What the values that are read stand for.
+-- The values of the program as those of the definitions.
 use Rattle.std.specs.Prelude.{◌≡◌, ◌+◌, ℕ, List, length, slice_get, Option, Some, None}
 use Rattle.elf_spec.specs.Image as spec
-use Rattle.elf_spec.specs.Runs.{Run, AreRuns}
+use Rattle.memory_spec.specs.Runs.{Run}
+use Rattle.elf_spec.specs.Runs.{AreRuns}
 use Rattle.elf_read.specs.declared.parts.Segment.{Segment}
 use Rattle.elf_read.specs.declared.parts.Symbol.{Symbol}
 use Rattle.elf_read.specs.declared.parts.Extent.{Extent}
@@ -22,7 +23,7 @@ MayExtend None None = Unit {0}
 MayExtend (Some extent) (Some run) = Extends extent run
 MayExtend extent run = ⊥
 
--- the addresses of the run at a place among the runs of fixed bytes, by address
+-- the addresses of the run at an index among the runs of fixed bytes, by address
 pub record IsExtentAt (image : spec.Image) (i : ℕ) (extent : Option Extent) : Type 0 where
   pub runs : List Run
   pub are_runs : AreRuns image runs

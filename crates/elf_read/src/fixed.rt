@@ -1,6 +1,7 @@
 //! The fixed segments in the order of their addresses, and the runs of fixed bytes.
 
-ghost use Rattle.std.specs.Prelude.{◌≡◌, ◌+◌, ◌^◌, ◌≤◌, ◌<◌, ◌↔◌, ℕ, length, map, All, AllPairs, IfOk, IsTrue, slice_get};
+ghost use Rattle.std.specs.Prelude.{◌≡◌, ◌+◌, ◌^◌, ◌≤◌, ◌<◌, ◌↔◌, ℕ, length, map, All, AllPairs};
+ghost use Rattle.std.specs.Prelude.{IfOk, IsTrue, slice_get};
 ghost use Rattle.std.specs.List.{AllWithin};
 ghost use Rattle.elf_spec.specs.Image as spec;
 ghost use Rattle.elf_read.specs.Values.{segment_of};
@@ -106,7 +107,7 @@ impl<'a> Segment<'a> {
     }
 }
 
-/// The extent at a place.
+/// The extent at an index.
 pub(crate) fn extent_at(extents: &[Extent], i: usize) -> Option<Extent>
     ensures { result ≡ slice_get extents.now i }
 {

@@ -7,14 +7,16 @@ ghost use Rattle.elf_read.specs.Faults.{IsFirst, KeepsBelow};
 use crate::fields::{u16_at, u32_at};
 use crate::reader::ElfFault;
 use elf_spec::ElfKind;
-
-/// The bytes with which a file begins.
-const MAGIC: [u8; 4] = [0x7f, 0x45, 0x4c, 0x46];
+use elf_spec::fields::{
+    E_EHSIZE, E_FLAGS, E_MACHINE, E_PHENTSIZE, E_PHNUM, E_PHOFF, E_SHENTSIZE, E_SHNUM, E_SHOFF,
+    E_TYPE, E_VERSION, EHDR_SIZE, EI_CLASS, EI_DATA, EI_VERSION, ELFCLASS32, ELFDATA2LSB, ELFMAG,
+    EM_RISCV, ET_EXEC, EV_CURRENT, PHDR_SIZE, SHDR_SIZE,
+};
 
 pub(crate) fn length_fault(bytes: &[u8]) -> Option<usize>
     ensures { IsFirst bytes.now ElfKind.Short result }
 {
-    if bytes.len() < 52 {
+    if bytes.len() < EHDR_SIZE {
         Some(bytes.len())
     } else {
         None
@@ -22,10 +24,10 @@ pub(crate) fn length_fault(bytes: &[u8]) -> Option<usize>
 }
 
 pub(crate) fn magic_fault(bytes: &[u8]) -> Option<usize>
-    requires { 52 ≤ length bytes.now }
+    requires { EHDR_SIZE ≤ length bytes.now }
     ensures { IsFirst bytes.now ElfKind.Magic result }
 {
-    for (i, byte) in MAGIC.iter().enumerate() {
+    for (i, byte) in ELFMAG.iter().enumerate() {
         if bytes[i] != *byte {
             return Some(i);
         }
@@ -34,92 +36,100 @@ pub(crate) fn magic_fault(bytes: &[u8]) -> Option<usize>
 }
 
 pub(crate) fn class_fault(bytes: &[u8]) -> Option<usize>
-    requires { 52 ≤ length bytes.now }
+    requires { EHDR_SIZE ≤ length bytes.now }
     ensures { IsFirst bytes.now ElfKind.Class result }
 {
-    if bytes[4] != 1 { Some(4) } else { None }
+    if bytes[EI_CLASS] != ELFCLASS32 {
+        Some(EI_CLASS)
+    } else {
+        None
+    }
 }
 
 pub(crate) fn endian_fault(bytes: &[u8]) -> Option<usize>
-    requires { 52 ≤ length bytes.now }
+    requires { EHDR_SIZE ≤ length bytes.now }
     ensures { IsFirst bytes.now ElfKind.Endian result }
 {
-    if bytes[5] != 1 { Some(5) } else { None }
+    if bytes[EI_DATA] != ELFDATA2LSB {
+        Some(EI_DATA)
+    } else {
+        None
+    }
 }
 
 pub(crate) fn version_fault(bytes: &[u8]) -> Option<usize>
-    requires { 52 ≤ length bytes.now }
+    requires { EHDR_SIZE ≤ length bytes.now }
     ensures { IsFirst bytes.now ElfKind.Version result }
 {
-    if bytes[6] != 1 {
-        return Some(6);
+    if bytes[EI_VERSION] != EV_CURRENT {
+        return Some(EI_VERSION);
     }
-    if u32_at(bytes, 20) != 1 {
-        return Some(20);
+    if u32_at(bytes, E_VERSION) != u32::from(EV_CURRENT) {
+        return Some(E_VERSION);
     }
     None
 }
 
 pub(crate) fn kind_fault(bytes: &[u8]) -> Option<usize>
-    requires { 52 ≤ length bytes.now }
+    requires { EHDR_SIZE ≤ length bytes.now }
     ensures { IsFirst bytes.now ElfKind.Kind result }
 {
-    if u16_at(bytes, 16) != 2 {
-        Some(16)
+    if u16_at(bytes, E_TYPE) != ET_EXEC {
+        Some(E_TYPE)
     } else {
         None
     }
 }
 
 pub(crate) fn machine_fault(bytes: &[u8]) -> Option<usize>
-    requires { 52 ≤ length bytes.now }
+    requires { EHDR_SIZE ≤ length bytes.now }
     ensures { IsFirst bytes.now ElfKind.Machine result }
 {
-    if u16_at(bytes, 18) != 243 {
-        Some(18)
+    if u16_at(bytes, E_MACHINE) != EM_RISCV {
+        Some(E_MACHINE)
     } else {
         None
     }
 }
 
 pub(crate) fn flags_fault(bytes: &[u8]) -> Option<usize>
-    requires { 52 ≤ length bytes.now }
+    requires { EHDR_SIZE ≤ length bytes.now }
     ensures { IsFirst bytes.now ElfKind.Flags result }
 {
-    if u32_at(bytes, 36) % 16 != 0 {
-        Some(36)
+    if u32_at(bytes, E_FLAGS) % 16 != 0 {
+        Some(E_FLAGS)
     } else {
         None
     }
 }
 
 pub(crate) fn header_size_fault(bytes: &[u8]) -> Option<usize>
-    requires { 52 ≤ length bytes.now }
+    requires { EHDR_SIZE ≤ length bytes.now }
     ensures { IsFirst bytes.now ElfKind.HeaderSize result }
 {
-    if u16_at(bytes, 40) != 52 {
-        return Some(40);
+    if usize::from(u16_at(bytes, E_EHSIZE)) != EHDR_SIZE {
+        return Some(E_EHSIZE);
     }
-    if u16_at(bytes, 44) > 0 && u16_at(bytes, 42) != 32 {
-        return Some(42);
+    if u16_at(bytes, E_PHNUM) > 0 && usize::from(u16_at(bytes, E_PHENTSIZE)) != PHDR_SIZE {
+        return Some(E_PHENTSIZE);
     }
-    if u16_at(bytes, 48) > 0 && u16_at(bytes, 46) != 40 {
-        return Some(46);
+    if u16_at(bytes, E_SHNUM) > 0 && usize::from(u16_at(bytes, E_SHENTSIZE)) != SHDR_SIZE {
+        return Some(E_SHENTSIZE);
     }
     None
 }
 
 pub(crate) fn table_fault(bytes: &[u8]) -> Option<usize>
-    requires { 52 ≤ length bytes.now }
+    requires { EHDR_SIZE ≤ length bytes.now }
     ensures { IsFirst bytes.now ElfKind.Table result }
 {
-    let programs = u32_at(bytes, 28) as usize + 32 * u16_at(bytes, 44) as usize;
+    let programs = u32_at(bytes, E_PHOFF) as usize + PHDR_SIZE * u16_at(bytes, E_PHNUM) as usize;
     if programs > bytes.len() {
-        return Some(28);
+        return Some(E_PHOFF);
     }
-    let sections = u32_at(bytes, 32) as usize + 40 * u16_at(bytes, 48) as usize;
+    let sections = u32_at(bytes, E_SHOFF) as usize + SHDR_SIZE * u16_at(bytes, E_SHNUM) as usize;
     if sections > bytes.len() {
-        return Some(32);
+        return Some(E_SHOFF);
     }
     None
 }
@@ -139,7 +149,7 @@ const HEADER_KINDS: [ElfKind; 9] = [
 
 /// The first fault of a kind, of those of a header that is long enough.
 fn header_fault(bytes: &[u8], kind: ElfKind) -> Option<usize>
-    requires long { 52 ≤ length bytes.now }
+    requires long { EHDR_SIZE ≤ length bytes.now }
     requires kind { (1 < spec.rank kind) × (spec.rank kind < 11) }
     ensures { IsFirst bytes.now kind result }
 {
@@ -160,9 +170,9 @@ fn header_fault(bytes: &[u8], kind: ElfKind) -> Option<usize>
 /// Refuses a file for the first fault of its header.
 pub(crate) fn check_header(bytes: &[u8]) -> Result<(), ElfFault>
     ensures kept { OnOk result (KeepsBelow bytes.now (spec.rank ElfKind.SegmentRange)) }
-    ensures long { OnOk result (52 ≤ length bytes.now) }
-    ensures programs { OnOk result (spec.u32_at bytes.now 28 + 32 * spec.u16_at bytes.now 44 ≤ length bytes.now) }
-    ensures sections { OnOk result (spec.u32_at bytes.now 32 + 40 * spec.u16_at bytes.now 48 ≤ length bytes.now) }
+    ensures long { OnOk result (EHDR_SIZE ≤ length bytes.now) }
+    ensures programs { OnOk result (spec.programs_end bytes.now ≤ length bytes.now) }
+    ensures sections { OnOk result (spec.sections_end bytes.now ≤ length bytes.now) }
     ensures refused { IfErr result (λ fault. spec.IsRefusedFile bytes.now fault.kind fault.offset) }
 {
     if let Some(offset) = length_fault(bytes) {

@@ -1,6 +1,8 @@
 //! The image of an executable, and what is read off it.
 
-ghost use Rattle.std.specs.Prelude.{◌≡◌, ◌<◌, ◌==◌, ℕ, true, length, ◌&&◌, ◌∷◌, if◌then◌else◌, max, unwrap_or, bytes_eq, map, filter, slice_get, None, Some, IfOk};
+ghost use Rattle.std.specs.Prelude.{◌≡◌, ◌+◌, ◌-◌, ◌^◌, ◌<◌, ◌≤◌, ◌==◌, ℕ, true, All, length, ◌&&◌};
+ghost use Rattle.std.specs.Prelude.{◌∷◌, if◌then◌else◌, max};
+ghost use Rattle.std.specs.Prelude.{unwrap_or, bytes_eq, map, filter, slice_get, None, Some, IfOk};
 ghost use Rattle.std.specs.Bool.{OnTrue, OnFalse};
 ghost use Rattle.std.specs.Option.{option_map};
 ghost use Rattle.elf_spec.specs.Image as spec;
@@ -9,13 +11,15 @@ use crate::fixed::{byte_at, extent_at, extents, fixed_segments};
 use crate::names::Chains;
 use crate::sizes::sizes;
 use crate::{Extent, Segment, Symbol};
-use elf_spec::Named;
+use elf_spec::SymbolValues;
+use elf_spec::fields::{PF_W, STT_FUNC, STT_OBJECT};
+use memory_spec::Run;
 use std::alloc::{AllocError, Global};
 use std::collections::BTreeMap;
 use std::marker::Model;
 
-/// What an executable holds: its segments in the order of their headers, its defined symbols in the order
-/// of their table. It borrows the file.
+/// What an executable holds: its segments in the order of their headers, its defined symbols in the
+/// order of their table. It borrows the file.
 #[derive(Debug, Drop)]
 pub struct Image<'a> {
     segments: Vec<Segment<'a>>,
@@ -46,6 +50,9 @@ impl<'a> Model for Image<'a> {
 impl<'a> Image<'a> {
     ghost use Rattle.elf_read.specs.Values.{segment_of, symbol_of, IsExtentAt};
     ghost use Rattle.elf_read.specs.Separate.{AreSeparate};
+    ghost use Rattle.elf_spec.specs.Runs.{AreRuns, bytes_from};
+    ghost use Rattle.memory_spec.specs.Runs.{AreBytes};
+    ghost use Rattle.memory_spec.specs.Viewed.{runs_of};
 
     /// The image of some segments and symbols.
     pub(crate) fn new(
@@ -54,7 +61,12 @@ impl<'a> Image<'a> {
         symbols: Vec<Symbol<'a>>,
     ) -> Result<Image<'a>, AllocError>
         requires { AreSeparate (map segment_of segments.items) }
-        ensures { IfOk result (λ image. image ≡ record { segments = map segment_of segments.entry.items; symbols = map symbol_of symbols.entry.items }) }
+        ensures { IfOk result (λ image. image
+            ≡ record {
+              segments = map segment_of segments.entry.items;
+              symbols = map symbol_of
+                  symbols.entry.items;
+            }) }
     {
         let fixed = fixed_segments(alloc, segments.as_slice())?;
         let extents = extents(alloc, fixed.as_slice())?;
@@ -72,14 +84,14 @@ impl<'a> Image<'a> {
         })
     }
 
-    /// The segment of a place in the order of the program headers.
+    /// The segment at an index in the order of the program headers.
     pub fn segment(&self, i: usize) -> Option<&Segment<'a>>
         ensures { option_map (λ s. segment_of s.now) result ≡ slice_get self.now.segments i }
     {
         self.segments.get(i)
     }
 
-    /// The symbol of a place among the defined ones, in the order of their table.
+    /// The symbol at an index among the defined ones, in the order of their table.
     pub fn symbol(&self, i: usize) -> Option<&Symbol<'a>>
         ensures { option_map (λ s. symbol_of s.now) result ≡ slice_get self.now.symbols i }
     {
@@ -94,20 +106,21 @@ impl<'a> Image<'a> {
     }
 
     /// The functions of a name: its symbols of type `STT_FUNC`.
-    pub fn function(&self, name: &[u8]) -> Named
+    pub fn function(&self, name: &[u8]) -> SymbolValues
         ensures { result ≡ spec.function_named self.now name.now }
     {
-        self.chains.named(self.symbols.as_slice(), 2, name)
+        self.chains.named(self.symbols.as_slice(), STT_FUNC, name)
     }
 
     /// The globals of a name: its symbols of type `STT_OBJECT`.
-    pub fn object(&self, name: &[u8]) -> Named
+    pub fn object(&self, name: &[u8]) -> SymbolValues
         ensures { result ≡ spec.object_named self.now name.now }
     {
-        self.chains.named(self.symbols.as_slice(), 1, name)
+        self.chains.named(self.symbols.as_slice(), STT_OBJECT, name)
     }
 
-    /// The value of the first symbol `__global_pointer$`, of any type (RISC-V psABI, global pointer).
+    /// The value of the first symbol `__global_pointer$`, of any type (RISC-V psABI, global
+    /// pointer).
     pub fn global_pointer(&self) -> Option<u32>
         ensures { result ≡ spec.global_pointer self.now }
     {
@@ -121,8 +134,40 @@ impl<'a> Image<'a> {
         byte_at(self.fixed.as_slice(), address)
     }
 
-    /// The addresses of a run of fixed bytes, of a place among the runs by address. The bytes are those of
-    /// [`Image::fixed_byte`].
+    /// The runs of fixed bytes by address, with their bytes. Segments that touch have one run.
+    pub fn runs(&self, alloc: Global) -> Result<Vec<Run>, AllocError>
+        ensures runs { IfOk result (λ runs. AreRuns self.now (runs_of runs.items)) }
+        ensures bytes { IfOk result (λ runs. AreBytes (runs_of runs.items)) }
+    {
+        let mut runs = Vec::new(alloc);
+        let extents = self.extents.as_slice();
+        for extent in extents {
+            let bytes = self.bytes_in(alloc, *extent)?;
+            runs.push(Run {
+                start: extent.first,
+                bytes,
+            })?;
+        }
+        Ok(runs)
+    }
+
+    /// The fixed bytes at the addresses of an extent; 0 where none is fixed.
+    fn bytes_in(&self, alloc: Global, extent: Extent) -> Result<Vec<u8>, AllocError>
+        requires { extent.first ≤ extent.last }
+        ensures bytes { IfOk result (λ bytes. bytes.items
+            ≡ bytes_from self.now extent.first (extent.last + 1 - extent.first)) }
+        ensures small { IfOk result (λ bytes. All (λ b. b < 2 ^ 8) bytes.items) }
+    {
+        let mut bytes = Vec::new(alloc);
+        for k in 0..u64::from(extent.last - extent.first) + 1 {
+            let byte = self.fixed_byte(extent.first + k as u32);
+            bytes.push(byte.unwrap_or(0))?;
+        }
+        Ok(bytes)
+    }
+
+    /// The addresses of a run of fixed bytes, at an index among the runs by address. The bytes are
+    /// those of [`Image::fixed_byte`].
     pub fn run(&self, i: usize) -> Option<Extent>
         ensures { IsExtentAt self.now i result }
     {
@@ -142,20 +187,23 @@ impl<'a> Symbol<'a> {
 }
 
 impl<'a> Segment<'a> {
-    /// It has bytes, and nothing may write them: it is without the flag `PF_W`, which is 2.
+    /// It has bytes, and nothing may write them: it is without the flag `PF_W`.
     pub(crate) fn has_fixed_bytes(&self) -> bool
         ensures unwritable { OnTrue result (spec.is_fixed (values.segment_of self.now) ≡ true) }
         ensures full { OnTrue result (0 < length self.now.bytes.now) }
-        ensures none { OnFalse result ((address : ℕ) → (if spec.is_fixed (values.segment_of self.now) then spec.byte_in (values.segment_of self.now) address else None) ≡ None) }
+        ensures none { OnFalse result ((address : ℕ)
+            → (if spec.is_fixed (values.segment_of self.now) then spec.byte_in
+            (values.segment_of self.now) address else None) ≡ None) }
     {
-        self.flags / 2 % 2 == 0 && !self.bytes.is_empty()
+        self.flags / PF_W % 2 == 0 && !self.bytes.is_empty()
     }
 
     /// The file's byte at an address, unless the segment may be written.
     pub(crate) fn fixed_byte(&self, address: u32) -> Option<u8>
-        ensures { result ≡ (if spec.is_fixed (values.segment_of self.now) then spec.byte_in (values.segment_of self.now) address else None) }
+        ensures { result ≡ (if spec.is_fixed (values.segment_of self.now) then spec.byte_in
+            (values.segment_of self.now) address else None) }
     {
-        if self.flags / 2 % 2 != 0 || address < self.vaddr {
+        if self.flags / PF_W % 2 != 0 || address < self.vaddr {
             return None;
         }
         let place = (address - self.vaddr) as usize;
@@ -164,7 +212,9 @@ impl<'a> Segment<'a> {
 }
 
 fn first_named(symbols: &[Symbol], name: &[u8]) -> Option<u32>
-    ensures { result ≡ spec.first_of (map (λ s. s.value) (filter (λ s. bytes_eq s.name name.now) (map values.symbol_of symbols.now))) }
+    ensures { result ≡ spec.first_of
+        (map (λ s. s.value) (filter (λ s. bytes_eq s.name name.now)
+        (map values.symbol_of symbols.now))) }
 {
     for symbol in symbols {
         if symbol.name == name {

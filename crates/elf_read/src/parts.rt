@@ -9,7 +9,7 @@ pub struct Segment<'a> {
     pub memsz: u32,
     /// `p_flags`: 1 for code, 2 for memory that may be written, 4 for memory that may be read.
     pub flags: u32,
-    /// Its `p_filesz` bytes in the file, which stand at its start.
+    /// Its `p_filesz` bytes in the file, from its start on.
     pub bytes: &'a [u8],
 }
 

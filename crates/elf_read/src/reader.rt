@@ -14,6 +14,7 @@ use crate::segments::{loads, overlap_fault, range_fault, segments};
 use crate::strings::Strings;
 use crate::symbols::{defined_symbols, has_strings, is_table, name_fault, strings, symbol_table};
 use elf_spec::ElfKind;
+use elf_spec::fields::{E_SHNUM, E_SHOFF, EHDR_SIZE, PHDR_SIZE, SHDR_SIZE};
 use std::alloc::{AllocError, Global};
 use thiserror::Error;
 
@@ -74,7 +75,7 @@ pub fn read<'a>(alloc: Global, bytes: &'a [u8]) -> Result<Image<'a>, ElfError>
 fn check_loads(bytes: &[u8], loads: &[usize]) -> Result<(), ElfFault>
     requires below { KeepsBelow bytes.now (spec.rank ElfKind.SegmentRange) }
     requires loads { loads.now ≡ spec.loads bytes.now }
-    requires inside { All (λ at. at + 32 ≤ length bytes.now) loads.now }
+    requires inside { All (λ at. at + PHDR_SIZE ≤ length bytes.now) loads.now }
     requires rising { IsRising loads.now }
     ensures kept { OnOk result (KeepsBelow bytes.now (spec.rank ElfKind.NoSymbols)) }
     ensures refused { IfErr result (λ fault. spec.IsRefusedFile bytes.now fault.kind fault.offset) }
@@ -94,14 +95,15 @@ fn check_loads(bytes: &[u8], loads: &[usize]) -> Result<(), ElfFault>
     Ok(())
 }
 
-/// The offset of the header of the symbol table; or the refusal of a file without one or with a faulty one.
+/// The offset of the header of the symbol table; or the refusal of a file without one or with a
+/// faulty one.
 fn check_table(bytes: &[u8]) -> Result<usize, ElfFault>
-    requires long { 52 ≤ length bytes.now }
-    requires sections { spec.u32_at bytes.now 32 + 40 * spec.u16_at bytes.now 48 ≤ length bytes.now }
+    requires long { EHDR_SIZE ≤ length bytes.now }
+    requires sections { spec.sections_end bytes.now ≤ length bytes.now }
     requires below { KeepsBelow bytes.now (spec.rank ElfKind.NoSymbols) }
     ensures kept { OnOk result (KeepsBelow bytes.now (spec.rank ElfKind.StringTable)) }
     ensures table { IfOk result (λ table. spec.symbol_table bytes.now ≡ Some table) }
-    ensures inside { IfOk result (λ table. table + 40 ≤ length bytes.now) }
+    ensures inside { IfOk result (λ table. table + SHDR_SIZE ≤ length bytes.now) }
     ensures is_table { IfOk result (λ table. spec.IsTable bytes.now table) }
     ensures strings { IfOk result (λ table. spec.HasStrings bytes.now table) }
     ensures refused { IfErr result (λ fault. spec.IsRefusedFile bytes.now fault.kind fault.offset) }
@@ -109,7 +111,7 @@ fn check_table(bytes: &[u8]) -> Result<usize, ElfFault>
     let Some(table) = symbol_table(bytes) else {
         return Err(ElfFault {
             kind: ElfKind::NoSymbols,
-            offset: 32,
+            offset: E_SHOFF,
         });
     };
     if !is_table(bytes, table) {
@@ -131,12 +133,13 @@ fn check_table(bytes: &[u8]) -> Result<usize, ElfFault>
 fn check_names(bytes: &[u8], table: usize, strings: &Strings) -> Result<(), ElfFault>
     requires below { KeepsBelow bytes.now (spec.rank ElfKind.StringTable) }
     requires table { spec.symbol_table bytes.now ≡ Some table }
-    requires inside { table + 40 ≤ length bytes.now }
+    requires inside { table + SHDR_SIZE ≤ length bytes.now }
     requires is_table { spec.IsTable bytes.now table }
     requires has_strings { spec.HasStrings bytes.now table }
     requires strings { strings.now ≡ spec.strings_of bytes.now table }
     ensures kept { OnOk result ((kind : ElfKind) (at : ℕ) → spec.Keeps bytes.now kind at) }
-    ensures ended { OnOk result (All (λ at. spec.IsEnded bytes.now table at) (spec.symbols bytes.now table)) }
+    ensures ended { OnOk result (All (λ at. spec.IsEnded bytes.now table at)
+        (spec.symbols bytes.now table)) }
     ensures refused { IfErr result (λ fault. spec.IsRefusedFile bytes.now fault.kind fault.offset) }
 {
     if let Some(offset) = name_fault(bytes, table, strings) {

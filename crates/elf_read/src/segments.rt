@@ -1,6 +1,7 @@
 //! The program headers of type `PT_LOAD`, and their faults.
 
-ghost use Rattle.std.specs.Prelude.{◌≡◌, ◌+◌, ◌*◌, ◌≤◌, ◌<◌, ◌↔◌, ℕ, length, take, drop, map, All, Contains, IfOk, IsTrue};
+ghost use Rattle.std.specs.Prelude.{◌≡◌, ◌+◌, ◌*◌, ◌≤◌, ◌<◌, ◌↔◌, ℕ, length, take, drop, map, All};
+ghost use Rattle.std.specs.Prelude.{Contains, IfOk, IsTrue};
 ghost use Rattle.std.specs.Bool.{OnTrue, OnFalse};
 ghost use Rattle.elf_spec.specs.File as spec;
 ghost use Rattle.elf_read.specs.Faults.{IsFirst};
@@ -10,22 +11,26 @@ ghost use Rattle.elf_read.specs.Values.{segment_of};
 use crate::Segment;
 use crate::fields::{u16_at, u32_at};
 use elf_spec::ElfKind;
+use elf_spec::fields::{
+    E_PHNUM, E_PHOFF, EHDR_SIZE, P_FILESZ, P_FLAGS, P_MEMSZ, P_OFFSET, P_VADDR, PHDR_SIZE, PT_LOAD,
+};
 use std::alloc::{AllocError, Global};
 
 /// The offsets of the program headers of type `PT_LOAD`, in order.
 pub(crate) fn loads(alloc: Global, bytes: &[u8]) -> Result<Vec<usize>, AllocError>
-    requires long { 52 ≤ length bytes.now }
-    requires table { spec.u32_at bytes.now 28 + 32 * spec.u16_at bytes.now 44 ≤ length bytes.now }
+    requires long { EHDR_SIZE ≤ length bytes.now }
+    requires table { spec.programs_end bytes.now ≤ length bytes.now }
     ensures loads { IfOk result (λ loads. loads.items ≡ spec.loads bytes.now) }
-    ensures inside { IfOk result (λ loads. All (λ at. at + 32 ≤ length bytes.now) loads.items) }
+    ensures inside { IfOk result (λ loads. All (λ at. at + PHDR_SIZE
+        ≤ length bytes.now) loads.items) }
     ensures rising { IfOk result (λ loads. IsRising loads.items) }
 {
-    let start = u32_at(bytes, 28) as usize;
-    let count = u16_at(bytes, 44) as usize;
+    let start = u32_at(bytes, E_PHOFF) as usize;
+    let count = u16_at(bytes, E_PHNUM) as usize;
     let mut loads = Vec::new(alloc);
     for i in 0..count {
-        let at = start + 32 * i;
-        if u32_at(bytes, at) == 1 {
+        let at = start + PHDR_SIZE * i;
+        if u32_at(bytes, at) == PT_LOAD {
             loads.push(at)?;
         }
     }
@@ -33,23 +38,23 @@ pub(crate) fn loads(alloc: Global, bytes: &[u8]) -> Result<Vec<usize>, AllocErro
 }
 
 fn is_placed(bytes: &[u8], at: usize) -> bool
-    requires { at + 32 ≤ length bytes.now }
+    requires { at + PHDR_SIZE ≤ length bytes.now }
     ensures { IsTrue result ↔ spec.IsPlaced bytes.now at }
 {
-    let file_size = u32_at(bytes, at + 16) as usize;
-    let memory_size = u32_at(bytes, at + 20) as usize;
+    let file_size = u32_at(bytes, at + P_FILESZ) as usize;
+    let memory_size = u32_at(bytes, at + P_MEMSZ) as usize;
     if file_size > memory_size {
         return false;
     }
-    if file_size > 0 && u32_at(bytes, at + 4) as usize + file_size > bytes.len() {
+    if file_size > 0 && u32_at(bytes, at + P_OFFSET) as usize + file_size > bytes.len() {
         return false;
     }
-    u32_at(bytes, at + 8) as usize + memory_size <= 0x1_0000_0000
+    u32_at(bytes, at + P_VADDR) as usize + memory_size <= 1 << 32
 }
 
 pub(crate) fn range_fault(bytes: &[u8], loads: &[usize]) -> Option<usize>
     requires loads { loads.now ≡ spec.loads bytes.now }
-    requires inside { All (λ at. at + 32 ≤ length bytes.now) loads.now }
+    requires inside { All (λ at. at + PHDR_SIZE ≤ length bytes.now) loads.now }
     requires rising { IsRising loads.now }
     ensures { IsFirst bytes.now ElfKind.SegmentRange result }
 {
@@ -63,22 +68,23 @@ pub(crate) fn range_fault(bytes: &[u8], loads: &[usize]) -> Option<usize>
 
 /// The memories of two program headers share no address.
 fn are_apart(bytes: &[u8], first: usize, second: usize) -> bool
-    requires first { first + 32 ≤ length bytes.now }
-    requires second { second + 32 ≤ length bytes.now }
+    requires first { first + PHDR_SIZE ≤ length bytes.now }
+    requires second { second + PHDR_SIZE ≤ length bytes.now }
     ensures { IsTrue result ↔ spec.AreApart bytes.now first second }
 {
-    let first_start = u32_at(bytes, first + 8) as usize;
-    let first_end = first_start + u32_at(bytes, first + 20) as usize;
-    let second_start = u32_at(bytes, second + 8) as usize;
-    let second_end = second_start + u32_at(bytes, second + 20) as usize;
+    let first_start = u32_at(bytes, first + P_VADDR) as usize;
+    let first_end = first_start + u32_at(bytes, first + P_MEMSZ) as usize;
+    let second_start = u32_at(bytes, second + P_VADDR) as usize;
+    let second_end = second_start + u32_at(bytes, second + P_MEMSZ) as usize;
     first_start.max(second_start) >= first_end.min(second_end)
 }
 
 /// The memory of a program header shares an address with that of one of several.
 fn meets_any(bytes: &[u8], earlier: &[usize], at: usize) -> bool
-    requires inside { at + 32 ≤ length bytes.now }
-    requires earlier { All (λ place. place + 32 ≤ length bytes.now) earlier.now }
-    ensures meets { OnTrue result ((place : ℕ) × Contains earlier.now place × (spec.AreApart bytes.now place at → ⊥)) }
+    requires inside { at + PHDR_SIZE ≤ length bytes.now }
+    requires earlier { All (λ place. place + PHDR_SIZE ≤ length bytes.now) earlier.now }
+    ensures meets { OnTrue result ((place : ℕ) × Contains earlier.now place
+        × (spec.AreApart bytes.now place at → ⊥)) }
     ensures apart { OnFalse result (All (λ place. spec.AreApart bytes.now place at) earlier.now) }
 {
     for place in earlier {
@@ -91,7 +97,7 @@ fn meets_any(bytes: &[u8], earlier: &[usize], at: usize) -> bool
 
 pub(crate) fn overlap_fault(bytes: &[u8], loads: &[usize]) -> Option<usize>
     requires loads { loads.now ≡ spec.loads bytes.now }
-    requires inside { All (λ at. at + 32 ≤ length bytes.now) loads.now }
+    requires inside { All (λ at. at + PHDR_SIZE ≤ length bytes.now) loads.now }
     requires rising { IsRising loads.now }
     ensures { IsFirst bytes.now ElfKind.SegmentOverlap result }
 {
@@ -109,9 +115,10 @@ pub(crate) fn segments<'a>(
     bytes: &'a [u8],
     loads: &[usize],
 ) -> Result<Vec<Segment<'a>>, AllocError>
-    requires inside { All (λ at. at + 32 ≤ length bytes.now) loads.now }
+    requires inside { All (λ at. at + PHDR_SIZE ≤ length bytes.now) loads.now }
     requires placed { All (λ at. spec.IsPlaced bytes.now at) loads.now }
-    ensures { IfOk result (λ segments. map segment_of segments.items ≡ map (spec.segment_at bytes.now) loads.now) }
+    ensures { IfOk result (λ segments. map segment_of segments.items
+        ≡ map (spec.segment_at bytes.now) loads.now) }
 {
     let mut segments = Vec::with_capacity(alloc, loads.len())?;
     for at in loads {
@@ -121,21 +128,21 @@ pub(crate) fn segments<'a>(
 }
 
 fn segment_at<'a>(bytes: &'a [u8], at: usize) -> Segment<'a>
-    requires inside { at + 32 ≤ length bytes.now }
+    requires inside { at + PHDR_SIZE ≤ length bytes.now }
     requires placed { spec.IsPlaced bytes.now at }
     ensures { segment_of result ≡ spec.segment_at bytes.now at }
 {
-    let start = u32_at(bytes, at + 4) as usize;
-    let size = u32_at(bytes, at + 16) as usize;
+    let start = u32_at(bytes, at + P_OFFSET) as usize;
+    let size = u32_at(bytes, at + P_FILESZ) as usize;
     Segment {
-        vaddr: u32_at(bytes, at + 8),
-        memsz: u32_at(bytes, at + 20),
-        flags: u32_at(bytes, at + 24),
+        vaddr: u32_at(bytes, at + P_VADDR),
+        memsz: u32_at(bytes, at + P_MEMSZ),
+        flags: u32_at(bytes, at + P_FLAGS),
         bytes: piece(bytes, start, size),
     }
 }
 
-/// As many bytes as `size` from a place on.
+/// As many bytes as `size` from an offset on.
 fn piece(bytes: &[u8], start: usize, size: usize) -> &[u8]
     requires { 0 < size → start + size ≤ length bytes.now }
     ensures { result.now ≡ take size (drop start bytes.now) }

@@ -1,14 +1,15 @@
 //! A string table, and the names in it.
 
-ghost use Rattle.std.specs.Prelude.{◌≡◌, ◌==◌, ◌<◌, ◌^◌, ◌↔◌, drop, length, Contains, IfOk, IfSome, IsSome, MatchOption};
+ghost use Rattle.std.specs.Prelude.{◌≡◌, ◌==◌, ◌<◌, ◌^◌, ◌↔◌, drop, length, Contains, IfOk, IfSome};
+ghost use Rattle.std.specs.Prelude.{IsSome, MatchOption};
 ghost use Rattle.elf_spec.specs.File.{name_in};
 ghost use Rattle.elf_read.specs.Zeros.{AreZeros, IsNextZero, HasNoZero};
 
 use std::alloc::{AllocError, Global};
 use std::marker::Model;
 
-/// A string table (System V ABI, string table), with the places of its 0 bytes: the end of a name is looked
-/// up, since many names may share one long text.
+/// A string table (System V ABI, string table), with the offsets of its 0 bytes: the end of a name
+/// is looked up, since many names may share one long text.
 #[derive(Drop)]
 pub(crate) struct Strings<'a> {
     bytes: &'a [u8],
@@ -36,7 +37,7 @@ impl<'a> Strings<'a> {
         Ok(Strings { bytes, zeros })
     }
 
-    /// The name at a place, if a 0 byte ends it; the empty one at place 0.
+    /// The name at an offset, if a 0 byte ends it; the empty one at offset 0.
     pub(crate) fn name(&self, place: usize) -> Option<&'a [u8]>
         ensures ended { IsSome result ↔ (0 < place → Contains (drop place self.now) 0) }
         ensures name { IfSome result (λ name. name.now ≡ name_in self.now place) }
@@ -49,7 +50,7 @@ impl<'a> Strings<'a> {
     }
 }
 
-/// The places of the 0 bytes of a string table, in order.
+/// The offsets of the 0 bytes of a string table, in order.
 fn zeros(alloc: Global, strings: &[u8]) -> Result<Vec<u32>, AllocError>
     requires { length strings.now < 2 ^ 32 }
     ensures { IfOk result (λ zeros. AreZeros strings.now zeros.items) }
@@ -63,10 +64,11 @@ fn zeros(alloc: Global, strings: &[u8]) -> Result<Vec<u32>, AllocError>
     Ok(zeros)
 }
 
-/// The place of the first 0 byte from a place on.
+/// The offset of the first 0 byte from an offset on.
 fn next_zero(strings: &[u8], zeros: &[u32], from: usize) -> Option<usize>
     requires { AreZeros strings.now zeros.now }
-    ensures { MatchOption result (HasNoZero strings.now from) (λ place. IsNextZero strings.now from place) }
+    ensures { MatchOption result (HasNoZero strings.now from)
+        (λ place. IsNextZero strings.now from place) }
 {
     let mut low = 0;
     let mut high = zeros.len();

@@ -1,8 +1,9 @@
 -- Functions of a name, and their sizes, in any image.
 use Rattle.std.proofs.Common.{◌≡◌, ◌==◌, ℕ, not, List, [], ◌∷◌, map, filter, find, Option, Some, None, IsSome, refl, sym, arith}
-use Rattle.elf_spec.specs.Image.{Image, Symbol, entry_of, object_of, function_named, object_named, named_of, values_of, size_at, size_among, first_of, has_name, named_beside, function_kind, object_kind}
-use Rattle.elf_spec.specs.declared.Named.{Named}
-use Rattle.elf_spec.specs.declared.Named.TheVariants.{Absent, One, Two}
+use Rattle.elf_spec.specs.Image.{Image, Symbol, entry_of, object_of, function_named, object_named, named_of, values_of, size_at, size_among, first_of, has_name, named_beside}
+use Rattle.elf_spec.specs.declared.fields.TheConstants.{STT_FUNC, STT_OBJECT}
+use Rattle.elf_spec.specs.declared.SymbolValues.{SymbolValues}
+use Rattle.elf_spec.specs.declared.SymbolValues.TheVariants.{Absent, One, Two}
 
 size_among_named : (symbols : List Symbol) (name : List ℕ) (entry : ℕ)
     → first_of (map (λ s. s.value) (filter (has_name 2 name) symbols)) ≡ Some entry → IsSome (size_among symbols entry)
@@ -15,7 +16,7 @@ unfolding entry_of size_at
 entry_has_size image name entry e = size_among_named image.symbols name entry e
 
 -- the first of several values
-abbrev pub first_named : Named → Option ℕ
+abbrev pub first_named : SymbolValues → Option ℕ
 first_named Absent = None
 first_named (One value) = Some value
 first_named (Two value other) = Some value
@@ -28,9 +29,9 @@ first_named_of (value ∷ values) =
 -- a function begins at the first value of its symbols
 pub entry_is_first : (image : Image) (name : List ℕ) → entry_of image name ≡ first_named (function_named image name)
 unfolding entry_of function_named
-entry_is_first image name = sym (first_named_of (values_of function_kind name image))
+entry_is_first image name = sym (first_named_of (values_of STT_FUNC name image))
 
--- a global stands at the first value of its symbols
+-- a global begins at the first value of its symbols
 pub object_is_first : (image : Image) (name : List ℕ) → object_of image name ≡ first_named (object_named image name)
 unfolding object_of object_named
-object_is_first image name = sym (first_named_of (values_of object_kind name image))
+object_is_first image name = sym (first_named_of (values_of STT_OBJECT name image))

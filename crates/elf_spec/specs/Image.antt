@@ -1,8 +1,9 @@
 -- What an executable holds that the claim reads: its loaded segments and its defined symbols.
 use Rattle.std.specs.Prelude.{ℕ, ◌-◌, ◌/◌, ◌%◌, ◌==◌, ◌&&◌, not, nat_le, max, bytes_eq, Bool, if◌then◌else◌, List, [], ◌∷◌, map, filter, find, codes, slice_get, Option, Some, None, unwrap_or}
 use Rattle.std.specs.Option.{option_or}
-use Rattle.elf_spec.specs.declared.Named.{Named}
-use Rattle.elf_spec.specs.declared.Named.TheVariants.{Absent, One, Two}
+use Rattle.elf_spec.specs.declared.fields.TheConstants.{PF_W, STT_OBJECT, STT_FUNC}
+use Rattle.elf_spec.specs.declared.SymbolValues.{SymbolValues}
+use Rattle.elf_spec.specs.declared.SymbolValues.TheVariants.{Absent, One, Two}
 
 -- a PT_LOAD segment: its p_vaddr, p_memsz and p_flags, and the p_filesz bytes of the file (System V ABI, program header)
 pub record Segment : Type 0 where
@@ -23,9 +24,9 @@ pub record Image : Type 0 where
   pub segments : List Segment
   pub symbols : List Symbol
 
--- no PF_W, which is 2: nothing may write the segment
+-- without PF_W: nothing may write the segment
 abbrev pub is_fixed : Segment → Bool
-is_fixed segment = segment.flags / 2 % 2 == 0
+is_fixed segment = segment.flags / PF_W % 2 == 0
 
 -- the file's byte at an address of a segment
 abbrev pub byte_in : Segment → ℕ → Option ℕ
@@ -40,13 +41,6 @@ fixed_among (segment ∷ segments) address =
 unfoldable pub fixed_byte : Image → ℕ → Option ℕ
 fixed_byte image address = fixed_among image.segments address
 
--- STT_OBJECT and STT_FUNC
-abbrev pub object_kind : ℕ
-object_kind = 1
-
-abbrev pub function_kind : ℕ
-function_kind = 2
-
 abbrev pub has_name : ℕ → List ℕ → Symbol → Bool
 has_name kind name symbol = (symbol.kind == kind) && bytes_eq symbol.name name
 
@@ -60,33 +54,33 @@ first_of (value ∷ values) = Some value
 
 -- where the function of a name begins: the value of its first FUNC symbol
 unfoldable pub entry_of : Image → List ℕ → Option ℕ
-entry_of image name = first_of (values_of function_kind name image)
+entry_of image name = first_of (values_of STT_FUNC name image)
 
--- where the global of a name stands: the value of its first OBJECT symbol
+-- where the global of a name begins: the value of its first OBJECT symbol
 unfoldable pub object_of : Image → List ℕ → Option ℕ
-object_of image name = first_of (values_of object_kind name image)
+object_of image name = first_of (values_of STT_OBJECT name image)
 
-abbrev pub named_beside : ℕ → Option ℕ → Named
+abbrev pub named_beside : ℕ → Option ℕ → SymbolValues
 named_beside value None = One value
 named_beside value (Some other) = Two value other
 
 -- the first value, and the first other one
-abbrev pub named_of : List ℕ → Named
+abbrev pub named_of : List ℕ → SymbolValues
 named_of [] = Absent
 named_of (value ∷ values) = named_beside value (find (λ other. not (other == value)) values)
 
 -- the functions of a name: FUNC symbols, by their values
-unfoldable pub function_named : Image → List ℕ → Named
-function_named image name = named_of (values_of function_kind name image)
+unfoldable pub function_named : Image → List ℕ → SymbolValues
+function_named image name = named_of (values_of STT_FUNC name image)
 
 -- the globals of a name: OBJECT symbols, by their values
-unfoldable pub object_named : Image → List ℕ → Named
-object_named image name = named_of (values_of object_kind name image)
+unfoldable pub object_named : Image → List ℕ → SymbolValues
+object_named image name = named_of (values_of STT_OBJECT name image)
 
 abbrev pub size_among : List Symbol → ℕ → Option ℕ
 size_among [] entry = None
 size_among (symbol ∷ symbols) entry =
-    if (symbol.kind == function_kind) && (symbol.value == entry)
+    if (symbol.kind == STT_FUNC) && (symbol.value == entry)
     then Some (max symbol.size (unwrap_or (size_among symbols entry) 0))
     else size_among symbols entry
 

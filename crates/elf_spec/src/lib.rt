@@ -1,12 +1,18 @@
 //! What an ELF32 executable of RISC-V is, as far as the claim reads it.
 //!
 //! `specs/Image.antt` has the image: loaded segments, defined symbols, and what is read off them;
-//! `specs/Runs.antt` the runs of fixed bytes. `specs/File.antt` has which bytes are an executable, and their
-//! image; and for all other bytes why they are refused, and at which offset. [`ElfKind`] names the refusals.
+//! `specs/Runs.antt` the runs of fixed bytes. `specs/File.antt` has which bytes are an executable,
+//! and their image; and for all other bytes why they are refused, and at which offset. [`ElfKind`]
+//! names the refusals, [`fields`] the fields of a file.
 #![tactic(auto)]
 
-/// Why a file is no executable that is read here, in the order in which it is tried (System V ABI, ELF
-/// header, program header, section header and symbol table; RISC-V psABI, e_flags).
+pub mod fields;
+mod laws;
+
+pub use laws::runs_are_the_fixed_bytes;
+
+/// Why a file is no executable that is read here, in the order in which it is tried (System V ABI,
+/// ELF header, program header, section header and symbol table; RISC-V psABI, e_flags).
 #[derive(Clone, Copy, Debug, PartialEq, Eq)]
 pub enum ElfKind {
     /// It is too short for an ELF header.
@@ -23,32 +29,32 @@ pub enum ElfKind {
     Kind,
     /// It isn't for RISC-V: e_machine isn't EM_RISCV.
     Machine,
-    /// It has compressed code, another calling convention than the soft-float one, or the reduced register
-    /// set: one of the low four bits of e_flags is set.
+    /// It has compressed code, another calling convention than the soft-float one, or the reduced
+    /// register set: one of the low four bits of e_flags is set.
     Flags,
-    /// e_ehsize isn't 52; or there are program headers, and e_phentsize isn't 32; or there are section
-    /// headers, and e_shentsize isn't 40.
+    /// e_ehsize isn't 52; or there are program headers, and e_phentsize isn't 32; or there are
+    /// section headers, and e_shentsize isn't 40.
     HeaderSize,
     /// The program headers or the section headers end past the file.
     Table,
-    /// A PT_LOAD header has more bytes in the file than in memory, bytes past the file, or addresses past
-    /// 2^32.
+    /// A PT_LOAD header has more bytes in the file than in memory, bytes past the file, or
+    /// addresses past 2^32.
     SegmentRange,
     /// The memory of a PT_LOAD header shares an address with that of an earlier one.
     SegmentOverlap,
     /// No section has type SHT_SYMTAB.
     NoSymbols,
-    /// The first section of type SHT_SYMTAB hasn't entries of 16 bytes, ends inside one, or ends past the
-    /// file.
+    /// The first section of type SHT_SYMTAB hasn't entries of 16 bytes, ends inside one, or ends
+    /// past the file.
     SymbolTable,
-    /// The string table of the symbols is no section of type SHT_STRTAB inside the file; or the name of a
-    /// symbol isn't ended by a 0 byte inside it.
+    /// The string table of the symbols is no section of type SHT_STRTAB inside the file; or the
+    /// name of a symbol isn't ended by a 0 byte inside it.
     StringTable,
 }
 
-/// The symbols of a type and a name, by their values.
+/// The values of the symbols of a type and a name.
 #[derive(Clone, Copy, Debug, PartialEq, Eq)]
-pub enum Named {
+pub enum SymbolValues {
     /// There is none.
     Absent,
     /// There is one value.

@@ -1,10 +1,10 @@
--- Items are read the same where the context tells more than their reader looks at.
+-- Items are read alike in contexts that differ only in what their parser does not look at.
 use Rattle.std.proofs.Common.{◌≡◌, ℕ, zero, suc, Bool, true, false, List, [], ◌∷◌, Ok, Err, refl, ap, sym, ◌∙◌, cond, length}
-use Rattle.exact_read.specs.Reading.{Outcome, Reader}
+use Rattle.exact_read.specs.Reading.{Outcome, Parser}
 use Rattle.exact_read.specs.Grammar.{bind, read_at_most, read_many}
 
--- a context that tells more than another
-pub many-context : {T K X C D : Type 0} (starts : C → T → Bool) (item : C → Reader T K X) (next : C → X → C) (of : D → C) (next' : D → X → D) → ((d : D) (x : X) → of (next' d x) ≡ next (of d) x)
+-- a context that determines another
+pub many-context : {T K X C D : Type 0} (starts : C → T → Bool) (item : C → Parser T K X) (next : C → X → C) (of : D → C) (next' : D → X → D) → ((d : D) (x : X) → of (next' d x) ≡ next (of d) x)
     → (n : ℕ) (d : D) (before : List T) → read_at_most starts item next n (of d) before ≡ read_at_most (λ d. starts (of d)) (λ d. item (of d)) next' n d before
 many-context starts item next of next' same zero d before = refl
 many-context starts item next of next' same (suc n) d [] = refl
@@ -22,6 +22,6 @@ many-context {T} {K} {X} {C} {D} starts item next of next' same (suc n) d (token
     by_test true e = e
     by_test false e = refl
 
-pub many-context_same : {T K X C D : Type 0} (starts : C → T → Bool) (item : C → Reader T K X) (next : C → X → C) (of : D → C) (next' : D → X → D) → ((d : D) (x : X) → of (next' d x) ≡ next (of d) x) → (d : D) (before : List T)
+pub many-context_same : {T K X C D : Type 0} (starts : C → T → Bool) (item : C → Parser T K X) (next : C → X → C) (of : D → C) (next' : D → X → D) → ((d : D) (x : X) → of (next' d x) ≡ next (of d) x) → (d : D) (before : List T)
     → read_many starts item next (of d) before ≡ read_many (λ d. starts (of d)) (λ d. item (of d)) next' d before
 many-context_same starts item next of next' same d before = many-context starts item next of next' same (length before) d before

@@ -1,7 +1,7 @@
 -- An example: digits in brackets, as `(042)`, over bytes.
 use Rattle.std.proofs.Common.{◌≡◌, ℕ, Bool, true, false, List, [], ◌∷◌, ◌++◌, Option, Some, None, refl, sym, ap, ◌∙◌, subst, IsTrue, cond, ◌||◌, not, eqb-true}
 use Rattle.std.specs.Prelude.{◌==◌, ◌&&◌, nat_le, if◌then◌else◌}
-use Rattle.exact_read.specs.Reading.{Reader, Marks, plains, Stops}
+use Rattle.exact_read.specs.Reading.{Parser, Marks, plains, Stops}
 use Rattle.exact_read.specs.Exact.{Exact}
 use Rattle.exact_read.specs.Grammar.{anything, read_one, One, read_many, Many, none, read_then, Then, read_whole}
 use Rattle.exact_read.proofs.Parts.{exact-one, exact-same, stops_anything}
@@ -9,7 +9,7 @@ use Rattle.exact_read.proofs.Then.{Joins, exact-then}
 use Rattle.exact_read.proofs.Many.{Items, exact-many}
 use Rattle.exact_read.proofs.Whole.{ExactWhole, exact-whole}
 
--- bytes as they are; nothing is ever open too deep
+-- bytes as they are; no limit is ever exceeded
 abbrev pub bytes : Marks ℕ ℕ
 bytes = record { plain = λ byte. byte; over = λ byte. false }
 
@@ -26,20 +26,20 @@ abbrev pub is_close : ℕ → Bool
 is_close byte = byte == 41
 
 -- a byte that passes a test
-abbrev pub byte : (ℕ → Bool) → Reader ℕ (Unit {0}) ℕ
+abbrev pub byte : (ℕ → Bool) → Parser ℕ (Unit {0}) ℕ
 byte test = read_one bytes (λ b. b) (class_of test) (tt {0})
 
 abbrev pub Byte : (ℕ → Bool) → ℕ → List ℕ → Type 0
 Byte test = One (λ b. b) (class_of test)
 
--- digits, as long as one stands next
-abbrev pub digits : Reader ℕ (Unit {0}) (List ℕ)
+-- digits, as long as one comes next
+abbrev pub digits : Parser ℕ (Unit {0}) (List ℕ)
 digits = read_many (λ _. is_digit) (λ _. byte is_digit) (λ _ _. tt {0}) (tt {0})
 
 abbrev pub Digits : List ℕ → List ℕ → Type 0
 Digits = Many (λ (_ : Unit {0}) (_ : ℕ). tt {0}) (λ _. Byte is_digit) (tt {0})
 
-abbrev pub bracketed : Reader ℕ (Unit {0}) (ℕ × (List ℕ × ℕ))
+abbrev pub bracketed : Parser ℕ (Unit {0}) (ℕ × (List ℕ × ℕ))
 bracketed = read_then (byte is_open) (λ _. read_then digits (λ _. byte is_close))
 
 abbrev pub Bracketed : ℕ × (List ℕ × ℕ) → List ℕ → Type 0

@@ -1,4 +1,4 @@
--- A part with items behind it that are taken into its value is read exactly.
+-- A part with items after it that are taken into its value is read exactly.
 use Rattle.std.proofs.Common.{◌≡◌, Bool, List, [], ◌∷◌, ◌++◌, refl, ap, sym, ◌∙◌, subst, append_assoc, append-nil}
 use Rattle.std.specs.Prelude.{fold}
 use Rattle.exact_read.specs.Reading.{Marks, Stops}
@@ -61,6 +61,6 @@ folded_by {U} {X} {I} {C} next apply context Base Item steps x left before c ite
 -- what the base and the items ask
 pub record Foldable {T U X I C : Type 0} (marks : Marks T U) (starts ends : C → T → Bool) (next : C → I → C) (apply : X → I → X) (context : X → C) (Base : X → List U → Type 0) (stop_base : X → T → Bool) : Type 0 where
   pub steps : Steps next apply context
-  -- the base stops where an item or the end of the items can stand
+  -- the base stops where an item or the end of the items can occur
   pub joins : (x : X) (text : List U) → Base x text → (rest : List T) → Stops (opens starts ends (context x)) rest → Stops (stop_base x) rest
   pub leads : (x : X) (rest : List T) → Stops (stop_base x) rest → Stops (opens starts ends (context x)) rest

@@ -8,3 +8,13 @@ pub mod Contexts
 pub mod Stop
 pub mod Folds
 pub mod Example
+pub mod RoleLists
+pub mod RolePrefixes
+pub mod RoleBasics
+pub mod RoleThen
+pub mod RoleBegins
+pub mod RoleOr
+pub mod RoleMany
+pub mod RoleFolds
+pub mod RoleWhole
+pub mod Loops

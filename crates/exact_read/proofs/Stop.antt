@@ -1,6 +1,6 @@
--- A reader may be said to stop elsewhere where that is the same for each of its values.
+-- A parser may be said to stop elsewhere where that is the same for each of its values.
 use Rattle.std.proofs.Common.{◌≡◌, Bool, List, [], ◌∷◌, refl, sym, subst, IsTrue}
-use Rattle.exact_read.specs.Reading.{Reader, Marks, Stops}
+use Rattle.exact_read.specs.Reading.{Parser, Marks, Stops}
 use Rattle.exact_read.specs.Exact.{Exact}
 use Rattle.exact_read.specs.Grammar.{anything}
 use Rattle.exact_read.proofs.Parts.{exact-same}
@@ -9,17 +9,17 @@ Stops-same : {T : Type 0} (one two : T → Bool) (rest : List T) → ((token : T
 Stops-same one two [] same stops = tt
 Stops-same one two (token ∷ more) same stops = subst IsTrue (same token) stops
 
-pub exact-stop : {T U K X : Type 0} {marks : Marks T U} {entry : T → Bool} {S : X → List U → Type 0} {stop : X → T → Bool} {read : Reader T K X} (stop' : X → T → Bool) → ((x : X) (text : List U) → S x text → (token : T) → stop x token ≡ stop' x token)
+pub exact-stop : {T U K X : Type 0} {marks : Marks T U} {entry : T → Bool} {S : X → List U → Type 0} {stop : X → T → Bool} {read : Parser T K X} (stop' : X → T → Bool) → ((x : X) (text : List U) → S x text → (token : T) → stop x token ≡ stop' x token)
     → Exact marks entry S stop read → Exact marks entry S stop' read
 exact-stop {marks = marks} {stop = stop} stop' same is =
     record {
       takes = λ before x rest enters e. let one = is.takes before x rest enters e in
-          record { text = one.text; cut = one.cut; spells = one.spells; within = one.within; stops = Stops-same (stop x) (stop' x) rest (same x one.text one.spells) one.stops };
-      again = λ x text rest spells stops enters. is.again x text rest spells (Stops-same (stop' x) (stop x) rest (λ token. sym (same x text spells token)) stops) enters;
+          record { text = one.text; cut = one.cut; derives = one.derives; within = one.within; stops = Stops-same (stop x) (stop' x) rest (same x one.text one.derives) one.stops };
+      again = λ x text rest derives stops enters. is.again x text rest derives (Stops-same (stop' x) (stop x) rest (λ token. sym (same x text derives token)) stops) enters;
       wrongs = is.wrongs;
-      deeps = is.deeps;
+      exceeds = is.exceeds;
     }
 
 -- where more is known at entry
-pub exact-enter : {T U K X : Type 0} {marks : Marks T U} {S : X → List U → Type 0} {stop : X → T → Bool} {read : Reader T K X} (entry : T → Bool) → Exact marks anything S stop read → Exact marks entry S stop read
+pub exact-enter : {T U K X : Type 0} {marks : Marks T U} {S : X → List U → Type 0} {stop : X → T → Bool} {read : Parser T K X} (entry : T → Bool) → Exact marks anything S stop read → Exact marks entry S stop read
 exact-enter {S = S} {read = read} entry is = exact-same entry S read (λ token h. refl) (λ x text h. h) (λ x text h. h) (λ before. refl) is

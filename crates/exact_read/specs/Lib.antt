@@ -3,4 +3,6 @@ pub mod Whole
 pub mod Exact
 pub mod Grammar
 pub mod Folds
-pub mod Awaited
+pub mod Expected
+pub mod Roles
+pub mod Going

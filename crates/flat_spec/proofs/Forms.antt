@@ -1,4 +1,4 @@
--- The flat term is a truth value, and no memory stands in it.
+-- The flat term is a truth value, and no memory occurs in it.
 use Rattle.std.proofs.Common.{◌≡◌, ◌≢◌, ℕ, ◌+◌, Bool, true, false, List, [], ◌∷◌, ◌++◌, map, Option, Some, None, refl, ap, sym, ◌∙◌, subst, inl, inr}
 use Rattle.std.specs.Prelude.{filter, if◌then◌else◌}
 use Rattle.term_spec.specs.declared.Width.TheVariants.{W8, W32, W64}
@@ -11,8 +11,8 @@ use Rattle.term_spec.specs.declared.BinaryOperator.TheVariants as binary
 use Rattle.term_spec.specs.Term.{Term, Leaf, Unary, Binary, Ternary, Quaternary, Octonary, Occurs, truth, open_term, not_term, and_term, or_term}
 use Rattle.term_spec.specs.Sort.{sort_of, sort_of_atom, sort_of_unary, sort_of_binary, sort_of_ternary, sort_of_quaternary, all_bytes}
 use Rattle.term_spec.proofs.Sorts.{sort_if-some, with_one-some, with_two-some, with_three-some, with_four-some, load_is}
-use Rattle.flat_spec.specs.Flat.{Load, FlatLoad, load_of, is_in, with_load, with_loads, loads_of, place_of, byte_variable, byte_or, without_loads, flattened, flat_loads, agree, pairs, memories_of, is_from, pairs_of, all_of, consistent, flat_of}
-use Rattle.flat_spec.specs.Back.{LoadsFromVariables, IsWithoutMemory}
+use Rattle.flat_spec.specs.Flat.{VariableLoad, FlatLoad, load_of, is_in, with_load, with_loads, loads_of, index_of, byte_variable, byte_or, without_loads, flattened, flat_loads, agree, pairs, memories_of, is_from, pairs_of, all_of, consistent, flat_of}
+use Rattle.flat_spec.specs.Assignments.{LoadsFromVariables, IsWithoutMemory}
 use Rattle.flat_spec.proofs.Loads.{AreIn, are_in-with_loads}
 use Rattle.flat_spec.proofs.Readable.{IsLoad, Reads, IsReadable, IsTheLoad, is_the_load, byte_parts, readable}
 
@@ -23,12 +23,12 @@ unfolding sort_of sort_of_atom
 byte_sort k = refl
 
 -- a load is a byte
-load_sort : (operator : BinaryOperator) (a b : Term) (l : Load) (s : Sort) → IsTheLoad operator a b l → sort_of (Binary operator a b) ≡ Some s → s ≡ sort.Word W8
+load_sort : (operator : BinaryOperator) (a b : Term) (l : VariableLoad) (s : Sort) → IsTheLoad operator a b l → sort_of (Binary operator a b) ≡ Some s → s ≡ sort.Word W8
 load_sort operator a b l s is h =
     let e : Binary operator a b ≡ Binary binary.Load (Leaf (atom.Open l.memory)) l.address = (let e1 = is.operator_is in let e2 = is.memory_is in let e3 = is.address_is in cc) in
     (load_is (Leaf (atom.Open l.memory)) l.address s (ap sort_of (sym e) ∙ h)).0
 
-module _ (all : List Load) where
+module _ (all : List VariableLoad) where
   pub without_loads-sort : (t : Term) (s : Sort) → sort_of t ≡ Some s → sort_of (without_loads all t) ≡ Some s
   unfolding sort_of without_loads
   without_loads-sort (Leaf leaf) s h = h
@@ -43,7 +43,7 @@ module _ (all : List Load) where
       let kept : sort_of (Binary operator (without_loads all a) (without_loads all b)) ≡ Some s = rw (e1, e2) parts.4 in
       by_load (load_of operator a b) refl kept
     where
-      by_load : (o : Option Load) → load_of operator a b ≡ o → sort_of (Binary operator (without_loads all a) (without_loads all b)) ≡ Some s
+      by_load : (o : Option VariableLoad) → load_of operator a b ≡ o → sort_of (Binary operator (without_loads all a) (without_loads all b)) ≡ Some s
           → sort_of (byte_or all o (Binary operator (without_loads all a) (without_loads all b))) ≡ Some s
       by_load None e kept = kept
       by_load (Some l) e kept = byte_sort _ ∙ ap Some (sym (load_sort operator a b l s (is_the_load operator a b l e) h))
@@ -92,10 +92,10 @@ module _ (all : List Load) where
   without_loads-without (Unary operator a) h = without_loads-without a h
   without_loads-without (Binary operator a b) h = by_load (load_of operator a b) h.0 (λ r. without_loads-without a r) (without_loads-without b h.1)
     where
-      by_load : (o : Option Load) → Reads operator o (IsReadable a) (IsReadable b) → (IsReadable a → IsWithoutMemory (without_loads all a)) → IsWithoutMemory (without_loads all b)
+      by_load : (o : Option VariableLoad) → Reads operator o (IsReadable a) (IsReadable b) → (IsReadable a → IsWithoutMemory (without_loads all a)) → IsWithoutMemory (without_loads all b)
           → IsWithoutMemory (byte_or all o (Binary operator (without_loads all a) (without_loads all b)))
       by_load None reads first second = (reads.0, first reads.1, second)
-      by_load (Some l) reads first second = byte_without (place_of l all)
+      by_load (Some l) reads first second = byte_without (index_of l all)
   without_loads-without (Ternary operator a b c) h = (without_loads-without a h.0, without_loads-without b h.1, without_loads-without c h.2)
   without_loads-without (Quaternary operator a b c d) h =
       (without_loads-without a h.0, without_loads-without b h.1, without_loads-without c h.2, without_loads-without d h.3)
@@ -113,30 +113,30 @@ module _ (all : List Load) where
 -- ---- each load of a term
 
 -- what holds of each load in a list
-abbrev pub AllLoads : (Load → Type 0) → List Load → Type 0
+abbrev pub AllLoads : (VariableLoad → Type 0) → List VariableLoad → Type 0
 AllLoads P [] = Unit {0}
 AllLoads P (l ∷ loads) = P l × AllLoads P loads
 
 -- of a load of a readable term: each variable of its address is fine, and each load of it is in a list
-pub record IsGood (fine : Variable → Type 0) (all : List Load) (l : Load) : Type 0 where
+pub record IsGood (fine : Variable → Type 0) (all : List VariableLoad) (l : VariableLoad) : Type 0 where
   pub is : IsLoad l
   pub reads : IsReadable l.address
   pub inside : AreIn l.address all
   pub variables : (v : Variable) → Occurs v l.address → fine v
 
-all_last : (P : Load → Type 0) (xs : List Load) (l : Load) → AllLoads P xs → P l → AllLoads P (xs ++ l ∷ [])
+all_last : (P : VariableLoad → Type 0) (xs : List VariableLoad) (l : VariableLoad) → AllLoads P xs → P l → AllLoads P (xs ++ l ∷ [])
 all_last P [] l all p = (p, tt)
 all_last P (x ∷ xs) l all p = (all.0, all_last P xs l all.1 p)
 
-all_with : (P : Load → Type 0) (l : Load) (xs : List Load) → P l → AllLoads P xs → AllLoads P (with_load (Some l) xs)
+all_with : (P : VariableLoad → Type 0) (l : VariableLoad) (xs : List VariableLoad) → P l → AllLoads P xs → AllLoads P (with_load (Some l) xs)
 all_with P l xs p all =
     elim (is_in l xs) as (λ t. AllLoads P (if t then xs else xs ++ l ∷ [])) [
       | true ↦ all
       | false ↦ all_last P xs l all p
     ]
 
-module _ (fine : Variable → Type 0) (all : List Load) where
-  pub with_loads-good : (t : Term) (xs : List Load) → IsReadable t → AreIn t all → ((v : Variable) → Occurs v t → fine v)
+module _ (fine : Variable → Type 0) (all : List VariableLoad) where
+  pub with_loads-good : (t : Term) (xs : List VariableLoad) → IsReadable t → AreIn t all → ((v : Variable) → Occurs v t → fine v)
       → AllLoads (IsGood fine all) xs → AllLoads (IsGood fine all) (with_loads t xs)
   unfolding IsReadable AreIn Occurs with_loads
   with_loads-good (Leaf leaf) xs h i f k = k
@@ -146,8 +146,8 @@ module _ (fine : Variable → Type 0) (all : List Load) where
       (λ r. with_loads-good a xs r i.1 (λ v o. f v (inl o)) k)
       (λ ys. with_loads-good b ys h.1 i.2 (λ v o. f v (inr o)))
     where
-      by_load : (o : Option Load) → load_of operator a b ≡ o → Reads operator o (IsReadable a) (IsReadable b) → (IsReadable a → AllLoads (IsGood fine all) (with_loads a xs))
-          → ((ys : List Load) → AllLoads (IsGood fine all) ys → AllLoads (IsGood fine all) (with_loads b ys)) → AllLoads (IsGood fine all) (with_load o (with_loads b (with_loads a xs)))
+      by_load : (o : Option VariableLoad) → load_of operator a b ≡ o → Reads operator o (IsReadable a) (IsReadable b) → (IsReadable a → AllLoads (IsGood fine all) (with_loads a xs))
+          → ((ys : List VariableLoad) → AllLoads (IsGood fine all) ys → AllLoads (IsGood fine all) (with_loads b ys)) → AllLoads (IsGood fine all) (with_load o (with_loads b (with_loads a xs)))
       by_load None e reads first second = second (with_loads a xs) (first reads.1)
       by_load (Some l) e reads first second =
           let is = is_the_load operator a b l e in
@@ -191,7 +191,7 @@ abbrev pub AllFlat : (FlatLoad → Type 0) → List FlatLoad → Type 0
 AllFlat P [] = Unit {0}
 AllFlat P (x ∷ xs) = P x × AllFlat P xs
 
-pub flattened-flat : (fine : Variable → Type 0) (all : List Load) (k : ℕ) (xs : List Load) → AllLoads (IsGood fine all) xs → AllFlat IsFlat (flattened all k xs)
+pub flattened-flat : (fine : Variable → Type 0) (all : List VariableLoad) (k : ℕ) (xs : List VariableLoad) → AllLoads (IsGood fine all) xs → AllFlat IsFlat (flattened all k xs)
 flattened-flat fine all k [] h = tt
 flattened-flat fine all k (l ∷ loads) h = (
   record {

@@ -4,4 +4,4 @@ pub mod Readable
 pub mod Forms
 pub mod Alike
 pub mod Ties
-pub mod Whole
+pub mod Validity

@@ -1,19 +1,19 @@
 -- The loads of a term.
 use Rattle.std.proofs.Common.{◌≡◌, true, List, [], ◌++◌, Option, Some, None, refl, ap, sym, ◌∙◌, subst, append_assoc, append-nil}
 use Rattle.term_spec.specs.Term.{Term, Leaf, Unary, Binary, Ternary, Quaternary, Octonary, open_term}
-use Rattle.flat_spec.specs.Flat.{Load, load_of, is_in, with_load, with_loads, byte_variable, byte_or, without_loads}
-use Rattle.flat_spec.proofs.Lists.{is_in-front, is_in-with_load, with_load-there, with_load-more, place_of-front}
+use Rattle.flat_spec.specs.Flat.{VariableLoad, load_of, is_in, with_load, with_loads, byte_variable, byte_or, without_loads}
+use Rattle.flat_spec.proofs.Lists.{is_in-front, is_in-with_load, with_load-there, with_load-more, index_of-front}
 
 -- ---- a longer list is the shorter one and more
 
-pub Extends : List Load → List Load → Type 0
-Extends xs ys = (more : List Load) × (ys ≡ xs ++ more)
+pub Extends : List VariableLoad → List VariableLoad → Type 0
+Extends xs ys = (more : List VariableLoad) × (ys ≡ xs ++ more)
 
-then : (xs ys zs : List Load) → Extends xs ys → Extends ys zs → Extends xs zs
+then : (xs ys zs : List VariableLoad) → Extends xs ys → Extends ys zs → Extends xs zs
 unfolding Extends
 then xs ys zs p q = (p.0 ++ q.0, q.1 ∙ ap (λ l. l ++ q.0) p.1 ∙ append_assoc xs p.0 q.0)
 
-pub with_loads-more : (t : Term) (xs : List Load) → Extends xs (with_loads t xs)
+pub with_loads-more : (t : Term) (xs : List VariableLoad) → Extends xs (with_loads t xs)
 unfolding Extends with_loads
 with_loads-more (Leaf leaf) xs = ([], sym (append-nil xs))
 with_loads-more (Unary operator a) xs = with_loads-more a xs
@@ -29,11 +29,11 @@ with_loads-more (Octonary a b c d e f g h) xs =
 
 -- ---- each load of a term is in a list
 
-abbrev pub IfIn : Option Load → List Load → Type 0
+abbrev pub IfIn : Option VariableLoad → List VariableLoad → Type 0
 IfIn None all = Unit {0}
 IfIn (Some load) all = is_in load all ≡ true
 
-unfoldable pub AreIn : Term → List Load → Type 0
+unfoldable pub AreIn : Term → List VariableLoad → Type 0
 AreIn (Leaf leaf) all = Unit {0}
 AreIn (Unary operator a) all = AreIn a all
 AreIn (Binary operator a b) all = IfIn (load_of operator a b) all × AreIn a all × AreIn b all
@@ -42,11 +42,11 @@ AreIn (Quaternary operator a b c d) all = AreIn a all × AreIn b all × AreIn c 
 AreIn (Octonary a b c d e f g h) all =
     AreIn a all × AreIn b all × AreIn c all × AreIn d all × AreIn e all × AreIn f all × AreIn g all × AreIn h all
 
-if_front : (o : Option Load) (xs ys : List Load) → IfIn o xs → IfIn o (xs ++ ys)
+if_front : (o : Option VariableLoad) (xs ys : List VariableLoad) → IfIn o xs → IfIn o (xs ++ ys)
 if_front None xs ys h = tt
 if_front (Some load) xs ys h = is_in-front load xs ys h
 
-pub are_in-front : (t : Term) (xs ys : List Load) → AreIn t xs → AreIn t (xs ++ ys)
+pub are_in-front : (t : Term) (xs ys : List VariableLoad) → AreIn t xs → AreIn t (xs ++ ys)
 unfolding AreIn
 are_in-front (Leaf leaf) xs ys h = tt
 are_in-front (Unary operator a) xs ys h = are_in-front a xs ys h
@@ -64,16 +64,16 @@ are_in-front (Octonary a b c d e f g i) xs ys h = (
   are_in-front i xs ys h.7,
 )
 
-pub are_in-more : (t : Term) (xs ys : List Load) → Extends xs ys → AreIn t xs → AreIn t ys
+pub are_in-more : (t : Term) (xs ys : List VariableLoad) → Extends xs ys → AreIn t xs → AreIn t ys
 unfolding Extends
 are_in-more t xs ys more h = subst (AreIn t) (sym more.1) (are_in-front t xs more.0 h)
 
-if_with : (o : Option Load) (xs : List Load) → IfIn o (with_load o xs)
+if_with : (o : Option VariableLoad) (xs : List VariableLoad) → IfIn o (with_load o xs)
 if_with None xs = tt
 if_with (Some load) xs = is_in-with_load load xs
 
 -- the loads of a term are there once they are added
-pub are_in-with_loads : (t : Term) (xs : List Load) → AreIn t (with_loads t xs)
+pub are_in-with_loads : (t : Term) (xs : List VariableLoad) → AreIn t (with_loads t xs)
 unfolding AreIn with_loads Extends
 are_in-with_loads (Leaf leaf) xs = tt
 are_in-with_loads (Unary operator a) xs = are_in-with_loads a xs
@@ -131,12 +131,12 @@ are_in-with_loads (Octonary a b c d e f g h) xs =
       are_in-with_loads h l7,
     )
 
-with_if : (o : Option Load) (xs : List Load) → IfIn o xs → with_load o xs ≡ xs
+with_if : (o : Option VariableLoad) (xs : List VariableLoad) → IfIn o xs → with_load o xs ≡ xs
 with_if None xs h = refl
 with_if (Some load) xs h = with_load-there load xs h
 
 -- loads that are there already add nothing
-pub with_loads-there : (t : Term) (xs : List Load) → AreIn t xs → with_loads t xs ≡ xs
+pub with_loads-there : (t : Term) (xs : List VariableLoad) → AreIn t xs → with_loads t xs ≡ xs
 unfolding AreIn with_loads
 with_loads-there (Leaf leaf) xs h = refl
 with_loads-there (Unary operator a) xs h = with_loads-there a xs h
@@ -156,12 +156,12 @@ with_loads-there (Octonary a b c d e f g i) xs h =
     )
     (with_loads-there i xs h.7)
 
-byte_or-front : (o : Option Load) (t : Term) (xs ys : List Load) → IfIn o xs → byte_or (xs ++ ys) o t ≡ byte_or xs o t
+byte_or-front : (o : Option VariableLoad) (t : Term) (xs ys : List VariableLoad) → IfIn o xs → byte_or (xs ++ ys) o t ≡ byte_or xs o t
 byte_or-front None t xs ys h = refl
-byte_or-front (Some load) t xs ys h = ap (λ k. open_term (byte_variable k)) (place_of-front load xs ys h)
+byte_or-front (Some load) t xs ys h = ap (λ k. open_term (byte_variable k)) (index_of-front load xs ys h)
 
 -- a longer list keeps the bytes
-pub without_loads-front : (t : Term) (xs ys : List Load) → AreIn t xs → without_loads (xs ++ ys) t ≡ without_loads xs t
+pub without_loads-front : (t : Term) (xs ys : List VariableLoad) → AreIn t xs → without_loads (xs ++ ys) t ≡ without_loads xs t
 unfolding AreIn without_loads
 without_loads-front (Leaf leaf) xs ys h = refl
 without_loads-front (Unary operator a) xs ys h = ap (Unary operator) (without_loads-front a xs ys h)

@@ -1,4 +1,4 @@
--- Terms in which memory stands in loads alone.
+-- Terms in which memory occurs in loads alone.
 use Rattle.std.proofs.Common.{◌≡◌, ◌≢◌, Bool, true, false, List, [], ◌∷◌, Option, Some, None, refl, ap, sym, ◌∙◌, subst}
 use Rattle.std.specs.Prelude.{◌&&◌}
 use Rattle.std.proofs.lemmas.Bool.{and_parts}
@@ -18,22 +18,22 @@ use Rattle.term_spec.specs.declared.QuaternaryOperator.TheVariants as quaternary
 use Rattle.term_spec.specs.Term.{Term, Leaf, Unary, Binary, Ternary, Quaternary, Octonary}
 use Rattle.term_spec.specs.Sort.{is_memory, is_byte, is_truth, is_word, same_sort, sort_if, all_bytes, sort_of, sort_of_atom, sort_of_unary, sort_of_binary, sort_of_ternary, sort_of_quaternary}
 use Rattle.term_spec.proofs.Sorts.{same_sort-true, sort_if-some, with_one-some, with_two-some, with_three-some, with_four-some, load_is}
-use Rattle.flat_spec.specs.Flat.{Load, load_of}
-use Rattle.flat_spec.specs.Back.{IfOfVariable, IsNoMemory, LoadsFromVariables}
+use Rattle.flat_spec.specs.Flat.{VariableLoad, load_of}
+use Rattle.flat_spec.specs.Assignments.{IfOfVariable, IsNoMemory, LoadsFromVariables}
 
 -- ---- the predicate
 
 -- a load of a memory at an address
-pub record IsLoad (l : Load) : Type 0 where
+pub record IsLoad (l : VariableLoad) : Type 0 where
   pub from : l.memory.sort ≡ sort.Memory
   pub at : sort_of l.address ≡ Some (sort.Word W32)
 
 -- of an operator with two arguments, of which something is known
-abbrev pub Reads : BinaryOperator → Option Load → Type 0 → Type 0 → Type 0
+abbrev pub Reads : BinaryOperator → Option VariableLoad → Type 0 → Type 0 → Type 0
 Reads operator (Some l) A B = IsLoad l
 Reads operator None A B = (operator ≢ binary.Load) × A
 
--- memory variables stand in loads alone, and other loads don't stand
+-- memory variables occur in loads alone, and no other loads occur
 unfoldable pub IsReadable : Term → Type 0
 IsReadable (Leaf leaf) = IsNoMemory leaf
 IsReadable (Unary operator a) = IsReadable a
@@ -145,14 +145,14 @@ is_no_load (binary.Word operator) a b h e k = cc
 is_no_load binary.Join a b h e k = cc
 
 -- the operator and its arguments are those of a load
-pub record IsTheLoad (operator : BinaryOperator) (a b : Term) (l : Load) : Type 0 where
+pub record IsTheLoad (operator : BinaryOperator) (a b : Term) (l : VariableLoad) : Type 0 where
   pub operator_is : operator ≡ binary.Load
   pub memory_is : a ≡ Leaf (atom.Open l.memory)
   pub address_is : b ≡ l.address
 
-pub is_the_load : (operator : BinaryOperator) (a b : Term) (l : Load) → load_of operator a b ≡ Some l → IsTheLoad operator a b l
+pub is_the_load : (operator : BinaryOperator) (a b : Term) (l : VariableLoad) → load_of operator a b ≡ Some l → IsTheLoad operator a b l
 is_the_load binary.Load (Leaf (atom.Open v)) b l e =
-    let is : (let k : Load = record { memory = v; address = b } in k) ≡ l = cc in
+    let is : (let k : VariableLoad = record { memory = v; address = b } in k) ≡ l = cc in
     record { operator_is = refl; memory_is = ap (λ k. Leaf (atom.Open k.memory)) is; address_is = ap (λ k. k.address) is }
 is_the_load binary.Load (Leaf (atom.Truth value)) b l e = absurd (cc)
 is_the_load binary.Load (Leaf (atom.Constant width number)) b l e = absurd (cc)
@@ -176,7 +176,7 @@ leaf_readable (atom.Truth value) s h n = tt
 leaf_readable (atom.Constant width number) s h n = tt
 leaf_readable (atom.Open v) s h n = λ k. let e : v.sort ≡ s = cc in n (sym e ∙ k)
 
-load_parts : (operator : BinaryOperator) (a b : Term) (l : Load) (s : Sort) → IsTheLoad operator a b l → sort_of (Binary operator a b) ≡ Some s → IsLoad l
+load_parts : (operator : BinaryOperator) (a b : Term) (l : VariableLoad) (s : Sort) → IsTheLoad operator a b l → sort_of (Binary operator a b) ≡ Some s → IsLoad l
 unfolding sort_of sort_of_atom
 load_parts operator a b l s is h =
     let e : Binary operator a b ≡ Binary binary.Load (Leaf (atom.Open l.memory)) l.address = (let e1 = is.operator_is in let e2 = is.memory_is in let e3 = is.address_is in cc) in
@@ -200,7 +200,7 @@ readable (Binary operator a b) s h n all =
     let second = readable b parts.1 parts.3 (no_memory_by (λ p. sort_of_binary operator parts.0 p ≡ Some s) parts.1 (binary_second operator parts.0 s) parts.4) all.2 in
     (reads (load_of operator a b) refl first, second)
   where
-    reads : (o : Option Load) → load_of operator a b ≡ o → (operator ≢ binary.Load → IsReadable a) → Reads operator o (IsReadable a) (IsReadable b)
+    reads : (o : Option VariableLoad) → load_of operator a b ≡ o → (operator ≢ binary.Load → IsReadable a) → Reads operator o (IsReadable a) (IsReadable b)
     reads (Some l) e first = load_parts operator a b l s (is_the_load operator a b l e) h
     reads None e first = let other = is_no_load operator a b all.0 e in (other, first other)
 readable (Ternary operator a b c) s h n all =

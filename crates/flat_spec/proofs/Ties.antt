@@ -1,4 +1,4 @@
--- What says that loads of one memory at equal addresses are equal, and what it is worth.
+-- The consistency constraint: loads of one memory at equal addresses are equal; and its value.
 use Rattle.std.proofs.Common.{◌≡◌, ℕ, ◌^◌, ◌<◌, Bool, true, false, cond, List, [], ◌∷◌, ◌++◌, map, ◌⊎◌, refl, ap, sym, ◌∙◌, subst, inl, inr, eq-eqb, eqb-true}
 use Rattle.std.specs.Prelude.{◌==◌, ◌||◌, not, filter}
 use Rattle.std.proofs.Math.Nat.{mod-eq_of_lt}
@@ -10,29 +10,29 @@ use Rattle.term_spec.specs.Same.{same_variable}
 use Rattle.term_spec.proofs.Same.{variable-same}
 use Rattle.term_spec.specs.Value.{Value, Truth, Number, Bytes, Assignment, value, unary_value, binary_value, loaded, low_bits}
 use Rattle.flat_spec.specs.Flat.{FlatLoad, agree, pairs, is_among, with_memories, memories_of, is_from, pairs_of, all_of, consistent}
-use Rattle.flat_spec.specs.Back.{number_of, first_byte}
+use Rattle.flat_spec.specs.Assignments.{number_of, first_byte}
 use Rattle.flat_spec.proofs.Lists.{variable_itself}
 use Rattle.flat_spec.proofs.Forms.{AllFlat}
 
--- what a load is worth by its terms
-pub record IsWorth (B : Assignment) (x : FlatLoad) (address byte : ℕ) : Type 0 where
+-- the values of a load's terms
+pub record AreValuesOf (B : Assignment) (x : FlatLoad) (address byte : ℕ) : Type 0 where
   pub address_is : value B x.address ≡ Number W32 address
   pub address_below : address < 2 ^ 32
   pub byte_is : value B x.byte ≡ Number W8 byte
   pub byte_below : byte < 2 ^ 8
 
--- a load by its terms is worth an address and a byte
-pub record HasWorth (B : Assignment) (x : FlatLoad) : Type 0 where
+-- the terms of a load have an address and a byte as values
+pub record HasValues (B : Assignment) (x : FlatLoad) : Type 0 where
   pub at : ℕ
   pub gives : ℕ
-  pub is : IsWorth B x at gives
+  pub is : AreValuesOf B x at gives
 
 -- the byte is that of the memory under another assignment
 pub record IsRead (A B : Assignment) (x : FlatLoad) : Type 0 where
-  pub worth : HasWorth B x
-  pub from : Number W8 worth.gives ≡ loaded (A x.memory) (Number W32 worth.at)
+  pub value_is : HasValues B x
+  pub from : Number W8 value_is.gives ≡ loaded (A x.memory) (Number W32 value_is.at)
 
-agree_value : (B : Assignment) (x y : FlatLoad) (m n p q : ℕ) → IsWorth B x m p → IsWorth B y n q → value B (agree x y) ≡ Truth (not (m == n) || (p == q))
+agree_value : (B : Assignment) (x y : FlatLoad) (m n p q : ℕ) → AreValuesOf B x m p → AreValuesOf B y n q → value B (agree x y) ≡ Truth (not (m == n) || (p == q))
 unfolding value unary_value binary_value
 agree_value B x y m n p q hx hy = rw (hx.address_is, hy.address_is, hx.byte_is, hy.byte_is) refl
 
@@ -93,10 +93,10 @@ tied_true m n p q f = step (m == n) refl
 
 read_agree : (A B : Assignment) (x y : FlatLoad) → IsRead A B x → IsRead A B y → x.memory ≡ y.memory → value B (agree x y) ≡ Truth true
 read_agree A B x y hx hy e =
-    let same : hx.worth.at ≡ hy.worth.at → hx.worth.gives ≡ hy.worth.gives =
-    λ k. number_is hx.worth.gives hy.worth.gives (hx.from ∙ ap (λ v. loaded (A v) (Number W32 hx.worth.at)) e ∙ ap (λ n. loaded (A y.memory) (Number W32 n)) k ∙ sym hy.from) in
-    agree_value B x y hx.worth.at hy.worth.at hx.worth.gives hy.worth.gives hx.worth.is hy.worth.is
-    ∙ ap Truth (tied_true hx.worth.at hy.worth.at hx.worth.gives hy.worth.gives same)
+    let same : hx.value_is.at ≡ hy.value_is.at → hx.value_is.gives ≡ hy.value_is.gives =
+    λ k. number_is hx.value_is.gives hy.value_is.gives (hx.from ∙ ap (λ v. loaded (A v) (Number W32 hx.value_is.at)) e ∙ ap (λ n. loaded (A y.memory) (Number W32 n)) k ∙ sym hy.from) in
+    agree_value B x y hx.value_is.at hy.value_is.at hx.value_is.gives hy.value_is.gives hx.value_is.is hy.value_is.is
+    ∙ ap Truth (tied_true hx.value_is.at hy.value_is.at hx.value_is.gives hy.value_is.gives same)
 
 -- of one memory
 pub record IsReadOf (A B : Assignment) (memory : Variable) (x : FlatLoad) : Type 0 where
@@ -135,7 +135,7 @@ module _ (A B : Assignment) where
 
 -- ---- consistent bytes are those of one memory
 
--- the load stands in the list
+-- the load is in the list
 unfoldable pub IsThere : FlatLoad → List FlatLoad → Type 0
 IsThere x [] = ⊥
 IsThere x (y ∷ ys) = (x ≡ y) ⊎ IsThere x ys
@@ -166,39 +166,39 @@ truth_is a b e = cc
 
 module _ (B : Assignment) where
   -- agreement at equal addresses
-  agreed : (x y : FlatLoad) (m n p q : ℕ) → IsWorth B x m p → IsWorth B y n q → value B (agree x y) ≡ Truth true → m ≡ n → p ≡ q
+  agreed : (x y : FlatLoad) (m n p q : ℕ) → AreValuesOf B x m p → AreValuesOf B y n q → value B (agree x y) ≡ Truth true → m ≡ n → p ≡ q
   agreed x y m n p q hx hy h e = agree_same m n p q (truth_is _ true (sym (agree_value B x y m n p q hx hy) ∙ h)) e
 
-  found : (h x : FlatLoad) (n p : ℕ) (ys : List FlatLoad) → HasWorth B h → AllTrue B (map (agree h) ys) → IsThere x ys → IsWorth B x n p
-      → (w : HasWorth B h) → w.at ≡ n → w.gives ≡ p
+  found : (h x : FlatLoad) (n p : ℕ) (ys : List FlatLoad) → HasValues B h → AllTrue B (map (agree h) ys) → IsThere x ys → AreValuesOf B x n p
+      → (w : HasValues B h) → w.at ≡ n → w.gives ≡ p
   unfolding AllTrue IsThere
   found h x n p [] hh all there hx w e = absurd there
   found h x n p (y ∷ ys) hh all (inl k) hx w e =
       agreed h x w.at n w.gives p w.is hx (subst (λ z. value B (agree h z) ≡ Truth true) (sym k) all.0) e
   found h x n p (y ∷ ys) hh all (inr k) hx w e = found h x n p ys hh all.1 k hx w e
 
-  same_worth : (x : FlatLoad) (m n p q : ℕ) → IsWorth B x m p → IsWorth B x n q → (m ≡ n) × (p ≡ q)
-  same_worth x m n p q h k = (ap number_of (sym h.address_is ∙ k.address_is), ap number_of (sym h.byte_is ∙ k.byte_is))
+  same_values : (x : FlatLoad) (m n p q : ℕ) → AreValuesOf B x m p → AreValuesOf B x n q → (m ≡ n) × (p ≡ q)
+  same_values x m n p q h k = (ap number_of (sym h.address_is ∙ k.address_is), ap number_of (sym h.byte_is ∙ k.byte_is))
 
   -- the first byte at the address of a load is the load's
-  pub first_is : (x : FlatLoad) (n p : ℕ) (ys : List FlatLoad) → AllFlat (HasWorth B) ys → AllTrue B (pairs ys) → IsThere x ys → IsWorth B x n p → first_byte B n ys ≡ p
+  pub first_is : (x : FlatLoad) (n p : ℕ) (ys : List FlatLoad) → AllFlat (HasValues B) ys → AllTrue B (pairs ys) → IsThere x ys → AreValuesOf B x n p → first_byte B n ys ≡ p
   unfolding AllTrue IsThere
-  first_is x n p [] worth all there hx = absurd there
-  first_is x n p (y ∷ ys) worth all there hx =
+  first_is x n p [] value_is all there hx = absurd there
+  first_is x n p (y ∷ ys) value_is all there hx =
       let parts = true_parts B (map (agree y) ys) (pairs ys) all in
-      let w : HasWorth B y = worth.0 in
+      let w : HasValues B y = value_is.0 in
       let address : low_bits 32 (number_of (value B y.address)) ≡ w.at = ap (λ v. low_bits 32 (number_of v)) w.is.address_is ∙ mod-eq_of_lt w.is.address_below in
       let byte : low_bits 8 (number_of (value B y.byte)) ≡ w.gives = ap (λ v. low_bits 8 (number_of v)) w.is.byte_is ∙ mod-eq_of_lt w.is.byte_below in
-      step (low_bits 32 (number_of (value B y.address)) == n) refl w address byte parts.0 there (λ k. first_is x n p ys worth.1 parts.1 k hx)
+      step (low_bits 32 (number_of (value B y.address)) == n) refl w address byte parts.0 there (λ k. first_is x n p ys value_is.1 parts.1 k hx)
     where
-      step : (test : Bool) → (low_bits 32 (number_of (value B y.address)) == n) ≡ test → (w : HasWorth B y) → low_bits 32 (number_of (value B y.address)) ≡ w.at
+      step : (test : Bool) → (low_bits 32 (number_of (value B y.address)) == n) ≡ test → (w : HasValues B y) → low_bits 32 (number_of (value B y.address)) ≡ w.at
           → low_bits 8 (number_of (value B y.byte)) ≡ w.gives → AllTrue B (map (agree y) ys) → (x ≡ y) ⊎ IsThere x ys → (IsThere x ys → first_byte B n ys ≡ p)
           → cond test (low_bits 8 (number_of (value B y.byte))) (first_byte B n ys) ≡ p
       step true e w address byte all (inl k) f =
-          byte ∙ (same_worth x w.at n w.gives p (subst (λ z. IsWorth B z w.at w.gives) (sym k) w.is) hx).1
+          byte ∙ (same_values x w.at n w.gives p (subst (λ z. AreValuesOf B z w.at w.gives) (sym k) w.is) hx).1
       step true e w address byte all (inr k) f = byte ∙ found y x n p ys w all k hx w (sym address ∙ eqb-true _ n e)
       step false e w address byte all (inl k) f =
-          let at : w.at ≡ n = (same_worth x w.at n w.gives p (subst (λ z. IsWorth B z w.at w.gives) (sym k) w.is) hx).0 in
+          let at : w.at ≡ n = (same_values x w.at n w.gives p (subst (λ z. AreValuesOf B z w.at w.gives) (sym k) w.is) hx).0 in
           let same : (low_bits 32 (number_of (value B y.address)) == n) ≡ true = eq-eqb _ n (address ∙ at) in
           absurd (cc)
       step false e w address byte all (inr k) f = f k

@@ -55,7 +55,7 @@ no_loads =
     less x y ⇒ or_term (not_term yes) (less x y)
     ∷ []
 
--- one memory at two addresses: the loads are tied once; a load that stands twice is one
+-- one memory at two addresses: the loads are tied once; a load that occurs twice is one
 abbrev pub two_addresses : List Example
 two_addresses =
     equal (load m x) (load m y) ⇒ or_term (not_term (and_term yes (tied x (b 0) y (b 1)))) (equal (b 0) (b 1))

@@ -14,29 +14,29 @@ use Rattle.term_spec.specs.Same.{same_variable, same_term}
 -- ---- the loads of a term
 
 -- a load of a memory variable
-pub record Load : Type 0 where
+pub record VariableLoad : Type 0 where
   pub memory : Variable
   pub address : Term
 
 -- the load that an operator with two arguments is, where it is one of a variable
-abbrev pub load_of : BinaryOperator → Term → Term → Option Load
+abbrev pub load_of : BinaryOperator → Term → Term → Option VariableLoad
 load_of binary.Load (Leaf (atom.Open v)) address = Some (record { memory = v; address = address })
 load_of operator x y = None
 
-abbrev pub same_load : Load → Load → Bool
+abbrev pub same_load : VariableLoad → VariableLoad → Bool
 same_load k l = same_variable k.memory l.memory && same_term k.address l.address
 
-abbrev pub is_in : Load → List Load → Bool
+abbrev pub is_in : VariableLoad → List VariableLoad → Bool
 is_in load [] = false
 is_in load (l ∷ loads) = if same_load load l then true else is_in load loads
 
 -- with a load, where it is one and isn't there
-abbrev pub with_load : Option Load → List Load → List Load
+abbrev pub with_load : Option VariableLoad → List VariableLoad → List VariableLoad
 with_load None loads = loads
 with_load (Some load) loads = if is_in load loads then loads else loads ++ load ∷ []
 
 -- with the loads of a term, arguments before their term and from left to right, each once
-unfoldable pub with_loads : Term → List Load → List Load
+unfoldable pub with_loads : Term → List VariableLoad → List VariableLoad
 with_loads (Leaf leaf) loads = loads
 with_loads (Unary operator a) loads = with_loads a loads
 with_loads (Binary operator a b) loads = with_load (load_of operator a b) (with_loads b (with_loads a loads))
@@ -45,27 +45,27 @@ with_loads (Quaternary operator a b c d) loads = with_loads d (with_loads c (wit
 with_loads (Octonary a b c d e f g h) loads =
     with_loads h (with_loads g (with_loads f (with_loads e (with_loads d (with_loads c (with_loads b (with_loads a loads)))))))
 
-abbrev pub loads_of : Term → List Load
+abbrev pub loads_of : Term → List VariableLoad
 loads_of t = with_loads t []
 
 -- ---- each load a byte
 
--- the byte that stands for the load at a place
+-- the byte of the load at an index
 abbrev pub byte_variable : ℕ → Variable
 byte_variable k = record { family = family.LoadedByte; index = k; instance = 0; sort = sort.Word W8 }
 
--- the first place of a load
-abbrev pub place_of : Load → List Load → ℕ
-place_of load [] = 0
-place_of load (l ∷ loads) = if same_load load l then 0 else place_of load loads + 1
+-- the first index of a load
+abbrev pub index_of : VariableLoad → List VariableLoad → ℕ
+index_of load [] = 0
+index_of load (l ∷ loads) = if same_load load l then 0 else index_of load loads + 1
 
 -- the byte of a load, where it is one; else the term
-abbrev pub byte_or : List Load → Option Load → Term → Term
-byte_or loads (Some load) t = open_term (byte_variable (place_of load loads))
+abbrev pub byte_or : List VariableLoad → Option VariableLoad → Term → Term
+byte_or loads (Some load) t = open_term (byte_variable (index_of load loads))
 byte_or loads None t = t
 
 -- each of these loads, at any place, is its byte
-unfoldable pub without_loads : List Load → Term → Term
+unfoldable pub without_loads : List VariableLoad → Term → Term
 without_loads loads (Leaf leaf) = Leaf leaf
 without_loads loads (Unary operator a) = Unary operator (without_loads loads a)
 without_loads loads (Binary operator a b) = byte_or loads (load_of operator a b) (Binary operator (without_loads loads a) (without_loads loads b))
@@ -82,8 +82,8 @@ pub record FlatLoad : Type 0 where
   pub address : Term
   pub byte : Term
 
--- some of all loads, the first of which is at place k
-abbrev pub flattened : (all : List Load) → (k : ℕ) → List Load → List FlatLoad
+-- some of all loads, the first of which has index k
+abbrev pub flattened : (all : List VariableLoad) → (k : ℕ) → List VariableLoad → List FlatLoad
 flattened all k [] = []
 flattened all k (load ∷ loads) =
     record { memory = load.memory; address = without_loads all load.address; byte = open_term (byte_variable k) } ∷ flattened all (k + 1) loads

@@ -1,3 +1,3 @@
 pub mod Flat
-pub mod Back
+pub mod Assignments
 pub mod Examples

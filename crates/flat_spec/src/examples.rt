@@ -1,5 +1,5 @@
-// Terms with their flat terms, worked by hand: each function's clause is a table, and its body is empty. The tables
-// are in `specs/Examples.antt`.
+// Terms with their flat terms, worked by hand: each function's clause is a table, and its body is
+// empty. The tables are in `specs/Examples.antt`.
 
 ghost use Rattle.flat_spec.specs.Examples.{AreFlat, no_loads, two_addresses, nested, two_memories};
 
@@ -18,7 +18,7 @@ pub fn addresses_are_flat()
     ensures { AreFlat nested }
 {}
 
-/// Loads of two memories are tied apart.
+/// Loads of two memories are constrained apart.
 pub fn memories_are_tied_apart()
     ensures { AreFlat two_memories }
 {}

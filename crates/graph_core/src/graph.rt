@@ -1,6 +1,7 @@
 //! Graphs, and when one is valid.
 
-ghost use Rattle.std.specs.Prelude.{◌≡◌, ◌↔◌, ◌<◌, ◌++◌, ◌∷◌, [], IsTrue, OnOk, OnErr, IfOk, Some, length, map, suc};
+ghost use Rattle.std.specs.Prelude.{◌≡◌, ◌↔◌, ◌<◌, ◌++◌, ◌∷◌, [], IsTrue, OnOk, OnErr, IfOk, Some};
+ghost use Rattle.std.specs.Prelude.{length, map, suc};
 ghost use Rattle.std.specs.List.{All};
 ghost use Rattle.term_spec.specs.Sort.{sort_of};
 ghost use Rattle.term_core.specs.Trees.{term_of};
@@ -25,25 +26,25 @@ pub struct Binding {
 /// A node of a graph.
 #[derive(Drop)]
 pub enum Node {
-    /// It binds variables, all at once, and goes on. A landing node is one that binds none.
+    /// It binds variables, all at once, and continues. A landing node is one that binds none.
     Basic {
         /// What it binds.
         bindings: Vec<Binding>,
-        /// Where it goes on.
+        /// Where it continues.
         next: Next,
     },
-    /// It goes on by a test.
+    /// It continues by a test.
     Cond {
         /// The test, a truth value.
         test: Box<Term>,
-        /// Where it goes on if the test holds.
+        /// Where it continues if the test holds.
         on_true: Next,
-        /// Where it goes on if it doesn't.
+        /// Where it continues if it doesn't.
         on_false: Next,
     },
-    /// It runs another graph, and goes on at its landing node where that returns.
+    /// It runs another graph, and continues at its landing node where that returns.
     Call {
-        /// The place of that graph in the set.
+        /// The index of that graph in the set.
         callee: usize,
         /// The callee's variables, in terms of the caller's.
         inputs: Vec<Binding>,
@@ -57,7 +58,7 @@ pub enum Node {
 /// A graph.
 #[derive(Drop)]
 pub struct Graph {
-    /// Its nodes; a node's number is its place.
+    /// Its nodes; a node's number is its index.
     pub nodes: Vec<Node>,
     /// The node at which a run begins.
     pub entry: usize,
@@ -77,7 +78,8 @@ impl Graph {
     /// Adds a node, and answers its number.
     pub fn add(&mut self, node: Node) -> Result<usize, AllocError>
         ensures number { IfOk result (λ number. number ≡ length (graph_of self.old).nodes) }
-        ensures added { OnOk result (graph_of self.new ≡ with_nodes (graph_of self.old) (node_of node ∷ [])) }
+        ensures added { OnOk result (graph_of self.new
+            ≡ with_nodes (graph_of self.old) (node_of node ∷ [])) }
         ensures kept { OnErr result (graph_of self.new ≡ graph_of self.old) }
     {
         let number = self.nodes.len();
@@ -85,8 +87,8 @@ impl Graph {
         Ok(number)
     }
 
-    /// Adds a call and, directly behind it, its landing node, which goes on to `next`; answers the call's
-    /// number.
+    /// Adds a call and, directly after it, its landing node, which continues at `next`; answers the
+    /// call's number.
     pub fn add_call(
         &mut self,
         alloc: Global,
@@ -96,7 +98,9 @@ impl Graph {
         next: Next,
     ) -> Result<usize, AllocError>
         ensures number { IfOk result (λ number. number ≡ length (graph_of self.old).nodes) }
-        ensures added { OnOk result (graph_of self.new ≡ with_call (graph_of self.old) callee (bindings_of inputs) (bindings_of outputs) next) }
+        ensures added { OnOk result (graph_of self.new
+            ≡ with_call (graph_of self.old) callee (bindings_of inputs)
+            (bindings_of outputs) next) }
         ensures kept { OnErr result (graph_of self.new ≡ graph_of self.old) }
     {
         let number = self.nodes.len();
@@ -117,7 +121,8 @@ impl Graph {
     }
 }
 
-/// Whether a graph is valid: whether each node that it names is there, and each term is well sorted.
+/// Whether a graph is valid: whether each node that it names is there, and each term is well
+/// sorted.
 pub fn validate(graph: &Graph) -> bool
     ensures { IsTrue result ↔ spec.IsValid (graph_of graph.now) }
 {
@@ -155,13 +160,15 @@ fn is_node(count: usize, node: &Node) -> bool
 }
 
 fn is_basic(count: usize, bindings: &[Binding], next: Next) -> bool
-    ensures { IsTrue result ↔ (spec.AreBindings (map binding_of bindings.now) × spec.IsNext count next) }
+    ensures { IsTrue result ↔ (spec.AreBindings (map binding_of bindings.now)
+        × spec.IsNext count next) }
 {
     are_bindings(bindings) && is_next(count, next)
 }
 
 fn is_call(count: usize, inputs: &[Binding], outputs: &[Binding], landing: usize) -> bool
-    ensures { IsTrue result ↔ (spec.AreBindings (map binding_of inputs.now) × spec.AreBindings (map binding_of outputs.now) × (landing < count)) }
+    ensures { IsTrue result ↔ (spec.AreBindings (map binding_of inputs.now)
+        × spec.AreBindings (map binding_of outputs.now) × (landing < count)) }
 {
     are_bindings(inputs) && are_bindings(outputs) && landing < count
 }
@@ -186,8 +193,8 @@ fn are_bindings(bindings: &[Binding]) -> bool
     true
 }
 
-fn has_sort(term: &Term, wanted: Sort) -> bool
-    ensures { IsTrue result ↔ (sort_of (term_of term.now) ≡ Some wanted) }
+fn has_sort(term: &Term, expected: Sort) -> bool
+    ensures { IsTrue result ↔ (sort_of (term_of term.now) ≡ Some expected) }
 {
-    sort(term) == Some(wanted)
+    sort(term) == Some(expected)
 }

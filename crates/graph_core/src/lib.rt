@@ -1,18 +1,20 @@
-//! Graphs of basic, conditional and call nodes over terms, and walks.
+//! Graphs of basic, conditional and call nodes over terms, and transition systems.
 //!
-//! The main type is [`Graph`]; [`validate`] is true exactly where each node that is named is there and each term
-//! is well sorted. The trait [`Walks`] is what the proofs of simulation know of a transition system; the run of a
-//! set of graphs ([`Graphs`]) is one. Graphs and their runs are defined in `graph_spec` (`specs/Graph.antt`,
-//! `specs/Run.antt`), walks in `walk_spec` (`specs/Walk.antt`).
+//! The main type is [`Graph`]; [`validate`] is true exactly where each node that is named exists
+//! and each term is well sorted. The trait [`Walks`] is what the proofs of simulation know of a
+//! transition system; the run of a set of graphs ([`GraphRun`]) is one. Graphs and their runs are
+//! defined in `graph_spec`, transition systems in `walk_spec`.
 #![tactic(auto)]
 
 mod graph;
 mod run;
+mod variables;
 mod walks;
 
 pub use graph::{Binding, Graph, Node, validate};
 pub use graph_spec::Next;
-pub use run::{GraphRun, callee_runs_as_alone, valid_run_keeps_sorts};
+pub use run::{GraphRun, callee_runs_as_alone, steps_keep_fixed_bytes, valid_run_keeps_sorts};
 pub use walks::{
-    Walks, arrivals_add_up, ended_run_stays, run_goes_on, run_stops_as_its_rest, run_stops_once,
+    Walks, arrivals_add_up, ended_run_stays, leading_is_transitive, run_goes_on,
+    run_stops_as_its_rest, run_stops_once, start_is_no_stop, steps_keep_what_always_holds,
 };

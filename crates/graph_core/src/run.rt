@@ -1,40 +1,44 @@
-//! The run of a set of graphs, as a walk.
+//! The run of a set of graphs, as a transition system.
 
-ghost use Rattle.std.specs.Prelude.{◌≡◌, ◌<◌, ℕ, List, false, ⊤};
-ghost use Rattle.std.specs.List.{All};
-ghost use Rattle.walk_spec.specs.Walk.{after};
-ghost use Rattle.graph_spec.specs.Graph.{IsValid, node_count};
-ghost use Rattle.graph_spec.specs.Sorts.{IsState};
+ghost use Rattle.std.specs.Prelude.{◌≡◌, ◌<◌, ℕ, List, Option, false};
+ghost use Rattle.term_spec.specs.declared.Variable.{Variable};
+ghost use Rattle.walk_spec.specs.TransitionSystem.{after};
+ghost use Rattle.graph_spec.specs.Graph.{node_count};
+ghost use Rattle.graph_spec.specs.Fixed.{AlwaysHoldsFixed};
+ghost use Rattle.graph_spec.specs.Sorts.{IsSorted};
 ghost use Rattle.graph_spec.specs.Run as spec;
 ghost use Rattle.graph_spec.proofs.Walks as proved;
+ghost use Rattle.graph_spec.proofs.Sorts.{stays_sorted};
 ghost use Rattle.graph_core.specs.Graphs.{graphs_of};
 
 use crate::graph::Graph;
 use crate::walks::Walks;
 
-/// The run of one graph of a set, the outermost, which calls others of it (`graph_spec`, `specs/Run.antt`).
+/// The run of one graph of a set, the outermost, which calls others of it (`graph_spec`,
+/// `specs/Run.antt`).
 #[derive(Clone, Copy)]
 pub struct GraphRun<'a> {
-    /// The set; a call names the callee by its place.
+    /// The set; a call names the callee by its index.
     pub graphs: &'a [Graph],
-    /// The place of the outermost graph.
+    /// The index of the outermost graph.
     pub outermost: usize,
 }
 
 impl<'a> Walks for GraphRun<'a> {
     ghost State = { spec.State };
 
-    ghost walk = { λ run. spec.walk_of (graphs_of run.graphs.now) run.outermost };
+    ghost system = { λ run. spec.system_of (graphs_of run.graphs.now) run.outermost };
 
-    ghost leads = { λ run. spec.Leads (graphs_of run.graphs.now) run.outermost };
+    ghost leads = { λ run. spec.IsPath (graphs_of run.graphs.now) run.outermost };
 
     ghost lands = { λ run. spec.Lands (graphs_of run.graphs.now) run.outermost };
 
-    ghost fine = { λ run state. ⊤ };
+    ghost fine = { λ run. IsSorted (graphs_of run.graphs.now) };
 
     ghost count = { λ run. node_count (graphs_of run.graphs.now) run.outermost };
 
-    ghost is_walk = { λ run. proved.is_walk (graphs_of run.graphs.now) run.outermost };
+    ghost is_system = { λ run. proved.is_system (graphs_of run.graphs.now) run.outermost
+        (IsSorted (graphs_of run.graphs.now)) (stays_sorted (graphs_of run.graphs.now)) };
 
     fn nodes(&self) -> usize {
         match self.graphs.get(self.outermost) {
@@ -44,15 +48,30 @@ impl<'a> Walks for GraphRun<'a> {
     }
 }
 
-/// From a state in which each variable has a value of its sort, a run of valid graphs comes only to such states.
+/// Where the graphs are valid and each variable has a value of its sort, this is so after every
+/// number of steps.
 pub fn valid_run_keeps_sorts(run: &GraphRun<'_>)
-    requires { All IsValid (graphs_of run.now.graphs.now) }
-    ensures { (s : spec.State) (k : ℕ) → IsState s → IsState (after (spec.walk_of (graphs_of run.now.graphs.now) run.now.outermost) k s) }
+    ensures { (s : spec.State) (k : ℕ) → IsSorted (graphs_of run.now.graphs.now) s
+        → IsSorted (graphs_of run.now.graphs.now)
+        (after (spec.system_of (graphs_of run.now.graphs.now) run.now.outermost) k s) }
 {}
 
-/// What a function does depends on nobody who waits for it: until it returns, its run with more functions
-/// waiting behind it is its run alone, and where it returns the first of them goes on.
+/// What a function does doesn't depend on who waits for it: until it returns, its run with more
+/// functions waiting after it is its run alone, and where it returns the first of them continues.
 pub fn callee_runs_as_alone(run: &GraphRun<'_>)
-    ensures { (s : spec.State) (rest : List spec.Waiting) (k : ℕ) → ((j : ℕ) → j < k → spec.has_returned (after (spec.walk_of (graphs_of run.now.graphs.now) run.now.outermost) j s) ≡ false)
-        → after (spec.walk_of (graphs_of run.now.graphs.now) run.now.outermost) k (spec.with_waiting rest s) ≡ spec.with_waiting rest (after (spec.walk_of (graphs_of run.now.graphs.now) run.now.outermost) k s) }
+    ensures { (s : spec.State) (rest : List spec.Waiting) (k : ℕ)
+        → ((j : ℕ) → j < k → spec.has_returned
+        (after (spec.system_of (graphs_of run.now.graphs.now) run.now.outermost) j s) ≡ false)
+        → after (spec.system_of (graphs_of run.now.graphs.now) run.now.outermost) k
+        (spec.with_waiting rest s) ≡ spec.with_waiting rest
+        (after (spec.system_of (graphs_of run.now.graphs.now) run.now.outermost) k s) }
+{}
+
+/// That the memory of a variable always holds fixed bytes is a property that steps keep, whatever
+/// the graphs are.
+pub fn steps_keep_fixed_bytes(run: &GraphRun<'_>)
+    ensures { (fixed : ℕ → Option ℕ) (memory : Variable) (s : spec.State)
+        → AlwaysHoldsFixed (graphs_of run.now.graphs.now) run.now.outermost fixed memory s
+        → AlwaysHoldsFixed (graphs_of run.now.graphs.now) run.now.outermost fixed memory
+        (spec.step (graphs_of run.now.graphs.now) s) }
 {}

@@ -2,11 +2,11 @@
 use Rattle.std.proofs.Common.{◌≡◌, ◌∙◌, ℕ, ◌<◌, zero, suc, true, false, List, [], ◌∷◌, ◌++◌, Option, Some, None, refl, ap, arith}
 use Rattle.std.specs.Prelude.{slice_get}
 use Rattle.term_spec.specs.Value.{Assignment}
-use Rattle.walk_spec.specs.Walk.{after}
+use Rattle.walk_spec.specs.TransitionSystem.{after}
 use Rattle.graph_spec.specs.declared.Next.{Next}
 use Rattle.graph_spec.specs.declared.Next.TheVariants as next
 use Rattle.graph_spec.specs.Graph.{Node, Basic, Cond, Call, Graph, Graphs, node_at}
-use Rattle.graph_spec.specs.Run.{Waiting, State, Running, Returned, Failed, leave, go, enter, act, step, has_returned, walk_of, with_waiting}
+use Rattle.graph_spec.specs.Run.{Waiting, State, Running, Returned, Failed, leave, go, enter, act, step, has_returned, system_of, with_waiting}
 
 module _ (graphs : Graphs) (rest : List Waiting) where
   left_with : (values : Assignment) (below : List Waiting) → leave values (below ++ rest) ≡ with_waiting rest (leave values below)
@@ -35,10 +35,10 @@ module _ (graphs : Graphs) (rest : List Waiting) where
   step-with_waiting Failed runs = refl
 
   -- until it returns
-  pub after-with_waiting : (outermost k : ℕ) (s : State) → ((j : ℕ) → j < k → has_returned (after (walk_of graphs outermost) j s) ≡ false)
-      → after (walk_of graphs outermost) k (with_waiting rest s) ≡ with_waiting rest (after (walk_of graphs outermost) k s)
+  pub after-with_waiting : (outermost k : ℕ) (s : State) → ((j : ℕ) → j < k → has_returned (after (system_of graphs outermost) j s) ≡ false)
+      → after (system_of graphs outermost) k (with_waiting rest s) ≡ with_waiting rest (after (system_of graphs outermost) k s)
   unfolding after
   after-with_waiting outermost zero s runs = refl
   after-with_waiting outermost (suc k) s runs =
-      ap (λ (x : State). after (walk_of graphs outermost) k x) (step-with_waiting s (runs 0 (omega arith)))
+      ap (λ (x : State). after (system_of graphs outermost) k x) (step-with_waiting s (runs 0 (omega arith)))
       ∙ after-with_waiting outermost k (step graphs s) (λ j less. runs (suc j) (omega arith))

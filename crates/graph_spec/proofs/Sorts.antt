@@ -14,12 +14,12 @@ use Rattle.term_spec.specs.contracts.SortPartialEq.TheImpl as sort_test
 use Rattle.term_spec.specs.Same.{same_variable}
 use Rattle.term_spec.specs.Value.{Value, Assignment, IsAssignment, IsOfSort, value}
 use Rattle.term_spec.proofs.Soundness.{value-sort}
-use Rattle.walk_spec.specs.Walk.{after}
+use Rattle.walk_spec.specs.TransitionSystem.{after}
 use Rattle.graph_spec.specs.declared.Next.{Next}
 use Rattle.graph_spec.specs.declared.Next.TheVariants as next
 use Rattle.graph_spec.specs.Graph.{Binding, IsBinding, AreBindings, Node, Basic, Cond, Call, IsNode, Graph, Graphs, IsValid, node_at}
-use Rattle.graph_spec.specs.Run.{Waiting, State, Running, Returned, Failed, leave, go, enter, act, step, walk_of, bound, entered, resumed, is_shared, unset}
-use Rattle.graph_spec.specs.Sorts.{AreWaiting, IsState}
+use Rattle.graph_spec.specs.Run.{Waiting, State, Running, Returned, Failed, leave, go, enter, act, step, system_of, bound, entered, resumed, is_shared, unset}
+use Rattle.graph_spec.specs.Sorts.{AreWaiting, IsState, IsSorted}
 
 -- ---- variables that are the same have one sort
 
@@ -141,7 +141,10 @@ step_sorted graphs valid (Running g n values below) sorted =
 step_sorted graphs valid (Returned values) sorted = sorted
 step_sorted graphs valid Failed sorted = tt
 
-pub run_sorted : (graphs : Graphs) (outermost : ℕ) → All IsValid graphs → (k : ℕ) (s : State) → IsState s → IsState (after (walk_of graphs outermost) k s)
+pub run_sorted : (graphs : Graphs) (outermost : ℕ) → All IsValid graphs → (k : ℕ) (s : State) → IsState s → IsState (after (system_of graphs outermost) k s)
 unfolding after
 run_sorted graphs outermost valid zero s sorted = sorted
 run_sorted graphs outermost valid (suc k) s sorted = run_sorted graphs outermost valid k (step graphs s) (step_sorted graphs valid s sorted)
+
+pub stays_sorted : (graphs : Graphs) (s : State) → IsSorted graphs s → IsSorted graphs (step graphs s)
+stays_sorted graphs s holds = record { valid = holds.valid; sorted = step_sorted graphs holds.valid s holds.sorted }

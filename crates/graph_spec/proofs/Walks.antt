@@ -1,17 +1,17 @@
--- The run of a set of graphs is a walk.
+-- The run of a set of graphs is a transition system.
 use Rattle.std.proofs.Common.{◌≡◌, ◌∙◌, ◌⊎◌, ℕ, ◌<◌, ◌==◌, ◌&&◌, zero, suc, Bool, true, false, if◌then◌else◌, List, [], ◌∷◌, length, Option, Some, None, refl, sym, ap, subst, inl, inr, arith}
 use Rattle.std.specs.Prelude.{⊤, is_some, slice_get, option_and_then}
 use Rattle.std.specs.Option.{option_map_or}
 use Rattle.std.proofs.lemmas.Bool.{and_parts, and_from, eqb-true, eq-eqb, cases_lt}
 use Rattle.std.proofs.lemmas.Option.{slice_get_past}
 use Rattle.term_spec.specs.Value.{Assignment, value}
-use Rattle.walk_spec.specs.Walk.{IsWalk, after}
+use Rattle.walk_spec.specs.TransitionSystem.{IsTransitionSystem, after}
 use Rattle.graph_spec.specs.declared.Next.{Next}
 use Rattle.graph_spec.specs.declared.Next.TheVariants as next
 use Rattle.graph_spec.specs.Graph.{Node, Basic, Cond, Call, Graph, Graphs, node_at, node_count}
-use Rattle.graph_spec.specs.Run.{Waiting, State, Running, Returned, Failed, leave, go, enter, act, step, has_returned, has_failed, stands_at, walk_of, GoesTo, Leads, first, on, Lands, is_truth}
+use Rattle.graph_spec.specs.Run.{Waiting, State, Running, Returned, Failed, leave, go, enter, act, step, has_returned, has_failed, is_at, system_of, GoesTo, IsPath, first, on, Lands, is_truth}
 
--- ---- where a run stands in its outermost graph, or will land there
+-- ---- where a run is in its outermost graph, or will continue there
 
 outer_graph : ℕ → List Waiting → ℕ
 outer_graph g [] = g
@@ -83,17 +83,17 @@ module _ (graphs : Graphs) (P : ℕ → ℕ → Type 0) where
       one_of false n e = inr e
   acted_outside g m values (Some (Call callee inputs outputs landing)) move = entered_outside callee (slice_get graphs callee) _ _ (move _ landing refl refl)
 
--- ---- standing at a node
+-- ---- a state at a node
 
 module _ (graphs : Graphs) (outermost : ℕ) where
-  -- what it says of a state to stand at a node
-  record Stands (n : ℕ) (s : State) : Type 0 where
+  -- what it says of a state to be at a node
+  record IsAtNode (n : ℕ) (s : State) : Type 0 where
     values : Assignment
     is : s ≡ Running outermost n values []
     there : is_some (node_at graphs outermost n) ≡ true
 
-  stands : (n : ℕ) (s : State) → stands_at graphs outermost n s ≡ true → Stands n s
-  stands n (Running g m values []) h =
+  at_node : (n : ℕ) (s : State) → is_at graphs outermost n s ≡ true → IsAtNode n s
+  at_node n (Running g m values []) h =
       let outer : g ≡ outermost = eqb-true _ _ (and_parts (g == outermost) (m == n && is_some (node_at graphs g m)) h).0 in
       let rest = and_parts (m == n) (is_some (node_at graphs g m)) (and_parts (g == outermost) (m == n && is_some (node_at graphs g m)) h).1 in
       let same : m ≡ n = eqb-true _ _ rest.0 in
@@ -102,19 +102,19 @@ module _ (graphs : Graphs) (outermost : ℕ) where
         is = λ i. Running (outer i) (same i) values [];
         there = subst (λ (p : ℕ × ℕ). is_some (node_at graphs p.0 p.1) ≡ true) (λ i. (outer i, same i)) rest.1;
       }
-  stands n (Running g m values (f ∷ below)) h = let bad : false ≡ true = h in cc
-  stands n (Returned values) h = let bad : false ≡ true = h in cc
-  stands n Failed h = let bad : false ≡ true = h in cc
+  at_node n (Running g m values (f ∷ below)) h = let bad : false ≡ true = h in cc
+  at_node n (Returned values) h = let bad : false ≡ true = h in cc
+  at_node n Failed h = let bad : false ≡ true = h in cc
 
-  stands_there : (n : ℕ) (values : Assignment) → is_some (node_at graphs outermost n) ≡ true → stands_at graphs outermost n (Running outermost n values []) ≡ true
-  stands_there n values there = and_from _ _ (eq-eqb outermost outermost refl) (and_from _ _ (eq-eqb n n refl) there)
+  is_there : (n : ℕ) (values : Assignment) → is_some (node_at graphs outermost n) ≡ true → is_at graphs outermost n (Running outermost n values []) ≡ true
+  is_there n values there = and_from _ _ (eq-eqb outermost outermost refl) (and_from _ _ (eq-eqb n n refl) there)
 
   -- ---- what led to a node
 
   module _ (m : ℕ) where
     -- the place lies in the outermost graph, led to from m
     abbrev IsLed : ℕ → ℕ → Type 0
-    IsLed g n = g ≡ outermost → Leads graphs outermost m n
+    IsLed g n = g ≡ outermost → IsPath graphs outermost m n
 
     led_by_edge : (g n : ℕ) → IsLed g n → (there : Node) (o : ℕ) → node_at graphs g n ≡ Some there → GoesTo there o → IsLed g o
     led_by_edge g n led there o here goes outer =
@@ -127,7 +127,7 @@ module _ (graphs : Graphs) (outermost : ℕ) where
     led_step (Returned values) led = tt
     led_step Failed led = tt
 
-    led_after : (k : ℕ) (s : State) → OfPlace IsLed s → OfPlace IsLed (after (walk_of graphs outermost) k s)
+    led_after : (k : ℕ) (s : State) → OfPlace IsLed s → OfPlace IsLed (after (system_of graphs outermost) k s)
     unfolding after
     led_after zero s led = led
     led_after (suc k) s led = led_after k (step graphs s) (led_step s led)
@@ -137,16 +137,16 @@ module _ (graphs : Graphs) (outermost : ℕ) where
     led_first values = acted_outside graphs IsLed outermost m values (node_at graphs outermost m)
         (λ there n here goes outer. first n (record { node = there; here = here; goes = goes }))
 
-    led_there : (n : ℕ) (s : State) → OfPlace IsLed s → Stands n s → Leads graphs outermost m n
+    led_there : (n : ℕ) (s : State) → OfPlace IsLed s → IsAtNode n s → IsPath graphs outermost m n
     unfolding OfPlace outer_graph outer_node
-    led_there n s led stood = subst (λ (x : State). OfPlace IsLed x) stood.is led refl
+    led_there n s led found_at = subst (λ (x : State). OfPlace IsLed x) found_at.is led refl
 
-  pub led : (m n k : ℕ) (s : State) → stands_at graphs outermost m s ≡ true → stands_at graphs outermost n (after (walk_of graphs outermost) (suc k) s) ≡ true → Leads graphs outermost m n
+  pub led : (m n k : ℕ) (s : State) → is_at graphs outermost m s ≡ true → is_at graphs outermost n (after (system_of graphs outermost) (suc k) s) ≡ true → IsPath graphs outermost m n
   unfolding after
   led m n k s here there =
-      let start = stands m s here in
+      let start = at_node m s here in
       let moved : OfPlace (IsLed m) (step graphs s) = subst (λ (x : State). OfPlace (IsLed m) (step graphs x)) (sym start.is) (led_first m start.values) in
-      led_there m n _ (led_after m k (step graphs s) moved) (stands n _ there)
+      led_there m n _ (led_after m k (step graphs s) moved) (at_node n _ there)
 
   -- ---- the landing node of a call
 
@@ -155,41 +155,41 @@ module _ (graphs : Graphs) (outermost : ℕ) where
     abbrev IsLanding : ℕ → ℕ → Type 0
     IsLanding g n = (g ≡ outermost) × (n ≡ l)
 
-    missing_fails : (values : Assignment) → stands_at graphs outermost l (Running outermost l values []) ≡ false → OfPlace IsLanding (step graphs (Running outermost l values []))
+    missing_fails : (values : Assignment) → is_at graphs outermost l (Running outermost l values []) ≡ false → OfPlace IsLanding (step graphs (Running outermost l values []))
     unfolding OfPlace step
     missing_fails values away = gone (node_at graphs outermost l) refl
       where
         gone : (node : Option Node) → node ≡ node_at graphs outermost l → OfPlace IsLanding (act graphs outermost l values [] node)
         gone None e = tt
         gone (Some node) e = let there : is_some (node_at graphs outermost l) ≡ true = ap is_some (sym e) in
-            let stood = stands_there l values there in
-            let bad : true ≡ false = sym stood ∙ away in cc
+            let found_at = is_there l values there in
+            let bad : true ≡ false = sym found_at ∙ away in cc
 
-    landing_step : (s : State) → OfPlace IsLanding s → stands_at graphs outermost l s ≡ false → OfPlace IsLanding (step graphs s)
+    landing_step : (s : State) → OfPlace IsLanding s → is_at graphs outermost l s ≡ false → OfPlace IsLanding (step graphs s)
     unfolding OfPlace outer_graph outer_node step
     landing_step (Running g n values []) place away =
         let same : Running outermost l values [] ≡ Running g n values [] = λ i. Running (sym place.0 i) (sym place.1 i) values [] in
         subst (λ (x : State). OfPlace IsLanding (step graphs x)) same
-        (missing_fails values (subst (λ (x : State). stands_at graphs outermost l x ≡ false) (sym same) away))
+        (missing_fails values (subst (λ (x : State). is_at graphs outermost l x ≡ false) (sym same) away))
     landing_step (Running g n values (f ∷ below)) place away = acted_inside graphs IsLanding g n values f below (node_at graphs g n) place
     landing_step (Returned values) place away = tt
     landing_step Failed place away = tt
 
-    landed_after : (n k : ℕ) (s : State) → OfPlace IsLanding s → stands_at graphs outermost n (after (walk_of graphs outermost) k s) ≡ true
-        → ((j : ℕ) → j < k → stands_at graphs outermost l (after (walk_of graphs outermost) j s) ≡ false) → n ≡ l
+    landed_after : (n k : ℕ) (s : State) → OfPlace IsLanding s → is_at graphs outermost n (after (system_of graphs outermost) k s) ≡ true
+        → ((j : ℕ) → j < k → is_at graphs outermost l (after (system_of graphs outermost) j s) ≡ false) → n ≡ l
     unfolding after OfPlace outer_graph outer_node
     landed_after n zero s place there away =
-        let stood = stands n s there in
-        (subst (λ (x : State). OfPlace IsLanding x) stood.is place).1
+        let found_at = at_node n s there in
+        (subst (λ (x : State). OfPlace IsLanding x) found_at.is place).1
     landed_after n (suc k) s place there away =
         landed_after n k (step graphs s) (landing_step s place (away 0 (omega arith))) there (λ j less. away (suc j) (omega arith))
 
-  pub landed : (m l n k : ℕ) (s : State) → Lands graphs outermost m l → stands_at graphs outermost m s ≡ true
-      → stands_at graphs outermost n (after (walk_of graphs outermost) (suc k) s) ≡ true
-      → ((j : ℕ) → j < k → stands_at graphs outermost l (after (walk_of graphs outermost) (suc j) s) ≡ false) → n ≡ l
+  pub landed : (m l n k : ℕ) (s : State) → Lands graphs outermost m l → is_at graphs outermost m s ≡ true
+      → is_at graphs outermost n (after (system_of graphs outermost) (suc k) s) ≡ true
+      → ((j : ℕ) → j < k → is_at graphs outermost l (after (system_of graphs outermost) (suc j) s) ≡ false) → n ≡ l
   unfolding after OfPlace step outer_graph outer_node
   landed m l n k s call here there away =
-      let start = stands m s here in
+      let start = at_node m s here in
       let entered_callee : OfPlace (IsLanding l) (act graphs outermost m start.values [] (Some (Call call.callee call.inputs call.outputs l))) =
       entered_outside graphs (IsLanding l) call.callee (slice_get graphs call.callee) _ _ (refl, refl) in
       let acted : OfPlace (IsLanding l) (step graphs (Running outermost m start.values [])) =
@@ -197,7 +197,13 @@ module _ (graphs : Graphs) (outermost : ℕ) where
       let moved : OfPlace (IsLanding l) (step graphs s) = subst (λ (x : State). OfPlace (IsLanding l) (step graphs x)) (sym start.is) acted in
       landed_after l n k (step graphs s) moved there away
 
-  -- ---- the walk
+  -- ---- paths
+
+  paths_join : (m n o : ℕ) → IsPath graphs outermost m n → IsPath graphs outermost n o → IsPath graphs outermost m o
+  paths_join m n o p (first _ edge) = on n o p edge
+  paths_join m n o p (on between _ q edge) = on between o (paths_join m n between p q) edge
+
+  -- ---- the transition system
 
   there_is_node : (graph : Option Graph) (n : ℕ) → is_some (option_and_then (λ (g : Graph). slice_get g.nodes n) graph) ≡ true → n < option_map_or (λ (g : Graph). length g.nodes) graph 0
   there_is_node None n h = let bad : false ≡ true = h in cc
@@ -226,7 +232,7 @@ module _ (graphs : Graphs) (outermost : ℕ) where
   failed_stays (Returned values) h = refl
   failed_stays Failed h = refl
 
-  no_end : (n : ℕ) (s : State) → stands_at graphs outermost n s ≡ true → (has_returned s ≡ false) × (has_failed s ≡ false)
+  no_end : (n : ℕ) (s : State) → is_at graphs outermost n s ≡ true → (has_returned s ≡ false) × (has_failed s ≡ false)
   no_end n (Running g m values below) h = (refl, refl)
   no_end n (Returned values) h = let bad : false ≡ true = h in cc
   no_end n Failed h = let bad : false ≡ true = h in cc
@@ -235,19 +241,22 @@ module _ (graphs : Graphs) (outermost : ℕ) where
   node_of (Running g n values below) = n
   node_of s = 0
 
-  one_node : (m n : ℕ) (s : State) → stands_at graphs outermost m s ≡ true → stands_at graphs outermost n s ≡ true → m ≡ n
+  one_node : (m n : ℕ) (s : State) → is_at graphs outermost m s ≡ true → is_at graphs outermost n s ≡ true → m ≡ n
   unfolding node_of
-  one_node m n s a b = ap node_of (sym (stands m s a).is ∙ (stands n s b).is)
+  one_node m n s a b = ap node_of (sym (at_node m s a).is ∙ (at_node n s b).is)
 
-  pub is_walk : IsWalk (walk_of graphs outermost) (Leads graphs outermost) (Lands graphs outermost) (λ s. ⊤) (node_count graphs outermost)
-  is_walk = record {
+  -- with any property of states that steps keep
+  pub is_system : (fine : State → Type 0) → ((s : State) → fine s → fine (step graphs s))
+      → IsTransitionSystem (system_of graphs outermost) (IsPath graphs outermost) (Lands graphs outermost) fine (node_count graphs outermost)
+  is_system fine kept = record {
     returned_stays = returned_stays;
     failed_stays = failed_stays;
     one_end = ends_apart;
     no_end = no_end;
     one_node = one_node;
-    numbered = λ n s fine here. there_is_node (slice_get graphs outermost) n (stands n s here).there;
-    fine_stays = λ s fine. tt;
+    numbered = λ n s holds here. there_is_node (slice_get graphs outermost) n (at_node n s here).there;
+    fine_stays = kept;
+    leads_on = paths_join;
     led = led;
     landed = landed;
   }

@@ -13,16 +13,16 @@ pub record Binding : Type 0 where
   pub variable : Variable
   pub term : Term
 
--- a basic node binds variables, all at once, and goes on. A conditional one goes on by a test. A call node runs
--- the callee's graph, whose variables it binds by `inputs`; where that returns it binds variables of its own by
--- `outputs`, whose terms speak of the callee's variables, and goes on at its landing node
+-- a basic node binds variables, all at once, and continues at the next node. A conditional one continues by a test.
+-- A call node runs the callee's graph, whose variables it binds by `inputs`; where that returns it binds variables of
+-- its own by `outputs`, whose terms speak of the callee's variables, and continues at its landing node
 pub data Node : Type 0 where
   Basic : (bindings : List Binding) → (next : Next) → Node
   Cond : (test : Term) → (on_true on_false : Next) → Node
   Call : (callee : ℕ) → (inputs outputs : List Binding) → (landing : ℕ) → Node
 
 -- the nodes, and at which of them a run begins. Landing nodes are basic nodes that bind nothing: in the graphs that are
--- made here the entry is one, and each call has one of its own, to which nothing else goes
+-- made here the entry is one, and each call has one of its own, to which nothing else leads
 pub record Graph : Type 0 where
   pub nodes : List Node
   pub entry : ℕ
@@ -39,7 +39,7 @@ AreBindings bindings = All IsBinding bindings
 abbrev pub IsTest : Term → Type 0
 IsTest t = sort_of t ≡ Some Truth
 
--- where a run goes on is one of so many nodes, if it is a node
+-- where a run continues is one of so many nodes, if it is a node
 abbrev pub IsNext : ℕ → Next → Type 0
 IsNext count (next.At n) = n < count
 IsNext count next.Ret = ⊤
@@ -71,11 +71,11 @@ node_count graphs g = option_map_or (λ (graph : Graph). length graph.nodes) (sl
 abbrev pub empty : Graph
 empty = record { nodes = []; entry = 0 }
 
--- more nodes, behind those that are there
+-- more nodes, after those that are there
 abbrev pub with_nodes : Graph → List Node → Graph
 with_nodes g nodes = record g { nodes = g.nodes ++ nodes }
 
--- a call, and behind it a landing node of its own
+-- a call, and after it a landing node of its own
 abbrev pub with_call : Graph → ℕ → List Binding → List Binding → Next → Graph
 with_call g callee inputs outputs to =
     with_nodes g (Call callee inputs outputs (suc (length g.nodes)) ∷ Basic [] to ∷ [])

@@ -1,3 +1,5 @@
 pub mod Graph
 pub mod Run
 pub mod Sorts
+pub mod Variables
+pub mod Fixed

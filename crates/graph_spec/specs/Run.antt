@@ -11,7 +11,7 @@ use Rattle.term_spec.specs.Same.{same_variable}
 use Rattle.graph_spec.specs.declared.Next.{Next}
 use Rattle.graph_spec.specs.declared.Next.TheVariants as next
 use Rattle.graph_spec.specs.Graph.{Binding, Node, Basic, Cond, Call, Graph, Graphs, node_at}
-use Rattle.walk_spec.specs.Walk.{Walk}
+use Rattle.walk_spec.specs.TransitionSystem.{TransitionSystem}
 
 -- ---- the values of variables
 
@@ -19,8 +19,8 @@ abbrev pub is_register : Family → Bool
 is_register family.Register = true
 is_register f = false
 
--- memory and the machine's registers are there once, for caller and callee alike; every other variable belongs to
--- the frame of its function
+-- memory and the machine's registers exist once, for caller and callee alike; every other variable belongs to the
+-- frame of its function
 abbrev pub is_shared : Variable → Bool
 is_shared v = is_memory v.sort || is_register v.family
 
@@ -40,7 +40,7 @@ bound (b ∷ bindings) values rest = λ v. if same_variable v b.variable then va
 abbrev pub entered : List Binding → Assignment → Assignment
 entered inputs values = bound inputs values (λ v. if is_shared v then values v else unset v.sort)
 
--- the values in the caller, from those with which the callee returned and those that waited
+-- the values in the caller, from those with which the callee returned and those that the caller had
 abbrev pub resumed : List Binding → Assignment → Assignment → Assignment
 resumed outputs values waited = bound outputs values (λ v. if is_shared v then values v else waited v)
 
@@ -51,7 +51,7 @@ is_truth (Bytes bytes) = false
 
 -- ---- states
 
--- a function that waits for its callee: its graph, the node of the call, where it goes on, what it takes from the
+-- a function that waits for its callee: its graph, the node of the call, where it continues, what it takes from the
 -- callee, and the values of its own variables
 pub record Waiting : Type 0 where
   pub graph : ℕ
@@ -98,14 +98,14 @@ step graphs (Running g n values below) = act graphs g n values below (node_at gr
 step graphs (Returned values) = Returned values
 step graphs Failed = Failed
 
--- the state with further functions that wait, behind those that wait already: where it has returned, the first of
--- them goes on
+-- the state with further functions that wait, after those that wait already: where it has returned, the first of
+-- them continues
 abbrev pub with_waiting : List Waiting → State → State
 with_waiting rest (Running g n values below) = Running g n values (below ++ rest)
 with_waiting rest (Returned values) = leave values rest
 with_waiting rest Failed = Failed
 
--- ---- the walk of a set of graphs, one of which is the outermost
+-- ---- the transition system of a set of graphs, one of which is the outermost
 
 abbrev pub has_returned : State → Bool
 has_returned (Running g n values below) = false
@@ -117,22 +117,22 @@ has_failed (Running g n values below) = false
 has_failed (Returned values) = false
 has_failed Failed = true
 
--- the state stands at a node of the outermost graph, and no function waits
-abbrev pub stands_at : Graphs → ℕ → ℕ → State → Bool
-stands_at graphs outermost n (Running g m values []) = g == outermost && (m == n && is_some (node_at graphs g m))
-stands_at graphs outermost n (Running g m values (f ∷ below)) = false
-stands_at graphs outermost n (Returned values) = false
-stands_at graphs outermost n Failed = false
+-- the state is at a node of the outermost graph, and no function waits
+abbrev pub is_at : Graphs → ℕ → ℕ → State → Bool
+is_at graphs outermost n (Running g m values []) = g == outermost && (m == n && is_some (node_at graphs g m))
+is_at graphs outermost n (Running g m values (f ∷ below)) = false
+is_at graphs outermost n (Returned values) = false
+is_at graphs outermost n Failed = false
 
-abbrev pub walk_of : Graphs → ℕ → Walk State
-walk_of graphs outermost = record {
+abbrev pub system_of : Graphs → ℕ → TransitionSystem State
+system_of graphs outermost = record {
   step = step graphs;
   returned = has_returned;
   failed = has_failed;
-  at = stands_at graphs outermost;
+  at = is_at graphs outermost;
 }
 
--- ---- which node leads to which; a call leads to its landing node
+-- ---- edges and paths; a call has an edge to its landing node
 
 abbrev pub GoesTo : Node → ℕ → Type 0
 GoesTo (Basic bindings after) n = after ≡ next.At n
@@ -144,10 +144,10 @@ pub record IsEdge (graphs : Graphs) (g m n : ℕ) : Type 0 where
   pub here : node_at graphs g m ≡ Some node
   pub goes : GoesTo node n
 
--- in one step or more
-pub data Leads (graphs : Graphs) (g m : ℕ) : ℕ → Type 0 where
-  first : (n : ℕ) → IsEdge graphs g m n → Leads graphs g m n
-  on : (n o : ℕ) → Leads graphs g m n → IsEdge graphs g n o → Leads graphs g m o
+-- a path of one edge or more
+pub data IsPath (graphs : Graphs) (g m : ℕ) : ℕ → Type 0 where
+  first : (n : ℕ) → IsEdge graphs g m n → IsPath graphs g m n
+  on : (n o : ℕ) → IsPath graphs g m n → IsEdge graphs g n o → IsPath graphs g m o
 
 -- the node is a call, and this is its landing node
 pub record Lands (graphs : Graphs) (g m l : ℕ) : Type 0 where

@@ -1,7 +1,7 @@
 -- States in which each variable has a value of its sort.
-use Rattle.std.specs.Prelude.{List, [], ◌∷◌, ⊤}
+use Rattle.std.specs.Prelude.{List, [], ◌∷◌, ⊤, All}
 use Rattle.term_spec.specs.Value.{IsAssignment}
-use Rattle.graph_spec.specs.Graph.{AreBindings}
+use Rattle.graph_spec.specs.Graph.{AreBindings, Graphs, IsValid}
 use Rattle.graph_spec.specs.Run.{Waiting, State, Running, Returned, Failed}
 
 -- of the functions that wait too, whose outputs are bindings
@@ -13,3 +13,8 @@ abbrev pub IsState : State → Type 0
 IsState (Running g n values below) = IsAssignment values × AreWaiting below
 IsState (Returned values) = IsAssignment values
 IsState Failed = ⊤
+
+-- the graphs are valid, and each variable has a value of its sort: a property of states that steps keep
+pub record IsSorted (graphs : Graphs) (state : State) : Type 0 where
+  pub valid : All IsValid graphs
+  pub sorted : IsState state

@@ -3,18 +3,18 @@ use Rattle.std.proofs.Common.{◌≡◌, ℕ, ◌<◌, List, map, length, Option
 use Rattle.term_spec.specs.Term.{Term, not_term, or_term}
 use Rattle.term_bank.specs.Nodes.{tree_at, Extends}
 use Rattle.flat_spec.specs.Flat.{FlatLoad, loads_of, without_loads, flat_loads, consistent, flat_of}
-use Rattle.mem_terms.specs.declared.places.LoadPlaces.{LoadPlaces}
-use Rattle.mem_terms.specs.Places.{IsTreeAt, load_at, AreWithin}
-use Rattle.mem_terms.specs.Walk.{flat_place}
+use Rattle.mem_terms.specs.declared.ids.LoadIds.{LoadIds}
+use Rattle.mem_terms.specs.Ids.{IsTreeAt, load_at, AreWithin}
+use Rattle.mem_terms.specs.Walk.{flat_id}
 use Rattle.mem_terms.proofs.Trees.{extends_then, within_longer, kept_tree, tree_as, loads_later, all_within_later}
 use Rattle.mem_terms.proofs.Steps.{IsWalked}
 
-module _ (b0 b1 b2 : List Term) (goal : ℕ) (done : List (Option ℕ)) (places loads : List LoadPlaces) (first : Extends b0 b1) (below : goal < length b0)
-    (w : IsWalked b1 b2 goal done places) (loads_is : loads ≡ places) where
+module _ (b0 b1 b2 : List Term) (goal : ℕ) (done : List (Option ℕ)) (ids loads : List LoadIds) (first : Extends b0 b1) (below : goal < length b0)
+    (w : IsWalked b1 b2 goal done ids) (loads_is : loads ≡ ids) where
   pub loads_within : AreWithin (length b2) loads
   loads_within = subst (AreWithin (length b2)) (sym loads_is) w.within
 
-  module _ (b3 b4 : List Term) (without all term : ℕ) (without_is : without ≡ flat_place done goal) (second : Extends b2 b3)
+  module _ (b3 b4 : List Term) (without all term : ℕ) (without_is : without ≡ flat_id done goal) (second : Extends b2 b3)
       (all_at : IsTreeAt b3 all (consistent (map (load_at b2) loads))) (third : Extends b3 b4) where
     pub without_within : without < length b3
     without_within = within_longer b2 b3 without second (subst (λ p. p < length b2) (sym without_is) w.flat.within)

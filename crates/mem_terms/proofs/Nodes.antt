@@ -12,19 +12,19 @@ use Rattle.term_spec.specs.Term.{Term}
 use Rattle.term_bank.specs.declared.node.TermNode.{TermNode}
 use Rattle.term_bank.specs.declared.node.TermNode.TheVariants.{Leaf, Unary, Binary, Ternary, Quaternary, Octonary}
 use Rattle.term_bank.specs.Nodes.{IsNode, tree_at, build, Extends}
-use Rattle.flat_spec.specs.Flat.{Load, load_of, with_load, byte_or, without_loads}
-use Rattle.flat_spec.specs.Back.{term_of}
+use Rattle.flat_spec.specs.Flat.{VariableLoad, load_of, with_load, byte_or, without_loads}
+use Rattle.flat_spec.specs.Assignments.{term_of}
 use Rattle.flat_spec.proofs.Lists.{with_load-there}
 use Rattle.flat_spec.proofs.Loads.{IfIn, AreIn}
 use Rattle.mem_terms.specs.declared.walk.LoadNode.{LoadNode}
-use Rattle.mem_terms.specs.Walk.{variable_of, load_from, load_in, flat_place, replaced, EachArgument, with_root, IsDone}
+use Rattle.mem_terms.specs.Walk.{variable_of, load_from, load_in, flat_id, replaced, EachArgument, with_root, IsDone}
 use Rattle.mem_terms.proofs.Trees.{kept_tree}
 use Rattle.mem_terms.proofs.Tasks.{each_map}
 
 -- ---- loads
 
 -- a load by the tree of its address
-abbrev pub load_by : List Term → LoadNode → Load
+abbrev pub load_by : List Term → LoadNode → VariableLoad
 load_by trees n = record { memory = n.memory; address = tree_at trees n.address }
 
 from_variable : (trees : List Term) (x : Term) (b : ℕ) → load_of binary.Load x (tree_at trees b) ≡ option_map (load_by trees) (load_from (variable_of x) b)
@@ -84,11 +84,11 @@ address_argument P trees (Octonary x1 x2 x3 x4 x5 x6 x7 x8) n e h = absurd (cc)
 
 -- ---- the loads of a node are there
 
-if_there : (o : Option Load) (loads : List Load) → IfIn o loads → with_load o loads ≡ loads
+if_there : (o : Option VariableLoad) (loads : List VariableLoad) → IfIn o loads → with_load o loads ≡ loads
 if_there None loads h = refl
 if_there (Some l) loads h = with_load-there l loads h
 
-pub root_there : (t : Term) (loads : List Load) → AreIn t loads → with_root t loads ≡ loads
+pub root_there : (t : Term) (loads : List VariableLoad) → AreIn t loads → with_root t loads ≡ loads
 unfolding AreIn
 root_there (tree.Leaf leaf) loads h = refl
 root_there (tree.Unary operator a) loads h = refl
@@ -100,16 +100,16 @@ root_there (tree.Octonary a b c d e f g i) loads h = refl
 -- ---- nodes over flat terms
 
 -- the flat term of an argument
-pub record IsFlatArgument (base now : List Term) (done : List (Option ℕ)) (loads : List Load) (a : ℕ) : Type 0 where
-  pub within : flat_place done a < length now
-  pub flat_is : tree_at now (flat_place done a) ≡ without_loads loads (tree_at base a)
+pub record IsFlatArgument (base now : List Term) (done : List (Option ℕ)) (loads : List VariableLoad) (a : ℕ) : Type 0 where
+  pub within : flat_id done a < length now
+  pub flat_is : tree_at now (flat_id done a) ≡ without_loads loads (tree_at base a)
   pub inside : AreIn (tree_at base a) loads
 
 none_of : (o : Option LoadNode) (trees : List Term) → o ≡ None → option_map (load_by trees) o ≡ None
 none_of (Some n) trees e = absurd (cc)
 none_of None trees e = refl
 
-module _ (base now : List Term) (done : List (Option ℕ)) (loads : List Load) where
+module _ (base now : List Term) (done : List (Option ℕ)) (loads : List VariableLoad) where
   pub replaced_node : (node : TermNode) → EachArgument (IsFlatArgument base now done loads) node → IsNode (length now) (replaced done node)
   replaced_node (Leaf leaf) h = tt
   replaced_node (Unary operator a) h = h.within
@@ -128,7 +128,7 @@ module _ (base now : List Term) (done : List (Option ℕ)) (loads : List Load) w
       let none : load_of operator (tree_at base a) (tree_at base b) ≡ None = binary_load base operator a b ∙ none_of (load_in base (Binary operator a b)) base e in
       let e1 = h.0.flat_is in
       let e2 = h.1.flat_is in
-      let same : tree.Binary operator (tree_at now (flat_place done a)) (tree_at now (flat_place done b)) ≡ tree.Binary operator (without_loads loads (tree_at base a)) (without_loads loads (tree_at base b)) = cc in
+      let same : tree.Binary operator (tree_at now (flat_id done a)) (tree_at now (flat_id done b)) ≡ tree.Binary operator (without_loads loads (tree_at base a)) (without_loads loads (tree_at base b)) = cc in
       same ∙ sym (ap (λ o. byte_or loads o (tree.Binary operator (without_loads loads (tree_at base a)) (without_loads loads (tree_at base b)))) none)
   replaced_build (Ternary operator a b c) e h =
       let e1 = h.0.flat_is in
@@ -191,7 +191,7 @@ load_build trees (Quaternary operator x y z w) n e = absurd (cc)
 load_build trees (Octonary x1 x2 x3 x4 x5 x6 x7 x8) n e = absurd (cc)
 
 -- of another node the root adds nothing
-pub root_none : (trees : List Term) (node : TermNode) (loads : List Load) → load_in trees node ≡ None → with_root (build trees node) loads ≡ loads
+pub root_none : (trees : List Term) (node : TermNode) (loads : List VariableLoad) → load_in trees node ≡ None → with_root (build trees node) loads ≡ loads
 root_none trees (Leaf leaf) loads e = refl
 root_none trees (Unary operator a) loads e = refl
 root_none trees (Binary operator a b) loads e =
@@ -217,8 +217,8 @@ done_none done i below e = by_item (get_or done i None) (slice_get-get_or done i
     by_item (Some f) at k = absurd (cc)
     by_item None at k = at
 
-pub done_place : (done : List (Option ℕ)) (i f : ℕ) → slice_get done i ≡ Some (Some f) → flat_place done i ≡ f
-done_place done i f e = ap (λ o. unwrap_or o 0) (get_or_from_slice_get done i (Some f) None e)
+pub done_id : (done : List (Option ℕ)) (i f : ℕ) → slice_get done i ≡ Some (Some f) → flat_id done i ≡ f
+done_id done i f e = ap (λ o. unwrap_or o 0) (get_or_from_slice_get done i (Some f) None e)
 
 pub set_here : {X : Type 0} → (xs : List X) (i : ℕ) (x : X) → i < length xs → slice_get (set xs i x) i ≡ Some x
 set_here [] i x h = absurd (omega arith)

@@ -1,14 +1,14 @@
--- What stands at the place of a flat term.
+-- The tree at the index of a flat term.
 use Rattle.std.proofs.Common.{◌≡◌, ◌↔◌, List, Some, sym, ap, ◌∙◌, subst}
 use Rattle.term_spec.specs.declared.Sort.TheVariants as sort
 use Rattle.term_spec.specs.Term.{Term}
 use Rattle.term_spec.specs.Sort.{sort_of}
 use Rattle.term_bank.specs.Nodes.{tree_at}
-use Rattle.flat_spec.specs.Back.{LoadsFromVariables, IsWithoutMemory, HasNoBytes, IsAlwaysTrue}
+use Rattle.flat_spec.specs.Assignments.{LoadsFromVariables, IsWithoutMemory, HasNoBytes, IsAlwaysTrue}
 use Rattle.flat_spec.proofs.Forms.{flat_plain}
-use Rattle.flat_spec.proofs.Whole.{equally}
-use Rattle.mem_terms.specs.Places.{IsFlatOf}
-use Rattle.mem_terms.specs.declared.places.Flat.{Flat}
+use Rattle.flat_spec.proofs.Validity.{equally}
+use Rattle.mem_terms.specs.Ids.{IsFlatOf}
+use Rattle.mem_terms.specs.declared.ids.Flat.{Flat}
 
 pub flat_sort : (trees : List Term) (flat : Flat) (t : Term) → IsFlatOf trees flat t
     → sort_of t ≡ Some sort.Truth → LoadsFromVariables t → sort_of (tree_at trees flat.term) ≡ Some sort.Truth

@@ -21,12 +21,12 @@ use Rattle.term_core.specs.Memory.{bytes_of}
 use Rattle.term_core.specs.Assignment.{given_or_default}
 use Rattle.term_bank.specs.Nodes.{tree_at, value_at}
 use Rattle.flat_spec.specs.Flat.{is_among, memories_of}
-use Rattle.flat_spec.specs.Back.{LoadsFromVariables, number_of, first_byte, memory_back, rebuilt}
+use Rattle.flat_spec.specs.Assignments.{LoadsFromVariables, number_of, first_byte, memory_back, rebuilt}
 use Rattle.flat_spec.proofs.Lists.{variable_itself}
-use Rattle.flat_spec.proofs.Whole.{term_false}
-use Rattle.mem_terms.specs.declared.places.LoadPlaces.{LoadPlaces}
-use Rattle.mem_terms.specs.declared.places.Flat.{Flat}
-use Rattle.mem_terms.specs.Places.{load_at, is_load_from, IsFlatOf}
+use Rattle.flat_spec.proofs.Validity.{term_false}
+use Rattle.mem_terms.specs.declared.ids.LoadIds.{LoadIds}
+use Rattle.mem_terms.specs.declared.ids.Flat.{Flat}
+use Rattle.mem_terms.specs.Ids.{load_at, is_load_from, IsFlatOf}
 use Rattle.mem_terms.specs.Back.{first_among, memory_among}
 use Rattle.mem_terms.proofs.Pairs.{filter_loads, drop_here}
 
@@ -42,7 +42,7 @@ test_turned a b = by_first (a == b) (b == a) refl refl
     by_first false true e f = let k : (a == b) ≡ true = eq-eqb a b (sym (eqb-true b a f)) in cc
 
 -- one load more in front
-pub set_step : (values : List spec.Value) (loads : List LoadPlaces) (i : ℕ) (otherwise : LoadPlaces) (address byte : ℕ) (old new : ℕ → ℕ) → i < length loads
+pub set_step : (values : List spec.Value) (loads : List LoadIds) (i : ℕ) (otherwise : LoadIds) (address byte : ℕ) (old new : ℕ → ℕ) → i < length loads
     → new ≡ with_byte old address byte → address ≡ low_bits 32 (number_of (value_at values (get_or loads i otherwise).address))
     → byte ≡ low_bits 8 (number_of (value_at values (get_or loads i otherwise).byte)) → ((q : ℕ) → old q ≡ first_among values q (drop (i + 1) loads))
     → (q : ℕ) → new q ≡ first_among values q (drop i loads)
@@ -65,7 +65,7 @@ none_among values q = refl
 turned : (v w : Variable) → same_variable v w ≡ true → same_variable w v ≡ true
 turned v w e = subst (λ u. same_variable u v ≡ true) (variable-same v w e) (variable_itself v)
 
-pub restored : (memory v : Variable) (old : spec.Value) (bytes : Memory) (values : List spec.Value) (loads own : List LoadPlaces) → memory.sort ≡ sort.Memory
+pub restored : (memory v : Variable) (old : spec.Value) (bytes : Memory) (values : List spec.Value) (loads own : List LoadIds) → memory.sort ≡ sort.Memory
     → own ≡ filter (is_load_from memory) loads → bytes_of bytes ≡ (λ address. first_among values address own)
     → cond (same_variable memory v) (given_or_default v.sort (Some (code.Bytes bytes))) old ≡ cond (is_memory v.sort && same_variable v memory) (memory_among values loads v) old
 restored memory v old bytes values loads own s own_is bytes_are = step (same_variable memory v) (same_variable v memory) refl refl
@@ -130,7 +130,7 @@ value_there : (A : Assignment) (trees : List Term) (i : ℕ) → value_at (map (
 unfolding value
 value_there A trees i = get_or-map (value A) trees i (tree.Leaf (atom.Truth false))
 
-first_same : (A : Assignment) (trees : List Term) (q : ℕ) (loads : List LoadPlaces) → first_among (map (value A) trees) q loads ≡ first_byte A q (map (load_at trees) loads)
+first_same : (A : Assignment) (trees : List Term) (q : ℕ) (loads : List LoadIds) → first_among (map (value A) trees) q loads ≡ first_byte A q (map (load_at trees) loads)
 unfolding first_among
 first_same A trees q [] = refl
 first_same A trees q (l ∷ loads) =
@@ -141,14 +141,14 @@ first_same A trees q (l ∷ loads) =
     ∙ ap (λ v. cond (low_bits 32 (number_of (value A (tree_at trees l.address))) == q) (low_bits 8 (number_of v)) (first_among (map (value A) trees) q loads)) e2
     ∙ ap (λ o. cond (low_bits 32 (number_of (value A (tree_at trees l.address))) == q) (low_bits 8 (number_of (value A (tree_at trees l.byte)))) o) e3
 
-memory_same : (A : Assignment) (trees : List Term) (values : List spec.Value) (loads : List LoadPlaces) (v : Variable) → values ≡ map (value A) trees
+memory_same : (A : Assignment) (trees : List Term) (values : List spec.Value) (loads : List LoadIds) (v : Variable) → values ≡ map (value A) trees
     → memory_among values loads v ≡ memory_back A (map (load_at trees) loads) v
 memory_same A trees values loads v e =
     ap (λ vs. memory_among vs loads v) e
     ∙ ap spec.Bytes (fun_ext (λ q. first_same A trees q (filter (is_load_from v) loads) ∙ ap (first_byte A q) (filter_loads trees v loads)))
 
 -- the assignment at the end
-pub rebuilt_whole : (A B : Assignment) (trees : List Term) (values : List spec.Value) (loads : List LoadPlaces) (memories : List Variable) (i : ℕ) → values ≡ map (value A) trees
+pub rebuilt_whole : (A B : Assignment) (trees : List Term) (values : List spec.Value) (loads : List LoadIds) (memories : List Variable) (i : ℕ) → values ≡ map (value A) trees
     → memories ≡ memories_of (map (load_at trees) loads) → length memories ≤ i
     → ((v : Variable) → B v ≡ cond (is_memory v.sort && is_among v (take i memories)) (memory_among values loads v) (A v)) → B ≡ rebuilt (map (load_at trees) loads) A
 unfolding rebuilt

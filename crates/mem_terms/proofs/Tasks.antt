@@ -6,7 +6,7 @@ use Rattle.term_spec.specs.Term.{Term}
 use Rattle.term_bank.specs.declared.node.TermNode.{TermNode}
 use Rattle.term_bank.specs.declared.node.TermNode.TheVariants.{Leaf, Unary, Binary, Ternary, Quaternary, Octonary}
 use Rattle.term_bank.specs.Nodes.{IsNode, build}
-use Rattle.flat_spec.specs.Flat.{Load, with_loads}
+use Rattle.flat_spec.specs.Flat.{VariableLoad, with_loads}
 use Rattle.mem_terms.specs.declared.walk.Task.{Task}
 use Rattle.mem_terms.specs.declared.walk.Task.TheVariants.{Visit, Finish}
 use Rattle.mem_terms.specs.Walk.{EachArgument, visits, id_of, after_task, after_tasks, weight, total_weight, IsDone, HasTask, Comes, IsPrepared, ArePrepared, IsTask, AreTasks}
@@ -42,17 +42,17 @@ node_longer m n node le h = node_each n node (each_map (λ a. a < m) (λ a. a < 
 
 -- ---- the loads after tasks
 
-pub after_tasks-append : (trees : List Term) (xs ys : List Task) (loads : List Load) → after_tasks trees (xs ++ ys) loads ≡ after_tasks trees xs (after_tasks trees ys loads)
+pub after_tasks-append : (trees : List Term) (xs ys : List Task) (loads : List VariableLoad) → after_tasks trees (xs ++ ys) loads ≡ after_tasks trees xs (after_tasks trees ys loads)
 unfolding after_tasks
 after_tasks-append trees [] ys loads = refl
 after_tasks-append trees (x ∷ xs) ys loads = ap (λ l. after_task trees x l) (after_tasks-append trees xs ys loads)
 
-pub after_last : (trees : List Term) (xs : List Task) (task : Task) (loads : List Load) → after_tasks trees (xs ++ task ∷ []) loads ≡ after_tasks trees xs (after_task trees task loads)
+pub after_last : (trees : List Term) (xs : List Task) (task : Task) (loads : List VariableLoad) → after_tasks trees (xs ++ task ∷ []) loads ≡ after_tasks trees xs (after_task trees task loads)
 unfolding after_tasks
 after_last trees xs task loads = after_tasks-append trees xs (task ∷ []) loads
 
 -- a term is visited by its arguments and then itself
-after_node : (trees : List Term) (i : ℕ) (node : TermNode) (loads : List Load) → after_tasks trees (Finish i node ∷ visits node) loads ≡ with_loads (build trees node) loads
+after_node : (trees : List Term) (i : ℕ) (node : TermNode) (loads : List VariableLoad) → after_tasks trees (Finish i node ∷ visits node) loads ≡ with_loads (build trees node) loads
 unfolding after_tasks with_loads
 after_node trees i (Leaf leaf) loads = refl
 after_node trees i (Unary operator a) loads = refl
@@ -61,7 +61,7 @@ after_node trees i (Ternary operator a b c) loads = refl
 after_node trees i (Quaternary operator a b c d) loads = refl
 after_node trees i (Octonary a b c d e f g h) loads = refl
 
-pub after_open : (trees : List Term) (xs : List Task) (i : ℕ) (node : TermNode) (loads : List Load)
+pub after_open : (trees : List Term) (xs : List Task) (i : ℕ) (node : TermNode) (loads : List VariableLoad)
     → after_tasks trees (xs ++ Finish i node ∷ visits node) loads ≡ after_tasks trees xs (with_loads (build trees node) loads)
 after_open trees xs i node loads = after_tasks-append trees xs (Finish i node ∷ visits node) loads ∙ ap (after_tasks trees xs) (after_node trees i node loads)
 

@@ -1,4 +1,4 @@
--- Trees at places of a bank that grows.
+-- Trees at indices of a bank that grows.
 use Rattle.std.proofs.Common.{◌≡◌, ℕ, ◌+◌, ◌<◌, ◌≤◌, false, List, [], ◌∷◌, ◌++◌, length, map, Some, refl, sym, ap, ◌∙◌, arith, append_assoc, append-nil, length-append}
 use Rattle.std.proofs.lemmas.Option.{slice_get_within, get_or_from_slice_get, slice_get-get_or}
 use Rattle.term_spec.specs.declared.Atom.TheVariants as atom
@@ -9,8 +9,8 @@ use Rattle.term_bank.specs.declared.node.TermNode.{TermNode}
 use Rattle.term_bank.specs.Nodes.{IsNode, tree_at, build, Holds, Extends}
 use Rattle.term_bank.proofs.Growth.{tree_at-front, build-front}
 use Rattle.flat_spec.specs.Flat.{FlatLoad}
-use Rattle.mem_terms.specs.declared.places.LoadPlaces.{LoadPlaces}
-use Rattle.mem_terms.specs.Places.{IsTreeAt, load_at, IsWithin, AreWithin}
+use Rattle.mem_terms.specs.declared.ids.LoadIds.{LoadIds}
+use Rattle.mem_terms.specs.Ids.{IsTreeAt, load_at, IsWithin, AreWithin}
 
 -- ---- longer lists
 
@@ -32,7 +32,7 @@ kept_tree a b i e h = ap (λ l. tree_at l i) e.1 ∙ tree_at-front a e.0 i h
 pub kept_build : (a b : List Term) (node : TermNode) → Extends a b → IsNode (length a) node → build b node ≡ build a node
 kept_build a b node e h = ap (λ l. build l node) e.1 ∙ build-front a e.0 node h
 
--- ---- trees at places
+-- ---- trees at indices
 
 pub holds_tree : (trees : List Term) (i : ℕ) (t : Term) → Holds trees i t → IsTreeAt trees i t
 holds_tree trees i t h = record { within = slice_get_within trees i t h; tree = get_or_from_slice_get trees i t (tree.Leaf (atom.Truth false)) h }
@@ -43,21 +43,21 @@ tree_holds trees i t h = slice_get-get_or trees i (tree.Leaf (atom.Truth false))
 pub tree_as : (trees : List Term) (i : ℕ) (s t : Term) → s ≡ t → IsTreeAt trees i s → IsTreeAt trees i t
 tree_as trees i s t e h = record { within = h.within; tree = h.tree ∙ e }
 
--- ---- loads by their places
+-- ---- loads by their indices
 
 made : (v : Variable) (a b c d : Term) → a ≡ b → c ≡ d → (let f : FlatLoad = record { memory = v; address = a; byte = c } in f) ≡ record { memory = v; address = b; byte = d }
 made v a b c d p q = cc
 
-pub load_later : (a b : List Term) (l : LoadPlaces) → Extends a b → IsWithin (length a) l → load_at b l ≡ load_at a l
+pub load_later : (a b : List Term) (l : LoadIds) → Extends a b → IsWithin (length a) l → load_at b l ≡ load_at a l
 load_later a b l e h = made l.memory (tree_at b l.address) (tree_at a l.address) (tree_at b l.byte) (tree_at a l.byte) (kept_tree a b l.address e h.0) (kept_tree a b l.byte e h.1)
 
-pub loads_later : (a b : List Term) (loads : List LoadPlaces) → Extends a b → AreWithin (length a) loads → map (load_at b) loads ≡ map (load_at a) loads
+pub loads_later : (a b : List Term) (loads : List LoadIds) → Extends a b → AreWithin (length a) loads → map (load_at b) loads ≡ map (load_at a) loads
 loads_later a b [] e h = refl
 loads_later a b (l ∷ loads) e h = let first = load_later a b l e h.0 in let rest = loads_later a b loads e h.1 in cc
 
-pub within_later : (a b : List Term) (l : LoadPlaces) → Extends a b → IsWithin (length a) l → IsWithin (length b) l
+pub within_later : (a b : List Term) (l : LoadIds) → Extends a b → IsWithin (length a) l → IsWithin (length b) l
 within_later a b l e h = (within_longer a b l.address e h.0, within_longer a b l.byte e h.1)
 
-pub all_within_later : (a b : List Term) (loads : List LoadPlaces) → Extends a b → AreWithin (length a) loads → AreWithin (length b) loads
+pub all_within_later : (a b : List Term) (loads : List LoadIds) → Extends a b → AreWithin (length a) loads → AreWithin (length b) loads
 all_within_later a b [] e h = tt
 all_within_later a b (l ∷ loads) e h = (within_later a b l e h.0, all_within_later a b loads e h.1)

@@ -4,17 +4,17 @@ use Rattle.term_spec.specs.declared.Variable.{Variable}
 use Rattle.term_spec.specs.Value as spec
 use Rattle.term_spec.specs.Value.{low_bits}
 use Rattle.term_bank.specs.Nodes.{value_at}
-use Rattle.flat_spec.specs.Back.{number_of}
-use Rattle.mem_terms.specs.declared.places.LoadPlaces.{LoadPlaces}
-use Rattle.mem_terms.specs.Places.{is_load_from}
+use Rattle.flat_spec.specs.Assignments.{number_of}
+use Rattle.mem_terms.specs.declared.ids.LoadIds.{LoadIds}
+use Rattle.mem_terms.specs.Ids.{is_load_from}
 
 -- the byte of the first of these loads at an address, 0 where there is none
-unfoldable pub first_among : List spec.Value → (address : ℕ) → List LoadPlaces → ℕ
+unfoldable pub first_among : List spec.Value → (address : ℕ) → List LoadIds → ℕ
 first_among values address [] = 0
 first_among values address (l ∷ loads) =
     if low_bits 32 (number_of (value_at values l.address)) == address
     then low_bits 8 (number_of (value_at values l.byte)) else first_among values address loads
 
 -- the memory that gives its loads their bytes
-abbrev pub memory_among : List spec.Value → List LoadPlaces → Variable → spec.Value
+abbrev pub memory_among : List spec.Value → List LoadIds → Variable → spec.Value
 memory_among values loads v = spec.Bytes (λ address. first_among values address (filter (is_load_from v) loads))

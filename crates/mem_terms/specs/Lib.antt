@@ -1,3 +1,3 @@
-pub mod Places
+pub mod Ids
 pub mod Walk
 pub mod Back

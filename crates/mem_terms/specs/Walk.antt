@@ -9,11 +9,11 @@ use Rattle.term_spec.specs.Term.{Term, open_term}
 use Rattle.term_bank.specs.declared.node.TermNode.{TermNode}
 use Rattle.term_bank.specs.declared.node.TermNode.TheVariants.{Leaf, Unary, Binary, Ternary, Quaternary, Octonary}
 use Rattle.term_bank.specs.Nodes.{IsNode, tree_at, build, Holds, Extends, AreDistinct}
-use Rattle.flat_spec.specs.Flat.{Load, load_of, is_in, with_load, with_loads, byte_variable, without_loads}
-use Rattle.flat_spec.specs.Back.{term_of}
+use Rattle.flat_spec.specs.Flat.{VariableLoad, load_of, is_in, with_load, with_loads, byte_variable, without_loads}
+use Rattle.flat_spec.specs.Assignments.{term_of}
 use Rattle.flat_spec.proofs.Loads.{AreIn}
-use Rattle.mem_terms.specs.Places.{IsTreeAt}
-use Rattle.mem_terms.specs.declared.places.LoadPlaces.{LoadPlaces}
+use Rattle.mem_terms.specs.Ids.{IsTreeAt}
+use Rattle.mem_terms.specs.declared.ids.LoadIds.{LoadIds}
 use Rattle.mem_terms.specs.declared.walk.Task.{Task}
 use Rattle.mem_terms.specs.declared.walk.Task.TheVariants.{Visit, Finish}
 use Rattle.mem_terms.specs.declared.walk.LoadNode.{LoadNode}
@@ -34,19 +34,19 @@ abbrev pub load_in : List Term → TermNode → Option LoadNode
 load_in trees (Binary binary.Load memory address) = load_from (variable_of (tree_at trees memory)) address
 load_in trees node = None
 
--- the place of a term's flat term
-abbrev pub flat_place : List (Option ℕ) → ℕ → ℕ
-flat_place done i = unwrap_or (get_or done i None) 0
+-- the index of a term's flat term
+abbrev pub flat_id : List (Option ℕ) → ℕ → ℕ
+flat_id done i = unwrap_or (get_or done i None) 0
 
 -- a node over the flat terms of its arguments
 abbrev pub replaced : List (Option ℕ) → TermNode → TermNode
 replaced done (Leaf leaf) = Leaf leaf
-replaced done (Unary operator a) = Unary operator (flat_place done a)
-replaced done (Binary operator a b) = Binary operator (flat_place done a) (flat_place done b)
-replaced done (Ternary operator a b c) = Ternary operator (flat_place done a) (flat_place done b) (flat_place done c)
-replaced done (Quaternary operator a b c d) = Quaternary operator (flat_place done a) (flat_place done b) (flat_place done c) (flat_place done d)
+replaced done (Unary operator a) = Unary operator (flat_id done a)
+replaced done (Binary operator a b) = Binary operator (flat_id done a) (flat_id done b)
+replaced done (Ternary operator a b c) = Ternary operator (flat_id done a) (flat_id done b) (flat_id done c)
+replaced done (Quaternary operator a b c d) = Quaternary operator (flat_id done a) (flat_id done b) (flat_id done c) (flat_id done d)
 replaced done (Octonary a b c d e f g h) =
-    Octonary (flat_place done a) (flat_place done b) (flat_place done c) (flat_place done d) (flat_place done e) (flat_place done f) (flat_place done g) (flat_place done h)
+    Octonary (flat_id done a) (flat_id done b) (flat_id done c) (flat_id done d) (flat_id done e) (flat_id done f) (flat_id done g) (flat_id done h)
 
 -- what holds of each argument of a node
 abbrev pub EachArgument : (ℕ → Type 0) → TermNode → Type 0
@@ -73,7 +73,7 @@ id_of (Visit i) = i
 id_of (Finish i node) = i
 
 -- with the load that a term itself is
-abbrev pub with_root : Term → List Load → List Load
+abbrev pub with_root : Term → List VariableLoad → List VariableLoad
 with_root (tree.Leaf leaf) loads = loads
 with_root (tree.Unary operator a) loads = loads
 with_root (tree.Binary operator a b) loads = with_load (load_of operator a b) loads
@@ -82,12 +82,12 @@ with_root (tree.Quaternary operator a b c d) loads = loads
 with_root (tree.Octonary a b c d e f g h) loads = loads
 
 -- the loads after a task
-abbrev pub after_task : List Term → Task → List Load → List Load
+abbrev pub after_task : List Term → Task → List VariableLoad → List VariableLoad
 after_task trees (Visit i) loads = with_loads (tree_at trees i) loads
 after_task trees (Finish i node) loads = with_root (build trees node) loads
 
 -- the loads when all tasks are done
-unfoldable pub after_tasks : List Term → List Task → List Load → List Load
+unfoldable pub after_tasks : List Term → List Task → List VariableLoad → List VariableLoad
 after_tasks trees [] loads = loads
 after_tasks trees (task ∷ tasks) loads = after_task trees task (after_tasks trees tasks loads)
 
@@ -132,14 +132,14 @@ unfoldable pub AreTasks : List Term → (limit : ℕ) → List Task → Type 0
 AreTasks base limit [] = Unit {0}
 AreTasks base limit (task ∷ tasks) = IsTask base limit task × AreTasks base limit tasks
 
--- the flat term of the i-th tree stands at f, by these loads, which have all of its own
-pub record IsFlatAt (base now : List Term) (loads : List Load) (i f : ℕ) : Type 0 where
+-- the flat term of the i-th tree is at f, by these loads, which have all of its own
+pub record IsFlatAt (base now : List Term) (loads : List VariableLoad) (i f : ℕ) : Type 0 where
   pub within : f < length now
   pub flat_is : tree_at now f ≡ without_loads loads (tree_at base i)
   pub inside : AreIn (tree_at base i) loads
 
--- the k-th load by its places
-pub record IsLoadAt (now : List Term) (all : List Load) (k : ℕ) (l : Load) (p : LoadPlaces) : Type 0 where
+-- the k-th load by its indices
+pub record IsLoadAt (now : List Term) (all : List VariableLoad) (k : ℕ) (l : VariableLoad) (p : LoadIds) : Type 0 where
   pub memory_is : p.memory ≡ l.memory
   pub address_within : p.address < length now
   pub byte_within : p.byte < length now
@@ -147,16 +147,16 @@ pub record IsLoadAt (now : List Term) (all : List Load) (k : ℕ) (l : Load) (p 
   pub byte_is : tree_at now p.byte ≡ open_term (byte_variable k)
   pub inside : AreIn l.address all
 
-unfoldable pub AreListed : List Term → List Load → ℕ → List Load → List LoadPlaces → Type 0
+unfoldable pub AreListed : List Term → List VariableLoad → ℕ → List VariableLoad → List LoadIds → Type 0
 AreListed now all k [] [] = Unit {0}
-AreListed now all k (l ∷ loads) (p ∷ places) = IsLoadAt now all k l p × AreListed now all (k + 1) loads places
-AreListed now all k [] (p ∷ places) = ⊥
+AreListed now all k (l ∷ loads) (p ∷ ids) = IsLoadAt now all k l p × AreListed now all (k + 1) loads ids
+AreListed now all k [] (p ∷ ids) = ⊥
 AreListed now all k (l ∷ loads) [] = ⊥
 
 -- the walk to a goal over the trees `base`, where the bank has the trees `now`
-pub record IsWalk (base now : List Term) (goal : ℕ) (done : List (Option ℕ)) (places : List LoadPlaces) (tasks : List Task) : Type 0 where
+pub record IsWalk (base now : List Term) (goal : ℕ) (done : List (Option ℕ)) (ids : List LoadIds) (tasks : List Task) : Type 0 where
   -- the loads that have their bytes
-  pub loads : List Load
+  pub loads : List VariableLoad
   pub extends : Extends base now
   pub distinct : AreDistinct base
   pub limit : length done ≤ length base
@@ -165,24 +165,24 @@ pub record IsWalk (base now : List Term) (goal : ℕ) (done : List (Option ℕ))
   pub comes : Comes done tasks goal
   pub left : after_tasks base tasks loads ≡ with_loads (tree_at base goal) []
   pub each : (i f : ℕ) → slice_get done i ≡ Some (Some f) → IsFlatAt base now loads i f
-  pub from : (l : Load) → is_in l loads ≡ true → (i : ℕ) × IsDone done i × (tree_at base i ≡ term_of l)
-  pub listed : AreListed now loads 0 loads places
+  pub from : (l : VariableLoad) → is_in l loads ≡ true → (i : ℕ) × IsDone done i × (tree_at base i ≡ term_of l)
+  pub listed : AreListed now loads 0 loads ids
 
 -- it is the walk to some goal
-abbrev pub IsSomeWalk : List Term → List (Option ℕ) → List LoadPlaces → List Task → Type 0
-IsSomeWalk now done places tasks = (base : List Term) × (goal : ℕ) × IsWalk base now goal done places tasks
+abbrev pub IsSomeWalk : List Term → List (Option ℕ) → List LoadIds → List Task → Type 0
+IsSomeWalk now done ids tasks = (base : List Term) × (goal : ℕ) × IsWalk base now goal done ids tasks
 
 -- ---- one term more
 
 -- the load at `id` has its byte
-pub record IsEntered (now : List Term) (done : List (Option ℕ)) (places : List LoadPlaces) (id : ℕ) (load : LoadNode) (done_then : List (Option ℕ)) (places_then : List LoadPlaces) : Type 0 where
-  pub place : ℕ
-  pub stands : IsTreeAt now place (open_term (byte_variable (length places)))
-  pub done_is : done_then ≡ slice_set done id (Some place)
-  pub places_are : places_then ≡ places ++ record { memory = load.memory; address = flat_place done load.address; byte = place } ∷ []
+pub record IsEntered (now : List Term) (done : List (Option ℕ)) (ids : List LoadIds) (id : ℕ) (load : LoadNode) (done_then : List (Option ℕ)) (ids_then : List LoadIds) : Type 0 where
+  pub new_id : ℕ
+  pub tree_is : IsTreeAt now new_id (open_term (byte_variable (length ids)))
+  pub done_is : done_then ≡ slice_set done id (Some new_id)
+  pub ids_are : ids_then ≡ ids ++ record { memory = load.memory; address = flat_id done load.address; byte = new_id } ∷ []
 
 -- the term at `id` is built over the flat terms of its arguments
 pub record IsReplaced (old now : List Term) (done : List (Option ℕ)) (id : ℕ) (node : TermNode) (done_then : List (Option ℕ)) : Type 0 where
-  pub place : ℕ
-  pub stands : IsTreeAt now place (build old (replaced done node))
-  pub done_is : done_then ≡ slice_set done id (Some place)
+  pub new_id : ℕ
+  pub tree_is : IsTreeAt now new_id (build old (replaced done node))
+  pub done_is : done_then ≡ slice_set done id (Some new_id)

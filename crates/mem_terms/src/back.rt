@@ -1,6 +1,7 @@
 // From assignments of a flat term to those of its term.
 
-ghost use Rattle.std.specs.Prelude.{◌≡◌, ◌<◌, ◌&&◌, length, map, false, if◌then◌else◌, Some, IfOk, OnOk};
+ghost use Rattle.std.specs.Prelude.{◌≡◌, ◌<◌, ◌&&◌, length, map, false, if◌then◌else◌, Some, IfOk};
+ghost use Rattle.std.specs.Prelude.{OnOk};
 ghost use Rattle.term_spec.specs.declared.Sort.TheVariants as sort;
 ghost use Rattle.term_spec.specs.declared.Variable.{Variable};
 ghost use Rattle.term_spec.specs.Term.{Term};
@@ -12,11 +13,11 @@ ghost use Rattle.term_core.specs.Values.{value_of};
 ghost use Rattle.term_core.specs.Memory.{bytes_of};
 ghost use Rattle.term_core.specs.Assignment.{assignment_of};
 ghost use Rattle.term_bank.specs.Nodes.{tree_at, value_at};
-ghost use Rattle.flat_spec.specs.Back.{LoadsFromVariables, number_of, rebuilt};
-ghost use Rattle.mem_terms.specs.Places.{load_at, AreWithin, IsFlatOf};
+ghost use Rattle.flat_spec.specs.Assignments.{LoadsFromVariables, number_of, rebuilt};
+ghost use Rattle.mem_terms.specs.Ids.{load_at, AreWithin, IsFlatOf};
 ghost use Rattle.mem_terms.specs.Back.{first_among, memory_among};
 
-use crate::places::{Flat, LoadPlaces};
+use crate::ids::{Flat, LoadIds};
 use crate::ties::{loads_from, memories};
 use std::alloc::{AllocError, Global};
 use term_bank::Bank;
@@ -34,7 +35,7 @@ fn number_of(value: &Value) -> u64
 }
 
 /// The address of a load.
-fn address_of(values: &[Value], load: LoadPlaces) -> u32
+fn address_of(values: &[Value], load: LoadIds) -> u32
     requires { load.address < length values.now }
     ensures { result ≡ low_bits 32 (number_of (value_at (map value_of values.now) load.address)) }
 {
@@ -43,7 +44,7 @@ fn address_of(values: &[Value], load: LoadPlaces) -> u32
 }
 
 /// The byte of a load.
-fn byte_of(values: &[Value], load: LoadPlaces) -> u8
+fn byte_of(values: &[Value], load: LoadIds) -> u8
     requires { load.byte < length values.now }
     ensures { result ≡ low_bits 8 (number_of (value_at (map value_of values.now) load.byte)) }
 {
@@ -52,9 +53,10 @@ fn byte_of(values: &[Value], load: LoadPlaces) -> u8
 }
 
 /// The memory that gives some loads their bytes, the first at an address its own.
-fn memory_back(alloc: Global, loads: &[LoadPlaces], values: &[Value]) -> Result<Memory, AllocError>
+fn memory_back(alloc: Global, loads: &[LoadIds], values: &[Value]) -> Result<Memory, AllocError>
     requires { AreWithin (length values.now) loads.now }
-    ensures { IfOk result (λ m. bytes_of m ≡ (λ address. first_among (map value_of values.now) address loads.now)) }
+    ensures { IfOk result (λ m. bytes_of m
+        ≡ (λ address. first_among (map value_of values.now) address loads.now)) }
 {
     let mut memory = Memory::new(alloc);
     for i in (0..loads.len()).rev() {
@@ -69,11 +71,14 @@ fn restore(
     alloc: Global,
     assignment: &mut Assignment,
     memory: Variable,
-    loads: &[LoadPlaces],
+    loads: &[LoadIds],
     values: &[Value],
 ) -> Result<(), AllocError>
     requires { AreWithin (length values.now) loads.now }
-    ensures { OnOk result ((v : Variable) → assignment_of assignment.new v ≡ (if is_memory v.sort && same_variable v memory then memory_among (map value_of values.now) loads.now v else assignment_of assignment.old v)) }
+    ensures { OnOk result ((v : Variable)
+        → assignment_of assignment.new v
+        ≡ (if is_memory v.sort && same_variable v memory then memory_among
+        (map value_of values.now) loads.now v else assignment_of assignment.old v)) }
 {
     match memory.sort {
         Sort::Memory => {
@@ -85,8 +90,8 @@ fn restore(
     }
 }
 
-/// From an assignment of a flat term to one of its term: each memory that is loaded from gives its loads their bytes,
-/// and 0 elsewhere; all else is kept. Takes the value of each term in the bank.
+/// From an assignment of a flat term to one of its term: each memory that is loaded from gives its
+/// loads their bytes, and 0 elsewhere; all else is kept. Takes the value of each term in the bank.
 pub fn rebuild(
     alloc: Global,
     flat: &Flat,
@@ -94,9 +99,12 @@ pub fn rebuild(
     assignment: Assignment,
 ) -> Result<Assignment, AllocError>
     requires { AreWithin (length bank.now) flat.now.loads.items }
-    ensures rebuilt { IfOk result (λ back. assignment_of back ≡ rebuilt (map (load_at bank.now) flat.now.loads.items) (assignment_of assignment)) }
-    ensures falsifies { IfOk result (λ back. (t : Term) → IsFlatOf bank.now flat.now t → sort_of t ≡ Some sort.Truth → LoadsFromVariables t
-        → value (assignment_of assignment) (tree_at bank.now flat.now.term) ≡ spec.Truth false → value (assignment_of back) t ≡ spec.Truth false) }
+    ensures rebuilt { IfOk result (λ back. assignment_of back
+        ≡ rebuilt (map (load_at bank.now) flat.now.loads.items) (assignment_of assignment)) }
+    ensures falsifies { IfOk result (λ back. (t : Term) → IsFlatOf bank.now flat.now t
+        → sort_of t ≡ Some sort.Truth → LoadsFromVariables t
+        → value (assignment_of assignment) (tree_at bank.now flat.now.term) ≡ spec.Truth false
+        → value (assignment_of back) t ≡ spec.Truth false) }
 {
     assignment.is_assignment();
     let values = bank.eval_all(alloc, &assignment)?;

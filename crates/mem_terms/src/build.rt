@@ -4,13 +4,13 @@ ghost use Rattle.std.specs.Prelude.{◌<◌, ◌≡◌, length, true, IfOk};
 ghost use Rattle.term_spec.specs.Term.{truth, open_term, not_term, and_term, or_term, equal};
 ghost use Rattle.term_bank.specs.Nodes.{tree_at, Extends, AreDistinct};
 ghost use Rattle.flat_spec.specs.Flat.{byte_variable};
-ghost use Rattle.mem_terms.specs.Places.{IsTreeAt};
+ghost use Rattle.mem_terms.specs.Ids.{IsTreeAt};
 
 use std::alloc::AllocError;
 use term_bank::{Bank, TermId, TermNode};
 use term_spec::{Atom, BinaryOperator, Family, Sort, UnaryOperator, Variable, Width};
 
-/// The truth value that holds. After it equal trees have one place.
+/// The truth value that holds. After it equal trees have one index.
 pub fn truth(bank: &mut Bank) -> Result<TermId, AllocError>
     ensures tree { IfOk result (λ i. IsTreeAt bank.new i (truth true)) }
     ensures extends { Extends bank.old bank.new }
@@ -19,24 +19,24 @@ pub fn truth(bank: &mut Bank) -> Result<TermId, AllocError>
     bank.add(TermNode::Leaf(Atom::Truth(true)))
 }
 
-/// The variable that stands for the byte of the load at a place.
-fn byte_variable(place: usize) -> Variable
-    ensures { result ≡ byte_variable place }
+/// The variable of the byte of the load at an index.
+fn byte_variable(index: usize) -> Variable
+    ensures { result ≡ byte_variable index }
 {
     Variable {
         family: Family::LoadedByte,
-        index: place,
+        index: index,
         instance: 0,
         sort: Sort::Word(Width::W8),
     }
 }
 
-/// The byte of the load at a place.
-pub fn byte(bank: &mut Bank, place: usize) -> Result<TermId, AllocError>
-    ensures tree { IfOk result (λ i. IsTreeAt bank.new i (open_term (byte_variable place))) }
+/// The byte of the load at an index.
+pub fn byte(bank: &mut Bank, index: usize) -> Result<TermId, AllocError>
+    ensures tree { IfOk result (λ i. IsTreeAt bank.new i (open_term (byte_variable index))) }
     ensures extends { Extends bank.old bank.new }
 {
-    bank.add(TermNode::Leaf(Atom::Open(byte_variable(place))))
+    bank.add(TermNode::Leaf(Atom::Open(byte_variable(index))))
 }
 
 /// The other truth value.
@@ -52,7 +52,8 @@ pub fn not(bank: &mut Bank, x: TermId) -> Result<TermId, AllocError>
 pub fn equal(bank: &mut Bank, x: TermId, y: TermId) -> Result<TermId, AllocError>
     requires x_within { x < length bank.old }
     requires y_within { y < length bank.old }
-    ensures tree { IfOk result (λ i. IsTreeAt bank.new i (equal (tree_at bank.old x) (tree_at bank.old y))) }
+    ensures tree { IfOk result (λ i. IsTreeAt bank.new i
+        (equal (tree_at bank.old x) (tree_at bank.old y))) }
     ensures extends { Extends bank.old bank.new }
 {
     bank.add(TermNode::Binary(BinaryOperator::Equal, x, y))
@@ -62,7 +63,8 @@ pub fn equal(bank: &mut Bank, x: TermId, y: TermId) -> Result<TermId, AllocError
 pub fn and(bank: &mut Bank, x: TermId, y: TermId) -> Result<TermId, AllocError>
     requires x_within { x < length bank.old }
     requires y_within { y < length bank.old }
-    ensures tree { IfOk result (λ i. IsTreeAt bank.new i (and_term (tree_at bank.old x) (tree_at bank.old y))) }
+    ensures tree { IfOk result (λ i. IsTreeAt bank.new i
+        (and_term (tree_at bank.old x) (tree_at bank.old y))) }
     ensures extends { Extends bank.old bank.new }
 {
     bank.add(TermNode::Binary(BinaryOperator::And, x, y))
@@ -72,7 +74,8 @@ pub fn and(bank: &mut Bank, x: TermId, y: TermId) -> Result<TermId, AllocError>
 pub fn or(bank: &mut Bank, x: TermId, y: TermId) -> Result<TermId, AllocError>
     requires x_within { x < length bank.old }
     requires y_within { y < length bank.old }
-    ensures tree { IfOk result (λ i. IsTreeAt bank.new i (or_term (tree_at bank.old x) (tree_at bank.old y))) }
+    ensures tree { IfOk result (λ i. IsTreeAt bank.new i
+        (or_term (tree_at bank.old x) (tree_at bank.old y))) }
     ensures extends { Extends bank.old bank.new }
 {
     bank.add(TermNode::Binary(BinaryOperator::Or, x, y))
@@ -82,7 +85,8 @@ pub fn or(bank: &mut Bank, x: TermId, y: TermId) -> Result<TermId, AllocError>
 pub fn implied(bank: &mut Bank, x: TermId, y: TermId) -> Result<TermId, AllocError>
     requires x_within { x < length bank.old }
     requires y_within { y < length bank.old }
-    ensures tree { IfOk result (λ i. IsTreeAt bank.new i (or_term (not_term (tree_at bank.old x)) (tree_at bank.old y))) }
+    ensures tree { IfOk result (λ i. IsTreeAt bank.new i
+        (or_term (not_term (tree_at bank.old x)) (tree_at bank.old y))) }
     ensures extends { Extends bank.old bank.new }
 {
     let other = not(bank, x)?;

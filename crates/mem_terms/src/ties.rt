@@ -1,23 +1,26 @@
 // What says that loads of one memory at equal addresses are equal.
 
-ghost use Rattle.std.specs.Prelude.{◌<◌, ◌≡◌, ◌∷◌, ◌++◌, [], List, length, map, filter, true, if◌then◌else◌, IfOk, OnOk, OnErr};
+ghost use Rattle.std.specs.Prelude.{◌<◌, ◌≡◌, ◌∷◌, ◌++◌, [], List, length, map, filter, true};
+ghost use Rattle.std.specs.Prelude.{if◌then◌else◌, IfOk, OnOk, OnErr};
 ghost use Rattle.term_spec.specs.Term.{Term, truth, and_term};
 ghost use Rattle.term_spec.specs.Same.{same_variable};
 ghost use Rattle.term_bank.specs.Nodes.{tree_at, Extends};
-ghost use Rattle.flat_spec.specs.Flat.{agree, pairs, is_among, memories_of, is_from, pairs_of, all_of, consistent};
-ghost use Rattle.mem_terms.specs.Places.{load_at, is_load_from, IsWithin, AreWithin, IsTreeAt};
+ghost use Rattle.flat_spec.specs.Flat.{agree, pairs, is_among, memories_of, is_from, pairs_of};
+ghost use Rattle.flat_spec.specs.Flat.{all_of, consistent};
+ghost use Rattle.mem_terms.specs.Ids.{load_at, is_load_from, IsWithin, AreWithin, IsTreeAt};
 
 use crate::build::{and, equal, implied, truth};
-use crate::places::LoadPlaces;
+use crate::ids::LoadIds;
 use std::alloc::{AllocError, Global};
 use term_bank::{Bank, TermId};
 use term_spec::Variable;
 
 /// Where the addresses are equal, so are the bytes.
-fn agree(bank: &mut Bank, x: LoadPlaces, y: LoadPlaces) -> Result<TermId, AllocError>
+fn agree(bank: &mut Bank, x: LoadIds, y: LoadIds) -> Result<TermId, AllocError>
     requires x_within { IsWithin (length bank.old) x }
     requires y_within { IsWithin (length bank.old) y }
-    ensures tree { IfOk result (λ i. IsTreeAt bank.new i (agree (load_at bank.old x) (load_at bank.old y))) }
+    ensures tree { IfOk result (λ i. IsTreeAt bank.new i
+        (agree (load_at bank.old x) (load_at bank.old y))) }
     ensures extends { Extends bank.old bank.new }
 {
     let same_address = equal(bank, x.address, y.address)?;
@@ -29,13 +32,14 @@ fn agree(bank: &mut Bank, x: LoadPlaces, y: LoadPlaces) -> Result<TermId, AllocE
 fn with_agreement(
     bank: &mut Bank,
     so_far: TermId,
-    x: LoadPlaces,
-    y: LoadPlaces,
+    x: LoadIds,
+    y: LoadIds,
 ) -> Result<TermId, AllocError>
     requires so_far_within { so_far < length bank.old }
     requires x_within { IsWithin (length bank.old) x }
     requires y_within { IsWithin (length bank.old) y }
-    ensures tree { IfOk result (λ i. IsTreeAt bank.new i (and_term (tree_at bank.old so_far) (agree (load_at bank.old x) (load_at bank.old y)))) }
+    ensures tree { IfOk result (λ i. IsTreeAt bank.new i
+        (and_term (tree_at bank.old so_far) (agree (load_at bank.old x) (load_at bank.old y)))) }
     ensures extends { Extends bank.old bank.new }
 {
     let agreement = agree(bank, x, y)?;
@@ -46,13 +50,15 @@ fn with_agreement(
 fn with_later(
     bank: &mut Bank,
     so_far: TermId,
-    load: LoadPlaces,
-    later: &[LoadPlaces],
+    load: LoadIds,
+    later: &[LoadIds],
 ) -> Result<TermId, AllocError>
     requires so_far_within { so_far < length bank.old }
     requires load_within { IsWithin (length bank.old) load }
     requires later_within { AreWithin (length bank.old) later.now }
-    ensures tree { IfOk result (λ i. IsTreeAt bank.new i (all_of (tree_at bank.old so_far) (map (agree (load_at bank.old load)) (map (load_at bank.old) later.now)))) }
+    ensures tree { IfOk result (λ i. IsTreeAt bank.new i
+        (all_of (tree_at bank.old so_far)
+        (map (agree (load_at bank.old load)) (map (load_at bank.old) later.now)))) }
     ensures extends { Extends bank.old bank.new }
 {
     let mut all = so_far;
@@ -63,10 +69,11 @@ fn with_later(
 }
 
 /// A term, and that each two of some loads agree, each with the later ones in their order.
-fn with_pairs(bank: &mut Bank, so_far: TermId, loads: &[LoadPlaces]) -> Result<TermId, AllocError>
+fn with_pairs(bank: &mut Bank, so_far: TermId, loads: &[LoadIds]) -> Result<TermId, AllocError>
     requires so_far_within { so_far < length bank.old }
     requires loads_within { AreWithin (length bank.old) loads.now }
-    ensures tree { IfOk result (λ i. IsTreeAt bank.new i (all_of (tree_at bank.old so_far) (pairs (map (load_at bank.old) loads.now)))) }
+    ensures tree { IfOk result (λ i. IsTreeAt bank.new i
+        (all_of (tree_at bank.old so_far) (pairs (map (load_at bank.old) loads.now)))) }
     ensures extends { Extends bank.old bank.new }
 {
     let mut all = so_far;
@@ -90,7 +97,9 @@ fn is_among(memories: &[Variable], memory: Variable) -> bool
 
 /// Adds a variable to some, where it is not among them.
 fn note(memories: &mut Vec<Variable>, memory: Variable) -> Result<(), AllocError>
-    ensures { OnOk result (memories.new.items ≡ (if is_among memory memories.old.items then memories.old.items else memories.old.items ++ memory ∷ [])) }
+    ensures { OnOk result (memories.new.items
+        ≡ (if is_among memory memories.old.items then memories.old.items else memories.old.items ++
+        memory ∷ [])) }
 {
     if !is_among(memories, memory) {
         memories.push(memory)?;
@@ -99,8 +108,9 @@ fn note(memories: &mut Vec<Variable>, memory: Variable) -> Result<(), AllocError
 }
 
 /// The memories of loads, in the order of their first loads.
-pub fn memories(alloc: Global, loads: &[LoadPlaces]) -> Result<Vec<Variable>, AllocError>
-    ensures { (trees : List Term) → IfOk result (λ memories. memories.items ≡ memories_of (map (load_at trees) loads.now)) }
+pub fn memories(alloc: Global, loads: &[LoadIds]) -> Result<Vec<Variable>, AllocError>
+    ensures { (trees : List Term) → IfOk result (λ memories. memories.items
+        ≡ memories_of (map (load_at trees) loads.now)) }
 {
     let mut memories = Vec::new(alloc);
     for load in loads {
@@ -113,8 +123,8 @@ pub fn memories(alloc: Global, loads: &[LoadPlaces]) -> Result<Vec<Variable>, Al
 pub fn loads_from(
     alloc: Global,
     memory: Variable,
-    loads: &[LoadPlaces],
-) -> Result<Vec<LoadPlaces>, AllocError>
+    loads: &[LoadIds],
+) -> Result<Vec<LoadIds>, AllocError>
     ensures { IfOk result (λ own. own.items ≡ filter (is_load_from memory) loads.now) }
 {
     loads
@@ -125,13 +135,10 @@ pub fn loads_from(
 }
 
 /// The loads of each memory agree, in the order of its first load.
-pub fn consistent(
-    alloc: Global,
-    bank: &mut Bank,
-    loads: &[LoadPlaces],
-) -> Result<TermId, AllocError>
+pub fn consistent(alloc: Global, bank: &mut Bank, loads: &[LoadIds]) -> Result<TermId, AllocError>
     requires { AreWithin (length bank.old) loads.now }
-    ensures tree { IfOk result (λ i. IsTreeAt bank.new i (consistent (map (load_at bank.old) loads.now))) }
+    ensures tree { IfOk result (λ i. IsTreeAt bank.new i
+        (consistent (map (load_at bank.old) loads.now))) }
     ensures extends { Extends bank.old bank.new }
 {
     let mut all = truth(bank)?;

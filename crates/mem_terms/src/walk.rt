@@ -1,14 +1,16 @@
 // The walk over a term that gives each term below it its flat term, and each load its byte.
 
-ghost use Rattle.std.specs.Prelude.{◌≡◌, ◌<◌, ℕ, List, [], ◌∷◌, ◌++◌, length, replicate, get_or, is_some, None, IfOk, OnOk};
+ghost use Rattle.std.specs.Prelude.{◌≡◌, ◌<◌, ℕ, List, [], ◌∷◌, ◌++◌, length, replicate, get_or};
+ghost use Rattle.std.specs.Prelude.{is_some, None, IfOk, OnOk};
 ghost use Rattle.term_spec.specs.Term.{Term, open_term};
 ghost use Rattle.term_bank.specs.Nodes.{IsNode, tree_at, Extends, AreDistinct};
 ghost use Rattle.flat_spec.specs.Flat.{byte_variable};
-ghost use Rattle.mem_terms.specs.Places.{IsTreeAt};
-ghost use Rattle.mem_terms.specs.Walk.{variable_of, load_in, flat_place, replaced, visits, total_weight, IsEntered, IsReplaced, IsWalk, IsSomeWalk};
+ghost use Rattle.mem_terms.specs.Ids.{IsTreeAt};
+ghost use Rattle.mem_terms.specs.Walk.{variable_of, load_in, flat_id, replaced, visits};
+ghost use Rattle.mem_terms.specs.Walk.{total_weight, IsEntered, IsReplaced, IsWalk, IsSomeWalk};
 
 use crate::build::byte;
-use crate::places::LoadPlaces;
+use crate::ids::LoadIds;
 use std::alloc::{AllocError, Global};
 use term_bank::{Bank, TermId, TermNode};
 use term_spec::{Atom, BinaryOperator, Variable};
@@ -27,17 +29,17 @@ pub enum Task {
 pub struct LoadNode {
     /// the memory
     pub memory: Variable,
-    /// the place of the address
+    /// the index of the address
     pub address: TermId,
 }
 
 /// The walk so far.
 #[derive(Debug, Drop)]
 pub struct Walk {
-    /// the place of each term's flat term, where it has one already
+    /// the index of each term's flat term, where it has one already
     done: Vec<Option<TermId>>,
     /// the loads that have their bytes
-    loads: Vec<LoadPlaces>,
+    loads: Vec<LoadIds>,
     /// what is left to do, the next last
     tasks: Vec<Task>,
 }
@@ -67,10 +69,10 @@ fn load_in(bank: &Bank, node: TermNode) -> Option<LoadNode>
     }
 }
 
-/// The place of a term's flat term.
-fn flat_place(done: &[Option<TermId>], id: TermId) -> TermId
+/// The index of a term's flat term.
+fn flat_id(done: &[Option<TermId>], id: TermId) -> TermId
     requires { id < length done.now }
-    ensures { result ≡ flat_place done.now id }
+    ensures { result ≡ flat_id done.now id }
 {
     done[id].unwrap_or(0)
 }
@@ -82,23 +84,23 @@ fn replaced(done: &[Option<TermId>], node: TermNode) -> TermNode
 {
     match node {
         TermNode::Leaf(atom) => TermNode::Leaf(atom),
-        TermNode::Unary(operator, a) => TermNode::Unary(operator, flat_place(done, a)),
+        TermNode::Unary(operator, a) => TermNode::Unary(operator, flat_id(done, a)),
         TermNode::Binary(operator, a, b) => {
-            TermNode::Binary(operator, flat_place(done, a), flat_place(done, b))
+            TermNode::Binary(operator, flat_id(done, a), flat_id(done, b))
         }
         TermNode::Ternary(operator, a, b, c) => {
-            let (a, b) = (flat_place(done, a), flat_place(done, b));
-            TermNode::Ternary(operator, a, b, flat_place(done, c))
+            let (a, b) = (flat_id(done, a), flat_id(done, b));
+            TermNode::Ternary(operator, a, b, flat_id(done, c))
         }
         TermNode::Quaternary(operator, a, b, c, d) => {
-            let (a, b) = (flat_place(done, a), flat_place(done, b));
-            TermNode::Quaternary(operator, a, b, flat_place(done, c), flat_place(done, d))
+            let (a, b) = (flat_id(done, a), flat_id(done, b));
+            TermNode::Quaternary(operator, a, b, flat_id(done, c), flat_id(done, d))
         }
         TermNode::Octonary(a, b, c, d, e, f, g, h) => {
-            let (a, b) = (flat_place(done, a), flat_place(done, b));
-            let (c, d) = (flat_place(done, c), flat_place(done, d));
-            let (e, f) = (flat_place(done, e), flat_place(done, f));
-            TermNode::Octonary(a, b, c, d, e, f, flat_place(done, g), flat_place(done, h))
+            let (a, b) = (flat_id(done, a), flat_id(done, b));
+            let (c, d) = (flat_id(done, c), flat_id(done, d));
+            let (e, f) = (flat_id(done, e), flat_id(done, f));
+            TermNode::Octonary(a, b, c, d, e, f, flat_id(done, g), flat_id(done, h))
         }
     }
 }
@@ -120,7 +122,8 @@ fn push_four(
     c: TermId,
     d: TermId,
 ) -> Result<(), AllocError>
-    ensures { OnOk result (tasks.new.items ≡ tasks.old.items ++ Task.Visit d ∷ Task.Visit c ∷ Task.Visit b ∷ Task.Visit a ∷ []) }
+    ensures { OnOk result (tasks.new.items ≡ tasks.old.items ++ Task.Visit d ∷ Task.Visit c
+        ∷ Task.Visit b ∷ Task.Visit a ∷ []) }
 {
     push_two(tasks, c, d)?;
     push_two(tasks, a, b)
@@ -164,7 +167,8 @@ impl Walk {
     /// Nothing is done but to visit the goal.
     pub fn new(alloc: Global, bank: &Bank, goal: TermId) -> Result<Walk, AllocError>
         requires { goal < length bank.now }
-        ensures { AreDistinct bank.now → IfOk result (λ w. IsWalk bank.now bank.now goal w.done.items w.loads.items w.tasks.items) }
+        ensures { AreDistinct bank.now → IfOk result
+            (λ w. IsWalk bank.now bank.now goal w.done.items w.loads.items w.tasks.items) }
     {
         let _count = bank.len();
         let done = nothing_done(alloc, goal + 1)?;
@@ -176,16 +180,16 @@ impl Walk {
         })
     }
 
-    /// The place of a term's flat term.
-    pub fn place(&self, id: TermId) -> TermId
+    /// The index of a term's flat term.
+    pub fn flat_id(&self, id: TermId) -> TermId
         requires { id < length self.now.done.items }
-        ensures { result ≡ flat_place self.now.done.items id }
+        ensures { result ≡ flat_id self.now.done.items id }
     {
-        flat_place(&self.done, id)
+        flat_id(&self.done, id)
     }
 
     /// The loads that have their bytes.
-    pub fn into_loads(self) -> Vec<LoadPlaces>
+    pub fn into_loads(self) -> Vec<LoadIds>
         ensures { result.items ≡ self.loads.items }
     {
         let Walk { loads, .. } = self;
@@ -202,9 +206,15 @@ impl Walk {
 
     // First the arguments of a term, unless it is done.
     fn visit(&mut self, bank: &Bank, id: TermId) -> Result<(), AllocError>
-        requires { IsSomeWalk bank.now self.old.done.items self.old.loads.items (self.old.tasks.items ++ Task.Visit id ∷ []) }
-        ensures walked { (base : List Term) (goal : ℕ) → IsWalk base bank.now goal self.old.done.items self.old.loads.items (self.old.tasks.items ++ Task.Visit id ∷ []) → OnOk result (IsWalk base bank.now goal self.new.done.items self.new.loads.items self.new.tasks.items) }
-        ensures lighter { OnOk result (total_weight self.new.tasks.items < total_weight (self.old.tasks.items ++ Task.Visit id ∷ [])) }
+        requires { IsSomeWalk bank.now self.old.done.items self.old.loads.items
+            (self.old.tasks.items ++ Task.Visit id ∷ []) }
+        ensures walked { (base : List Term) (goal : ℕ)
+            → IsWalk base bank.now goal self.old.done.items self.old.loads.items
+            (self.old.tasks.items ++ Task.Visit id ∷ [])
+            → OnOk result (IsWalk base bank.now goal self.new.done.items self.new.loads.items
+            self.new.tasks.items) }
+        ensures lighter { OnOk result (total_weight self.new.tasks.items
+            < total_weight (self.old.tasks.items ++ Task.Visit id ∷ [])) }
     {
         if !self.is_done(id) {
             let node = bank.node(id);
@@ -217,15 +227,21 @@ impl Walk {
     // Gives a load its byte.
     fn enter(&mut self, bank: &mut Bank, load: LoadNode) -> Result<TermId, AllocError>
         requires { load.address < length self.old.done.items }
-        ensures tree { IfOk result (λ i. IsTreeAt bank.new i (open_term (byte_variable (length self.old.loads.items)))) }
-        ensures loads { IfOk result (λ i. self.new.loads.items ≡ self.old.loads.items ++ record { memory = load.memory; address = flat_place self.old.done.items load.address; byte = i } ∷ []) }
+        ensures tree { IfOk result (λ i. IsTreeAt bank.new i
+            (open_term (byte_variable (length self.old.loads.items)))) }
+        ensures loads { IfOk result (λ i. self.new.loads.items
+            ≡ self.old.loads.items ++ record {
+              memory = load.memory;
+              address = flat_id self.old.done.items load.address;
+              byte = i;
+            } ∷ []) }
         ensures done { self.new.done.items ≡ self.old.done.items }
         ensures tasks { self.new.tasks.items ≡ self.old.tasks.items }
         ensures extends { Extends bank.old bank.new }
     {
         let byte = byte(bank, self.loads.len())?;
-        let address = flat_place(&self.done, load.address);
-        self.loads.push(LoadPlaces {
+        let address = flat_id(&self.done, load.address);
+        self.loads.push(LoadIds {
             memory: load.memory,
             address,
             byte,
@@ -237,12 +253,13 @@ impl Walk {
     fn finish_load(&mut self, bank: &mut Bank, id: TermId, load: LoadNode) -> Result<(), AllocError>
         requires id_within { id < length self.old.done.items }
         requires address_within { load.address < length self.old.done.items }
-        ensures done { OnOk result (IsEntered bank.new self.old.done.items self.old.loads.items id load self.new.done.items self.new.loads.items) }
+        ensures done { OnOk result (IsEntered bank.new self.old.done.items self.old.loads.items id
+            load self.new.done.items self.new.loads.items) }
         ensures tasks { self.new.tasks.items ≡ self.old.tasks.items }
         ensures extends { Extends bank.old bank.new }
     {
-        let place = self.enter(bank, load)?;
-        self.done[id] = Some(place);
+        let new_id = self.enter(bank, load)?;
+        self.done[id] = Some(new_id);
         Ok(())
     }
 
@@ -251,21 +268,28 @@ impl Walk {
         requires id_within { id < length self.old.done.items }
         requires node_within { IsNode (length self.old.done.items) node }
         requires replaced_within { IsNode (length bank.old) (replaced self.old.done.items node) }
-        ensures done { OnOk result (IsReplaced bank.old bank.new self.old.done.items id node self.new.done.items) }
+        ensures done { OnOk result (IsReplaced bank.old bank.new self.old.done.items id node
+            self.new.done.items) }
         ensures loads { self.new.loads.items ≡ self.old.loads.items }
         ensures tasks { self.new.tasks.items ≡ self.old.tasks.items }
         ensures extends { Extends bank.old bank.new }
     {
-        let place = bank.add(replaced(&self.done, node))?;
-        self.done[id] = Some(place);
+        let new_id = bank.add(replaced(&self.done, node))?;
+        self.done[id] = Some(new_id);
         Ok(())
     }
 
     // Gives a term its flat term, unless it has it.
     fn finish(&mut self, bank: &mut Bank, id: TermId, node: TermNode) -> Result<(), AllocError>
-        requires { IsSomeWalk bank.old self.old.done.items self.old.loads.items (self.old.tasks.items ++ Task.Finish id node ∷ []) }
-        ensures walked { (base : List Term) (goal : ℕ) → IsWalk base bank.old goal self.old.done.items self.old.loads.items (self.old.tasks.items ++ Task.Finish id node ∷ []) → OnOk result (IsWalk base bank.new goal self.new.done.items self.new.loads.items self.new.tasks.items) }
-        ensures lighter { OnOk result (total_weight self.new.tasks.items < total_weight (self.old.tasks.items ++ Task.Finish id node ∷ [])) }
+        requires { IsSomeWalk bank.old self.old.done.items self.old.loads.items
+            (self.old.tasks.items ++ Task.Finish id node ∷ []) }
+        ensures walked { (base : List Term) (goal : ℕ)
+            → IsWalk base bank.old goal self.old.done.items self.old.loads.items
+            (self.old.tasks.items ++ Task.Finish id node ∷ [])
+            → OnOk result (IsWalk base bank.new goal self.new.done.items self.new.loads.items
+            self.new.tasks.items) }
+        ensures lighter { OnOk result (total_weight self.new.tasks.items
+            < total_weight (self.old.tasks.items ++ Task.Finish id node ∷ [])) }
         ensures extends { Extends bank.old bank.new }
     {
         if self.is_done(id) {
@@ -279,9 +303,15 @@ impl Walk {
 
     // Does one task.
     fn turn(&mut self, bank: &mut Bank, task: Task) -> Result<(), AllocError>
-        requires { IsSomeWalk bank.old self.old.done.items self.old.loads.items (self.old.tasks.items ++ task ∷ []) }
-        ensures walked { (base : List Term) (goal : ℕ) → IsWalk base bank.old goal self.old.done.items self.old.loads.items (self.old.tasks.items ++ task ∷ []) → OnOk result (IsWalk base bank.new goal self.new.done.items self.new.loads.items self.new.tasks.items) }
-        ensures lighter { OnOk result (total_weight self.new.tasks.items < total_weight (self.old.tasks.items ++ task ∷ [])) }
+        requires { IsSomeWalk bank.old self.old.done.items self.old.loads.items
+            (self.old.tasks.items ++ task ∷ []) }
+        ensures walked { (base : List Term) (goal : ℕ)
+            → IsWalk base bank.old goal self.old.done.items self.old.loads.items
+            (self.old.tasks.items ++ task ∷ [])
+            → OnOk result (IsWalk base bank.new goal self.new.done.items self.new.loads.items
+            self.new.tasks.items) }
+        ensures lighter { OnOk result (total_weight self.new.tasks.items
+            < total_weight (self.old.tasks.items ++ task ∷ [])) }
         ensures extends { Extends bank.old bank.new }
     {
         match task {
@@ -292,8 +322,12 @@ impl Walk {
 
     /// Does all tasks.
     pub fn run(&mut self, bank: &mut Bank) -> Result<(), AllocError>
-        requires { IsSomeWalk bank.old self.old.done.items self.old.loads.items self.old.tasks.items }
-        ensures walked { (base : List Term) (goal : ℕ) → IsWalk base bank.old goal self.old.done.items self.old.loads.items self.old.tasks.items → OnOk result (IsWalk base bank.new goal self.new.done.items self.new.loads.items []) }
+        requires { IsSomeWalk bank.old self.old.done.items self.old.loads.items
+            self.old.tasks.items }
+        ensures walked { (base : List Term) (goal : ℕ)
+            → IsWalk base bank.old goal self.old.done.items self.old.loads.items
+            self.old.tasks.items → OnOk result
+            (IsWalk base bank.new goal self.new.done.items self.new.loads.items []) }
         ensures extends { Extends bank.old bank.new }
     {
         while let Some(task) = self.tasks.pop() {

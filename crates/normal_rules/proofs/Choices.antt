@@ -2,7 +2,7 @@
 use Rattle.std.proofs.Common.{◌≡◌, Some, None, refl, sym, ◌∙◌, subst}
 use Rattle.term_spec.specs.declared.UnaryOperator.TheVariants as unary
 use Rattle.term_spec.specs.Term.{Term, Unary, not_term, choose}
-use Rattle.normal_spec.specs.Seen.{under_not}
+use Rattle.normal_spec.specs.Patterns.{under_not}
 use Rattle.normal_spec.specs.Normal.{arm_or, normal_choose}
 use Rattle.normal_rules.proofs.Sameness.{under_not-is}
 

@@ -1,4 +1,4 @@
--- Two terms of a bank are the same exactly where their places are.
+-- Two terms of a bank are the same exactly where their indices are.
 use Rattle.std.proofs.Common.{◌≡◌, ℕ, ◌<◌, Bool, true, false, List, length, Some, None, refl, sym, ap, ◌∙◌, subst, eqb-true}
 use Rattle.std.specs.Prelude.{◌==◌}
 use Rattle.std.proofs.lemmas.Bool.{eq-eqb, false_from_ne_true}
@@ -9,7 +9,7 @@ use Rattle.term_spec.specs.Same.{same_term}
 use Rattle.term_spec.proofs.Same.{same_is, same_itself}
 use Rattle.term_bank.specs.Nodes.{tree_at, AreDistinct}
 use Rattle.term_bank.proofs.Growth.{held}
-use Rattle.normal_spec.specs.Seen.{under_not, under_complement}
+use Rattle.normal_spec.specs.Patterns.{under_not, under_complement}
 
 pub same_bools : (a b : Bool) → (a ≡ true → b ≡ true) → (b ≡ true → a ≡ true) → a ≡ b
 same_bools true true f g = refl
@@ -17,8 +17,8 @@ same_bools true false f g = sym (f refl)
 same_bools false true f g = g refl
 same_bools false false f g = refl
 
-pub same_places : (trees : List Term) (x y : ℕ) → AreDistinct trees → x < length trees → y < length trees → (x == y) ≡ same_term (tree_at trees x) (tree_at trees y)
-same_places trees x y distinct hx hy =
+pub same_ids : (trees : List Term) (x y : ℕ) → AreDistinct trees → x < length trees → y < length trees → (x == y) ≡ same_term (tree_at trees x) (tree_at trees y)
+same_ids trees x y distinct hx hy =
     same_bools (x == y) (same_term (tree_at trees x) (tree_at trees y))
     (λ e. subst (λ z. same_term (tree_at trees x) (tree_at trees z) ≡ true) (eqb-true x y e) (same_itself (tree_at trees x)))
     (λ e. eq-eqb x y (distinct x y (tree_at trees y) (held trees x hx ∙ ap Some (same_is (tree_at trees x) (tree_at trees y) e)) (held trees y hy)))

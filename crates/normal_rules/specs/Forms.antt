@@ -3,7 +3,7 @@ use Rattle.std.specs.Prelude.{ℕ, ◌<◌, Bool, if◌then◌else◌, List, [],
 use Rattle.term_spec.specs.declared.Width.{Width}
 use Rattle.term_spec.specs.Term.{Term, add, constant}
 use Rattle.term_bank.specs.Nodes.{IsNode, tree_at, build}
-use Rattle.normal_spec.specs.Seen.{width_of, zero_like, full_like}
+use Rattle.normal_spec.specs.Patterns.{width_of, zero_like, full_like}
 use Rattle.normal_rules.specs.declared.form.Form.{Form}
 use Rattle.normal_rules.specs.declared.form.Form.TheVariants.{Same, Made, Sum, Zero, Full}
 use Rattle.normal_rules.specs.declared.widths.Wide.{Wide}
@@ -43,14 +43,14 @@ abbrev pub wide_width : List Term → Wide → Width
 wide_width trees (Known width) = width
 wide_width trees (Like x) = width_of (tree_at trees x)
 
--- the other term stands before x
+-- the other term is before x
 abbrev pub IsBefore : ℕ → Wide → Type 0
 IsBefore x (Known width) = Unit {0}
 IsBefore x (Like a) = a < x
 
--- ---- places
+-- ---- indices
 
--- all of these are places below n
+-- all of these are indices below n
 abbrev pub AreWithin : ℕ → List ℕ → Type 0
 AreWithin n [] = Unit {0}
 AreWithin n (x ∷ rest) = (x < n) × AreWithin n rest

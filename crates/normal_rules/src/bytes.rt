@@ -1,18 +1,19 @@
 // The rules of operators that change the width of a word, and of its bytes.
 
-ghost use Rattle.std.specs.Prelude.{◌≡◌, ℕ, ◌+◌, ◌<◌, ◌≤◌, [], ◌∷◌, length, map, option_map, slice_get, IfOk, IfSome};
+ghost use Rattle.std.specs.Prelude.{◌≡◌, ℕ, ◌+◌, ◌<◌, ◌≤◌, [], ◌∷◌, length, map, option_map};
+ghost use Rattle.std.specs.Prelude.{slice_get, IfOk, IfSome};
 ghost use Rattle.term_spec.specs.Term as tree;
 ghost use Rattle.term_bank.specs.Nodes.{IsNode, tree_at, build};
 ghost use Rattle.term_spec.specs.Sort.{same_width};
 ghost use Rattle.term_spec.specs.Same.{same_term};
-ghost use Rattle.normal_spec.specs.Seen as seen;
+ghost use Rattle.normal_spec.specs.Patterns as patterns;
 ghost use Rattle.normal_spec.specs.Normal as spec;
 ghost use Rattle.normal_rules.specs.Forms.{form_tree, IsForm, AreWithin};
 
 use crate::constants::{value_of_eight, value_of_four, value_of_one, value_of_two};
 use crate::form::{Form, first_of, found_or};
 use crate::numbers::same_width;
-use crate::seen::{node_at, same, under_extension};
+use crate::patterns::{node_at, same, under_extension};
 use crate::widths::width_of;
 use std::alloc::AllocError;
 use term_bank::{Bank, TermId, TermNode};
@@ -21,7 +22,7 @@ use term_spec::{BinaryOperator, QuaternaryOperator, UnaryOperator, Width};
 // Whether a word has this width.
 fn has_width(bank: &Bank, x: TermId, width: Width) -> bool
     requires { x < length bank.now }
-    ensures { result ≡ same_width (seen.width_of (tree_at bank.now x)) width }
+    ensures { result ≡ same_width (patterns.width_of (tree_at bank.now x)) width }
 {
     same_width(width_of(bank, x), width)
 }
@@ -31,7 +32,8 @@ fn has_width(bank: &Bank, x: TermId, width: Width) -> bool
 pub fn extend_form(bank: &Bank, operator: UnaryOperator, width: Width, x: TermId) -> Form
     requires { x < length bank.now }
     ensures within { IsForm (length bank.now) result }
-    ensures tree { form_tree bank.now result ≡ spec.normal_extend operator width (tree_at bank.now x) }
+    ensures tree { form_tree bank.now result
+        ≡ spec.normal_extend operator width (tree_at bank.now x) }
 {
     let rules = [
         value_of_one(bank, operator, x),
@@ -43,7 +45,8 @@ pub fn extend_form(bank: &Bank, operator: UnaryOperator, width: Width, x: TermId
 // The word that a term extends, where it has this width.
 fn extended(bank: &Bank, width: Width, x: TermId) -> Option<TermId>
     requires { x < length bank.now }
-    ensures tree { option_map (tree_at bank.now) result ≡ spec.extended width (seen.under_extension (tree_at bank.now x)) }
+    ensures tree { option_map (tree_at bank.now) result
+        ≡ spec.extended width (patterns.under_extension (tree_at bank.now x)) }
     ensures within { IfSome result (λ i. i < length bank.now) }
 {
     match under_extension(bank, x) {
@@ -52,7 +55,8 @@ fn extended(bank: &Bank, width: Width, x: TermId) -> Option<TermId>
     }
 }
 
-/// A cut: one to the own width is left out, and one of an extended word back to its width is that word.
+/// A cut: one to the own width is left out, and one of an extended word back to its width is that
+/// word.
 #[tactic(auto, unfolding(normal_spec::specs::Normal::normal_low))]
 pub fn low_form(bank: &Bank, width: Width, x: TermId) -> Form
     requires { x < length bank.now }
@@ -68,7 +72,7 @@ pub fn low_form(bank: &Bank, width: Width, x: TermId) -> Form
     first_of(&rules, found_or(extended(bank, width, x), cut))
 }
 
-// The term at a place of a list of terms.
+// The term at an index of a list of terms.
 fn item(parts: &[TermId], place: u8) -> Option<TermId>
     ensures { result ≡ slice_get parts.now place }
 {
@@ -76,10 +80,10 @@ fn item(parts: &[TermId], place: u8) -> Option<TermId>
 }
 
 // The part of a join that is its byte at a place.
-#[tactic(auto, unfolding(normal_spec::specs::Seen::part))]
+#[tactic(auto, unfolding(normal_spec::specs::Patterns::part))]
 fn part(bank: &Bank, place: u8, x: TermId) -> Option<TermId>
     requires { x < length bank.now }
-    ensures tree { option_map (tree_at bank.now) result ≡ seen.part place (tree_at bank.now x) }
+    ensures tree { option_map (tree_at bank.now) result ≡ patterns.part place (tree_at bank.now x) }
     ensures within { IfSome result (λ i. i < length bank.now) }
 {
     match node_at(bank, x) {
@@ -104,10 +108,11 @@ pub fn byte_form(bank: &Bank, place: u8, x: TermId) -> Form
 }
 
 // The word whose lowest byte a term is.
-#[tactic(auto, unfolding(normal_spec::specs::Seen::under_first_byte))]
+#[tactic(auto, unfolding(normal_spec::specs::Patterns::under_first_byte))]
 fn under_first_byte(bank: &Bank, x: TermId) -> Option<TermId>
     requires { x < length bank.now }
-    ensures tree { option_map (tree_at bank.now) result ≡ seen.under_first_byte (tree_at bank.now x) }
+    ensures tree { option_map (tree_at bank.now) result
+        ≡ patterns.under_first_byte (tree_at bank.now x) }
     ensures within { IfSome result (λ a. a < length bank.now) }
 {
     match node_at(bank, x) {
@@ -132,12 +137,13 @@ fn is_byte_of(bank: &Bank, x: TermId, word: TermId, place: usize) -> bool
 }
 
 // Whether these are the bytes of a word from a place on.
-#[tactic(auto, unfolding(normal_spec::specs::Seen::are_bytes_of))]
+#[tactic(auto, unfolding(normal_spec::specs::Patterns::are_bytes_of))]
 fn are_bytes_of(bank: &Bank, word: TermId, place: usize, parts: &[TermId]) -> bool
     requires word_within { word < length bank.now }
     requires parts_within { AreWithin (length bank.now) parts.now }
     requires few { place + length parts.now ≤ 8 }
-    ensures { result ≡ seen.are_bytes_of (tree_at bank.now word) place (map (tree_at bank.now) parts.now) }
+    ensures { result ≡ patterns.are_bytes_of (tree_at bank.now word) place
+        (map (tree_at bank.now) parts.now) }
 {
     match parts.split_first() {
         None => true,
@@ -151,7 +157,8 @@ fn are_bytes_of(bank: &Bank, word: TermId, place: usize, parts: &[TermId]) -> bo
 fn whole(bank: &Bank, width: Width, parts: &[TermId]) -> Option<TermId>
     requires parts_within { AreWithin (length bank.now) parts.now }
     requires few { length parts.now ≤ 8 }
-    ensures tree { option_map (tree_at bank.now) result ≡ seen.whole width (map (tree_at bank.now) parts.now) }
+    ensures tree { option_map (tree_at bank.now) result
+        ≡ patterns.whole width (map (tree_at bank.now) parts.now) }
     ensures within { IfSome result (λ i. i < length bank.now) }
 {
     let (first, rest) = parts.split_first()?;
@@ -172,7 +179,8 @@ pub fn join_two_form(bank: &Bank, x: TermId, y: TermId) -> Form
     requires x_within { x < length bank.now }
     requires y_within { y < length bank.now }
     ensures within { IsForm (length bank.now) result }
-    ensures tree { let s = tree_at bank.now x in let t = tree_at bank.now y in form_tree bank.now result ≡ spec.normal_join Width.W16 (s ∷ t ∷ []) (tree.join_two s t) }
+    ensures tree { let s = tree_at bank.now x in let t = tree_at bank.now y in form_tree bank.now
+        result ≡ spec.normal_join Width.W16 (s ∷ t ∷ []) (tree.join_two s t) }
 {
     let operator = BinaryOperator::Join;
     let word = Form::Made(TermNode::Binary(operator, x, y));
@@ -191,7 +199,10 @@ pub fn join_four_form(
 ) -> Result<Form, AllocError>
     requires { AreWithin (length bank.now) (a ∷ b ∷ c ∷ d ∷ []) }
     ensures within { IfOk result (IsForm (length bank.now)) }
-    ensures tree { let word = TermNode.Quaternary QuaternaryOperator.Join a b c d in IfOk result (λ form. form_tree bank.now form ≡ spec.normal_join Width.W32 (map (tree_at bank.now) (a ∷ b ∷ c ∷ d ∷ [])) (build bank.now word)) }
+    ensures tree { let word = TermNode.Quaternary QuaternaryOperator.Join a b c d in IfOk result
+        (λ form. form_tree bank.now form
+        ≡ spec.normal_join Width.W32 (map (tree_at bank.now) (a ∷ b ∷ c ∷ d ∷ []))
+        (build bank.now word)) }
 {
     let value = value_of_four(bank, a, b, c, d)?;
     let word = Form::Made(TermNode::Quaternary(QuaternaryOperator::Join, a, b, c, d));
@@ -215,7 +226,10 @@ pub fn join_eight_form(
 ) -> Form
     requires { IsNode (length bank.now) (TermNode.Octonary a b c d e f g h) }
     ensures within { IsForm (length bank.now) result }
-    ensures tree { form_tree bank.now result ≡ spec.normal_octonary (tree_at bank.now a) (tree_at bank.now b) (tree_at bank.now c) (tree_at bank.now d) (tree_at bank.now e) (tree_at bank.now f) (tree_at bank.now g) (tree_at bank.now h) }
+    ensures tree { form_tree bank.now result
+        ≡ spec.normal_octonary (tree_at bank.now a) (tree_at bank.now b) (tree_at bank.now c)
+        (tree_at bank.now d) (tree_at bank.now e) (tree_at bank.now f) (tree_at bank.now g)
+        (tree_at bank.now h) }
 {
     let value = value_of_eight(bank, a, b, c, d, e, f, g, h);
     let word = Form::Made(TermNode::Octonary(a, b, c, d, e, f, g, h));

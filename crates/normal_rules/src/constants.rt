@@ -6,20 +6,20 @@ ghost use Rattle.term_spec.specs.Term as tree;
 ghost use Rattle.term_spec.specs.Value as spec;
 ghost use Rattle.term_core.specs.Values.{value_of};
 ghost use Rattle.term_bank.specs.Nodes.{IsNode, tree_at};
-ghost use Rattle.normal_spec.specs.Seen as seen;
+ghost use Rattle.normal_spec.specs.Patterns as patterns;
 ghost use Rattle.normal_rules.specs.Forms.{form_tree, IsForm, AreWithin};
 
 use crate::form::{Form, Rule};
-use crate::seen::{is_constant, known};
+use crate::patterns::{is_constant, known};
 use std::alloc::AllocError;
 use term_bank::{Bank, TermId, TermNode};
 use term_core::{Value, binary, byte_of, octonary, quaternary, unary};
 use term_spec::{Atom, BinaryOperator, QuaternaryOperator, UnaryOperator};
 
 // The constant with a value, which is no memory.
-#[tactic(auto, unfolding(normal_spec::specs::Seen::constant_of))]
+#[tactic(auto, unfolding(normal_spec::specs::Patterns::constant_of))]
 fn constant_of(value: &Value) -> Atom
-    ensures { tree.Leaf result ≡ seen.constant_of (value_of value.now) }
+    ensures { tree.Leaf result ≡ patterns.constant_of (value_of value.now) }
 {
     match value {
         Value::Truth(truth) => Atom::Truth(*truth),
@@ -31,9 +31,10 @@ fn constant_of(value: &Value) -> Atom
 /// The rule for an operator with one constant.
 pub fn value_of_one(bank: &Bank, operator: UnaryOperator, x: TermId) -> Rule
     requires { x < length bank.now }
-    ensures test { result.0 ≡ seen.is_constant (tree_at bank.now x) }
+    ensures test { result.0 ≡ patterns.is_constant (tree_at bank.now x) }
     ensures within { (n : ℕ) → IsForm n result.1 }
-    ensures tree { form_tree bank.now result.1 ≡ seen.constant_of (spec.unary_value operator (seen.known (tree_at bank.now x))) }
+    ensures tree { form_tree bank.now result.1
+        ≡ patterns.constant_of (spec.unary_value operator (patterns.known (tree_at bank.now x))) }
 {
     let value = constant_of(&unary(operator, &known(bank, x)));
     (is_constant(bank, x), Form::Made(TermNode::Leaf(value)))
@@ -43,7 +44,8 @@ pub fn value_of_one(bank: &Bank, operator: UnaryOperator, x: TermId) -> Rule
 fn are_two_constants(bank: &Bank, x: TermId, y: TermId) -> bool
     requires x_within { x < length bank.now }
     requires y_within { y < length bank.now }
-    ensures { result ≡ (seen.is_constant (tree_at bank.now x) && seen.is_constant (tree_at bank.now y)) }
+    ensures { result ≡ (patterns.is_constant (tree_at bank.now x) && patterns.is_constant
+        (tree_at bank.now y)) }
 {
     is_constant(bank, x) && is_constant(bank, y)
 }
@@ -52,9 +54,12 @@ fn are_two_constants(bank: &Bank, x: TermId, y: TermId) -> bool
 pub fn value_of_two(bank: &Bank, operator: BinaryOperator, x: TermId, y: TermId) -> Rule
     requires x_within { x < length bank.now }
     requires y_within { y < length bank.now }
-    ensures test { result.0 ≡ (seen.is_constant (tree_at bank.now x) && seen.is_constant (tree_at bank.now y)) }
+    ensures test { result.0 ≡ (patterns.is_constant (tree_at bank.now x) && patterns.is_constant
+        (tree_at bank.now y)) }
     ensures within { (n : ℕ) → IsForm n result.1 }
-    ensures tree { form_tree bank.now result.1 ≡ seen.constant_of (spec.binary_value operator (seen.known (tree_at bank.now x)) (seen.known (tree_at bank.now y))) }
+    ensures tree { form_tree bank.now result.1
+        ≡ patterns.constant_of (spec.binary_value operator (patterns.known (tree_at bank.now x))
+        (patterns.known (tree_at bank.now y))) }
 {
     let value = constant_of(&binary(operator, &known(bank, x), &known(bank, y)));
     (
@@ -66,7 +71,7 @@ pub fn value_of_two(bank: &Bank, operator: BinaryOperator, x: TermId, y: TermId)
 // Whether all of these terms are constants.
 fn are_constants(bank: &Bank, parts: &[TermId]) -> bool
     requires { AreWithin (length bank.now) parts.now }
-    ensures { result ≡ seen.are_constants (map (tree_at bank.now) parts.now) }
+    ensures { result ≡ patterns.are_constants (map (tree_at bank.now) parts.now) }
 {
     match parts.split_first() {
         None => true,
@@ -84,9 +89,12 @@ pub fn value_of_four(
     d: TermId,
 ) -> Result<Rule, AllocError>
     requires { AreWithin (length bank.now) (a ∷ b ∷ c ∷ d ∷ []) }
-    ensures test { let ts = map (tree_at bank.now) (a ∷ b ∷ c ∷ d ∷ []) in IfOk result (λ rule. rule.0 ≡ seen.are_constants ts) }
+    ensures test { let ts = map (tree_at bank.now) (a ∷ b ∷ c ∷ d
+        ∷ []) in IfOk result (λ rule. rule.0 ≡ patterns.are_constants ts) }
     ensures within { IfOk result (λ rule. (n : ℕ) → IsForm n rule.1) }
-    ensures tree { let ts = map (tree_at bank.now) (a ∷ b ∷ c ∷ d ∷ []) in IfOk result (λ rule. form_tree bank.now rule.1 ≡ seen.constant_of (spec.joined W32 (map seen.known ts))) }
+    ensures tree { let ts = map (tree_at bank.now) (a ∷ b ∷ c ∷ d
+        ∷ []) in IfOk result (λ rule. form_tree bank.now rule.1
+        ≡ patterns.constant_of (spec.joined W32 (map patterns.known ts))) }
 {
     let (first, second) = (known(bank, a), known(bank, b));
     let (third, fourth) = (known(bank, c), known(bank, d));
@@ -99,7 +107,7 @@ pub fn value_of_four(
 // The number of a byte that is a constant.
 fn known_byte(bank: &Bank, x: TermId) -> Option<u8>
     requires { x < length bank.now }
-    ensures { result ≡ spec.byte_of (seen.known (tree_at bank.now x)) }
+    ensures { result ≡ spec.byte_of (patterns.known (tree_at bank.now x)) }
 {
     byte_of(&known(bank, x))
 }
@@ -117,9 +125,12 @@ pub fn value_of_eight(
     h: TermId,
 ) -> Rule
     requires { AreWithin (length bank.now) (a ∷ b ∷ c ∷ d ∷ e ∷ f ∷ g ∷ h ∷ []) }
-    ensures test { let ts = map (tree_at bank.now) (a ∷ b ∷ c ∷ d ∷ e ∷ f ∷ g ∷ h ∷ []) in result.0 ≡ seen.are_constants ts }
+    ensures test { let ts = map (tree_at bank.now) (a ∷ b ∷ c ∷ d ∷ e ∷ f ∷ g ∷ h ∷ []) in result.0
+        ≡ patterns.are_constants ts }
     ensures within { (n : ℕ) → IsForm n result.1 }
-    ensures tree { let ts = map (tree_at bank.now) (a ∷ b ∷ c ∷ d ∷ e ∷ f ∷ g ∷ h ∷ []) in form_tree bank.now result.1 ≡ seen.constant_of (spec.joined W64 (map seen.known ts)) }
+    ensures tree { let ts = map (tree_at bank.now) (a ∷ b ∷ c ∷ d ∷ e ∷ f ∷ g ∷ h
+        ∷ []) in form_tree bank.now result.1
+        ≡ patterns.constant_of (spec.joined W64 (map patterns.known ts)) }
 {
     let high = [
         known_byte(bank, e),

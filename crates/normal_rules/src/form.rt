@@ -1,14 +1,15 @@
-// What a rule gives, and its place in the bank.
+// What a rule gives, and its index in the bank.
 
-ghost use Rattle.std.specs.Prelude.{◌≡◌, ℕ, ◌<◌, ◌≤◌, List, length, option_map, unwrap_or, IfOk, IfSome};
+ghost use Rattle.std.specs.Prelude.{◌≡◌, ℕ, ◌<◌, ◌≤◌, List, length, option_map, unwrap_or, IfOk};
+ghost use Rattle.std.specs.Prelude.{IfSome};
 ghost use Rattle.term_spec.specs.Term.{Term, add, constant};
 ghost use Rattle.term_bank.specs.Nodes.{tree_at, Holds, Extends};
 ghost use Rattle.normal_rules.specs.Forms.{form_tree, IsForm, AreForms, chosen};
 
-use crate::numbers::all_ones;
 use crate::widths::width_of;
 use std::alloc::AllocError;
 use term_bank::{Bank, TermId, TermNode};
+use term_core::all_ones;
 use term_spec::{Atom, BinaryOperator, Width, WordOperator};
 
 /// What a rule gives.
@@ -32,7 +33,9 @@ pub type Rule = (bool, Form);
 /// What the first rule gives that applies.
 pub fn applied(rules: &[Rule]) -> Option<Form>
     ensures within { (n : ℕ) → AreForms n rules.now → IfSome result (IsForm n) }
-    ensures tree { (trees : List Term) (otherwise : Term) → unwrap_or (option_map (form_tree trees) result) otherwise ≡ chosen trees rules.now otherwise }
+    ensures tree { (trees : List Term) (otherwise : Term)
+        → unwrap_or (option_map (form_tree trees) result) otherwise
+        ≡ chosen trees rules.now otherwise }
 {
     match rules.split_first() {
         None => None,
@@ -44,7 +47,8 @@ pub fn applied(rules: &[Rule]) -> Option<Form>
 /// What the first rule gives that applies, or else `otherwise`.
 pub fn first_of(rules: &[Rule], otherwise: Form) -> Form
     ensures within { (n : ℕ) → AreForms n rules.now → IsForm n otherwise → IsForm n result }
-    ensures tree { (trees : List Term) → form_tree trees result ≡ chosen trees rules.now (form_tree trees otherwise) }
+    ensures tree { (trees : List Term)
+        → form_tree trees result ≡ chosen trees rules.now (form_tree trees otherwise) }
 {
     match applied(rules) {
         Some(form) => form,
@@ -52,10 +56,12 @@ pub fn first_of(rules: &[Rule], otherwise: Form) -> Form
     }
 }
 
-/// The term at a place, where there is one, or else `otherwise`.
+/// The term at an index, where there is one, or else `otherwise`.
 pub fn found_or(found: Option<TermId>, otherwise: Form) -> Form
     ensures within { (n : ℕ) → IfSome found (λ i. i < n) → IsForm n otherwise → IsForm n result }
-    ensures tree { (trees : List Term) → form_tree trees result ≡ unwrap_or (option_map (tree_at trees) found) (form_tree trees otherwise) }
+    ensures tree { (trees : List Term)
+        → form_tree trees result ≡ unwrap_or (option_map (tree_at trees) found)
+        (form_tree trees otherwise) }
 {
     match found {
         Some(id) => Form::Same(id),
@@ -63,7 +69,7 @@ pub fn found_or(found: Option<TermId>, otherwise: Form) -> Form
     }
 }
 
-// The place of a constant.
+// The index of a constant.
 fn place_constant(bank: &mut Bank, width: Width, number: u64) -> Result<TermId, AllocError>
     ensures form { IfOk result (λ i. Holds bank.new i (constant width number)) }
     ensures within { IfOk result (λ i. i < length bank.new) }
@@ -74,10 +80,11 @@ fn place_constant(bank: &mut Bank, width: Width, number: u64) -> Result<TermId, 
     Ok(id)
 }
 
-// The place of the sum of a term and a constant.
+// The index of the sum of a term and a constant.
 fn place_sum(bank: &mut Bank, x: TermId, width: Width, number: u64) -> Result<TermId, AllocError>
     requires { x < length bank.old }
-    ensures form { IfOk result (λ i. Holds bank.new i (add (tree_at bank.old x) (constant width number))) }
+    ensures form { IfOk result (λ i. Holds bank.new i
+        (add (tree_at bank.old x) (constant width number))) }
     ensures within { IfOk result (λ i. i < length bank.new) }
     ensures extends { Extends bank.old bank.new }
     ensures longer { length bank.old ≤ length bank.new }
@@ -88,7 +95,7 @@ fn place_sum(bank: &mut Bank, x: TermId, width: Width, number: u64) -> Result<Te
     Ok(id)
 }
 
-/// The place of what a rule gives, which is added where it isn't there.
+/// The index of what a rule gives, which is added where it isn't there.
 pub fn place(bank: &mut Bank, form: Form) -> Result<TermId, AllocError>
     requires { IsForm (length bank.old) form }
     ensures form { IfOk result (λ i. Holds bank.new i (form_tree bank.old form)) }

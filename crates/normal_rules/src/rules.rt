@@ -44,7 +44,8 @@ pub fn normal_unary(
     x: TermId,
 ) -> Result<TermId, AllocError>
     requires { x < length bank.old }
-    ensures form { IfOk result (λ i. Holds bank.new i (spec.normal_unary operator (tree_at bank.old x))) }
+    ensures form { IfOk result (λ i. Holds bank.new i
+        (spec.normal_unary operator (tree_at bank.old x))) }
     ensures within { IfOk result (λ i. i < length bank.new) }
     ensures extends { Extends bank.old bank.new }
     ensures longer { length bank.old ≤ length bank.new }
@@ -71,7 +72,8 @@ pub fn normal_not(bank: &mut Bank, x: TermId) -> Result<TermId, AllocError>
 pub fn normal_and(bank: &mut Bank, x: TermId, y: TermId) -> Result<TermId, AllocError>
     requires x_within { x < length bank.old }
     requires y_within { y < length bank.old }
-    ensures form { IfOk result (λ i. Holds bank.new i (spec.normal_and (tree_at bank.old x) (tree_at bank.old y))) }
+    ensures form { IfOk result (λ i. Holds bank.new i
+        (spec.normal_and (tree_at bank.old x) (tree_at bank.old y))) }
     ensures within { IfOk result (λ i. i < length bank.new) }
     ensures extends { Extends bank.old bank.new }
     ensures longer { length bank.old ≤ length bank.new }
@@ -85,7 +87,8 @@ pub fn normal_and(bank: &mut Bank, x: TermId, y: TermId) -> Result<TermId, Alloc
 pub fn normal_or(bank: &mut Bank, x: TermId, y: TermId) -> Result<TermId, AllocError>
     requires x_within { x < length bank.old }
     requires y_within { y < length bank.old }
-    ensures form { IfOk result (λ i. Holds bank.new i (spec.normal_or (tree_at bank.old x) (tree_at bank.old y))) }
+    ensures form { IfOk result (λ i. Holds bank.new i
+        (spec.normal_or (tree_at bank.old x) (tree_at bank.old y))) }
     ensures within { IfOk result (λ i. i < length bank.new) }
     ensures extends { Extends bank.old bank.new }
     ensures longer { length bank.old ≤ length bank.new }
@@ -99,7 +102,8 @@ pub fn normal_or(bank: &mut Bank, x: TermId, y: TermId) -> Result<TermId, AllocE
 pub fn normal_equal(bank: &mut Bank, x: TermId, y: TermId) -> Result<TermId, AllocError>
     requires x_within { x < length bank.old }
     requires y_within { y < length bank.old }
-    ensures form { IfOk result (λ i. Holds bank.new i (spec.normal_equal (tree_at bank.old x) (tree_at bank.old y))) }
+    ensures form { IfOk result (λ i. Holds bank.new i
+        (spec.normal_equal (tree_at bank.old x) (tree_at bank.old y))) }
     ensures within { IfOk result (λ i. i < length bank.new) }
     ensures extends { Extends bank.old bank.new }
     ensures longer { length bank.old ≤ length bank.new }
@@ -113,7 +117,8 @@ pub fn normal_equal(bank: &mut Bank, x: TermId, y: TermId) -> Result<TermId, All
 pub fn normal_less(bank: &mut Bank, x: TermId, y: TermId) -> Result<TermId, AllocError>
     requires x_within { x < length bank.old }
     requires y_within { y < length bank.old }
-    ensures form { IfOk result (λ i. Holds bank.new i (spec.normal_less (tree_at bank.old x) (tree_at bank.old y))) }
+    ensures form { IfOk result (λ i. Holds bank.new i
+        (spec.normal_less (tree_at bank.old x) (tree_at bank.old y))) }
     ensures within { IfOk result (λ i. i < length bank.new) }
     ensures extends { Extends bank.old bank.new }
     ensures longer { length bank.old ≤ length bank.new }
@@ -132,7 +137,8 @@ pub fn normal_word(
 ) -> Result<TermId, AllocError>
     requires x_within { x < length bank.old }
     requires y_within { y < length bank.old }
-    ensures form { IfOk result (λ i. Holds bank.new i (spec.normal_word operator (tree_at bank.old x) (tree_at bank.old y))) }
+    ensures form { IfOk result (λ i. Holds bank.new i
+        (spec.normal_word operator (tree_at bank.old x) (tree_at bank.old y))) }
     ensures within { IfOk result (λ i. i < length bank.new) }
     ensures extends { Extends bank.old bank.new }
     ensures longer { length bank.old ≤ length bank.new }
@@ -146,7 +152,8 @@ pub fn normal_word(
 pub fn normal_join_two(bank: &mut Bank, x: TermId, y: TermId) -> Result<TermId, AllocError>
     requires x_within { x < length bank.old }
     requires y_within { y < length bank.old }
-    ensures form { let s = tree_at bank.old x in let t = tree_at bank.old y in IfOk result (λ i. Holds bank.new i (spec.normal_join Width.W16 (s ∷ t ∷ []) (tree.join_two s t))) }
+    ensures form { let s = tree_at bank.old x in let t = tree_at bank.old y in IfOk result
+        (λ i. Holds bank.new i (spec.normal_join Width.W16 (s ∷ t ∷ []) (tree.join_two s t))) }
     ensures within { IfOk result (λ i. i < length bank.new) }
     ensures extends { Extends bank.old bank.new }
     ensures longer { length bank.old ≤ length bank.new }
@@ -166,7 +173,8 @@ pub fn normal_choose(
     requires test_within { test < length bank.old }
     requires x_within { x < length bank.old }
     requires y_within { y < length bank.old }
-    ensures form { IfOk result (λ i. Holds bank.new i (spec.normal_choose (tree_at bank.old test) (tree_at bank.old x) (tree_at bank.old y))) }
+    ensures form { IfOk result (λ i. Holds bank.new i
+        (spec.normal_choose (tree_at bank.old test) (tree_at bank.old x) (tree_at bank.old y))) }
     ensures within { IfOk result (λ i. i < length bank.new) }
     ensures extends { Extends bank.old bank.new }
     ensures longer { length bank.old ≤ length bank.new }
@@ -182,7 +190,9 @@ fn ternary_form(bank: &Bank, operator: TernaryOperator, x: TermId, y: TermId, z:
     requires y_within { y < length bank.now }
     requires z_within { z < length bank.now }
     ensures within { IsForm (length bank.now) result }
-    ensures tree { form_tree bank.now result ≡ spec.normal_ternary operator (tree_at bank.now x) (tree_at bank.now y) (tree_at bank.now z) }
+    ensures tree { form_tree bank.now result
+        ≡ spec.normal_ternary operator (tree_at bank.now x) (tree_at bank.now y)
+        (tree_at bank.now z) }
 {
     match operator {
         TernaryOperator::Choose => choose_form(bank, x, y, z),
@@ -201,7 +211,9 @@ pub fn normal_ternary(
     requires x_within { x < length bank.old }
     requires y_within { y < length bank.old }
     requires z_within { z < length bank.old }
-    ensures form { IfOk result (λ i. Holds bank.new i (spec.normal_ternary operator (tree_at bank.old x) (tree_at bank.old y) (tree_at bank.old z))) }
+    ensures form { IfOk result (λ i. Holds bank.new i
+        (spec.normal_ternary operator (tree_at bank.old x) (tree_at bank.old y)
+        (tree_at bank.old z))) }
     ensures within { IfOk result (λ i. i < length bank.new) }
     ensures extends { Extends bank.old bank.new }
     ensures longer { length bank.old ≤ length bank.new }
@@ -222,7 +234,9 @@ fn quaternary_form(
 ) -> Result<Form, AllocError>
     requires { IsNode (length bank.now) (TermNode.Quaternary operator a b c d) }
     ensures within { IfOk result (IsForm (length bank.now)) }
-    ensures tree { IfOk result (λ form. form_tree bank.now form ≡ spec.normal_quaternary operator (tree_at bank.now a) (tree_at bank.now b) (tree_at bank.now c) (tree_at bank.now d)) }
+    ensures tree { IfOk result (λ form. form_tree bank.now form
+        ≡ spec.normal_quaternary operator (tree_at bank.now a) (tree_at bank.now b)
+        (tree_at bank.now c) (tree_at bank.now d)) }
 {
     match operator {
         QuaternaryOperator::Over => {
@@ -246,7 +260,9 @@ pub fn normal_quaternary(
     d: TermId,
 ) -> Result<TermId, AllocError>
     requires { IsNode (length bank.old) (TermNode.Quaternary operator a b c d) }
-    ensures form { IfOk result (λ i. Holds bank.new i (spec.normal_quaternary operator (tree_at bank.old a) (tree_at bank.old b) (tree_at bank.old c) (tree_at bank.old d))) }
+    ensures form { IfOk result (λ i. Holds bank.new i
+        (spec.normal_quaternary operator (tree_at bank.old a) (tree_at bank.old b)
+        (tree_at bank.old c) (tree_at bank.old d))) }
     ensures within { IfOk result (λ i. i < length bank.new) }
     ensures extends { Extends bank.old bank.new }
     ensures longer { length bank.old ≤ length bank.new }
@@ -269,7 +285,10 @@ pub fn normal_octonary(
     h: TermId,
 ) -> Result<TermId, AllocError>
     requires { IsNode (length bank.old) (TermNode.Octonary a b c d e f g h) }
-    ensures form { IfOk result (λ i. Holds bank.new i (spec.normal_octonary (tree_at bank.old a) (tree_at bank.old b) (tree_at bank.old c) (tree_at bank.old d) (tree_at bank.old e) (tree_at bank.old f) (tree_at bank.old g) (tree_at bank.old h))) }
+    ensures form { IfOk result (λ i. Holds bank.new i
+        (spec.normal_octonary (tree_at bank.old a) (tree_at bank.old b) (tree_at bank.old c)
+        (tree_at bank.old d) (tree_at bank.old e) (tree_at bank.old f) (tree_at bank.old g)
+        (tree_at bank.old h))) }
     ensures within { IfOk result (λ i. i < length bank.new) }
     ensures extends { Extends bank.old bank.new }
     ensures longer { length bank.old ≤ length bank.new }

@@ -3,13 +3,15 @@
 ghost use Rattle.std.specs.Prelude.{◌≡◌, ℕ, ◌<◌, ◌==◌, ◌&&◌, not, length};
 ghost use Rattle.term_bank.specs.Nodes.{IsNode, tree_at};
 ghost use Rattle.term_spec.specs.Same.{same_term};
-ghost use Rattle.normal_spec.specs.Seen as seen;
+ghost use Rattle.normal_spec.specs.Patterns as patterns;
 ghost use Rattle.normal_spec.specs.Normal as spec;
 ghost use Rattle.normal_rules.specs.Forms.{form_tree, IsForm};
 
 use crate::constants::{value_of_one, value_of_two};
 use crate::form::{Form, first_of, found_or};
-use crate::seen::{are_negations, base_and_offset, is_false, is_true, is_zero, same, under_not};
+use crate::patterns::{
+    are_negations, base_and_offset, is_false, is_true, is_zero, same, under_not,
+};
 use term_bank::{Bank, TermId, TermNode};
 use term_spec::{Atom, BinaryOperator, UnaryOperator};
 
@@ -36,7 +38,8 @@ pub fn and_form(bank: &Bank, x: TermId, y: TermId) -> Form
     requires x_within { x < length bank.now }
     requires y_within { y < length bank.now }
     ensures within { IsForm (length bank.now) result }
-    ensures tree { form_tree bank.now result ≡ spec.normal_and (tree_at bank.now x) (tree_at bank.now y) }
+    ensures tree { form_tree bank.now result
+        ≡ spec.normal_and (tree_at bank.now x) (tree_at bank.now y) }
 {
     let operator = BinaryOperator::And;
     let rules = [
@@ -57,7 +60,8 @@ pub fn or_form(bank: &Bank, x: TermId, y: TermId) -> Form
     requires x_within { x < length bank.now }
     requires y_within { y < length bank.now }
     ensures within { IsForm (length bank.now) result }
-    ensures tree { form_tree bank.now result ≡ spec.normal_or (tree_at bank.now x) (tree_at bank.now y) }
+    ensures tree { form_tree bank.now result
+        ≡ spec.normal_or (tree_at bank.now x) (tree_at bank.now y) }
 {
     let operator = BinaryOperator::Or;
     let rules = [
@@ -76,21 +80,24 @@ pub fn or_form(bank: &Bank, x: TermId, y: TermId) -> Form
 fn have_unequal_offsets(bank: &Bank, x: TermId, y: TermId) -> bool
     requires x_within { x < length bank.now }
     requires y_within { y < length bank.now }
-    ensures { let s = tree_at bank.now x in let t = tree_at bank.now y in result ≡ (same_term (seen.base s) (seen.base t) && not (seen.offset s == seen.offset t)) }
+    ensures { let s = tree_at bank.now x in let t = tree_at bank.now y in result
+        ≡ (same_term (patterns.base s) (patterns.base t) && not
+        (patterns.offset s == patterns.offset t)) }
 {
     let (first, c) = base_and_offset(bank, x);
     let (second, d) = base_and_offset(bank, y);
     same(bank, first, second) && c != d
 }
 
-/// `eq`: a truth value compared with a constant is it or its negation, and words are unequal that are one term
-/// with different constants added.
+/// `eq`: a truth value compared with a constant is it or its negation, and words are unequal that
+/// are one term with different constants added.
 #[tactic(auto, unfolding(normal_spec::specs::Normal::normal_equal))]
 pub fn equal_form(bank: &Bank, x: TermId, y: TermId) -> Form
     requires x_within { x < length bank.now }
     requires y_within { y < length bank.now }
     ensures within { IsForm (length bank.now) result }
-    ensures tree { form_tree bank.now result ≡ spec.normal_equal (tree_at bank.now x) (tree_at bank.now y) }
+    ensures tree { form_tree bank.now result
+        ≡ spec.normal_equal (tree_at bank.now x) (tree_at bank.now y) }
 {
     let operator = BinaryOperator::Equal;
     let rules = [
@@ -111,7 +118,8 @@ pub fn less_form(bank: &Bank, x: TermId, y: TermId) -> Form
     requires x_within { x < length bank.now }
     requires y_within { y < length bank.now }
     ensures within { IsForm (length bank.now) result }
-    ensures tree { form_tree bank.now result ≡ spec.normal_less (tree_at bank.now x) (tree_at bank.now y) }
+    ensures tree { form_tree bank.now result
+        ≡ spec.normal_less (tree_at bank.now x) (tree_at bank.now y) }
 {
     let operator = BinaryOperator::Less;
     let rules = [

@@ -2,10 +2,10 @@
 
 ghost use Rattle.std.specs.Prelude.{◌≡◌, ◌<◌, length};
 ghost use Rattle.term_bank.specs.Nodes.{IsNode, tree_at};
-ghost use Rattle.normal_spec.specs.Seen as seen;
+ghost use Rattle.normal_spec.specs.Patterns as patterns;
 ghost use Rattle.normal_rules.specs.Forms.{wide_width, IsBefore};
 
-use crate::seen::node_at;
+use crate::patterns::node_at;
 use term_bank::{Bank, TermId, TermNode};
 use term_spec::{
     Atom, BinaryOperator, QuaternaryOperator, Sort, TernaryOperator, UnaryOperator, Width,
@@ -21,7 +21,7 @@ pub enum Wide {
 }
 
 fn width_of_atom(atom: Atom) -> Width
-    ensures { result ≡ seen.width_of_atom atom }
+    ensures { result ≡ patterns.width_of_atom atom }
 {
     match atom {
         Atom::Truth(_) => Width::W8,
@@ -33,11 +33,11 @@ fn width_of_atom(atom: Atom) -> Width
     }
 }
 
-// What the node at a place says of its width.
-#[tactic(auto, unfolding(normal_spec::specs::Seen::width_of))]
+// The width that the node at an index gives, or where to look for it.
+#[tactic(auto, unfolding(normal_spec::specs::Patterns::width_of))]
 fn width_step(bank: &Bank, x: TermId) -> Wide
     requires { x < length bank.now }
-    ensures width { seen.width_of (tree_at bank.now x) ≡ wide_width bank.now result }
+    ensures width { patterns.width_of (tree_at bank.now x) ≡ wide_width bank.now result }
     ensures before { IsBefore x result }
 {
     match node_at(bank, x) {
@@ -58,7 +58,7 @@ fn width_step(bank: &Bank, x: TermId) -> Wide
 /// The width of a word, and 8 of what is no word: a walk down the first arguments.
 pub fn width_of(bank: &Bank, x: TermId) -> Width
     requires { x < length bank.now }
-    ensures { result ≡ seen.width_of (tree_at bank.now x) }
+    ensures { result ≡ patterns.width_of (tree_at bank.now x) }
 {
     let mut place = x;
     loop {

@@ -3,14 +3,14 @@
 ghost use Rattle.std.specs.Prelude.{◌≡◌, ℕ, ◌<◌, length, if◌then◌else◌};
 ghost use Rattle.term_spec.specs.Term as tree;
 ghost use Rattle.term_bank.specs.Nodes.{IsNode, tree_at};
-ghost use Rattle.normal_spec.specs.Seen as seen;
+ghost use Rattle.normal_spec.specs.Patterns as patterns;
 ghost use Rattle.normal_spec.specs.Normal as spec;
 ghost use Rattle.normal_rules.specs.Forms.{form_tree, IsForm};
 
 use crate::constants::{value_of_one, value_of_two};
 use crate::form::{Form, first_of, found_or};
 use crate::numbers::{negative, sum};
-use crate::seen::{
+use crate::patterns::{
     are_complements, base_and_offset, is_constant, is_full, is_one, is_zero, number_of, same,
     under_complement,
 };
@@ -37,7 +37,8 @@ pub fn bit_and_form(bank: &Bank, x: TermId, y: TermId) -> Form
     requires x_within { x < length bank.now }
     requires y_within { y < length bank.now }
     ensures within { IsForm (length bank.now) result }
-    ensures tree { form_tree bank.now result ≡ spec.normal_bit_and (tree_at bank.now x) (tree_at bank.now y) }
+    ensures tree { form_tree bank.now result
+        ≡ spec.normal_bit_and (tree_at bank.now x) (tree_at bank.now y) }
 {
     let operator = BinaryOperator::Word(WordOperator::And);
     let rules = [
@@ -52,13 +53,15 @@ pub fn bit_and_form(bank: &Bank, x: TermId, y: TermId) -> Form
     first_of(&rules, Form::Made(TermNode::Binary(operator, x, y)))
 }
 
-/// `or` on words: the full word is absorbing, 0 is left out, and a word with its complement is full.
+/// `or` on words: the full word is absorbing, 0 is left out, and a word with its complement is
+/// full.
 #[tactic(auto, unfolding(normal_spec::specs::Normal::normal_bit_or))]
 pub fn bit_or_form(bank: &Bank, x: TermId, y: TermId) -> Form
     requires x_within { x < length bank.now }
     requires y_within { y < length bank.now }
     ensures within { IsForm (length bank.now) result }
-    ensures tree { form_tree bank.now result ≡ spec.normal_bit_or (tree_at bank.now x) (tree_at bank.now y) }
+    ensures tree { form_tree bank.now result
+        ≡ spec.normal_bit_or (tree_at bank.now x) (tree_at bank.now y) }
 {
     let operator = BinaryOperator::Word(WordOperator::Or);
     let rules = [
@@ -79,7 +82,8 @@ pub fn bit_xor_form(bank: &Bank, x: TermId, y: TermId) -> Form
     requires x_within { x < length bank.now }
     requires y_within { y < length bank.now }
     ensures within { IsForm (length bank.now) result }
-    ensures tree { form_tree bank.now result ≡ spec.normal_bit_xor (tree_at bank.now x) (tree_at bank.now y) }
+    ensures tree { form_tree bank.now result
+        ≡ spec.normal_bit_xor (tree_at bank.now x) (tree_at bank.now y) }
 {
     let operator = BinaryOperator::Word(WordOperator::Xor);
     let rules = [
@@ -112,7 +116,10 @@ fn sum_form(bank: &Bank, x: TermId, y: TermId) -> Form
     requires x_within { x < length bank.now }
     requires y_within { y < length bank.now }
     ensures within { IsForm (length bank.now) result }
-    ensures tree { let s = tree_at bank.now x in let t = tree_at bank.now y in form_tree bank.now result ≡ (if seen.is_constant s then spec.add_constant (seen.width_of s) t (seen.number_of s) else if seen.is_constant t then spec.add_constant (seen.width_of t) s (seen.number_of t) else tree.add s t) }
+    ensures tree { let s = tree_at bank.now x in let t = tree_at bank.now y in form_tree bank.now
+        result ≡ (if patterns.is_constant s then spec.add_constant (patterns.width_of s) t
+        (patterns.number_of s) else if patterns.is_constant t then
+        spec.add_constant (patterns.width_of t) s (patterns.number_of t) else tree.add s t) }
 {
     if is_constant(bank, x) {
         return add_constant(bank, width_of(bank, x), y, number_of(bank, x));
@@ -123,13 +130,14 @@ fn sum_form(bank: &Bank, x: TermId, y: TermId) -> Form
     Form::Made(TermNode::Binary(BinaryOperator::Word(WordOperator::Add), x, y))
 }
 
-/// The sum: a constant stands on the right, and two constants are gathered.
+/// The sum: a constant is put on the right, and two constants are gathered.
 #[tactic(auto, unfolding(normal_spec::specs::Normal::normal_add))]
 pub fn add_form(bank: &Bank, x: TermId, y: TermId) -> Form
     requires x_within { x < length bank.now }
     requires y_within { y < length bank.now }
     ensures within { IsForm (length bank.now) result }
-    ensures tree { form_tree bank.now result ≡ spec.normal_add (tree_at bank.now x) (tree_at bank.now y) }
+    ensures tree { form_tree bank.now result
+        ≡ spec.normal_add (tree_at bank.now x) (tree_at bank.now y) }
 {
     let operator = BinaryOperator::Word(WordOperator::Add);
     let value = value_of_two(bank, operator, x, y);
@@ -141,7 +149,9 @@ fn difference_form(bank: &Bank, x: TermId, y: TermId) -> Form
     requires x_within { x < length bank.now }
     requires y_within { y < length bank.now }
     ensures within { IsForm (length bank.now) result }
-    ensures tree { let s = tree_at bank.now x in let t = tree_at bank.now y in form_tree bank.now result ≡ (if seen.is_constant t then spec.add_constant (seen.width_of t) s (spec.negative (seen.width_of t) (seen.number_of t)) else tree.subtract s t) }
+    ensures tree { let s = tree_at bank.now x in let t = tree_at bank.now y in form_tree bank.now
+        result ≡ (if patterns.is_constant t then spec.add_constant (patterns.width_of t) s
+        (spec.negative (patterns.width_of t) (patterns.number_of t)) else tree.subtract s t) }
 {
     if is_constant(bank, y) {
         let width = width_of(bank, y);
@@ -157,7 +167,8 @@ pub fn subtract_form(bank: &Bank, x: TermId, y: TermId) -> Form
     requires x_within { x < length bank.now }
     requires y_within { y < length bank.now }
     ensures within { IsForm (length bank.now) result }
-    ensures tree { form_tree bank.now result ≡ spec.normal_subtract (tree_at bank.now x) (tree_at bank.now y) }
+    ensures tree { form_tree bank.now result
+        ≡ spec.normal_subtract (tree_at bank.now x) (tree_at bank.now y) }
 {
     let operator = BinaryOperator::Word(WordOperator::Subtract);
     let value = value_of_two(bank, operator, x, y);
@@ -171,7 +182,8 @@ fn multiply_constant(bank: &Bank, x: TermId, constant: TermId) -> Form
     requires x_within { x < length bank.now }
     requires constant_within { constant < length bank.now }
     ensures within { IsForm (length bank.now) result }
-    ensures tree { form_tree bank.now result ≡ spec.multiply_constant (tree_at bank.now x) (tree_at bank.now constant) }
+    ensures tree { form_tree bank.now result
+        ≡ spec.multiply_constant (tree_at bank.now x) (tree_at bank.now constant) }
 {
     let operator = BinaryOperator::Word(WordOperator::Multiply);
     let rules = [
@@ -181,13 +193,14 @@ fn multiply_constant(bank: &Bank, x: TermId, constant: TermId) -> Form
     first_of(&rules, Form::Made(TermNode::Binary(operator, x, constant)))
 }
 
-/// The product: a constant stands on the right, 0 is absorbing, and 1 is left out.
+/// The product: a constant is put on the right, 0 is absorbing, and 1 is left out.
 #[tactic(auto, unfolding(normal_spec::specs::Normal::normal_multiply))]
 pub fn multiply_form(bank: &Bank, x: TermId, y: TermId) -> Form
     requires x_within { x < length bank.now }
     requires y_within { y < length bank.now }
     ensures within { IsForm (length bank.now) result }
-    ensures tree { form_tree bank.now result ≡ spec.normal_multiply (tree_at bank.now x) (tree_at bank.now y) }
+    ensures tree { form_tree bank.now result
+        ≡ spec.normal_multiply (tree_at bank.now x) (tree_at bank.now y) }
 {
     let operator = BinaryOperator::Word(WordOperator::Multiply);
     let rules = [
@@ -204,7 +217,8 @@ pub fn shift_form(bank: &Bank, operator: WordOperator, x: TermId, y: TermId) -> 
     requires x_within { x < length bank.now }
     requires y_within { y < length bank.now }
     ensures within { IsForm (length bank.now) result }
-    ensures tree { form_tree bank.now result ≡ spec.normal_shift operator (tree_at bank.now x) (tree_at bank.now y) }
+    ensures tree { form_tree bank.now result
+        ≡ spec.normal_shift operator (tree_at bank.now x) (tree_at bank.now y) }
 {
     let operator = BinaryOperator::Word(operator);
     let rules = [
@@ -219,7 +233,9 @@ fn divide_form(bank: &Bank, operator: WordOperator, x: TermId, y: TermId) -> For
     requires x_within { x < length bank.now }
     requires y_within { y < length bank.now }
     ensures within { IsForm (length bank.now) result }
-    ensures tree { let s = tree_at bank.now x in let t = tree_at bank.now y in form_tree bank.now result ≡ spec.value_of_two_or (BinaryOperator.Word operator) s t (tree.on_words operator s t) }
+    ensures tree { let s = tree_at bank.now x in let t = tree_at bank.now y in form_tree bank.now
+        result ≡ spec.value_of_two_or (BinaryOperator.Word operator) s t
+        (tree.on_words operator s t) }
 {
     let operator = BinaryOperator::Word(operator);
     let value = value_of_two(bank, operator, x, y);
@@ -232,7 +248,8 @@ pub fn word_form(bank: &Bank, operator: WordOperator, x: TermId, y: TermId) -> F
     requires x_within { x < length bank.now }
     requires y_within { y < length bank.now }
     ensures within { IsForm (length bank.now) result }
-    ensures tree { form_tree bank.now result ≡ spec.normal_word operator (tree_at bank.now x) (tree_at bank.now y) }
+    ensures tree { form_tree bank.now result
+        ≡ spec.normal_word operator (tree_at bank.now x) (tree_at bank.now y) }
 {
     match operator {
         WordOperator::Add => add_form(bank, x, y),

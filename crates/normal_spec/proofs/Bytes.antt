@@ -12,10 +12,10 @@ use Rattle.term_spec.specs.Sort.{sort_of}
 use Rattle.term_spec.proofs.Sorts.{as_word}
 use Rattle.term_spec.proofs.Soundness.{value-sort}
 use Rattle.term_spec.proofs.Same.{same_is}
-use Rattle.normal_spec.proofs.Keeps.{known-sort, known-worth}
+use Rattle.normal_spec.proofs.Keeps.{known-sort, known-value}
 use Rattle.term_spec.specs.Value.{Value, Number, Assignment, IsAssignment, IsOfSort, value, unary_value, byte_of, number_of_bytes, low_bits}
 use Rattle.term_spec.specs.Same.{same_term}
-use Rattle.normal_spec.specs.Seen.{are_bytes_of, is_constant, are_constants, known}
+use Rattle.normal_spec.specs.Patterns.{are_bytes_of, is_constant, are_constants, known}
 use Rattle.normal_spec.proofs.Numbers.{mod-small}
 use Rattle.normal_spec.proofs.Words.{word_of}
 
@@ -74,7 +74,7 @@ pub all_known : (assignment : Assignment) (parts : List Term) → are_constants 
 all_known assignment [] e = refl
 all_known assignment (t ∷ rest) e =
     let both = and_parts (is_constant t) (are_constants rest) e in
-    let first = known-worth assignment t both.0 in
+    let first = known-value assignment t both.0 in
     let later = all_known assignment rest both.1 in
     cc
 
@@ -101,9 +101,9 @@ picked assignment h (t ∷ rest) all (suc k) p e n is =
         let up : m ≡ n / 2 ^ 8 = omega arith in
         ap (λ x. x / 2 ^ (8 * k)) up ∙ shr-shr n 8 (8 * k) ∙ ap (λ x. n / 2 ^ x) (omega arith)
 
-pub worth-byte : (assignment : Assignment) (place : ℕ) (w : Width) (x : Term) (a : ℕ) → value assignment x ≡ Number w a → value assignment (byte place x) ≡ Number W8 (low_bits 8 (a / 2 ^ (8 * place)))
+pub value-byte : (assignment : Assignment) (place : ℕ) (w : Width) (x : Term) (a : ℕ) → value assignment x ≡ Number w a → value assignment (byte place x) ≡ Number W8 (low_bits 8 (a / 2 ^ (8 * place)))
 unfolding value unary_value
-worth-byte assignment place w x a e = rw e refl
+value-byte assignment place w x a e = rw e refl
 
 -- the bytes of x from a place on have the number of its bits from there on
 pub pieces : (assignment : Assignment) (x : Term) (w : Width) (a : ℕ) → value assignment x ≡ Number w a → (k : ℕ) (parts : List Term) → are_bytes_of x k parts ≡ true
@@ -115,7 +115,7 @@ pieces assignment x w a ex k [] e = ap Some (nothing (a / 2 ^ (8 * k)))
     nothing n = omega arith
 pieces assignment x w a ex k (t ∷ rest) e =
     let parts = both (same_term t (byte k x)) (are_bytes_of x (k + 1) rest) e in
-    let is : value assignment t ≡ Number W8 (low_bits 8 (a / 2 ^ (8 * k))) = ap (value assignment) (same_is t (byte k x) parts.0) ∙ worth-byte assignment k w x a ex in
+    let is : value assignment t ≡ Number W8 (low_bits 8 (a / 2 ^ (8 * k))) = ap (value assignment) (same_is t (byte k x) parts.0) ∙ value-byte assignment k w x a ex in
     number_more (value assignment t) (map (value assignment) rest) (low_bits 8 (a / 2 ^ (8 * k))) (a / 2 ^ (8 * (k + 1)) % 2 ^ (8 * length rest)) is (mod_below _ (2 ^ 8) (omega arith)) (pieces assignment x w a ex (k + 1) rest parts.1)
     ∙ ap Some (joined_up k (length rest))
   where

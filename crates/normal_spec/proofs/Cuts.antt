@@ -18,13 +18,13 @@ use Rattle.term_spec.specs.Value.{Number, Assignment, IsAssignment, IsOfSort, op
 use Rattle.term_spec.specs.Same.{same_term}
 use Rattle.term_spec.proofs.Sorts.{sort_if-some, with_one-some, with_two-some, with_four-some, same_sort-true, same_width-true, word_width}
 use Rattle.term_spec.proofs.Same.{same_itself}
-use Rattle.normal_spec.specs.Fixed.{Run}
-use Rattle.normal_spec.specs.Seen.{are_constants, is_zero, known, constant_of, under_extension, part, under_first_byte, are_bytes_of, whole, width_of}
+use Rattle.memory_spec.specs.Runs.{Run}
+use Rattle.normal_spec.specs.Patterns.{are_constants, is_zero, known, constant_of, under_extension, part, under_first_byte, are_bytes_of, whole, width_of}
 use Rattle.normal_spec.specs.Normal.{normal_shift, normal_extend, extended, normal_low, normal_byte, normal_join}
 use Rattle.normal_spec.proofs.Numbers.{mod-small}
-use Rattle.normal_spec.proofs.Bytes.{AllBytes, number_of_all, number_of_known, all_known, picked, pieces, worth-byte}
+use Rattle.normal_spec.proofs.Bytes.{AllBytes, number_of_all, number_of_known, all_known, picked, pieces, value-byte}
 use Rattle.normal_spec.proofs.Words.{sort-words, word_of, number_is, words_keep}
-use Rattle.normal_spec.proofs.Keeps.{Keeps, keeps_itself, keeps_if, keeps_option, keeps_value_of_one, keeps_value_of_two, constant-sort, constant-worth, zero_is, width_is}
+use Rattle.normal_spec.proofs.Keeps.{Keeps, keeps_itself, keeps_if, keeps_option, keeps_value_of_one, keeps_value_of_two, constant-sort, constant-value, zero_is, width_is}
 
 -- ---- a shift by 0
 
@@ -96,18 +96,18 @@ byte_parts place x s h =
     let width = word_width parts.0 both.0 in
     (width.0, parts.1 ∙ ap Some width.1, sym tests.1)
 
-worth-zero_extend : (assignment : Assignment) (to w : Width) (x : Term) (a : ℕ) → value assignment x ≡ Number w a → value assignment (zero_extend to x) ≡ Number to a
+value-zero_extend : (assignment : Assignment) (to w : Width) (x : Term) (a : ℕ) → value assignment x ≡ Number w a → value assignment (zero_extend to x) ≡ Number to a
 unfolding value unary_value
-worth-zero_extend assignment to w x a e = rw e refl
+value-zero_extend assignment to w x a e = rw e refl
 
-worth-sign_extend : (assignment : Assignment) (to w : Width) (x : Term) (a : ℕ) → value assignment x ≡ Number w a
+value-sign_extend : (assignment : Assignment) (to w : Width) (x : Term) (a : ℕ) → value assignment x ≡ Number w a
     → value assignment (sign_extend to x) ≡ Number to (low_bits (bits to) (a + ones_if (is_negative (bits w) a) (bits w) (bits to)))
 unfolding value unary_value
-worth-sign_extend assignment to w x a e = rw e refl
+value-sign_extend assignment to w x a e = rw e refl
 
-worth-low : (assignment : Assignment) (to w : Width) (x : Term) (a : ℕ) → value assignment x ≡ Number w a → value assignment (low to x) ≡ Number to (low_bits (bits to) a)
+value-low : (assignment : Assignment) (to w : Width) (x : Term) (a : ℕ) → value assignment x ≡ Number w a → value assignment (low to x) ≡ Number to (low_bits (bits to) a)
 unfolding value unary_value
-worth-low assignment to w x a e = rw e refl
+value-low assignment to w x a e = rw e refl
 
 -- a word cut back from a sign extension
 cut_back : (test : Bool) (u v : Width) (a : ℕ) → nat_le (bits u) (bits v) ≡ true → a < 2 ^ bits u → low_bits (bits u) (low_bits (bits v) (a + ones_if test (bits u) (bits v))) ≡ a
@@ -156,7 +156,7 @@ module _ (runs : List Run) where
       (keeps_if runs (sort.Word to) _ _ _ (same_width (width_of x) to)
       (λ e.
       let hx = own_width x r.0.from to r.0.sorted e in
-      record { sorted = hx; worth = λ assignment g fixed. let vx = word_of assignment g to x hx in vx.1 ∙ sym (worth-zero_extend assignment to to x vx.0 vx.1) })
+      record { sorted = hx; value_is = λ assignment g fixed. let vx = word_of assignment g to x hx in vx.1 ∙ sym (value-zero_extend assignment to to x vx.0 vx.1) })
       (λ n1. keeps_itself runs (sort.Word to) (zero_extend to x) h))
 
   pub keeps_sign_extend : (to : Width) (x : Term) → sort_of (sign_extend to x) ≡ Some (sort.Word to) → Keeps runs (sort.Word to) (sign_extend to x) (normal_extend (unary.SignExtend to) to x)
@@ -169,9 +169,9 @@ module _ (runs : List Run) where
       let hx = own_width x r.0.from to r.0.sorted e in
       record {
         sorted = hx;
-        worth = λ assignment g fixed.
+        value_is = λ assignment g fixed.
             let vx = word_of assignment g to x hx in
-            vx.1 ∙ ap (Number to) (sym (mod-small vx.0 (2 ^ bits to) vx.2) ∙ ap (λ n. n % 2 ^ bits to) (unchanged vx.0 (is_negative (bits to) vx.0))) ∙ sym (worth-sign_extend assignment to to x vx.0 vx.1);
+            vx.1 ∙ ap (Number to) (sym (mod-small vx.0 (2 ^ bits to) vx.2) ∙ ap (λ n. n % 2 ^ bits to) (unchanged vx.0 (is_negative (bits to) vx.0))) ∙ sym (value-sign_extend assignment to to x vx.0 vx.1);
       })
       (λ n1. keeps_itself runs (sort.Word to) (sign_extend to x) h))
     where
@@ -186,7 +186,7 @@ module _ (runs : List Run) where
       (keeps_if runs (sort.Word to) _ _ _ (same_width (width_of x) to)
       (λ e.
       let hx = own_width x r.0.from to r.0.sorted e in
-      record { sorted = hx; worth = λ assignment g fixed. let vx = word_of assignment g to x hx in vx.1 ∙ ap (Number to) (sym (mod-small vx.0 (2 ^ bits to) vx.2)) ∙ sym (worth-low assignment to to x vx.0 vx.1) })
+      record { sorted = hx; value_is = λ assignment g fixed. let vx = word_of assignment g to x hx in vx.1 ∙ ap (Number to) (sym (mod-small vx.0 (2 ^ bits to) vx.2)) ∙ sym (value-low assignment to to x vx.0 vx.1) })
       (λ n1. back x h))
     where
       back : (x : Term) → sort_of (low to x) ≡ Some (sort.Word to) → Keeps runs (sort.Word to) (low to x) (unwrap_or (extended to (under_extension x)) (low to x))
@@ -198,9 +198,9 @@ module _ (runs : List Run) where
           let hy = own_width y q.0.from to q.0.sorted e in
           record {
             sorted = hy;
-            worth = λ assignment k fixed.
+            value_is = λ assignment k fixed.
                 let vy = word_of assignment k to y hy in
-                vy.1 ∙ ap (Number to) (sym (mod-small vy.0 (2 ^ bits to) vy.2)) ∙ sym (worth-low assignment to v (zero_extend v y) vy.0 (worth-zero_extend assignment v to y vy.0 vy.1));
+                vy.1 ∙ ap (Number to) (sym (mod-small vy.0 (2 ^ bits to) vy.2)) ∙ sym (value-low assignment to v (zero_extend v y) vy.0 (value-zero_extend assignment v to y vy.0 vy.1));
           })
           (keeps_itself runs (sort.Word to) (low to (zero_extend v y)) g)
       back (Unary (unary.SignExtend v) y) g =
@@ -213,9 +213,9 @@ module _ (runs : List Run) where
           let wider : nat_le (bits to) (bits v) ≡ true = subst (λ u. nat_le (bits u) (bits v) ≡ true) from_is q.1 in
           record {
             sorted = hy;
-            worth = λ assignment k fixed.
+            value_is = λ assignment k fixed.
                 let vy = word_of assignment k to y hy in
-                vy.1 ∙ ap (Number to) (sym (cut_back (is_negative (bits to) vy.0) to v vy.0 wider vy.2)) ∙ sym (worth-low assignment to v (sign_extend v y) _ (worth-sign_extend assignment v to y vy.0 vy.1));
+                vy.1 ∙ ap (Number to) (sym (cut_back (is_negative (bits to) vy.0) to v vy.0 wider vy.2)) ∙ sym (value-low assignment to v (sign_extend v y) _ (value-sign_extend assignment v to y vy.0 vy.1));
           })
           (keeps_itself runs (sort.Word to) (low to (sign_extend v y)) g)
       back x g = keeps_itself runs (sort.Word to) (low to x) g
@@ -227,13 +227,13 @@ module _ (runs : List Run) where
     pub sorted : sort_of t ≡ Some (sort.Word w)
     pub bytes : AllBytes parts
     pub full : bits w ≡ 8 * length parts
-    pub worth : (assignment : Assignment) → value assignment t ≡ joined w (map (value assignment) parts)
+    pub value_is : (assignment : Assignment) → value assignment t ≡ joined w (map (value assignment) parts)
 
   number_of_join : (w : Width) (parts : List Term) (t : Term) → IsJoin w parts t → (assignment : Assignment) → IsAssignment assignment
       → (n : ℕ) × (number_of_bytes (map byte_of (map (value assignment) parts)) ≡ Some n) × (value assignment t ≡ Number w n) × (n < 2 ^ bits w)
   number_of_join w parts t join assignment h =
       let number = number_of_all assignment h parts join.bytes in
-      (number.0, number.1, join.worth assignment ∙ rw number.1 refl, subst (λ k. number.0 < 2 ^ k) (sym join.full) number.2)
+      (number.0, number.1, join.value_is assignment ∙ rw number.1 refl, subst (λ k. number.0 < 2 ^ k) (sym join.full) number.2)
 
   -- the first of these is byte 0 of x
   first_is : (t x : Term) → under_first_byte t ≡ Some x → t ≡ byte 0 x
@@ -269,12 +269,12 @@ module _ (runs : List Run) where
           let hx = own_width x from.0 w from.1 same in
           record {
             sorted = hx;
-            worth = λ assignment h fixed.
+            value_is = λ assignment h fixed.
                 let vx = word_of assignment h w x hx in
                 let first_same : same_term first (byte 0 x) ≡ true = subst (λ u. same_term u (byte 0 x) ≡ true) (sym is) (same_itself (byte 0 x)) in
                 let all : are_bytes_of x 0 (first ∷ rest) ≡ true = rw first_same more in
                 let number = pieces assignment x w vx.0 vx.1 0 (first ∷ rest) all in
-                vx.1 ∙ ap (Number w) (whole_number vx.0 vx.2) ∙ ap (word_or_stray w) (sym number) ∙ sym (join.worth assignment);
+                vx.1 ∙ ap (Number w) (whole_number vx.0 vx.2) ∙ ap (word_or_stray w) (sym number) ∙ sym (join.value_is assignment);
           }
 
       nested : (x : Term) → first ≡ byte 0 x → Keeps runs (sort.Word w) t (unwrap_or (choice x) t)
@@ -294,8 +294,8 @@ module _ (runs : List Run) where
       let is : joined w (map known parts) ≡ Number w number.0 = rw number.1 refl in
       record {
         sorted = ap (λ v. sort_of (constant_of v)) is ∙ constant-sort (sort.Word w) (Number w number.0) refl fits;
-        worth = λ assignment h fixed. ap (λ v. value assignment (constant_of v)) is ∙ constant-worth assignment (sort.Word w) (Number w number.0) refl fits
-            ∙ sym is ∙ ap (joined w) (sym (all_known assignment parts e)) ∙ sym (join.worth assignment);
+        value_is = λ assignment h fixed. ap (λ v. value assignment (constant_of v)) is ∙ constant-value assignment (sort.Word w) (Number w number.0) refl fits
+            ∙ sym is ∙ ap (joined w) (sym (all_known assignment parts e)) ∙ sym (join.value_is assignment);
       })
       (λ n1. whole_keeps w parts t join)
 
@@ -310,9 +310,9 @@ module _ (runs : List Run) where
   keeps_part place w parts t join h (Some p) e =
       record {
         sorted = part_is parts join.bytes place p e;
-        worth = λ assignment g fixed.
+        value_is = λ assignment g fixed.
             let vt = number_of_join w parts t join assignment g in
-            picked assignment g parts join.bytes place p e vt.0 vt.1 ∙ sym (worth-byte assignment place w t vt.0 vt.2);
+            picked assignment g parts join.bytes place p e vt.0 vt.1 ∙ sym (value-byte assignment place w t vt.0 vt.2);
       }
 
   -- ---- joins
@@ -325,7 +325,7 @@ module _ (runs : List Run) where
       let both = and_parts (is_byte parts.0) (is_byte parts.1) tests.0 in
       let ha = parts.2 ∙ ap Some (same_sort-true parts.0 (sort.Word W8) both.0) in
       let hb = parts.3 ∙ ap Some (same_sort-true parts.1 (sort.Word W8) both.1) in
-      (sym tests.1, record { sorted = h ∙ ap Some (sym tests.1); bytes = (ha, (hb, tt)); full = refl; worth = λ assignment. refl })
+      (sym tests.1, record { sorted = h ∙ ap Some (sym tests.1); bytes = (ha, (hb, tt)); full = refl; value_is = λ assignment. refl })
 
   pub join_four_is : (a b c d : Term) (s : Sort) → sort_of (Quaternary quaternary.Join a b c d) ≡ Some s → (s ≡ sort.Word W32) × IsJoin W32 (a ∷ b ∷ c ∷ d ∷ []) (Quaternary quaternary.Join a b c d)
   unfolding sort_of sort_of_quaternary value quaternary_value
@@ -339,7 +339,7 @@ module _ (runs : List Run) where
       let hb = parts.5 ∙ ap Some (same_sort-true parts.1 (sort.Word W8) r2.0) in
       let hc = parts.6 ∙ ap Some (same_sort-true parts.2 (sort.Word W8) r3.0) in
       let hd = parts.7 ∙ ap Some (same_sort-true parts.3 (sort.Word W8) r3.1) in
-      (sym tests.1, record { sorted = h ∙ ap Some (sym tests.1); bytes = (ha, (hb, (hc, (hd, tt)))); full = refl; worth = λ assignment. refl })
+      (sym tests.1, record { sorted = h ∙ ap Some (sym tests.1); bytes = (ha, (hb, (hc, (hd, tt)))); full = refl; value_is = λ assignment. refl })
 
   bytes_of_list : (parts : List Term) → all_bytes (map sort_of parts) ≡ true → AllBytes parts
   bytes_of_list [] e = tt
@@ -356,7 +356,7 @@ module _ (runs : List Run) where
   unfolding sort_of value
   join_eight_is a b c d i j k l s h =
       let tests = sort_if-some (all_bytes (map sort_of (a ∷ b ∷ c ∷ d ∷ i ∷ j ∷ k ∷ l ∷ []))) (sort.Word W64) s h in
-      (sym tests.1, record { sorted = h ∙ ap Some (sym tests.1); bytes = bytes_of_list (a ∷ b ∷ c ∷ d ∷ i ∷ j ∷ k ∷ l ∷ []) tests.0; full = refl; worth = λ assignment. refl })
+      (sym tests.1, record { sorted = h ∙ ap Some (sym tests.1); bytes = bytes_of_list (a ∷ b ∷ c ∷ d ∷ i ∷ j ∷ k ∷ l ∷ []) tests.0; full = refl; value_is = λ assignment. refl })
 
   -- ---- bytes of words
 

@@ -16,11 +16,11 @@ use Rattle.term_spec.specs.Same.{same_term}
 use Rattle.term_spec.proofs.Sorts.{sort_if-some, with_two-some, same_sort-true}
 use Rattle.term_spec.proofs.Soundness.{on_two_words-same}
 use Rattle.term_spec.proofs.Same.{same_is}
-use Rattle.normal_spec.specs.Fixed.{Run}
-use Rattle.normal_spec.specs.Seen.{is_true, is_false, base, offset}
+use Rattle.memory_spec.specs.Runs.{Run}
+use Rattle.normal_spec.specs.Patterns.{is_true, is_false, base, offset}
 use Rattle.normal_spec.specs.Normal.{normal_not, normal_equal}
 use Rattle.normal_spec.proofs.Numbers.{apart_with_offsets}
-use Rattle.normal_spec.proofs.Truths.{sort-truth, sort-not, worth_of, worth-not, equal_worth, keeps_not}
+use Rattle.normal_spec.proofs.Truths.{sort-truth, sort-not, truth_value_of, value-not, same_truths, keeps_not}
 use Rattle.normal_spec.proofs.Words.{words_of, word_of, equal_number, split}
 use Rattle.normal_spec.proofs.Keeps.{Keeps, keeps_itself, keeps_then, keeps_if, keeps_value_of_two, true_is, false_is, value-truth}
 
@@ -55,13 +55,13 @@ sort-equal x y (words W64 hx hy) = rw (hx, hy) refl
 abbrev same_truth : Bool → Bool → Bool
 same_truth a b = if a then b else not b
 
-worth-equal_truths : (assignment : Assignment) (x y : Term) (a b : Bool) → value assignment x ≡ Truth a → value assignment y ≡ Truth b → value assignment (equal x y) ≡ Truth (same_truth a b)
+value-equal_truths : (assignment : Assignment) (x y : Term) (a b : Bool) → value assignment x ≡ Truth a → value assignment y ≡ Truth b → value assignment (equal x y) ≡ Truth (same_truth a b)
 unfolding value binary_value
-worth-equal_truths assignment x y a b ex ey = rw (ex, ey) refl
+value-equal_truths assignment x y a b ex ey = rw (ex, ey) refl
 
-pub worth-equal_words : (assignment : Assignment) (w : Width) (x y : Term) (a b : ℕ) → value assignment x ≡ Number w a → value assignment y ≡ Number w b → value assignment (equal x y) ≡ Truth (a == b)
+pub value-equal_words : (assignment : Assignment) (w : Width) (x y : Term) (a b : ℕ) → value assignment x ≡ Number w a → value assignment y ≡ Number w b → value assignment (equal x y) ≡ Truth (a == b)
 unfolding value binary_value
-worth-equal_words assignment w x y a b ex ey = rw (ex, ey) (on_two_words-same (λ v c d. Truth (c == d)) w a b)
+value-equal_words assignment w x y a b ex ey = rw (ex, ey) (on_two_words-same (λ v c d. Truth (c == d)) w a b)
 
 same_truth-same : (a b : Bool) → a ≡ b → same_truth a b ≡ true
 same_truth-same true b e = sym e
@@ -101,18 +101,18 @@ module _ (runs : List Run) where
   equal_keeps x y u (truths hx hy) hu f g =
       record {
         sorted = hu;
-        worth = λ assignment h fixed.
-            let vx = worth_of assignment h x hx in
-            let vy = worth_of assignment h y hy in
-            f assignment vx.0 vy.0 vx.1 vy.1 ∙ sym (worth-equal_truths assignment x y vx.0 vy.0 vx.1 vy.1);
+        value_is = λ assignment h fixed.
+            let vx = truth_value_of assignment h x hx in
+            let vy = truth_value_of assignment h y hy in
+            f assignment vx.0 vy.0 vx.1 vy.1 ∙ sym (value-equal_truths assignment x y vx.0 vy.0 vx.1 vy.1);
       }
   equal_keeps x y u (words w hx hy) hu f g =
       record {
         sorted = hu;
-        worth = λ assignment h fixed.
+        value_is = λ assignment h fixed.
             let vx = word_of assignment h w x hx in
             let vy = word_of assignment h w y hy in
-            g w hx hy assignment vx.0 vy.0 h vx.1 vy.1 ∙ sym (worth-equal_words assignment w x y vx.0 vy.0 vx.1 vy.1);
+            g w hx hy assignment vx.0 vy.0 h vx.1 vy.1 ∙ sym (value-equal_words assignment w x y vx.0 vy.0 vx.1 vy.1);
       }
 
   -- a term that is known to be a truth value has a truth value beside it
@@ -137,15 +137,15 @@ module _ (runs : List Run) where
       let sy = split w y hy in
       record {
         sorted = sort-truth false;
-        worth = λ assignment h fixed.
+        value_is = λ assignment h fixed.
             let vx = word_of assignment h w x hx in
             let vy = word_of assignment h w y hy in
-            let bx = sx.worth assignment h vx.0 vx.1 in
-            let by_ = sy.worth assignment h vy.0 vy.1 in
+            let bx = sx.value_is assignment h vx.0 vx.1 in
+            let by_ = sy.value_is assignment h vy.0 vy.1 in
             let bases : bx.0 ≡ by_.0 = equal_number assignment w (base x) (base y) bx.0 by_.0 one bx.1 by_.1 in
             let apart : vx.0 ≢ vy.0 = λ same. different (offset x) (offset y) both.1
             (apart_with_offsets w bx.0 (offset x) (offset y) sx.small sy.small (sym bx.2 ∙ same ∙ by_.2 ∙ ap (λ n. (n + offset y) % 2 ^ bits w) (sym bases))) in
-            value-truth assignment false ∙ ap Truth (sym (ne_eqb vx.0 vy.0 apart)) ∙ sym (worth-equal_words assignment w x y vx.0 vy.0 vx.1 vy.1);
+            value-truth assignment false ∙ ap Truth (sym (ne_eqb vx.0 vy.0 apart)) ∙ sym (value-equal_words assignment w x y vx.0 vy.0 vx.1 vy.1);
       }
     where
       different : (c d : ℕ) → not (c == d) ≡ true → c ≡ d → ⊥
@@ -157,22 +157,22 @@ module _ (runs : List Run) where
       keeps_value_of_two runs binary.Equal x y sort.Truth _ refl (sort-equal x y both)
       (keeps_if runs sort.Truth _ _ _ (same_term x y)
       (λ e. equal_keeps x y (truth true) both (sort-truth true)
-      (λ v a b ea eb. value-truth v true ∙ ap Truth (sym (same_truth-same a b (equal_worth v x y a b (same_is x y e) ea eb))))
+      (λ v a b ea eb. value-truth v true ∙ ap Truth (sym (same_truth-same a b (same_truths v x y a b (same_is x y e) ea eb))))
       (λ w hx hy v a b h ea eb. value-truth v true ∙ ap Truth (sym (eq-eqb a b (equal_number v w x y a b (same_is x y e) ea eb)))))
       (λ n1. keeps_if runs sort.Truth _ _ _ (is_true x)
       (λ e. equal_keeps x y y both (beside x y true both (true_is x e))
-      (λ v a b ea eb. eb ∙ ap Truth (sym (same_truth-true_left a b (equal_worth v x (truth true) a true (true_is x e) ea (value-truth v true)))))
+      (λ v a b ea eb. eb ∙ ap Truth (sym (same_truth-true_left a b (same_truths v x (truth true) a true (true_is x e) ea (value-truth v true)))))
       (λ w hx hy. absurd (no_word w x true (true_is x e) hx)))
       (λ n2. keeps_if runs sort.Truth _ _ _ (is_true y)
       (λ e. equal_keeps x y x both (beside y x true (turned x y both) (true_is y e))
-      (λ v a b ea eb. ea ∙ ap Truth (sym (same_truth-true_right a b (equal_worth v y (truth true) b true (true_is y e) eb (value-truth v true)))))
+      (λ v a b ea eb. ea ∙ ap Truth (sym (same_truth-true_right a b (same_truths v y (truth true) b true (true_is y e) eb (value-truth v true)))))
       (λ w hx hy. absurd (no_word w y true (true_is y e) hy)))
       (λ n3. keeps_if runs sort.Truth _ _ _ (is_false x)
       (λ e.
       let hy = beside x y false both (false_is x e) in
       keeps_then runs sort.Truth (equal x y) (not_term y) (normal_not y)
       (equal_keeps x y (not_term y) both (sort-not y hy)
-      (λ v a b ea eb. worth-not v y b eb ∙ ap Truth (sym (same_truth-false_left a b (equal_worth v x (truth false) a false (false_is x e) ea (value-truth v false)))))
+      (λ v a b ea eb. value-not v y b eb ∙ ap Truth (sym (same_truth-false_left a b (same_truths v x (truth false) a false (false_is x e) ea (value-truth v false)))))
       (λ w hx hy. absurd (no_word w x false (false_is x e) hx)))
       (keeps_not runs y hy))
       (λ n4. keeps_if runs sort.Truth _ _ _ (is_false y)
@@ -180,7 +180,7 @@ module _ (runs : List Run) where
       let hx = beside y x false (turned x y both) (false_is y e) in
       keeps_then runs sort.Truth (equal x y) (not_term x) (normal_not x)
       (equal_keeps x y (not_term x) both (sort-not x hx)
-      (λ v a b ea eb. worth-not v x a ea ∙ ap Truth (sym (same_truth-false_right a b (equal_worth v y (truth false) b false (false_is y e) eb (value-truth v false)))))
+      (λ v a b ea eb. value-not v x a ea ∙ ap Truth (sym (same_truth-false_right a b (same_truths v y (truth false) b false (false_is y e) eb (value-truth v false)))))
       (λ w hx hy. absurd (no_word w y false (false_is y e) hy)))
       (keeps_not runs x hx))
       (λ n5. keeps_if runs sort.Truth _ _ _ (same_term (base x) (base y) && not (offset x == offset y)) (λ e. offsets_apart x y both e)

@@ -1,4 +1,4 @@
--- When one term may stand for another: it has the sort, and the value wherever the fixed bytes are held.
+-- When one term may replace another: it has the sort, and the value wherever the fixed bytes are held.
 use Rattle.std.proofs.Common.{◌≡◌, ℕ, ◌^◌, ◌<◌, Bool, true, false, cond, List, [], ◌∷◌, Some, None, unwrap_or, refl, sym, ap, ◌∙◌, subst, eqb-true}
 use Rattle.std.specs.Prelude.{◌&&◌, ◌-◌, nat_lt}
 use Rattle.std.proofs.lemmas.Bool.{and_parts, ltb-true, lt-ltb}
@@ -21,21 +21,22 @@ use Rattle.term_spec.specs.Sort.{bits, is_memory, sort_of, sort_of_atom, sort_of
 use Rattle.term_spec.specs.Value.{Value, Truth, Number, IsOfSort, Assignment, IsAssignment, value, unary_value, binary_value}
 use Rattle.term_spec.proofs.Sorts.{sort_if-some, with_one-some, with_two-some, with_three-some, with_four-some}
 use Rattle.term_spec.proofs.Soundness.{unary_value-sort, binary_value-sort}
-use Rattle.normal_spec.specs.Fixed.{Run, HoldsFixed}
-use Rattle.normal_spec.specs.Seen.{is_constant, is_true, is_false, is_zero, is_one, is_full, known, number_of, constant_of, width_of, width_of_sort}
+use Rattle.memory_spec.specs.Runs.{Run}
+use Rattle.normal_spec.specs.Fixed.{HoldsFixed}
+use Rattle.normal_spec.specs.Patterns.{is_constant, is_true, is_false, is_zero, is_one, is_full, known, number_of, constant_of, width_of, width_of_sort}
 use Rattle.normal_spec.specs.Normal.{value_of_one_or, value_of_two_or}
 
 pub record Keeps (runs : List Run) (s : Sort) (t u : Term) : Type 0 where
   pub sorted : sort_of u ≡ Some s
-  pub worth : (assignment : Assignment) → IsAssignment assignment → HoldsFixed runs assignment → value assignment u ≡ value assignment t
+  pub value_is : (assignment : Assignment) → IsAssignment assignment → HoldsFixed runs assignment → value assignment u ≡ value assignment t
 
 -- ---- constants
 
-pub known-worth : (assignment : Assignment) (x : Term) → is_constant x ≡ true → value assignment x ≡ known x
+pub known-value : (assignment : Assignment) (x : Term) → is_constant x ≡ true → value assignment x ≡ known x
 unfolding value is_constant known
-known-worth assignment (Leaf (atom.Truth b)) e = refl
-known-worth assignment (Leaf (atom.Constant w n)) e = refl
-known-worth assignment x e = absurd (cc)
+known-value assignment (Leaf (atom.Truth b)) e = refl
+known-value assignment (Leaf (atom.Constant w n)) e = refl
+known-value assignment x e = absurd (cc)
 
 pub known-sort : (x : Term) (s : Sort) → is_constant x ≡ true → sort_of x ≡ Some s → IsOfSort s (known x)
 unfolding sort_of sort_of_atom is_constant known
@@ -62,13 +63,13 @@ constant-sort sort.Truth v e h = absurd h
 constant-sort (sort.Word w) v e h = absurd h
 constant-sort sort.Memory v e h = absurd (cc)
 
-pub constant-worth : (assignment : Assignment) (s : Sort) (v : Value) → is_memory s ≡ false → IsOfSort s v → value assignment (constant_of v) ≡ v
+pub constant-value : (assignment : Assignment) (s : Sort) (v : Value) → is_memory s ≡ false → IsOfSort s v → value assignment (constant_of v) ≡ v
 unfolding value constant_of
-constant-worth assignment sort.Truth (Truth b) e h = refl
-constant-worth assignment (sort.Word w) (Number v n) e h = refl
-constant-worth assignment sort.Truth v e h = absurd h
-constant-worth assignment (sort.Word w) v e h = absurd h
-constant-worth assignment sort.Memory v e h = absurd (cc)
+constant-value assignment sort.Truth (Truth b) e h = refl
+constant-value assignment (sort.Word w) (Number v n) e h = refl
+constant-value assignment sort.Truth v e h = absurd h
+constant-value assignment (sort.Word w) v e h = absurd h
+constant-value assignment sort.Memory v e h = absurd (cc)
 
 pub false_is : (x : Term) → is_false x ≡ true → x ≡ truth false
 unfolding is_false
@@ -191,10 +192,10 @@ width_is (Octonary a b c d i j k l) w h =
 
 module _ (runs : List Run) where
   pub keeps_itself : (s : Sort) (t : Term) → sort_of t ≡ Some s → Keeps runs s t t
-  keeps_itself s t e = record { sorted = e; worth = λ assignment h fixed. refl }
+  keeps_itself s t e = record { sorted = e; value_is = λ assignment h fixed. refl }
 
   pub keeps_then : (s : Sort) (t u v : Term) → Keeps runs s t u → Keeps runs s u v → Keeps runs s t v
-  keeps_then s t u v a b = record { sorted = b.sorted; worth = λ assignment h fixed. b.worth assignment h fixed ∙ a.worth assignment h fixed }
+  keeps_then s t u v a b = record { sorted = b.sorted; value_is = λ assignment h fixed. b.value_is assignment h fixed ∙ a.value_is assignment h fixed }
 
   pub keeps_if : (s : Sort) (t u v : Term) (test : Bool) → (test ≡ true → Keeps runs s t u) → (test ≡ false → Keeps runs s t v) → Keeps runs s t (cond test u v)
   keeps_if s t u v true f g = f refl
@@ -212,7 +213,7 @@ module _ (runs : List Run) where
       let fits = unary_value-sort operator parts.0 s (known x) parts.2 (known-sort x parts.0 is parts.1) in
       record {
         sorted = constant-sort s (unary_value operator (known x)) not_memory fits;
-        worth = λ assignment h fixed. constant-worth assignment s (unary_value operator (known x)) not_memory fits ∙ ap (unary_value operator) (sym (known-worth assignment x is));
+        value_is = λ assignment h fixed. constant-value assignment s (unary_value operator (known x)) not_memory fits ∙ ap (unary_value operator) (sym (known-value assignment x is));
       })
       (λ isnt. other)
 
@@ -227,15 +228,15 @@ module _ (runs : List Run) where
       let fits = binary_value-sort operator parts.0 parts.1 s (known x) (known y) parts.4 (known-sort x parts.0 both.0 parts.2) (known-sort y parts.1 both.1 parts.3) in
       record {
         sorted = constant-sort s (binary_value operator (known x) (known y)) not_memory fits;
-        worth = λ assignment h fixed.
-            let ex = known-worth assignment x both.0 in
-            let ey = known-worth assignment y both.1 in
+        value_is = λ assignment h fixed.
+            let ex = known-value assignment x both.0 in
+            let ey = known-value assignment y both.1 in
             let same : binary_value operator (known x) (known y) ≡ binary_value operator (value assignment x) (value assignment y) = cc in
-            constant-worth assignment s (binary_value operator (known x) (known y)) not_memory fits ∙ same;
+            constant-value assignment s (binary_value operator (known x) (known y)) not_memory fits ∙ same;
       })
       (λ arent. other)
 
-  -- a term that may be wanting
+  -- an optional term
   pub keeps_option : (s : Sort) (t u otherwise : Term) (test : Bool) → (test ≡ true → Keeps runs s t u) → Keeps runs s t otherwise → Keeps runs s t (unwrap_or (cond test (Some u) None) otherwise)
   keeps_option s t u otherwise true f other = f refl
   keeps_option s t u otherwise false f other = other
@@ -252,7 +253,7 @@ module _ (runs : List Run) where
       let parts = with_one-some (sort_of_unary operator) (sort_of x) s h in
       let kept = f parts.0 parts.1 in
       let sorts : sort_of u ≡ sort_of x = kept.sorted ∙ sym parts.1 in
-      record { sorted = ap (with_one (sort_of_unary operator)) sorts ∙ h; worth = λ assignment g fixed. ap (unary_value operator) (kept.worth assignment g fixed) }
+      record { sorted = ap (with_one (sort_of_unary operator)) sorts ∙ h; value_is = λ assignment g fixed. ap (unary_value operator) (kept.value_is assignment g fixed) }
 
   pub binary_keeps : (operator : BinaryOperator) (x y u v : Term) (s : Sort) → sort_of (Binary operator x y) ≡ Some s → ((p : Sort) → sort_of x ≡ Some p → Keeps runs p x u)
       → ((p : Sort) → sort_of y ≡ Some p → Keeps runs p y v) → Keeps runs s (Binary operator x y) (Binary operator u v)
@@ -265,9 +266,9 @@ module _ (runs : List Run) where
       let two : sort_of v ≡ sort_of y = second.sorted ∙ sym parts.3 in
       record {
         sorted = ap (λ o. with_two (sort_of_binary operator) o (sort_of v)) one ∙ ap (with_two (sort_of_binary operator) (sort_of x)) two ∙ h;
-        worth = λ assignment k fixed.
-            let e1 = first.worth assignment k fixed in
-            let e2 = second.worth assignment k fixed in
+        value_is = λ assignment k fixed.
+            let e1 = first.value_is assignment k fixed in
+            let e2 = second.value_is assignment k fixed in
             ap (λ o. binary_value operator o (value assignment v)) e1 ∙ ap (binary_value operator (value assignment x)) e2;
       }
 
@@ -284,7 +285,7 @@ module _ (runs : List Run) where
       let three : sort_of v ≡ sort_of z = third.sorted ∙ sym parts.5 in
       record {
         sorted = rw (one, two, three) h;
-        worth = λ assignment k fixed. rw (first.worth assignment k fixed, second.worth assignment k fixed, third.worth assignment k fixed) refl;
+        value_is = λ assignment k fixed. rw (first.value_is assignment k fixed, second.value_is assignment k fixed, third.value_is assignment k fixed) refl;
       }
 
   pub quaternary_keeps : (operator : QuaternaryOperator) (a b c d t u v w : Term) (s : Sort) → sort_of (Quaternary operator a b c d) ≡ Some s → ((p : Sort) → sort_of a ≡ Some p → Keeps runs p a t)
@@ -303,5 +304,5 @@ module _ (runs : List Run) where
       let four : sort_of w ≡ sort_of d = fourth.sorted ∙ sym parts.7 in
       record {
         sorted = rw (one, two, three, four) h;
-        worth = λ assignment k fixed. rw (first.worth assignment k fixed, second.worth assignment k fixed, third.worth assignment k fixed, fourth.worth assignment k fixed) refl;
+        value_is = λ assignment k fixed. rw (first.value_is assignment k fixed, second.value_is assignment k fixed, third.value_is assignment k fixed, fourth.value_is assignment k fixed) refl;
       }

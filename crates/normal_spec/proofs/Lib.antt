@@ -6,5 +6,10 @@ pub mod Equals
 pub mod Bytes
 pub mod Cuts
 pub mod Loads
-pub mod Whole
+pub mod Soundness
 pub mod Computes
+pub mod Forms
+pub mod Sums
+pub mod Rules
+pub mod Settled
+pub mod Variables

@@ -19,13 +19,13 @@ use Rattle.term_spec.specs.Sort.{sort_of, sort_of_binary, sort_of_ternary, sort_
 use Rattle.term_spec.specs.Value.{Truth, Number, Bytes, Assignment, IsAssignment, value, binary_value, ternary_value, quaternary_value, loaded, low_bits, with_byte, overlaid}
 use Rattle.term_spec.proofs.Sorts.{sort_if-some, with_three-some, with_four-some, as_memory, same_sort-true}
 use Rattle.term_spec.proofs.Soundness.{value-sort}
-use Rattle.normal_spec.specs.Fixed.{Run, AreBytes, fixed_byte}
-use Rattle.normal_spec.specs.Seen.{is_constant, is_source_memory, is_of_source, number_of}
+use Rattle.memory_spec.specs.Runs.{Run, AreBytes, fixed_byte}
+use Rattle.normal_spec.specs.Patterns.{is_constant, is_source_memory, is_of_source, number_of}
 use Rattle.normal_spec.specs.Normal.{normal_not, normal_and, normal_equal, normal_less, byte_or, load_of_variable, normal_load}
 use Rattle.normal_spec.proofs.Numbers.{mod-small}
-use Rattle.normal_spec.proofs.Truths.{sort-not, sort-and, worth_of, worth-not, worth-and, worth-choose, keeps_not, keeps_and, keeps_choose, sort-choose}
-use Rattle.normal_spec.proofs.Words.{word_of, worth-less, keeps_less, sort-less}
-use Rattle.normal_spec.proofs.Equals.{words, sort-equal, worth-equal_words, keeps_equal}
+use Rattle.normal_spec.proofs.Truths.{sort-not, sort-and, truth_value_of, value-not, value-and, value-choose, keeps_not, keeps_and, keeps_choose, sort-choose}
+use Rattle.normal_spec.proofs.Words.{word_of, value-less, keeps_less, sort-less}
+use Rattle.normal_spec.proofs.Equals.{words, sort-equal, value-equal_words, keeps_equal}
 use Rattle.normal_spec.proofs.Keeps.{Keeps, keeps_itself, keeps_then, keeps_if, at_sort, ternary_keeps, binary_keeps, unary_keeps, constant_is, sort-constant, value-constant}
 
 -- ---- sorts
@@ -71,21 +71,21 @@ choose_is c x y s h =
 pub memory_of : (assignment : Assignment) → IsAssignment assignment → (m : Term) → sort_of m ≡ Some sort.Memory → (bytes : ℕ → ℕ) × (value assignment m ≡ Bytes bytes)
 memory_of assignment h m hm = let is = as_memory (value assignment m) (value-sort assignment h m sort.Memory hm) in (is.0, is.1)
 
-pub worth-load : (assignment : Assignment) (m d : Term) (bytes : ℕ → ℕ) (q : ℕ) → value assignment m ≡ Bytes bytes → value assignment d ≡ Number W32 q → q < 2 ^ 32
+pub value-load : (assignment : Assignment) (m d : Term) (bytes : ℕ → ℕ) (q : ℕ) → value assignment m ≡ Bytes bytes → value assignment d ≡ Number W32 q → q < 2 ^ 32
     → value assignment (load m d) ≡ Number W8 (bytes q)
 unfolding value binary_value
-worth-load assignment m d bytes q em ed below = rw (em, ed) (ap (λ a. Number W8 (bytes a)) (mod-small q (2 ^ 32) below))
+value-load assignment m d bytes q em ed below = rw (em, ed) (ap (λ a. Number W8 (bytes a)) (mod-small q (2 ^ 32) below))
 
-worth-store : (assignment : Assignment) (m a b : Term) (bytes : ℕ → ℕ) (address byte : ℕ) → value assignment m ≡ Bytes bytes → value assignment a ≡ Number W32 address → address < 2 ^ 32
+value-store : (assignment : Assignment) (m a b : Term) (bytes : ℕ → ℕ) (address byte : ℕ) → value assignment m ≡ Bytes bytes → value assignment a ≡ Number W32 address → address < 2 ^ 32
     → value assignment b ≡ Number W8 byte → byte < 2 ^ 8 → value assignment (store m a b) ≡ Bytes (with_byte bytes address byte)
 unfolding value ternary_value
-worth-store assignment m a b bytes address byte em ea below eb small =
+value-store assignment m a b bytes address byte em ea below eb small =
     rw (em, ea, eb) (ap (λ c. Bytes (with_byte bytes c (low_bits 8 byte))) (mod-small address (2 ^ 32) below) ∙ ap (λ c. Bytes (with_byte bytes address c)) (mod-small byte (2 ^ 8) small))
 
-worth-over : (assignment : Assignment) (m z a b : Term) (bytes zone : ℕ → ℕ) (from to : ℕ) → value assignment m ≡ Bytes bytes → value assignment z ≡ Bytes zone
+value-over : (assignment : Assignment) (m z a b : Term) (bytes zone : ℕ → ℕ) (from to : ℕ) → value assignment m ≡ Bytes bytes → value assignment z ≡ Bytes zone
     → value assignment a ≡ Number W32 from → value assignment b ≡ Number W32 to → value assignment (over m z a b) ≡ Bytes (overlaid bytes zone from to)
 unfolding value quaternary_value
-worth-over assignment m z a b bytes zone from to em ez ea eb = rw (em, ez, ea, eb) refl
+value-over assignment m z a b bytes zone from to em ez ea eb = rw (em, ez, ea, eb) refl
 
 -- a test moved into a byte
 moved_in : (test : Bool) (a b : ℕ) → Number W8 (cond test a b) ≡ cond test (Number W8 a) (Number W8 b)
@@ -95,9 +95,9 @@ moved_in false a b = refl
 not_below : (a b : ℕ) → nat_le b a ≡ not (nat_lt a b)
 not_below a b = grind (arith, nat_tests)
 
-worth-loaded : (assignment : Assignment) (x d : Term) → value assignment (load x d) ≡ loaded (value assignment x) (value assignment d)
+value-loaded : (assignment : Assignment) (x d : Term) → value assignment (load x d) ≡ loaded (value assignment x) (value assignment d)
 unfolding value binary_value
-worth-loaded assignment x d = refl
+value-loaded assignment x d = refl
 
 variable_value : (assignment : Assignment) (v : Variable) (m : Term) (bytes : ℕ → ℕ) → m ≡ open_term v → value assignment m ≡ Bytes bytes → assignment v ≡ Bytes bytes
 unfolding value
@@ -109,17 +109,17 @@ module _ (runs : List Run) where
   load_store m a b d hm ha hb hd =
       record {
         sorted = sort-choose runs (sort.Word W8) (equal d a) b (load m d) (sort-equal d a (words W32 hd ha)) hb (sort-load m d hm hd);
-        worth = λ assignment h fixed.
+        value_is = λ assignment h fixed.
             let vm = memory_of assignment h m hm in
             let va = word_of assignment h W32 a ha in
             let vb = word_of assignment h W8 b hb in
             let vd = word_of assignment h W32 d hd in
             let right : value assignment (choose (equal d a) b (load m d)) ≡ cond (vd.0 == va.0) (value assignment b) (value assignment (load m d)) =
-            worth-choose assignment (equal d a) b (load m d) (vd.0 == va.0) (worth-equal_words assignment W32 d a vd.0 va.0 vd.1 va.1) in
+            value-choose assignment (equal d a) b (load m d) (vd.0 == va.0) (value-equal_words assignment W32 d a vd.0 va.0 vd.1 va.1) in
             let arms : cond (vd.0 == va.0) (value assignment b) (value assignment (load m d)) ≡ cond (vd.0 == va.0) (Number W8 vb.0) (Number W8 (vm.0 vd.0)) =
-            ap (λ u. cond (vd.0 == va.0) u (value assignment (load m d))) vb.1 ∙ ap (cond (vd.0 == va.0) (Number W8 vb.0)) (worth-load assignment m d vm.0 vd.0 vm.1 vd.1 vd.2) in
+            ap (λ u. cond (vd.0 == va.0) u (value assignment (load m d))) vb.1 ∙ ap (cond (vd.0 == va.0) (Number W8 vb.0)) (value-load assignment m d vm.0 vd.0 vm.1 vd.1 vd.2) in
             right ∙ arms ∙ sym (moved_in (vd.0 == va.0) vb.0 (vm.0 vd.0))
-            ∙ sym (worth-load assignment (store m a b) d (with_byte vm.0 va.0 vb.0) vd.0 (worth-store assignment m a b vm.0 va.0 vb.0 vm.1 va.1 va.2 vb.1 vb.2) vd.1 vd.2);
+            ∙ sym (value-load assignment (store m a b) d (with_byte vm.0 va.0 vb.0) vd.0 (value-store assignment m a b vm.0 va.0 vb.0 vm.1 va.1 va.2 vb.1 vb.2) vd.1 vd.2);
       }
 
   abbrev inside : Term → Term → Term → Term
@@ -133,7 +133,7 @@ module _ (runs : List Run) where
   load_over m z from to d hm hz hf ht hd =
       record {
         sorted = sort-choose runs (sort.Word W8) (inside d from to) (load z d) (load m d) (sort-inside d from to hd hf ht) (sort-load z d hz hd) (sort-load m d hm hd);
-        worth = λ assignment h fixed.
+        value_is = λ assignment h fixed.
             let vm = memory_of assignment h m hm in
             let vz = memory_of assignment h z hz in
             let vf = word_of assignment h W32 from hf in
@@ -141,15 +141,15 @@ module _ (runs : List Run) where
             let vd = word_of assignment h W32 d hd in
             let test : Bool = not (nat_lt vd.0 vf.0) && nat_lt vd.0 vt.0 in
             let test_is : value assignment (inside d from to) ≡ Truth test =
-            worth-and assignment (not_term (less d from)) (less d to) (not (nat_lt vd.0 vf.0)) (nat_lt vd.0 vt.0)
-            (worth-not assignment (less d from) (nat_lt vd.0 vf.0) (worth-less assignment W32 d from vd.0 vf.0 vd.1 vf.1)) (worth-less assignment W32 d to vd.0 vt.0 vd.1 vt.1) in
+            value-and assignment (not_term (less d from)) (less d to) (not (nat_lt vd.0 vf.0)) (nat_lt vd.0 vt.0)
+            (value-not assignment (less d from) (nat_lt vd.0 vf.0) (value-less assignment W32 d from vd.0 vf.0 vd.1 vf.1)) (value-less assignment W32 d to vd.0 vt.0 vd.1 vt.1) in
             let right : value assignment (choose (inside d from to) (load z d) (load m d)) ≡ cond test (value assignment (load z d)) (value assignment (load m d)) =
-            worth-choose assignment (inside d from to) (load z d) (load m d) test test_is in
+            value-choose assignment (inside d from to) (load z d) (load m d) test test_is in
             let arms : cond test (value assignment (load z d)) (value assignment (load m d)) ≡ cond test (Number W8 (vz.0 vd.0)) (Number W8 (vm.0 vd.0)) =
-            ap (λ u. cond test u (value assignment (load m d))) (worth-load assignment z d vz.0 vd.0 vz.1 vd.1 vd.2) ∙ ap (cond test (Number W8 (vz.0 vd.0))) (worth-load assignment m d vm.0 vd.0 vm.1 vd.1 vd.2) in
+            ap (λ u. cond test u (value assignment (load m d))) (value-load assignment z d vz.0 vd.0 vz.1 vd.1 vd.2) ∙ ap (cond test (Number W8 (vz.0 vd.0))) (value-load assignment m d vm.0 vd.0 vm.1 vd.1 vd.2) in
             right ∙ arms ∙ sym (moved_in test (vz.0 vd.0) (vm.0 vd.0))
             ∙ ap (λ t. Number W8 (cond (t && nat_lt vd.0 vt.0) (vz.0 vd.0) (vm.0 vd.0))) (sym (not_below vd.0 vf.0))
-            ∙ sym (worth-load assignment (over m z from to) d (overlaid vm.0 vz.0 vf.0 vt.0) vd.0 (worth-over assignment m z from to vm.0 vz.0 vf.0 vt.0 vm.1 vz.1 vf.1 vt.1) vd.1 vd.2);
+            ∙ sym (value-load assignment (over m z from to) d (overlaid vm.0 vz.0 vf.0 vt.0) vd.0 (value-over assignment m z from to vm.0 vz.0 vf.0 vt.0 vm.1 vz.1 vf.1 vt.1) vd.1 vd.2);
       }
 
   load_choose : (c m n d : Term) → sort_of c ≡ Some sort.Truth → sort_of m ≡ Some sort.Memory → sort_of n ≡ Some sort.Memory → sort_of d ≡ Some (sort.Word W32)
@@ -157,15 +157,15 @@ module _ (runs : List Run) where
   load_choose c m n d hc hm hn hd =
       record {
         sorted = sort-choose runs (sort.Word W8) c (load m d) (load n d) hc (sort-load m d hm hd) (sort-load n d hn hd);
-        worth = λ assignment h fixed.
-            let vc = worth_of assignment h c hc in
-            worth-choose assignment c (load m d) (load n d) vc.0 vc.1 ∙ by_test assignment vc.0
-            ∙ ap (λ u. loaded u (value assignment d)) (sym (worth-choose assignment c m n vc.0 vc.1)) ∙ sym (worth-loaded assignment (choose c m n) d);
+        value_is = λ assignment h fixed.
+            let vc = truth_value_of assignment h c hc in
+            value-choose assignment c (load m d) (load n d) vc.0 vc.1 ∙ by_test assignment vc.0
+            ∙ ap (λ u. loaded u (value assignment d)) (sym (value-choose assignment c m n vc.0 vc.1)) ∙ sym (value-loaded assignment (choose c m n) d);
       }
     where
       by_test : (assignment : Assignment) (test : Bool) → cond test (value assignment (load m d)) (value assignment (load n d)) ≡ loaded (cond test (value assignment m) (value assignment n)) (value assignment d)
-      by_test assignment true = worth-loaded assignment m d
-      by_test assignment false = worth-loaded assignment n d
+      by_test assignment true = value-loaded assignment m d
+      by_test assignment false = value-loaded assignment n d
 
   choose_keeps : (c x y t u v : Term) → Keeps runs sort.Truth c t → Keeps runs (sort.Word W8) x u → Keeps runs (sort.Word W8) y v
       → sort_of c ≡ Some sort.Truth → sort_of x ≡ Some (sort.Word W8) → sort_of y ≡ Some (sort.Word W8) → Keeps runs (sort.Word W8) (choose c x y) (choose t u v)
@@ -214,12 +214,12 @@ module _ (runs : List Run) where
             let from = source_is m source in
             record {
               sorted = sort-constant W8 number (small (number_of d) number e);
-              worth = λ assignment h fixed.
+              value_is = λ assignment h fixed.
                   let vm = memory_of assignment h m hm in
                   let vd : value assignment d ≡ Number W32 (number_of d) = ap (value assignment) is.0 ∙ value-constant assignment W32 (number_of d) in
                   value-constant assignment W8 number
                   ∙ ap (Number W8) (sym (fixed from.0 from.2 vm.0 (variable_value assignment from.0 m vm.0 from.1 vm.1) (number_of d) number e))
-                  ∙ sym (worth-load assignment m d vm.0 (number_of d) vm.1 vd is.1);
+                  ∙ sym (value-load assignment m d vm.0 (number_of d) vm.1 vd is.1);
             }
 
     pub keeps_load : (m d : Term) → sort_of m ≡ Some sort.Memory → sort_of d ≡ Some (sort.Word W32) → Keeps runs (sort.Word W8) (load m d) (normal_load runs m d)

@@ -14,8 +14,8 @@ use Rattle.term_spec.specs.Same.{same_term}
 use Rattle.term_spec.proofs.Sorts.{sort_if-some, with_one-some, as_truth, same_sort-true, same_sort-same}
 use Rattle.term_spec.proofs.Soundness.{value-sort}
 use Rattle.term_spec.proofs.Same.{same_is}
-use Rattle.normal_spec.specs.Fixed.{Run}
-use Rattle.normal_spec.specs.Seen.{is_true, is_false, under_not, are_negations}
+use Rattle.memory_spec.specs.Runs.{Run}
+use Rattle.normal_spec.specs.Patterns.{is_true, is_false, under_not, are_negations}
 use Rattle.normal_spec.specs.Normal.{normal_not, normal_and, normal_or, arm_or, normal_choose}
 use Rattle.normal_spec.proofs.Keeps.{Keeps, keeps_itself, keeps_then, keeps_if, keeps_value_of_one, keeps_value_of_two, true_is, false_is, value-truth}
 
@@ -46,24 +46,24 @@ sort-or x y hx hy = rw (hx, hy) refl
 
 -- ---- values
 
-pub worth_of : (assignment : Assignment) → IsAssignment assignment → (x : Term) → sort_of x ≡ Some sort.Truth → (a : Bool) × (value assignment x ≡ Truth a)
-worth_of assignment h x hx = as_truth (value assignment x) (value-sort assignment h x sort.Truth hx)
+pub truth_value_of : (assignment : Assignment) → IsAssignment assignment → (x : Term) → sort_of x ≡ Some sort.Truth → (a : Bool) × (value assignment x ≡ Truth a)
+truth_value_of assignment h x hx = as_truth (value assignment x) (value-sort assignment h x sort.Truth hx)
 
-pub worth-not : (assignment : Assignment) (x : Term) (a : Bool) → value assignment x ≡ Truth a → value assignment (not_term x) ≡ Truth (not a)
+pub value-not : (assignment : Assignment) (x : Term) (a : Bool) → value assignment x ≡ Truth a → value assignment (not_term x) ≡ Truth (not a)
 unfolding value unary_value
-worth-not assignment x a e = rw e refl
+value-not assignment x a e = rw e refl
 
-pub worth-and : (assignment : Assignment) (x y : Term) (a b : Bool) → value assignment x ≡ Truth a → value assignment y ≡ Truth b → value assignment (and_term x y) ≡ Truth (a && b)
+pub value-and : (assignment : Assignment) (x y : Term) (a b : Bool) → value assignment x ≡ Truth a → value assignment y ≡ Truth b → value assignment (and_term x y) ≡ Truth (a && b)
 unfolding value binary_value
-worth-and assignment x y a b ex ey = rw (ex, ey) refl
+value-and assignment x y a b ex ey = rw (ex, ey) refl
 
-pub worth-or : (assignment : Assignment) (x y : Term) (a b : Bool) → value assignment x ≡ Truth a → value assignment y ≡ Truth b → value assignment (or_term x y) ≡ Truth (a || b)
+pub value-or : (assignment : Assignment) (x y : Term) (a b : Bool) → value assignment x ≡ Truth a → value assignment y ≡ Truth b → value assignment (or_term x y) ≡ Truth (a || b)
 unfolding value binary_value
-worth-or assignment x y a b ex ey = rw (ex, ey) refl
+value-or assignment x y a b ex ey = rw (ex, ey) refl
 
-pub worth-choose : (assignment : Assignment) (c x y : Term) (test : Bool) → value assignment c ≡ Truth test → value assignment (choose c x y) ≡ cond test (value assignment x) (value assignment y)
+pub value-choose : (assignment : Assignment) (c x y : Term) (test : Bool) → value assignment c ≡ Truth test → value assignment (choose c x y) ≡ cond test (value assignment x) (value assignment y)
 unfolding value ternary_value
-worth-choose assignment c x y test e = rw e refl
+value-choose assignment c x y test e = rw e refl
 
 -- ---- facts of truth values
 
@@ -133,8 +133,8 @@ either_of true b e f g = f refl
 either_of false b e f g = g e
 
 -- equal terms have one value
-pub equal_worth : (assignment : Assignment) (x y : Term) (a b : Bool) → x ≡ y → value assignment x ≡ Truth a → value assignment y ≡ Truth b → a ≡ b
-equal_worth assignment x y a b e ex ey = let same : value assignment x ≡ value assignment y = ap (value assignment) e in cc
+pub same_truths : (assignment : Assignment) (x y : Term) (a b : Bool) → x ≡ y → value assignment x ≡ Truth a → value assignment y ≡ Truth b → a ≡ b
+same_truths assignment x y a b e ex ey = let same : value assignment x ≡ value assignment y = ap (value assignment) e in cc
 
 module _ (runs : List Run) where
   -- `and` and `or` as functions of values
@@ -143,10 +143,10 @@ module _ (runs : List Run) where
   and_keeps x y u hx hy hu f =
       record {
         sorted = hu;
-        worth = λ assignment h fixed.
-            let vx = worth_of assignment h x hx in
-            let vy = worth_of assignment h y hy in
-            f assignment vx.0 vy.0 vx.1 vy.1 ∙ sym (worth-and assignment x y vx.0 vy.0 vx.1 vy.1);
+        value_is = λ assignment h fixed.
+            let vx = truth_value_of assignment h x hx in
+            let vy = truth_value_of assignment h y hy in
+            f assignment vx.0 vy.0 vx.1 vy.1 ∙ sym (value-and assignment x y vx.0 vy.0 vx.1 vy.1);
       }
 
   or_keeps : (x y u : Term) → sort_of x ≡ Some sort.Truth → sort_of y ≡ Some sort.Truth → sort_of u ≡ Some sort.Truth
@@ -154,10 +154,10 @@ module _ (runs : List Run) where
   or_keeps x y u hx hy hu f =
       record {
         sorted = hu;
-        worth = λ assignment h fixed.
-            let vx = worth_of assignment h x hx in
-            let vy = worth_of assignment h y hy in
-            f assignment vx.0 vy.0 vx.1 vy.1 ∙ sym (worth-or assignment x y vx.0 vy.0 vx.1 vy.1);
+        value_is = λ assignment h fixed.
+            let vx = truth_value_of assignment h x hx in
+            let vy = truth_value_of assignment h y hy in
+            f assignment vx.0 vy.0 vx.1 vy.1 ∙ sym (value-or assignment x y vx.0 vy.0 vx.1 vy.1);
       }
 
   -- ---- rule 2
@@ -170,9 +170,9 @@ module _ (runs : List Run) where
       inner (Unary unary.Not y) hx =
           record {
             sorted = sort-under_not y hx;
-            worth = λ assignment h fixed.
-                let vy = worth_of assignment h y (sort-under_not y hx) in
-                vy.1 ∙ ap Truth (sym (not-not vy.0)) ∙ sym (worth-not assignment (not_term y) (not vy.0) (worth-not assignment y vy.0 vy.1));
+            value_is = λ assignment h fixed.
+                let vy = truth_value_of assignment h y (sort-under_not y hx) in
+                vy.1 ∙ ap Truth (sym (not-not vy.0)) ∙ sym (value-not assignment (not_term y) (not vy.0) (value-not assignment y vy.0 vy.1));
           }
       inner x hx = keeps_itself runs sort.Truth (not_term x) (sort-not x hx)
 
@@ -182,30 +182,30 @@ module _ (runs : List Run) where
   unfolding normal_and
   keeps_and x y hx hy =
       keeps_value_of_two runs binary.And x y sort.Truth _ refl (sort-and x y hx hy)
-      (keeps_if runs sort.Truth _ _ _ (is_false x) (λ e. and_keeps x y x hx hy hx (λ assignment a b ea eb. ea ∙ ap Truth (sym (and-false_left a b (equal_worth assignment x (truth false) a false (false_is x e) ea (value-truth assignment false))))))
-      (λ n1. keeps_if runs sort.Truth _ _ _ (is_false y) (λ e. and_keeps x y y hx hy hy (λ assignment a b ea eb. eb ∙ ap Truth (sym (and-false_right a b (equal_worth assignment y (truth false) b false (false_is y e) eb (value-truth assignment false))))))
-      (λ n2. keeps_if runs sort.Truth _ _ _ (is_true x) (λ e. and_keeps x y y hx hy hy (λ assignment a b ea eb. eb ∙ ap Truth (sym (and-true_left a b (equal_worth assignment x (truth true) a true (true_is x e) ea (value-truth assignment true))))))
-      (λ n3. keeps_if runs sort.Truth _ _ _ (is_true y) (λ e. and_keeps x y x hx hy hx (λ assignment a b ea eb. ea ∙ ap Truth (sym (and-true_right a b (equal_worth assignment y (truth true) b true (true_is y e) eb (value-truth assignment true))))))
-      (λ n4. keeps_if runs sort.Truth _ _ _ (same_term x y) (λ e. and_keeps x y x hx hy hx (λ assignment a b ea eb. ea ∙ ap Truth (sym (and-same a b (equal_worth assignment x y a b (same_is x y e) ea eb)))))
+      (keeps_if runs sort.Truth _ _ _ (is_false x) (λ e. and_keeps x y x hx hy hx (λ assignment a b ea eb. ea ∙ ap Truth (sym (and-false_left a b (same_truths assignment x (truth false) a false (false_is x e) ea (value-truth assignment false))))))
+      (λ n1. keeps_if runs sort.Truth _ _ _ (is_false y) (λ e. and_keeps x y y hx hy hy (λ assignment a b ea eb. eb ∙ ap Truth (sym (and-false_right a b (same_truths assignment y (truth false) b false (false_is y e) eb (value-truth assignment false))))))
+      (λ n2. keeps_if runs sort.Truth _ _ _ (is_true x) (λ e. and_keeps x y y hx hy hy (λ assignment a b ea eb. eb ∙ ap Truth (sym (and-true_left a b (same_truths assignment x (truth true) a true (true_is x e) ea (value-truth assignment true))))))
+      (λ n3. keeps_if runs sort.Truth _ _ _ (is_true y) (λ e. and_keeps x y x hx hy hx (λ assignment a b ea eb. ea ∙ ap Truth (sym (and-true_right a b (same_truths assignment y (truth true) b true (true_is y e) eb (value-truth assignment true))))))
+      (λ n4. keeps_if runs sort.Truth _ _ _ (same_term x y) (λ e. and_keeps x y x hx hy hx (λ assignment a b ea eb. ea ∙ ap Truth (sym (and-same a b (same_truths assignment x y a b (same_is x y e) ea eb)))))
       (λ n5. keeps_if runs sort.Truth _ _ _ (are_negations x y)
       (λ e. and_keeps x y (truth false) hx hy (sort-truth false) (λ assignment a b ea eb. value-truth assignment false ∙ ap Truth (sym (either_of (same_term y (not_term x)) (same_term x (not_term y)) e
-      (λ one. and-not_right a b (equal_worth assignment y (not_term x) b (not a) (same_is y (not_term x) one) eb (worth-not assignment x a ea)))
-      (λ other. and-not_left a b (equal_worth assignment x (not_term y) a (not b) (same_is x (not_term y) other) ea (worth-not assignment y b eb)))))))
+      (λ one. and-not_right a b (same_truths assignment y (not_term x) b (not a) (same_is y (not_term x) one) eb (value-not assignment x a ea)))
+      (λ other. and-not_left a b (same_truths assignment x (not_term y) a (not b) (same_is x (not_term y) other) ea (value-not assignment y b eb)))))))
       (λ n6. keeps_itself runs sort.Truth (and_term x y) (sort-and x y hx hy))))))))
 
   pub keeps_or : (x y : Term) → sort_of x ≡ Some sort.Truth → sort_of y ≡ Some sort.Truth → Keeps runs sort.Truth (or_term x y) (normal_or x y)
   unfolding normal_or
   keeps_or x y hx hy =
       keeps_value_of_two runs binary.Or x y sort.Truth _ refl (sort-or x y hx hy)
-      (keeps_if runs sort.Truth _ _ _ (is_true x) (λ e. or_keeps x y x hx hy hx (λ assignment a b ea eb. ea ∙ ap Truth (sym (or-true_left a b (equal_worth assignment x (truth true) a true (true_is x e) ea (value-truth assignment true))))))
-      (λ n1. keeps_if runs sort.Truth _ _ _ (is_true y) (λ e. or_keeps x y y hx hy hy (λ assignment a b ea eb. eb ∙ ap Truth (sym (or-true_right a b (equal_worth assignment y (truth true) b true (true_is y e) eb (value-truth assignment true))))))
-      (λ n2. keeps_if runs sort.Truth _ _ _ (is_false x) (λ e. or_keeps x y y hx hy hy (λ assignment a b ea eb. eb ∙ ap Truth (sym (or-false_left a b (equal_worth assignment x (truth false) a false (false_is x e) ea (value-truth assignment false))))))
-      (λ n3. keeps_if runs sort.Truth _ _ _ (is_false y) (λ e. or_keeps x y x hx hy hx (λ assignment a b ea eb. ea ∙ ap Truth (sym (or-false_right a b (equal_worth assignment y (truth false) b false (false_is y e) eb (value-truth assignment false))))))
-      (λ n4. keeps_if runs sort.Truth _ _ _ (same_term x y) (λ e. or_keeps x y x hx hy hx (λ assignment a b ea eb. ea ∙ ap Truth (sym (or-same a b (equal_worth assignment x y a b (same_is x y e) ea eb)))))
+      (keeps_if runs sort.Truth _ _ _ (is_true x) (λ e. or_keeps x y x hx hy hx (λ assignment a b ea eb. ea ∙ ap Truth (sym (or-true_left a b (same_truths assignment x (truth true) a true (true_is x e) ea (value-truth assignment true))))))
+      (λ n1. keeps_if runs sort.Truth _ _ _ (is_true y) (λ e. or_keeps x y y hx hy hy (λ assignment a b ea eb. eb ∙ ap Truth (sym (or-true_right a b (same_truths assignment y (truth true) b true (true_is y e) eb (value-truth assignment true))))))
+      (λ n2. keeps_if runs sort.Truth _ _ _ (is_false x) (λ e. or_keeps x y y hx hy hy (λ assignment a b ea eb. eb ∙ ap Truth (sym (or-false_left a b (same_truths assignment x (truth false) a false (false_is x e) ea (value-truth assignment false))))))
+      (λ n3. keeps_if runs sort.Truth _ _ _ (is_false y) (λ e. or_keeps x y x hx hy hx (λ assignment a b ea eb. ea ∙ ap Truth (sym (or-false_right a b (same_truths assignment y (truth false) b false (false_is y e) eb (value-truth assignment false))))))
+      (λ n4. keeps_if runs sort.Truth _ _ _ (same_term x y) (λ e. or_keeps x y x hx hy hx (λ assignment a b ea eb. ea ∙ ap Truth (sym (or-same a b (same_truths assignment x y a b (same_is x y e) ea eb)))))
       (λ n5. keeps_if runs sort.Truth _ _ _ (are_negations x y)
       (λ e. or_keeps x y (truth true) hx hy (sort-truth true) (λ assignment a b ea eb. value-truth assignment true ∙ ap Truth (sym (either_of (same_term y (not_term x)) (same_term x (not_term y)) e
-      (λ one. or-not_right a b (equal_worth assignment y (not_term x) b (not a) (same_is y (not_term x) one) eb (worth-not assignment x a ea)))
-      (λ other. or-not_left a b (equal_worth assignment x (not_term y) a (not b) (same_is x (not_term y) other) ea (worth-not assignment y b eb)))))))
+      (λ one. or-not_right a b (same_truths assignment y (not_term x) b (not a) (same_is y (not_term x) one) eb (value-not assignment x a ea)))
+      (λ other. or-not_left a b (same_truths assignment x (not_term y) a (not b) (same_is x (not_term y) other) ea (value-not assignment y b eb)))))))
       (λ n6. keeps_itself runs sort.Truth (or_term x y) (sort-or x y hx hy))))))))
 
   -- ---- rule 8
@@ -217,14 +217,14 @@ module _ (runs : List Run) where
   keeps_arm : (s : Sort) (c x y otherwise : Term) → sort_of c ≡ Some sort.Truth → sort_of x ≡ Some s → sort_of y ≡ Some s
       → Keeps runs s (choose c x y) otherwise → Keeps runs s (choose c x y) (arm_or c x y otherwise)
   keeps_arm s c x y otherwise hc hx hy other =
-      keeps_if runs s _ _ _ (is_true c) (λ e. record { sorted = hx; worth = λ assignment h fixed. sym (worth-choose assignment c x y true (ap (value assignment) (true_is c e) ∙ value-truth assignment true)) })
-      (λ n1. keeps_if runs s _ _ _ (is_false c) (λ e. record { sorted = hy; worth = λ assignment h fixed. sym (worth-choose assignment c x y false (ap (value assignment) (false_is c e) ∙ value-truth assignment false)) })
+      keeps_if runs s _ _ _ (is_true c) (λ e. record { sorted = hx; value_is = λ assignment h fixed. sym (value-choose assignment c x y true (ap (value assignment) (true_is c e) ∙ value-truth assignment true)) })
+      (λ n1. keeps_if runs s _ _ _ (is_false c) (λ e. record { sorted = hy; value_is = λ assignment h fixed. sym (value-choose assignment c x y false (ap (value assignment) (false_is c e) ∙ value-truth assignment false)) })
       (λ n2. keeps_if runs s _ _ _ (same_term x y)
       (λ e. record {
         sorted = hx;
-        worth = λ assignment h fixed.
-            let vc = worth_of assignment h c hc in
-            one_arm vc.0 (value assignment x) (value assignment y) (ap (value assignment) (same_is x y e)) ∙ sym (worth-choose assignment c x y vc.0 vc.1);
+        value_is = λ assignment h fixed.
+            let vc = truth_value_of assignment h c hc in
+            one_arm vc.0 (value assignment x) (value assignment y) (ap (value assignment) (same_is x y e)) ∙ sym (value-choose assignment c x y vc.0 vc.1);
       })
       (λ n3. keeps_if runs s _ _ _ (is_true x && is_false y)
       (λ e.
@@ -234,10 +234,10 @@ module _ (runs : List Run) where
       let is_truth : s ≡ sort.Truth = same_Some s sort.Truth (sym hx ∙ ap sort_of x_is ∙ sort-truth true) in
       record {
         sorted = hc ∙ ap Some (sym is_truth);
-        worth = λ assignment h fixed.
-            let vc = worth_of assignment h c hc in
+        value_is = λ assignment h fixed.
+            let vc = truth_value_of assignment h c hc in
             vc.1 ∙ test_itself vc.0 (value assignment x) (value assignment y) (ap (value assignment) x_is ∙ value-truth assignment true) (ap (value assignment) y_is ∙ value-truth assignment false)
-            ∙ sym (worth-choose assignment c x y vc.0 vc.1);
+            ∙ sym (value-choose assignment c x y vc.0 vc.1);
       })
       (λ n4. other))))
     where
@@ -256,9 +256,9 @@ module _ (runs : List Run) where
       (keeps_then runs s (choose (not_term c) x y) (choose c y x) (normal_choose c y x)
       (record {
         sorted = sort-choose s c y x (sort-under_not c hc) hy hx;
-        worth = λ assignment h fixed.
-            let vc = worth_of assignment h c (sort-under_not c hc) in
-            worth-choose assignment c y x vc.0 vc.1 ∙ turned vc.0 (value assignment x) (value assignment y) ∙ sym (worth-choose assignment (not_term c) x y (not vc.0) (worth-not assignment c vc.0 vc.1));
+        value_is = λ assignment h fixed.
+            let vc = truth_value_of assignment h c (sort-under_not c hc) in
+            value-choose assignment c y x vc.0 vc.1 ∙ turned vc.0 (value assignment x) (value assignment y) ∙ sym (value-choose assignment (not_term c) x y (not vc.0) (value-not assignment c vc.0 vc.1));
       })
       (keeps_choose s c y x (sort-under_not c hc) hy hx))
     where

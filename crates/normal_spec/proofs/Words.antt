@@ -20,8 +20,8 @@ use Rattle.term_spec.proofs.Sorts.{sort_if-some, with_one-some, with_two-some, a
 use Rattle.term_spec.proofs.Words.{low_bits-below}
 use Rattle.term_spec.proofs.Soundness.{value-sort, on_two_words-same}
 use Rattle.term_spec.proofs.Same.{same_is}
-use Rattle.normal_spec.specs.Fixed.{Run}
-use Rattle.normal_spec.specs.Seen.{is_constant, is_zero, is_one, is_full, number_of, under_complement, are_complements, base, offset, zero_like, full_like, width_of}
+use Rattle.memory_spec.specs.Runs.{Run}
+use Rattle.normal_spec.specs.Patterns.{is_constant, is_zero, is_one, is_full, number_of, under_complement, are_complements, base, offset, zero_like, full_like, width_of}
 use Rattle.normal_spec.specs.Normal.{normal_complement, normal_bit_and, normal_bit_or, normal_bit_xor, with_constant, add_constant, normal_add, negative, normal_subtract, multiply_constant, normal_multiply, normal_less}
 use Rattle.normal_spec.proofs.Numbers.{mod-small, and-zero_left, and-zero_right, and-ones_left, and-ones_right, and-equal, and-inverse_left, and-inverse_right, or-zero_left, or-zero_right, or-ones_left, or-ones_right, or-equal, or-inverse_left, or-inverse_right, xor-equal, xor-zero_left, xor-zero_right, sum_again, sum_of_small, difference_of_equal}
 use Rattle.normal_spec.proofs.Truths.{either_of, sort-truth}
@@ -71,18 +71,18 @@ words_of operator x y s h =
 pub word_of : (assignment : Assignment) → IsAssignment assignment → (w : Width) (x : Term) → sort_of x ≡ Some (sort.Word w) → (a : ℕ) × (value assignment x ≡ Number w a) × (a < 2 ^ bits w)
 word_of assignment h w x hx = as_word w (value assignment x) (value-sort assignment h x (sort.Word w) hx)
 
-pub worth-words : (assignment : Assignment) (operator : WordOperator) (w : Width) (x y : Term) (a b : ℕ) → value assignment x ≡ Number w a → value assignment y ≡ Number w b
+pub value-words : (assignment : Assignment) (operator : WordOperator) (w : Width) (x y : Term) (a b : ℕ) → value assignment x ≡ Number w a → value assignment y ≡ Number w b
     → value assignment (on_words operator x y) ≡ Number w (operation operator (bits w) a b)
 unfolding value binary_value
-worth-words assignment operator w x y a b ex ey = rw (ex, ey) (on_two_words-same (λ v c d. Number v (operation operator (bits v) c d)) w a b)
+value-words assignment operator w x y a b ex ey = rw (ex, ey) (on_two_words-same (λ v c d. Number v (operation operator (bits v) c d)) w a b)
 
-pub worth-less : (assignment : Assignment) (w : Width) (x y : Term) (a b : ℕ) → value assignment x ≡ Number w a → value assignment y ≡ Number w b → value assignment (less x y) ≡ Truth (nat_lt a b)
+pub value-less : (assignment : Assignment) (w : Width) (x y : Term) (a b : ℕ) → value assignment x ≡ Number w a → value assignment y ≡ Number w b → value assignment (less x y) ≡ Truth (nat_lt a b)
 unfolding value binary_value
-worth-less assignment w x y a b ex ey = rw (ex, ey) (on_two_words-same (λ v c d. Truth (nat_lt c d)) w a b)
+value-less assignment w x y a b ex ey = rw (ex, ey) (on_two_words-same (λ v c d. Truth (nat_lt c d)) w a b)
 
-pub worth-complement : (assignment : Assignment) (w : Width) (x : Term) (a : ℕ) → value assignment x ≡ Number w a → a < 2 ^ bits w → value assignment (complement x) ≡ Number w (2 ^ bits w - 1 - a)
+pub value-complement : (assignment : Assignment) (w : Width) (x : Term) (a : ℕ) → value assignment x ≡ Number w a → a < 2 ^ bits w → value assignment (complement x) ≡ Number w (2 ^ bits w - 1 - a)
 unfolding value unary_value
-worth-complement assignment w x a ex below = rw ex (ap (λ n. Number w (2 ^ bits w - 1 - n)) (mod-small a (2 ^ bits w) below))
+value-complement assignment w x a ex below = rw ex (ap (λ n. Number w (2 ^ bits w - 1 - n)) (mod-small a (2 ^ bits w) below))
 
 -- equal terms have one number
 pub equal_number : (assignment : Assignment) (w : Width) (x y : Term) (a b : ℕ) → x ≡ y → value assignment x ≡ Number w a → value assignment y ≡ Number w b → a ≡ b
@@ -96,14 +96,14 @@ number_is assignment w x a n e ex = equal_number assignment w x (constant w n) a
 pub record Split (w : Width) (x : Term) : Type 0 where
   pub sorted : sort_of (base x) ≡ Some (sort.Word w)
   pub small : offset x < 2 ^ bits w
-  pub worth : (assignment : Assignment) → IsAssignment assignment → (a : ℕ) → value assignment x ≡ Number w a → (b : ℕ) × (value assignment (base x) ≡ Number w b) × (a ≡ (b + offset x) % 2 ^ bits w)
+  pub value_is : (assignment : Assignment) → IsAssignment assignment → (a : ℕ) → value assignment x ≡ Number w a → (b : ℕ) × (value assignment (base x) ≡ Number w b) × (a ≡ (b + offset x) % 2 ^ bits w)
 
 split_itself : (w : Width) (x : Term) → sort_of x ≡ Some (sort.Word w) → base x ≡ x → offset x ≡ 0 → Split w x
 split_itself w x hx base_is none =
     record {
       sorted = ap sort_of base_is ∙ hx;
       small = omega (arith, pow_pos (bits w));
-      worth = λ assignment h a ea.
+      value_is = λ assignment h a ea.
           let va = word_of assignment h w x hx in
           let same : va.0 ≡ a = equal_number assignment w x x va.0 a refl va.1 ea in
           let below : a < 2 ^ bits w = omega arith in
@@ -121,10 +121,10 @@ split w (Binary (binary.Word word.Add) y (Leaf (atom.Constant v c))) hx =
     record {
       sorted = hy;
       small = is.1;
-      worth = λ assignment h a ea.
+      value_is = λ assignment h a ea.
           let vy = word_of assignment h w y hy in
           let vc : value assignment (constant v c) ≡ Number w c = value-constant assignment v c ∙ ap (λ u. Number u c) is.0 in
-          (vy.0, vy.1, sum_number assignment w y (constant v c) a vy.0 c ea (worth-words assignment word.Add w y (constant v c) vy.0 c vy.1 vc));
+          (vy.0, vy.1, sum_number assignment w y (constant v c) a vy.0 c ea (value-words assignment word.Add w y (constant v c) vy.0 c vy.1 vc));
     }
   where
     sum_number : (assignment : Assignment) (w : Width) (x y : Term) (a b c : ℕ) → value assignment (add x y) ≡ Number w a → value assignment (add x y) ≡ Number w (operation word.Add (bits w) b c) → a ≡ (b + c) % 2 ^ bits w
@@ -139,10 +139,10 @@ module _ (runs : List Run) where
   words_keep operator w x y u hx hy hu f =
       record {
         sorted = hu;
-        worth = λ assignment h fixed.
+        value_is = λ assignment h fixed.
             let vx = word_of assignment h w x hx in
             let vy = word_of assignment h w y hy in
-            f assignment vx.0 vy.0 h vx.1 vy.1 vx.2 vy.2 ∙ sym (worth-words assignment operator w x y vx.0 vy.0 vx.1 vy.1);
+            f assignment vx.0 vy.0 h vx.1 vy.1 vx.2 vy.2 ∙ sym (value-words assignment operator w x y vx.0 vy.0 vx.1 vy.1);
       }
 
   -- ---- rule 2
@@ -156,11 +156,11 @@ module _ (runs : List Run) where
           let hy = sort-under_complement w y hx in
           record {
             sorted = hy;
-            worth = λ assignment h fixed.
+            value_is = λ assignment h fixed.
                 let vy = word_of assignment h w y hy in
                 let twice : 2 ^ bits w - 1 - (2 ^ bits w - 1 - vy.0) ≡ vy.0 = omega (arith, vy.2) in
                 let less : 2 ^ bits w - 1 - vy.0 < 2 ^ bits w = omega (arith, vy.2) in
-                vy.1 ∙ ap (Number w) (sym twice) ∙ sym (worth-complement assignment w (complement y) (2 ^ bits w - 1 - vy.0) (worth-complement assignment w y vy.0 vy.1 vy.2) less);
+                vy.1 ∙ ap (Number w) (sym twice) ∙ sym (value-complement assignment w (complement y) (2 ^ bits w - 1 - vy.0) (value-complement assignment w y vy.0 vy.1 vy.2) less);
           }
       inner x hx = keeps_itself runs (sort.Word w) (complement x) (sort-complement w x hx)
 
@@ -169,14 +169,14 @@ module _ (runs : List Run) where
   sort-zero_like : (w : Width) (x : Term) → sort_of x ≡ Some (sort.Word w) → sort_of (zero_like x) ≡ Some (sort.Word w)
   sort-zero_like w x hx = rw (width_is x w hx) (sort-constant w 0 (pow_pos (bits w)))
 
-  worth-zero_like : (assignment : Assignment) (w : Width) (x : Term) → sort_of x ≡ Some (sort.Word w) → value assignment (zero_like x) ≡ Number w 0
-  worth-zero_like assignment w x hx = rw (width_is x w hx) (value-constant assignment w 0)
+  value-zero_like : (assignment : Assignment) (w : Width) (x : Term) → sort_of x ≡ Some (sort.Word w) → value assignment (zero_like x) ≡ Number w 0
+  value-zero_like assignment w x hx = rw (width_is x w hx) (value-constant assignment w 0)
 
   sort-full_like : (w : Width) (x : Term) → sort_of x ≡ Some (sort.Word w) → sort_of (full_like x) ≡ Some (sort.Word w)
   sort-full_like w x hx = rw (width_is x w hx) (sort-constant w (2 ^ bits w - 1) (omega (arith, pow_pos (bits w))))
 
-  worth-full_like : (assignment : Assignment) (w : Width) (x : Term) → sort_of x ≡ Some (sort.Word w) → value assignment (full_like x) ≡ Number w (2 ^ bits w - 1)
-  worth-full_like assignment w x hx = rw (width_is x w hx) (value-constant assignment w (2 ^ bits w - 1))
+  value-full_like : (assignment : Assignment) (w : Width) (x : Term) → sort_of x ≡ Some (sort.Word w) → value assignment (full_like x) ≡ Number w (2 ^ bits w - 1)
+  value-full_like assignment w x hx = rw (width_is x w hx) (value-constant assignment w (2 ^ bits w - 1))
 
   pub keeps_bit_and : (w : Width) (x y : Term) → sort_of x ≡ Some (sort.Word w) → sort_of y ≡ Some (sort.Word w) → Keeps runs (sort.Word w) (bit_and_term x y) (normal_bit_and x y)
   unfolding normal_bit_and operation
@@ -188,9 +188,9 @@ module _ (runs : List Run) where
       (λ n3. keeps_if runs (sort.Word w) _ _ _ (is_full y) (λ e. words_keep word.And w x y x hx hy hx (λ v a b h ea eb la lb. ea ∙ ap (Number w) (sym (and-ones_right (bits w) a b (number_is v w y b (2 ^ bits w - 1) (full_is w y hy e) eb) la))))
       (λ n4. keeps_if runs (sort.Word w) _ _ _ (same_term x y) (λ e. words_keep word.And w x y x hx hy hx (λ v a b h ea eb la lb. ea ∙ ap (Number w) (sym (and-equal a b (equal_number v w x y a b (same_is x y e) ea eb)))))
       (λ n5. keeps_if runs (sort.Word w) _ _ _ (are_complements x y)
-      (λ e. words_keep word.And w x y (zero_like x) hx hy (sort-zero_like w x hx) (λ v a b h ea eb la lb. worth-zero_like v w x hx ∙ ap (Number w) (sym (either_of (same_term y (complement x)) (same_term x (complement y)) e
-      (λ one. and-inverse_right w a b (equal_number v w y (complement x) b (2 ^ bits w - 1 - a) (same_is y (complement x) one) eb (worth-complement v w x a ea la)) la)
-      (λ other. and-inverse_left w a b (equal_number v w x (complement y) a (2 ^ bits w - 1 - b) (same_is x (complement y) other) ea (worth-complement v w y b eb lb)) lb)))))
+      (λ e. words_keep word.And w x y (zero_like x) hx hy (sort-zero_like w x hx) (λ v a b h ea eb la lb. value-zero_like v w x hx ∙ ap (Number w) (sym (either_of (same_term y (complement x)) (same_term x (complement y)) e
+      (λ one. and-inverse_right w a b (equal_number v w y (complement x) b (2 ^ bits w - 1 - a) (same_is y (complement x) one) eb (value-complement v w x a ea la)) la)
+      (λ other. and-inverse_left w a b (equal_number v w x (complement y) a (2 ^ bits w - 1 - b) (same_is x (complement y) other) ea (value-complement v w y b eb lb)) lb)))))
       (λ n6. keeps_itself runs (sort.Word w) (bit_and_term x y) (sort-words word.And w x y hx hy))))))))
 
   pub keeps_bit_or : (w : Width) (x y : Term) → sort_of x ≡ Some (sort.Word w) → sort_of y ≡ Some (sort.Word w) → Keeps runs (sort.Word w) (bit_or_term x y) (normal_bit_or x y)
@@ -203,9 +203,9 @@ module _ (runs : List Run) where
       (λ n3. keeps_if runs (sort.Word w) _ _ _ (is_zero y) (λ e. words_keep word.Or w x y x hx hy hx (λ v a b h ea eb la lb. ea ∙ ap (Number w) (sym (or-zero_right a b (number_is v w y b 0 (zero_is w y hy e) eb)))))
       (λ n4. keeps_if runs (sort.Word w) _ _ _ (same_term x y) (λ e. words_keep word.Or w x y x hx hy hx (λ v a b h ea eb la lb. ea ∙ ap (Number w) (sym (or-equal a b (equal_number v w x y a b (same_is x y e) ea eb)))))
       (λ n5. keeps_if runs (sort.Word w) _ _ _ (are_complements x y)
-      (λ e. words_keep word.Or w x y (full_like x) hx hy (sort-full_like w x hx) (λ v a b h ea eb la lb. worth-full_like v w x hx ∙ ap (Number w) (sym (either_of (same_term y (complement x)) (same_term x (complement y)) e
-      (λ one. or-inverse_right w a b (equal_number v w y (complement x) b (2 ^ bits w - 1 - a) (same_is y (complement x) one) eb (worth-complement v w x a ea la)) la)
-      (λ other. or-inverse_left w a b (equal_number v w x (complement y) a (2 ^ bits w - 1 - b) (same_is x (complement y) other) ea (worth-complement v w y b eb lb)) lb)))))
+      (λ e. words_keep word.Or w x y (full_like x) hx hy (sort-full_like w x hx) (λ v a b h ea eb la lb. value-full_like v w x hx ∙ ap (Number w) (sym (either_of (same_term y (complement x)) (same_term x (complement y)) e
+      (λ one. or-inverse_right w a b (equal_number v w y (complement x) b (2 ^ bits w - 1 - a) (same_is y (complement x) one) eb (value-complement v w x a ea la)) la)
+      (λ other. or-inverse_left w a b (equal_number v w x (complement y) a (2 ^ bits w - 1 - b) (same_is x (complement y) other) ea (value-complement v w y b eb lb)) lb)))))
       (λ n6. keeps_itself runs (sort.Word w) (bit_or_term x y) (sort-words word.Or w x y hx hy))))))))
 
   -- ---- rule 4
@@ -214,7 +214,7 @@ module _ (runs : List Run) where
   unfolding normal_bit_xor operation
   keeps_bit_xor w x y hx hy =
       keeps_value_of_two runs (binary.Word word.Xor) x y (sort.Word w) _ refl (sort-words word.Xor w x y hx hy)
-      (keeps_if runs (sort.Word w) _ _ _ (same_term x y) (λ e. words_keep word.Xor w x y (zero_like x) hx hy (sort-zero_like w x hx) (λ v a b h ea eb la lb. worth-zero_like v w x hx ∙ ap (Number w) (sym (xor-equal a b (equal_number v w x y a b (same_is x y e) ea eb)))))
+      (keeps_if runs (sort.Word w) _ _ _ (same_term x y) (λ e. words_keep word.Xor w x y (zero_like x) hx hy (sort-zero_like w x hx) (λ v a b h ea eb la lb. value-zero_like v w x hx ∙ ap (Number w) (sym (xor-equal a b (equal_number v w x y a b (same_is x y e) ea eb)))))
       (λ n1. keeps_if runs (sort.Word w) _ _ _ (is_zero x) (λ e. words_keep word.Xor w x y y hx hy hy (λ v a b h ea eb la lb. eb ∙ ap (Number w) (sym (xor-zero_left a b (number_is v w x a 0 (zero_is w x hx e) ea)))))
       (λ n2. keeps_if runs (sort.Word w) _ _ _ (is_zero y) (λ e. words_keep word.Xor w x y x hx hy hx (λ v a b h ea eb la lb. ea ∙ ap (Number w) (sym (xor-zero_right a b (number_is v w y b 0 (zero_is w y hy e) eb)))))
       (λ n3. keeps_itself runs (sort.Word w) (bit_xor_term x y) (sort-words word.Xor w x y hx hy)))))
@@ -238,9 +238,9 @@ module _ (runs : List Run) where
       keeps_then runs (sort.Word w) (add x (constant w d)) (add (base x) (constant w c)) (add_constant w x d)
       (words_keep word.Add w x (constant w d) (add (base x) (constant w c)) hx (sort-constant w d below) (sort-words word.Add w (base x) (constant w c) parts.sorted (sort-constant w c small))
       (λ v a b h ea eb la lb.
-      let vb = parts.worth v h a ea in
+      let vb = parts.value_is v h a ea in
       let is_d : b ≡ d = number_is v w (constant w d) b d refl eb in
-      worth-words v word.Add w (base x) (constant w c) vb.0 c vb.1 (value-constant v w c)
+      value-words v word.Add w (base x) (constant w c) vb.0 c vb.1 (value-constant v w c)
       ∙ ap (Number w) (sym (sum_again w vb.0 (offset x) d) ∙ ap (λ n. (n + d) % 2 ^ bits w) (sym vb.2) ∙ ap (λ n. (a + n) % 2 ^ bits w) (sym is_d))))
       (keeps_with_constant w (base x) c parts.sorted small)
 
@@ -255,7 +255,7 @@ module _ (runs : List Run) where
   unfolding operation
   swapped_sum w x y hx hy =
       words_keep word.Add w x y (add y x) hx hy (sort-words word.Add w y x hy hx)
-      (λ v a b h ea eb la lb. worth-words v word.Add w y x b a eb ea ∙ ap (λ n. Number w (n % 2 ^ bits w)) (omega arith))
+      (λ v a b h ea eb la lb. value-words v word.Add w y x b a eb ea ∙ ap (λ n. Number w (n % 2 ^ bits w)) (omega arith))
 
   pub keeps_add : (w : Width) (x y : Term) → sort_of x ≡ Some (sort.Word w) → sort_of y ≡ Some (sort.Word w) → Keeps runs (sort.Word w) (add x y) (normal_add x y)
   unfolding normal_add
@@ -272,7 +272,7 @@ module _ (runs : List Run) where
       keeps_value_of_two runs (binary.Word word.Subtract) x y (sort.Word w) _ refl (sort-words word.Subtract w x y hx hy)
       (keeps_if runs (sort.Word w) _ _ _ (same_term x y)
       (λ e. words_keep word.Subtract w x y (zero_like x) hx hy (sort-zero_like w x hx)
-      (λ v a b h ea eb la lb. worth-zero_like v w x hx ∙ ap (Number w) (sym (difference_of_equal w a b (equal_number v w x y a b (same_is x y e) ea eb) la))))
+      (λ v a b h ea eb la lb. value-zero_like v w x hx ∙ ap (Number w) (sym (difference_of_equal w a b (equal_number v w x y a b (same_is x y e) ea eb) la))))
       (λ n1. keeps_if runs (sort.Word w) _ _ _ (is_constant y)
       (λ e.
       let is = constant_is w y hy e in
@@ -280,7 +280,7 @@ module _ (runs : List Run) where
       let small : c < 2 ^ bits w = low_bits-below (bits w) _ in
       let sum : Keeps runs (sort.Word w) (subtract x y) (add x (constant w c)) =
       words_keep word.Subtract w x y (add x (constant w c)) hx hy (sort-words word.Add w x (constant w c) hx (sort-constant w c small))
-      (λ v a b h ea eb la lb. worth-words v word.Add w x (constant w c) a c ea (value-constant v w c)
+      (λ v a b h ea eb la lb. value-words v word.Add w x (constant w c) a c ea (value-constant v w c)
       ∙ ap (Number w) (sum_of_small w a (2 ^ bits w - low_bits (bits w) (number_of y)) ∙ ap (λ n. (a + (2 ^ bits w - low_bits (bits w) n)) % 2 ^ bits w) (sym (number_is v w y b (number_of y) is.0 eb)))) in
       subst (λ v. Keeps runs (sort.Word w) (subtract x y) (add_constant v x (negative v (number_of y)))) (sym (width_is y w hy))
       (keeps_then runs (sort.Word w) (subtract x y) (add x (constant w c)) (add_constant w x c) sum (keeps_add_constant w x c hx small)))
@@ -307,7 +307,7 @@ module _ (runs : List Run) where
   unfolding operation
   swapped_product w x y hx hy =
       words_keep word.Multiply w x y (multiply y x) hx hy (sort-words word.Multiply w y x hy hx)
-      (λ v a b h ea eb la lb. worth-words v word.Multiply w y x b a eb ea ∙ ap (λ n. Number w (n % 2 ^ bits w)) (omega arith))
+      (λ v a b h ea eb la lb. value-words v word.Multiply w y x b a eb ea ∙ ap (λ n. Number w (n % 2 ^ bits w)) (omega arith))
 
   pub keeps_multiply : (w : Width) (x y : Term) → sort_of x ≡ Some (sort.Word w) → sort_of y ≡ Some (sort.Word w) → Keeps runs (sort.Word w) (multiply x y) (normal_multiply x y)
   unfolding normal_multiply
@@ -334,8 +334,8 @@ module _ (runs : List Run) where
       not_less f =
           record {
             sorted = sort-truth false;
-            worth = λ assignment h fixed.
+            value_is = λ assignment h fixed.
                 let vx = word_of assignment h w x hx in
                 let vy = word_of assignment h w y hy in
-                value-truth assignment false ∙ ap Truth (sym (le-ltb vx.0 vy.0 (f assignment h vx.0 vy.0 vx.1 vy.1))) ∙ sym (worth-less assignment w x y vx.0 vy.0 vx.1 vy.1);
+                value-truth assignment false ∙ ap Truth (sym (le-ltb vx.0 vy.0 (f assignment h vx.0 vy.0 vx.1 vy.1))) ∙ sym (value-less assignment w x y vx.0 vy.0 vx.1 vy.1);
           }

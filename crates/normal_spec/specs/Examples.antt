@@ -6,7 +6,7 @@ use Rattle.term_spec.specs.declared.Sort.TheVariants.{Truth, Word, Memory}
 use Rattle.term_spec.specs.declared.Family.{Family}
 use Rattle.term_spec.specs.declared.Family.TheVariants.{Register, IsSet, SourceMemory, BinaryMemory, LoadedByte}
 use Rattle.term_spec.specs.Term.{Term, truth, constant, open_term, not_term, complement, zero_extend, sign_extend, low, byte, and_term, or_term, equal, less, add, subtract, multiply, bit_and, bit_or, bit_xor, shift_left, shift_right, shift_right_signed, divide, remainder, load, join_two, join_four, choose, store, over}
-use Rattle.normal_spec.specs.Fixed.{Run}
+use Rattle.memory_spec.specs.Runs.{Run}
 use Rattle.normal_spec.specs.Normal.{normal}
 
 pub record Example : Type 0 where

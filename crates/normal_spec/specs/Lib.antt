@@ -1,4 +1,4 @@
 pub mod Fixed
-pub mod Seen
+pub mod Patterns
 pub mod Normal
 pub mod Examples

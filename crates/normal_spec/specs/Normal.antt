@@ -1,7 +1,7 @@
 -- The normal form of a term: its arguments first, then the first rule that applies; a right side that is a new
 -- operator is normalised in turn. Below, the arguments of each operator are in normal form already.
 --
--- In rules 5 and 6 c and d stand for constants; but for these each letter stands for any term.
+-- In rules 5 and 6 c and d are constants; every other letter is any term.
 use Rattle.std.specs.Prelude.{ℕ, ◌+◌, ◌-◌, ◌^◌, ◌==◌, ◌&&◌, not, true, false, if◌then◌else◌, List, [], ◌∷◌, map, Option, Some, None, unwrap_or}
 use Rattle.term_spec.specs.declared.Width.{Width}
 use Rattle.term_spec.specs.declared.Width.TheVariants.{W8, W16, W32, W64}
@@ -19,8 +19,8 @@ use Rattle.term_spec.specs.Term.{Term, Leaf, Unary, Binary, Ternary, Quaternary,
 use Rattle.term_spec.specs.Sort.{bits, same_width}
 use Rattle.term_spec.specs.Value.{low_bits, joined, unary_value, binary_value}
 use Rattle.term_spec.specs.Same.{same_term}
-use Rattle.normal_spec.specs.Fixed.{Run, fixed_byte}
-use Rattle.normal_spec.specs.Seen.{width_of, is_constant, are_constants, is_true, is_false, is_zero, is_one, is_full, known, number_of, constant_of, zero_like, full_like, under_not, under_complement, under_extension, are_negations, are_complements, base, offset, part, whole, is_source_memory}
+use Rattle.memory_spec.specs.Runs.{Run, fixed_byte}
+use Rattle.normal_spec.specs.Patterns.{width_of, is_constant, are_constants, is_true, is_false, is_zero, is_one, is_full, known, number_of, constant_of, zero_like, full_like, under_not, under_complement, under_extension, are_negations, are_complements, base, offset, part, whole, is_source_memory}
 
 -- ---- Rule 1: where all arguments are constants, their value
 

@@ -1,7 +1,9 @@
-// Terms with their normal forms, worked by hand: each function's clause is one rule at its sides, and its body
-// is empty. The tables are in `specs/Examples.antt`.
+// Terms with their normal forms, worked by hand: each function's clause is one rule at its sides,
+// and its body is empty. The tables are in `specs/Examples.antt`.
 
-ghost use Rattle.normal_spec.specs.Examples.{AreNormal, constants, doubled, absorbed, exclusive, gathered, equalities, orderings, choices, resized, loads, nested};
+ghost use Rattle.normal_spec.specs.Examples.{AreNormal, constants, doubled, absorbed, exclusive};
+ghost use Rattle.normal_spec.specs.Examples.{gathered, equalities, orderings, choices, resized};
+ghost use Rattle.normal_spec.specs.Examples.{loads, nested};
 
 /// An operator whose arguments are all constants is its value.
 pub fn constants_are_computed()
@@ -53,7 +55,8 @@ pub fn loads_go_through_memory()
     ensures { AreNormal loads }
 {}
 
-/// A right side that is a new operator is brought into normal form in turn, and so are the arguments.
+/// A right side that is a new operator is brought into normal form in turn, and so are the
+/// arguments.
 pub fn rules_work_together()
     ensures { AreNormal nested }
 {}

@@ -6,7 +6,9 @@ use Rattle.std.proofs.lemmas.List.Folds.{list_all-map}
 use Rattle.std.specs.Prelude.{flat_map, filter, count_by, if◌then◌else◌}
 use Rattle.std.proofs.lemmas.List.{append-nil, flat_map_more, take_more}
 use Rattle.std.proofs.lemmas.List.Sums.{sum_by-cons}
-use Rattle.claim_spec.specs.Verdict as claim
+use Rattle.report_spec.specs.Verdict as spec
+use Rattle.report_spec.specs.Report as texts
+use Rattle.report_spec.specs.Certificate as certificate
 use Rattle.report_text.specs.declared.verdicts.Judgement.{Judgement}
 use Rattle.std.specs.Prelude.{Vec}
 use Rattle.std.specs.declared.alloc.Global.{Global}
@@ -15,29 +17,29 @@ use Rattle.report_text.specs.declared.verdicts.Verdict.TheVariants.{Judged}
 use Rattle.report_text.specs.Verdicts.{verdict_of}
 use Rattle.report_text.specs.Judgements.{judgement_of, judgements_of, part_if_valid}
 
-pub lines_are : (js : List Judgement) → flat_map claim.judgement_line (judgements_of js) ≡ flat_map (λ j. claim.judgement_line (judgement_of j)) js
+pub lines_are : (js : List Judgement) → flat_map texts.judgement_line (judgements_of js) ≡ flat_map (λ j. texts.judgement_line (judgement_of j)) js
 lines_are [] = refl
-lines_are (j ∷ js) = ap (λ rest. claim.judgement_line (judgement_of j) ++ rest) (lines_are js)
+lines_are (j ∷ js) = ap (λ rest. texts.judgement_line (judgement_of j) ++ rest) (lines_are js)
 
-part_first : (j : Judgement) (valid : Bool) (rest : List claim.Judgement) → j.valid ≡ valid
-    → flat_map claim.part_text (cond valid (judgement_of j ∷ rest) rest) ≡ (if valid then claim.part_text (judgement_of j) else []) ++ flat_map claim.part_text rest
+part_first : (j : Judgement) (valid : Bool) (rest : List spec.Judgement) → j.valid ≡ valid
+    → flat_map certificate.part_text (cond valid (judgement_of j ∷ rest) rest) ≡ (if valid then certificate.part_text (judgement_of j) else []) ++ flat_map certificate.part_text rest
 part_first j true rest e = refl
 part_first j false rest e = refl
 
-pub parts_are : (js : List Judgement) → flat_map claim.part_text (filter (λ j. j.valid) (judgements_of js)) ≡ flat_map part_if_valid js
+pub parts_are : (js : List Judgement) → flat_map certificate.part_text (filter (λ j. j.valid) (judgements_of js)) ≡ flat_map part_if_valid js
 parts_are [] = refl
 parts_are (j ∷ js) = part_first j j.valid (filter (λ j. j.valid) (judgements_of js)) refl ∙ ap (λ rest. part_if_valid j ++ rest) (parts_are js)
 
-sums_are : (f : claim.Judgement → ℕ) (js : List Judgement) → sum_by f (judgements_of js) ≡ sum_by (λ j. f (judgement_of j)) js
+sums_are : (f : spec.Judgement → ℕ) (js : List Judgement) → sum_by f (judgements_of js) ≡ sum_by (λ j. f (judgement_of j)) js
 sums_are f [] = refl
 sums_are f (j ∷ js) =
     sum_by-cons f (judgement_of j) (judgements_of js) ∙ ap (λ n. f (judgement_of j) + n) (sums_are f js)
     ∙ sym (sum_by-cons (λ x. f (judgement_of x)) j js)
 
-pub counts_are : (p : claim.Judgement → Bool) (js : List Judgement) → count_by p (judgements_of js) ≡ count_by (λ j. p (judgement_of j)) js
+pub counts_are : (p : spec.Judgement → Bool) (js : List Judgement) → count_by p (judgements_of js) ≡ count_by (λ j. p (judgement_of j)) js
 counts_are p js = sums_are (λ j. cond (p j) 1 0) js
 
--- one more item behind those so far
+-- one more item after those so far
 pub more_lines : {A : Type 0} (f : A → List ℕ) (xs : List A) (i : ℕ) (x : A) (old text new : List ℕ) → i < length xs → x ≡ get_or xs i x
     → text ≡ old ++ flat_map f (take i xs) → new ≡ text ++ f x → new ≡ old ++ flat_map f (take (i + 1) xs)
 more_lines f xs i x old text new inside is so_far added =
@@ -46,10 +48,10 @@ more_lines f xs i x old text new inside is so_far added =
     ∙ (flat_map_more f old (take i xs) x ∙ ap (λ l. old ++ flat_map f l) (ap (λ z. take i xs ++ z ∷ []) is ∙ sym (take_more xs i x inside))))
 
 -- pieces of a text, one after the other, are its line: four, of which some are words and numbers of the program
-pub line_of_two : (old a b : List ℕ) → old ++ (a ++ (b ++ 10 ∷ [])) ≡ old ++ claim.line (a ++ b)
+pub line_of_two : (old a b : List ℕ) → old ++ (a ++ (b ++ 10 ∷ [])) ≡ old ++ texts.line (a ++ b)
 line_of_two old a b = simp append_assoc
 
-pub line_of_four : (old a b c d x y : List ℕ) → x ≡ b → y ≡ d → old ++ (a ++ (x ++ (c ++ (y ++ 10 ∷ [])))) ≡ old ++ claim.line (a ++ b ++ c ++ d)
+pub line_of_four : (old a b c d x y : List ℕ) → x ≡ b → y ≡ d → old ++ (a ++ (x ++ (c ++ (y ++ 10 ∷ [])))) ≡ old ++ texts.line (a ++ b ++ c ++ d)
 line_of_four old a b c d x y e f = rw (e, f) (simp append_assoc)
 
 -- a text, a word, a blank, a name and another text
@@ -57,21 +59,21 @@ pub words_are : (old a b c d e : List ℕ) → old ++ (a ++ (b ++ (c ++ (d ++ (e
 words_are old a b c d e = simp (append_assoc, append-nil)
 
 -- the end of a line, and a line feed
-pub line_added : (old front back first second whole : List ℕ) → first ≡ old ++ front → second ≡ first ++ back → whole ≡ second ++ 10 ∷ []
-    → whole ≡ old ++ claim.line (front ++ back)
-line_added old front back first second whole e f g = rw (g, f, e) (simp append_assoc)
+pub line_added : (old begin end first second whole : List ℕ) → first ≡ old ++ begin → second ≡ first ++ end → whole ≡ second ++ 10 ∷ []
+    → whole ≡ old ++ texts.line (begin ++ end)
+line_added old begin end first second whole e f g = rw (g, f, e) (simp append_assoc)
 
--- the same, with a line and three equal ones behind it
+-- the same, with a line and three equal ones after it
 pub part_of_four : (old a b c d x y r s : List ℕ) → x ≡ b → y ≡ d
-    → old ++ (a ++ (x ++ (c ++ (y ++ 10 ∷ (r ++ (s ++ (s ++ s))))))) ≡ old ++ (claim.line (a ++ b ++ c ++ d) ++ r ++ s ++ s ++ s)
+    → old ++ (a ++ (x ++ (c ++ (y ++ 10 ∷ (r ++ (s ++ (s ++ s))))))) ≡ old ++ (texts.line (a ++ b ++ c ++ d) ++ r ++ s ++ s ++ s)
 part_of_four old a b c d x y r s e f = rw (e, f) (simp append_assoc)
 
 -- whether all are valid
-pub all_valid_are : (js : List Judgement) (whole : Bool) → whole ≡ list_all (λ j. j.valid) js → claim.all_valid (judgements_of js) ≡ whole
+pub all_valid_are : (js : List Judgement) (whole : Bool) → whole ≡ list_all (λ j. j.valid) js → spec.all_valid (judgements_of js) ≡ whole
 all_valid_are js whole e = list_all-map (λ j. j.valid) judgement_of js ∙ sym e
 
 pub judged_status : (verdict : Verdict) (judgements : Vec Judgement Global) (js : List Judgement) (whole : Bool) → verdict ≡ Judged judgements
-    → js ≡ judgements.items → list_all (λ j. j.valid) js ≡ whole → claim.status_of (verdict_of verdict) ≡ (if whole then 0 else 1)
+    → js ≡ judgements.items → list_all (λ j. j.valid) js ≡ whole → spec.status_of (verdict_of verdict) ≡ (if whole then 0 else 1)
 judged_status verdict judgements js whole is items all =
-    ap (λ v. claim.status_of (verdict_of v)) is
+    ap (λ v. spec.status_of (verdict_of v)) is
     ∙ ap (λ b. if b then 0 else 1) (all_valid_are judgements.items whole (sym all ∙ ap (list_all (λ j. j.valid)) items))

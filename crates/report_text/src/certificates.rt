@@ -1,5 +1,5 @@
 ghost use Rattle.std.specs.Prelude.{◌≡◌, ◌++◌, IfOk, OnOk, flat_map};
-ghost use Rattle.claim_spec.specs.Verdict.{certificate_of, part_text};
+ghost use Rattle.report_spec.specs.Certificate.{certificate_of, part_text};
 ghost use Rattle.report_text.specs.Judgements.{judgement_of, judgements_of, part_if_valid};
 
 use crate::Judgement;
@@ -9,7 +9,8 @@ use std::alloc::{AllocError, Global};
 
 /// The part of a valid function.
 fn push_part(out: &mut Vec<u8>, judgement: &Judgement) -> Result<(), AllocError>
-    ensures { OnOk result (out.new.items ≡ out.old.items ++ part_text (judgement_of judgement.now)) }
+    ensures { OnOk result (out.new.items
+        ≡ out.old.items ++ part_text (judgement_of judgement.now)) }
 {
     let mut buffer = Buffer::new();
     let stack = digits(&mut buffer, judgement.stack);
@@ -47,7 +48,8 @@ fn push_parts(out: &mut Vec<u8>, judgements: &[Judgement]) -> Result<(), AllocEr
 
 /// The certificate, added to a text.
 fn push_certificate(out: &mut Vec<u8>, judgements: &[Judgement]) -> Result<(), AllocError>
-    ensures { OnOk result (out.new.items ≡ out.old.items ++ certificate_of (judgements_of judgements.now)) }
+    ensures { OnOk result (out.new.items
+        ≡ out.old.items ++ certificate_of (judgements_of judgements.now)) }
 {
     out.extend_from_slice(b"tv-cert 1\n")?;
     push_parts(out, judgements)?;

@@ -1,8 +1,6 @@
-//! The outcomes of a run, and what is written of each: its exit status, its report and its certificate.
-//!
-//! The main type is [`Verdict`]. [`report`], [`certificate`] and [`status`] give exactly the bytes and the
-//! number that `claim_spec/specs/Verdict.antt` defines for it, so that a report never says more than was
-//! found.
+//! The verdicts of a run as the program has them ([`Verdict`]). [`report`], [`certificate`] and
+//! [`status`] give exactly the bytes and the number that `report_spec` defines for each, so that a
+//! report never says more than was found.
 #![tactic(auto)]
 
 mod certificates;

@@ -14,7 +14,8 @@ pub(crate) fn digits(buffer: &mut Buffer, number: u64) -> &[u8]
 
 /// Adds pieces of a text, one after the other.
 pub(crate) fn push_all(out: &mut Vec<u8>, pieces: &[&[u8]]) -> Result<(), AllocError>
-    ensures { OnOk result (out.new.items ≡ out.old.items ++ flat_map (λ piece. piece.now) pieces.now) }
+    ensures { OnOk result (out.new.items
+        ≡ out.old.items ++ flat_map (λ piece. piece.now) pieces.now) }
 {
     for piece in pieces {
         out.extend_from_slice(piece)?;
@@ -24,7 +25,8 @@ pub(crate) fn push_all(out: &mut Vec<u8>, pieces: &[&[u8]]) -> Result<(), AllocE
 
 /// Adds an address in eight lower-case hexadecimal digits.
 pub(crate) fn push_address(alloc: Global, out: &mut Vec<u8>, address: u32) -> Result<(), AllocError>
-    ensures { OnOk result (out.new.items ≡ out.old.items ++ encode_lower (to_be_bytes w32 address)) }
+    ensures { OnOk result (out.new.items
+        ≡ out.old.items ++ encode_lower (to_be_bytes w32 address)) }
 {
     let bytes = address.to_be_bytes();
     let digits = hex::encode(alloc, &bytes)?;

@@ -1,23 +1,25 @@
 ghost use Rattle.std.specs.Prelude.{◌≡◌, ◌++◌, IfOk, OnOk, codes, count_by, decimal, flat_map, not};
-ghost use Rattle.claim_spec.specs.Verdict as claim;
+ghost use Rattle.report_spec.specs.Verdict as spec;
+ghost use Rattle.report_spec.specs.Words as words;
+ghost use Rattle.report_spec.specs.Report as texts;
 ghost use Rattle.report_text.specs.Judgements.{judgement_of, judgements_of};
 ghost use Rattle.report_text.specs.Verdicts.{verdict_of};
 
 use crate::lines::{digits, push_address, push_all};
 use crate::{Judgement, Verdict};
 use c_grammar_spec::{LeftOut, ParseFaultKind};
-use c_spec::SourceKind;
 use c_spec::token::TokenFaultKind;
-use claim_spec::{PairKind, Quantity};
 use code_spec::CodeKind;
 use elf_spec::ElfKind;
 use itoa::Buffer;
+use report_spec::{PairKind, Quantity, SourceKind};
 use std::alloc::{AllocError, Global};
-use tv_base::limits::{C_BYTES, ELF_BYTES, FUNCTIONS};
+use tv_base::limits::{MAX_C_BYTES, MAX_ELF_BYTES, MAX_FUNCTIONS};
 
 /// `limit QUANTITY MAXIMUM`
 fn push_maximum(out: &mut Vec<u8>, word: &[u8], maximum: usize) -> Result<(), AllocError>
-    ensures { OnOk result (out.new.items ≡ out.old.items ++ claim.line (codes "limit " ++ word.now ++ codes " " ++ decimal maximum)) }
+    ensures { OnOk result (out.new.items ≡ out.old.items
+        ++ texts.line (codes "limit " ++ word.now ++ codes " " ++ decimal maximum)) }
 {
     let mut buffer = Buffer::new();
     let number = digits(&mut buffer, maximum as u64);
@@ -26,18 +28,19 @@ fn push_maximum(out: &mut Vec<u8>, word: &[u8], maximum: usize) -> Result<(), Al
 
 /// The line of a quantity above its maximum.
 fn push_limit(out: &mut Vec<u8>, quantity: Quantity) -> Result<(), AllocError>
-    ensures { OnOk result (out.new.items ≡ out.old.items ++ claim.report_of (claim.TooLarge quantity)) }
+    ensures { OnOk result (out.new.items
+        ≡ out.old.items ++ texts.report_of (spec.TooLarge quantity)) }
 {
     match quantity {
-        Quantity::Elf => push_maximum(out, b"elf", ELF_BYTES),
-        Quantity::C => push_maximum(out, b"c", C_BYTES),
-        Quantity::Functions => push_maximum(out, b"functions", FUNCTIONS),
+        Quantity::Elf => push_maximum(out, b"elf", MAX_ELF_BYTES),
+        Quantity::C => push_maximum(out, b"c", MAX_C_BYTES),
+        Quantity::Functions => push_maximum(out, b"functions", MAX_FUNCTIONS),
     }
 }
 
 /// The word of a refusal of an executable.
 fn elf_word(kind: ElfKind) -> &'static [u8]
-    ensures { result.now ≡ claim.elf_word kind }
+    ensures { result.now ≡ words.elf_word kind }
 {
     match kind {
         ElfKind::Short => b"Short",
@@ -60,7 +63,8 @@ fn elf_word(kind: ElfKind) -> &'static [u8]
 
 /// `refused elf KIND at OFFSET`
 fn push_refused_elf(out: &mut Vec<u8>, kind: ElfKind, offset: usize) -> Result<(), AllocError>
-    ensures { OnOk result (out.new.items ≡ out.old.items ++ claim.report_of (claim.RefusedElf kind offset)) }
+    ensures { OnOk result (out.new.items
+        ≡ out.old.items ++ texts.report_of (spec.RefusedElf kind offset)) }
 {
     let mut buffer = Buffer::new();
     let number = digits(&mut buffer, offset as u64);
@@ -72,7 +76,7 @@ fn push_refused_elf(out: &mut Vec<u8>, kind: ElfKind, offset: usize) -> Result<(
 
 /// The word of a text without tokens.
 fn token_word(kind: TokenFaultKind) -> &'static [u8]
-    ensures { result.now ≡ claim.token_word kind }
+    ensures { result.now ≡ words.token_word kind }
 {
     match kind {
         TokenFaultKind::Byte => b"Byte",
@@ -82,31 +86,9 @@ fn token_word(kind: TokenFaultKind) -> &'static [u8]
     }
 }
 
-/// The word of a refusal of a source.
-fn source_word(kind: SourceKind) -> &'static [u8]
-    ensures { result.now ≡ claim.source_word kind }
-{
-    match kind {
-        SourceKind::Token(kind) => token_word(kind),
-        SourceKind::Later => b"Later",
-    }
-}
-
-/// `refused c KIND at OFFSET`
-fn push_refused_c(out: &mut Vec<u8>, kind: SourceKind, offset: usize) -> Result<(), AllocError>
-    ensures { OnOk result (out.new.items ≡ out.old.items ++ claim.report_of (claim.RefusedC kind offset)) }
-{
-    let mut buffer = Buffer::new();
-    let number = digits(&mut buffer, offset as u64);
-    push_all(
-        out,
-        &[b"refused c ", source_word(kind), b" at ", number, b"\n"],
-    )
-}
-
 /// The word of a part of C that is left out.
 fn left_out_word(part: LeftOut) -> &'static [u8]
-    ensures { result.now ≡ claim.left_out_word part }
+    ensures { result.now ≡ words.left_out_word part }
 {
     match part {
         LeftOut::Goto => b"Goto",
@@ -127,7 +109,7 @@ fn left_out_word(part: LeftOut) -> &'static [u8]
 
 /// The word of a refusal of tokens.
 fn push_syntax_word(out: &mut Vec<u8>, kind: ParseFaultKind) -> Result<(), AllocError>
-    ensures { OnOk result (out.new.items ≡ out.old.items ++ claim.syntax_word kind) }
+    ensures { OnOk result (out.new.items ≡ out.old.items ++ words.syntax_word kind) }
 {
     match kind {
         ParseFaultKind::Unexpected => out.extend_from_slice(b"Unexpected"),
@@ -136,16 +118,24 @@ fn push_syntax_word(out: &mut Vec<u8>, kind: ParseFaultKind) -> Result<(), Alloc
     }
 }
 
-/// `refused c KIND at OFFSET`, of tokens
-fn push_refused_syntax(
-    out: &mut Vec<u8>,
-    kind: ParseFaultKind,
-    offset: usize,
-) -> Result<(), AllocError>
-    ensures { OnOk result (out.new.items ≡ out.old.items ++ claim.report_of (claim.RefusedSyntax kind offset)) }
+/// The word of a refusal of a source.
+fn push_source_word(out: &mut Vec<u8>, kind: SourceKind) -> Result<(), AllocError>
+    ensures { OnOk result (out.new.items ≡ out.old.items ++ words.source_word kind) }
+{
+    match kind {
+        SourceKind::Token(kind) => out.extend_from_slice(token_word(kind)),
+        SourceKind::Syntax(kind) => push_syntax_word(out, kind),
+        SourceKind::Later => out.extend_from_slice(b"Later"),
+    }
+}
+
+/// `refused c KIND at OFFSET`
+fn push_refused_c(out: &mut Vec<u8>, kind: SourceKind, offset: usize) -> Result<(), AllocError>
+    ensures { OnOk result (out.new.items
+        ≡ out.old.items ++ texts.report_of (spec.RefusedC kind offset)) }
 {
     out.extend_from_slice(b"refused c ")?;
-    push_syntax_word(out, kind)?;
+    push_source_word(out, kind)?;
     let mut buffer = Buffer::new();
     let number = digits(&mut buffer, offset as u64);
     push_all(out, &[b" at ", number, b"\n"])
@@ -153,7 +143,7 @@ fn push_refused_syntax(
 
 /// The word of a refusal of a pair.
 fn pair_word(kind: PairKind) -> &'static [u8]
-    ensures { result.now ≡ claim.pair_word kind }
+    ensures { result.now ≡ words.pair_word kind }
 {
     match kind {
         PairKind::NothingListed => b"NothingListed",
@@ -165,26 +155,28 @@ fn pair_word(kind: PairKind) -> &'static [u8]
 /// Adds a text, a word, a blank, a name and another text.
 fn push_named<'a>(
     out: &mut Vec<u8>,
-    front: &'a [u8],
+    first: &'a [u8],
     word: &'a [u8],
     name: &'a [u8],
-    back: &'a [u8],
+    last: &'a [u8],
 ) -> Result<(), AllocError>
-    ensures { OnOk result (out.new.items ≡ out.old.items ++ (front.now ++ word.now ++ codes " " ++ name.now ++ back.now)) }
+    ensures { OnOk result (out.new.items
+        ≡ out.old.items ++ (first.now ++ word.now ++ codes " " ++ name.now ++ last.now)) }
 {
-    push_all(out, &[front, word, b" ", name, back])
+    push_all(out, &[first, word, b" ", name, last])
 }
 
 /// `refused pair KIND NAME`
 fn push_refused_pair(out: &mut Vec<u8>, kind: PairKind, name: &[u8]) -> Result<(), AllocError>
-    ensures { OnOk result (out.new.items ≡ out.old.items ++ claim.report_of (claim.RefusedPair kind name.now)) }
+    ensures { OnOk result (out.new.items
+        ≡ out.old.items ++ texts.report_of (spec.RefusedPair kind name.now)) }
 {
     push_named(out, b"refused pair ", pair_word(kind), name, b"\n")
 }
 
 /// The word of a refusal of code.
 fn code_word(kind: CodeKind) -> &'static [u8]
-    ensures { result.now ≡ claim.code_word kind }
+    ensures { result.now ≡ words.code_word kind }
 {
     match kind {
         CodeKind::NoFunction => b"NoFunction",
@@ -207,7 +199,8 @@ fn push_refused_code(
     name: &[u8],
     address: u32,
 ) -> Result<(), AllocError>
-    ensures { OnOk result (out.new.items ≡ out.old.items ++ claim.report_of (claim.RefusedCode kind name.now address)) }
+    ensures { OnOk result (out.new.items
+        ≡ out.old.items ++ texts.report_of (spec.RefusedCode kind name.now address)) }
 {
     push_named(out, b"refused code ", code_word(kind), name, b" at ")?;
     push_address(alloc, out, address)?;
@@ -217,7 +210,8 @@ fn push_refused_code(
 
 /// `valid NAME stack=S` or `unproved NAME`
 fn push_judged(out: &mut Vec<u8>, judgement: &Judgement) -> Result<(), AllocError>
-    ensures { OnOk result (out.new.items ≡ out.old.items ++ claim.judgement_line (judgement_of judgement.now)) }
+    ensures { OnOk result (out.new.items
+        ≡ out.old.items ++ texts.judgement_line (judgement_of judgement.now)) }
 {
     let name = judgement.name.as_slice();
     if !judgement.valid {
@@ -229,9 +223,9 @@ fn push_judged(out: &mut Vec<u8>, judgement: &Judgement) -> Result<(), AllocErro
 }
 
 /// `total valid=V unproved=U`
-#[tactic(auto, unfolding(claim_spec::specs::Verdict::total_line))]
+#[tactic(auto, unfolding(report_spec::specs::Report::total_line))]
 fn push_total(out: &mut Vec<u8>, valid: usize, unproved: usize) -> Result<(), AllocError>
-    ensures { OnOk result (out.new.items ≡ out.old.items ++ claim.total_line valid unproved) }
+    ensures { OnOk result (out.new.items ≡ out.old.items ++ texts.total_line valid unproved) }
 {
     let mut buffer = Buffer::new();
     let mut other_buffer = Buffer::new();
@@ -259,7 +253,8 @@ fn unproved_count(judgements: &[Judgement]) -> usize
 
 /// A line for each of them, in their order.
 fn push_lines(out: &mut Vec<u8>, judgements: &[Judgement]) -> Result<(), AllocError>
-    ensures { OnOk result (out.new.items ≡ out.old.items ++ flat_map (λ j. claim.judgement_line (judgement_of j)) judgements.now) }
+    ensures { OnOk result (out.new.items
+        ≡ out.old.items ++ flat_map (λ j. texts.judgement_line (judgement_of j)) judgements.now) }
 {
     for judgement in judgements {
         push_judged(out, judgement)?;
@@ -269,7 +264,8 @@ fn push_lines(out: &mut Vec<u8>, judgements: &[Judgement]) -> Result<(), AllocEr
 
 /// A line for each of them, in their order, and the line of the totals.
 fn push_all_judged(out: &mut Vec<u8>, judgements: &[Judgement]) -> Result<(), AllocError>
-    ensures { OnOk result (out.new.items ≡ out.old.items ++ claim.judgements_text (judgements_of judgements.now)) }
+    ensures { OnOk result (out.new.items
+        ≡ out.old.items ++ texts.judgements_text (judgements_of judgements.now)) }
 {
     push_lines(out, judgements)?;
     push_total(out, valid_count(judgements), unproved_count(judgements))?;
@@ -278,14 +274,14 @@ fn push_all_judged(out: &mut Vec<u8>, judgements: &[Judgement]) -> Result<(), Al
 
 /// The report of a verdict.
 fn push_report(alloc: Global, out: &mut Vec<u8>, verdict: &Verdict) -> Result<(), AllocError>
-    ensures { OnOk result (out.new.items ≡ out.old.items ++ claim.report_of (verdict_of verdict.now)) }
+    ensures { OnOk result (out.new.items
+        ≡ out.old.items ++ texts.report_of (verdict_of verdict.now)) }
 {
     match verdict {
         Verdict::RefusedWords => out.extend_from_slice(b"refused words\n"),
         Verdict::TooLarge(quantity) => push_limit(out, *quantity),
         Verdict::RefusedElf { kind, offset } => push_refused_elf(out, *kind, *offset),
         Verdict::RefusedC { kind, offset } => push_refused_c(out, *kind, *offset),
-        Verdict::RefusedSyntax { kind, offset } => push_refused_syntax(out, *kind, *offset),
         Verdict::RefusedPair { kind, name } => push_refused_pair(out, *kind, name.as_slice()),
         Verdict::RefusedCode {
             kind,
@@ -298,7 +294,7 @@ fn push_report(alloc: Global, out: &mut Vec<u8>, verdict: &Verdict) -> Result<()
 
 /// What is reported of a verdict: lines that each end with a line feed.
 pub fn report(alloc: Global, verdict: &Verdict) -> Result<Vec<u8>, AllocError>
-    ensures { IfOk result (λ text. text.items ≡ claim.report_of (verdict_of verdict.now)) }
+    ensures { IfOk result (λ text. text.items ≡ texts.report_of (verdict_of verdict.now)) }
 {
     let mut text = Vec::new(alloc);
     push_report(alloc, &mut text, verdict)?;

@@ -1,16 +1,14 @@
 ghost use Rattle.std.specs.Prelude.{◌≡◌};
 ghost use Rattle.std.specs.List.{list_all};
-ghost use Rattle.claim_spec.specs.Verdict.{status_of};
+ghost use Rattle.report_spec.specs.Verdict.{status_of};
 ghost use Rattle.report_text.specs.Verdicts.{verdict_of};
 
-use c_grammar_spec::ParseFaultKind;
-use c_spec::SourceKind;
-use claim_spec::{PairKind, Quantity};
 use code_spec::CodeKind;
 use elf_spec::ElfKind;
+use report_spec::{PairKind, Quantity, SourceKind};
 use tv_bytes::Bytes;
 
-/// What is said of a listed function.
+/// The judgement on a listed function.
 #[derive(Drop)]
 pub struct Judgement {
     /// Its name.
@@ -21,7 +19,7 @@ pub struct Judgement {
     pub stack: u64,
 }
 
-/// The outcome of a run that neither a fault of the outside nor want of memory ended.
+/// The outcome of a run that neither a failed read or write nor a lack of memory ended.
 #[derive(Drop)]
 pub enum Verdict {
     /// The words are no command.
@@ -33,14 +31,10 @@ pub enum Verdict {
         kind: ElfKind,
         offset: usize,
     },
-    /// The second file has no tokens, or is not of the form that is judged so far. The offset counts bytes of the file.
+    /// The second file has no tokens, its tokens are no unit, or the unit is not of the form that
+    /// is judged so far. The offset counts bytes of the file.
     RefusedC {
         kind: SourceKind,
-        offset: usize,
-    },
-    /// The tokens of the second file are no unit. The offset counts bytes of the file.
-    RefusedSyntax {
-        kind: ParseFaultKind,
         offset: usize,
     },
     /// The two don't go together, by the function or global of this name.
@@ -65,8 +59,8 @@ fn all_valid(judgements: &[Judgement]) -> bool
     judgements.iter().all(|j| j.valid)
 }
 
-/// The exit status: 0 where all listed functions are valid and 1 where some aren't, 2 for the words, 3 for
-/// the inputs, 7 for a limit.
+/// The exit status: 0 where all listed functions are valid and 1 where some aren't, 2 for the
+/// words, 3 for the inputs, 7 for a limit.
 pub fn status(verdict: &Verdict) -> u8
     ensures { result ≡ status_of (verdict_of verdict.now) }
 {
@@ -75,7 +69,6 @@ pub fn status(verdict: &Verdict) -> u8
         Verdict::TooLarge(_) => 7,
         Verdict::RefusedElf { .. }
         | Verdict::RefusedC { .. }
-        | Verdict::RefusedSyntax { .. }
         | Verdict::RefusedPair { .. }
         | Verdict::RefusedCode { .. } => 3,
         Verdict::Judged(judgements) => { if all_valid(judgements) { 0 } else { 1 } }

@@ -1,4 +1,4 @@
--- Which instruction forms have a word: the ranges of the fields in the RISC-V unprivileged specification, "Base
+-- Which instructions have a word: the ranges of the fields in the RISC-V unprivileged specification, "Base
 -- Instruction Formats" and "Immediate Encoding Variants".
 use Rattle.std.specs.Prelude.{◌≡◌, ℕ, ◌-◌, ◌%◌, ◌^◌, ◌<◌, ℤ, pos, neg_ℤ, ◌≤ℤ◌, ◌<ℤ◌, unsigned_abs}
 use Rattle.rv_instr.specs.declared.Instr.{Instr}

@@ -1,5 +1,6 @@
 ghost use Rattle.std.specs.Prelude.{◌≡◌, ◌%◌, ◌<◌, Some, None};
-ghost use Rattle.rv_instr.specs.Instr.{listed, branches, loads, stores, immediates, shifts, arithmetics};
+ghost use Rattle.rv_instr.specs.Instr.{listed, branches, loads, stores, immediates, shifts};
+ghost use Rattle.rv_instr.specs.Instr.{arithmetics};
 
 use rv_instr::{
     ArithmeticOperation, BranchTest, ImmediateOperation, LoadKind, ShiftOperation, StoreKind,

@@ -1,5 +1,12 @@
 ghost use Rattle.std.specs.Prelude.{◌≡◌, ◌+◌, ◌*◌, ◌%◌, ◌/◌, ◌^◌, ◌<◌};
-ghost use Rattle.rv_instr.specs.Instr.{field, opcode as opcode_of, rd as rd_of, funct3 as funct3_of, funct10 as funct10_of, rs1 as rs1_of, rs2 as rs2_of, funct7 as funct7_of, i_immediate as i_immediate_of, s_immediate as s_immediate_of, b_immediate as b_immediate_of, u_immediate as u_immediate_of, j_immediate as j_immediate_of, signed};
+ghost use Rattle.rv_instr.specs.Instr.{field, opcode as opcode_of, rd as rd_of};
+ghost use Rattle.rv_instr.specs.Instr.{funct3 as funct3_of, funct10 as funct10_of, rs1 as rs1_of};
+ghost use Rattle.rv_instr.specs.Instr.{rs2 as rs2_of, funct7 as funct7_of};
+ghost use Rattle.rv_instr.specs.Instr.{i_immediate as i_immediate_of};
+ghost use Rattle.rv_instr.specs.Instr.{s_immediate as s_immediate_of};
+ghost use Rattle.rv_instr.specs.Instr.{b_immediate as b_immediate_of};
+ghost use Rattle.rv_instr.specs.Instr.{u_immediate as u_immediate_of};
+ghost use Rattle.rv_instr.specs.Instr.{j_immediate as j_immediate_of, signed};
 ghost use Rattle.rv_asm.specs.Fits.{IsSigned, IsEven};
 
 use crate::ranges::low_bits;
@@ -12,7 +19,8 @@ fn join(opcode: u32, low: u32, funct3: u32, rs1: Reg, middle: u32, high: u32) ->
     requires funct3 { funct3 < 2 ^ 3 }
     requires middle { middle < 2 ^ 5 }
     requires high { high < 2 ^ 7 }
-    ensures value { result ≡ opcode + low * 2 ^ 7 + funct3 * 2 ^ 12 + rs1 * 2 ^ 15 + middle * 2 ^ 20 + high * 2 ^ 25 }
+    ensures value { result ≡ opcode + low * 2 ^ 7 + funct3 * 2 ^ 12 + rs1 * 2 ^ 15 + middle * 2 ^ 20
+        + high * 2 ^ 25 }
     ensures rs1 { rs1 < 2 ^ 5 }
 {
     let lower = opcode + (low << 7) + (funct3 << 12);
@@ -87,7 +95,8 @@ pub fn b_format(opcode: u32, funct3: u32, rs1: Reg, rs2: Reg, bits: u32) -> u32
     ensures funct3 { funct3_of result ≡ funct3 }
     ensures rs1 { rs1_of result ≡ rs1 }
     ensures rs2 { rs2_of result ≡ rs2 }
-    ensures bits { field 31 1 result * 2 ^ 12 + field 7 1 result * 2 ^ 11 + field 25 6 result * 2 ^ 5
+    ensures bits { field 31 1 result * 2 ^ 12 + field 7 1 result * 2 ^ 11 + field 25 6 result * 2 ^
+        5
         + field 8 4 result * 2 ≡ bits }
 {
     s_format(opcode, funct3, rs1, rs2, branch_bits(bits))
@@ -104,7 +113,8 @@ pub fn u_format(opcode: u32, rd: Reg, imm: u32) -> u32
     opcode + (u32::from(rd.number()) << 7) + (imm << 12)
 }
 
-/// The 21 bits of an even number as the 20 bits of a U format: bit 20, bits 10..1, bit 11, bits 19..12.
+/// The 21 bits of an even number as the 20 bits of a U format: bit 20, bits 10..1, bit 11, bits
+/// 19..12.
 fn jump_bits(bits: u32) -> u32
     requires below { bits < 2 ^ 21 }
     requires even { bits % 2 ≡ 0 }
@@ -123,7 +133,8 @@ pub fn j_format(opcode: u32, rd: Reg, bits: u32) -> u32
     requires even { bits % 2 ≡ 0 }
     ensures opcode { opcode_of result ≡ opcode }
     ensures rd { rd_of result ≡ rd }
-    ensures bits { field 31 1 result * 2 ^ 20 + field 12 8 result * 2 ^ 12 + field 20 1 result * 2 ^ 11
+    ensures bits { field 31 1 result * 2 ^ 20 + field 12 8 result * 2 ^ 12 + field 20 1 result * 2 ^
+        11
         + field 21 10 result * 2 ≡ bits }
 {
     u_format(opcode, rd, jump_bits(bits))

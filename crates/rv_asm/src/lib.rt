@@ -1,9 +1,11 @@
-//! From an instruction form to the one 32-bit word that has it.
+//! From an instruction to the one 32-bit word that encodes it.
 //!
-//! [`fits`] says whether a form has a word, and [`encode`] gives that word; neither takes memory.
-//! They are the inverse of `instr`, the definition in `rv_instr` (`specs/Instr.antt`), both ways: the
-//! word that `encode` gives has the form, no other word has it, and each form of a word fits. `Fits`
-//! in `specs/Fits.antt` has the ranges.
+//! [`fits`] says whether an instruction has a word, and [`encode`] gives that word; neither
+//! allocates.
+//! They are the inverse of `instr`, the definition in `rv_instr` (`specs/Instr.antt`), both ways:
+//! the word that `encode` gives is decoded to the instruction, no other word is, and each
+//! instruction of a word fits.
+//! `Fits` in `specs/Fits.antt` has the ranges.
 
 #![tactic(auto)]
 
@@ -23,21 +25,21 @@ use crate::ranges::low_bits;
 pub use ranges::fits;
 use rv_instr::{Instr, Reg};
 
-/// The word of a form.
-pub fn encode(form: &Instr) -> u32
-    requires { Fits form.now }
-    ensures decodes { instr result ≡ Some form.now }
-    ensures only { (word : ℕ) → word < 2 ^ 32 → instr word ≡ Some form.now → word ≡ result }
+/// The word of an instruction.
+pub fn encode(instruction: &Instr) -> u32
+    requires { Fits instruction.now }
+    ensures decodes { instr result ≡ Some instruction.now }
+    ensures only { (word : ℕ) → word < 2 ^ 32 → instr word ≡ Some instruction.now → word ≡ result }
 {
-    word_of(form)
+    word_of(instruction)
 }
 
 #[tactic(auto, unfolding(rv_instr::specs::Instr::instr, rv_instr::specs::Instr::instr_of, rv_instr::specs::Instr::instr_of_immediate))]
-fn word_of(form: &Instr) -> u32
-    requires { Fits form.now }
-    ensures { instr result ≡ Some form.now }
+fn word_of(instruction: &Instr) -> u32
+    requires { Fits instruction.now }
+    ensures { instr result ≡ Some instruction.now }
 {
-    match *form {
+    match *instruction {
         Instr::Lui { rd, imm } => u_format(0x37, rd, imm),
         Instr::Auipc { rd, imm } => u_format(0x17, rd, imm),
         Instr::Jal { rd, offset } => j_format(0x6f, rd, low_bits(offset, 21)),

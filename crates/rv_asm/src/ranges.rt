@@ -1,4 +1,5 @@
-ghost use Rattle.std.specs.Prelude.{◌≡◌, ℕ, ◌-◌, ◌%◌, ◌^◌, ◌<◌, ◌≤◌, ◌↔◌, IsTrue, Some, ℤ, pos, neg_ℤ, ◌≤ℤ◌, ◌<ℤ◌};
+ghost use Rattle.std.specs.Prelude.{◌≡◌, ℕ, ◌-◌, ◌%◌, ◌^◌, ◌<◌, ◌≤◌, ◌↔◌, IsTrue, Some, ℤ, pos};
+ghost use Rattle.std.specs.Prelude.{neg_ℤ, ◌≤ℤ◌, ◌<ℤ◌};
 ghost use Rattle.rv_instr.specs.Instr.{instr, signed};
 ghost use Rattle.rv_asm.specs.Fits.{Fits, IsSigned, IsEven};
 
@@ -18,18 +19,18 @@ fn is_even(z: i32) -> bool
     z.unsigned_abs() % 2 == 0
 }
 
-/// Whether a form has a word.
-pub fn fits(form: &Instr) -> bool
-    ensures ranges { IsTrue result ↔ Fits form.now }
-    ensures needed { (word : ℕ) → instr word ≡ Some form.now → IsTrue result }
+/// Whether an instruction has a word.
+pub fn fits(instruction: &Instr) -> bool
+    ensures ranges { IsTrue result ↔ Fits instruction.now }
+    ensures needed { (word : ℕ) → instr word ≡ Some instruction.now → IsTrue result }
 {
-    is_in_range(form)
+    is_in_range(instruction)
 }
 
-fn is_in_range(form: &Instr) -> bool
-    ensures { IsTrue result ↔ Fits form.now }
+fn is_in_range(instruction: &Instr) -> bool
+    ensures { IsTrue result ↔ Fits instruction.now }
 {
-    match *form {
+    match *instruction {
         Instr::Lui { imm, .. } | Instr::Auipc { imm, .. } => imm < 1 << 20,
         Instr::Jal { offset, .. } => lies_within(offset, 1 << 20) && is_even(offset),
         Instr::Branch { offset, .. } => lies_within(offset, 1 << 12) && is_even(offset),

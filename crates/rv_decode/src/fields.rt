@@ -1,5 +1,11 @@
 ghost use Rattle.std.specs.Prelude.{◌≡◌, ◌+◌, ◌-◌, ◌^◌, ◌<◌, ◌≤◌};
-ghost use Rattle.rv_instr.specs.Instr.{signed, field, opcode as opcode_of, rd as rd_of, funct3 as funct3_of, rs1 as rs1_of, rs2 as rs2_of, funct7 as funct7_of, i_immediate as i_immediate_of, s_immediate as s_immediate_of, b_immediate as b_immediate_of, u_immediate as u_immediate_of, j_immediate as j_immediate_of};
+ghost use Rattle.rv_instr.specs.Instr.{signed, field, opcode as opcode_of, rd as rd_of};
+ghost use Rattle.rv_instr.specs.Instr.{funct3 as funct3_of, rs1 as rs1_of, rs2 as rs2_of};
+ghost use Rattle.rv_instr.specs.Instr.{funct7 as funct7_of, i_immediate as i_immediate_of};
+ghost use Rattle.rv_instr.specs.Instr.{s_immediate as s_immediate_of};
+ghost use Rattle.rv_instr.specs.Instr.{b_immediate as b_immediate_of};
+ghost use Rattle.rv_instr.specs.Instr.{u_immediate as u_immediate_of};
+ghost use Rattle.rv_instr.specs.Instr.{j_immediate as j_immediate_of};
 
 use rv_instr::Reg;
 

@@ -1,8 +1,8 @@
-//! From a 32-bit word to the instruction form that it has.
+//! From a 32-bit word to its instruction.
 //!
-//! The one call is [`decode`]; it takes no memory. Its contract: the answer is `instr` of the word,
-//! the definition in `rv_instr` (`specs/Instr.antt`), so it is None exactly for the words that are no
-//! instruction of RV32IM.
+//! The one call is [`decode`]; it allocates nothing. Its contract: the answer is `instr` of the
+//! word, the definition in `rv_instr` (`specs/Instr.antt`), so it is None exactly for the words
+//! that are no instruction of RV32IM.
 
 #![tactic(auto)]
 
@@ -10,14 +10,14 @@ ghost use Rattle.std.specs.Prelude.{◌≡◌};
 ghost use Rattle.rv_instr.specs.Instr.{instr};
 
 mod fields;
-mod forms;
+mod formats;
 mod tables;
 
 use crate::fields::{j_immediate, opcode, rd, u_immediate};
-use crate::forms::{arithmetic, branch, fence, immediate, indirect_jump, load, store};
+use crate::formats::{arithmetic, branch, fence, immediate, indirect_jump, load, store};
 use rv_instr::Instr;
 
-/// The instruction form of a word; None where the word is no instruction of RV32IM.
+/// The instruction of a word; None where the word is no instruction of RV32IM.
 #[tactic(auto, unfolding(rv_instr::specs::Instr::instr, rv_instr::specs::Instr::instr_of))]
 pub fn decode(word: u32) -> Option<Instr>
     ensures { result ≡ instr word }

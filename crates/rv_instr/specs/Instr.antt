@@ -1,8 +1,8 @@
--- Which instruction form a 32-bit word has: the RISC-V unprivileged specification, chapters "RV32I Base Integer
+-- Which instruction a 32-bit word is: the RISC-V unprivileged specification, chapters "RV32I Base Integer
 -- Instruction Set" (formats and opcodes; the opcode map and the listings of chapter "RV32/64G Instruction Set
 -- Listings") and "M Extension". A word is a number below 2 ^ 32.
 --     field low count w      the `count` bits of w from bit `low` up
---     instr w                the form of w, or none
+--     instr w                the instruction of w, or none
 use Rattle.std.specs.Prelude.{ℕ, ◌+◌, ◌-◌, ◌*◌, ◌/◌, ◌%◌, ◌^◌, ◌==◌, nat_lt, if◌then◌else◌, ℤ, pos, ◌-ℤ◌, List, [], ◌∷◌, Option, Some, None, option_map}
 use Rattle.rv_instr.specs.declared.Instr.{Instr}
 use Rattle.rv_instr.specs.declared.Instr.TheVariants.{Lui, Auipc, Jal, Jalr, Branch, Load, Store, Immediate, Shift, Arithmetic, Fence, Ecall, Ebreak}
@@ -105,7 +105,7 @@ arithmetics =
     ∷ (0x01 * 8 + 3, arithmetic.MultiplyHighUnsigned) ∷ (0x01 * 8 + 4, arithmetic.Divide) ∷ (0x01 * 8 + 5, arithmetic.DivideUnsigned)
     ∷ (0x01 * 8 + 6, arithmetic.Remainder) ∷ (0x01 * 8 + 7, arithmetic.RemainderUnsigned) ∷ []
 
--- ---- the form of a word
+-- ---- the instruction of a word
 
 -- the one of two that is there
 abbrev pub either : {X : Type 0} → Option X → Option X → Option X
@@ -118,7 +118,7 @@ instr_of_immediate w =
     either (option_map (λ operation. Immediate operation (rd w) (rs1 w) (i_immediate w)) (listed immediates (funct3 w)))
     (option_map (λ operation. Shift operation (rd w) (rs1 w) (rs2 w)) (listed shifts (funct10 w)))
 
--- the form of w, whose opcode is `op`
+-- the instruction of w, whose opcode is `op`
 unfoldable pub instr_of : ℕ → ℕ → Option Instr
 instr_of op w =
     if op == 0x37 then Some (Lui (rd w) (u_immediate w))

@@ -1,10 +1,11 @@
-//! The 48 instruction forms of RV32IM, and which form a 32-bit word has.
+//! The 48 instructions of RV32IM, and which one a 32-bit word is.
 //!
-//! The main type is [`Instr`]: one variant for each group of forms that reads alike, with the
-//! fields of the word already taken apart and the signed immediates already signed. A register is
-//! a [`Reg`], a number below 32. The crate's one definition is `instr` in `specs/Instr.antt`: the
-//! form of a word, or none. Fields and tables are those of the RISC-V unprivileged specification,
-//! chapters "RV32I Base Integer Instruction Set" and "M Extension".
+//! The main type is [`Instr`]: one variant for each group of instructions with the same fields,
+//! with the fields of the word already taken apart and the signed immediates already signed. A
+//! register is a [`Reg`], a number below 32. The crate's one definition is `instr` in
+//! `specs/Instr.antt`: the instruction of a word, or none. Fields and tables are those of the
+//! RISC-V unprivileged specification, chapters "RV32I Base Integer Instruction Set" and "M
+//! Extension".
 
 #![tactic(auto)]
 
@@ -72,7 +73,7 @@ pub enum ImmediateOperation {
     And,
 }
 
-/// A shift by an amount that stands in the word.
+/// A shift by an amount that is a field of the word.
 #[derive(Clone, Copy, PartialEq, Eq, Debug)]
 pub enum ShiftOperation {
     /// SLLI
@@ -127,8 +128,8 @@ pub enum ArithmeticOperation {
 /// One instruction of RV32IM, its fields taken apart.
 ///
 /// An `offset` or `imm` of type `i32` is the word's immediate, sign extended; offsets count bytes,
-/// and those of JAL and of branches are even. `imm` of LUI and AUIPC is the number in bits 31..12 of the
-/// word, below 2^20: `lui x10, 1` has 1. A shift's `amount` is below 32.
+/// and those of JAL and of branches are even. `imm` of LUI and AUIPC is the number in bits 31..12
+/// of the word, below 2^20: `lui x10, 1` has 1. A shift's `amount` is below 32.
 #[derive(Clone, Copy, PartialEq, Eq, Debug)]
 pub enum Instr {
     /// LUI

@@ -5,7 +5,8 @@ use Rattle.std.specs.Cmp.{nat_cmp_total, unsigned_tied}
 use Rattle.std.specs.declared.cmp.Ordering.TheVariants.{Less, Equal, Greater}
 use Rattle.std.specs.BTreeMap.{insert_entry}
 use Rattle.std.specs.Map.{remove_entry}
-use Rattle.std.specs.FinMap.{FinMap, get, find, from_entries, get-from_entries}
+use Rattle.std.specs.FinMap.{get, find, from_entries, get-from_entries}
+use Rattle.memory_spec.specs.Memory.{Memory}
 use Rattle.rv_machine.specs.Cells.{AllCells}
 
 pub insert_cells : (es : List (ℕ × ℕ)) (k v : ℕ) → k < 2 ^ 32 → v < 256 → AllCells es → AllCells (insert_entry nat_cmp es k v)
@@ -33,7 +34,7 @@ find_cell (e ∷ es) a b all found = at_first (eq_by_cmp nat_cmp a e.0) refl fou
         (subst (λ n. n < 2 ^ 32) (sym key) all.0, subst (λ n. n < 256) same all.1)
     at_first false is here later = later here
 
-pub seen_cells : (es : List (ℕ × ℕ)) (memory : FinMap nat_cmp ℕ) → from_entries es ≡ memory → AllCells es → (a b : ℕ) → get memory a ≡ Some b → (a < 2 ^ 32) × (b < 256)
+pub seen_cells : (es : List (ℕ × ℕ)) (memory : Memory) → from_entries es ≡ memory → AllCells es → (a b : ℕ) → get memory a ≡ Some b → (a < 2 ^ 32) × (b < 256)
 seen_cells es memory seen_as all a b found = find_cell es a b all (sym (get-from_entries nat_cmp_total es a) ∙ ap (λ m. get m a) seen_as ∙ found)
 
 -- an insertion that may be refused

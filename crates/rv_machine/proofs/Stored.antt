@@ -1,7 +1,6 @@
 -- What a store of each kind comes to, of the four bytes that it takes its own from.
 use Rattle.std.proofs.Common.{◌≡◌, ℕ, ◌%◌, ◌/◌, cond, List, [], ◌∷◌, take, sym, ap, subst, ◌∙◌, Some, None, eq-eqb}
-use Rattle.std.specs.FinMap.{FinMap}
-use Rattle.std.specs.Ordering.{nat_cmp}
+use Rattle.memory_spec.specs.Memory.{Memory}
 use Rattle.rv_instr.specs.declared.StoreKind.{StoreKind}
 use Rattle.rv_instr.specs.declared.StoreKind.TheVariants.{Byte, Half, Word}
 use Rattle.rv_spec.specs.Machine.{store_half, store_word}
@@ -12,7 +11,7 @@ use Rattle.rv_machine.proofs.Bytes.{one_stored, two_stored, four_stored}
 abbrev four : ℕ → List ℕ
 four value = value % 256 ∷ value / 256 % 256 ∷ value / 65536 % 256 ∷ value / 16777216 % 256 ∷ []
 
-module _ (kind : StoreKind) (memory after : FinMap nat_cmp ℕ) (a value : ℕ) (bytes : List ℕ) (given : bytes ≡ four value) (fits : a % store_size kind ≡ 0) where
+module _ (kind : StoreKind) (memory after : Memory) (a value : ℕ) (bytes : List ℕ) (given : bytes ≡ four value) (fits : a % store_size kind ≡ 0) where
   pub byte_done : kind ≡ Byte → after ≡ store_bytes memory a (take 1 bytes) → store kind memory a value ≡ Some after
   unfolding store
   byte_done is done =

@@ -1,4 +1,4 @@
--- What stands in memory and in registers.
+-- What memory and registers hold.
 use Rattle.std.specs.Prelude.{◌≡◌, ℕ, ◌^◌, ◌<◌, length, All, List, [], ◌∷◌}
 
 -- each address is a word, and what it has is a byte

@@ -5,14 +5,15 @@ use Rattle.rv_instr.specs.declared.LoadKind.{LoadKind}
 use Rattle.rv_instr.specs.declared.LoadKind.TheVariants as load
 use Rattle.rv_instr.specs.declared.StoreKind.{StoreKind}
 use Rattle.rv_instr.specs.declared.StoreKind.TheVariants as store
-use Rattle.rv_spec.specs.Machine.{Memory, past, store_byte}
+use Rattle.memory_spec.specs.Memory.{Memory}
+use Rattle.rv_spec.specs.Machine.{past, store_byte}
 
 -- the bytes from the address on, first to last
 unfoldable pub store_bytes : Memory → ℕ → List ℕ → Memory
 store_bytes memory a [] = memory
 store_bytes memory a (byte ∷ bytes) = store_bytes (store_byte memory a byte) (past a 1) bytes
 
--- what stood at the address stands there again
+-- the address holds again what it held before
 abbrev pub put_back : Memory → ℕ → Option ℕ → Memory
 put_back memory a (Some byte) = insert memory a byte
 put_back memory a None = remove memory a

@@ -1,5 +1,6 @@
 ghost use Rattle.std.specs.Prelude.{◌≡◌, ◌↔◌, IsTrue};
-ghost use Rattle.rv_spec.specs.Arithmetic.{arithmetic as arithmetic_of, holds as holds_of, number, high_word, word};
+ghost use Rattle.rv_spec.specs.Arithmetic.{arithmetic as arithmetic_of, holds as holds_of, number};
+ghost use Rattle.rv_spec.specs.Arithmetic.{high_word, word};
 
 use rv_instr::{ArithmeticOperation, BranchTest};
 

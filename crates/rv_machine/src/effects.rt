@@ -1,9 +1,12 @@
-ghost use Rattle.std.specs.Prelude.{◌≡◌, ◌<◌, if◌then◌else◌, Some, option_map};
-ghost use Rattle.rv_spec.specs.Machine.{Machine, read_register, past};
-ghost use Rattle.rv_spec.specs.Step.{execute, next, put, load, store, goto as step_goto, link as step_link};
-ghost use Rattle.rv_spec.specs.Arithmetic.{word, of_immediate as of_immediate_is, of_shift as of_shift_is};
+ghost use Rattle.std.specs.Prelude.{◌≡◌, ◌<◌, if◌then◌else◌};
+ghost use Rattle.std.specs.Bool.{OnTrue};
+ghost use Rattle.rv_spec.specs.Machine.{past};
+ghost use Rattle.rv_spec.specs.Arithmetic.{word, of_immediate as of_immediate_is};
+ghost use Rattle.rv_spec.specs.Arithmetic.{of_shift as of_shift_is};
 ghost use Rattle.rv_machine.specs.Stores.{load_size, store_size};
-ghost use Rattle.rv_machine.specs.Effects.{applied, IsAligned, first_source, second_source};
+ghost use Rattle.rv_machine.specs.Effects.{effect_of, attempted as attempted_by, IsEffectOf};
+ghost use Rattle.rv_machine.specs.Effects.{is_aligned as aligned_effect, IsAligned};
+ghost use Rattle.rv_machine.specs.Effects.{first_source, second_source};
 
 use crate::Effect;
 use crate::arithmetic::{arithmetic, holds};
@@ -11,23 +14,30 @@ use rv_instr::{
     ArithmeticOperation, ImmediateOperation, Instr, LoadKind, Reg, ShiftOperation, StoreKind,
 };
 
-/// What an instruction does. `a` and `b` are the values of the registers that it reads, as `sources`
-/// names them, and `pc` is its address.
-#[tactic(auto, unfolding(rv_spec::specs::Step::execute))]
-pub fn effect(form: &Instr, a: u32, b: u32, pc: u32) -> Effect
-    ensures meaning { (m : Machine) → m.pc ≡ pc → read_register m (first_source form.now) ≡ a
-        → read_register m (second_source form.now) ≡ b → execute form.now m ≡ applied result m }
+/// What an instruction does. `a` and `b` are the values of the registers that it reads, as
+/// `sources` names them, and `pc` is its address.
+#[tactic(auto, unfolding(crate::specs::Effects::effect_of))]
+pub fn effect(instruction: &Instr, a: u32, b: u32, pc: u32) -> Effect
+    ensures exact { result ≡ effect_of instruction.now a b pc }
+    ensures meaning { IsEffectOf instruction.now a b pc result }
     ensures aligned { IsAligned result }
 {
-    match *form {
-        Instr::Lui { rd, imm } => Effect::Put {
-            rd,
-            value: imm << 12,
-        },
-        Instr::Auipc { rd, imm } => Effect::Put {
-            rd,
-            value: pc.wrapping_add(imm << 12),
-        },
+    let attempt = attempted(instruction, a, b, pc);
+    if is_aligned(&attempt) {
+        attempt
+    } else {
+        Effect::Trap
+    }
+}
+
+/// What an instruction attempts: what it does unless an address is misaligned.
+#[tactic(auto, unfolding(crate::specs::Effects::attempted))]
+fn attempted(instruction: &Instr, a: u32, b: u32, pc: u32) -> Effect
+    ensures { result ≡ attempted_by instruction.now a b pc }
+{
+    match *instruction {
+        Instr::Lui { rd, imm } => put(rd, imm << 12),
+        Instr::Auipc { rd, imm } => put(rd, pc.wrapping_add(imm << 12)),
         Instr::Jal { rd, offset } => link(rd, moved(pc, offset)),
         Instr::Jalr { rd, offset, .. } => link(rd, moved(a, offset) / 2 * 2),
         Instr::Branch { test, offset, .. } => goto(holds(test, a, b), moved(pc, offset)),
@@ -36,42 +46,36 @@ pub fn effect(form: &Instr, a: u32, b: u32, pc: u32) -> Effect
             rd,
             offset,
             ..
-        } => fetch(kind, rd, moved(a, offset)),
-        Instr::Store { kind, offset, .. } => place(kind, moved(a, offset), b),
+        } => load(kind, rd, moved(a, offset)),
+        Instr::Store { kind, offset, .. } => store(kind, moved(a, offset), b),
         Instr::Immediate {
             operation,
             rd,
             imm,
             ..
-        } => Effect::Put {
+        } => put(
             rd,
-            value: arithmetic(of_immediate(operation), a, imm.cast_unsigned()),
-        },
+            arithmetic(of_immediate(operation), a, imm.cast_unsigned()),
+        ),
         Instr::Shift {
             operation,
             rd,
             amount,
             ..
-        } => Effect::Put {
-            rd,
-            value: arithmetic(of_shift(operation), a, u32::from(amount)),
-        },
-        Instr::Arithmetic { operation, rd, .. } => Effect::Put {
-            rd,
-            value: arithmetic(operation, a, b),
-        },
+        } => put(rd, arithmetic(of_shift(operation), a, u32::from(amount))),
+        Instr::Arithmetic { operation, rd, .. } => put(rd, arithmetic(operation, a, b)),
         Instr::Fence { .. } => Effect::Nothing,
         Instr::Ecall | Instr::Ebreak => Effect::Trap,
     }
 }
 
 /// The registers that an instruction reads, first and second; x0 where it reads none.
-pub fn sources(form: &Instr) -> (Reg, Reg)
-    ensures first { result.0 ≡ first_source form.now }
-    ensures second { result.1 ≡ second_source form.now }
+pub fn sources(instruction: &Instr) -> (Reg, Reg)
+    ensures first { result.0 ≡ first_source instruction.now }
+    ensures second { result.1 ≡ second_source instruction.now }
 {
     let zero = Reg::new(0);
-    match *form {
+    match *instruction {
         Instr::Branch { left, right, .. } | Instr::Arithmetic { left, right, .. } => (left, right),
         Instr::Store { base, source, .. } => (base, source),
         Instr::Jalr { base, .. } | Instr::Load { base, .. } => (base, zero),
@@ -92,59 +96,55 @@ fn moved(address: u32, offset: i32) -> u32
     address.wrapping_add(offset.cast_unsigned())
 }
 
-fn link(rd: Reg, target: u32) -> Effect
-    ensures meaning { (m : Machine) → step_link rd target m ≡ applied result m }
-    ensures aligned { IsAligned result }
+fn put(rd: Reg, value: u32) -> Effect
+    ensures { result ≡ Effect.Put rd value }
 {
-    if target % 4 == 0 {
-        Effect::Link { rd, target }
-    } else {
-        Effect::Trap
+    Effect::Put { rd, value }
+}
+
+fn link(rd: Reg, target: u32) -> Effect
+    ensures { result ≡ Effect.Link rd target }
+{
+    Effect::Link { rd, target }
+}
+
+fn load(kind: LoadKind, rd: Reg, address: u32) -> Effect
+    ensures { result ≡ Effect.Load kind rd address }
+{
+    Effect::Load { kind, rd, address }
+}
+
+fn store(kind: StoreKind, address: u32, value: u32) -> Effect
+    ensures { result ≡ Effect.Store kind address value }
+{
+    Effect::Store {
+        kind,
+        address,
+        value,
     }
 }
 
+/// A branch to a target.
 fn goto(taken: bool, target: u32) -> Effect
-    ensures meaning { (m : Machine) → (if taken then step_goto target m else Some (next m)) ≡ applied result m }
-    ensures aligned { IsAligned result }
+    ensures { result ≡ (if taken then Effect.Goto target else Effect.Nothing) }
 {
-    if !taken {
-        return Effect::Nothing;
-    }
-    if target % 4 == 0 {
+    if taken {
         Effect::Goto { target }
     } else {
-        Effect::Trap
+        Effect::Nothing
     }
 }
 
-#[tactic(auto, unfolding(rv_spec::specs::Step::load))]
-fn fetch(kind: LoadKind, rd: Reg, address: u32) -> Effect
-    ensures meaning { (m : Machine) → option_map (λ value. put rd value m) (load kind m.memory address)
-        ≡ applied result m }
-    ensures aligned { IsAligned result }
+/// Whether the address of an effect, where it has one, is a multiple of its size.
+fn is_aligned(effect: &Effect) -> bool
+    ensures exact { result ≡ aligned_effect effect.now }
+    ensures aligned { OnTrue result (IsAligned effect.now) }
 {
-    if address % load_bytes(kind) == 0 {
-        Effect::Fetch { kind, rd, address }
-    } else {
-        Effect::Trap
-    }
-}
-
-#[tactic(auto, unfolding(rv_spec::specs::Step::store))]
-fn place(kind: StoreKind, address: u32, value: u32) -> Effect
-    ensures meaning { (m : Machine) → option_map (λ memory. next (record m { memory = memory }))
-        (store kind m.memory address value)
-        ≡ applied result m }
-    ensures aligned { IsAligned result }
-{
-    if address % store_bytes(kind) == 0 {
-        Effect::Place {
-            kind,
-            address,
-            value,
-        }
-    } else {
-        Effect::Trap
+    match *effect {
+        Effect::Link { target, .. } | Effect::Goto { target } => target % 4 == 0,
+        Effect::Load { kind, address, .. } => address % load_bytes(kind) == 0,
+        Effect::Store { kind, address, .. } => address % store_bytes(kind) == 0,
+        Effect::Put { .. } | Effect::Nothing | Effect::Trap => true,
     }
 }
 

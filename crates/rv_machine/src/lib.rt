@@ -1,10 +1,11 @@
-//! The RV32IM machine as a program, so that the definitions stand on more than paper.
+//! The RV32IM machine as a program, by which the definitions can be tried.
 //!
-//! The main type is [`Machine`]: 32 registers, pc and [`Memory`], which contracts see as the record of
-//! `rv_spec`. [`step`] and [`run`] are `step` and `after` of `rv_spec` (`specs/Step.antt`), exactly; at
-//! a trap, and where memory is wanting, the machine is as it was before the step.
-//! [`effects::effect`] says what an instruction does, its operands read, and takes no memory; what an
-//! [`Effect`] means for the machine is `applied` in `specs/Effects.antt`.
+//! The main type is [`Machine`]: 32 registers, pc and [`Memory`], which contracts see as the record
+//! of `rv_spec`. [`step`] and [`run`] are `step` and `after` of `rv_spec` (`specs/Step.antt`),
+//! exactly; at a trap, and when out of memory, the machine is as it was before the step.
+//! [`effects::effect`] says what an instruction does, its operands read, and allocates nothing; it
+//! is `effect_of` in `specs/Effects.antt`, and what an [`Effect`] means for the machine is
+//! `applied`.
 
 #![tactic(auto)]
 
@@ -37,13 +38,13 @@ pub enum Effect {
         target: u32,
     },
     /// What the load reads at the address goes into the register, and the next instruction follows.
-    Fetch {
+    Load {
         kind: LoadKind,
         rd: Reg,
         address: u32,
     },
     /// The value is stored at the address, and the next instruction follows.
-    Place {
+    Store {
         kind: StoreKind,
         address: u32,
         value: u32,
@@ -54,7 +55,7 @@ pub enum Effect {
     Trap,
 }
 
-/// How a step ended, where memory was not wanting.
+/// How a step ended, unless out of memory.
 #[derive(Clone, Copy, PartialEq, Eq, Debug)]
 pub enum Stepped {
     /// The instruction is executed.
@@ -63,7 +64,7 @@ pub enum Stepped {
     Trapped,
 }
 
-/// How a run ended, where memory was not wanting.
+/// How a run ended, unless out of memory.
 #[derive(Clone, Copy, PartialEq, Eq, Debug)]
 pub enum Ran {
     /// pc is the address to stop at.

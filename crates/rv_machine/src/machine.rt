@@ -125,12 +125,12 @@ impl Machine {
             Effect::Put { rd, value } => self.put(rd, value),
             Effect::Link { rd, target } => self.link(rd, target),
             Effect::Goto { target } => self.set_pc(target),
-            Effect::Fetch { kind, rd, address } => self.fetch(kind, rd, address),
-            Effect::Place {
+            Effect::Load { kind, rd, address } => self.load(kind, rd, address),
+            Effect::Store {
                 kind,
                 address,
                 value,
-            } => self.place(kind, address, value)?,
+            } => self.store(kind, address, value)?,
             Effect::Nothing => self.advance(),
             Effect::Trap => return Ok(Stepped::Trapped),
         }
@@ -138,24 +138,26 @@ impl Machine {
     }
 
     fn link(&mut self, rd: Reg, target: u32)
-        ensures { self.new ≡ record (write_register self.old rd (past self.old.pc 4)) { pc = target } }
+        ensures { self.new ≡ record (write_register self.old rd
+            (past self.old.pc 4)) { pc = target } }
     {
         let back = self.pc.wrapping_add(4);
         self.set_register(rd, back);
         self.set_pc(target);
     }
 
-    fn fetch(&mut self, kind: LoadKind, rd: Reg, address: u32)
+    fn load(&mut self, kind: LoadKind, rd: Reg, address: u32)
         requires { address % load_size kind ≡ 0 }
-        ensures { applied (Effect.Fetch kind rd address) self.old ≡ Some self.new }
+        ensures { applied (Effect.Load kind rd address) self.old ≡ Some self.new }
     {
         let value = self.memory.load(kind, address);
         self.put(rd, value);
     }
 
-    fn place(&mut self, kind: StoreKind, address: u32, value: u32) -> Result<(), AllocError>
+    fn store(&mut self, kind: StoreKind, address: u32, value: u32) -> Result<(), AllocError>
         requires { address % store_size kind ≡ 0 }
-        ensures ok { OnOk result (applied (Effect.Place kind address value) self.old ≡ Some self.new) }
+        ensures ok { OnOk result (applied (Effect.Store kind address value) self.old
+            ≡ Some self.new) }
         ensures err { OnErr result (self.new ≡ self.old) }
     {
         self.memory.store(kind, address, value)?;

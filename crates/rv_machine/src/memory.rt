@@ -1,6 +1,8 @@
-ghost use Rattle.std.specs.Prelude.{ℕ, ◌≡◌, ◌+◌, ◌%◌, ◌^◌, ◌<◌, [], IsSome, IfOk, OnOk, OnErr, Option, Some, None};
+ghost use Rattle.std.specs.Prelude.{ℕ, ◌≡◌, ◌+◌, ◌%◌, ◌^◌, ◌<◌, [], IsSome, IfOk, OnOk, OnErr};
+ghost use Rattle.std.specs.Prelude.{Option, Some, None};
 ghost use Rattle.std.specs.FinMap as map;
-ghost use Rattle.rv_spec.specs.Machine.{byte_at, store_byte, load_half as half_at, load_word as word_at};
+ghost use Rattle.memory_spec.specs.Memory.{byte_at};
+ghost use Rattle.rv_spec.specs.Machine.{store_byte, load_half as half_at, load_word as word_at};
 ghost use Rattle.rv_spec.specs.Step.{load as load_of, store as store_of};
 ghost use Rattle.rv_spec.specs.Arithmetic.{extended};
 ghost use Rattle.rv_machine.specs.Stores.{put_back, store_bytes, load_size, store_size};
@@ -17,13 +19,12 @@ pub struct Memory {
 }
 
 impl Model for Memory {
-    ghost use Rattle.std.specs.Prelude.{ℕ};
+    ghost use Rattle.memory_spec.specs.Memory.{Memory as Bytes};
     ghost use Rattle.rv_machine.specs.Cells.{AllCells};
     ghost use Rattle.std.specs.FinMap as map;
-    ghost use Rattle.std.specs.Ordering.{nat_cmp};
     ghost use Rattle.std.specs.Coded.{coded_ℕ};
 
-    ghost Value = { map.FinMap nat_cmp ℕ };
+    ghost Value = { Bytes };
 
     ghost coded = { map.code coded_ℕ coded_ℕ };
 
@@ -59,7 +60,7 @@ impl Memory {
         }
     }
 
-    /// Writes one byte, and answers what stood there. Where memory is wanting nothing changes.
+    /// Writes one byte, and answers what was there. When out of memory nothing changes.
     pub fn put(&mut self, address: u32, byte: u8) -> Result<Option<u8>, AllocError>
         ensures old { IfOk result (λ old. old ≡ map.get self.old address) }
         ensures ok { OnOk result (self.new ≡ store_byte self.old address byte) }
@@ -68,7 +69,7 @@ impl Memory {
         Ok(self.bytes.insert(address, byte)?)
     }
 
-    /// Undoes a write: `old` is what stood at the address before it.
+    /// Undoes a write: `old` is what was at the address before it.
     fn restore(&mut self, address: u32, old: Option<u8>)
         requires { IsSome (map.get self.old address) }
         ensures { self.new ≡ put_back self.old address old }
@@ -83,7 +84,7 @@ impl Memory {
         }
     }
 
-    /// Writes the bytes from an address on. Where memory is wanting nothing changes.
+    /// Writes the bytes from an address on. When out of memory nothing changes.
     fn store_bytes(&mut self, address: u32, bytes: &[u8]) -> Result<(), AllocError>
         ensures ok { OnOk result (self.new ≡ store_bytes self.old address bytes.now) }
         ensures err { OnErr result (self.new ≡ self.old) }
@@ -138,7 +139,7 @@ impl Memory {
         a + (b << 8) + (c << 16) + (d << 24)
     }
 
-    /// A store to an aligned address. Where memory is wanting nothing changes.
+    /// A store to an aligned address. When out of memory nothing changes.
     pub fn store(&mut self, kind: StoreKind, address: u32, value: u32) -> Result<(), AllocError>
         requires { address % store_size kind ≡ 0 }
         ensures ok { OnOk result (store_of kind self.old address value ≡ Some self.new) }

@@ -7,23 +7,23 @@ use crate::{Ran, Stepped};
 use rv_decode::decode;
 use std::alloc::AllocError;
 
-/// Executes the instruction at pc. Where it traps, and where memory is wanting, nothing changes.
+/// Executes the instruction at pc. Where it traps, and when out of memory, nothing changes.
 pub fn step(machine: &mut Machine) -> Result<Stepped, AllocError>
     ensures done { IfOk result (λ s. HasStepped s machine.old machine.new) }
     ensures err { OnErr result (machine.new ≡ machine.old) }
 {
-    let Some(form) = decode(machine.word()) else {
+    let Some(instruction) = decode(machine.word()) else {
         return Ok(Stepped::Trapped);
     };
-    let (first, second) = sources(&form);
+    let (first, second) = sources(&instruction);
     let a = machine.register(first);
     let b = machine.register(second);
-    let done = effect(&form, a, b, machine.pc());
+    let done = effect(&instruction, a, b, machine.pc());
     machine.apply(done)
 }
 
 /// Takes at most `limit` steps, halting where pc is `stop`, at the start too. Where an instruction
-/// traps, and where memory is wanting, the machine is as it was before that step.
+/// traps, and when out of memory, the machine is as it was before that step.
 pub fn run(machine: &mut Machine, stop: u32, limit: u64) -> Result<Ran, AllocError>
     ensures done { IfOk result (λ r. HasRun r machine.old stop limit machine.new) }
     ensures err { OnErr result (IsUnderWay machine.old stop limit machine.new) }

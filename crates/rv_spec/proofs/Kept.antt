@@ -21,7 +21,8 @@ use Rattle.rv_instr.specs.declared.ShiftOperation.TheVariants.{Left, RightLogica
 use Rattle.rv_instr.specs.declared.ArithmeticOperation.{ArithmeticOperation}
 use Rattle.rv_instr.specs.declared.ArithmeticOperation.TheVariants.{Add, Subtract, ShiftLeft, SetLess, SetLessUnsigned, Xor, ShiftRightLogical, ShiftRightArithmetic, Or, And, Multiply, MultiplyHigh, MultiplyHighSignedUnsigned, MultiplyHighUnsigned, Divide, DivideUnsigned, Remainder, RemainderUnsigned}
 use Rattle.rv_spec.specs.Arithmetic.{word, arithmetic, of_immediate, of_shift, holds}
-use Rattle.rv_spec.specs.Machine.{Machine, IsMachine, Memory, read_register, write_register, byte_at, past, load_half, load_word, store_byte, store_half, store_word}
+use Rattle.memory_spec.specs.Memory.{Memory, byte_at}
+use Rattle.rv_spec.specs.Machine.{Machine, IsMachine, read_register, write_register, past, load_half, load_word, store_byte, store_half, store_word}
 use Rattle.rv_spec.specs.Step.{next, put, load, store, execute, step, after, goto, link, address}
 
 -- ---- words
@@ -206,11 +207,11 @@ execute_keeps Ebreak m machine = tt
 
 pub step_keeps : (m : Machine) → IsMachine m → IfSome (step m) IsMachine
 unfolding step
-step_keeps m machine = of_form (instr (load_word m.memory m.pc))
+step_keeps m machine = of_instruction (instr (load_word m.memory m.pc))
   where
-    of_form : (o : Option Instr) → IfSome (option_and_then (λ i. execute i m) o) IsMachine
-    of_form None = tt
-    of_form (Some i) = execute_keeps i m machine
+    of_instruction : (o : Option Instr) → IfSome (option_and_then (λ i. execute i m) o) IsMachine
+    of_instruction None = tt
+    of_instruction (Some i) = execute_keeps i m machine
 
 pub after_keeps : (m : Machine) (stop k : ℕ) → IsMachine m → IfSome (after m stop k) IsMachine
 unfolding after

@@ -3,7 +3,8 @@ use Rattle.std.proofs.Common.{◌∙◌, ◌/◌, ◌^◌, ◌<◌, eq-eqb, ne_e
 use Rattle.std.specs.Prelude.{if◌then◌else◌, unwrap_or, Some}
 use Rattle.std.specs.FinMap.{get, get-insert}
 use Rattle.std.specs.Cmp.{nat_cmp_total, unsigned_tied}
-use Rattle.rv_spec.specs.Machine.{Memory, byte_at, past, store_byte, store_word, load_word}
+use Rattle.memory_spec.specs.Memory.{Memory, byte_at}
+use Rattle.rv_spec.specs.Machine.{past, store_byte, store_word, load_word}
 
 -- whichever address is read
 pub byte_at-store_byte : (memory : Memory) (a value q : ℕ) → byte_at (store_byte memory a value) q ≡ (if q == a then value % 256 else byte_at memory q)

@@ -1,11 +1,8 @@
 -- The state of an RV32IM machine: the RISC-V unprivileged specification, "Programmers' Model for Base Integer ISA" and
 -- "Memory". Words are numbers below 2 ^ 32 and bytes numbers below 256; memory is little-endian and addresses wrap.
-use Rattle.std.specs.Prelude.{◌≡◌, ℕ, ◌+◌, ◌*◌, ◌/◌, ◌%◌, ◌^◌, ◌<◌, ◌==◌, if◌then◌else◌, List, length, get_or, set, All, Some, unwrap_or}
-use Rattle.std.specs.FinMap.{FinMap, get, insert}
-use Rattle.std.specs.Ordering.{nat_cmp}
-
-abbrev pub Memory : Type 0
-Memory = FinMap nat_cmp ℕ
+use Rattle.std.specs.Prelude.{◌≡◌, ℕ, ◌+◌, ◌*◌, ◌/◌, ◌%◌, ◌^◌, ◌<◌, ◌==◌, if◌then◌else◌, List, length, get_or, set, All, Some}
+use Rattle.std.specs.FinMap.{get, insert}
+use Rattle.memory_spec.specs.Memory.{Memory, byte_at}
 
 -- the state of register 0 is never read and never changed
 pub record Machine : Type 0 where
@@ -29,10 +26,6 @@ unfoldable pub write_register : Machine → ℕ → ℕ → Machine
 write_register m r value = if r == 0 then m else record m { registers = set m.registers r value }
 
 -- ---- memory
-
--- an absent address reads 0
-unfoldable pub byte_at : Memory → ℕ → ℕ
-byte_at memory a = unwrap_or (get memory a) 0
 
 -- the address n bytes past a
 abbrev pub past : ℕ → ℕ → ℕ

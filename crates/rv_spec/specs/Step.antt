@@ -10,7 +10,8 @@ use Rattle.rv_instr.specs.declared.LoadKind.TheVariants as load_kind
 use Rattle.rv_instr.specs.declared.StoreKind.{StoreKind}
 use Rattle.rv_instr.specs.declared.StoreKind.TheVariants as store_kind
 use Rattle.rv_spec.specs.Arithmetic.{word, extended, arithmetic, of_immediate, of_shift, holds}
-use Rattle.rv_spec.specs.Machine.{Machine, Memory, read_register, write_register, byte_at, past, load_half, load_word, store_byte, store_half, store_word}
+use Rattle.memory_spec.specs.Memory.{Memory, byte_at}
+use Rattle.rv_spec.specs.Machine.{Machine, read_register, write_register, past, load_half, load_word, store_byte, store_half, store_word}
 
 -- ---- parts of an instruction
 

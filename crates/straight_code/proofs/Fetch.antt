@@ -4,11 +4,12 @@ use Rattle.std.specs.Prelude.{Option, Some, option_and_then}
 use Rattle.byteorder.specs.Endian.{little_number}
 use Rattle.rv_instr.specs.declared.Instr.{Instr}
 use Rattle.rv_instr.specs.Instr.{instr}
-use Rattle.rv_spec.specs.Machine.{Memory, byte_at, past, load_word}
+use Rattle.memory_spec.specs.Memory.{Memory, byte_at}
+use Rattle.rv_spec.specs.Machine.{past, load_word}
 use Rattle.elf_spec.specs.Image.{Image, fixed_byte}
 use Rattle.code_spec.specs.Code.{HoldsFixed, instr_at, word_of_bytes}
 
--- every fixed byte stands in memory
+-- memory has every fixed byte
 pub record Fixes (image : Image) (memory : Memory) : Type 0 where
   pub holds : HoldsFixed image memory
 

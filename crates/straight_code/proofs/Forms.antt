@@ -1,4 +1,4 @@
--- The instructions of straight code, one by one.
+-- The instructions of straight-line code, one by one.
 use Rattle.std.proofs.Common.{◌≡◌, ◌≢◌, ℕ, zero, suc, ◌+◌, ◌*◌, ◌<◌, ◌==◌, Bool, true, false, cond, refl, ap, subst, arith, eqb-true}
 use Rattle.std.proofs.lemmas.Bool.{eqb-false}
 use Rattle.std.specs.Prelude.{◌&&◌, not, ℤ, pos, negsuc, Option, Some, None}
@@ -8,7 +8,7 @@ use Rattle.rv_instr.specs.declared.ArithmeticOperation.TheVariants.{Add, Subtrac
 use Rattle.rv_instr.specs.declared.ImmediateOperation.TheVariants as immediate
 use Rattle.elf_spec.specs.Image.{Image}
 use Rattle.code_spec.specs.Code.{instr_at}
-use Rattle.straight_code.specs.Straight.{is_zero, is_return, is_plain, crooked_from}
+use Rattle.straight_code.specs.Straight.{is_zero, is_return, is_plain, not_straight_from}
 
 -- the three forms before the return
 pub data IsPlain : Option Instr → Type 0 where
@@ -53,8 +53,8 @@ none_if : (b : Bool) (o : Option ℕ) (a : ℕ) → cond b o (Some a) ≡ None �
 none_if true o a e = (refl, e)
 none_if false o a e = absurd (cc)
 
-pub straight_from : (image : Image) (address count : ℕ) → crooked_from image address count ≡ None → IsStraight image address count
-unfolding crooked_from
+pub straight_from : (image : Image) (address count : ℕ) → not_straight_from image address count ≡ None → IsStraight image address count
+unfolding not_straight_from
 straight_from image address zero e =
     let returns = (none_if (is_return (instr_at image address)) None address e).0 in
     record {
@@ -62,7 +62,7 @@ straight_from image address zero e =
       last = subst (λ a. instr_at image a ≡ Some (Jalr 0 1 (pos 0))) (omega arith) (return_form (instr_at image address) returns);
     }
 straight_from image address (suc count) e =
-    let here = none_if (is_plain (instr_at image address)) (crooked_from image (address + 4) count) address e in
+    let here = none_if (is_plain (instr_at image address)) (not_straight_from image (address + 4) count) address e in
     let rest = straight_from image (address + 4) count here.1 in
     record {
       plain = plain_at here.0 rest;

@@ -1,7 +1,7 @@
 pub mod Forms
 pub mod Stack
 pub mod Fetch
-pub mod Worth
+pub mod Values
 pub mod Terms
 pub mod Run
 pub mod Result

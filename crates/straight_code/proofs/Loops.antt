@@ -6,37 +6,37 @@ use Rattle.std.proofs.lemmas.List.Folds.{list_all-map, list_all_at}
 use Rattle.elf_spec.specs.Image.{Image}
 use Rattle.code_spec.specs.Code.{instr_at}
 use Rattle.term_spec.specs.Term.{Term}
-use Rattle.straight_code.specs.Straight.{is_plain, is_return, crooked_from}
+use Rattle.straight_code.specs.Straight.{is_plain, is_return, not_straight_from}
 use Rattle.straight_code.specs.Decision.{Registers, effect_of, terms_from}
 
 -- ---- the words
 
-pub crooked_plain : (image : Image) (address count : ℕ) → 0 < count → is_plain (instr_at image address) ≡ true
-    → crooked_from image address count ≡ crooked_from image (address + 4) (count - 1)
-unfolding crooked_from
-crooked_plain image address zero some plain = absurd (omega (arith, some))
-crooked_plain image address (suc count) some plain = let rest : suc count - 1 ≡ count = omega arith in rw (plain, rest) refl
+pub not_straight_plain : (image : Image) (address count : ℕ) → 0 < count → is_plain (instr_at image address) ≡ true
+    → not_straight_from image address count ≡ not_straight_from image (address + 4) (count - 1)
+unfolding not_straight_from
+not_straight_plain image address zero some plain = absurd (omega (arith, some))
+not_straight_plain image address (suc count) some plain = let rest : suc count - 1 ≡ count = omega arith in rw (plain, rest) refl
 
-pub crooked_turn : (image : Image) (entry last k : ℕ) → k < last → crooked_from image entry last ≡ crooked_from image (entry + 4 * k) (last - k)
-    → is_plain (instr_at image (entry + 4 * k)) ≡ true → crooked_from image entry last ≡ crooked_from image (entry + 4 * (k + 1)) (last - (k + 1))
-crooked_turn image entry last k below before plain =
+pub not_straight_turn : (image : Image) (entry last k : ℕ) → k < last → not_straight_from image entry last ≡ not_straight_from image (entry + 4 * k) (last - k)
+    → is_plain (instr_at image (entry + 4 * k)) ≡ true → not_straight_from image entry last ≡ not_straight_from image (entry + 4 * (k + 1)) (last - (k + 1))
+not_straight_turn image entry last k below before plain =
     let place : entry + 4 * k + 4 ≡ entry + 4 * (k + 1) = omega arith in
     let left : last - k - 1 ≡ last - (k + 1) = omega arith in
-    before ∙ (crooked_plain image (entry + 4 * k) (last - k) (omega (arith, below)) plain
-    ∙ (ap (λ a. crooked_from image a (last - k - 1)) place ∙ ap (crooked_from image (entry + 4 * (k + 1))) left))
+    before ∙ (not_straight_plain image (entry + 4 * k) (last - k) (omega (arith, below)) plain
+    ∙ (ap (λ a. not_straight_from image a (last - k - 1)) place ∙ ap (not_straight_from image (entry + 4 * (k + 1))) left))
 
-pub crooked_here : (image : Image) (address count : ℕ) → 0 < count → is_plain (instr_at image address) ≡ false → crooked_from image address count ≡ Some address
-unfolding crooked_from
-crooked_here image address zero some crooked = absurd (omega (arith, some))
-crooked_here image address (suc count) some crooked = rw crooked refl
+pub not_straight_here : (image : Image) (address count : ℕ) → 0 < count → is_plain (instr_at image address) ≡ false → not_straight_from image address count ≡ Some address
+unfolding not_straight_from
+not_straight_here image address zero some not_straight = absurd (omega (arith, some))
+not_straight_here image address (suc count) some not_straight = rw not_straight refl
 
-pub crooked_last : (image : Image) (address count : ℕ) → count ≡ 0 → is_return (instr_at image address) ≡ false → crooked_from image address count ≡ Some address
-unfolding crooked_from
-crooked_last image address zero last crooked = rw crooked refl
-crooked_last image address (suc count) last crooked = absurd (omega (arith, last))
+pub not_straight_last : (image : Image) (address count : ℕ) → count ≡ 0 → is_return (instr_at image address) ≡ false → not_straight_from image address count ≡ Some address
+unfolding not_straight_from
+not_straight_last image address zero last not_straight = rw not_straight refl
+not_straight_last image address (suc count) last not_straight = absurd (omega (arith, last))
 
-pub straight_last : (image : Image) (address count : ℕ) → count ≡ 0 → is_return (instr_at image address) ≡ true → crooked_from image address count ≡ None
-unfolding crooked_from
+pub straight_last : (image : Image) (address count : ℕ) → count ≡ 0 → is_return (instr_at image address) ≡ true → not_straight_from image address count ≡ None
+unfolding not_straight_from
 straight_last image address zero last straight = rw straight refl
 straight_last image address (suc count) last straight = absurd (omega (arith, last))
 

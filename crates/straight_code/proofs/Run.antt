@@ -1,4 +1,4 @@
--- A run of straight code: after each step the registers hold what the terms are worth.
+-- A run of straight-line code: after each step the registers hold the values of the terms.
 use Rattle.std.proofs.Common.{◌≡◌, ◌≢◌, ℕ, zero, suc, ◌+◌, ◌*◌, ◌/◌, ◌^◌, ◌%◌, ◌<◌, ◌≤◌, refl, ◌∙◌, ap, subst, arith, eq-eqb, ne_eqb}
 use Rattle.std.specs.Prelude.{ℤ, pos, negsuc, Option, Some, option_and_then}
 use Rattle.rv_instr.specs.Instr.{instr}
@@ -7,7 +7,8 @@ use Rattle.rv_instr.specs.declared.Instr.TheVariants.{Jalr, Immediate, Arithmeti
 use Rattle.rv_instr.specs.declared.ArithmeticOperation.TheVariants.{Add, Subtract}
 use Rattle.rv_instr.specs.declared.ImmediateOperation.TheVariants as immediate
 use Rattle.rv_spec.specs.Arithmetic.{word, arithmetic, of_immediate}
-use Rattle.rv_spec.specs.Machine.{Machine, Memory, read_register, write_register, load_word}
+use Rattle.memory_spec.specs.Memory.{Memory}
+use Rattle.rv_spec.specs.Machine.{Machine, read_register, write_register, load_word}
 use Rattle.rv_spec.specs.Step.{step, after, put, link, address}
 use Rattle.rv_spec.proofs.Registers.{pc-write, memory-write}
 use Rattle.rv_spec.proofs.Steps.{fetched, step_arithmetic, step_immediate, step_indirect_jump, after_zero, after_step}
@@ -20,10 +21,10 @@ use Rattle.term_spec.specs.Value.{Assignment, operation}
 use Rattle.straight_code.specs.Decision.{Registers, term_at, put_term, effect_of, terms_from}
 use Rattle.straight_code.proofs.Forms.{IsPlain, sum_form, difference_form, immediate_form}
 use Rattle.straight_code.proofs.Fetch.{fetched_is}
-use Rattle.straight_code.proofs.Worth.{IsWord, word_as, constant_word, operation_word}
+use Rattle.straight_code.proofs.Values.{IsWord, word_as, constant_word, operation_word}
 use Rattle.straight_code.proofs.Terms.{Follows, put_follows}
 
--- the machine is at an address, with this memory, and its registers hold what the terms are worth
+-- the machine is at an address, with this memory, and its registers hold the values of the terms
 pub record IsAt (assignment : Assignment) (place : ℕ) (terms : Registers) (memory : Memory) (m : Machine) : Type 0 where
   pub at_place : m.pc ≡ place
   pub same_memory : m.memory ≡ memory
@@ -51,7 +52,7 @@ put_is_at assignment place rd n t terms memory m is_at within word =
       follows = put_follows assignment terms m rd n t is_at.follows word;
     }
 
--- ---- what each of the three forms is worth
+-- ---- the value of each of the three forms
 
 sum_word : (assignment : Assignment) (terms : Registers) (m : Machine) (left right : ℕ) → Follows assignment terms m
     → IsWord assignment (term.add (term_at terms left) (term_at terms right)) (arithmetic Add (read_register m left) (read_register m right))

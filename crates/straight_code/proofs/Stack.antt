@@ -1,4 +1,4 @@
--- Straight code reaches exactly its own words, calls nothing and takes no stack.
+-- Straight-line code reaches exactly its own words, calls nothing and takes no stack.
 use Rattle.std.proofs.Common.{◌≡◌, ℕ, zero, suc, ◌+◌, ◌*◌, ◌-◌, ◌<◌, ◌≤◌, Bool, true, false, cond, refl, sym, ◌∙◌, ap, subst, inl, inr, arith, get_or, ne_eqb, length, List, [], ◌∷◌, map}
 use Rattle.std.specs.Prelude.{ℤ, pos, negsuc, Option, Some, None, ◌⊎◌, Contains, sum_by, option_and_then, nat_le}
 use Rattle.std.specs.List.{range_with_len}
@@ -11,7 +11,7 @@ use Rattle.rv_instr.specs.declared.Instr.TheVariants.{Jalr, Immediate}
 use Rattle.rv_instr.specs.declared.ImmediateOperation.TheVariants as immediate
 use Rattle.elf_spec.specs.Image.{Image, size_at}
 use Rattle.code_spec.specs.Code.{instr_at, HasCode, Flow, Falls, Calls, Jumps, Returns, flow_of, flow_at, nexts_of, IsReachable, here, next, CallsOn, call, tail, opening_of, AreReachable, IsStack, deep}
-use Rattle.straight_code.specs.Straight.{crooked_at, words_before_last}
+use Rattle.straight_code.specs.Straight.{not_straight_at, words_before_last}
 use Rattle.straight_code.proofs.Forms.{IsPlain, sum_form, difference_form, immediate_form, IsStraight, straight_from}
 
 flow_of_plain : (before o : Option Instr) (address : ℕ) → IsPlain o → option_and_then (λ i. Some (flow_of before address i)) o ≡ Some Falls
@@ -173,7 +173,7 @@ sum_is_zero f g a (suc n) none =
     let rest = sum_is_zero f g (a + 1) n (λ k from below. none k (omega arith) (omega arith)) in
     sum_by-cons f (g a) (map g (range_with_len (a + 1) n)) ∙ (omega (arith, first, rest))
 
-pub has_straight_code : (image : Image) (entry size : ℕ) → HasCode image entry size → crooked_at image entry size ≡ None → HasStraightCode image entry size (words_before_last size)
+pub has_straight_code : (image : Image) (entry size : ℕ) → HasCode image entry size → not_straight_at image entry size ≡ None → HasStraightCode image entry size (words_before_last size)
 has_straight_code image entry size code e =
     let aligned = code.size_aligned in
     let not_empty = code.not_empty in
@@ -188,6 +188,6 @@ stack_is image entry size count has sized =
     (λ target calls. absurd (calls_nothing image entry size count target has calls))
     (record { above = λ x calls. omega arith; reached = inl refl }))
 
--- straight code takes no stack
-pub straight_stack : (image : Image) (entry size : ℕ) → HasCode image entry size → size_at image entry ≡ Some size → crooked_at image entry size ≡ None → IsStack image entry 0
+-- straight-line code takes no stack
+pub straight_stack : (image : Image) (entry size : ℕ) → HasCode image entry size → size_at image entry ≡ Some size → not_straight_at image entry size ≡ None → IsStack image entry 0
 straight_stack image entry size code sized e = stack_is image entry size (words_before_last size) (has_straight_code image entry size code e) sized

@@ -1,4 +1,4 @@
--- The registers of a machine hold what the terms are worth.
+-- The registers of a machine hold the values of the terms.
 use Rattle.std.proofs.Common.{◌≡◌, ◌≢◌, ℕ, zero, suc, ◌<◌, ◌≤◌, ◌==◌, Bool, true, false, cond, [], ◌∷◌, ◌++◌, length, get_or, set, refl, sym, ◌∙◌, ap, arith, eqb-true, ne_eqb, get_or-set_same, get_or-set_other, length-append, length-set}
 use Rattle.std.proofs.lemmas.Bool.{eqb-false, leb-true, leb-false}
 use Rattle.std.proofs.lemmas.List.{get_or_past, set_past, get_or_append_left}
@@ -18,7 +18,7 @@ use Rattle.term_core.specs.Assignment.{default_of}
 use Rattle.term_core.proofs.Listed.{default_of-sort}
 use Rattle.code_graph_spec.specs.State.{entry_register}
 use Rattle.straight_code.specs.Decision.{Registers, entry_term, entry_terms, term_at, put_term}
-use Rattle.straight_code.proofs.Worth.{IsWord, word_as, constant_word}
+use Rattle.straight_code.proofs.Values.{IsWord, word_as, constant_word}
 
 -- a word of 32 bits, or what another variable is by default
 abbrev pub value_for : Sort → ℕ → Value
@@ -63,7 +63,7 @@ entry_term_at (suc n) r below = at_end (λ before. entry_term_at n r before) (r 
         let long = length-entry_terms n in
         get_or_append_left (entry_terms n) (entry_term n ∷ []) (constant W32 0) r (omega (arith, apart, long, below)) ∙ rest (omega (arith, apart, below))
 
--- the registers hold what the terms are worth
+-- the registers hold the values of the terms
 pub record Follows (assignment : Assignment) (terms : Registers) (m : Machine) : Type 0 where
   pub agree : (r : ℕ) → IsWord assignment (term_at terms r) (read_register m r)
   pub as_long : length m.registers ≡ length terms
@@ -78,7 +78,7 @@ entry_word m is r = at_zero (r == 0) refl
   where
     at_zero : (b : Bool) → (r == 0) ≡ b → IsWord (assignment_of m) (cond b (constant W32 0) (open_term (entry_register r))) (read_register m r)
     at_zero true e = word_as (assignment_of m) (constant W32 0) (constant W32 0) (read_register m r) 0 refl (read_zero m r (eqb-true r 0 e)) (constant_word (assignment_of m) 0 (omega arith))
-    at_zero false e = record { sorted = refl; worth = refl; below = read_below m r is }
+    at_zero false e = record { sorted = refl; value_is = refl; below = read_below m r is }
 
 past_registers : (m : Machine) (r : ℕ) → length m.registers ≡ 32 → 32 ≤ r → read_register m r ≡ 0
 unfolding read_register

@@ -1,4 +1,4 @@
--- When straight code is accepted: the normal forms of a few equations are true.
+-- When straight-line code is accepted: the normal forms of a few equations are true.
 use Rattle.std.specs.Prelude.{ℕ, zero, suc, ◌+◌, ◌==◌, Bool, if◌then◌else◌, List, [], ◌∷◌, ◌++◌, map, get_or, slice_set, Option, Some}
 use Rattle.std.specs.List.{list_all}
 use Rattle.rv_instr.specs.declared.Instr.{Instr}
@@ -13,10 +13,10 @@ use Rattle.c_spec.specs.declared.Operator.{Operator}
 use Rattle.c_spec.specs.declared.Operator.TheVariants.{Plus, Minus}
 use Rattle.c_spec.specs.Unit.{Unit}
 use Rattle.code_spec.specs.Code.{instr_at}
-use Rattle.claim_spec.specs.Claim.{kept_registers}
+use Rattle.claim_spec.specs.Convention.{kept_registers}
 use Rattle.term_spec.specs.declared.Width.TheVariants.{W32}
 use Rattle.term_spec.specs.Term.{Term, constant, open_term, equal, add, subtract}
-use Rattle.normal_spec.specs.Seen.{is_true}
+use Rattle.normal_spec.specs.Patterns.{is_true}
 use Rattle.normal_spec.specs.Normal.{normal}
 use Rattle.code_graph_spec.specs.State.{entry_register}
 use Rattle.straight_code.specs.Straight.{words_before_last}
@@ -53,7 +53,7 @@ unfoldable pub terms_from : Image → (address count : ℕ) → Registers → Re
 terms_from image address zero terms = terms
 terms_from image address (suc count) terms = terms_from image (address + 4) count (effect_of (instr_at image address) terms)
 
--- after the straight code of the function, as it returns
+-- after the straight-line code of the function, as it returns
 abbrev pub final_terms : Image → (entry size : ℕ) → Registers
 final_terms image entry size = terms_from image entry (words_before_last size) (entry_terms 32)
 
@@ -86,6 +86,6 @@ is_found test = is_true (normal [] test)
 abbrev pub all_found : List Term → Bool
 all_found tests = list_all is_found tests
 
--- the straight code of the function is found to do what the C source says
+-- the straight-line code of the function is found to do what the C source says
 abbrev pub accepts : Image → Unit → (entry size : ℕ) → Bool
 accepts image unit entry size = all_found (tests_of unit (final_terms image entry size))

@@ -1,4 +1,4 @@
--- The form of straight code: ADD, SUB and ADDI that leave the stack pointer alone, and then the return.
+-- The form of straight-line code: ADD, SUB and ADDI that leave the stack pointer alone, and then the return.
 use Rattle.std.specs.Prelude.{ℕ, zero, suc, ◌+◌, ◌-◌, ◌/◌, ◌==◌, ◌&&◌, not, Bool, false, if◌then◌else◌, ℤ, pos, negsuc, Option, Some, None}
 use Rattle.rv_instr.specs.declared.Instr.{Instr}
 use Rattle.rv_instr.specs.declared.Instr.TheVariants.{Jalr, Immediate, Arithmetic}
@@ -25,14 +25,14 @@ is_plain (Some (Immediate immediate.Add rd source imm)) = not (rd == 2)
 is_plain other = false
 
 -- the first of these words that isn't of the form: so many plain ones from an address on, and then the return
-unfoldable pub crooked_from : Image → (address count : ℕ) → Option ℕ
-crooked_from image address zero = if is_return (instr_at image address) then None else Some address
-crooked_from image address (suc count) = if is_plain (instr_at image address) then crooked_from image (address + 4) count else Some address
+unfoldable pub not_straight_from : Image → (address count : ℕ) → Option ℕ
+not_straight_from image address zero = if is_return (instr_at image address) then None else Some address
+not_straight_from image address (suc count) = if is_plain (instr_at image address) then not_straight_from image (address + 4) count else Some address
 
--- how many words stand before the last one
+-- how many words are before the last one
 abbrev pub words_before_last : (size : ℕ) → ℕ
 words_before_last size = size / 4 - 1
 
--- the first address of the function at which its code isn't straight
-abbrev pub crooked_at : Image → (entry size : ℕ) → Option ℕ
-crooked_at image entry size = crooked_from image entry (words_before_last size)
+-- the first address of the function at which its code isn't straight-line
+abbrev pub not_straight_at : Image → (entry size : ℕ) → Option ℕ
+not_straight_at image entry size = not_straight_from image entry (words_before_last size)

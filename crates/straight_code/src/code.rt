@@ -4,7 +4,7 @@ ghost use Rattle.std.specs.Prelude.{◌≡◌, ◌+◌, ◌<◌, ◌≤◌, ◌%
 ghost use Rattle.code_spec.specs.Code.{HasCode, instr_at};
 ghost use Rattle.straight_code.specs.Straight as spec;
 
-use decompile::instruction;
+use code_reach::instruction_at;
 use elf_read::Image;
 use rv_instr::{ArithmeticOperation, ImmediateOperation, Instr, Reg};
 
@@ -49,7 +49,7 @@ fn is_plain_at(image: &Image<'_>, address: u32) -> bool
     requires { address + 4 ≤ 2 ^ 32 }
     ensures { result ≡ spec.is_plain (instr_at image.now address) }
 {
-    match instruction(image, address) {
+    match instruction_at(image, address) {
         Some(form) => is_plain(&form),
         None => false,
     }
@@ -59,16 +59,16 @@ fn is_return_at(image: &Image<'_>, address: u32) -> bool
     requires { address + 4 ≤ 2 ^ 32 }
     ensures { result ≡ spec.is_return (instr_at image.now address) }
 {
-    match instruction(image, address) {
+    match instruction_at(image, address) {
         Some(form) => is_return(&form),
         None => false,
     }
 }
 
-/// The first address of the function at which its code isn't straight.
-pub fn crooked_word(image: &Image<'_>, entry: u32, size: u32) -> Option<u32>
+/// The first address of the function at which its code isn't straight-line.
+pub fn first_not_straight(image: &Image<'_>, entry: u32, size: u32) -> Option<u32>
     requires { HasCode image.now entry size }
-    ensures { result ≡ spec.crooked_at image.now entry size }
+    ensures { result ≡ spec.not_straight_at image.now entry size }
 {
     let last = size / 4 - 1;
     for k in 0..last {

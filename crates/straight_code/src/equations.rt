@@ -5,7 +5,7 @@ ghost use Rattle.std.specs.List.{list_all};
 ghost use Rattle.term_spec.specs.Term as tree;
 ghost use Rattle.term_spec.specs.Term.{Term};
 ghost use Rattle.term_bank.specs.Nodes.{build, tree_at, Holds, Extends};
-ghost use Rattle.normal_spec.specs.Seen.{is_true};
+ghost use Rattle.normal_spec.specs.Patterns.{is_true};
 ghost use Rattle.c_spec.specs.declared.Operand.{Operand as operand};
 ghost use Rattle.straight_code.specs.Decision as spec;
 
@@ -19,8 +19,8 @@ use term_norm::normal;
 use term_spec::{Atom, BinaryOperator, WordOperator};
 use thin_source::Unit;
 
-// The return address, and sp, gp, tp and s0 to s11, which a function keeps (RISC-V psABI, integer register
-// convention).
+// The return address, and sp, gp, tp and s0 to s11, which a function keeps (RISC-V psABI, integer
+// register convention).
 const KEPT: [u8; 16] = [1, 2, 3, 4, 8, 9, 18, 19, 20, 21, 22, 23, 24, 25, 26, 27];
 
 // The parameter that an operand is.
@@ -35,7 +35,9 @@ fn operand(operand: Operand) -> Atom
 
 // What an operator of the source does to words.
 fn operation(operator: Operator) -> WordOperator
-    ensures { (left right : operand) → spec.result_term operator left right ≡ tree.on_words result (spec.operand_term left) (spec.operand_term right) }
+    ensures { (left right : operand)
+        → spec.result_term operator left right
+        ≡ tree.on_words result (spec.operand_term left) (spec.operand_term right) }
 {
     match operator {
         Operator::Plus => WordOperator::Add,
@@ -45,7 +47,8 @@ fn operation(operator: Operator) -> WordOperator
 
 // The value that the function of the source returns.
 fn result_term(bank: &mut Bank, unit: &Unit) -> Result<TermId, AllocError>
-    ensures tree { IfOk result (λ i. Holds bank.new i (spec.result_term unit.now.operator unit.now.left unit.now.right)) }
+    ensures tree { IfOk result (λ i. Holds bank.new i
+        (spec.result_term unit.now.operator unit.now.left unit.now.right)) }
     ensures extends { Extends bank.old bank.new }
 {
     let left = bank.add(TermNode::Leaf(operand(unit.left())))?;
@@ -55,7 +58,7 @@ fn result_term(bank: &mut Bank, unit: &Unit) -> Result<TermId, AllocError>
 }
 
 // Whether a node's term is true.
-#[tactic(auto, unfolding(normal_spec::specs::Seen::is_true))]
+#[tactic(auto, unfolding(normal_spec::specs::Patterns::is_true))]
 fn is_truth(node: TermNode) -> bool
     ensures { (trees : List Term) → result ≡ is_true (build trees node) }
 {
@@ -69,7 +72,8 @@ fn is_truth(node: TermNode) -> bool
 fn is_equal(alloc: Global, bank: &mut Bank, x: TermId, y: TermId) -> Result<bool, AllocError>
     requires first { x < length bank.old }
     requires second { y < length bank.old }
-    ensures found { IfOk result (λ yes. yes ≡ spec.is_found (tree.equal (tree_at bank.old x) (tree_at bank.old y))) }
+    ensures found { IfOk result (λ yes. yes
+        ≡ spec.is_found (tree.equal (tree_at bank.old x) (tree_at bank.old y))) }
     ensures extends { Extends bank.old bank.new }
 {
     let equation = bank.add(TermNode::Binary(BinaryOperator::Equal, x, y))?;
@@ -80,7 +84,8 @@ fn is_equal(alloc: Global, bank: &mut Bank, x: TermId, y: TermId) -> Result<bool
 impl Registers {
     // Whether x10 has the result.
     fn has_result(&mut self, alloc: Global, unit: &Unit) -> Result<bool, AllocError>
-        ensures found { IfOk result (λ yes. yes ≡ spec.is_found (spec.result_test unit.now self.old)) }
+        ensures found { IfOk result (λ yes. yes
+            ≡ spec.is_found (spec.result_test unit.now self.old)) }
         ensures same { self.new ≡ self.old }
     {
         let wanted = result_term(&mut self.bank, unit)?;
@@ -90,7 +95,8 @@ impl Registers {
 
     // Whether a register has its entry value.
     fn is_kept(&mut self, alloc: Global, register: Reg) -> Result<bool, AllocError>
-        ensures found { IfOk result (λ yes. yes ≡ spec.is_found (spec.kept_test self.old register)) }
+        ensures found { IfOk result (λ yes. yes
+            ≡ spec.is_found (spec.kept_test self.old register)) }
         ensures same { self.new ≡ self.old }
     {
         let entry = self.bank.add(TermNode::Leaf(entry_atom(register)))?;
@@ -101,7 +107,8 @@ impl Registers {
     // Whether each of these registers has its entry value.
     fn are_kept(&mut self, alloc: Global, kept: &[u8]) -> Result<bool, AllocError>
         requires { IsTrue (list_all (λ r. nat_lt r 32) kept.now) }
-        ensures { IfOk result (λ yes. yes ≡ spec.all_found (map (spec.kept_test self.old) kept.now)) }
+        ensures { IfOk result (λ yes. yes
+            ≡ spec.all_found (map (spec.kept_test self.old) kept.now)) }
     {
         for register in kept {
             if !self.is_kept(alloc, Reg::new(*register))? {
@@ -111,8 +118,8 @@ impl Registers {
         Ok(true)
     }
 
-    // Whether each of the equations is found to be true: the result is that of the source, and the return address
-    // and the kept registers have their entry values.
+    // Whether each of the equations is found to be true: the result is that of the source, and the
+    // return address and the kept registers have their entry values.
     pub(crate) fn are_accepted(&mut self, alloc: Global, unit: &Unit) -> Result<bool, AllocError>
         ensures { IfOk result (λ yes. yes ≡ spec.all_found (spec.tests_of unit.now self.old)) }
     {

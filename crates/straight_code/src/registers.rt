@@ -1,14 +1,15 @@
 // A term for each register, and what the instructions do to them.
 
-ghost use Rattle.std.specs.Prelude.{◌≡◌, ◌==◌, ◌+◌, ◌<◌, ◌≤◌, ◌%◌, ◌^◌, IfOk, OnOk, if◌then◌else◌, length, slice_index, slice_set, vec_len};
+ghost use Rattle.std.specs.Prelude.{◌≡◌, ◌==◌, ◌+◌, ◌<◌, ◌≤◌, ◌%◌, ◌^◌, IfOk, OnOk, if◌then◌else◌};
+ghost use Rattle.std.specs.Prelude.{length, slice_index, slice_set, vec_len};
 ghost use Rattle.term_spec.specs.Term as tree;
 ghost use Rattle.term_spec.specs.declared.Width.TheVariants as Width;
 ghost use Rattle.code_spec.specs.Code.{instr_at};
 ghost use Rattle.straight_code.specs.Decision as spec;
 
 use crate::state::Registers;
+use code_reach::instruction_at;
 use code_terms::entry_register;
-use decompile::instruction;
 use elf_read::Image;
 use rv_instr::{ArithmeticOperation, ImmediateOperation, Instr, Reg};
 use std::alloc::{AllocError, Global};
@@ -38,7 +39,8 @@ pub(crate) fn place_of(places: &[TermId], register: Reg) -> TermId
 // A new place for the term of a register; that of x0 stays.
 fn put(places: &mut Vec<TermId>, register: Reg, place: TermId)
     requires { vec_len places.old ≡ 32 }
-    ensures { places.new.items ≡ (if register == 0 then places.old.items else slice_set places.old.items register place) }
+    ensures { places.new.items ≡ (if register == 0 then places.old.items else slice_set
+        places.old.items register place) }
 {
     let number = register.number();
     if number != 0 {
@@ -68,7 +70,9 @@ impl Registers {
         left: Reg,
         right: Reg,
     ) -> Result<(), AllocError>
-        ensures { OnOk result (self.new ≡ spec.put_term rd (tree.on_words operator (spec.term_at self.old left) (spec.term_at self.old right)) self.old) }
+        ensures { OnOk result (self.new
+            ≡ spec.put_term rd (tree.on_words operator (spec.term_at self.old left)
+            (spec.term_at self.old right)) self.old) }
     {
         let x = place_of(&self.places, left);
         let y = place_of(&self.places, right);
@@ -80,7 +84,9 @@ impl Registers {
 
     // A register gets the sum of another's term and a number.
     fn raise(&mut self, rd: Reg, source: Reg, number: u32) -> Result<(), AllocError>
-        ensures { OnOk result (self.new ≡ spec.put_term rd (tree.add (spec.term_at self.old source) (tree.constant Width.W32 number)) self.old) }
+        ensures { OnOk result (self.new
+            ≡ spec.put_term rd (tree.add (spec.term_at self.old source)
+            (tree.constant Width.W32 number)) self.old) }
     {
         let x = place_of(&self.places, source);
         let number = Atom::Constant(Width::W32, u64::from(number));
@@ -91,7 +97,7 @@ impl Registers {
         Ok(())
     }
 
-    // What an instruction of straight code does.
+    // What an instruction of straight-line code does.
     #[tactic(auto, unfolding(crate::specs::Decision::effect_of))]
     pub(crate) fn execute(&mut self, form: &Instr) -> Result<(), AllocError>
         ensures { OnOk result (self.new ≡ spec.effect_of (Some form.now) self.old) }
@@ -134,14 +140,14 @@ impl Registers {
         requires { address + 4 ≤ 2 ^ 32 }
         ensures { OnOk result (self.new ≡ spec.effect_of (instr_at image.now address) self.old) }
     {
-        match instruction(image, address) {
+        match instruction_at(image, address) {
             Some(form) => self.execute(&form),
             None => Ok(()),
         }
     }
 }
 
-// The registers as the straight code of the function returns.
+// The registers as the straight-line code of the function returns.
 pub(crate) fn final_registers(
     alloc: Global,
     image: &Image<'_>,

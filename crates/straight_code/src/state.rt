@@ -3,7 +3,8 @@
 use std::marker::Model;
 use term_bank::{Bank, TermId};
 
-// A term for each of the 32 registers, and others beside them: a contract sees those of the registers, in order.
+// A term for each of the 32 registers, and others beside them: a contract sees those of the
+// registers, in order.
 #[derive(Drop)]
 pub(crate) struct Registers {
     pub(crate) bank: Bank,

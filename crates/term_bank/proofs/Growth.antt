@@ -27,7 +27,7 @@ pub slice_get-seam : {X : Type 0} → (xs ys : List X) (x : X) → slice_get (xs
 slice_get-seam [] ys x = refl
 slice_get-seam (y ∷ xs) ys x = slice_get-seam xs ys x
 
--- a place below the length holds something
+-- an index below the length holds something
 pub held : (trees : List Term) (i : ℕ) → i < length trees → Holds trees i (tree_at trees i)
 held trees i below = slice_get-get_or trees i (tree.Leaf (atom.Truth false)) below
 
@@ -81,13 +81,13 @@ grown-extends trees (node ∷ rest) =
     let later = grown-extends (trees ++ build trees node ∷ []) rest in
     (build trees node ∷ later.0, later.1 ∙ append_assoc trees (build trees node ∷ []) later.0)
 
--- the node at a place has its arguments before it, and its tree is the one there
-pub record StandsAt (trees : List Term) (place : ℕ) (node : TermNode) : Type 0 where
+-- the node at an index has its arguments before it, and its tree is the one there
+pub record IsNodeAt (trees : List Term) (place : ℕ) (node : TermNode) : Type 0 where
   pub before : IsNode place node
   pub holds : Holds trees place (build trees node)
 
-stands_first : (trees : List Term) (first : TermNode) (rest : List TermNode) → IsNode (length trees) first → StandsAt (grown trees (first ∷ rest)) (length trees) first
-stands_first trees first rest h =
+first_is_at : (trees : List Term) (first : TermNode) (rest : List TermNode) → IsNode (length trees) first → IsNodeAt (grown trees (first ∷ rest)) (length trees) first
+first_is_at trees first rest h =
     let whole = grown-extends trees (first ∷ rest) in
     let later = grown-extends (trees ++ build trees first ∷ []) rest in
     let same : build (grown trees (first ∷ rest)) first ≡ build trees first = ap (λ g. build g first) whole.1 ∙ build-front trees whole.0 first h in
@@ -96,17 +96,17 @@ stands_first trees first rest h =
     let found : Holds (grown trees (first ∷ rest)) (length trees) (build trees first) = subst (λ g. Holds g (length trees) (build trees first)) (sym later.1) there in
     record { before = h; holds = found ∙ ap Some (sym same) }
 
--- each node stands at its place behind the trees so far
-pub node_stands : (trees : List Term) (nodes : List TermNode) (k place : ℕ) (node : TermNode)
-    → AreNodes (length trees) nodes → slice_get nodes k ≡ Some node → place ≡ length trees + k → StandsAt (grown trees nodes) place node
-node_stands trees [] k place node h e at = absurd (cc)
-node_stands trees (first ∷ rest) zero place node h e at =
+-- each node is at its index, after the trees so far
+pub node_is_at : (trees : List Term) (nodes : List TermNode) (k place : ℕ) (node : TermNode)
+    → AreNodes (length trees) nodes → slice_get nodes k ≡ Some node → place ≡ length trees + k → IsNodeAt (grown trees nodes) place node
+node_is_at trees [] k place node h e at = absurd (cc)
+node_is_at trees (first ∷ rest) zero place node h e at =
     let here : length trees ≡ place = omega arith in
-    subst (λ p. StandsAt (grown trees (first ∷ rest)) p node) here
-    (subst (λ n. StandsAt (grown trees (first ∷ rest)) (length trees) n) (same_Some first node e) (stands_first trees first rest h.0))
-node_stands trees (first ∷ rest) (suc k) place node h e at =
+    subst (λ p. IsNodeAt (grown trees (first ∷ rest)) p node) here
+    (subst (λ n. IsNodeAt (grown trees (first ∷ rest)) (length trees) n) (same_Some first node e) (first_is_at trees first rest h.0))
+node_is_at trees (first ∷ rest) (suc k) place node h e at =
     let longer : length trees + 1 ≡ length (trees ++ build trees first ∷ []) = omega (arith, length-append trees (build trees first ∷ [])) in
-    node_stands (trees ++ build trees first ∷ []) rest k place node (subst (λ n. AreNodes n rest) longer h.1) e (omega (arith, longer))
+    node_is_at (trees ++ build trees first ∷ []) rest k place node (subst (λ n. AreNodes n rest) longer h.1) e (omega (arith, longer))
 
 -- one more node at the end
 pub AreNodes-push : (n : ℕ) (nodes : List TermNode) (node : TermNode) → AreNodes n nodes → IsNode (n + length nodes) node → AreNodes n (nodes ++ node ∷ [])
@@ -115,7 +115,7 @@ AreNodes-push n (first ∷ rest) node h last =
     let e : n + suc (length rest) ≡ n + 1 + length rest = omega arith in
     (h.0, AreNodes-push (n + 1) rest node h.1 (subst (λ m. IsNode m node) e last))
 
--- ---- equal trees have one place
+-- ---- equal trees have one index
 
 module _ (eq : TermNode → TermNode → Bool) (itself : (n : TermNode) → eq n n ≡ true) where
   not_again : (node : TermNode) (nodes : List TermNode) (j : ℕ) → AllByRecursion (λ y. eq node y ≡ false) nodes → slice_get nodes j ≡ Some node → ⊥
@@ -176,13 +176,13 @@ module _ (nodes : List TermNode) (sound : AreNodes 0 nodes) where
   length_grown : length (grown [] nodes) ≡ length nodes
   length_grown = omega (arith, length-grown [] nodes)
 
-  -- the node at a place below the length
-  pub node_at : (i : ℕ) → i < length (grown [] nodes) → (node : TermNode) × (slice_get nodes i ≡ Some node) × StandsAt (grown [] nodes) i node
+  -- the node at an index below the length
+  pub node_at : (i : ℕ) → i < length (grown [] nodes) → (node : TermNode) × (slice_get nodes i ≡ Some node) × IsNodeAt (grown [] nodes) i node
   node_at i below =
       let within : i < length nodes = omega (arith, length_grown) in
       let node : TermNode = get_or nodes i (Leaf (atom.Truth false)) in
       let e : slice_get nodes i ≡ Some node = slice_get-get_or nodes i (Leaf (atom.Truth false)) within in
-      (node, e, node_stands [] nodes i i node sound e (omega arith))
+      (node, e, node_is_at [] nodes i i node sound e (omega arith))
 
   module _ (eq : TermNode → TermNode → Bool) (itself : (n : TermNode) → eq n n ≡ true) (distinct : IsDistinct eq nodes) where
     one_tree : (n i j : ℕ) → i < n → i < length (grown [] nodes) → j < length (grown [] nodes) → tree_at (grown [] nodes) i ≡ tree_at (grown [] nodes) j → i ≡ j
@@ -221,13 +221,13 @@ inserted false old new node e h fits =
       extends = (more.0, ap (grown []) e ∙ grown-append [] old (node ∷ []) ∙ more.1);
     }
 
--- the node at its place among those after builds what it builds among those before
+-- the node at its index among those after builds what it builds among those before
 pub stored_tree : (old new : List TermNode) (node : TermNode) (id : ℕ) → IsInserted old new node → IsNode (length (grown [] old)) node → slice_get new id ≡ Some node
     → Holds (grown [] new) id (build (grown [] old) node)
 stored_tree old new node id made fits e =
-    let stands = node_stands [] new id id node made.nodes e (omega arith) in
+    let is_at = node_is_at [] new id id node made.nodes e (omega arith) in
     let same : build (grown [] new) node ≡ build (grown [] old) node = ap (λ g. build g node) made.extends.1 ∙ build-front (grown [] old) made.extends.0 node fits in
-    stands.holds ∙ ap Some same
+    is_at.holds ∙ ap Some same
 
 -- what a bank holds after a node is inserted, its old trees being `trees`
 pub record IsAdded (trees : List Term) (new : List TermNode) (node : TermNode) (id : ℕ) : Type 0 where

@@ -1,3 +1,5 @@
 pub mod Growth
 pub mod Same
-pub mod Worth
+pub mod Values
+pub mod Subterms
+pub mod Substitution

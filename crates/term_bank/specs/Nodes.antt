@@ -1,4 +1,4 @@
--- Nodes, whose arguments are places in a list of trees, and the trees that they build.
+-- Nodes, whose arguments are indices in a list of trees, and the trees that they build.
 use Rattle.std.specs.Prelude.{◌≡◌, ℕ, ◌<◌, false, List, [], ◌∷◌, ◌++◌, get_or, slice_get, Some}
 use Rattle.term_spec.specs.declared.Atom.TheVariants as atom
 use Rattle.term_spec.specs.Term as tree
@@ -10,7 +10,7 @@ use Rattle.indexmap.specs.IndexSet.{insert_key}
 use Rattle.term_bank.specs.declared.node.TermNode.{TermNode}
 use Rattle.term_bank.specs.declared.node.TermNode.TheVariants.{Leaf, Unary, Binary, Ternary, Quaternary, Octonary}
 
--- each argument is a place below n
+-- each argument is an index below n
 abbrev pub IsNode : ℕ → TermNode → Type 0
 IsNode n (Leaf atom) = Unit {0}
 IsNode n (Unary operator a) = a < n
@@ -19,7 +19,7 @@ IsNode n (Ternary operator a b c) = (a < n) × (b < n) × (c < n)
 IsNode n (Quaternary operator a b c d) = (a < n) × (b < n) × (c < n) × (d < n)
 IsNode n (Octonary a b c d e f g h) = (a < n) × (b < n) × (c < n) × (d < n) × (e < n) × (f < n) × (g < n) × (h < n)
 
--- the tree at a place
+-- the tree at an index
 abbrev pub tree_at : List Term → ℕ → Term
 tree_at trees i = get_or trees i (tree.Leaf (atom.Truth false))
 
@@ -33,11 +33,11 @@ build trees (Quaternary operator a b c d) = tree.Quaternary operator (tree_at tr
 build trees (Octonary a b c d e f g h) =
     tree.Octonary (tree_at trees a) (tree_at trees b) (tree_at trees c) (tree_at trees d) (tree_at trees e) (tree_at trees f) (tree_at trees g) (tree_at trees h)
 
--- the tree at this place
+-- the tree at this index
 abbrev pub Holds : List Term → ℕ → Term → Type 0
 Holds trees id t = slice_get trees id ≡ Some t
 
--- the trees, and this one behind them where it isn't among them
+-- the trees, and this one after them where it isn't among them
 unfoldable pub with_tree : List Term → Term → List Term
 with_tree trees t = insert_key same_term trees t
 
@@ -45,17 +45,17 @@ with_tree trees t = insert_key same_term trees t
 abbrev pub Extends : List Term → List Term → Type 0
 Extends old new = (more : List Term) × (new ≡ old ++ more)
 
--- equal trees have one place
+-- equal trees have one index
 abbrev pub AreDistinct : List Term → Type 0
 AreDistinct trees = (i j : ℕ) (t : Term) → Holds trees i t → Holds trees j t → i ≡ j
 
 -- ---- values
 
--- the value at a place
+-- the value at an index
 abbrev pub value_at : List spec.Value → ℕ → spec.Value
 value_at values i = get_or values i spec.stray
 
--- what a node is worth, its arguments having these values
+-- the value of a node whose arguments have these values
 abbrev pub node_value : spec.Assignment → List spec.Value → TermNode → spec.Value
 node_value assignment values (Leaf leaf) = spec.value_of_atom assignment leaf
 node_value assignment values (Unary operator a) = spec.unary_value operator (value_at values a)

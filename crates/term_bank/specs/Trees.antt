@@ -14,7 +14,7 @@ abbrev pub AreNodes : ℕ → List TermNode → Type 0
 AreNodes n [] = Unit {0}
 AreNodes n (node ∷ rest) = IsNode n node × AreNodes (n + 1) rest
 
--- the arguments of each node come before it, and no tree stands twice
+-- the arguments of each node come before it, and no tree occurs twice
 pub record AreShared (nodes : List TermNode) : Type 0 where
   pub ordered : AreNodes 0 nodes
   pub distinct : AreDistinct (grown [] nodes)

@@ -2,8 +2,11 @@ ghost use Rattle.std.specs.Prelude.{◌≡◌, ◌<◌, ◌≤◌, [], length, m
 ghost use Rattle.term_spec.specs.Value.{value};
 ghost use Rattle.term_core.specs.Values.{value_of};
 ghost use Rattle.term_core.specs.Assignment.{assignment_of};
-ghost use Rattle.term_bank.specs.Nodes.{IsNode, build, Holds, with_tree, Extends, AreDistinct};
+ghost use Rattle.term_spec.specs.Subterms.{subterm_count, up_to};
+ghost use Rattle.term_bank.specs.Nodes.{IsNode, build, tree_at, Holds, with_tree, Extends};
+ghost use Rattle.term_bank.specs.Nodes.{AreDistinct};
 
+use crate::count::count_found;
 use crate::evaluation::evaluate;
 use crate::node::TermNode;
 use indexmap::IndexSet;
@@ -11,7 +14,7 @@ use std::alloc::{AllocError, Global};
 use std::marker::Model;
 use term_core::{Assignment, Value};
 
-/// A place of a term in a bank.
+/// The index of a term in a bank.
 pub type TermId = usize;
 
 /// Terms, each once: a contract sees the list of their trees.
@@ -54,15 +57,15 @@ impl Bank {
         self.nodes.len()
     }
 
-    /// Equal trees have one place: two terms are the same exactly where their places are.
+    /// Equal trees have one index: two terms are the same exactly where their indices are.
     pub fn are_distinct(&self)
         ensures { AreDistinct self.now }
     {
         let _ = &self.nodes;
     }
 
-    /// The place of the node's term, which is added where it isn't there. Where memory is wanting the terms are as
-    /// before.
+    /// The index of the node's term, which is added where it isn't there. Out of memory, the terms
+    /// are as before.
     pub fn add(&mut self, node: TermNode) -> Result<TermId, AllocError>
         requires { IsNode (length self.old) node }
         ensures id { IfOk result (λ i. Holds self.new i (build self.old node)) }
@@ -77,7 +80,7 @@ impl Bank {
         Ok(id)
     }
 
-    /// The node at a place.
+    /// The node at an index.
     pub fn node(&self, id: TermId) -> TermNode
         requires { id < length self.now }
         ensures children { IsNode id result }
@@ -86,9 +89,10 @@ impl Bank {
         self.nodes[id]
     }
 
-    /// What each term is worth, in the order of the places.
+    /// The value of each term, in their order.
     pub fn eval_all(&self, alloc: Global, assignment: &Assignment) -> Result<Vec<Value>, AllocError>
-        ensures { IfOk result (λ values. map value_of values.items ≡ map (value (assignment_of assignment.now)) self.now) }
+        ensures { IfOk result (λ values. map value_of values.items
+            ≡ map (value (assignment_of assignment.now)) self.now) }
     {
         let mut values = Vec::new(alloc);
         for i in 0..self.len() {
@@ -96,5 +100,21 @@ impl Bank {
             values.push(value)?;
         }
         Ok(values)
+    }
+
+    /// How many distinct subterms a term has, itself among them, where these are at most `maximum`;
+    /// else none. It holds at most eight ids more than `maximum`.
+    pub fn count_subterms(
+        &self,
+        alloc: Global,
+        id: TermId,
+        maximum: usize,
+    ) -> Result<Option<usize>, AllocError>
+        requires { id < length self.now }
+        ensures { IfOk result (λ count. count ≡ up_to maximum
+            (subterm_count (tree_at self.now id))) }
+    {
+        let mut found = IndexSet::new(alloc);
+        count_found(self, id, maximum, &mut found)
     }
 }

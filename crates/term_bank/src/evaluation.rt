@@ -1,4 +1,4 @@
-// What the terms of a bank are worth.
+// The values of the terms of a bank.
 
 ghost use Rattle.std.specs.Prelude.{◌≡◌, ◌<◌, ℕ, length, map, slice_get, Some, IfOk};
 ghost use Rattle.term_spec.specs.Value as spec;
@@ -10,7 +10,7 @@ use crate::node::TermNode;
 use std::alloc::{AllocError, Global};
 use term_core::{Assignment, Value, binary, byte_of, octonary, quaternary, ternary, unary};
 
-// The byte at a place, where the value there is one.
+// The byte at an index, where the value there is one.
 fn byte_at(values: &[Value], i: usize) -> Option<u8>
     requires { i < length values.now }
     ensures { result ≡ spec.byte_of (value_at (map value_of values.now) i) }
@@ -18,7 +18,7 @@ fn byte_at(values: &[Value], i: usize) -> Option<u8>
     byte_of(&values[i])
 }
 
-/// What a node is worth, its arguments having these values.
+/// The value of a node whose arguments have these values.
 pub fn evaluate(
     alloc: Global,
     node: TermNode,
@@ -26,7 +26,8 @@ pub fn evaluate(
     assignment: &Assignment,
 ) -> Result<Value, AllocError>
     requires { IsNode (length values.now) node }
-    ensures { IfOk result (λ v. value_of v ≡ node_value (assignment_of assignment.now) (map value_of values.now) node) }
+    ensures { IfOk result (λ v. value_of v
+        ≡ node_value (assignment_of assignment.now) (map value_of values.now) node) }
 {
     match node {
         TermNode::Leaf(atom) => assignment.atom(alloc, atom),

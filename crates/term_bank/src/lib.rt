@@ -1,15 +1,12 @@
-//! Terms that share their arguments: each term once, named by its place.
-//!
-//! The main type is [`Bank`]; a contract sees it as the list of its trees (`term_spec`, `specs/Term.antt`),
-//! and a [`TermId`] as a place in that list. [`Bank::add`] puts the node's tree behind the others where it isn't
-//! there yet, and gives its place; equal trees have one place, and where memory is wanting nothing changes. The
-//! arguments of a term stand before it. [`Bank::eval_all`] gives each place its tree's value.
-//!
-//! A [`TermNode`] is an operator with the places of its arguments; `build` of `specs/Nodes.antt` is its tree.
+//! Hash-consed terms: each term once. A contract sees a [`Bank`] as the list of its trees
+//! (`term_spec`, `specs/Term.antt`), arguments before their term, and a [`TermId`] as an index
+//! in it. [`Bank::add`] adds the tree of a [`TermNode`] (`build` of `specs/Nodes.antt`);
+//! `eval_all` gives the value of each tree, `count_subterms` how many distinct subterms one has.
 
 #![tactic(auto)]
 
 mod bank;
+mod count;
 mod evaluation;
 mod node;
 

@@ -2,7 +2,7 @@
 
 use term_spec::{Atom, BinaryOperator, QuaternaryOperator, TernaryOperator, UnaryOperator};
 
-/// A term by its operator and the places of its arguments in a bank.
+/// A term by its operator and the indices of its arguments in a bank.
 #[derive(Clone, Copy, PartialEq, Eq, Hash, Debug)]
 pub enum TermNode {
     /// a term without arguments

@@ -3,3 +3,4 @@ pub mod Bits
 pub mod Bytes
 pub mod Listed
 pub mod Calls
+pub mod Stored

@@ -8,6 +8,7 @@ use Rattle.term_spec.specs.declared.Sort.TheVariants as sort
 use Rattle.term_spec.specs.Sort.{bits, same_width}
 use Rattle.term_spec.specs.Value as spec
 use Rattle.term_spec.proofs.Sorts.{same_width-true}
+use Rattle.term_spec.proofs.Words.{cond-below}
 use Rattle.term_core.specs.declared.value.Value.{Value}
 use Rattle.term_core.specs.declared.value.Value.TheVariants.{Truth, Number, Bytes}
 use Rattle.term_core.specs.Values.{value_of}
@@ -29,7 +30,7 @@ value_of-sort sort.Truth (Truth truth) e = tt
 value_of-sort (sort.Word w) (Number v number) e =
     let tests = and_parts (same_width v w) (nat_lt number (2 ^ bits w)) e in
     (same_width-true v w tests.0, ltb-true number (2 ^ bits w) tests.1)
-value_of-sort sort.Memory (Bytes memory) e = λ q. mod_below _ (2 ^ 8) (omega arith)
+value_of-sort sort.Memory (Bytes memory) e = λ q. cond-below (nat_lt q (2 ^ 32)) _ 0 (2 ^ 8) (mod_below _ (2 ^ 8) (omega arith)) (omega arith)
 value_of-sort s value e = absurd (cc)
 
 pub given_or_default-sort : (s : Sort) (o : Option Value) → spec.IsOfSort s (given_or_default s o)

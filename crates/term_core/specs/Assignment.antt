@@ -1,4 +1,4 @@
--- What an assignment of the code gives the variables.
+-- The values that an assignment of the code gives the variables.
 use Rattle.std.specs.Prelude.{◌^◌, ◌&&◌, Bool, true, false, nat_lt, if◌then◌else◌, Option, Some, None}
 use Rattle.std.specs.HashMap.{get}
 use Rattle.term_spec.specs.declared.Sort.{Sort}

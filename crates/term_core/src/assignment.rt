@@ -1,11 +1,12 @@
-// Which values the variables stand for.
+// The values of the variables.
 
 ghost use Rattle.std.specs.Prelude.{◌≡◌, IfOk, OnOk, OnErr, Some, if◌then◌else◌};
 ghost use Rattle.term_spec.specs.declared.Variable.{Variable};
 ghost use Rattle.term_spec.specs.Same.{same_variable};
 ghost use Rattle.term_spec.specs.Value as spec;
 ghost use Rattle.term_core.specs.Values.{value_of};
-ghost use Rattle.term_core.specs.Assignment.{assignment_of, default_of, given_or_default, is_of_sort};
+ghost use Rattle.term_core.specs.Assignment.{assignment_of, default_of, given_or_default};
+ghost use Rattle.term_core.specs.Assignment.{is_of_sort};
 
 use crate::memory::Memory;
 use crate::value::Value;
@@ -14,8 +15,8 @@ use std::alloc::{AllocError, Global};
 use std::collections::HashMap;
 use term_spec::{Atom, Sort, Variable};
 
-/// Which values the variables stand for. A variable for which no value of its sort is listed stands for
-/// false, 0 or the memory that is 0 everywhere.
+/// The values of the variables. A variable for which no value of its sort is listed is false, 0 or
+/// the memory that is 0 everywhere.
 #[derive(Drop)]
 pub struct Assignment {
     values: HashMap<Variable, Value>,
@@ -55,10 +56,12 @@ impl Assignment {
         }
     }
 
-    /// Lists a value for a variable, in place of one that was listed. Where memory is wanting nothing
+    /// Lists a value for a variable, which replaces one that was listed. Out of memory, nothing
     /// changes.
     pub fn set(&mut self, variable: Variable, value: Value) -> Result<(), AllocError>
-        ensures ok { OnOk result ((v : Variable) → assignment_of self.new v ≡ (if same_variable variable v then given_or_default v.sort (Some value) else assignment_of self.old v)) }
+        ensures ok { OnOk result ((v : Variable)
+            → assignment_of self.new v ≡ (if same_variable variable v then given_or_default v.sort
+            (Some value) else assignment_of self.old v)) }
         ensures err { OnErr result (assignment_of self.new ≡ assignment_of self.old) }
     {
         self.values.insert(variable, value)?;

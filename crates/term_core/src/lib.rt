@@ -1,10 +1,8 @@
-//! Terms as trees: their sorts, and what they are worth under an assignment.
-//!
-//! The main type is [`Term`]; a clause speaks of it by `term_of`, the tree without its pointers.
-//! [`eval`] gives exactly the value that `term_spec` defines (`specs/Value.antt` there), and [`sort`]
-//! exactly the sort (`specs/Sort.antt`), or none where the term is not well sorted. The functions on
-//! operators alone, as [`binary`] and [`sort_of_binary`], serve terms that are kept in another form.
-//! [`laws`] has what holds of every term.
+//! Terms as trees: their sorts, and their values under an assignment. The main type is [`Term`]; a
+//! clause speaks of its tree without pointers (`term_of` of `specs/Trees.antt`). [`eval`] gives
+//! exactly the value of `term_spec` (`specs/Value.antt` there), [`sort`] exactly the sort. The
+//! functions on operators alone serve terms that are kept in another form; [`laws`] has what holds
+//! of every term.
 
 #![tactic(auto)]
 
@@ -24,3 +22,4 @@ pub use sorts::{
 };
 pub use term::{Term, eval, sort};
 pub use value::{Value, binary, byte_of, octonary, quaternary, ternary, unary};
+pub use words::{all_ones, bit_count, low_bits};

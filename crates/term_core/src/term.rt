@@ -78,7 +78,8 @@ impl Term {
         first: Box<Term>,
         second: Box<Term>,
     ) -> Result<Box<Term>, AllocError>
-        ensures { IfOk result (λ t. term_of t.value ≡ tree.Binary operator (term_of first.value) (term_of second.value)) }
+        ensures { IfOk result (λ t. term_of t.value
+            ≡ tree.Binary operator (term_of first.value) (term_of second.value)) }
     {
         boxed(alloc, Term::Binary(operator, first, second))
     }
@@ -91,7 +92,9 @@ impl Term {
         second: Box<Term>,
         third: Box<Term>,
     ) -> Result<Box<Term>, AllocError>
-        ensures { IfOk result (λ t. term_of t.value ≡ tree.Ternary operator (term_of first.value) (term_of second.value) (term_of third.value)) }
+        ensures { IfOk result (λ t. term_of t.value
+            ≡ tree.Ternary operator (term_of first.value) (term_of second.value)
+            (term_of third.value)) }
     {
         boxed(alloc, Term::Ternary(operator, first, second, third))
     }
@@ -105,7 +108,9 @@ impl Term {
         c: Box<Term>,
         d: Box<Term>,
     ) -> Result<Box<Term>, AllocError>
-        ensures { IfOk result (λ t. term_of t.value ≡ tree.Quaternary operator (term_of a.value) (term_of b.value) (term_of c.value) (term_of d.value)) }
+        ensures { IfOk result (λ t. term_of t.value
+            ≡ tree.Quaternary operator (term_of a.value) (term_of b.value) (term_of c.value)
+            (term_of d.value)) }
     {
         boxed(alloc, Term::Quaternary(operator, a, b, c, d))
     }
@@ -122,7 +127,9 @@ impl Term {
         g: Box<Term>,
         h: Box<Term>,
     ) -> Result<Box<Term>, AllocError>
-        ensures { IfOk result (λ t. term_of t.value ≡ tree.Octonary (term_of a.value) (term_of b.value) (term_of c.value) (term_of d.value) (term_of e.value) (term_of f.value) (term_of g.value) (term_of h.value)) }
+        ensures { IfOk result (λ t. term_of t.value
+            ≡ tree.Octonary (term_of a.value) (term_of b.value) (term_of c.value) (term_of d.value)
+            (term_of e.value) (term_of f.value) (term_of g.value) (term_of h.value)) }
     {
         boxed(alloc, Term::Octonary(a, b, c, d, e, f, g, h))
     }
@@ -164,7 +171,9 @@ fn two(
     first: Result<Box<Term>, AllocError>,
     second: Result<Box<Term>, AllocError>,
 ) -> Result<(Box<Term>, Box<Term>), AllocError>
-    ensures { (s t : tree.Term) → IfOk first (λ x. term_of x.value ≡ s) → IfOk second (λ x. term_of x.value ≡ t) → IfOk result (λ p. (term_of p.0.value ≡ s) × (term_of p.1.value ≡ t)) }
+    ensures { (s t : tree.Term) → IfOk first (λ x. term_of x.value ≡ s)
+        → IfOk second (λ x. term_of x.value ≡ t)
+        → IfOk result (λ p. (term_of p.0.value ≡ s) × (term_of p.1.value ≡ t)) }
 {
     Ok((first?, second?))
 }
@@ -191,7 +200,8 @@ fn sort_with_three(
     second: Option<Sort>,
     third: Option<Sort>,
 ) -> Option<Sort>
-    ensures { result ≡ spec_sort.with_three (spec_sort.sort_of_ternary operator) first second third }
+    ensures { result ≡ spec_sort.with_three
+        (spec_sort.sort_of_ternary operator) first second third }
 {
     sort_of_ternary(operator, first?, second?, third?)
 }
@@ -203,7 +213,8 @@ fn sort_with_four(
     third: Option<Sort>,
     fourth: Option<Sort>,
 ) -> Option<Sort>
-    ensures { result ≡ spec_sort.with_four (spec_sort.sort_of_quaternary operator) first second third fourth }
+    ensures { result ≡ spec_sort.with_four
+        (spec_sort.sort_of_quaternary operator) first second third fourth }
 {
     sort_of_quaternary(operator, first?, second?, third?, fourth?)
 }
@@ -238,7 +249,8 @@ pub fn sort(term: &Term) -> Option<Sort>
 
 // A value in a box of its own, where there is one.
 fn boxed_value(alloc: Global, value: Result<Value, AllocError>) -> Result<Box<Value>, AllocError>
-    ensures { (x : spec.Value) → IfOk value (λ v. value_of v ≡ x) → IfOk result (λ v. value_of v.value ≡ x) }
+    ensures { (x : spec.Value) → IfOk value (λ v. value_of v ≡ x)
+        → IfOk result (λ v. value_of v.value ≡ x) }
 {
     Ok(Box::new(alloc, value?)?)
 }
@@ -248,7 +260,9 @@ fn two_values(
     first: Result<Box<Value>, AllocError>,
     second: Result<Box<Value>, AllocError>,
 ) -> Result<(Box<Value>, Box<Value>), AllocError>
-    ensures { (x y : spec.Value) → IfOk first (λ v. value_of v.value ≡ x) → IfOk second (λ v. value_of v.value ≡ y) → IfOk result (λ p. (value_of p.0.value ≡ x) × (value_of p.1.value ≡ y)) }
+    ensures { (x y : spec.Value) → IfOk first (λ v. value_of v.value ≡ x)
+        → IfOk second (λ v. value_of v.value ≡ y)
+        → IfOk result (λ p. (value_of p.0.value ≡ x) × (value_of p.1.value ≡ y)) }
 {
     Ok((first?, second?))
 }
@@ -258,7 +272,9 @@ fn two_bytes(
     first: Result<Box<Value>, AllocError>,
     second: Result<Box<Value>, AllocError>,
 ) -> Result<(Option<u8>, Option<u8>), AllocError>
-    ensures { (x y : spec.Value) → IfOk first (λ v. value_of v.value ≡ x) → IfOk second (λ v. value_of v.value ≡ y) → IfOk result (λ p. (p.0 ≡ spec.byte_of x) × (p.1 ≡ spec.byte_of y)) }
+    ensures { (x y : spec.Value) → IfOk first (λ v. value_of v.value ≡ x)
+        → IfOk second (λ v. value_of v.value ≡ y)
+        → IfOk result (λ p. (p.0 ≡ spec.byte_of x) × (p.1 ≡ spec.byte_of y)) }
 {
     let first = first?;
     let second = second?;
@@ -268,7 +284,8 @@ fn two_bytes(
 // The value of a term, in a box.
 #[tactic(auto, unfolding(term_spec::specs::Value::value))]
 fn evaluate(alloc: Global, term: &Term, assignment: &Assignment) -> Result<Box<Value>, AllocError>
-    ensures { IfOk result (λ v. value_of v.value ≡ spec.value (assignment_of assignment.now) (term_of term.now)) }
+    ensures { IfOk result (λ v. value_of v.value
+        ≡ spec.value (assignment_of assignment.now) (term_of term.now)) }
 {
     match term {
         Term::Leaf(atom) => boxed_value(alloc, assignment.atom(alloc, *atom)),
@@ -326,7 +343,8 @@ fn evaluate(alloc: Global, term: &Term, assignment: &Assignment) -> Result<Box<V
 
 /// The value of a term.
 pub fn eval(alloc: Global, term: &Term, assignment: &Assignment) -> Result<Value, AllocError>
-    ensures { IfOk result (λ v. value_of v ≡ spec.value (assignment_of assignment.now) (term_of term.now)) }
+    ensures { IfOk result (λ v. value_of v
+        ≡ spec.value (assignment_of assignment.now) (term_of term.now)) }
 {
     let value = evaluate(alloc, term, assignment)?;
     Ok(Box::into_inner(value))

@@ -1,6 +1,7 @@
 // Values, and what the operators give at them.
 
-ghost use Rattle.std.specs.Prelude.{◌≡◌, ℕ, ◌+◌, ◌*◌, ◌^◌, [], ◌∷◌, IfSome, ◌<◌, ◌&&◌, ◌||◌, ◌++◌, nat_lt, if◌then◌else◌, IfOk, option_map};
+ghost use Rattle.std.specs.Prelude.{◌≡◌, ℕ, ◌+◌, ◌*◌, ◌^◌, [], ◌∷◌, IfSome, ◌<◌, ◌&&◌, ◌||◌, ◌++◌};
+ghost use Rattle.std.specs.Prelude.{nat_lt, if◌then◌else◌, IfOk, option_map};
 ghost use Rattle.term_spec.specs.Sort.{bits};
 ghost use Rattle.term_spec.specs.Value as spec;
 ghost use Rattle.term_core.specs.Memory.{bytes_of};
@@ -13,7 +14,7 @@ use term_spec::{
     BinaryOperator, QuaternaryOperator, TernaryOperator, UnaryOperator, Width, WordOperator,
 };
 
-/// What a term is worth.
+/// The value of a term.
 #[derive(Debug, Drop)]
 pub enum Value {
     /// a truth value
@@ -131,7 +132,8 @@ fn both_fours(lower: Option<u64>, upper: Option<u64>) -> Option<u64>
 
 // The byte of a memory at an address.
 fn load(memory: &Memory, address: &Value) -> Value
-    ensures { value_of result ≡ spec.loaded (spec.Bytes (bytes_of memory.now)) (value_of address.now) }
+    ensures { value_of result ≡ spec.loaded (spec.Bytes (bytes_of memory.now))
+        (value_of address.now) }
 {
     match address {
         Value::Number(Width::W32, number) => {
@@ -155,7 +157,8 @@ fn equal(first: &Value, second: &Value) -> Value
 }
 
 fn less(first: &Value, second: &Value) -> Value
-    ensures { value_of result ≡ spec.on_two_words (λ w a b. spec.Truth (nat_lt a b)) (value_of first.now) (value_of second.now) }
+    ensures { value_of result ≡ spec.on_two_words (λ w a b. spec.Truth (nat_lt a b))
+        (value_of first.now) (value_of second.now) }
 {
     match (first, second) {
         (Value::Number(v, a), Value::Number(w, b)) if bit_count(*v) == bit_count(*w) => {
@@ -166,7 +169,9 @@ fn less(first: &Value, second: &Value) -> Value
 }
 
 fn on_words(operator: WordOperator, first: &Value, second: &Value) -> Value
-    ensures { value_of result ≡ spec.on_two_words (λ w a b. spec.Number w (spec.operation operator (bits w) a b)) (value_of first.now) (value_of second.now) }
+    ensures { value_of result ≡ spec.on_two_words
+        (λ w a b. spec.Number w (spec.operation operator (bits w) a b)) (value_of first.now)
+        (value_of second.now) }
 {
     match (first, second) {
         (Value::Number(v, a), Value::Number(w, b)) if bit_count(*v) == bit_count(*w) => {
@@ -177,7 +182,8 @@ fn on_words(operator: WordOperator, first: &Value, second: &Value) -> Value
 }
 
 fn both(first: &Value, second: &Value) -> Value
-    ensures { value_of result ≡ spec.on_truths (λ a b. spec.Truth (a && b)) (value_of first.now) (value_of second.now) }
+    ensures { value_of result ≡ spec.on_truths (λ a b. spec.Truth (a && b)) (value_of first.now)
+        (value_of second.now) }
 {
     match (first, second) {
         (Value::Truth(a), Value::Truth(b)) => Value::Truth(*a && *b),
@@ -186,7 +192,8 @@ fn both(first: &Value, second: &Value) -> Value
 }
 
 fn either(first: &Value, second: &Value) -> Value
-    ensures { value_of result ≡ spec.on_truths (λ a b. spec.Truth (a || b)) (value_of first.now) (value_of second.now) }
+    ensures { value_of result ≡ spec.on_truths (λ a b. spec.Truth (a || b)) (value_of first.now)
+        (value_of second.now) }
 {
     match (first, second) {
         (Value::Truth(a), Value::Truth(b)) => Value::Truth(*a || *b),
@@ -197,7 +204,8 @@ fn either(first: &Value, second: &Value) -> Value
 /// What an operator gives at two values.
 #[tactic(auto, unfolding(term_spec::specs::Value::binary_value))]
 pub fn binary(operator: BinaryOperator, first: &Value, second: &Value) -> Value
-    ensures { value_of result ≡ spec.binary_value operator (value_of first.now) (value_of second.now) }
+    ensures { value_of result ≡ spec.binary_value operator (value_of first.now)
+        (value_of second.now) }
 {
     match operator {
         BinaryOperator::And => both(first, second),
@@ -218,22 +226,23 @@ pub fn binary(operator: BinaryOperator, first: &Value, second: &Value) -> Value
 
 // The memory with one byte changed.
 fn store(memory: &Memory, address: &Value, byte: &Value) -> Result<Value, AllocError>
-    ensures { IfOk result (λ v. value_of v ≡ spec.stored (spec.Bytes (bytes_of memory.now)) (value_of address.now) (value_of byte.now)) }
+    ensures { IfOk result (λ v. value_of v
+        ≡ spec.stored (spec.Bytes (bytes_of memory.now)) (value_of address.now)
+        (value_of byte.now)) }
 {
     match (address, byte) {
         (Value::Number(Width::W32, number), Value::Number(Width::W8, byte)) => {
             let address = (number % 0x1_0000_0000) as u32;
             let byte = (byte % 0x100) as u8;
-            let mut memory = memory.copy()?;
-            memory.set(address, byte)?;
-            Ok(Value::Bytes(memory))
+            Ok(Value::Bytes(memory.with(address, byte)?))
         }
         _ => Ok(stray()),
     }
 }
 
 fn choose(test: &Value, first: &Value, second: &Value) -> Result<Value, AllocError>
-    ensures { IfOk result (λ v. value_of v ≡ spec.chosen (value_of test.now) (value_of first.now) (value_of second.now)) }
+    ensures { IfOk result (λ v. value_of v
+        ≡ spec.chosen (value_of test.now) (value_of first.now) (value_of second.now)) }
 {
     match test {
         Value::Truth(true) => first.copy(),
@@ -250,7 +259,9 @@ pub fn ternary(
     second: &Value,
     third: &Value,
 ) -> Result<Value, AllocError>
-    ensures { IfOk result (λ v. value_of v ≡ spec.ternary_value operator (value_of first.now) (value_of second.now) (value_of third.now)) }
+    ensures { IfOk result (λ v. value_of v
+        ≡ spec.ternary_value operator (value_of first.now) (value_of second.now)
+        (value_of third.now)) }
 {
     match operator {
         TernaryOperator::Choose => choose(first, second, third),
@@ -263,7 +274,9 @@ pub fn ternary(
 
 // A memory with the bytes of another between two addresses.
 fn over(memory: &Memory, zone: &Value, low: &Value, high: &Value) -> Result<Value, AllocError>
-    ensures { IfOk result (λ v. value_of v ≡ spec.laid_over (spec.Bytes (bytes_of memory.now)) (value_of zone.now) (value_of low.now) (value_of high.now)) }
+    ensures { IfOk result (λ v. value_of v
+        ≡ spec.laid_over (spec.Bytes (bytes_of memory.now)) (value_of zone.now) (value_of low.now)
+        (value_of high.now)) }
 {
     match (zone, low, high) {
         (Value::Bytes(zone), Value::Number(Width::W32, low), Value::Number(Width::W32, high)) => {
@@ -282,7 +295,9 @@ pub fn quaternary(
     third: &Value,
     fourth: &Value,
 ) -> Result<Value, AllocError>
-    ensures { IfOk result (λ v. value_of v ≡ spec.quaternary_value operator (value_of first.now) (value_of second.now) (value_of third.now) (value_of fourth.now)) }
+    ensures { IfOk result (λ v. value_of v
+        ≡ spec.quaternary_value operator (value_of first.now) (value_of second.now)
+        (value_of third.now) (value_of fourth.now)) }
 {
     match operator {
         QuaternaryOperator::Over => match first {
@@ -310,7 +325,8 @@ pub fn octonary(
     d: Option<u8>,
     high: [Option<u8>; 4],
 ) -> Value
-    ensures { value_of result ≡ spec.word_or_stray Width.W64 (spec.number_of_bytes (a ∷ b ∷ c ∷ d ∷ high)) }
+    ensures { value_of result ≡ spec.word_or_stray Width.W64
+        (spec.number_of_bytes (a ∷ b ∷ c ∷ d ∷ high)) }
 {
     let low = number_of_four([a, b, c, d]);
     word_or_stray(Width::W64, both_fours(low, number_of_four(high)))

@@ -1,8 +1,10 @@
 // Words of a width as numbers.
 
-ghost use Rattle.std.specs.Prelude.{◌≡◌, ◌+◌, ◌-◌, ◌*◌, ◌/◌, ◌%◌, ◌^◌, ◌==◌, ◌<◌, ◌≤◌, if◌then◌else◌, nat_lt};
+ghost use Rattle.std.specs.Prelude.{◌≡◌, ◌+◌, ◌-◌, ◌*◌, ◌/◌, ◌%◌, ◌^◌, ◌==◌, ◌<◌, ◌≤◌};
+ghost use Rattle.std.specs.Prelude.{if◌then◌else◌, nat_lt};
 ghost use Rattle.term_spec.specs.Sort.{bits};
-ghost use Rattle.term_spec.specs.Value.{low_bits, is_negative, ones_if, shifted_with_sign, operation};
+ghost use Rattle.term_spec.specs.Value.{low_bits, is_negative, ones_if, shifted_with_sign};
+ghost use Rattle.term_spec.specs.Value.{operation};
 
 use term_spec::{Width, WordOperator};
 
@@ -74,7 +76,8 @@ fn product(width: Width, a: u64, b: u64) -> u64
 }
 
 fn shifted_left(width: Width, a: u64, places: u64) -> u64
-    ensures { result ≡ (if nat_lt places (bits width) then low_bits (bits width) (a * 2 ^ places) else 0) }
+    ensures { result ≡ (if nat_lt places (bits width) then low_bits (bits width)
+        (a * 2 ^ places) else 0) }
 {
     if places < u64::from(bit_count(width)) {
         low_bits(width, a << places)
@@ -95,7 +98,8 @@ fn shifted_right(width: Width, a: u64, places: u64) -> u64
 
 /// A word with its top bit taken into all bits above it, at another width.
 pub fn extended_with_sign(from: Width, to: Width, number: u64) -> u64
-    ensures { result ≡ low_bits (bits to) (number + ones_if (is_negative (bits from) number) (bits from) (bits to)) }
+    ensures { result ≡ low_bits (bits to)
+        (number + ones_if (is_negative (bits from) number) (bits from) (bits to)) }
 {
     if is_negative(from, number) {
         let ones = all_ones(to).saturating_sub(all_ones(from));
@@ -129,7 +133,8 @@ fn moved_with_sign(width: Width, a: u64, places: u64) -> u64
 }
 
 fn shifted_right_with_sign(width: Width, a: u64, places: u64) -> u64
-    ensures { result ≡ (if nat_lt places (bits width) then shifted_with_sign (bits width) a places else ones_if (is_negative (bits width) a) 0 (bits width)) }
+    ensures { result ≡ (if nat_lt places (bits width) then shifted_with_sign
+        (bits width) a places else ones_if (is_negative (bits width) a) 0 (bits width)) }
 {
     if places < u64::from(bit_count(width)) {
         moved_with_sign(width, a, places)

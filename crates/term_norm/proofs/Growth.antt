@@ -22,7 +22,7 @@ within trees i t h = slice_get_within trees i t h
 pub read : (trees : List Term) (i : ℕ) (t : Term) → Holds trees i t → tree_at trees i ≡ t
 read trees i t h = get_or_from_slice_get trees i t (tree.Leaf (atom.Truth false)) h
 
--- a tree stays at its place
+-- a tree keeps its index
 pub stays : (old new : List Term) (i : ℕ) → Extends old new → i < length old → tree_at new i ≡ tree_at old i
 stays old new i e below = ap (λ trees. tree_at trees i) e.1 ∙ get_or-append old e.0 (tree.Leaf (atom.Truth false)) i below
 

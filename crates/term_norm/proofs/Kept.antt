@@ -8,9 +8,10 @@ use Rattle.term_spec.specs.Term.{Term}
 use Rattle.term_spec.specs.Sort.{sort_of}
 use Rattle.term_spec.specs.Value.{Assignment, IsAssignment, value}
 use Rattle.term_spec.proofs.Soundness.{at_memory}
-use Rattle.normal_spec.specs.Fixed.{Run, AreBytes, HoldsFixed}
+use Rattle.memory_spec.specs.Runs.{Run, AreBytes}
+use Rattle.normal_spec.specs.Fixed.{HoldsFixed}
 use Rattle.normal_spec.specs.Normal as spec
-use Rattle.normal_spec.proofs.Whole.{keeps_normal}
+use Rattle.normal_spec.proofs.Soundness.{keeps_normal}
 
 -- what a memory holds are bytes
 held_bytes : (runs : List Run) (a : Assignment) → IsAssignment a → HoldsFixed runs a → AreBytes runs
@@ -24,4 +25,4 @@ form_sort runs t u e small s h = ap sort_of e ∙ (keeps_normal runs small t s h
 
 pub form_value : (runs : List Run) (t u : Term) → u ≡ spec.normal runs t → (s : Sort) → sort_of t ≡ Some s
     → (a : Assignment) → IsAssignment a → HoldsFixed runs a → value a u ≡ value a t
-form_value runs t u e s h a is held = ap (value a) e ∙ (keeps_normal runs (held_bytes runs a is held) t s h).worth a is held
+form_value runs t u e s h a is held = ap (value a) e ∙ (keeps_normal runs (held_bytes runs a is held) t s h).value_is a is held

@@ -13,9 +13,10 @@ use Rattle.term_spec.specs.declared.QuaternaryOperator.TheVariants as quaternary
 use Rattle.term_spec.specs.Term as tree
 use Rattle.term_spec.specs.Term.{Term}
 use Rattle.normal_spec.specs.Fixed as fixed
+use Rattle.memory_spec.specs.Runs as fixed_runs
 use Rattle.normal_spec.specs.Normal as spec
 use Rattle.normal_spec.specs.Normal.{normal, normal_load, load_of_variable}
-use Rattle.normal_spec.specs.Seen as seen
+use Rattle.normal_spec.specs.Patterns as patterns
 use Rattle.term_bank.specs.declared.node.TermNode.{TermNode}
 use Rattle.term_bank.specs.declared.node.TermNode.TheVariants.{Leaf, Unary, Binary, Ternary, Quaternary, Octonary}
 use Rattle.term_bank.specs.Nodes.{tree_at, build, Holds}
@@ -23,9 +24,9 @@ use Rattle.term_norm.specs.declared.walk.Walk.{Walk}
 use Rattle.term_norm.specs.Walk.{form_at, AreForms}
 use Rattle.term_norm.proofs.Growth.{within, read}
 
--- what stands at a place is also this
-pub told : (trees : List Term) (i : ℕ) (t u : Term) → u ≡ t → Holds trees i t → Holds trees i u
-told trees i t u e h = h ∙ ap Some (sym e)
+-- the tree at an index is also this
+pub holds_as : (trees : List Term) (i : ℕ) (t u : Term) → u ≡ t → Holds trees i t → Holds trees i u
+holds_as trees i t u e h = h ∙ ap Some (sym e)
 
 module _ (f : Term → Term) (trees : List Term) (walk : Walk) (forms : AreForms f trees walk) where
   pub form_within : (id form : ℕ) → form_at walk id ≡ Some form → form < length trees
@@ -36,47 +37,47 @@ module _ (f : Term → Term) (trees : List Term) (walk : Walk) (forms : AreForms
 
 -- ---- the definitions at each number of arguments
 
-normal_leaf : (runs : List fixed.Run) (leaf : Atom) → normal runs (tree.Leaf leaf) ≡ tree.Leaf leaf
+normal_leaf : (runs : List fixed_runs.Run) (leaf : Atom) → normal runs (tree.Leaf leaf) ≡ tree.Leaf leaf
 unfolding normal
 normal_leaf runs leaf = refl
 
-normal_one : (runs : List fixed.Run) (o : UnaryOperator) (a : Term) → normal runs (tree.Unary o a) ≡ spec.normal_unary o (normal runs a)
+normal_one : (runs : List fixed_runs.Run) (o : UnaryOperator) (a : Term) → normal runs (tree.Unary o a) ≡ spec.normal_unary o (normal runs a)
 unfolding normal
 normal_one runs o a = refl
 
-normal_two : (runs : List fixed.Run) (o : BinaryOperator) (a b : Term) → normal runs (tree.Binary o a b) ≡ spec.normal_binary runs o (normal runs a) (normal runs b)
+normal_two : (runs : List fixed_runs.Run) (o : BinaryOperator) (a b : Term) → normal runs (tree.Binary o a b) ≡ spec.normal_binary runs o (normal runs a) (normal runs b)
 unfolding normal
 normal_two runs o a b = refl
 
-normal_three : (runs : List fixed.Run) (o : TernaryOperator) (a b c : Term) → normal runs (tree.Ternary o a b c) ≡ spec.normal_ternary o (normal runs a) (normal runs b) (normal runs c)
+normal_three : (runs : List fixed_runs.Run) (o : TernaryOperator) (a b c : Term) → normal runs (tree.Ternary o a b c) ≡ spec.normal_ternary o (normal runs a) (normal runs b) (normal runs c)
 unfolding normal
 normal_three runs o a b c = refl
 
-normal_four : (runs : List fixed.Run) (o : QuaternaryOperator) (a b c d : Term) → normal runs (tree.Quaternary o a b c d) ≡ spec.normal_quaternary o (normal runs a) (normal runs b) (normal runs c) (normal runs d)
+normal_four : (runs : List fixed_runs.Run) (o : QuaternaryOperator) (a b c d : Term) → normal runs (tree.Quaternary o a b c d) ≡ spec.normal_quaternary o (normal runs a) (normal runs b) (normal runs c) (normal runs d)
 unfolding normal
 normal_four runs o a b c d = refl
 
-normal_eight : (runs : List fixed.Run) (a b c d e f g h : Term)
+normal_eight : (runs : List fixed_runs.Run) (a b c d e f g h : Term)
     → normal runs (tree.Octonary a b c d e f g h) ≡ spec.normal_octonary (normal runs a) (normal runs b) (normal runs c) (normal runs d) (normal runs e) (normal runs f) (normal runs g) (normal runs h)
 unfolding normal
 normal_eight runs a b c d e f g h = refl
 
-load_store : (runs : List fixed.Run) (m a b d : Term) → normal_load runs (tree.store m a b) d ≡ spec.normal_choose (spec.normal_equal d a) b (normal_load runs m d)
+load_store : (runs : List fixed_runs.Run) (m a b d : Term) → normal_load runs (tree.store m a b) d ≡ spec.normal_choose (spec.normal_equal d a) b (normal_load runs m d)
 unfolding normal_load
 load_store runs m a b d = refl
 
-load_choice : (runs : List fixed.Run) (c m n d : Term) → normal_load runs (tree.choose c m n) d ≡ spec.normal_choose c (normal_load runs m d) (normal_load runs n d)
+load_choice : (runs : List fixed_runs.Run) (c m n d : Term) → normal_load runs (tree.choose c m n) d ≡ spec.normal_choose c (normal_load runs m d) (normal_load runs n d)
 unfolding normal_load
 load_choice runs c m n d = refl
 
-load_over : (runs : List fixed.Run) (m z x y d : Term)
+load_over : (runs : List fixed_runs.Run) (m z x y d : Term)
     → normal_load runs (tree.over m z x y) d ≡ spec.normal_choose (spec.normal_and (spec.normal_not (spec.normal_less d x)) (spec.normal_less d y)) (normal_load runs z d) (normal_load runs m d)
 unfolding normal_load
 load_over runs m z x y d = refl
 
 -- ---- the form of a term
 
-module _ (runs : List fixed.Run) (trees : List Term) (at : ℕ) where
+module _ (runs : List fixed_runs.Run) (trees : List Term) (at : ℕ) where
   pub form_leaf : (leaf : Atom) → Holds trees at (tree.Leaf leaf) → Holds trees at (normal runs (tree_at trees at))
   form_leaf leaf h = h ∙ ap Some (sym (ap (normal runs) (read trees at (tree.Leaf leaf) h) ∙ normal_leaf runs leaf))
 
@@ -113,9 +114,9 @@ module _ (runs : List fixed.Run) (trees : List Term) (at : ℕ) where
 
 -- ---- the load of a memory
 
--- the byte that is known to stand there
-abbrev pub known_byte : List fixed.Run → Term → Term → Option ℕ
-known_byte runs m d = if seen.is_source_memory m && seen.is_constant d then fixed.fixed_byte runs (seen.number_of d) else None
+-- the byte that is known to be there
+abbrev pub known_byte : List fixed_runs.Run → Term → Term → Option ℕ
+known_byte runs m d = if patterns.is_source_memory m && patterns.is_constant d then fixed_runs.fixed_byte runs (patterns.number_of d) else None
 
 some_byte : (test : Bool) (o : Option ℕ) (t : Term) (number : ℕ) → Some number ≡ (if test then o else None) → (if test then spec.byte_or o t else t) ≡ tree.constant W8 number
 some_byte true (Some n) t number e = ap (tree.constant W8) (sym (same_Some number n e))
@@ -127,16 +128,16 @@ no_byte true (Some n) t e = absurd (cc)
 no_byte true None t e = refl
 no_byte false o t e = refl
 
-pub load_known : (runs : List fixed.Run) (m d : Term) (number : ℕ) → Some number ≡ known_byte runs m d → spec.load_of_variable runs m d ≡ tree.constant W8 number
+pub load_known : (runs : List fixed_runs.Run) (m d : Term) (number : ℕ) → Some number ≡ known_byte runs m d → spec.load_of_variable runs m d ≡ tree.constant W8 number
 unfolding load_of_variable
-load_known runs m d number e = some_byte (seen.is_source_memory m && seen.is_constant d) (fixed.fixed_byte runs (seen.number_of d)) (tree.load m d) number e
+load_known runs m d number e = some_byte (patterns.is_source_memory m && patterns.is_constant d) (fixed_runs.fixed_byte runs (patterns.number_of d)) (tree.load m d) number e
 
-pub load_unknown : (runs : List fixed.Run) (m d : Term) → None ≡ known_byte runs m d → spec.load_of_variable runs m d ≡ tree.load m d
+pub load_unknown : (runs : List fixed_runs.Run) (m d : Term) → None ≡ known_byte runs m d → spec.load_of_variable runs m d ≡ tree.load m d
 unfolding load_of_variable
-load_unknown runs m d e = no_byte (seen.is_source_memory m && seen.is_constant d) (fixed.fixed_byte runs (seen.number_of d)) (tree.load m d) e
+load_unknown runs m d e = no_byte (patterns.is_source_memory m && patterns.is_constant d) (fixed_runs.fixed_byte runs (patterns.number_of d)) (tree.load m d) e
 
 -- the load of what is no store, choice or overlay
-load_plain : (runs : List fixed.Run) (trees : List Term) (address : Term) (node : TermNode)
+load_plain : (runs : List fixed_runs.Run) (trees : List Term) (address : Term) (node : TermNode)
     → ((o : TernaryOperator) (m a b : ℕ) → node ≡ Ternary o m a b → ⊥) → ((o : QuaternaryOperator) (m z x y : ℕ) → node ≡ Quaternary o m z x y → ⊥)
     → normal_load runs (build trees node) address ≡ spec.load_of_variable runs (build trees node) address
 unfolding normal_load
@@ -147,11 +148,11 @@ load_plain runs trees address (Ternary operator m a b) s o = absurd (s operator 
 load_plain runs trees address (Quaternary operator m z x y) s o = absurd (o operator m z x y refl)
 load_plain runs trees address (Octonary a b d e f g h i) s o = refl
 
-load_join : (runs : List fixed.Run) (a b c e address : Term) → normal_load runs (tree.join_four a b c e) address ≡ spec.load_of_variable runs (tree.join_four a b c e) address
+load_join : (runs : List fixed_runs.Run) (a b c e address : Term) → normal_load runs (tree.join_four a b c e) address ≡ spec.load_of_variable runs (tree.join_four a b c e) address
 unfolding normal_load
 load_join runs a b c e address = refl
 
-module _ (runs : List fixed.Run) (trees : List Term) (address : Term) (at : ℕ) where
+module _ (runs : List fixed_runs.Run) (trees : List Term) (address : Term) (at : ℕ) where
   pub load_of_store : (m a b below : ℕ) → Holds trees at (build trees (Ternary ternary.Store m a b)) → tree_at trees below ≡ normal_load runs (tree_at trees m) address
       → normal_load runs (tree_at trees at) address ≡ spec.normal_choose (spec.normal_equal address (tree_at trees a)) (tree_at trees b) (tree_at trees below)
   load_of_store m a b below h e =

@@ -1,15 +1,9 @@
--- The runs of fixed bytes as the definition of the normal form has them.
-use Rattle.std.specs.Prelude.{List, map}
+-- Forms and loads as functions of a term, by the runs of the program.
+use Rattle.std.specs.Prelude.{List}
 use Rattle.term_spec.specs.Term.{Term}
-use Rattle.normal_spec.specs.Fixed as fixed
+use Rattle.memory_spec.specs.declared.Run.{Run}
+use Rattle.memory_spec.specs.Viewed.{runs_of}
 use Rattle.normal_spec.specs.Normal as spec
-use Rattle.term_norm.specs.declared.runs.Run.{Run}
-
-abbrev pub run_of : Run → fixed.Run
-run_of run = record { start = run.start; bytes = run.bytes.now }
-
-abbrev pub runs_of : List Run → List fixed.Run
-runs_of runs = map run_of runs
 
 -- the load at an address, as a function of the memory
 abbrev pub load_from : List Run → Term → Term → Term

@@ -40,7 +40,7 @@ pub record Advances (old new : Walk) (start : ℕ) : Type 0 where
   pub sound : IsWalk new start
   pub less : work new start < work old start
 
--- an argument below the bound that has no form yet is wanted, or memory is
+-- an argument below the bound that has no form yet is needed, or memory has run out
 abbrev pub IsStop : (ℕ → Option ℕ) → ℕ → Stop → Type 0
 IsStop form bound (Needs id) = (id < bound) × (form id ≡ None)
 IsStop form bound NoMemory = Unit {0}

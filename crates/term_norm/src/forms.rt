@@ -4,15 +4,17 @@ ghost use Rattle.std.specs.Prelude.{◌≡◌, ◌<◌, length, Some, IfOk, IfEr
 ghost use Rattle.term_spec.specs.declared.Sort.{Sort};
 ghost use Rattle.term_spec.specs.Sort.{sort_of};
 ghost use Rattle.term_spec.specs.Value.{Assignment as assignment, IsAssignment, value};
-ghost use Rattle.normal_spec.specs.Fixed.{AreBytes, HoldsFixed};
+ghost use Rattle.normal_spec.specs.Fixed.{HoldsFixed};
 ghost use Rattle.normal_spec.specs.Normal as spec;
 ghost use Rattle.term_bank.specs.Nodes.{tree_at, Holds, Extends};
-ghost use Rattle.term_norm.specs.Runs.{runs_of, form_with};
+ghost use Rattle.memory_spec.specs.Runs.{AreBytes};
+ghost use Rattle.memory_spec.specs.Viewed.{runs_of};
+ghost use Rattle.term_norm.specs.Runs.{form_with};
 ghost use Rattle.term_norm.specs.Walk.{form_at, IsStop, AreForms};
 
 use crate::loads::load;
-use crate::runs::Run;
 use crate::walk::{Stop, Walk};
+use memory_spec::Run;
 use normal_rules::{
     normal_and, normal_equal, normal_join_two, normal_less, normal_octonary, normal_or,
     normal_quaternary, normal_ternary, normal_unary, normal_word,
@@ -26,14 +28,16 @@ use term_spec::BinaryOperator;
 fn binary(
     alloc: Global,
     bank: &mut Bank,
-    runs: &[Run<'_>],
+    runs: &[Run],
     operator: BinaryOperator,
     x: TermId,
     y: TermId,
 ) -> Result<TermId, AllocError>
     requires first { x < length bank.old }
     requires second { y < length bank.old }
-    ensures form { IfOk result (λ i. Holds bank.new i (spec.normal_binary (runs_of runs.now) operator (tree_at bank.old x) (tree_at bank.old y))) }
+    ensures form { IfOk result (λ i. Holds bank.new i
+        (spec.normal_binary (runs_of runs.now) operator (tree_at bank.old x)
+        (tree_at bank.old y))) }
     ensures extends { Extends bank.old bank.new }
 {
     match operator {
@@ -47,16 +51,12 @@ fn binary(
     }
 }
 
-// The form of the term at hand, by those of its arguments; or which of these is wanted first.
-fn form_at_hand(
-    alloc: Global,
-    bank: &mut Bank,
-    runs: &[Run<'_>],
-    walk: &Walk,
-) -> Result<TermId, Stop>
+// The form of the term at hand, by those of its arguments; or which of these is needed first.
+fn form_at_hand(alloc: Global, bank: &mut Bank, runs: &[Run], walk: &Walk) -> Result<TermId, Stop>
     requires within { walk.now.at < length bank.old }
     requires forms { AreForms (form_with runs.now) bank.old walk.now }
-    ensures form { IfOk result (λ i. Holds bank.new i (form_with runs.now (tree_at bank.old walk.now.at))) }
+    ensures form { IfOk result (λ i. Holds bank.new i
+        (form_with runs.now (tree_at bank.old walk.now.at))) }
     ensures wanted { IfErr result (IsStop (form_at walk.now) walk.now.at) }
     ensures extends { Extends bank.old bank.new }
 {
@@ -89,15 +89,11 @@ fn form_at_hand(
     }
 }
 
-// The place of the normal form of a term, found on a walk over the terms below it.
-fn form_of(
-    alloc: Global,
-    bank: &mut Bank,
-    term: TermId,
-    runs: &[Run<'_>],
-) -> Result<TermId, AllocError>
+// The index of the normal form of a term, found on a walk over the terms below it.
+fn form_of(alloc: Global, bank: &mut Bank, term: TermId, runs: &[Run]) -> Result<TermId, AllocError>
     requires { term < length bank.old }
-    ensures form { IfOk result (λ i. Holds bank.new i (form_with runs.now (tree_at bank.old term))) }
+    ensures form { IfOk result (λ i. Holds bank.new i
+        (form_with runs.now (tree_at bank.old term))) }
     ensures extends { Extends bank.old bank.new }
 {
     let mut walk = Walk::new(alloc, term);
@@ -109,21 +105,24 @@ fn form_of(
     }
 }
 
-/// The place of the normal form of a term, where `runs` are the bytes that each memory of the source holds.
-/// The bank grows, also where memory is wanting.
+/// The index of the normal form of a term, where `runs` are the bytes that each memory of the
+/// source holds. The bank may grow, also out of memory.
 pub fn normal(
     alloc: Global,
     bank: &mut Bank,
     term: TermId,
-    runs: &[Run<'_>],
+    runs: &[Run],
 ) -> Result<TermId, AllocError>
     requires { term < length bank.old }
-    ensures form { IfOk result (λ i. Holds bank.new i (spec.normal (runs_of runs.now) (tree_at bank.old term))) }
-    ensures sort { IfOk result (λ i. AreBytes (runs_of runs.now) → (s : Sort) → sort_of (tree_at bank.old term) ≡ Some s → sort_of (tree_at bank.new i) ≡ Some s) }
+    ensures form { IfOk result (λ i. Holds bank.new i
+        (spec.normal (runs_of runs.now) (tree_at bank.old term))) }
+    ensures sort { IfOk result (λ i. AreBytes (runs_of runs.now) → (s : Sort)
+        → sort_of (tree_at bank.old term) ≡ Some s → sort_of (tree_at bank.new i) ≡ Some s) }
 
     // It has the value of the term wherever the memories of the source hold these bytes.
     ensures value { IfOk result (λ i. (s : Sort) → sort_of (tree_at bank.old term) ≡ Some s
-        → (a : assignment) → IsAssignment a → HoldsFixed (runs_of runs.now) a → value a (tree_at bank.new i) ≡ value a (tree_at bank.old term)) }
+        → (a : assignment) → IsAssignment a → HoldsFixed (runs_of runs.now) a
+        → value a (tree_at bank.new i) ≡ value a (tree_at bank.old term)) }
     ensures within { IfOk result (λ i. i < length bank.new) }
     ensures extends { Extends bank.old bank.new }
 {

@@ -1,9 +1,7 @@
-//! The normal form of the terms of a bank.
-//!
-//! [`normal`] gives the place of exactly the tree that `normal_spec` defines (`specs/Normal.antt` there), where
-//! `runs` are the bytes that every memory of the source holds. Each term is brought into normal form once,
-//! after its arguments, however often it stands in others, and a load goes through each memory once; the work
-//! is not bounded by how deep a term is.
+//! The normal form of the terms of a bank. [`normal`] gives the index of exactly the tree that
+//! `normal_spec` defines (`specs/Normal.antt` there), where `runs` are the bytes that every memory
+//! of the source holds. Each term is brought into normal form once, and a load goes through each
+//! memory once; the work is not bounded by how deep a term is.
 
 #![tactic(auto)]
 
@@ -13,4 +11,4 @@ mod runs;
 mod walk;
 
 pub use forms::normal;
-pub use runs::Run;
+pub use memory_spec::Run;

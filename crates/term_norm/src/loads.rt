@@ -2,14 +2,16 @@
 
 ghost use Rattle.std.specs.Prelude.{◌≡◌, ◌<◌, length, None, if◌then◌else◌, ◌&&◌, IfOk, IfErr};
 ghost use Rattle.normal_spec.specs.Normal as spec;
-ghost use Rattle.normal_spec.specs.Seen as seen;
-ghost use Rattle.normal_spec.specs.Fixed as fixed;
+ghost use Rattle.normal_spec.specs.Patterns as patterns;
+ghost use Rattle.memory_spec.specs.Runs as fixed_runs;
 ghost use Rattle.term_bank.specs.Nodes.{tree_at, Holds, Extends};
-ghost use Rattle.term_norm.specs.Runs.{runs_of, load_from};
+ghost use Rattle.memory_spec.specs.Viewed.{runs_of};
+ghost use Rattle.term_norm.specs.Runs.{load_from};
 ghost use Rattle.term_norm.specs.Walk.{form_at, IsStop, AreForms};
 
-use crate::runs::{Run, fixed_byte};
+use crate::runs::fixed_byte;
 use crate::walk::{Stop, Walk};
+use memory_spec::Run;
 use normal_rules::{
     constant_byte, is_constant, is_source_memory, normal_and, normal_choose, normal_equal,
     normal_less, normal_not, number_of,
@@ -22,16 +24,19 @@ use term_spec::{BinaryOperator, QuaternaryOperator, TernaryOperator};
 fn is_known_place(bank: &Bank, m: TermId, d: TermId) -> bool
     requires memory { m < length bank.now }
     requires address { d < length bank.now }
-    ensures { result ≡ (seen.is_source_memory (tree_at bank.now m) && seen.is_constant (tree_at bank.now d)) }
+    ensures { result ≡ (patterns.is_source_memory (tree_at bank.now m) && patterns.is_constant
+        (tree_at bank.now d)) }
 {
     is_source_memory(bank, m) && is_constant(bank, d)
 }
 
-// The byte that is fixed there, where it is a known place.
-fn known_byte(bank: &Bank, runs: &[Run<'_>], m: TermId, d: TermId) -> Option<u8>
+// The byte that is fixed there, where the address is known.
+fn known_byte(bank: &Bank, runs: &[Run], m: TermId, d: TermId) -> Option<u8>
     requires memory { m < length bank.now }
     requires address { d < length bank.now }
-    ensures { result ≡ (if seen.is_source_memory (tree_at bank.now m) && seen.is_constant (tree_at bank.now d) then fixed.fixed_byte (runs_of runs.now) (seen.number_of (tree_at bank.now d)) else None) }
+    ensures { result ≡ (if patterns.is_source_memory (tree_at bank.now m) && patterns.is_constant
+        (tree_at bank.now d) then fixed_runs.fixed_byte (runs_of runs.now)
+        (patterns.number_of (tree_at bank.now d)) else None) }
 {
     if is_known_place(bank, m, d) {
         fixed_byte(runs, number_of(bank, d))
@@ -43,13 +48,14 @@ fn known_byte(bank: &Bank, runs: &[Run<'_>], m: TermId, d: TermId) -> Option<u8>
 // The load of a memory that isn't taken apart.
 fn load_of_variable(
     bank: &mut Bank,
-    runs: &[Run<'_>],
+    runs: &[Run],
     m: TermId,
     d: TermId,
 ) -> Result<TermId, AllocError>
     requires memory { m < length bank.old }
     requires address { d < length bank.old }
-    ensures form { IfOk result (λ i. Holds bank.new i (spec.load_of_variable (runs_of runs.now) (tree_at bank.old m) (tree_at bank.old d))) }
+    ensures form { IfOk result (λ i. Holds bank.new i
+        (spec.load_of_variable (runs_of runs.now) (tree_at bank.old m) (tree_at bank.old d))) }
     ensures extends { Extends bank.old bank.new }
 {
     match known_byte(bank, runs, m, d) {
@@ -58,7 +64,8 @@ fn load_of_variable(
     }
 }
 
-// The load of a store: the byte `b` that was stored where `d` is its address `a`, else the byte below it.
+// The load of a store: the byte `b` that was stored where `d` is its address `a`, else the byte
+// below it.
 fn load_of_store(
     bank: &mut Bank,
     d: TermId,
@@ -70,7 +77,9 @@ fn load_of_store(
     requires place { a < length bank.old }
     requires stored { b < length bank.old }
     requires rest { below < length bank.old }
-    ensures form { IfOk result (λ i. Holds bank.new i (spec.normal_choose (spec.normal_equal (tree_at bank.old d) (tree_at bank.old a)) (tree_at bank.old b) (tree_at bank.old below))) }
+    ensures form { IfOk result (λ i. Holds bank.new i
+        (spec.normal_choose (spec.normal_equal (tree_at bank.old d) (tree_at bank.old a))
+        (tree_at bank.old b) (tree_at bank.old below))) }
     ensures extends { Extends bank.old bank.new }
 {
     let test = normal_equal(bank, d, a)?;
@@ -82,7 +91,10 @@ fn is_between(bank: &mut Bank, d: TermId, low: TermId, high: TermId) -> Result<T
     requires address { d < length bank.old }
     requires first { low < length bank.old }
     requires end { high < length bank.old }
-    ensures form { IfOk result (λ i. Holds bank.new i (spec.normal_and (spec.normal_not (spec.normal_less (tree_at bank.old d) (tree_at bank.old low))) (spec.normal_less (tree_at bank.old d) (tree_at bank.old high)))) }
+    ensures form { IfOk result (λ i. Holds bank.new i
+        (spec.normal_and (spec.normal_not
+        (spec.normal_less (tree_at bank.old d) (tree_at bank.old low)))
+        (spec.normal_less (tree_at bank.old d) (tree_at bank.old high)))) }
     ensures extends { Extends bank.old bank.new }
 {
     let is_before = normal_less(bank, d, low)?;
@@ -105,19 +117,24 @@ fn load_of_overlay(
     requires end { high < length bank.old }
     requires inside { upper < length bank.old }
     requires outside { lower < length bank.old }
-    ensures form { IfOk result (λ i. Holds bank.new i (spec.normal_choose (spec.normal_and (spec.normal_not (spec.normal_less (tree_at bank.old d) (tree_at bank.old low))) (spec.normal_less (tree_at bank.old d) (tree_at bank.old high))) (tree_at bank.old upper) (tree_at bank.old lower))) }
+    ensures form { IfOk result (λ i. Holds bank.new i
+        (spec.normal_choose (spec.normal_and
+        (spec.normal_not (spec.normal_less (tree_at bank.old d) (tree_at bank.old low)))
+        (spec.normal_less (tree_at bank.old d) (tree_at bank.old high))) (tree_at bank.old upper)
+        (tree_at bank.old lower))) }
     ensures extends { Extends bank.old bank.new }
 {
     let test = is_between(bank, d, low, high)?;
     normal_choose(bank, test, upper, lower)
 }
 
-// The load of the memory at hand, by those of its memories; or which of these is wanted first.
-fn load_at_hand(bank: &mut Bank, runs: &[Run<'_>], walk: &Walk, d: TermId) -> Result<TermId, Stop>
+// The load of the memory at hand, by those of its memories; or which of these is needed first.
+fn load_at_hand(bank: &mut Bank, runs: &[Run], walk: &Walk, d: TermId) -> Result<TermId, Stop>
     requires memory { walk.now.at < length bank.old }
     requires address { d < length bank.old }
     requires loads { AreForms (load_from runs.now (tree_at bank.old d)) bank.old walk.now }
-    ensures form { IfOk result (λ i. Holds bank.new i (load_from runs.now (tree_at bank.old d) (tree_at bank.old walk.now.at))) }
+    ensures form { IfOk result (λ i. Holds bank.new i
+        (load_from runs.now (tree_at bank.old d) (tree_at bank.old walk.now.at))) }
     ensures wanted { IfErr result (IsStop (form_at walk.now) walk.now.at) }
     ensures extends { Extends bank.old bank.new }
 {
@@ -149,13 +166,14 @@ fn load_at_hand(bank: &mut Bank, runs: &[Run<'_>], walk: &Walk, d: TermId) -> Re
 pub fn load(
     alloc: Global,
     bank: &mut Bank,
-    runs: &[Run<'_>],
+    runs: &[Run],
     m: TermId,
     d: TermId,
 ) -> Result<TermId, AllocError>
     requires memory { m < length bank.old }
     requires address { d < length bank.old }
-    ensures form { IfOk result (λ i. Holds bank.new i (load_from runs.now (tree_at bank.old d) (tree_at bank.old m))) }
+    ensures form { IfOk result (λ i. Holds bank.new i
+        (load_from runs.now (tree_at bank.old d) (tree_at bank.old m))) }
     ensures within { IfOk result (λ i. i < length bank.new) }
     ensures extends { Extends bank.old bank.new }
 {

@@ -1,20 +1,14 @@
 // Runs of fixed bytes.
 
 ghost use Rattle.std.specs.Prelude.{◌≡◌};
-ghost use Rattle.normal_spec.specs.Fixed as fixed;
-ghost use Rattle.term_norm.specs.Runs.{run_of, runs_of};
+ghost use Rattle.memory_spec.specs.Runs as fixed_runs;
+ghost use Rattle.memory_spec.specs.Viewed.{run_of, runs_of};
 
-/// Bytes at addresses one after the other, from `start` on.
-#[derive(Clone, Copy, Debug)]
-pub struct Run<'a> {
-    /// the address of the first byte
-    pub start: u32,
-    /// the bytes
-    pub bytes: &'a [u8],
-}
+use memory_spec::Run;
 
-fn byte_in(run: &Run<'_>, address: u64) -> Option<u8>
-    ensures { result ≡ fixed.byte_in (run_of run.now) address }
+// The byte of a run at an address.
+fn byte_in(run: &Run, address: u64) -> Option<u8>
+    ensures { result ≡ fixed_runs.byte_in (run_of run.now) address }
 {
     let start = u64::from(run.start);
     if start <= address {
@@ -25,8 +19,8 @@ fn byte_in(run: &Run<'_>, address: u64) -> Option<u8>
 }
 
 /// The byte that is fixed at an address: that of the first run that has it.
-pub fn fixed_byte(runs: &[Run<'_>], address: u64) -> Option<u8>
-    ensures { result ≡ fixed.fixed_byte (runs_of runs.now) address }
+pub fn fixed_byte(runs: &[Run], address: u64) -> Option<u8>
+    ensures { result ≡ fixed_runs.fixed_byte (runs_of runs.now) address }
 {
     for run in runs {
         if let Some(byte) = byte_in(run, address) {

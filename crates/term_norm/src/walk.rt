@@ -1,6 +1,7 @@
 // A walk over the terms below one, each after its arguments.
 
-ghost use Rattle.std.specs.Prelude.{◌≡◌, ◌<◌, ◌⊎◌, ℕ, nat_eq, Some, None, Ok, IfOk, IfErr, OnOk, MatchOption};
+ghost use Rattle.std.specs.Prelude.{◌≡◌, ◌<◌, ◌⊎◌, ℕ, nat_eq, Some, None, Ok, IfOk, IfErr, OnOk};
+ghost use Rattle.std.specs.Prelude.{MatchOption};
 ghost use Rattle.std.specs.Map.{update};
 ghost use Rattle.term_norm.specs.Walk.{form_at, IsWalk, Advances, IsStop};
 
@@ -11,9 +12,9 @@ use term_bank::TermId;
 /// Why a term has no form yet.
 #[derive(Clone, Copy, Debug)]
 pub enum Stop {
-    /// that of this argument is wanted first
+    /// that of this argument is needed first
     Needs(TermId),
-    /// there was no memory
+    /// out of memory
     NoMemory,
 }
 
@@ -27,8 +28,8 @@ impl From<AllocError> for Stop {
     }
 }
 
-/// The forms of terms by their ids, as they are made: that of a term after those of its arguments. An argument
-/// stands before its term, so those that wait are each below the one before.
+/// The forms of terms by their ids, as they are made: that of a term after those of its arguments.
+/// An argument is before its term, so those that wait are each below the one before.
 #[derive(Drop)]
 pub struct Walk {
     /// the term at hand
@@ -50,10 +51,11 @@ impl Walk {
         }
     }
 
-    /// The form of an argument; where it isn't made, that it is wanted.
+    /// The form of an argument; where it isn't made, that it is needed.
     pub fn form(&self, id: TermId) -> Result<TermId, Stop>
         ensures found { IfOk result (λ form. form_at self.now id ≡ Some form) }
-        ensures wanted { IfErr result (λ stop. (bound : ℕ) → id < bound → IsStop (form_at self.now) bound stop) }
+        ensures wanted { IfErr result (λ stop. (bound : ℕ) → id < bound
+            → IsStop (form_at self.now) bound stop) }
     {
         match self.forms.get(&id) {
             Some(form) => Ok(*form),
@@ -61,7 +63,7 @@ impl Walk {
         }
     }
 
-    /// The forms of four arguments; where one isn't made, that it is wanted.
+    /// The forms of four arguments; where one isn't made, that it is needed.
     pub fn four_forms(
         &self,
         a: TermId,
@@ -69,8 +71,11 @@ impl Walk {
         c: TermId,
         d: TermId,
     ) -> Result<(TermId, TermId, TermId, TermId), Stop>
-        ensures found { IfOk result (λ f. (form_at self.now a ≡ Some f.0) × (form_at self.now b ≡ Some f.1) × (form_at self.now c ≡ Some f.2) × (form_at self.now d ≡ Some f.3)) }
-        ensures wanted { IfErr result (λ stop. (bound : ℕ) → a < bound → b < bound → c < bound → d < bound → IsStop (form_at self.now) bound stop) }
+        ensures found { IfOk result (λ f. (form_at self.now a ≡ Some f.0)
+            × (form_at self.now b ≡ Some f.1) × (form_at self.now c ≡ Some f.2)
+            × (form_at self.now d ≡ Some f.3)) }
+        ensures wanted { IfErr result (λ stop. (bound : ℕ) → a < bound → b < bound → c < bound
+            → d < bound → IsStop (form_at self.now) bound stop) }
     {
         Ok((self.form(a)?, self.form(b)?, self.form(c)?, self.form(d)?))
     }
@@ -80,17 +85,22 @@ impl Walk {
         requires below { id < self.old.at }
         requires wanted { form_at self.old id ≡ None }
         ensures forms { OnOk result ((k : ℕ) → form_at self.new k ≡ form_at self.old k) }
-        ensures on { OnOk result ((start : ℕ) → IsWalk self.old start → Advances self.old self.new start) }
+        ensures on { OnOk result ((start : ℕ) → IsWalk self.old start
+            → Advances self.old self.new start) }
     {
         self.waiting.push(self.at)?;
         self.at = id;
         Ok(())
     }
 
-    // Notes the form of the term at hand, and goes on with the last that waits; the form, where none does.
+    // Notes the form of the term at hand, and goes on with the last that waits; the form, where
+    // none does.
     fn note(&mut self, form: TermId) -> Result<Option<TermId>, AllocError>
-        ensures forms { OnOk result ((k : ℕ) → form_at self.new k ≡ update nat_eq (form_at self.old) self.old.at (Some form) k) }
-        ensures end { IfOk result (λ end. (start : ℕ) → IsWalk self.old start → MatchOption end (Advances self.old self.new start) (λ last. (last ≡ form) × (self.old.at ≡ start))) }
+        ensures forms { OnOk result ((k : ℕ)
+            → form_at self.new k ≡ update nat_eq (form_at self.old) self.old.at (Some form) k) }
+        ensures end { IfOk result (λ end. (start : ℕ) → IsWalk self.old start
+            → MatchOption end (Advances self.old self.new start) (λ last. (last ≡ form)
+            × (self.old.at ≡ start))) }
     {
         self.forms.insert(self.at, form)?;
         match self.waiting.pop() {
@@ -102,12 +112,15 @@ impl Walk {
         }
     }
 
-    /// Goes on by what was found for the term at hand: its form, or which argument it wants. The form of the
-    /// first term, once that is made.
+    /// Goes on by what was found for the term at hand: its form, or which argument it needs. The
+    /// form of the first term, once that is made.
     pub fn take(&mut self, outcome: Result<TermId, Stop>) -> Result<Option<TermId>, AllocError>
         requires { IfErr outcome (IsStop (form_at self.old) self.old.at) }
-        ensures forms { OnOk result ((k form : ℕ) → form_at self.new k ≡ Some form → (form_at self.old k ≡ Some form) ⊎ ((k ≡ self.old.at) × (outcome ≡ Ok form))) }
-        ensures end { IfOk result (λ end. (start : ℕ) → IsWalk self.old start → MatchOption end (Advances self.old self.new start) (λ last. (outcome ≡ Ok last) × (self.old.at ≡ start))) }
+        ensures forms { OnOk result ((k form : ℕ) → form_at self.new k ≡ Some form
+            → (form_at self.old k ≡ Some form) ⊎ ((k ≡ self.old.at) × (outcome ≡ Ok form))) }
+        ensures end { IfOk result (λ end. (start : ℕ) → IsWalk self.old start
+            → MatchOption end (Advances self.old self.new start) (λ last. (outcome ≡ Ok last)
+            × (self.old.at ≡ start))) }
     {
         match outcome {
             Ok(form) => self.note(form),

@@ -1,15 +1,18 @@
 // Questions on goals:
 //
-// - `clauses:FIRST GOAL`: how many variables and clauses it has, and its clauses from that one on, counted from 0
+// - `clauses:FIRST GOAL`: how many variables and clauses it has, and its clauses from that one on,
+//   counted from 0
 // - `digest GOAL`: how many variables and clauses it has, and a digest of all clauses
-// - `model:BITS GOAL`: whether this assignment of the clauses' variables satisfies them, and the goal's value under the
-//   model reconstructed from it, which the variables keep
+// - `within:MAXIMUM GOAL`: how many variables and clauses it has, or `large` where it has more
+//   variables than this
+// - `model:BITS GOAL`: whether this assignment of the clauses' variables satisfies them, and the
+//   goal's value under the model reconstructed from it, which the variables keep
 
 ghost use Rattle.std.specs.Prelude.{◌<◌, length};
 
 use crate::terms::{Question, add_value};
 use crate::words::number;
-use bit_blast::{Blasted, blast, read_back};
+use bit_blast::{BlastError, Blasted, blast, read_back};
 use cnf_core::{Cnf, Literal, eval};
 use std::alloc::{AllocError, Global};
 use term_bank::{Bank, TermId};
@@ -25,8 +28,8 @@ fn add_clause(out: &mut String, clause: &[Literal]) -> Result<(), AllocError> {
 
 fn clauses(out: &mut String, cnf: &Cnf, from: u64) -> Result<(), AllocError> {
     write!(out, "{} {}:", cnf.variables(), cnf.len())?;
-    for place in from as usize..cnf.len() {
-        if let Some(clause) = cnf.clause(place) {
+    for index in from as usize..cnf.len() {
+        if let Some(clause) = cnf.clause(index) {
             add_clause(out, clause)?;
         }
     }
@@ -49,8 +52,8 @@ fn with_clause(digest: u64, clause: &[Literal]) -> u64 {
 
 fn digest(out: &mut String, cnf: &Cnf) -> Result<(), AllocError> {
     let mut digest: u64 = 0xcbf2_9ce4_8422_2325;
-    for place in 0..cnf.len() {
-        if let Some(clause) = cnf.clause(place) {
+    for index in 0..cnf.len() {
+        if let Some(clause) = cnf.clause(index) {
             digest = with_clause(digest, clause);
         }
     }
@@ -72,9 +75,9 @@ fn reconstruct(
     blasted: &Blasted,
     bits: &[bool],
 ) -> Result<(), AllocError> {
-    let is_met = bits.len() == blasted.cnf.variables() && eval(&blasted.cnf, bits);
+    let is_model = bits.len() == blasted.cnf.variables() && eval(&blasted.cnf, bits);
     *values = read_back(alloc, blasted, bits)?;
-    write!(out, "{is_met} ")
+    write!(out, "{is_model} ")
 }
 
 fn model(
@@ -98,7 +101,25 @@ fn ask(
     match question.name {
         "clauses" => clauses(out, &blasted.cnf, number(question.detail)),
         "digest" => digest(out, &blasted.cnf),
+        "within" => write!(out, "{} {}", blasted.cnf.variables(), blasted.cnf.len()),
         _ => model(alloc, out, values, blasted, question.detail),
+    }
+}
+
+/// The most variables that the clauses of a question's goal may have.
+fn maximum(question: Question<'_>) -> usize {
+    match question.name {
+        "within" => number(question.detail) as usize,
+        _ => usize::MAX,
+    }
+}
+
+/// Adds why there are no clauses; the number that is reported is to be above the maximum.
+fn add_error(out: &mut String, error: BlastError, maximum: usize) -> Result<(), AllocError> {
+    match error {
+        BlastError::Large(count) if count > maximum => out.push_str("large"),
+        BlastError::Large(count) => write!(out, "large {count}"),
+        BlastError::NoMemory => Err(AllocError),
     }
 }
 
@@ -113,6 +134,9 @@ pub(crate) fn answer(
 ) -> Result<(), AllocError>
     requires { id < length bank.now }
 {
-    let blasted = blast(alloc, bank, id)?;
-    ask(alloc, out, values, &blasted, question)
+    let maximum = maximum(question);
+    match blast(alloc, bank, id, maximum) {
+        Ok(blasted) => ask(alloc, out, values, &blasted, question),
+        Err(error) => add_error(out, error, maximum),
+    }
 }

@@ -1,5 +1,5 @@
-// The question `log:VARIABLES CLAUSE, .., CLAUSE; LITERALS by HINTS; ..`: the outcome of each step of a log over these
-// clauses, and whether the log is closed.
+// The question `log:VARIABLES CLAUSE, .., CLAUSE; LITERALS by HINTS; ..`: the outcome of each step
+// of a log over these clauses, and whether the log is closed.
 
 ghost use Rattle.std.specs.Prelude.{◌≡◌};
 ghost use Rattle.std.specs.List.{list_all};
@@ -93,15 +93,9 @@ fn steps(alloc: Global, out: &mut String, log: &mut Log, text: &str) -> Result<(
     out.push_str(if log.is_closed() { "closed" } else { "open" })
 }
 
-fn over(alloc: Global, out: &mut String, cnf: &Cnf, text: &str) -> Result<(), AllocError> {
+fn over(alloc: Global, out: &mut String, cnf: Cnf, text: &str) -> Result<(), AllocError> {
     let mut log = Log::new(alloc, cnf)?;
     steps(alloc, out, &mut log, text)
-}
-
-fn ask(alloc: Global, out: &mut String, cnf: &mut Cnf, text: &str) -> Result<(), AllocError> {
-    let (given, added) = text.split_once(';').unwrap_or((text, ""));
-    clauses(alloc, cnf, given)?;
-    over(alloc, out, cnf, added)
 }
 
 /// Answers the question on a log.
@@ -111,6 +105,8 @@ pub(crate) fn answer(
     variables: u64,
     text: &str,
 ) -> Result<(), AllocError> {
+    let (given, added) = text.split_once(';').unwrap_or((text, ""));
     let mut cnf = Cnf::new(alloc, variables as usize);
-    ask(alloc, out, &mut cnf, text)
+    clauses(alloc, &mut cnf, given)?;
+    over(alloc, out, cnf, added)
 }

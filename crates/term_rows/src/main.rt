@@ -1,8 +1,8 @@
 //! Rows of terms, goals and logs, each with the answer that is expected of it.
 //!
-//! A row is `QUESTION WORDS = ANSWER`; each is printed with `ok`, or with what was found in place of the answer. The
-//! modules `terms`, `goals` and `logs` have the questions, and `words` has how a term is written. A row without
-//! ` = ` is a title.
+//! A row is `QUESTION WORDS = ANSWER`; each is printed with `ok`, or with what was found in place
+//! of the answer. The modules `terms`, `goals` and `logs` have the questions, and `words` has how a
+//! term is written. A row without ` = ` is a title.
 #![tactic(auto)]
 
 mod goals;
@@ -60,7 +60,9 @@ fn ask(
     question: Question<'_>,
 ) -> Result<(), AllocError> {
     match question.name {
-        "clauses" | "digest" | "model" => ask_goal(alloc, out, values, bank, read, text, question),
+        "clauses" | "digest" | "model" | "within" => ask_goal(
+            alloc, out, values, bank, read, text, question,
+        ),
         _ => ask_term(alloc, out, values, bank, read, text, question),
     }
 }

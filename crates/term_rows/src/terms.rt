@@ -1,40 +1,39 @@
 // Questions on terms, under the values that the variables have so far:
 //
-// - `value TERM`: its value in a bank; `tree TERM`: the sort and the value of its tree, or `None` if it has no sort
+// - `value TERM`: its value in a bank; `tree TERM`: the sort and the value of its tree, or `None`
+//   if it has no sort
 // - `set:VARIABLE TERM`: the same value, which the variable has from here on
-// - `normal TERM`: its normal form, where memories of the source hold the bytes of `RUNS`
+// - `normal TERM`: its normal form, where memories of the source hold the bytes of `runs`
 // - `flat TERM`: its flat term; `indices TERM`: the indices of this and of its loads in the bank
-// - `rebuild TERM`: its value after memories are rebuilt from a model of its flat term, which the variables keep
+// - `rebuild TERM`: its value after memories are rebuilt from a model of its flat term, which the
+//   variables keep
 
 ghost use Rattle.std.specs.Prelude.{◌<◌, length};
 
 use crate::words::{atom, term};
 use mem_terms::{flat, rebuild};
+use memory_spec::Run;
 use std::alloc::{AllocError, Global};
 use std::mem;
 use term_bank::{Bank, TermId, TermNode};
 use term_core::{Assignment, Term, Value, eval, sort};
-use term_norm::{Run, normal};
+use term_norm::normal;
 use term_spec::Atom;
 
-const RUNS: [Run<'static>; 4] = [
-    Run {
-        start: 16,
-        bytes: &[80, 117, 154, 191, 228, 9, 46, 83],
-    },
-    Run {
-        start: 100,
-        bytes: &[7, 8],
-    },
-    Run {
-        start: 200,
-        bytes: &[9],
-    },
-    Run {
-        start: 101,
-        bytes: &[1, 2],
-    },
-];
+/// The bytes that the memories of the source hold.
+fn runs(alloc: Global) -> Result<Vec<Run>, AllocError> {
+    let mut runs = Vec::new(alloc);
+    runs.push(run(alloc, 16, &[80, 117, 154, 191, 228, 9, 46, 83])?)?;
+    runs.push(run(alloc, 100, &[7, 8])?)?;
+    runs.push(run(alloc, 200, &[9])?)?;
+    runs.push(run(alloc, 101, &[1, 2])?)?;
+    Ok(runs)
+}
+
+fn run(alloc: Global, start: u32, bytes: &[u8]) -> Result<Run, AllocError> {
+    let bytes = bytes.to_vec(alloc)?;
+    Ok(Run { start, bytes })
+}
 
 /// Both, where both were made.
 fn both<A: Drop, B: Drop>(
@@ -170,7 +169,7 @@ fn normal_form(
 ) -> Result<(), AllocError>
     requires { id < length bank.old }
 {
-    let made = normal(alloc, bank, id, &RUNS)?;
+    let made = normal(alloc, bank, id, &runs(alloc)?)?;
     compare(out, bank, read, made, form)
 }
 

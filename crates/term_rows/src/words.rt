@@ -1,6 +1,6 @@
-// Terms as words: an operator precedes its arguments, in brackets or not. `join2`, `join4` and `join8` have two, four
-// and eight bytes; `zext`, `sext`, `low` and `byte` have their number after a colon, as in `low:8`; `twice:N` is the
-// last of N sums, each of the one before with itself.
+// Terms as words: an operator precedes its arguments, in brackets or not. `join2`, `join4` and
+// `join8` have two, four and eight bytes; `zext`, `sext`, `low` and `byte` have their number after
+// a colon, as in `low:8`; `twice:N` is the last of N sums, each of the one before with itself.
 
 ghost use Rattle.std.specs.Prelude.{◌≡◌, ◌<◌, length, IfOk, IfSome};
 ghost use Rattle.term_bank.specs.Nodes.{IsNode};

@@ -3,3 +3,5 @@ pub mod Words
 pub mod Soundness
 pub mod Variables
 pub mod Same
+pub mod Subterms
+pub mod Substitution

@@ -1,4 +1,4 @@
--- Terms as values that contracts see: a term is stored as the list of its operators, each behind its arguments.
+-- Terms as values that contracts see: a term is stored as the list of its operators, each after its arguments.
 use Rattle.std.specs.Prelude.{◌≡◌, List, [], ◌∷◌, ◌⊎◌, false, refl}
 use Rattle.std.specs.Coded.{Coded, code_by, coded⊎, coded_list}
 use base.Stored.{coded_unit}

@@ -126,7 +126,7 @@ OccursInAtom v (atom.Truth value) = ⊥
 OccursInAtom v (atom.Constant width number) = ⊥
 OccursInAtom v (atom.Open variable) = v ≡ variable
 
--- the variable stands in the term
+-- the variable occurs in the term
 unfoldable pub Occurs : Variable → Term → Type 0
 Occurs v (Leaf atom) = OccursInAtom v atom
 Occurs v (Unary operator a) = Occurs v a

@@ -1,5 +1,5 @@
--- What a term is worth under an assignment of values to its variables. Words are numbers modulo 2 ^ width; a
--- memory has a byte for each address below 2 ^ 32. An operator at values of other kinds is worth `stray`; of a term
+-- The value of a term under an assignment of values to its variables. Words are numbers modulo 2 ^ width; a
+-- memory has a byte for each address below 2 ^ 32. An operator at values of other kinds has the value `stray`; of a term
 -- that is not well sorted nothing else is meant.
 use Rattle.std.specs.Prelude.{◌≡◌, ℕ, ◌+◌, ◌-◌, ◌*◌, ◌/◌, ◌%◌, ◌^◌, ◌<◌, ◌==◌, ◌&&◌, ◌||◌, not, nat_lt, nat_le, Bool, true, false, if◌then◌else◌, List, [], ◌∷◌, map, Option, Some, None, option_map, option_and_then, bit_and, bit_or, bit_xor}
 use Rattle.term_spec.specs.declared.Width.{Width}
@@ -36,7 +36,7 @@ IsOfSort (sort.Word w) (Number v number) = (v ≡ w) × (number < 2 ^ bits w)
 IsOfSort sort.Memory (Bytes bytes) = (address : ℕ) → bytes address < 2 ^ 8
 IsOfSort s value = ⊥
 
--- which values the variables stand for
+-- the value of each variable
 abbrev pub Assignment : Type 0
 Assignment = Variable → Value
 

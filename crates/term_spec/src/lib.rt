@@ -1,13 +1,8 @@
-//! Terms over truth values, words and memory: their sorts, and what they are worth.
-//!
-//! `specs/Term.antt` has the trees, grouped by how many arguments an operator has; `specs/Sort.antt` the sort
-//! of a term, or none where it is not well sorted; `specs/Value.antt` its value under an assignment;
-//! `specs/Same.antt` the tests of two variables and of two terms; and `specs/Shapes.antt` the terms for signed
-//! comparison and division, high products, and loads and stores of several bytes. Of the crate only the enums
-//! below and the record [`Variable`] run.
-//!
-//! Of a variable the definitions see its sort, and whether two are the same; a family of variables that is
-//! added changes none of them.
+//! Terms over truth values, words and memory: trees (`specs/Term.antt`), their sorts
+//! (`specs/Sort.antt`) and their values under an assignment (`specs/Value.antt`), the distinct
+//! subterms of a term (`specs/Subterms.antt`), and terms put in for variables
+//! (`specs/Substitution.antt`). Of a variable they see the sort and which one it is. Of the crate
+//! only the enums below and [`Variable`] run.
 
 #![tactic(auto)]
 
@@ -35,7 +30,7 @@ pub enum Sort {
     Memory,
 }
 
-/// What a variable stands for.
+/// What a variable denotes.
 #[derive(Clone, Copy, PartialEq, Eq, Hash, Debug)]
 pub enum Family {
     /// a machine register at a point
@@ -65,7 +60,7 @@ pub enum Family {
 /// A variable: two are the same where all four fields are.
 #[derive(Clone, Copy, PartialEq, Eq, Hash, Debug)]
 pub struct Variable {
-    /// what it stands for
+    /// what it denotes
     pub family: Family,
     /// which one of its family
     pub index: usize,
@@ -122,7 +117,8 @@ pub enum WordOperator {
     ShiftLeft,
     /// the bits moved down; a count from the width on gives 0
     ShiftRight,
-    /// the bits moved down and filled with the top bit; a count from the width on gives all top bits
+    /// the bits moved down and filled with the top bit; a count from the width on gives all top
+    /// bits
     ShiftRightSigned,
     /// the quotient of unsigned words; all bits set where the divisor is 0
     Divide,

@@ -42,7 +42,7 @@ blank_in_front : (byte : ℕ) (text : List ℕ) → tokens_of (drop (prefix_len 
 blank_in_front byte text after true yes_blank = rw (prefix_len-cons_yes is_blank byte text yes_blank) (after ∙ sym (tokens_of-blank byte text yes_blank))
 blank_in_front byte text after false no_blank = rw (prefix_len-cons_no is_blank byte text no_blank) refl
 
--- the blanks in front of a text can be left out
+-- the blanks before a text can be left out
 pub tokens_of-drop_blanks : (text : List ℕ) → tokens_of (drop (prefix_len is_blank text) text) ≡ tokens_of text
 tokens_of-drop_blanks [] = refl
 tokens_of-drop_blanks (byte ∷ text) = blank_in_front byte text (tokens_of-drop_blanks text) (is_blank byte) refl
@@ -74,7 +74,7 @@ pub tokens_of-word : (byte : ℕ) (text : List ℕ) → is_word_byte byte ≡ tr
 tokens_of-word byte [] word = tokens_of-byte byte [] (word_no_blank byte word) (word_no_mark byte word) word ∙ alone byte _
 tokens_of-word byte (next ∷ text) word = word_in_front byte next text word (tokens_of-word next text) (is_word_byte next) refl
 
--- no blank is left behind the blanks in front
+-- no blank is left after the first blanks
 pub prefix_len-drop_prefix : (p : ℕ → Bool) (text : List ℕ) → prefix_len p (drop (prefix_len p text) text) ≡ 0
 prefix_len-drop_prefix p [] = refl
 prefix_len-drop_prefix p (byte ∷ text) = by_first p byte text (prefix_len-drop_prefix p text) (p byte) refl
@@ -83,7 +83,7 @@ prefix_len-drop_prefix p (byte ∷ text) = by_first p byte text (prefix_len-drop
     by_first p byte text after true passes = rw (prefix_len-cons_yes p byte text passes) after
     by_first p byte text after false fails = rw (prefix_len-cons_no p byte text fails) (prefix_len-cons_no p byte text fails)
 
--- the first byte of a text in front of which nothing passes
+-- the first byte of a text of which no prefix passes
 pub fails_first : (p : ℕ → Bool) (byte : ℕ) (text : List ℕ) → prefix_len p (byte ∷ text) ≡ 0 → p byte ≡ false
 fails_first p byte text none = by_first (p byte) refl
   where
@@ -98,45 +98,45 @@ passes_first p byte text some = by_first (p byte) refl
     by_first true passes = refl
     by_first false fails = absurd (let e : prefix_len p (byte ∷ text) ≡ 0 = prefix_len-cons_no p byte text fails in omega arith)
 
--- a text that begins with a word, cut behind it
+-- a text that begins with a word, cut after it
 pub tokens_of-first_word : (text : List ℕ) → 0 < prefix_len is_word_byte text → tokens_of text ≡ option_map (λ more. Word (take (prefix_len is_word_byte text) text) ∷ more) (tokens_of (drop (prefix_len is_word_byte text) text))
 tokens_of-first_word [] some = absurd (omega arith)
 tokens_of-first_word (byte ∷ text) some =
     let word : is_word_byte byte ≡ true = passes_first is_word_byte byte text some in
     rw (prefix_len-cons_yes is_word_byte byte text word) (tokens_of-word byte text word)
 
--- what is known of the front of a text
+-- what is known of a text without blanks before it
 pub ruleset fronts = (prefix_len-le-length, prefix_len-drop_prefix, tokens_of-drop_blanks)
 
--- the parser's steps: its tokens are those of its rest, which are those behind the blanks
-pub record IsFront (value : Option (List Token)) (rest text : List ℕ) : Type 0 where
+-- the parser's steps: its tokens are those of its rest, which are those after the blanks
+pub record IsTrimmed (value : Option (List Token)) (rest text : List ℕ) : Type 0 where
   pub seen : tokens_of rest ≡ value
   pub same : tokens_of text ≡ tokens_of rest
-  pub front : prefix_len is_blank text ≡ 0
+  pub trimmed : prefix_len is_blank text ≡ 0
 
-pub value_of_text : {value : Option (List Token)} {rest text : List ℕ} → IsFront value rest text → value ≡ tokens_of text
+pub value_of_text : {value : Option (List Token)} {rest text : List ℕ} → IsTrimmed value rest text → value ≡ tokens_of text
 value_of_text f = sym f.seen ∙ sym f.same
 
-pub mark_read : {value : Option (List Token)} {rest text : List ℕ} (byte : ℕ) (after : List ℕ) → IsFront value rest text → text ≡ byte ∷ after → is_mark byte ≡ true → value ≡ option_map (λ more. Mark byte ∷ more) (tokens_of after)
+pub mark_read : {value : Option (List Token)} {rest text : List ℕ} (byte : ℕ) (after : List ℕ) → IsTrimmed value rest text → text ≡ byte ∷ after → is_mark byte ≡ true → value ≡ option_map (λ more. Mark byte ∷ more) (tokens_of after)
 mark_read byte after f cut mark =
     value_of_text f ∙ ap tokens_of cut
-    ∙ tokens_of-mark byte after (fails_first is_blank byte after (ap (λ t. prefix_len is_blank t) (sym cut) ∙ f.front)) mark
+    ∙ tokens_of-mark byte after (fails_first is_blank byte after (ap (λ t. prefix_len is_blank t) (sym cut) ∙ f.trimmed)) mark
 
-pub word_read : {value : Option (List Token)} {rest text : List ℕ} (word after : List ℕ) (n : ℕ) → IsFront value rest text → n ≡ prefix_len is_word_byte text → word ≡ take n text → after ≡ drop n text → n ≢ 0 → value ≡ option_map (λ more. Word word ∷ more) (tokens_of after)
-word_read {value} {rest} {text} word after n f count front back some =
+pub word_read : {value : Option (List Token)} {rest text : List ℕ} (word after : List ℕ) (n : ℕ) → IsTrimmed value rest text → n ≡ prefix_len is_word_byte text → word ≡ take n text → after ≡ drop n text → n ≢ 0 → value ≡ option_map (λ more. Word word ∷ more) (tokens_of after)
+word_read {value} {rest} {text} word after n f count trimmed back some =
     let h : 0 < prefix_len is_word_byte text = omega arith in
     value_of_text f ∙ tokens_of-first_word text h
-    ∙ ap (λ w. option_map (λ more. Word w ∷ more) (tokens_of (drop (prefix_len is_word_byte text) text))) (sym (front ∙ ap (λ k. take k text) count))
+    ∙ ap (λ w. option_map (λ more. Word w ∷ more) (tokens_of (drop (prefix_len is_word_byte text) text))) (sym (trimmed ∙ ap (λ k. take k text) count))
     ∙ ap (λ t. option_map (λ more. Word word ∷ more) (tokens_of t)) (sym (back ∙ ap (λ k. drop k text) count))
 
-pub none_left : {value : Option (List Token)} {rest text : List ℕ} → IsFront value rest text → length text ≡ 0 → value ≡ Some []
+pub none_left : {value : Option (List Token)} {rest text : List ℕ} → IsTrimmed value rest text → length text ≡ 0 → value ≡ Some []
 unfolding tokens_of
 none_left f empty = value_of_text f ∙ ap tokens_of (nil_from_length _ empty)
 
-pub none_begins : {value : Option (List Token)} {rest text : List ℕ} (byte : ℕ) (after : List ℕ) → IsFront value rest text → text ≡ byte ∷ after → is_mark byte ≡ false → prefix_len is_word_byte text ≡ 0 → value ≡ None
+pub none_begins : {value : Option (List Token)} {rest text : List ℕ} (byte : ℕ) (after : List ℕ) → IsTrimmed value rest text → text ≡ byte ∷ after → is_mark byte ≡ false → prefix_len is_word_byte text ≡ 0 → value ≡ None
 none_begins byte after f cut mark word =
     value_of_text f ∙ ap tokens_of cut
-    ∙ tokens_of-none byte after (fails_first is_blank byte after (ap (λ t. prefix_len is_blank t) (sym cut) ∙ f.front)) mark (fails_first is_word_byte byte after (ap (λ t. prefix_len is_word_byte t) (sym cut) ∙ word))
+    ∙ tokens_of-none byte after (fails_first is_blank byte after (ap (λ t. prefix_len is_blank t) (sym cut) ∙ f.trimmed)) mark (fails_first is_word_byte byte after (ap (λ t. prefix_len is_word_byte t) (sym cut) ∙ word))
 
 no_empty_front : (token : Token) (tokens : Option (List Token)) → option_map (λ more. token ∷ more) tokens ≡ Some [] → ⊥
 no_empty_front token None e = cc
@@ -148,9 +148,9 @@ some_token byte text blank false true mark word e = no_empty_front _ _ (sym (tok
 some_token byte text blank false false mark word e = let bad : tokens_of (byte ∷ text) ≡ None = tokens_of-none byte text blank mark word in cc
 
 empty_text : (text : List ℕ) → prefix_len is_blank text ≡ 0 → tokens_of text ≡ Some [] → length text ≡ 0
-empty_text [] front e = refl
-empty_text (byte ∷ text) front e = absurd (some_token byte text (fails_first is_blank byte text front) (is_mark byte) (is_word_byte byte) refl refl e)
+empty_text [] trimmed e = refl
+empty_text (byte ∷ text) trimmed e = absurd (some_token byte text (fails_first is_blank byte text trimmed) (is_mark byte) (is_word_byte byte) refl refl e)
 
--- no token is left exactly where the text behind the blanks is empty
-pub end_left : {value : Option (List Token)} {rest text : List ℕ} → IsFront value rest text → value ≡ Some [] → length text ≡ 0
-end_left f e = empty_text _ f.front (sym (value_of_text f) ∙ e)
+-- no token is left exactly where the text after the blanks is empty
+pub end_left : {value : Option (List Token)} {rest text : List ℕ} → IsTrimmed value rest text → value ≡ Some [] → length text ≡ 0
+end_left f e = empty_text _ f.trimmed (sym (value_of_text f) ∙ e)

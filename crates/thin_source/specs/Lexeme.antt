@@ -1,4 +1,4 @@
--- What a token that borrows its bytes stands for.
+-- The token of a token that borrows its bytes.
 use Rattle.c_spec.specs.Tokens.{Token, Word, Mark}
 use Rattle.thin_source.specs.declared.scan.Lexeme.{Lexeme}
 use Rattle.thin_source.specs.declared.scan.Lexeme.TheVariants.{Word as a_word, Mark as a_mark}

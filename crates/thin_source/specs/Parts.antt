@@ -1,4 +1,4 @@
--- The parts of a source, each as the tokens that spell it in front of more tokens.
+-- The parts of a source, each as its tokens before more tokens.
 use Rattle.std.specs.Prelude.{◌≢◌, ℕ, List, ◌∷◌, codes, IsTrue}
 use Rattle.c_spec.specs.declared.Operand.{Operand}
 use Rattle.c_spec.specs.declared.Operand.TheVariants.{First, Second}

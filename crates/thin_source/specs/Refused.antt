@@ -1,10 +1,10 @@
 -- When a text is refused.
-use Rattle.std.specs.Prelude.{ℕ, List}
-use Rattle.c_spec.specs.Unit.{IsRefusedSource}
+use Rattle.std.specs.Prelude.{ℕ, List, ⊤}
+use Rattle.c_spec.specs.Unit.{Unit as SourceUnit, IsC}
 use Rattle.thin_source.specs.declared.SourceError.{SourceError}
-use Rattle.thin_source.specs.declared.SourceError.TheVariants.{Fault, NoMemory}
+use Rattle.thin_source.specs.declared.SourceError.TheVariants.{Later, NoMemory}
 
--- a fault comes only at a text that is no source, with its kind and its place; want of memory always may
-abbrev pub IsFaultOf : (text : List ℕ) → SourceError → Type 0
-IsFaultOf text (Fault fault) = IsRefusedSource text fault.kind fault.offset
-IsFaultOf text NoMemory = Unit {0}
+-- a text is refused only where it is no source of the one form; out of memory it always may be
+abbrev pub IsRefusedBy : (text : List ℕ) → SourceError → Type 0
+IsRefusedBy text Later = (unit : SourceUnit) → IsC text unit → ⊥
+IsRefusedBy text NoMemory = ⊤

@@ -1,19 +1,17 @@
-//! The source text of one small C function, read into its tree.
-//!
-//! The main type is [`Unit`], which a clause sees as the tree of `c_spec`'s `specs/Unit.antt`. [`read`]
-//! has the crate's contract: it gives the tree of a text that is a source, and refuses every other text.
-//! It goes over the text once.
+//! The source text of one small C function, read into its tree: [`Unit`], which a clause sees as
+//! the tree of `c_spec`'s `specs/Unit.antt`. [`read`] has the crate's contract: it gives the tree
+//! of a text that is a source, and refuses every other text. It goes over the text once.
 #![tactic(auto)]
 
 ghost use Rattle.std.specs.Prelude.{◌≡◌, IfOk, IfErr, IfSome, IsNone};
-ghost use Rattle.c_spec.specs.Unit.{Unit, IsC, IsRefusedSource};
-ghost use Rattle.thin_source.specs.Refused.{IsFaultOf};
+ghost use Rattle.c_spec.specs.Unit.{Unit, IsC};
+ghost use Rattle.thin_source.specs.Refused.{IsRefusedBy};
 ghost use Rattle.thin_source.specs.Parts.{unit_of};
 
 mod parser;
 mod scan;
 
-use c_spec::{Operand, Operator, SourceKind};
+use c_spec::{Operand, Operator};
 use parser::{Header, Parser, Sum};
 use std::alloc::{AllocError, Global};
 use std::marker::Model;
@@ -35,7 +33,14 @@ impl Model for Unit {
 
     ghost Value = { Unit };
 
-    ghost view = { λ u. record { name = u.name; first = u.first; second = u.second; left = u.left; operator = u.operator; right = u.right } };
+    ghost view = { λ u. record {
+      name = u.name;
+      first = u.first;
+      second = u.second;
+      left = u.left;
+      operator = u.operator;
+      right = u.right;
+    } };
 }
 
 impl Unit {
@@ -68,20 +73,11 @@ impl Unit {
     }
 }
 
-/// Where and why a text is no source.
-#[derive(Clone, Copy, Debug, PartialEq, Eq)]
-pub struct SourceFault {
-    /// Why.
-    pub kind: SourceKind,
-    /// The place, in bytes from the front.
-    pub offset: usize,
-}
-
 /// Why a text was not read.
 #[derive(Clone, Copy, Debug, PartialEq, Eq)]
 pub enum SourceError {
-    /// The text is no source.
-    Fault(SourceFault),
+    /// The text is not of the one form.
+    Later,
     /// There was no memory.
     NoMemory,
 }
@@ -98,18 +94,15 @@ impl From<AllocError> for SourceError {
 
 /// The tree of a source text, in work linear in its bytes.
 ///
-/// A text that is not of the one form (ISO C11, 6.9.1) is refused at offset 0:
-/// `unsigned F(unsigned A,unsigned B){return X+Y;}` with `+` or `-`, X and Y each being A or B, and spaces
-/// and line feeds between the tokens.
+/// A text that is not of the one form (ISO C11, 6.9.1) is refused: `unsigned F(unsigned A,unsigned
+/// B){return X+Y;}` with `+` or `-`, X and Y each being A or B, and spaces and line feeds between
+/// the tokens.
 pub fn read(alloc: Global, text: &[u8]) -> Result<Unit, SourceError>
     ensures accepted { IfOk result (λ unit. IsC text.now unit) }
-    ensures refused { IfErr result (λ error. IsFaultOf text.now error) }
+    ensures refused { IfErr result (λ error. IsRefusedBy text.now error) }
 {
     let Some((header, sum)) = parts(text) else {
-        return Err(SourceError::Fault(SourceFault {
-            kind: SourceKind::Later,
-            offset: 0,
-        }));
+        return Err(SourceError::Later);
     };
     Ok(Unit {
         name: Bytes::copied(alloc, header.name)?,

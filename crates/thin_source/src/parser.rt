@@ -1,6 +1,7 @@
-//! A parser of the one form: it goes over the text once, from the front.
+//! A parser of the one form: it goes over the text once.
 
-ghost use Rattle.std.specs.Prelude.{◌≡◌, ◌≢◌, ◌↔◌, ℕ, IsTrue, IfSome, IsSome, IsNone, List, [], ◌∷◌, Option, Some, None, option_map, codes};
+ghost use Rattle.std.specs.Prelude.{◌≡◌, ◌≢◌, ◌↔◌, ℕ, IsTrue, IfSome, IsSome, IsNone, List, []};
+ghost use Rattle.std.specs.Prelude.{◌∷◌, Option, Some, None, option_map, codes};
 ghost use Rattle.c_spec.specs.Tokens.{Token, Word, Mark, tokens_of, is_name};
 ghost use Rattle.thin_source.specs.Lexeme.{token_of};
 ghost use Rattle.c_spec.specs.Unit.{operator_byte};
@@ -57,10 +58,12 @@ impl<'a> Parser<'a> {
         Parser { rest: text }
     }
 
-    /// The next token, if one stands next.
+    /// The next token, if there is one.
     fn next(&mut self) -> Option<Lexeme<'a>>
-        ensures read { IfSome result (λ t. self.old ≡ option_map (λ more. token_of t ∷ more) self.new) }
-        ensures none { IsNone result → (t : Token) (more : List Token) → self.old ≡ Some (t ∷ more) → ⊥ }
+        ensures read { IfSome result (λ t. self.old
+            ≡ option_map (λ more. token_of t ∷ more) self.new) }
+        ensures none { IsNone result → (t : Token) (more : List Token) → self.old ≡ Some (t ∷ more)
+            → ⊥ }
     {
         let text = skip_blanks(self.rest);
         let (first, after) = text.split_first()?;
@@ -83,10 +86,12 @@ impl<'a> Parser<'a> {
         skip_blanks(self.rest).is_empty()
     }
 
-    /// The next word, if a word stands next.
+    /// The next word, if the next token is one.
     fn word(&mut self) -> Option<&'a [u8]>
-        ensures read { IfSome result (λ w. self.old ≡ option_map (λ more. Word w.now ∷ more) self.new) }
-        ensures none { IsNone result → (w : List ℕ) (more : List Token) → self.old ≡ Some (Word w ∷ more) → ⊥ }
+        ensures read { IfSome result (λ w. self.old
+            ≡ option_map (λ more. Word w.now ∷ more) self.new) }
+        ensures none { IsNone result → (w : List ℕ) (more : List Token)
+            → self.old ≡ Some (Word w ∷ more) → ⊥ }
     {
         match self.next()? {
             Lexeme::Word(word) => Some(word),
@@ -94,10 +99,11 @@ impl<'a> Parser<'a> {
         }
     }
 
-    /// The next punctuator, if a punctuator stands next.
+    /// The next punctuator, if the next token is one.
     fn mark(&mut self) -> Option<u8>
         ensures read { IfSome result (λ m. self.old ≡ option_map (λ more. Mark m ∷ more) self.new) }
-        ensures none { IsNone result → (m : ℕ) (more : List Token) → self.old ≡ Some (Mark m ∷ more) → ⊥ }
+        ensures none { IsNone result → (m : ℕ) (more : List Token) → self.old ≡ Some (Mark m ∷ more)
+            → ⊥ }
     {
         match self.next()? {
             Lexeme::Mark(mark) => Some(mark),
@@ -107,8 +113,10 @@ impl<'a> Parser<'a> {
 
     /// Reads one keyword.
     fn keyword(&mut self, keyword: &[u8]) -> Option<()>
-        ensures read { IsSome result → self.old ≡ option_map (λ more. Word keyword.now ∷ more) self.new }
-        ensures none { IsNone result → (more : List Token) → self.old ≡ Some (Word keyword.now ∷ more) → ⊥ }
+        ensures read { IsSome result → self.old
+            ≡ option_map (λ more. Word keyword.now ∷ more) self.new }
+        ensures none { IsNone result → (more : List Token)
+            → self.old ≡ Some (Word keyword.now ∷ more) → ⊥ }
     {
         let word = self.word()?;
         if word == keyword { Some(()) } else { None }
@@ -116,8 +124,10 @@ impl<'a> Parser<'a> {
 
     /// Reads one punctuator.
     fn punctuator(&mut self, punctuator: u8) -> Option<()>
-        ensures read { IsSome result → self.old ≡ option_map (λ more. Mark punctuator ∷ more) self.new }
-        ensures none { IsNone result → (more : List Token) → self.old ≡ Some (Mark punctuator ∷ more) → ⊥ }
+        ensures read { IsSome result → self.old
+            ≡ option_map (λ more. Mark punctuator ∷ more) self.new }
+        ensures none { IsNone result → (more : List Token)
+            → self.old ≡ Some (Mark punctuator ∷ more) → ⊥ }
     {
         let mark = self.mark()?;
         if mark == punctuator { Some(()) } else { None }
@@ -125,9 +135,11 @@ impl<'a> Parser<'a> {
 
     /// The next word, if it is a name.
     fn name(&mut self) -> Option<&'a [u8]>
-        ensures read { IfSome result (λ w. self.old ≡ option_map (λ more. Word w.now ∷ more) self.new) }
+        ensures read { IfSome result (λ w. self.old
+            ≡ option_map (λ more. Word w.now ∷ more) self.new) }
         ensures a_name { IfSome result (λ w. IsTrue (is_name w.now)) }
-        ensures none { IsNone result → (w : List ℕ) (more : List Token) → IsTrue (is_name w) → self.old ≡ Some (Word w ∷ more) → ⊥ }
+        ensures none { IsNone result → (w : List ℕ) (more : List Token) → IsTrue (is_name w)
+            → self.old ≡ Some (Word w ∷ more) → ⊥ }
     {
         let word = self.word()?;
         if is_name(word) { Some(word) } else { None }
@@ -135,9 +147,11 @@ impl<'a> Parser<'a> {
 
     /// `unsigned` and a name.
     fn declaration(&mut self) -> Option<&'a [u8]>
-        ensures read { IfSome result (λ w. self.old ≡ option_map (λ more. Word (codes "unsigned") ∷ Word w.now ∷ more) self.new) }
+        ensures read { IfSome result (λ w. self.old
+            ≡ option_map (λ more. Word (codes "unsigned") ∷ Word w.now ∷ more) self.new) }
         ensures a_name { IfSome result (λ w. IsTrue (is_name w.now)) }
-        ensures none { IsNone result → (w : List ℕ) (more : List Token) → IsTrue (is_name w) → self.old ≡ Some (Word (codes "unsigned") ∷ Word w ∷ more) → ⊥ }
+        ensures none { IsNone result → (w : List ℕ) (more : List Token) → IsTrue (is_name w)
+            → self.old ≡ Some (Word (codes "unsigned") ∷ Word w ∷ more) → ⊥ }
     {
         self.keyword(b"unsigned")?;
         self.name()
@@ -146,8 +160,10 @@ impl<'a> Parser<'a> {
     /// A word that names one of two parameters.
     fn operand(&mut self, first: &[u8], second: &[u8]) -> Option<Operand>
         requires { first.now ≢ second.now }
-        ensures read { IfSome result (λ o. self.old ≡ option_map (λ more. Word (one_of first.now second.now o) ∷ more) self.new) }
-        ensures none { IsNone result → (o : Operand) (more : List Token) → self.old ≡ Some (Word (one_of first.now second.now o) ∷ more) → ⊥ }
+        ensures read { IfSome result (λ o. self.old
+            ≡ option_map (λ more. Word (one_of first.now second.now o) ∷ more) self.new) }
+        ensures none { IsNone result → (o : Operand) (more : List Token)
+            → self.old ≡ Some (Word (one_of first.now second.now o) ∷ more) → ⊥ }
     {
         let word = self.word()?;
         if word == first {
@@ -161,8 +177,10 @@ impl<'a> Parser<'a> {
 
     /// `+` or `-`.
     fn operator(&mut self) -> Option<Operator>
-        ensures read { IfSome result (λ o. self.old ≡ option_map (λ more. Mark (operator_byte o) ∷ more) self.new) }
-        ensures none { IsNone result → (o : Operator) (more : List Token) → self.old ≡ Some (Mark (operator_byte o) ∷ more) → ⊥ }
+        ensures read { IfSome result (λ o. self.old
+            ≡ option_map (λ more. Mark (operator_byte o) ∷ more) self.new) }
+        ensures none { IsNone result → (o : Operator) (more : List Token)
+            → self.old ≡ Some (Mark (operator_byte o) ∷ more) → ⊥ }
     {
         match self.mark()? {
             b'+' => Some(Operator::Plus),
@@ -173,9 +191,12 @@ impl<'a> Parser<'a> {
 
     /// The head of the function.
     pub fn header(&mut self) -> Option<Header<'a>>
-        ensures read { IfSome result (λ h. self.old ≡ option_map (λ more. header_tokens h.name.now h.first.now h.second.now more) self.new) }
+        ensures read { IfSome result (λ h. self.old ≡ option_map
+            (λ more. header_tokens h.name.now h.first.now h.second.now more) self.new) }
         ensures names { IfSome result (λ h. AreNames h.name.now h.first.now h.second.now) }
-        ensures none { IsNone result → (name first second : List ℕ) (more : List Token) → AreNames name first second → self.old ≡ Some (header_tokens name first second more) → ⊥ }
+        ensures none { IsNone result → (name first second : List ℕ) (more : List Token)
+            → AreNames name first second → self.old ≡ Some (header_tokens name first second more)
+            → ⊥ }
     {
         let name = self.declaration()?;
         self.punctuator(b'(')?;
@@ -196,8 +217,12 @@ impl<'a> Parser<'a> {
     /// What the function returns.
     fn sum(&mut self, first: &[u8], second: &[u8]) -> Option<Sum>
         requires { first.now ≢ second.now }
-        ensures read { IfSome result (λ s. self.old ≡ option_map (λ more. sum_tokens first.now second.now s.left s.operator s.right more) self.new) }
-        ensures none { IsNone result → (left : Operand) (operator : Operator) (right : Operand) (more : List Token) → self.old ≡ Some (sum_tokens first.now second.now left operator right more) → ⊥ }
+        ensures read { IfSome result (λ s. self.old
+            ≡ option_map (λ more. sum_tokens first.now second.now s.left s.operator s.right more)
+            self.new) }
+        ensures none { IsNone result → (left : Operand) (operator : Operator) (right : Operand)
+            (more : List Token) → self.old ≡ Some
+            (sum_tokens first.now second.now left operator right more) → ⊥ }
     {
         let left = self.operand(first, second)?;
         let operator = self.operator()?;
@@ -212,8 +237,12 @@ impl<'a> Parser<'a> {
     /// The body of the function.
     pub fn body(&mut self, first: &[u8], second: &[u8]) -> Option<Sum>
         requires { first.now ≢ second.now }
-        ensures read { IfSome result (λ s. self.old ≡ option_map (λ more. body_tokens first.now second.now s.left s.operator s.right more) self.new) }
-        ensures none { IsNone result → (left : Operand) (operator : Operator) (right : Operand) (more : List Token) → self.old ≡ Some (body_tokens first.now second.now left operator right more) → ⊥ }
+        ensures read { IfSome result (λ s. self.old
+            ≡ option_map (λ more. body_tokens first.now second.now s.left s.operator s.right more)
+            self.new) }
+        ensures none { IsNone result → (left : Operand) (operator : Operator) (right : Operand)
+            (more : List Token) → self.old ≡ Some
+            (body_tokens first.now second.now left operator right more) → ⊥ }
     {
         self.punctuator(b'{')?;
         self.keyword(b"return")?;

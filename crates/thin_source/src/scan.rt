@@ -1,8 +1,10 @@
 //! The tokens of a text, one after the other.
 
-ghost use Rattle.std.specs.Prelude.{◌≡◌, ◌≤◌, length, IfSome, IfNone, List, ◌∷◌, Some, None, option_map, bytes_eq};
+ghost use Rattle.std.specs.Prelude.{◌≡◌, ◌≤◌, length, IfSome, IfNone, List, ◌∷◌, Some, None};
+ghost use Rattle.std.specs.Prelude.{option_map, bytes_eq};
 ghost use Rattle.std.specs.List.{prefix_len, list_any};
-ghost use Rattle.c_spec.specs.Tokens.{Token, tokens_of, is_blank, is_digit, is_word_byte, is_mark, is_keyword, is_name};
+ghost use Rattle.c_spec.specs.Tokens.{Token, tokens_of, is_blank, is_digit, is_word_byte, is_mark};
+ghost use Rattle.c_spec.specs.Tokens.{is_keyword, is_name};
 
 /// A token that borrows its bytes from the text.
 pub enum Lexeme<'a> {
@@ -12,14 +14,14 @@ pub enum Lexeme<'a> {
     Mark(u8),
 }
 
-/// Whether a byte stands between tokens.
+/// Whether a byte is blank.
 pub fn is_blank(byte: u8) -> bool
     ensures { result ≡ is_blank byte }
 {
     matches!(byte, b' ' | b'\n')
 }
 
-/// Whether a byte stands in words.
+/// Whether a byte is part of a word.
 pub fn is_word_byte(byte: u8) -> bool
     ensures { result ≡ is_word_byte byte }
 {
@@ -42,11 +44,11 @@ fn count_blanks(text: &[u8]) -> usize
     text.iter().take_while(|byte| is_blank(**byte)).count()
 }
 
-/// The text behind the blanks that it begins with.
+/// The text after the blanks that it begins with.
 #[tactic(auto, using(crate::proofs::Scanning::fronts))]
 pub fn skip_blanks(text: &[u8]) -> &[u8]
     ensures same { tokens_of result.now ≡ tokens_of text.now }
-    ensures front { prefix_len is_blank result.now ≡ 0 }
+    ensures trimmed { prefix_len is_blank result.now ≡ 0 }
 {
     text.split_at(count_blanks(text)).1
 }

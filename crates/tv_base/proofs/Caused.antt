@@ -1,4 +1,4 @@
--- The cause of a fault, over several calls.
+-- Clauses on refusals.
 use Rattle.std.proofs.Common.{Result, Ok, Err, OnErr}
 
 -- a clause on a refusal holds where it holds anyway

@@ -1,9 +1,9 @@
--- When a call on an object of the outside may answer that it failed.
+-- When a call for input or output may answer that it failed.
 use Rattle.std.specs.Prelude.{ℕ, ◌+◌, ◌-◌, ◌^◌, ◌≤◌, min, Result, IsErrOf}
 use Rattle.tv_base.specs.declared.faults.OutsideFault.{OutsideFault}
 use Rattle.tv_base.specs.declared.faults.OutsideFault.TheVariants.{Failed}
 
--- a count of 64 bits rose, or stands at its last value
+-- a count of 64 bits rose, or is at its last value
 abbrev pub Rose : ℕ → ℕ → Type 0
 Rose before now = min (before + 1) (2 ^ 64 - 1) ≤ now
 

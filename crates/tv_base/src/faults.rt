@@ -3,14 +3,14 @@ ghost use Rattle.tv_base.specs.declared.faults.OutsideFault.TheVariants.{NoMemor
 
 use std::alloc::{AllocError, AllocFailed};
 
-/// Why a call on an object of the outside was refused. Such a call leaves the object as it was, but
-/// for its count of faults.
+/// Why a call for input or output was refused. Such a call leaves the object as it was, but for its
+/// count of faults.
 #[derive(Clone, Copy, Debug, PartialEq, Eq)]
 pub enum OutsideFault {
-    /// The object could not do it, as where a file is missing or a disk is full. Its count of faults
-    /// rose in the call, or stands at its last value, 18446744073709551615.
+    /// The object could not do it, as where a file is missing or a disk is full. Its count of
+    /// faults rose in the call, or is at its last value, 18446744073709551615.
     Failed,
-    /// There was no memory. No count rose.
+    /// Out of memory. No count rose.
     NoMemory,
 }
 

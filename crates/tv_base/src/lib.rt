@@ -1,11 +1,7 @@
-//! The outside as the rest of the product sees it: traits of what is read and written, the maxima of
-//! every quantity, and places in source text.
-//!
-//! The main types are the traits `Desk` (files to read), `Sink` (a place to write) and `Store` (a
-//! sink with named files). Their contract: a read hands over the next bytes, a write adds the
-//! bytes that it says it took, and a call answers `Failed` only where the object's count of faults
-//! rose. What "next", "adds" and "rose" mean is defined in `specs/Reading.antt`,
-//! `specs/Writing.antt` and `specs/Faults.antt`.
+//! Input and output as traits: `Desk` (files to read), `Sink` (a place to write) and `Store` (a
+//! sink with named files); and the limits on every quantity. A read hands over the next bytes, a
+//! write appends the bytes that it says it took, and a call answers `Failed` only where the
+//! object's count of faults rose: `specs/Reading.antt`, `specs/Writing.antt`, `specs/Faults.antt`.
 #![tactic(auto)]
 
 mod faults;

@@ -1,29 +1,31 @@
-ghost use Rattle.std.specs.Prelude.{◌≡◌, ℕ, ◌+◌, ◌<◌, ◌≤◌, List, ◌++◌, length, take, Option, IfOk, OnOk, OnErr, IsErrOf, vec_len};
+ghost use Rattle.std.specs.Prelude.{◌≡◌, ℕ, ◌+◌, ◌<◌, ◌≤◌, List, ◌++◌, length, take, Option, IfOk};
+ghost use Rattle.std.specs.Prelude.{OnOk, OnErr, IsErrOf, vec_len};
 ghost use Rattle.tv_base.specs.declared.faults.OutsideFault.TheVariants.{NoMemory};
 ghost use Rattle.tv_base.specs.Faults.{HasCause};
-ghost use Rattle.tv_base.specs.Reading.{HandsOver, IsAtEnd, IsTaken, IsPartlyTaken, with_name};
+ghost use Rattle.tv_base.specs.Reading.{HandsOverFirst, ZeroAtEnd, IsTaken, IsPartlyTaken};
+ghost use Rattle.tv_base.specs.Reading.{with_name};
 
 use crate::OutsideFault;
 use std::alloc::Global;
 
-/// How many bytes are asked for in one read.
+/// How many bytes one read asks for.
 const PIECE: usize = 65_536;
 
 /// Files that are read, one at a time. Before any `begin` nothing is left to read.
 pub trait Desk {
-    /// The bytes of each name, where the desk tells them. They never change.
+    /// The bytes under each name, where contracts see them. They never change.
     ghost bytes: { Self → List ℕ → Option (List ℕ) };
 
-    /// What is left of the begun file, where the desk tells it.
+    /// What is left of the begun file, where contracts see it.
     ghost left: { Self → Option (List ℕ) };
 
-    /// The names of the files that were begun, in order, where the desk tells them.
+    /// The names of the files that were begun, in order, where contracts see them.
     ghost opened: { Self → Option (List (List ℕ)) };
 
     /// How many calls failed; it stops at 18446744073709551615.
     ghost faults: { Self → ℕ };
 
-    /// Begins the file of this name, from its first byte. A name that the desk hasn't is refused.
+    /// Begins the file of this name, from its first byte. A name without a file is refused.
     fn begin(&mut self, name: &str) -> Result<(), OutsideFault>
         ensures begins { OnOk result (left self.new ≡ bytes self.old name.now) }
         ensures opens { OnOk result (opened self.new ≡ with_name (opened self.old) name.now) }
@@ -39,8 +41,8 @@ pub trait Desk {
     fn read(&mut self, buf: &mut [u8]) -> Result<usize, OutsideFault>
         requires { 0 < length buf.old }
         ensures bound { IfOk result (λ count. count ≤ length buf.old) }
-        ensures hands_over { IfOk result (λ count. HandsOver (left self.old) (take count buf.new) (left self.new)) }
-        ensures end { IfOk result (λ count. count ≡ 0 → IsAtEnd (left self.old)) }
+        ensures hands_over { HandsOverFirst (left self.old) result buf.new (left self.new) }
+        ensures end { ZeroAtEnd (left self.old) result }
         ensures same_bytes { bytes self.new ≡ bytes self.old }
         ensures same_names { opened self.new ≡ opened self.old }
         ensures refused { OnErr result (left self.new ≡ left self.old) }
@@ -58,11 +60,13 @@ fn read_piece<D: Desk>(
 ) -> Result<usize, OutsideFault>
     requires { 0 < length buf.old }
     ensures bound { IfOk result (λ count. count ≤ length buf.old) }
-    ensures appends { IfOk result (λ count. bytes.new.items ≡ bytes.old.items ++ take count buf.new) }
+    ensures appends { IfOk result (λ count. bytes.new.items
+        ≡ bytes.old.items ++ take count buf.new) }
     ensures grows { IfOk result (λ count. vec_len bytes.new ≡ vec_len bytes.old + count) }
-    ensures hands_over { IfOk result (λ count. HandsOver (D.left desk.old) (take count buf.new) (D.left desk.new)) }
-    ensures end { IfOk result (λ count. count ≡ 0 → IsAtEnd (D.left desk.old)) }
-    ensures part { OnErr result (IsPartlyTaken (length buf.old) (D.left desk.old) (D.left desk.new)) }
+    ensures hands_over { HandsOverFirst (D.left desk.old) result buf.new (D.left desk.new) }
+    ensures end { ZeroAtEnd (D.left desk.old) result }
+    ensures part { OnErr result (IsPartlyTaken (length buf.old) (D.left desk.old)
+        (D.left desk.new)) }
     ensures same_bytes { D.bytes desk.new ≡ D.bytes desk.old }
     ensures same_names { D.opened desk.new ≡ D.opened desk.old }
     ensures cause { HasCause (D.faults desk.old) (D.faults desk.new) result }
@@ -82,15 +86,16 @@ fn make_buffer(alloc: Global) -> Result<Vec<u8>, OutsideFault>
     Ok(vec![in alloc; 0u8; PIECE]?)
 }
 
-/// Reads the begun file until its end, or until `most` bytes are taken. After a refusal some of them,
-/// at most `most`, are taken from the desk.
+/// Reads the begun file until its end, or until `most` bytes are taken. After a refusal some of
+/// them, at most `most`, are taken from the desk.
 pub fn read_up_to<D: Desk>(
     alloc: Global,
     desk: &mut D,
     most: usize,
 ) -> Result<Vec<u8>, OutsideFault>
     ensures bound { IfOk result (λ bytes. vec_len bytes ≤ most) }
-    ensures taken { IfOk result (λ bytes. IsTaken most (D.left desk.old) bytes.items (D.left desk.new)) }
+    ensures taken { IfOk result (λ bytes. IsTaken most (D.left desk.old) bytes.items
+        (D.left desk.new)) }
     ensures part { OnErr result (IsPartlyTaken most (D.left desk.old) (D.left desk.new)) }
     ensures same_bytes { D.bytes desk.new ≡ D.bytes desk.old }
     ensures same_names { D.opened desk.new ≡ D.opened desk.old }

@@ -1,4 +1,4 @@
-/// A piece of a source text, as the place of a guard.
+/// A piece of a source text, as of a guard.
 #[derive(Clone, Copy, Debug, PartialEq, Eq)]
 pub struct Span {
     /// The offset of its first byte, in bytes from the start of the text.

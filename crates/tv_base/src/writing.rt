@@ -1,28 +1,30 @@
-ghost use Rattle.std.specs.Prelude.{◌≡◌, ℕ, ◌<◌, ◌≤◌, List, length, take, Option, IfOk, OnOk, OnErr, IsErrOf};
+ghost use Rattle.std.specs.Prelude.{◌≡◌, ℕ, ◌<◌, ◌≤◌, List, length, Option, IfOk, OnOk};
+ghost use Rattle.std.specs.Prelude.{OnErr, IsErrOf};
 ghost use Rattle.tv_base.specs.declared.faults.OutsideFault.TheVariants.{NoMemory};
 ghost use Rattle.tv_base.specs.Faults.{HasCause};
-ghost use Rattle.tv_base.specs.Writing.{Grows, GrowsPartly, IsEmptied};
+ghost use Rattle.tv_base.specs.Writing.{Grows, GrowsByFirst, GrowsPartly, IsEmptied};
 
 use crate::OutsideFault;
 
 /// A place to write.
 pub trait Sink {
-    /// The bytes held under each name, where the sink tells them. What is written stands under the
-    /// name begun last.
+    /// The bytes held under each name, where contracts see them. Writes go to the name begun last.
     ghost held: { Self → List ℕ → Option (List ℕ) };
 
-    /// The name begun last; the empty one before any `begin`, and for ever in a sink that is no store.
+    /// The name begun last; the empty one before any `begin`, and for ever in a sink that is no
+    /// store.
     ghost begun: { Self → List ℕ };
 
     /// How many calls failed; it stops at 18446744073709551615.
     ghost faults: { Self → ℕ };
 
-    /// Adds the first bytes of `bytes` at the end of what is held, and answers how many; at least one,
-    /// unless `bytes` is empty.
+    /// Adds the first bytes of `bytes` at the end of what is held, and answers how many; at least
+    /// one, unless `bytes` is empty.
     fn put(&mut self, bytes: &[u8]) -> Result<usize, OutsideFault>
         ensures bound { IfOk result (λ count. count ≤ length bytes.now) }
         ensures progress { IfOk result (λ count. 0 < length bytes.now → 0 < count) }
-        ensures grows { IfOk result (λ count. Grows (held self.old) (begun self.old) (take count bytes.now) (held self.new)) }
+        ensures grows { GrowsByFirst (held self.old) (begun self.old) result bytes.now
+            (held self.new) }
         ensures same_name { begun self.new ≡ begun self.old }
         ensures refused { OnErr result (held self.new ≡ held self.old) }
         ensures cause { HasCause (faults self.old) (faults self.new) result }
@@ -34,7 +36,8 @@ pub trait Sink {
 pub trait Store: Sink {
     /// Begins the file of this name, which then holds nothing.
     fn begin(&mut self, name: &str) -> Result<(), OutsideFault>
-        ensures empties { OnOk result (IsEmptied (Self.held self.old) name.now (Self.held self.new)) }
+        ensures empties { OnOk result (IsEmptied (Self.held self.old) name.now
+            (Self.held self.new)) }
         ensures name { OnOk result (Self.begun self.new ≡ name.now) }
         ensures refused { OnErr result (Self.held self.new ≡ Self.held self.old) }
         ensures refused_name { OnErr result (Self.begun self.new ≡ Self.begun self.old) }
@@ -43,11 +46,13 @@ pub trait Store: Sink {
         ensures no_memory { IsErrOf result NoMemory → Self.faults self.new ≡ Self.faults self.old };
 }
 
-/// Writes all of `bytes`, in as many calls as it takes. After a refusal some front of them is written, and never
-/// all of them.
+/// Writes all of `bytes`, in as many calls as it takes. After a refusal a proper prefix of
+/// them is written.
 pub fn write_all<S: Sink>(sink: &mut S, bytes: &[u8]) -> Result<(), OutsideFault>
-    ensures grows { OnOk result (Grows (S.held sink.old) (S.begun sink.old) bytes.now (S.held sink.new)) }
-    ensures part { OnErr result (GrowsPartly (S.held sink.old) (S.begun sink.old) bytes.now (S.held sink.new)) }
+    ensures grows { OnOk result (Grows (S.held sink.old) (S.begun sink.old) bytes.now
+        (S.held sink.new)) }
+    ensures part { OnErr result (GrowsPartly (S.held sink.old) (S.begun sink.old) bytes.now
+        (S.held sink.new)) }
     ensures same_name { S.begun sink.new ≡ S.begun sink.old }
     ensures cause { HasCause (S.faults sink.old) (S.faults sink.new) result }
     ensures unfailing { OnOk result (S.faults sink.new ≡ S.faults sink.old) }

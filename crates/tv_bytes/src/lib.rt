@@ -1,7 +1,7 @@
 //! A list of bytes as one value: a name, or a piece of a file.
 //!
-//! The main type is [`Bytes`], which a clause sees as the list itself, without where it lies or how much
-//! room it has. It is made from a `Vec` and handed back as one without taking memory.
+//! The main type is [`Bytes`], which a clause sees as the list itself, without where it lies or how
+//! much room it has. It is made from a `Vec` and handed back as one without taking memory.
 #![tactic(auto)]
 
 ghost use Rattle.std.specs.Prelude.{◌≡◌, IfOk};

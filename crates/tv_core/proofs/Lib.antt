@@ -1,4 +1,4 @@
-mod Reaching
+mod TwoFiles
 mod Ending
 mod Naming
 mod Sound

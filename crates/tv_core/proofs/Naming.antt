@@ -1,14 +1,15 @@
--- What the symbols and the bodies of a name come to.
+-- The symbols and the bodies of a name.
 use Rattle.std.proofs.Common.{rules, ◌≡◌, ◌≢◌, ℕ, Bool, true, false, List, [], ◌∷◌, ◌<◌, length, get_or, All, cond, Option, Some, None, refl, ap, sym, ◌∙◌, subst}
 use Rattle.std.specs.Prelude.{◌==◌, ◌||◌, is_some, bytes_eq, not, find, if◌then◌else◌}
 use Rattle.std.proofs.lemmas.List.Elements.{All-cons, All-get_or}
 use Rattle.std.proofs.lemmas.Slice.Eq.{bytes_eq-Decides}
 use Rattle.elf_spec.specs.Image.{Image, entry_of, function_named, named_of, named_beside, first_of, values_of}
-use Rattle.elf_spec.specs.declared.Named.TheVariants.{Absent, One}
+use Rattle.elf_spec.specs.declared.SymbolValues.{SymbolValues}
+use Rattle.elf_spec.specs.declared.SymbolValues.TheVariants.{Absent, One, Two}
 use Rattle.c_spec.specs.Unit.{Unit}
-use Rattle.claim_spec.specs.declared.PairKind.{PairKind}
-use Rattle.claim_spec.specs.declared.PairKind.TheVariants.{NoSource, NoSymbol}
-use Rattle.claim_spec.specs.Verdict.{listed, pair_fault, first_unpaired}
+use Rattle.report_spec.specs.declared.PairKind.{PairKind}
+use Rattle.report_spec.specs.declared.PairKind.TheVariants.{NoSource, NoSymbol}
+use Rattle.verdict_spec.specs.Listing.{is_present, has_symbol, listed, pair_fault, first_unpaired}
 
 beside_one : (value entry : ℕ) (other : Option ℕ) → named_beside value other ≡ One entry → value ≡ entry
 beside_one value entry None e = cc
@@ -18,53 +19,33 @@ first_of_one : (values : List ℕ) (entry : ℕ) → named_of values ≡ One ent
 first_of_one [] entry e = cc
 first_of_one (value ∷ values) entry e = ap Some (beside_one value entry (find (λ other. not (other == value)) values) e)
 
--- a name of one function begins there
+-- the function of a name has its entry at the first symbol
 pub one_entry : (image : Image) (name : List ℕ) (entry : ℕ) → function_named image name ≡ One entry → entry_of image name ≡ Some entry
 unfolding function_named entry_of
 one_entry image name entry e = first_of_one (values_of 2 name image) entry e
 
-beside_absent : (value : ℕ) (other : Option ℕ) → named_beside value other ≡ Absent → ⊥
-beside_absent value None e = cc
-beside_absent value (Some other) e = cc
+present : (named : SymbolValues) → named ≢ Absent → is_present named ≡ true
+present Absent there = absurd (there refl)
+present (One value) there = refl
+present (Two value other) there = refl
 
-none_of_absent : (values : List ℕ) → named_of values ≡ Absent → first_of values ≡ None
-none_of_absent [] e = refl
-none_of_absent (value ∷ values) e = absurd (beside_absent value (find (λ other. not (other == value)) values) e)
+-- a name has a symbol exactly where there is a function of it
+pub symbol_there : (image : Image) (name : List ℕ) → function_named image name ≢ Absent → has_symbol image name ≡ true
+symbol_there image name there = present (function_named image name) there
 
--- a name of no function begins nowhere, and the other way round
-pub no_entry : (image : Image) (name : List ℕ) → function_named image name ≡ Absent → entry_of image name ≡ None
-unfolding function_named entry_of
-no_entry image name e = none_of_absent (values_of 2 name image) e
+pub symbol_absent : (image : Image) (name : List ℕ) → function_named image name ≡ Absent → has_symbol image name ≡ false
+symbol_absent image name e = ap is_present e
 
-absent_of_none : (values : List ℕ) → first_of values ≡ None → named_of values ≡ Absent
-absent_of_none [] e = refl
-absent_of_none (value ∷ values) e = cc
-
-pub no_function : (image : Image) (name : List ℕ) → entry_of image name ≡ None → function_named image name ≡ Absent
-unfolding function_named entry_of
-no_function image name e = absent_of_none (values_of 2 name image) e
-
-is_some_of : (image : Image) (name : List ℕ) (entry : Option ℕ) → entry_of image name ≡ entry → function_named image name ≢ Absent → is_some entry ≡ true
-is_some_of image name None e there = absurd (there (no_function image name e))
-is_some_of image name (Some entry) e there = refl
-
--- a name has an entry exactly where it has a function
-pub entry_there : (image : Image) (name : List ℕ) → function_named image name ≢ Absent → is_some (entry_of image name) ≡ true
-entry_there image name there = is_some_of image name (entry_of image name) refl there
-
-pub entry_absent : (image : Image) (name : List ℕ) → function_named image name ≡ Absent → is_some (entry_of image name) ≡ false
-entry_absent image name e = ap is_some (no_entry image name e)
-
-listed_by : (image : Image) (unit : Unit) (there : Bool) → is_some (entry_of image unit.name) ≡ there
+listed_by : (image : Image) (unit : Unit) (there : Bool) → has_symbol image unit.name ≡ there
     → listed image unit ≡ (if there then unit.name ∷ [] else [])
 unfolding listed
 listed_by image unit there e = ap (λ b. if b then unit.name ∷ [] else []) e
 
 pub none_listed : (image : Image) (unit : Unit) → function_named image unit.name ≡ Absent → listed image unit ≡ []
-none_listed image unit absent = listed_by image unit false (entry_absent image unit.name absent)
+none_listed image unit absent = listed_by image unit false (symbol_absent image unit.name absent)
 
 pub one_listed : (image : Image) (unit : Unit) → function_named image unit.name ≢ Absent → listed image unit ≡ unit.name ∷ []
-one_listed image unit there = listed_by image unit true (entry_there image unit.name there)
+one_listed image unit there = listed_by image unit true (symbol_there image unit.name there)
 
 -- ---- pairs
 
@@ -76,9 +57,9 @@ or_false true = refl
 or_false false = refl
 
 fault_is : (image : Image) (unit : Unit) (name : List ℕ) (body symbol : Bool) → bytes_eq name unit.name ≡ body
-    → is_some (entry_of image name) ≡ symbol → pair_fault image unit name ≡ fault_by body symbol
+    → has_symbol image name ≡ symbol → pair_fault image unit name ≡ fault_by body symbol
 fault_is image unit name body symbol e f =
-    ap (λ b. fault_by b (is_some (entry_of image name))) (or_false (bytes_eq name unit.name) ∙ e) ∙ ap (λ s. fault_by body s) f
+    ap (λ b. fault_by b (has_symbol image name)) (or_false (bytes_eq name unit.name) ∙ e) ∙ ap (λ s. fault_by body s) f
 
 differs : (xs ys : List ℕ) (b : Bool) → bytes_eq xs ys ≡ b → (xs ≡ ys → ⊥) → b ≡ false
 differs xs ys true e apart = absurd (apart ((bytes_eq-Decides xs ys).0 e))
@@ -86,23 +67,23 @@ differs xs ys false e apart = refl
 
 pub no_symbol : (image : Image) (unit : Unit) (name : List ℕ) → name ≡ unit.name → function_named image name ≡ Absent
     → pair_fault image unit name ≡ Some NoSymbol
-no_symbol image unit name e absent = fault_is image unit name true false ((bytes_eq-Decides name unit.name).1 e) (entry_absent image name absent)
+no_symbol image unit name e absent = fault_is image unit name true false ((bytes_eq-Decides name unit.name).1 e) (symbol_absent image name absent)
 
 pub no_fault : (image : Image) (unit : Unit) (name : List ℕ) → name ≡ unit.name → function_named image name ≢ Absent
     → pair_fault image unit name ≡ None
-no_fault image unit name e there = fault_is image unit name true true ((bytes_eq-Decides name unit.name).1 e) (entry_there image name there)
+no_fault image unit name e there = fault_is image unit name true true ((bytes_eq-Decides name unit.name).1 e) (symbol_there image name there)
 
-faultless : (image : Image) (unit : Unit) (name : List ℕ) (body symbol : Bool) → bytes_eq name unit.name ≡ body
-    → is_some (entry_of image name) ≡ symbol → fault_by body symbol ≡ None → (name ≡ unit.name) × (is_some (entry_of image name) ≡ true)
-faultless image unit name true true e f none = ((bytes_eq-Decides name unit.name).0 e, f)
-faultless image unit name true false e f none = cc
-faultless image unit name false symbol e f none = cc
+symbol_of_faultless : (body symbol : Bool) → fault_by body symbol ≡ None → symbol ≡ true
+symbol_of_faultless true true none = refl
+symbol_of_faultless true false none = absurd (cc)
+symbol_of_faultless false symbol none = absurd (cc)
 
 pub function_of_faultless : (image : Image) (unit : Unit) (name : List ℕ) → pair_fault image unit name ≡ None → function_named image name ≢ Absent
 function_of_faultless image unit name none absent =
-    let e = fault_is image unit name (bytes_eq name unit.name) (is_some (entry_of image name)) refl refl in
-    let there = (faultless image unit name (bytes_eq name unit.name) (is_some (entry_of image name)) refl refl (sym e ∙ none)).1 in
-    let gone = entry_absent image name absent in cc
+    let e = fault_is image unit name (bytes_eq name unit.name) (has_symbol image name) refl refl in
+    let there = symbol_of_faultless (bytes_eq name unit.name) (has_symbol image name) (sym e ∙ none) in
+    let gone = symbol_absent image name absent in
+    absurd (cc)
 
 none_case : {X : Type 0} (p : X → Bool) (x : X) (xs : List X) (b : Bool) → p x ≡ b → cond b (Some x) (find p xs) ≡ None
     → (find p xs ≡ None → All (λ y. p y ≡ false) xs) → All (λ y. p y ≡ false) (x ∷ xs)

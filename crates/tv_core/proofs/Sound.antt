@@ -56,4 +56,4 @@ sound_code image entry size sound sized =
     let space = space_case image entry size some sound sized (at_most (entry + size) (2 ^ 32)) in
     let fixed = fixed_case image entry size some sound sized in
     let aligned = aligned_case image entry size some (record { in_space = space; fixed = fixed }) sound sized (equal_or (entry % 4)) (equal_or (size % 4)) in
-    record { not_empty = some; in_space = space; fixed = fixed; entry_aligned = aligned.0; size_aligned = aligned.1 }
+    record { not_empty = some; range_fixed = record { in_space = space; fixed = fixed }; entry_aligned = aligned.0; size_aligned = aligned.1 }

@@ -1,29 +1,32 @@
-ghost use Rattle.std.specs.Prelude.{◌≡◌, ◌≢◌, ℕ, List, Option, Some, None, IsSome, IfSome, IfNone, IfOk, IfErr, IsTrue, OnErr, IsErrOf};
+ghost use Rattle.std.specs.Prelude.{◌≡◌, ◌≢◌, ℕ, List, Option, Some, None, IsSome, IfSome, IfNone};
+ghost use Rattle.std.specs.Prelude.{IfOk, IfErr, IsTrue, OnErr, IsErrOf};
 ghost use Rattle.elf_spec.specs.Image.{function_named, size_at};
-ghost use Rattle.elf_spec.specs.declared.Named.TheVariants.{Absent};
+ghost use Rattle.elf_spec.specs.declared.SymbolValues.TheVariants.{Absent};
 ghost use Rattle.claim_spec.specs.Claim.{IsValid};
 ghost use Rattle.code_spec.specs.Code.{IsStack};
 ghost use Rattle.code_spec.specs.Faults.{IsFirst, IsReachFault, ReachesNoFault};
-ghost use Rattle.claim_spec.specs.Verdict as claim;
+ghost use Rattle.report_spec.specs.Verdict as verdicts;
 ghost use Rattle.tv_base.specs.declared.faults.OutsideFault.TheVariants.{NoMemory};
 ghost use Rattle.report_text.specs.Judgements.{judgement_of};
 ghost use Rattle.report_text.specs.Verdicts.{verdict_of};
-ghost use Rattle.claim_spec.specs.declared.PairKind.{PairKind as pair_kind};
+ghost use Rattle.report_spec.specs.declared.PairKind.{PairKind as pair_kind};
+ghost use Rattle.verdict_spec.specs.Listing as listing;
 ghost use Rattle.verdict_spec.specs.Verdicts as spec;
-ghost use Rattle.verdict_spec.specs.Verdicts.{Lists, Pairs, Judges, IsSound, HasCodeFault, HasSoundCode, IsJudgement};
+ghost use Rattle.verdict_spec.specs.Verdicts.{Lists, Pairs, Judges, IsSound, HasCodeFault};
+ghost use Rattle.verdict_spec.specs.Verdicts.{HasSoundCode, IsJudgement};
 
 use crate::listing::{first_unpaired, pair_fault};
-use claim_spec::{PairKind, Quantity};
+use code_reach::{CodeError, CodeFault, reach};
 use code_spec::CodeKind;
-use decompile::{CodeError, CodeFault, reach};
 use elf_read::Image;
-use elf_spec::Named;
+use elf_spec::SymbolValues;
+use report_spec::{PairKind, Quantity};
 use report_text::{Judgement, Verdict};
 use std::alloc::{AllocError, Global};
-use straight_code::{crooked_word, decide};
+use straight_code::{decide, first_not_straight};
 use thin_source::Unit;
 use tv_base::OutsideFault;
-use tv_base::limits::FUNCTIONS;
+use tv_base::limits::MAX_FUNCTIONS;
 use tv_bytes::Bytes;
 
 /// The first fault of what the function at an entry reaches.
@@ -34,7 +37,8 @@ fn reach_fault(
 ) -> Result<Option<CodeFault>, AllocError>
     requires { IsSome (size_at image.now entry) }
     ensures sound { IfOk result (λ found. IfNone found (ReachesNoFault image.now entry)) }
-    ensures fault { IfOk result (λ found. IfSome found (λ fault. IsFirst (IsReachFault image.now entry) fault.kind fault.address)) }
+    ensures fault { IfOk result (λ found. IfSome found
+        (λ fault. IsFirst (IsReachFault image.now entry) fault.kind fault.address)) }
 {
     let error = match reach(alloc, image, entry) {
         Ok(_) => return Ok(None),
@@ -53,18 +57,20 @@ fn find_code(
     name: &[u8],
 ) -> Result<Result<u32, CodeFault>, AllocError>
     requires { function_named image.now name.now ≢ Absent }
-    ensures ok { IfOk result (λ found. IfOk found (λ entry. HasSoundCode image.now name.now entry)) }
-    ensures fault { IfOk result (λ found. IfErr found (λ fault. HasCodeFault image.now name.now fault.kind fault.address)) }
+    ensures ok { IfOk result (λ found. IfOk found
+        (λ entry. HasSoundCode image.now name.now entry)) }
+    ensures fault { IfOk result (λ found. IfErr found
+        (λ fault. HasCodeFault image.now name.now fault.kind fault.address)) }
 {
     let entry = match image.function(name) {
-        Named::One(entry) => entry,
-        Named::Two(_, address) => {
+        SymbolValues::One(entry) => entry,
+        SymbolValues::Two(_, address) => {
             return Ok(Err(CodeFault {
                 kind: CodeKind::Ambiguous,
                 address,
             }));
         }
-        Named::Absent => unreachable!(),
+        SymbolValues::Absent => unreachable!(),
     };
     match reach_fault(alloc, image, entry)? {
         Some(fault) => Ok(Err(fault)),
@@ -72,7 +78,8 @@ fn find_code(
     }
 }
 
-/// Whether the code of a function is straight, and is accepted. The function is the one of the source.
+/// Whether the code of a function is straight-line, and is accepted. The function is the one of the
+/// source.
 fn is_proved(
     alloc: Global,
     image: &Image<'_>,
@@ -84,9 +91,10 @@ fn is_proved(
     requires sized { size_at image.now entry ≡ Some size }
     ensures decided { IfOk result (λ valid. valid ≡ spec.is_proved image.now unit.now entry size) }
     ensures stack { IfOk result (λ valid. IsTrue valid → IsStack image.now entry 0) }
-    ensures sound { IfOk result (λ valid. IsTrue valid → IsValid image.now unit.now unit.now.name 0) }
+    ensures sound { IfOk result (λ valid. IsTrue valid
+        → IsValid image.now unit.now unit.now.name 0) }
 {
-    if crooked_word(image, entry, size).is_some() {
+    if first_not_straight(image, entry, size).is_some() {
         return Ok(false);
     }
     let valid = decide(alloc, image, unit, entry, size)?;
@@ -101,9 +109,11 @@ fn judge_function(
     entry: u32,
 ) -> Result<Judgement, AllocError>
     requires { HasSoundCode image.now unit.now.name entry }
-    ensures judged { IfOk result (λ judgement. IsJudgement image.now unit.now (judgement_of judgement)) }
+    ensures judged { IfOk result (λ judgement. IsJudgement image.now unit.now
+        (judgement_of judgement)) }
     ensures named { IfOk result (λ judgement. judgement.name ≡ unit.now.name) }
-    ensures sound { IfOk result (λ judgement. IsTrue judgement.valid → IsValid image.now unit.now judgement.name judgement.stack) }
+    ensures sound { IfOk result (λ judgement. IsTrue judgement.valid
+        → IsValid image.now unit.now judgement.name judgement.stack) }
 {
     let size = image.size_at(entry).unwrap();
     let valid = is_proved(alloc, image, unit, entry, size)?;
@@ -117,7 +127,7 @@ fn judge_function(
 
 /// A verdict that refuses a pair.
 fn refused_pair(alloc: Global, kind: PairKind, name: &[u8]) -> Result<Verdict, OutsideFault>
-    ensures ok { IfOk result (λ verdict. verdict_of verdict ≡ claim.RefusedPair kind name.now) }
+    ensures ok { IfOk result (λ verdict. verdict_of verdict ≡ verdicts.RefusedPair kind name.now) }
     ensures memory { OnErr result (IsErrOf result NoMemory) }
 {
     let name = Bytes::copied(alloc, name)?;
@@ -126,7 +136,8 @@ fn refused_pair(alloc: Global, kind: PairKind, name: &[u8]) -> Result<Verdict, O
 
 /// A verdict that refuses code.
 fn refused_code(alloc: Global, name: &[u8], fault: &CodeFault) -> Result<Verdict, OutsideFault>
-    ensures ok { IfOk result (λ verdict. verdict_of verdict ≡ claim.RefusedCode fault.now.kind name.now fault.now.address) }
+    ensures ok { IfOk result (λ verdict. verdict_of verdict
+        ≡ verdicts.RefusedCode fault.now.kind name.now fault.now.address) }
     ensures memory { OnErr result (IsErrOf result NoMemory) }
 {
     let name = Bytes::copied(alloc, name)?;
@@ -144,11 +155,14 @@ fn judge_name(
     unit: &Unit,
     name: &[u8],
 ) -> Result<Result<Judgement, CodeFault>, AllocError>
-    requires { claim.pair_fault image.now unit.now name.now ≡ None }
-    ensures judged { IfOk result (λ found. IfOk found (λ judgement. IsJudgement image.now unit.now (judgement_of judgement))) }
+    requires { listing.pair_fault image.now unit.now name.now ≡ None }
+    ensures judged { IfOk result (λ found. IfOk found
+        (λ judgement. IsJudgement image.now unit.now (judgement_of judgement))) }
     ensures named { IfOk result (λ found. IfOk found (λ judgement. judgement.name ≡ name.now)) }
-    ensures sound { IfOk result (λ found. IfOk found (λ judgement. IsTrue judgement.valid → IsValid image.now unit.now judgement.name judgement.stack)) }
-    ensures fault { IfOk result (λ found. IfErr found (λ fault. HasCodeFault image.now name.now fault.kind fault.address)) }
+    ensures sound { IfOk result (λ found. IfOk found (λ judgement. IsTrue judgement.valid
+        → IsValid image.now unit.now judgement.name judgement.stack)) }
+    ensures fault { IfOk result (λ found. IfErr found
+        (λ fault. HasCodeFault image.now name.now fault.kind fault.address)) }
 {
     match find_code(alloc, image, name)? {
         Ok(entry) => {
@@ -166,10 +180,12 @@ fn judge_paired(
     unit: &Unit,
     names: &[Bytes],
 ) -> Result<Verdict, OutsideFault>
-    requires { claim.first_unpaired image.now unit.now names.now ≡ None }
-    ensures exact { IfOk result (λ verdict. (elf c : List ℕ) (functions : Option (List (List ℕ))) → Pairs elf c functions image.now unit.now names.now
+    requires { listing.first_unpaired image.now unit.now names.now ≡ None }
+    ensures exact { IfOk result (λ verdict. (elf c : List ℕ) (functions : Option (List (List ℕ)))
+        → Pairs elf c functions image.now unit.now names.now
         → Judges elf c functions (verdict_of verdict)) }
-    ensures sound { IfOk result (λ verdict. (elf c : List ℕ) (functions : Option (List (List ℕ))) → Lists elf c functions image.now unit.now names.now
+    ensures sound { IfOk result (λ verdict. (elf c : List ℕ) (functions : Option (List (List ℕ)))
+        → Lists elf c functions image.now unit.now names.now
         → IsSound elf c functions (verdict_of verdict)) }
     ensures memory { OnErr result (IsErrOf result NoMemory) }
 {
@@ -191,8 +207,10 @@ fn refused_unpaired(
     unit: &Unit,
     name: &[u8],
 ) -> Result<Verdict, OutsideFault>
-    requires { IsSome (claim.pair_fault image.now unit.now name.now) }
-    ensures ok { IfOk result (λ verdict. (kind : pair_kind) × (verdict_of verdict ≡ claim.RefusedPair kind name.now) × (claim.pair_fault image.now unit.now name.now ≡ Some kind)) }
+    requires { IsSome (listing.pair_fault image.now unit.now name.now) }
+    ensures ok { IfOk result (λ verdict. (kind : pair_kind)
+        × (verdict_of verdict ≡ verdicts.RefusedPair kind name.now)
+        × (listing.pair_fault image.now unit.now name.now ≡ Some kind)) }
     ensures memory { OnErr result (IsErrOf result NoMemory) }
 {
     let kind = pair_fault(image, unit, name).unwrap();
@@ -206,16 +224,18 @@ pub(crate) fn judge_names(
     unit: &Unit,
     names: &[Bytes],
 ) -> Result<Verdict, OutsideFault>
-    ensures exact { IfOk result (λ verdict. (elf c : List ℕ) (functions : Option (List (List ℕ))) → Lists elf c functions image.now unit.now names.now
+    ensures exact { IfOk result (λ verdict. (elf c : List ℕ) (functions : Option (List (List ℕ)))
+        → Lists elf c functions image.now unit.now names.now
         → Judges elf c functions (verdict_of verdict)) }
-    ensures sound { IfOk result (λ verdict. (elf c : List ℕ) (functions : Option (List (List ℕ))) → Lists elf c functions image.now unit.now names.now
+    ensures sound { IfOk result (λ verdict. (elf c : List ℕ) (functions : Option (List (List ℕ)))
+        → Lists elf c functions image.now unit.now names.now
         → IsSound elf c functions (verdict_of verdict)) }
     ensures memory { OnErr result (IsErrOf result NoMemory) }
 {
     if names.is_empty() {
         return refused_pair(alloc, PairKind::NothingListed, b"-");
     }
-    if names.len() > FUNCTIONS {
+    if names.len() > MAX_FUNCTIONS {
         return Ok(Verdict::TooLarge(Quantity::Functions));
     }
     match first_unpaired(image, unit, names) {

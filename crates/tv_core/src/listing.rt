@@ -1,10 +1,10 @@
 ghost use Rattle.std.specs.Prelude.{◌≡◌, IfOk, map, option_map};
-ghost use Rattle.claim_spec.specs.Verdict as claim;
+ghost use Rattle.verdict_spec.specs.Listing as spec;
 ghost use Rattle.tv_words.specs.Jobs.{proving_of};
 
-use claim_spec::PairKind;
 use elf_read::Image;
-use elf_spec::Named;
+use elf_spec::SymbolValues;
+use report_spec::PairKind;
 use std::alloc::{AllocError, Global};
 use thin_source::Unit;
 use tv_bytes::Bytes;
@@ -23,10 +23,10 @@ fn given_names(alloc: Global, functions: &[&str]) -> Result<Vec<Bytes>, AllocErr
 
 /// The names with a body and a symbol, in source order.
 fn listed_names(alloc: Global, image: &Image<'_>, unit: &Unit) -> Result<Vec<Bytes>, AllocError>
-    ensures { IfOk result (λ names. names.items ≡ claim.listed image.now unit.now) }
+    ensures { IfOk result (λ names. names.items ≡ spec.listed image.now unit.now) }
 {
     let mut names = Vec::new(alloc);
-    if image.function(unit.name()) == Named::Absent {
+    if image.function(unit.name()) == SymbolValues::Absent {
         return Ok(names);
     }
     names.push(Bytes::copied(alloc, unit.name())?)?;
@@ -40,7 +40,8 @@ pub(crate) fn names(
     image: &Image<'_>,
     unit: &Unit,
 ) -> Result<Vec<Bytes>, AllocError>
-    ensures { IfOk result (λ names. names.items ≡ claim.names_of (proving_of job.now).functions image.now unit.now) }
+    ensures { IfOk result (λ names. names.items
+        ≡ spec.names_of (proving_of job.now).functions image.now unit.now) }
 {
     match &job.functions {
         Some(functions) => given_names(alloc, functions.as_slice()),
@@ -50,12 +51,12 @@ pub(crate) fn names(
 
 /// Why a name can't be validated.
 pub(crate) fn pair_fault(image: &Image<'_>, unit: &Unit, name: &[u8]) -> Option<PairKind>
-    ensures { result ≡ claim.pair_fault image.now unit.now name.now }
+    ensures { result ≡ spec.pair_fault image.now unit.now name.now }
 {
     if name != unit.name() {
         return Some(PairKind::NoSource);
     }
-    if image.function(name) == Named::Absent {
+    if image.function(name) == SymbolValues::Absent {
         return Some(PairKind::NoSymbol);
     }
     None
@@ -67,7 +68,8 @@ pub(crate) fn first_unpaired<'a>(
     unit: &Unit,
     names: &'a [Bytes],
 ) -> Option<&'a Bytes>
-    ensures { option_map (λ name. name.now) result ≡ claim.first_unpaired image.now unit.now names.now }
+    ensures { option_map (λ name. name.now) result
+        ≡ spec.first_unpaired image.now unit.now names.now }
 {
     names
         .iter()

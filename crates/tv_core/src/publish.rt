@@ -1,11 +1,11 @@
-ghost use Rattle.std.specs.Prelude.{◌≡◌, ◌⊎◌, ℕ, OnOk, OnErr, IsErrOf};
-ghost use Rattle.claim_spec.specs.Verdict.{certificate_of, report_of};
+ghost use Rattle.std.specs.Prelude.{◌≡◌, OnOk, IsErrOf};
+ghost use Rattle.report_spec.specs.Certificate.{certificate_of};
 ghost use Rattle.tv_base.specs.declared.faults.OutsideFault.TheVariants.{NoMemory};
 ghost use Rattle.tv_base.specs.Faults.{HasCause};
-ghost use Rattle.tv_base.specs.Writing.{Grows, GrowsPartly};
 ghost use Rattle.report_text.specs.Judgements.{judgements_of};
 ghost use Rattle.report_text.specs.Verdicts.{verdict_of};
-ghost use Rattle.tv_core.specs.Ends.{Becomes, BecomesPartly, LeavesUnder, LeavesPartly, PublishesPartly, IsCausedByEither};
+ghost use Rattle.tv_core.specs.Objects.{outputs_of, sink_state};
+ghost use Rattle.tv_core.specs.Ends.{Becomes, BecomesPartly, LeavesUnder, LeavesPartly, Publishes};
 
 use report_text::{Judgement, Verdict, certificate, report};
 use std::alloc::Global;
@@ -18,8 +18,10 @@ fn store_certificate<K: Store>(
     judgements: &[Judgement],
     store: &mut K,
 ) -> Result<(), OutsideFault>
-    ensures ok { OnOk result (Becomes (K.held store.old) name.now (certificate_of (judgements_of judgements.now)) (K.held store.new)) }
-    ensures part { BecomesPartly (K.held store.old) name.now (certificate_of (judgements_of judgements.now)) (K.held store.new) }
+    ensures ok { OnOk result (Becomes (K.held store.old) name.now
+        (certificate_of (judgements_of judgements.now)) (K.held store.new)) }
+    ensures part { BecomesPartly (K.held store.old) name.now
+        (certificate_of (judgements_of judgements.now)) (K.held store.new) }
     ensures cause { HasCause (K.faults store.old) (K.faults store.new) result }
     ensures unfailing { OnOk result (K.faults store.new ≡ K.faults store.old) }
     ensures no_memory { IsErrOf result NoMemory → K.faults store.new ≡ K.faults store.old }
@@ -37,8 +39,10 @@ fn store_verdict<K: Store>(
     verdict: &Verdict,
     store: &mut K,
 ) -> Result<(), OutsideFault>
-    ensures ok { OnOk result (LeavesUnder name.now (verdict_of verdict.now) (K.held store.old) (K.held store.new)) }
-    ensures part { LeavesPartly name.now (verdict_of verdict.now) (K.held store.old) (K.held store.new) }
+    ensures ok { OnOk result (LeavesUnder name.now (verdict_of verdict.now) (K.held store.old)
+        (K.held store.new)) }
+    ensures part { LeavesPartly name.now (verdict_of verdict.now) (K.held store.old)
+        (K.held store.new) }
     ensures cause { HasCause (K.faults store.old) (K.faults store.new) result }
     ensures unfailing { OnOk result (K.faults store.new ≡ K.faults store.old) }
     ensures no_memory { IsErrOf result NoMemory → K.faults store.new ≡ K.faults store.old }
@@ -60,14 +64,12 @@ pub(crate) fn publish<R: Sink, K: Store>(
     out: &mut R,
     store: &mut K,
 ) -> Result<(), OutsideFault>
-    ensures reported { OnOk result (Grows (R.held out.old) (R.begun out.old) (report_of (verdict_of verdict.now)) (R.held out.new)) }
-    ensures stored { OnOk result (LeavesUnder name.now (verdict_of verdict.now) (K.held store.old) (K.held store.new)) }
-    ensures part { OnErr result (PublishesPartly name.now (verdict_of verdict.now) (R.begun out.old) (R.held out.old) (R.held out.new) (K.held store.old) (K.held store.new)) }
-    ensures store_part { LeavesPartly name.now (verdict_of verdict.now) (K.held store.old) (K.held store.new) }
-    ensures store_first { (K.faults store.new ≡ K.faults store.old) ⊎ (R.held out.new ≡ R.held out.old) }
-    ensures cause { IsCausedByEither (R.faults out.old) (R.faults out.new) (K.faults store.old) (K.faults store.new) result }
-    ensures unfailing { OnOk result ((R.faults out.new ≡ R.faults out.old) × (K.faults store.new ≡ K.faults store.old)) }
-    ensures no_memory { IsErrOf result NoMemory → (R.faults out.new ≡ R.faults out.old) × (K.faults store.new ≡ K.faults store.old) }
+    ensures { Publishes name.now (verdict_of verdict.now)
+        (outputs_of (sink_state (R.held out.old) (R.begun out.old) (R.faults out.old))
+        (sink_state (K.held store.old) (K.begun store.old) (K.faults store.old)))
+        (outputs_of (sink_state (R.held out.new) (R.begun out.new) (R.faults out.new))
+        (sink_state (K.held store.new) (K.begun store.new) (K.faults store.new)))
+        result }
 {
     let text = report(alloc, verdict)?;
     store_verdict(alloc, name, verdict, store)?;

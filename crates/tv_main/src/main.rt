@@ -1,7 +1,7 @@
 //! The program `tv`: a run on the files and the standard output of the operating system.
 //!
-//! It makes the objects of the outside, calls [`tv_core::run`] with the words that it was started with, and
-//! exits with its answer. All that is claimed of a run is a clause of that call.
+//! It makes the objects of the outside, calls [`tv_core::run`] with the words that it was started
+//! with, and exits with its answer. All that is claimed of a run is a clause of that call.
 #![tactic(auto)]
 
 use std::process::ExitCode;

@@ -1,3 +1,4 @@
 pub mod Given
 pub mod Shelf
 pub mod Plans
+pub mod Contents

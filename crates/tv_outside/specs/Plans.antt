@@ -41,7 +41,7 @@ called plan = record plan { calls = next_call plan }
 abbrev pub FailsNext : Plan → Type 0
 FailsNext plan = Contains plan.failing (next_call plan)
 
--- a call fails where the plan has it fail, or for this other cause, and else it doesn't
+-- a call fails where the plan has it fail, or for this other cause, and nowhere else
 abbrev pub GoesAs : {T : Type 0} → Plan → (cause : Type 0) → Result T OutsideFault → Type 0
 GoesAs plan cause (Ok value) = FailsNext plan → ⊥
 GoesAs plan cause (Err Failed) = FailsNext plan ⊎ cause

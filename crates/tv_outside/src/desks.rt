@@ -1,16 +1,20 @@
-ghost use Rattle.std.specs.Prelude.{◌≡◌, ◌<◌, ◌≤◌, [], length, map, min, string_bytes, take, Some, None, IfSome, IsOk, IfOk, OnOk, OnErr, IsErrOf};
+ghost use Rattle.std.specs.Prelude.{◌≡◌, ◌<◌, ◌≤◌, [], length, map, min, string_bytes, Some, None};
+ghost use Rattle.std.specs.Prelude.{IfSome, IsOk, IfOk, OnOk, OnErr, IsErrOf};
 ghost use Rattle.tv_base.specs.declared.faults.OutsideFault.TheVariants.{NoMemory};
 ghost use Rattle.tv_base.specs.Faults.{HasCause};
-ghost use Rattle.tv_base.specs.Reading.{HandsOver, IsAtEnd, with_name};
+ghost use Rattle.tv_base.specs.Reading.{HandsOverFirst, ZeroAtEnd, with_name};
+ghost use Rattle.tv_outside.specs.Contents.{desk_bytes, desk_left, desk_opened, desk_faults};
+ghost use Rattle.tv_outside.specs.Contents.{steady_bytes, steady_left, steady_opened};
+ghost use Rattle.tv_outside.specs.Contents.{steady_faults};
 ghost use Rattle.tv_outside.specs.Given.{bytes_of, steady_bytes_of};
 ghost use Rattle.tv_outside.specs.Plans.{desk_plan, fresh, called, GoesAs, TakesAs};
 
 use crate::given::{GivenFile, copy_front, find};
 use crate::mishaps::Mishaps;
-use std::alloc::Global;
+use std::alloc::{AllocError, Global};
 use tv_base::{Desk, OutsideFault};
 
-/// Files in memory, of which calls can fail. It tells their bytes, and which were begun.
+/// Files in memory, of which calls can fail. Contracts see their bytes, and which were begun.
 #[derive(Drop)]
 pub struct MemDesk<'a> {
     files: &'a [GivenFile<'a>],
@@ -24,10 +28,10 @@ impl<'a> MemDesk<'a> {
     /// A desk with these files, no file begun. The calls with the numbers `failing` fail, the first
     /// call having the number 1, and a read hands over at most `most` bytes.
     pub fn new(alloc: Global, files: &'a [GivenFile<'a>], failing: &'a [u64], most: usize) -> Self
-        ensures bytes { ⟦<MemDesk<'a> as Desk>⟧.bytes result ≡ bytes_of files.now }
-        ensures left { ⟦<MemDesk<'a> as Desk>⟧.left result ≡ Some [] }
-        ensures opened { ⟦<MemDesk<'a> as Desk>⟧.opened result ≡ Some [] }
-        ensures faults { ⟦<MemDesk<'a> as Desk>⟧.faults result ≡ 0 }
+        ensures bytes { desk_bytes result ≡ bytes_of files.now }
+        ensures left { desk_left result ≡ Some [] }
+        ensures opened { desk_opened result ≡ Some [] }
+        ensures faults { desk_faults result ≡ 0 }
         ensures plan { desk_plan result ≡ fresh failing.now most }
     {
         MemDesk {
@@ -41,37 +45,49 @@ impl<'a> MemDesk<'a> {
 
     /// How many calls failed.
     pub fn faults(&self) -> u64
-        ensures { result ≡ ⟦<MemDesk<'a> as Desk>⟧.faults self.now }
+        ensures { result ≡ desk_faults self.now }
     {
         self.mishaps.faults
     }
 }
 
+/// Adds a name to those that were begun.
+fn add_name(alloc: Global, opened: &mut Vec<String>, name: &str) -> Result<(), AllocError>
+    ensures added { OnOk result (Some (map string_bytes opened.new.items)
+        ≡ with_name (Some (map string_bytes opened.old.items)) name.now) }
+    ensures refused { OnErr result (opened.new.items ≡ opened.old.items) }
+{
+    let name = String::from_str(alloc, name)?;
+    opened.push(name)?;
+    Ok(())
+}
+
 impl<'a> Desk for MemDesk<'a> {
-    ghost bytes = { λ desk. bytes_of desk.files.now };
+    ghost bytes = { desk_bytes };
 
-    ghost left = { λ desk. Some desk.left.now };
+    ghost left = { desk_left };
 
-    ghost opened = { λ desk. Some (map string_bytes desk.opened.items) };
+    ghost opened = { desk_opened };
 
-    ghost faults = { λ desk. desk.mishaps.faults };
+    ghost faults = { desk_faults };
 
     fn begin(&mut self, name: &str) -> Result<(), OutsideFault>
-        ensures planned { GoesAs (desk_plan self.old) (⟦<MemDesk<'a> as Desk>⟧.bytes self.old name.now ≡ None) result }
+        ensures planned { GoesAs (desk_plan self.old) (desk_bytes self.old name.now ≡ None) result }
         ensures counted { desk_plan self.new ≡ called (desk_plan self.old) }
-        ensures begins { OnOk result (⟦<MemDesk<'a> as Desk>⟧.left self.new ≡ ⟦<MemDesk<'a> as Desk>⟧.bytes self.old name.now) }
-        ensures opens { OnOk result (⟦<MemDesk<'a> as Desk>⟧.opened self.new ≡ with_name (⟦<MemDesk<'a> as Desk>⟧.opened self.old) name.now) }
-        ensures same_bytes { ⟦<MemDesk<'a> as Desk>⟧.bytes self.new ≡ ⟦<MemDesk<'a> as Desk>⟧.bytes self.old }
-        ensures refused { OnErr result (⟦<MemDesk<'a> as Desk>⟧.left self.new ≡ ⟦<MemDesk<'a> as Desk>⟧.left self.old) }
-        ensures refused_name { OnErr result (⟦<MemDesk<'a> as Desk>⟧.opened self.new ≡ ⟦<MemDesk<'a> as Desk>⟧.opened self.old) }
-        ensures cause { HasCause (⟦<MemDesk<'a> as Desk>⟧.faults self.old) (⟦<MemDesk<'a> as Desk>⟧.faults self.new) result }
-        ensures unfailing { OnOk result (⟦<MemDesk<'a> as Desk>⟧.faults self.new ≡ ⟦<MemDesk<'a> as Desk>⟧.faults self.old) }
-        ensures no_memory { IsErrOf result NoMemory → ⟦<MemDesk<'a> as Desk>⟧.faults self.new ≡ ⟦<MemDesk<'a> as Desk>⟧.faults self.old }
+        ensures begins { OnOk result (desk_left self.new ≡ desk_bytes self.old name.now) }
+        ensures opens { OnOk result (desk_opened self.new ≡ with_name
+            (desk_opened self.old) name.now) }
+        ensures same_bytes { desk_bytes self.new ≡ desk_bytes self.old }
+        ensures refused { OnErr result (desk_left self.new ≡ desk_left self.old) }
+        ensures refused_name { OnErr result (desk_opened self.new ≡ desk_opened self.old) }
+        ensures cause { HasCause (desk_faults self.old) (desk_faults self.new) result }
+        ensures unfailing { OnOk result (desk_faults self.new ≡ desk_faults self.old) }
+        ensures no_memory { IsErrOf result NoMemory → desk_faults self.new ≡ desk_faults self.old }
     {
         self.mishaps.count_call()?;
         match find(self.files, name) {
             Some(bytes) => {
-                self.opened.push(String::from_str(self.alloc, name)?)?;
+                add_name(self.alloc, &mut self.opened, name)?;
                 self.left = bytes;
                 Ok(())
             }
@@ -81,17 +97,19 @@ impl<'a> Desk for MemDesk<'a> {
 
     fn read(&mut self, buf: &mut [u8]) -> Result<usize, OutsideFault>
         requires { 0 < length buf.old }
-        ensures planned { IfSome (⟦<MemDesk<'a> as Desk>⟧.left self.old) (λ left. TakesAs (desk_plan self.old) (min (length left) (length buf.old)) result) }
+        ensures planned { IfSome (desk_left self.old) (λ left. TakesAs (desk_plan self.old)
+            (min (length left) (length buf.old)) result) }
         ensures counted { desk_plan self.new ≡ called (desk_plan self.old) }
         ensures bound { IfOk result (λ count. count ≤ length buf.old) }
-        ensures hands_over { IfOk result (λ count. HandsOver (⟦<MemDesk<'a> as Desk>⟧.left self.old) (take count buf.new) (⟦<MemDesk<'a> as Desk>⟧.left self.new)) }
-        ensures end { IfOk result (λ count. count ≡ 0 → IsAtEnd (⟦<MemDesk<'a> as Desk>⟧.left self.old)) }
-        ensures same_bytes { ⟦<MemDesk<'a> as Desk>⟧.bytes self.new ≡ ⟦<MemDesk<'a> as Desk>⟧.bytes self.old }
-        ensures same_names { ⟦<MemDesk<'a> as Desk>⟧.opened self.new ≡ ⟦<MemDesk<'a> as Desk>⟧.opened self.old }
-        ensures refused { OnErr result (⟦<MemDesk<'a> as Desk>⟧.left self.new ≡ ⟦<MemDesk<'a> as Desk>⟧.left self.old) }
-        ensures cause { HasCause (⟦<MemDesk<'a> as Desk>⟧.faults self.old) (⟦<MemDesk<'a> as Desk>⟧.faults self.new) result }
-        ensures unfailing { OnOk result (⟦<MemDesk<'a> as Desk>⟧.faults self.new ≡ ⟦<MemDesk<'a> as Desk>⟧.faults self.old) }
-        ensures no_memory { IsErrOf result NoMemory → ⟦<MemDesk<'a> as Desk>⟧.faults self.new ≡ ⟦<MemDesk<'a> as Desk>⟧.faults self.old }
+        ensures hands_over { HandsOverFirst (desk_left self.old) result buf.new
+            (desk_left self.new) }
+        ensures end { ZeroAtEnd (desk_left self.old) result }
+        ensures same_bytes { desk_bytes self.new ≡ desk_bytes self.old }
+        ensures same_names { desk_opened self.new ≡ desk_opened self.old }
+        ensures refused { OnErr result (desk_left self.new ≡ desk_left self.old) }
+        ensures cause { HasCause (desk_faults self.old) (desk_faults self.new) result }
+        ensures unfailing { OnOk result (desk_faults self.new ≡ desk_faults self.old) }
+        ensures no_memory { IsErrOf result NoMemory → desk_faults self.new ≡ desk_faults self.old }
     {
         self.mishaps.count_call()?;
         let count = copy_front(self.left, buf, self.mishaps.most);
@@ -103,8 +121,8 @@ impl<'a> Desk for MemDesk<'a> {
     }
 }
 
-/// Files in memory, of which no call fails. A name that no file has is that of an empty file. It tells
-/// their bytes.
+/// Files in memory, of which no call fails. A name that no file has is that of an empty file.
+/// Contracts see their bytes.
 #[derive(Drop)]
 pub struct SteadyDesk<'a> {
     files: &'a [GivenFile<'a>],
@@ -114,32 +132,34 @@ pub struct SteadyDesk<'a> {
 impl<'a> SteadyDesk<'a> {
     /// A desk with these files, no file begun.
     pub fn new(files: &'a [GivenFile<'a>]) -> Self
-        ensures bytes { ⟦<SteadyDesk<'a> as Desk>⟧.bytes result ≡ steady_bytes_of files.now }
-        ensures left { ⟦<SteadyDesk<'a> as Desk>⟧.left result ≡ Some [] }
+        ensures bytes { steady_bytes result ≡ steady_bytes_of files.now }
+        ensures left { steady_left result ≡ Some [] }
     {
         SteadyDesk { files, left: &[] }
     }
 }
 
 impl<'a> Desk for SteadyDesk<'a> {
-    ghost bytes = { λ desk. steady_bytes_of desk.files.now };
+    ghost bytes = { steady_bytes };
 
-    ghost left = { λ desk. Some desk.left.now };
+    ghost left = { steady_left };
 
-    ghost opened = { λ _. None };
+    ghost opened = { steady_opened };
 
-    ghost faults = { λ _. 0 };
+    ghost faults = { steady_faults };
 
     fn begin(&mut self, name: &str) -> Result<(), OutsideFault>
         ensures ok { IsOk result }
-        ensures begins { OnOk result (⟦<SteadyDesk<'a> as Desk>⟧.left self.new ≡ ⟦<SteadyDesk<'a> as Desk>⟧.bytes self.old name.now) }
-        ensures opens { OnOk result (⟦<SteadyDesk<'a> as Desk>⟧.opened self.new ≡ with_name (⟦<SteadyDesk<'a> as Desk>⟧.opened self.old) name.now) }
-        ensures same_bytes { ⟦<SteadyDesk<'a> as Desk>⟧.bytes self.new ≡ ⟦<SteadyDesk<'a> as Desk>⟧.bytes self.old }
-        ensures refused { OnErr result (⟦<SteadyDesk<'a> as Desk>⟧.left self.new ≡ ⟦<SteadyDesk<'a> as Desk>⟧.left self.old) }
-        ensures refused_name { OnErr result (⟦<SteadyDesk<'a> as Desk>⟧.opened self.new ≡ ⟦<SteadyDesk<'a> as Desk>⟧.opened self.old) }
-        ensures cause { HasCause (⟦<SteadyDesk<'a> as Desk>⟧.faults self.old) (⟦<SteadyDesk<'a> as Desk>⟧.faults self.new) result }
-        ensures unfailing { OnOk result (⟦<SteadyDesk<'a> as Desk>⟧.faults self.new ≡ ⟦<SteadyDesk<'a> as Desk>⟧.faults self.old) }
-        ensures no_memory { IsErrOf result NoMemory → ⟦<SteadyDesk<'a> as Desk>⟧.faults self.new ≡ ⟦<SteadyDesk<'a> as Desk>⟧.faults self.old }
+        ensures begins { OnOk result (steady_left self.new ≡ steady_bytes self.old name.now) }
+        ensures opens { OnOk result (steady_opened self.new ≡ with_name
+            (steady_opened self.old) name.now) }
+        ensures same_bytes { steady_bytes self.new ≡ steady_bytes self.old }
+        ensures refused { OnErr result (steady_left self.new ≡ steady_left self.old) }
+        ensures refused_name { OnErr result (steady_opened self.new ≡ steady_opened self.old) }
+        ensures cause { HasCause (steady_faults self.old) (steady_faults self.new) result }
+        ensures unfailing { OnOk result (steady_faults self.new ≡ steady_faults self.old) }
+        ensures no_memory { IsErrOf result NoMemory → steady_faults self.new
+            ≡ steady_faults self.old }
     {
         self.left = find(self.files, name).unwrap_or(&[]);
         Ok(())
@@ -149,14 +169,16 @@ impl<'a> Desk for SteadyDesk<'a> {
         requires { 0 < length buf.old }
         ensures ok { IsOk result }
         ensures bound { IfOk result (λ count. count ≤ length buf.old) }
-        ensures hands_over { IfOk result (λ count. HandsOver (⟦<SteadyDesk<'a> as Desk>⟧.left self.old) (take count buf.new) (⟦<SteadyDesk<'a> as Desk>⟧.left self.new)) }
-        ensures end { IfOk result (λ count. count ≡ 0 → IsAtEnd (⟦<SteadyDesk<'a> as Desk>⟧.left self.old)) }
-        ensures same_bytes { ⟦<SteadyDesk<'a> as Desk>⟧.bytes self.new ≡ ⟦<SteadyDesk<'a> as Desk>⟧.bytes self.old }
-        ensures same_names { ⟦<SteadyDesk<'a> as Desk>⟧.opened self.new ≡ ⟦<SteadyDesk<'a> as Desk>⟧.opened self.old }
-        ensures refused { OnErr result (⟦<SteadyDesk<'a> as Desk>⟧.left self.new ≡ ⟦<SteadyDesk<'a> as Desk>⟧.left self.old) }
-        ensures cause { HasCause (⟦<SteadyDesk<'a> as Desk>⟧.faults self.old) (⟦<SteadyDesk<'a> as Desk>⟧.faults self.new) result }
-        ensures unfailing { OnOk result (⟦<SteadyDesk<'a> as Desk>⟧.faults self.new ≡ ⟦<SteadyDesk<'a> as Desk>⟧.faults self.old) }
-        ensures no_memory { IsErrOf result NoMemory → ⟦<SteadyDesk<'a> as Desk>⟧.faults self.new ≡ ⟦<SteadyDesk<'a> as Desk>⟧.faults self.old }
+        ensures hands_over { HandsOverFirst (steady_left self.old) result buf.new
+            (steady_left self.new) }
+        ensures end { ZeroAtEnd (steady_left self.old) result }
+        ensures same_bytes { steady_bytes self.new ≡ steady_bytes self.old }
+        ensures same_names { steady_opened self.new ≡ steady_opened self.old }
+        ensures refused { OnErr result (steady_left self.new ≡ steady_left self.old) }
+        ensures cause { HasCause (steady_faults self.old) (steady_faults self.new) result }
+        ensures unfailing { OnOk result (steady_faults self.new ≡ steady_faults self.old) }
+        ensures no_memory { IsErrOf result NoMemory → steady_faults self.new
+            ≡ steady_faults self.old }
     {
         let taken = copy_front(self.left, buf, buf.len());
         self.left = &self.left[taken..];

@@ -20,7 +20,7 @@ pub(crate) fn find<'a>(files: &'a [GivenFile<'a>], name: &str) -> Option<&'a [u8
         .map(|file| file.bytes)
 }
 
-/// Copies the first bytes of `left` to the front of `buf`, as many as it has room for and at most
+/// Copies the first bytes of `left` to the start of `buf`, as many as it has room for and at most
 /// `most`, and answers how many.
 pub(crate) fn copy_front(left: &[u8], buf: &mut [u8], most: usize) -> usize
     ensures count { result ≡ min (min (length left.now) (length buf.old)) most }

@@ -1,10 +1,7 @@
-//! Objects for the outside: files of the operating system and standard output, and what stands in
-//! for them in memory.
-//!
-//! The main types are `FileDesk`, `OutSink` and `FileStore`, which reach the operating system and
-//! tell nothing of content, `MemDesk`, `MemSink` and `MemStore`, whose calls fail where their
-//! `Mishaps` say so, and `SteadyDesk`, `SteadySink` and `SteadyStore`, whose calls never fail. Their
-//! contract is that of the traits of `tv_base`; what the ones in memory hold is defined in
+//! Implementations of the traits of `tv_base`: `FileDesk`, `OutSink` and `FileStore` by the
+//! operating system, whose contents contracts do not see; `MemDesk`, `MemSink` and `MemStore` in
+//! memory, of which given calls fail (`specs/Plans.antt`); `SteadyDesk`, `SteadySink` and
+//! `SteadyStore` in memory, whose calls never fail. What those in memory hold is defined in
 //! `specs/Given.antt` and `specs/Shelf.antt`.
 #![tactic(auto)]
 

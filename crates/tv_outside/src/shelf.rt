@@ -60,7 +60,8 @@ impl Shelf {
 
     /// Adds a piece to the file begun last.
     pub(crate) fn add(&mut self, piece: &[u8]) -> Result<(), AllocError>
-        ensures grows { OnOk result (Grows (on_shelf self.old) (string_bytes self.old.last.name) piece.now (on_shelf self.new)) }
+        ensures grows { OnOk result (Grows (on_shelf self.old)
+            (string_bytes self.old.last.name) piece.now (on_shelf self.new)) }
         ensures name { self.new.last.name ≡ self.old.last.name }
         ensures refused { OnErr result (on_shelf self.new ≡ on_shelf self.old) }
     {

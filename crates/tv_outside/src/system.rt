@@ -1,4 +1,5 @@
-ghost use Rattle.std.specs.Prelude.{◌≡◌, ◌<◌, ◌≤◌, [], Option, None, string_bytes, IsErr, IsErrOf, IfOk, OnOk};
+ghost use Rattle.std.specs.Prelude.{◌≡◌, ◌<◌, ◌≤◌, [], Option, None, string_bytes, IsErr, IsErrOf};
+ghost use Rattle.std.specs.Prelude.{IfOk, OnOk};
 ghost use Rattle.tv_base.specs.declared.faults.OutsideFault.TheVariants.{NoMemory};
 ghost use Rattle.tv_base.specs.Faults.{HasCause};
 
@@ -6,8 +7,8 @@ use std::io::{self, ErrorKind, Print, Read, Write};
 use std::rt::Files;
 use tv_base::{Desk, OutsideFault, Sink, Store};
 
-/// The refusal that an error of the operating system comes to: want of memory, or a failure, at
-/// which the count rises.
+/// The refusal for an error of the operating system: out of memory, or a failure, at which the
+/// count rises.
 fn refused<T>(faults: &mut u64, error: &io::Error) -> Result<T, OutsideFault>
     ensures refusal { IsErr result }
     ensures cause { HasCause faults.old faults.new result }
@@ -20,7 +21,7 @@ fn refused<T>(faults: &mut u64, error: &io::Error) -> Result<T, OutsideFault>
     Err(OutsideFault::Failed)
 }
 
-/// Files of the operating system, read. It tells neither their content nor which were begun.
+/// Files of the operating system, read. Contracts see neither their contents nor which were begun.
 #[derive(Drop)]
 pub struct FileDesk<R: Files + Drop> {
     rt: R,
@@ -71,7 +72,7 @@ impl<R: Files + Drop> Desk for FileDesk<R> {
     }
 }
 
-/// What a write of `size` bytes came to. A write of some bytes that took none is a failure.
+/// The outcome of a write of `size` bytes. A write of some bytes that took none is a failure.
 fn taken(faults: &mut u64, size: usize, outcome: io::Result<usize>) -> Result<usize, OutsideFault>
     requires { IfOk outcome (λ count. count ≤ size) }
     ensures bound { IfOk result (λ count. count ≤ size) }
@@ -90,7 +91,7 @@ fn taken(faults: &mut u64, size: usize, outcome: io::Result<usize>) -> Result<us
     }
 }
 
-/// Standard output. It tells nothing of what it holds.
+/// Standard output. Contracts see nothing of what it holds.
 #[derive(Drop)]
 pub struct OutSink<R: Print + Drop> {
     rt: R,
@@ -119,7 +120,7 @@ impl<R: Print + Drop> Sink for OutSink<R> {
     }
 }
 
-/// Files of the operating system, written. It tells nothing of what they hold.
+/// Files of the operating system, written. Contracts see nothing of what they hold.
 #[derive(Drop)]
 pub struct FileStore<R: Files + AllocGlobal + Drop> {
     rt: R,

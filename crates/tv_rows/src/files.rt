@@ -1,4 +1,5 @@
-//! The objects over the operating system: a file is written and read, and a line goes to standard output.
+//! The objects over the operating system: a file is written and read, and a line goes to standard
+//! output.
 
 use crate::out::Out;
 use std::alloc::Global;
@@ -46,7 +47,8 @@ fn put_desk(rt: HostRuntime, out: &mut Out) {
     put_read(rt.alloc(), &mut desk, out);
 }
 
-/// The outcome of a row: what is written and what is read of it, and whether a line is put on standard output.
+/// The outcome of a row: what is written and what is read of it, and whether a line is put on
+/// standard output.
 pub(crate) fn put_files(rt: HostRuntime, out: &mut Out) {
     put_store(rt, out);
     put_desk(rt, out);

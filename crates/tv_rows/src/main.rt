@@ -1,15 +1,20 @@
-//! Rows of whole runs over objects in memory: each line of the input is a row, a name, a colon and what is asked; each line
-//! of the output is the name of its row and an outcome. Words are parted by `/`; `names=N` is a list of N names.
+//! Rows of whole runs over objects in memory: each line of the input is a row, a name, a colon and
+//! what is asked; each line of the output is the name of its row and an outcome. Words are parted
+//! by `/`; `names=N` is a list of N names.
 //!
-//! - `elf HEX`, `zeros SIZE`, `c TEXT`, `pad SIZE`: the pair of the rows behind it, the files `e` and `c`: the bytes of the
-//!   executable, or as many zeros; the source, where `\n` is a line feed, or that source with blanks up to a size
-//! - `run WORDS`: the status, how many calls failed on each object, the report and the certificate, a `|` for each line feed
-//! - `fail OBJECT CALL MOST WORDS`: the same where this call fails on one object, and a call takes at most so many bytes
+//! - `elf HEX`, `zeros SIZE`, `c TEXT`, `pad SIZE`: the pair of the rows after it, the files `e`
+//!   and `c`: the bytes of the executable, or as many zeros; the source, where `\n` is a line feed,
+//!   or that source with blanks up to a size
+//! - `run WORDS`: the status, how many calls failed on each object, the report and the certificate,
+//!   a `|` for each line feed
+//! - `fail OBJECT CALL MOST WORDS`: the same where this call fails on one object, and a call takes
+//!   at most so many bytes
 //! - `steady WORDS`: the same, without the count, over objects that never fail
-//! - `words WORDS`: the job of the words; `report NAME=STACK..`: the status, report and certificate of judgements, of which
-//!   those without a stack are unproved; `files`: what is written to a file and read from it
+//! - `words WORDS`: the job of the words; `report NAME=STACK..`: the status, report and certificate
+//!   of judgements, of which those without a stack are unproved; `files`: what is written to a file
+//!   and read from it
 //!
-//! A line that begins with `#` says where the outcomes of the rows behind it come from.
+//! A line that begins with `#` says where the outcomes of the rows after it come from.
 #![tactic(auto)]
 
 mod files;

@@ -3,7 +3,7 @@
 use std::alloc::{AllocError, Global};
 use std::fmt::Debug;
 
-/// A text that grows, up to a want of memory.
+/// A text that grows while there is memory.
 #[derive(Drop)]
 pub(crate) struct Out {
     text: String,

@@ -18,7 +18,7 @@ fn put_names(count: usize, names: &mut String) -> Result<(), AllocError> {
     Ok(())
 }
 
-/// The words of a row as they come to a program; an empty row has none.
+/// The words of a row as a program gets them; an empty row has none.
 pub(crate) fn put_words(
     alloc: Global,
     row: &str,
@@ -38,7 +38,7 @@ pub(crate) fn put_words(
     Ok(())
 }
 
-/// A job, spelled out: three files between `|`, and each name of a list behind a blank.
+/// A job, spelled out: three files between `|`, and each name of a list after a blank.
 fn put_job(job: &Proving<'_>, out: &mut Out) {
     out.put(job.elf);
     out.put("|");

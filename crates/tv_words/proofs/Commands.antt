@@ -1,8 +1,8 @@
 -- That words are one command at most, and what a parse says of the subcommand that it met.
-use Rattle.std.proofs.Common.{◌≡◌, ◌≢◌, ◌∙◌, true, List, [], ◌∷◌, Option, Some, None, refl, sym, ap, ap₂, subst, inl, inr, codes, unwrap_or, option_map, Result, Ok, Err, IfErr, IsErrAnd}
+use Rattle.std.proofs.Common.{◌≡◌, ◌≢◌, ◌∙◌, true, List, [], ◌∷◌, Option, Some, None, refl, sym, ap, ap₂, subst, inl, inr, codes, unwrap_or, option_map, Result, Ok, Err, IfOk, IfErr, IsErrAnd}
 use Rattle.clap.specs.Walk.{Row, Text}
-use Rattle.clap.specs.Simple.{is_simple}
-use Rattle.clap.specs.Faults.{is_simple_and_free}
+use Rattle.clap.specs.Simple.{is_simple, subcommand_of}
+use Rattle.clap.specs.Faults.{fault_of, is_simple_and_free}
 use Rattle.clap.specs.Kinds.{Kinds, HasKind}
 use Rattle.clap.specs.Values.{kind_of}
 use Rattle.clap.specs.declared.error.Error.{Error}
@@ -10,7 +10,7 @@ use Rattle.clap.specs.declared.error.kind.ErrorKind.TheVariants.{OutOfMemory}
 use Rattle.tv_words.specs.declared.WordsError.{WordsError}
 use Rattle.tv_words.specs.declared.WordsError.TheVariants.{Words, NoMemory}
 use Rattle.tv_words.specs.Commands as spec
-use Rattle.tv_words.specs.Commands.{AreListed, Gives, IsCommand, IsProving, program, is_prove}
+use Rattle.tv_words.specs.Commands.{AreListed, AsksFor, IsCommand, IsProving, program, is_prove}
 use Rattle.tv_words.proofs.Lists.{parts_of_list}
 
 pub program_is_plain : is_simple_and_free program ≡ true
@@ -68,8 +68,40 @@ module _ {X : Type 0} (f : X → Text) (g : X → Text × List Row) (tied : (x :
   name_of_row None name rows r = cc
   name_of_row (Some x) name rows r = ap (λ (n : Text). Some n) (sym (tied x) ∙ ap (λ p. p.0) (un_some _ _ r))
 
-pub verb_of : (words : List Text) (command : spec.Command) → IsCommand words command → (given : List Row) × Gives words (codes "prove") given
-verb_of words command (is_prove given job gives proving) = (given, gives)
+-- the rows of the subcommand that is asked for
+pub asked_rows : (found : Option (Text × List Row)) (command : spec.Command) → AsksFor found command
+    → (given : List Row) × (found ≡ Some (codes "prove", given))
+asked_rows found (spec.Prove job) asks = (asks.0, asks.1)
+
+-- words that `clap` accepts are the command that their subcommand asks for
+pub commanded : (words : List Text) (found : Option (Text × List Row)) (command : spec.Command) → fault_of program words ≡ []
+    → found ≡ subcommand_of program words → AsksFor found command → IsCommand words command
+commanded words found (spec.Prove job) taken same asks = is_prove asks.0 job (record { taken = taken; found = sym same ∙ asks.1 }) asks.2
+
+-- and what their subcommand asks for is the command that they are
+pub asked_by : (words : List Text) (found : Option (Text × List Row)) (command : spec.Command)
+    → found ≡ subcommand_of program words → IsCommand words command → AsksFor found command
+asked_by words found command same (is_prove given job gives proving) = (given, same ∙ gives.found, proving)
+
+module _ {J E : Type 0} (view : J → spec.Command) (words : List Text) (found : Option (Text × List Row))
+    (same : found ≡ subcommand_of program words) where
+  -- what a job is of its subcommand, it is of the words
+  pub job_commanded : (r : Result J E) → fault_of program words ≡ [] → IfOk r (λ job. AsksFor found (view job))
+      → IfOk r (λ job. IsCommand words (view job))
+  job_commanded (Ok job) taken asks = commanded words found (view job) taken same asks
+  job_commanded (Err e) taken asks = tt
+
+  -- and there is no other command
+  pub job_alone : (r : Result J E) → IfOk r (λ job. IsCommand words (view job))
+      → IfOk r (λ job. (other : spec.Command) → IsCommand words other → other ≡ view job)
+  job_alone (Ok job) is = λ other yes. same_command words other (view job) yes is
+  job_alone (Err e) is = tt
+
+  -- what refuses all that the subcommand asks for, refuses each command
+  pub refused_alike : (r : Result J E) (cause : E → Type 0) → IfErr r (λ e. (other : spec.Command) → AsksFor found other → cause e)
+      → IfErr r (λ e. (other : spec.Command) → IsCommand words other → cause e)
+  refused_alike (Ok job) cause only = tt
+  refused_alike (Err e) cause only = λ other is. only other (asked_by words found other same is)
 
 -- the error that a refusal becomes: one of memory where the words are taken
 pub refused_by_memory : {T : Type 0} (r : Result T WordsError) (error : Error) (taken : Type 0)

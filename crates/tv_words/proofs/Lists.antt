@@ -1,4 +1,4 @@
--- Lists that are parted by commas, and lists in which nothing stands twice.
+-- Lists that are separated by commas, and lists in which nothing occurs twice.
 use Rattle.std.proofs.Common.{◌≡◌, ◌==◌, ◌<◌, ◌∙◌, ℕ, zero, suc, Bool, not, true, false, List, [], ◌∷◌, map, take, length, get_or, Bor, refl, sym, ap, subst, arith, inl, inr, bytes_eq}
 use Rattle.std.specs.List.{All, list_all, list_any, slice_split, join_with_byte, IsDistinct, AllByRecursion}
 use Rattle.std.proofs.lemmas.Bool.{and_parts, and_from, true_from_ne_false, not_from_false, or_right, or_cases, false_from_ne_true, eqb-true}
@@ -14,30 +14,30 @@ Text = List ℕ
 abbrev pub same_text : Bor Text → Bor Text → Bool
 same_text a b = bytes_eq a.now b.now
 
--- ---- nothing stands twice
+-- ---- nothing occurs twice
 
-apart_behind : (x : Bor Text) (xs : List (Bor Text)) → AllByRecursion (λ y. same_text x y ≡ false) xs → AllByRecursion (λ y. bytes_eq x.now y ≡ false) (map (λ t. t.now) xs)
-apart_behind x [] h = tt
-apart_behind x (y ∷ ys) h = (h.0, apart_behind x ys h.1)
+apart_after : (x : Bor Text) (xs : List (Bor Text)) → AllByRecursion (λ y. same_text x y ≡ false) xs → AllByRecursion (λ y. bytes_eq x.now y ≡ false) (map (λ t. t.now) xs)
+apart_after x [] h = tt
+apart_after x (y ∷ ys) h = (h.0, apart_after x ys h.1)
 
 pub distinct_texts : (xs : List (Bor Text)) → IsDistinct same_text xs → IsDistinct bytes_eq (map (λ t. t.now) xs)
 unfolding IsDistinct
 distinct_texts [] h = tt
-distinct_texts (x ∷ xs) h = (apart_behind x xs h.0, distinct_texts xs h.1)
+distinct_texts (x ∷ xs) h = (apart_after x xs h.0, distinct_texts xs h.1)
 
 -- none of xs is x, so the one at i is not
-not_behind : (x : Text) (xs : List (Bor Text)) (i : ℕ) (d : Bor Text) → i < length xs → AllByRecursion (λ y. bytes_eq x y ≡ false) (map (λ t. t.now) xs) → (get_or xs i d).now ≡ x → ⊥
-not_behind x [] i d within apart e = absurd (omega arith)
-not_behind x (y ∷ ys) zero d within apart e = let same : bytes_eq x y.now ≡ true = (bytes_eq-Decides x y.now).1 (sym e) in let differs = apart.0 in cc
-not_behind x (y ∷ ys) (suc i) d within apart e = not_behind x ys i d (omega arith) apart.1 e
+not_among : (x : Text) (xs : List (Bor Text)) (i : ℕ) (d : Bor Text) → i < length xs → AllByRecursion (λ y. bytes_eq x y ≡ false) (map (λ t. t.now) xs) → (get_or xs i d).now ≡ x → ⊥
+not_among x [] i d within apart e = absurd (omega arith)
+not_among x (y ∷ ys) zero d within apart e = let same : bytes_eq x y.now ≡ true = (bytes_eq-Decides x y.now).1 (sym e) in let differs = apart.0 in cc
+not_among x (y ∷ ys) (suc i) d within apart e = not_among x ys i d (omega arith) apart.1 e
 
--- the text at i stands before i already
+-- the text at i occurs before i already
 pub seen_twice : (xs : List (Bor Text)) (i : ℕ) (d : Bor Text) → i < length xs → list_any (same_text (get_or xs i d)) (take i xs) ≡ true → IsDistinct bytes_eq (map (λ t. t.now) xs) → ⊥
 unfolding IsDistinct
 seen_twice [] i d within seen apart = absurd (omega arith)
 seen_twice (x ∷ xs) zero d within seen apart = let bad : false ≡ true = seen in cc
 seen_twice (x ∷ xs) (suc i) d within seen apart = elim (or_cases _ _ seen) [
-  | inl here ↦ not_behind x.now xs i d (omega arith) apart.0 ((bytes_eq-Decides _ _).0 here)
+  | inl here ↦ not_among x.now xs i d (omega arith) apart.0 ((bytes_eq-Decides _ _).0 here)
   | inr before ↦ seen_twice xs i d (omega arith) before apart.1
 ]
 
@@ -63,11 +63,11 @@ parts_of (name ∷ more ∷ names) some h =
     slice_split_at (λ b. b == 44) name 44 (join_with_byte 44 (more ∷ names)) (name_has_none name (and_parts _ _ h).0) refl
     ∙ ap (λ (rest : List Text). name ∷ rest) (parts_of (more ∷ names) (λ e. cc) (and_parts _ _ h).1)
 
--- the names of a list stand between its commas
+-- the names of a list are the pieces between its commas
 pub parts_of_list : (text : Text) (names : List Text) → IsList text names → slice_split (λ b. b == 44) text ≡ names
 parts_of_list text names list = ap (slice_split (λ b. b == 44)) list.spelled ∙ parts_of names list.some list.named
 
--- what stands between the commas of a text is a list of names where each is a name, and none stands twice
+-- the pieces between the commas of a text are a list of names where each is a name, and none occurs twice
 pub list_of_parts : (text : Text) (names : List Text) → names ≡ slice_split (λ b. b == 44) text → list_all is_name names ≡ true → IsDistinct bytes_eq names → IsList text names
 list_of_parts text names parts named apart = record {
   spelled = sym (join_with_byte-slice_split 44 text) ∙ ap (join_with_byte 44) (sym parts);

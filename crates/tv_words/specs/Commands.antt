@@ -8,24 +8,24 @@ use Rattle.clap.specs.declared.builder.command.Command.{Command as ClapCommand}
 use Rattle.clap.specs.declared.builder.command.Command.TheViews.{out-Command}
 use Rattle.tv_words.specs.Names.{IsList}
 
--- ---- what `clap` is to read
+-- ---- what `clap` parses
 
--- a file that is named by its place
+-- a file, which is a positional argument
 abbrev pub file : Text → Rule
 file id = record (new_rule id) { required = true; action = Some Set }
 
--- a value that is named by an option
+-- a value of an option
 abbrev pub option : Text → Bool → Rule
 option name required = record (new_rule name) { long = Some name; required = required; action = Some Set }
 
 abbrev pub prove : App
 prove = with_rule (with_rule (with_rule (with_rule (new_app (codes "prove")) (file (codes "elf"))) (file (codes "source"))) (option (codes "cert") true)) (option (codes "functions") false)
 
--- the program's name, and its subcommand, which has to be there
+-- the program's name, and its subcommand, which is required
 unfoldable pub program : App
 program = with_subcommand (on_top (λ (s : Shape). record s { subcommand_required = true }) (new_app (codes "tv"))) prove.top
 
--- a command that `clap` sees as this one, with no argument that holds for its subcommands too
+-- a command that `clap` sees as this one, with no global argument
 abbrev pub IsCommandOf : ClapCommand → App → Type 0
 IsCommandOf command app = (app_of command ≡ app) × ((out-Command command).has_globals ≡ false)
 
@@ -54,6 +54,10 @@ pub record IsProving (given : List Row) (job : Proving) : Type 0 where
   pub source_is : first_of (codes "source") given ≡ Some job.source
   pub certificate_is : first_of (codes "cert") given ≡ Some job.certificate
   pub functions_are : AreListed (first_of (codes "functions") given) job.functions
+
+-- a subcommand and the values that were given to it ask for this
+abbrev pub AsksFor : Option (Text × List Row) → Command → Type 0
+AsksFor found (Prove job) = (given : List Row) × (found ≡ Some (codes "prove", given)) × IsProving given job
 
 -- `clap` finds no fault in the words, of which the first is the program's name, and they give these values
 -- to a subcommand

@@ -8,7 +8,7 @@ abbrev pub is_name : List ℕ → Bool
 is_name [] = false
 is_name (byte ∷ rest) = begins_word byte && list_all is_word_byte rest
 
--- the text is these names, parted by single commas (44)
+-- the text is these names, separated by single commas (44)
 pub record IsList (text : List ℕ) (names : List (List ℕ)) : Type 0 where
   pub spelled : text ≡ join_with_byte 44 names
   pub some : names ≢ []

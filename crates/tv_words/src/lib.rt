@@ -1,16 +1,16 @@
-//! Reads the command line into what the program is to do.
-//!
-//! The main type is [`Job`], and [`command`] has the crate's contract: it answers a job exactly where the words
-//! are a command, and the job's fields are the words'. What a command is says `specs/Commands.antt`: `clap`'s
-//! own account of which words the program's command takes, and the grammar of the list of names.
+//! The command line. [`command`] answers a [`Job`] exactly where the words are a command, and the
+//! job's fields are the words'. What a command is is defined in `specs/Commands.antt`, by `clap`'s
+//! own definition of the words that it accepts, and `specs/Names.antt` (the list of functions).
 #![tactic(auto)]
 
 mod list;
 mod program;
 
-ghost use Rattle.std.specs.Prelude.{◌≡◌, ◌≢◌, IfOk, IfErr, List, ℕ, Option, map, option_map, string_bytes};
+ghost use Rattle.std.specs.Prelude.{◌≡◌, ◌≢◌, IfOk, IfErr, List, ℕ, Option, map, option_map};
+ghost use Rattle.std.specs.Prelude.{string_bytes};
 ghost use Rattle.clap.specs.Walk.{first_of, rows_of};
 ghost use Rattle.clap.specs.Matches.{found_of};
+ghost use Rattle.clap.specs.Simple.{subcommand_rows_of};
 ghost use Rattle.clap.specs.Values.{kind_of};
 ghost use Rattle.clap.specs.declared.error.kind.ErrorKind.TheVariants.{OutOfMemory};
 ghost use Rattle.tv_words.specs.Commands as spec;
@@ -47,10 +47,10 @@ pub struct Proving<'a> {
 /// Why there is no job.
 #[derive(Clone, Copy, Debug, PartialEq, Eq, Error)]
 pub enum WordsError {
-    /// The words are no command; a call for help is none either.
+    /// Usage error: the words are no command. A call for help is none either.
     #[error("the words are no command")]
     Words,
-    /// There was no memory.
+    /// Out of memory.
     #[error("no memory")]
     NoMemory,
 }
@@ -64,7 +64,8 @@ impl From<AllocError> for WordsError {
 }
 
 impl From<clap::Error> for WordsError {
-    ghost from_gives = { λ refused error. (kind_of refused ≡ OutOfMemory → error ≡ NoMemory) × (kind_of refused ≢ OutOfMemory → error ≡ Words) };
+    ghost from_gives = { λ refused error. (kind_of refused ≡ OutOfMemory → error ≡ NoMemory)
+        × (kind_of refused ≢ OutOfMemory → error ≡ Words) };
 
     fn from(refused: clap::Error) -> Self {
         match refused.kind() {
@@ -74,13 +75,25 @@ impl From<clap::Error> for WordsError {
     }
 }
 
-/// The job that the words ask for. The first word is the program's own name, and isn't looked at.
+/// The job that the words ask for. The first word is the program's own name, and is ignored.
 pub fn command(alloc: Global, words: &[String]) -> Result<Job<'_>, WordsError>
     ensures found { IfOk result (λ job. spec.IsCommand (map string_bytes words.now) (job_of job)) }
-    ensures fields { IfOk result (λ job. (other : spec.Command) → spec.IsCommand (map string_bytes words.now) other → other ≡ job_of job) }
-    ensures only { IfErr result (λ error. (other : spec.Command) → spec.IsCommand (map string_bytes words.now) other → error ≡ NoMemory) }
+    ensures fields { IfOk result (λ job. (other : spec.Command)
+        → spec.IsCommand (map string_bytes words.now) other → other ≡ job_of job) }
+    ensures only { IfErr result (λ error. (other : spec.Command)
+        → spec.IsCommand (map string_bytes words.now) other → error ≡ NoMemory) }
 {
     let matches = parsed(alloc, words)?;
+    found_job(alloc, &matches)
+}
+
+/// The job of the subcommand that was found.
+fn found_job<'a>(alloc: Global, matches: &ArgMatches<'a>) -> Result<Job<'a>, WordsError>
+    ensures found { IfOk result (λ job. spec.AsksFor (subcommand_rows_of matches.now)
+        (job_of job)) }
+    ensures only { IfErr result (λ error. (other : spec.Command)
+        → spec.AsksFor (subcommand_rows_of matches.now) other → error ≡ NoMemory) }
+{
     let Some(found) = matches.subcommand_matches("prove") else {
         return Err(WordsError::Words);
     };
@@ -88,10 +101,12 @@ pub fn command(alloc: Global, words: &[String]) -> Result<Job<'_>, WordsError>
     Ok(Job::Prove(job))
 }
 
-/// The job of `prove`, from what was found behind that word.
+/// The job of `prove`, from what was found after that word.
 fn prove_job<'a>(alloc: Global, found: &ArgMatches<'a>) -> Result<Proving<'a>, WordsError>
-    ensures found { IfOk result (λ job. spec.IsProving (rows_of (found_of found.now)) (proving_of job)) }
-    ensures only { IfErr result (λ error. (other : spec.Proving) → spec.IsProving (rows_of (found_of found.now)) other → error ≡ NoMemory) }
+    ensures found { IfOk result (λ job. spec.IsProving (rows_of (found_of found.now))
+        (proving_of job)) }
+    ensures only { IfErr result (λ error. (other : spec.Proving)
+        → spec.IsProving (rows_of (found_of found.now)) other → error ≡ NoMemory) }
 {
     let elf = needed(found, "elf")?;
     let source = needed(found, "source")?;
@@ -107,15 +122,18 @@ fn prove_job<'a>(alloc: Global, found: &ArgMatches<'a>) -> Result<Proving<'a>, W
 
 /// The value of an argument, if it has one.
 fn given<'a>(found: &ArgMatches<'a>, id: &str) -> Option<&'a str>
-    ensures { option_map (λ text. text.now) result ≡ first_of id.now (rows_of (found_of found.now)) }
+    ensures { option_map (λ text. text.now) result
+        ≡ first_of id.now (rows_of (found_of found.now)) }
 {
     found.get_str(id)
 }
 
 /// The value of an argument that is required, so that it has one.
 fn needed<'a>(found: &ArgMatches<'a>, id: &str) -> Result<&'a str, WordsError>
-    ensures found { IfOk result (λ text. first_of id.now (rows_of (found_of found.now)) ≡ Some text.now) }
-    ensures missing { IfErr result (λ error. first_of id.now (rows_of (found_of found.now)) ≡ None) }
+    ensures found { IfOk result (λ text. first_of id.now (rows_of (found_of found.now))
+        ≡ Some text.now) }
+    ensures missing { IfErr result (λ error. first_of id.now (rows_of (found_of found.now))
+        ≡ None) }
 {
     match given(found, id) {
         Some(text) => Ok(text),
@@ -125,8 +143,10 @@ fn needed<'a>(found: &ArgMatches<'a>, id: &str) -> Result<&'a str, WordsError>
 
 /// The names of a list that was given, if one was.
 fn listed<'a>(alloc: Global, text: Option<&'a str>) -> Result<Option<Vec<&'a str>>, WordsError>
-    ensures found { IfOk result (λ names. spec.AreListed (option_map (λ text. text.now) text.entry) (option_map names_of names)) }
-    ensures only { IfErr result (λ error. (names : Option (List (List ℕ))) → spec.AreListed (option_map (λ text. text.now) text.entry) names → error ≡ NoMemory) }
+    ensures found { IfOk result (λ names. spec.AreListed (option_map (λ text. text.now) text.entry)
+        (option_map names_of names)) }
+    ensures only { IfErr result (λ error. (names : Option (List (List ℕ)))
+        → spec.AreListed (option_map (λ text. text.now) text.entry) names → error ≡ NoMemory) }
 {
     match text {
         Some(text) => {

@@ -1,6 +1,7 @@
 //! Lists of functions' names.
 
-ghost use Rattle.std.specs.Prelude.{◌≡◌, ◌==◌, ◌↔◌, IfOk, IfErr, IsTrue, List, ℕ, [], map, bytes_eq};
+ghost use Rattle.std.specs.Prelude.{◌≡◌, ◌==◌, ◌↔◌, IfOk, IfErr, IsTrue, List, ℕ, [], map};
+ghost use Rattle.std.specs.Prelude.{bytes_eq};
 ghost use Rattle.std.specs.List.{slice_split, IsDistinct, list_all};
 ghost use Rattle.c_spec.specs.Words.{begins_word, is_word_byte};
 ghost use Rattle.tv_words.specs.Names as spec;
@@ -10,11 +11,13 @@ use crate::WordsError;
 use indexmap::IndexSet;
 use std::alloc::{AllocError, Global};
 
-/// The names of a list, in its order, in work linear in its bytes. It refuses an empty name, one that is no
-/// name, and a name that stands twice.
+/// The names of a list, in its order, in work linear in its bytes. It refuses an empty name, one
+/// that is no name, and a name that occurs twice.
 pub(crate) fn names_in<'a>(alloc: Global, text: &'a str) -> Result<Vec<&'a str>, WordsError>
-    ensures found { IfOk result (λ names. spec.IsList text.entry.now (map (λ name. name.now) names.items)) }
-    ensures only { IfErr result (λ error. (names : List (List ℕ)) → spec.IsList text.entry.now names → error ≡ NoMemory) }
+    ensures found { IfOk result (λ names. spec.IsList text.entry.now
+        (map (λ name. name.now) names.items)) }
+    ensures only { IfErr result (λ error. (names : List (List ℕ)) → spec.IsList text.entry.now names
+        → error ≡ NoMemory) }
 {
     let names = parts(alloc, text)?;
     if !are_names(names.as_slice()) {
@@ -26,9 +29,10 @@ pub(crate) fn names_in<'a>(alloc: Global, text: &'a str) -> Result<Vec<&'a str>,
     Ok(names)
 }
 
-/// What stands between the commas of a text.
+/// The pieces of a text between its commas.
 fn parts<'a>(alloc: Global, text: &'a str) -> Result<Vec<&'a str>, AllocError>
-    ensures { IfOk result (λ parts. map (λ part. part.now) parts.items ≡ slice_split (λ byte. byte == 44) text.entry.now) }
+    ensures { IfOk result (λ parts. map (λ part. part.now) parts.items
+        ≡ slice_split (λ byte. byte == 44) text.entry.now) }
 {
     text.split(',').collect(alloc)
 }
@@ -71,10 +75,11 @@ fn are_names(texts: &[&str]) -> bool
     texts.iter().all(|text| is_name(text))
 }
 
-/// Whether no text stands twice; none is seen at the start.
+/// Whether no text occurs twice; none is seen at the start.
 fn are_new<'a>(seen: &mut IndexSet<&'a str>, texts: &[&'a str]) -> Result<bool, AllocError>
     requires { seen.old.keys ≡ [] }
-    ensures { IfOk result (λ distinct. IsTrue distinct ↔ IsDistinct bytes_eq (map (λ text. text.now) texts.now)) }
+    ensures { IfOk result (λ distinct. IsTrue distinct
+        ↔ IsDistinct bytes_eq (map (λ text. text.now) texts.now)) }
 {
     for text in texts {
         if !seen.insert(*text)? {
@@ -84,9 +89,10 @@ fn are_new<'a>(seen: &mut IndexSet<&'a str>, texts: &[&'a str]) -> Result<bool, 
     Ok(true)
 }
 
-/// Whether no text stands twice.
+/// Whether no text occurs twice.
 fn are_distinct(alloc: Global, texts: &[&str]) -> Result<bool, AllocError>
-    ensures { IfOk result (λ distinct. IsTrue distinct ↔ IsDistinct bytes_eq (map (λ text. text.now) texts.now)) }
+    ensures { IfOk result (λ distinct. IsTrue distinct
+        ↔ IsDistinct bytes_eq (map (λ text. text.now) texts.now)) }
 {
     let mut seen: IndexSet<&str> = IndexSet::new(alloc);
     are_new(&mut seen, texts)

@@ -1,4 +1,4 @@
-//! The program's command, as `clap` is to read it.
+//! The program's command, as `clap` parses it.
 
 ghost use Rattle.std.specs.Prelude.{◌≡◌, IfOk, IfErr, [], false, map, string_bytes};
 ghost use Rattle.clap.specs.Walk.{rule_of};
@@ -11,7 +11,7 @@ use crate::WordsError;
 use clap::{Arg, ArgAction, ArgMatches, Command};
 use std::alloc::{AllocError, Global};
 
-/// A file that is named by its place.
+/// A file, which is a positional argument.
 fn file<'a>(alloc: Global, id: &'a str) -> Arg<'a>
     ensures rule { rule_of result ≡ spec.file id.entry.now }
     ensures local { result.global ≡ false }
@@ -19,7 +19,7 @@ fn file<'a>(alloc: Global, id: &'a str) -> Arg<'a>
     Arg::new(alloc, id).required(true).action(ArgAction::Set)
 }
 
-/// A value that is named by an option.
+/// A value of an option.
 fn option<'a>(alloc: Global, name: &'a str, required: bool) -> Arg<'a>
     ensures rule { rule_of result ≡ spec.option name.entry.now required }
     ensures local { result.global ≡ false }
@@ -42,7 +42,7 @@ fn prove<'a>(alloc: Global) -> Result<Command<'a>, AllocError>
     Ok(command)
 }
 
-/// The program, which asks for one subcommand.
+/// The program, of which one subcommand is required.
 #[tactic(auto, unfolding(crate::specs::Commands::program))]
 fn program<'a>(alloc: Global) -> Result<Command<'a>, AllocError>
     ensures { IfOk result (λ program. app_of program ≡ spec.program) }
@@ -54,11 +54,14 @@ fn program<'a>(alloc: Global) -> Result<Command<'a>, AllocError>
     Ok(command)
 }
 
-/// What the words give, where the program takes them.
+/// What the words give, where the program accepts them.
 pub(crate) fn parsed<'a>(alloc: Global, words: &'a [String]) -> Result<ArgMatches<'a>, WordsError>
-    ensures taken { IfOk result (λ matches. fault_of spec.program (map string_bytes words.entry.now) ≡ []) }
-    ensures found { IfOk result (λ matches. subcommand_rows_of matches ≡ subcommand_of spec.program (map string_bytes words.entry.now)) }
-    ensures only { IfErr result (λ error. fault_of spec.program (map string_bytes words.entry.now) ≡ [] → error ≡ NoMemory) }
+    ensures taken { IfOk result (λ matches. fault_of spec.program (map string_bytes words.entry.now)
+        ≡ []) }
+    ensures found { IfOk result (λ matches. subcommand_rows_of matches
+        ≡ subcommand_of spec.program (map string_bytes words.entry.now)) }
+    ensures only { IfErr result (λ error. fault_of spec.program (map string_bytes words.entry.now)
+        ≡ [] → error ≡ NoMemory) }
 {
     let matches = program(alloc)?.try_get_matches_from(words)?;
     Ok(matches)

@@ -2,13 +2,13 @@
 use Rattle.std.proofs.Common.{◌≡◌, ℕ, suc, Bool, true, false, List, [], ◌∷◌, ◌++◌, map, All, Some, refl, ap, sym, ◌∙◌, subst, arith}
 use Rattle.std.proofs.lemmas.List.Elements.{All-map}
 use Rattle.elf_spec.specs.Image.{Image, function_named, size_at}
-use Rattle.elf_spec.specs.declared.Named.TheVariants.{One}
+use Rattle.elf_spec.specs.declared.SymbolValues.TheVariants.{One}
 use Rattle.c_spec.specs.Unit.{Unit}
 use Rattle.code_spec.specs.declared.CodeKind.{CodeKind}
 use Rattle.code_spec.specs.Code.{IsStack}
 use Rattle.code_spec.specs.Faults.{IsReachFault, IsFirst}
 use Rattle.code_spec.proofs.Direct.{same_first}
-use Rattle.claim_spec.specs.Verdict.{Judgement}
+use Rattle.report_spec.specs.Verdict.{Judgement}
 use Rattle.verdict_spec.specs.Verdicts.{HasCodeFault, ambiguous, of_reach, IsSoundCode, IsFirstCodeFault, IsJudgement, is_proved}
 use Rattle.verdict_spec.proofs.Stacks.{one_stack}
 
@@ -32,26 +32,26 @@ one_fault image name _ _ _ _ (of_reach entry kind address named fault) (of_reach
 
 -- ---- the first name with a fault
 
-at_front : (P : List ℕ → Type 0) (name : List ℕ) (names : List (List ℕ)) → All P (name ∷ names) → P name
-at_front P name names all = all 0 name (omega arith)
+at_first : (P : List ℕ → Type 0) (name : List ℕ) (names : List (List ℕ)) → All P (name ∷ names) → P name
+at_first P name names all = all 0 name (omega arith)
 
-behind : (P : List ℕ → Type 0) (name : List ℕ) (names : List (List ℕ)) → All P (name ∷ names) → All P names
-behind P name names all = λ k d inside. all (suc k) d (omega arith)
+following : (P : List ℕ → Type 0) (name : List ℕ) (names : List (List ℕ)) → All P (name ∷ names) → All P names
+following P name names all = λ k d inside. all (suc k) d (omega arith)
 
-at_middle : (P : List ℕ → Type 0) (front : List (List ℕ)) (name : List ℕ) (rest : List (List ℕ)) → All P (front ++ (name ∷ rest)) → P name
-at_middle P [] name rest all = at_front P name rest all
-at_middle P (other ∷ front) name rest all = at_middle P front name rest (behind P other (front ++ (name ∷ rest)) all)
+at_middle : (P : List ℕ → Type 0) (before : List (List ℕ)) (name : List ℕ) (rest : List (List ℕ)) → All P (before ++ (name ∷ rest)) → P name
+at_middle P [] name rest all = at_first P name rest all
+at_middle P (other ∷ before) name rest all = at_middle P before name rest (following P other (before ++ (name ∷ rest)) all)
 
-first_same : (P : List ℕ → Type 0) (front back rest more : List (List ℕ)) (one two : List ℕ) → front ++ (one ∷ rest) ≡ back ++ (two ∷ more) → All P front → All P back
+first_same : (P : List ℕ → Type 0) (before prior rest more : List (List ℕ)) (one two : List ℕ) → before ++ (one ∷ rest) ≡ prior ++ (two ∷ more) → All P before → All P prior
     → (P one → ⊥) → (P two → ⊥) → one ≡ two
 first_same P [] [] rest more one two e all others first second = cc
-first_same P [] (b ∷ back) rest more one two e all others first second =
-    let same : b ≡ one = cc in absurd (first (subst P same (at_front P b back others)))
-first_same P (a ∷ front) [] rest more one two e all others first second =
-    let same : a ≡ two = cc in absurd (second (subst P same (at_front P a front all)))
-first_same P (a ∷ front) (b ∷ back) rest more one two e all others first second =
-    let tails : front ++ (one ∷ rest) ≡ back ++ (two ∷ more) = cc in
-    first_same P front back rest more one two tails (behind P a front all) (behind P b back others) first second
+first_same P [] (b ∷ prior) rest more one two e all others first second =
+    let same : b ≡ one = cc in absurd (first (subst P same (at_first P b prior others)))
+first_same P (a ∷ before) [] rest more one two e all others first second =
+    let same : a ≡ two = cc in absurd (second (subst P same (at_first P a before all)))
+first_same P (a ∷ before) (b ∷ prior) rest more one two e all others first second =
+    let tails : before ++ (one ∷ rest) ≡ prior ++ (two ∷ more) = cc in
+    first_same P before prior rest more one two tails (following P a before all) (following P b prior others) first second
 
 pub record Same (kind other : CodeKind) (one two : List ℕ) (address place : ℕ) : Type 0 where
   pub kind_is : kind ≡ other
@@ -61,7 +61,7 @@ pub record Same (kind other : CodeKind) (one two : List ℕ) (address place : �
 pub one_first : (image : Image) (names : List (List ℕ)) (kind other : CodeKind) (one two : List ℕ) (address place : ℕ)
     → IsFirstCodeFault image names kind one address → IsFirstCodeFault image names other two place → Same kind other one two address place
 one_first image names kind other one two address place x y =
-    let name_is = first_same (IsSoundCode image) x.front y.front x.rest y.rest one two (sym x.split ∙ y.split) x.earlier y.earlier
+    let name_is = first_same (IsSoundCode image) x.prefix y.prefix x.rest y.rest one two (sym x.split ∙ y.split) x.earlier y.earlier
     (λ sound. sound_or_faulty image one kind address sound x.fault) (λ sound. sound_or_faulty image two other place sound y.fault) in
     let faults = one_fault image one kind other address place x.fault (subst (λ n. HasCodeFault image n other place) (sym name_is) y.fault) in
     record { kind_is = faults.0; name_is = name_is; address_is = faults.1 }
@@ -111,4 +111,4 @@ pub judged_or_faulty : (image : Image) (unit : Unit) (names : List (List ℕ)) (
     → map (λ j. j.name) judgements ≡ names → All (IsJudgement image unit) judgements → IsFirstCodeFault image names kind name address → ⊥
 judged_or_faulty image unit names judgements kind name address e each first =
     let all = subst (All (IsSoundCode image)) (e ∙ first.split) (sound_names image unit judgements each) in
-    sound_or_faulty image name kind address (at_middle (IsSoundCode image) first.front name first.rest all) first.fault
+    sound_or_faulty image name kind address (at_middle (IsSoundCode image) first.prefix name first.rest all) first.fault

@@ -6,7 +6,7 @@ use Rattle.std.proofs.lemmas.List.Kept.{AllPairs-from_increasing}
 use Rattle.elf_spec.specs.Image.{Image, size_at}
 use Rattle.code_spec.specs.Code.{instr_at, opening_of, AreReachable, IsGreatest, CallsOn, IsStack, deep}
 
--- ---- a rising list is told by what it contains
+-- ---- a rising list is determined by its elements
 
 abbrev Rising : List ℕ → Type 0
 Rising [] = ⊤

@@ -1,6 +1,6 @@
--- What the definition of verdicts comes to.
+-- What follows from the definition of verdicts.
 use Rattle.std.specs.Prelude.{◌≡◌, ℕ, List, Option}
-use Rattle.claim_spec.specs.Verdict.{Verdict}
+use Rattle.report_spec.specs.Verdict.{Verdict}
 use Rattle.verdict_spec.specs.Verdicts.{IsVerdict}
 
 -- two files have one verdict at most

@@ -1,27 +1,27 @@
--- Which verdict two files come to, and that what it calls valid is valid.
+-- Which verdict two files have, and that what it calls valid is valid.
 use Rattle.std.specs.Prelude.{◌≡◌, ◌≢◌, ◌<◌, ◌≤◌, ◌++◌, ◌&&◌, not, is_some, ℕ, Bool, false, List, [], ◌∷◌, length, map, All, codes, IsTrue, Option, Some, None, ⊤}
 use Rattle.elf_spec.specs.Image.{Image, function_named, size_at}
 use Rattle.elf_spec.specs.File.{IsElf, IsRefusedFile}
 use Rattle.elf_spec.specs.declared.ElfKind.{ElfKind}
-use Rattle.elf_spec.specs.declared.Named.TheVariants.{One, Two}
-use Rattle.c_spec.specs.Unit.{Unit, IsC, IsRefusedSource}
-use Rattle.c_spec.specs.declared.SourceKind.{SourceKind}
-use Rattle.c_spec.specs.declared.SourceKind.TheVariants.{Token}
+use Rattle.elf_spec.specs.declared.SymbolValues.TheVariants.{One, Two}
+use Rattle.c_spec.specs.Unit.{Unit, IsC}
 use Rattle.c_spec.specs.declared.token.TokenFaultKind.{TokenFaultKind}
 use Rattle.c_spec.specs.Lexical.{IsTokenFault}
 use Rattle.c_tree_spec.specs.Unit.{TranslationUnit}
 use Rattle.c_grammar_spec.specs.declared.ParseFaultKind.{ParseFaultKind}
 use Rattle.c_grammar_spec.specs.Source.{HasTree, IsParseFault}
-use Rattle.claim_spec.specs.declared.Quantity.TheVariants.{Elf, C, Functions}
-use Rattle.claim_spec.specs.declared.PairKind.{PairKind}
-use Rattle.claim_spec.specs.declared.PairKind.TheVariants.{NothingListed}
 use Rattle.code_spec.specs.declared.CodeKind.{CodeKind}
 use Rattle.code_spec.specs.declared.CodeKind.TheVariants.{Ambiguous}
 use Rattle.code_spec.specs.Code.{IsStack}
 use Rattle.code_spec.specs.Faults.{IsReachFault, ReachesNoFault, IsFirst}
 use Rattle.claim_spec.specs.Claim.{IsValid}
-use Rattle.claim_spec.specs.Verdict.{Verdict, TooLarge, RefusedElf, RefusedC, RefusedSyntax, RefusedPair, RefusedCode, Judged, Judgement, names_of, pair_fault, first_unpaired, maximum_of}
-use Rattle.straight_code.specs.Straight.{crooked_at}
+use Rattle.report_spec.specs.declared.Quantity.TheVariants.{Elf, C, Functions}
+use Rattle.report_spec.specs.declared.SourceKind.TheVariants.{Token, Syntax, Later}
+use Rattle.report_spec.specs.declared.PairKind.{PairKind}
+use Rattle.report_spec.specs.declared.PairKind.TheVariants.{NothingListed}
+use Rattle.report_spec.specs.Verdict.{Verdict, TooLarge, RefusedElf, RefusedC, RefusedPair, RefusedCode, Judged, Judgement, maximum_of}
+use Rattle.verdict_spec.specs.Listing.{names_of, pair_fault, first_unpaired}
+use Rattle.straight_code.specs.Straight.{not_straight_at}
 use Rattle.straight_code.specs.Decision.{accepts}
 
 -- the text is a unit of the grammar
@@ -30,8 +30,8 @@ IsInGrammar text = (tree : TranslationUnit) × HasTree text tree
 
 -- ---- code
 
--- the code of the function of a name has this fault at this address: its symbols have two values, and it stands at the
--- second; or it is the first fault of all that the function reaches
+-- the code of the function of a name has this fault at this address: its symbols have two values, and the second is the
+-- address; or it is the first fault of all that the function reaches
 pub data HasCodeFault (image : Image) (name : List ℕ) : CodeKind → (address : ℕ) → Type 0 where
   ambiguous : (first second : ℕ) → function_named image name ≡ Two first second → HasCodeFault image name Ambiguous second
   of_reach : (entry : ℕ) (kind : CodeKind) (address : ℕ) → function_named image name ≡ One entry → IsFirst (IsReachFault image entry) kind address
@@ -47,17 +47,17 @@ IsSoundCode image name = (entry : ℕ) × HasSoundCode image name entry
 
 -- the first of these names whose code has a fault, and that fault
 pub record IsFirstCodeFault (image : Image) (names : List (List ℕ)) (kind : CodeKind) (name : List ℕ) (address : ℕ) : Type 0 where
-  pub front : List (List ℕ)
+  pub prefix : List (List ℕ)
   pub rest : List (List ℕ)
-  pub split : names ≡ front ++ (name ∷ rest)
-  pub earlier : All (λ other. IsSoundCode image other) front
+  pub split : names ≡ prefix ++ (name ∷ rest)
+  pub earlier : All (λ other. IsSoundCode image other) prefix
   pub fault : HasCodeFault image name kind address
 
--- the code of the function at an entry is straight, and it is accepted
+-- the code of the function at an entry is straight-line, and it is accepted
 abbrev pub is_proved : Image → Unit → (entry size : ℕ) → Bool
-is_proved image unit entry size = not (is_some (crooked_at image entry size)) && accepts image unit entry size
+is_proved image unit entry size = not (is_some (not_straight_at image entry size)) && accepts image unit entry size
 
--- what is said of a function with sound code; how much stack it takes is said of a valid one, and of another one 0
+-- the judgement on a function with sound code; that on a function that isn't valid gives stack 0
 pub record IsJudgement (image : Image) (unit : Unit) (judgement : Judgement) : Type 0 where
   pub entry : ℕ
   pub size : ℕ
@@ -89,9 +89,9 @@ pub data Judges (elf c : List ℕ) (functions : Option (List (List ℕ))) : Verd
   no_tokens : (image : Image) (kind : TokenFaultKind) (offset : ℕ) → IsElf elf image → IsTokenFault c kind offset
       → Judges elf c functions (RefusedC (Token kind) offset)
   no_unit : (image : Image) (kind : ParseFaultKind) (offset : ℕ) → IsElf elf image → IsParseFault c kind offset
-      → Judges elf c functions (RefusedSyntax kind offset)
-  c_refused : (image : Image) (tree : TranslationUnit) (kind : SourceKind) (offset : ℕ) → IsElf elf image → HasTree c tree
-      → IsRefusedSource c kind offset → Judges elf c functions (RefusedC kind offset)
+      → Judges elf c functions (RefusedC (Syntax kind) offset)
+  other_form : (image : Image) (tree : TranslationUnit) → IsElf elf image → HasTree c tree → ((unit : Unit) → IsC c unit → ⊥)
+      → Judges elf c functions (RefusedC Later 0)
   too_many : (image : Image) (unit : Unit) (names : List (List ℕ)) → Lists elf c functions image unit names
       → maximum_of Functions < length names → Judges elf c functions (TooLarge Functions)
   nothing_listed : (image : Image) (unit : Unit) → Lists elf c functions image unit [] → Judges elf c functions (RefusedPair NothingListed (codes "-"))

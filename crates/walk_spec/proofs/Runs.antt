@@ -1,10 +1,11 @@
 -- Laws of runs.
 use Rattle.std.proofs.Common.{◌≡◌, ◌∙◌, ◌⊎◌, ℕ, ◌+◌, ◌≤◌, zero, suc, Bool, true, false, nat_le, List, [], ◌∷◌, refl, sym, ap, ap₂, inl, inr, arith, ◌-◌, ◌||◌}
+use Rattle.std.proofs.lemmas.List.Elements.{All-head, All-tail}
 use Rattle.std.proofs.lemmas.Bool.{or_cases, or_left, or_right, leb-true, le-leb, cases_order, false_from_ne_true, cases_lt, lt-leb}
-use Rattle.walk_spec.specs.Walk.{Walk, IsWalk, Mark, after, arrivals, tick, reached, stopped, marks_left, StopsAt}
+use Rattle.walk_spec.specs.TransitionSystem.{TransitionSystem, IsTransitionSystem, Mark, AreCounted, Always, after, arrivals, tick, reached, stopped, marks_left, StopsAt}
 
-module _ {S : Type 0} (w : Walk S) where
-  -- a run goes on from where it stands
+module _ {S : Type 0} (w : TransitionSystem S) where
+  -- a run continues from its state as any run from there
   pub after-add : (j k : ℕ) (s : S) → after w (j + k) s ≡ after w k (after w j s)
   unfolding after
   after-add zero k s = let e : zero + k ≡ k = omega arith in ap (λ (n : ℕ). after w n s) e
@@ -56,7 +57,7 @@ module _ {S : Type 0} (w : Walk S) where
       | inr there ↦ or_right (w.returned (after w (j + k) s)) _ (reached_on ms j k s there)
     ]
 
-  -- a run stops as its rest does, from where it stands, at what is left of the marks
+  -- a run stops as its rest does, at what is left of the marks
   pub reached-add : (ms : List Mark) (t j : ℕ) (s : S) → reached w ms (t + j) s ≡ reached w (marks_left w ms t s) j (after w t s)
   unfolding reached
   reached-add [] t j s = refl
@@ -70,6 +71,26 @@ module _ {S : Type 0} (w : Walk S) where
 
   pub stopped-add : (ms : List Mark) (t j : ℕ) (s : S) → stopped w ms (t + j) s ≡ stopped w (marks_left w ms t s) j (after w t s)
   stopped-add ms t j s = ap₂ (λ (a b : Bool). a || b) (ap w.returned (after-add t j s)) (reached-add ms t j s)
+
+  -- ---- the start is no stop
+
+  not_reached_at_once : (ms : List Mark) (s : S) → AreCounted ms → reached w ms 0 s ≡ false
+  unfolding reached arrivals
+  not_reached_at_once [] s counted = refl
+  not_reached_at_once (m ∷ ms) s counted =
+      ap₂ (λ (a b : Bool). a || b) (lt-leb m.count 0 (omega (arith, All-head (λ (x : Mark). 1 ≤ x.count) m ms counted)))
+      (not_reached_at_once ms s (All-tail (λ (x : Mark). 1 ≤ x.count) m ms counted))
+
+  -- where each mark counts at least one arrival, a run that hasn't returned does not stop at its start
+  pub not_stopped_at_once : (ms : List Mark) (s : S) → AreCounted ms → w.returned s ≡ false → stopped w ms 0 s ≡ false
+  unfolding after
+  not_stopped_at_once ms s counted runs = ap₂ (λ (a b : Bool). a || b) runs (not_reached_at_once ms s counted)
+
+  -- ---- what always holds
+
+  pub always_kept : (test : ℕ → S → Bool) (s : S) → Always w test s → Always w test (w.step s)
+  unfolding after
+  always_kept test s always = λ k address. always (suc k) address
 
   -- a run stops at one moment
   pub stops_once : (ms : List Mark) (t u : ℕ) (s : S) → StopsAt w ms t s → StopsAt w ms u s → t ≡ u
@@ -86,7 +107,7 @@ module _ {S : Type 0} (w : Walk S) where
 
   -- ---- where a run has ended
 
-  module _ {leads lands : ℕ → ℕ → Type 0} {fine : S → Type 0} {count : ℕ} (laws : IsWalk w leads lands fine count) where
+  module _ {leads lands : ℕ → ℕ → Type 0} {fine : S → Type 0} {count : ℕ} (laws : IsTransitionSystem w leads lands fine count) where
     pub not_at_end : (n : ℕ) (s : S) → (w.returned s ≡ true) ⊎ (w.failed s ≡ true) → w.at n s ≡ false
     not_at_end n s (inl end) = false_from_ne_true _ (λ here. let runs = (laws.no_end n s here).0 in absurd (differ end runs))
       where

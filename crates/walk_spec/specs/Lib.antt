@@ -1,2 +1,2 @@
-pub mod Walk
+pub mod TransitionSystem
 pub mod Simulation

@@ -1,7 +1,7 @@
-//! Walks: deterministic transition systems that may return, fail, or go on for ever.
+//! Transition systems that may return, fail, or run for ever, and when two of them agree.
 //!
-//! `specs/Walk.antt` says what a walk is, where a run stands after a number of steps, how often it has arrived
-//! at a node, and when it stops; `specs/Simulation.antt` says when two walks agree. `proofs/` has the laws of
-//! runs. Nothing of the crate runs.
+//! `specs/TransitionSystem.antt` defines a system, its runs, its arrivals at nodes and its stops;
+//! `specs/Simulation.antt` when a binary system and a source system agree up to their stops.
+//! Nothing of the crate runs.
 
 #![tactic(auto)]

@@ -1,5 +1,4 @@
-pub mod Gives
+pub mod Built
 mod Steps
 mod Stages
 mod Calls
-mod Copied

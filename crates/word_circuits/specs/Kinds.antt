@@ -17,17 +17,17 @@ gate_of connective.Xor a b = xor_gate a b
 gate_of (connective.Choose c) a b = mux_gate c a b
 
 abbrev pub gate_with : With → Literal → Build Literal
-gate_with (with.AndBehind bit) x = and_gate x bit
+gate_with (with.AndAfter bit) x = and_gate x bit
 gate_with (with.AndBefore bit) x = and_gate bit x
 gate_with (with.Choose c a) x = mux_gate c a x
 
 abbrev pub move_of : Shift → ℕ → Bits → Bits
-move_of shift.Up places xs = moved_up places xs
-move_of (shift.Down fill) places xs = moved_down fill places xs
+move_of shift.Up distance xs = moved_up distance xs
+move_of (shift.Down fill) distance xs = moved_down fill distance xs
 
--- one row of a product behind what stands so far
-abbrev pub add_row : (xs : Bits) → (place : ℕ) → (bit : Literal) → (so_far : Bits) → Build Bits
-add_row xs place bit so_far = and_each (take (length xs - place) xs) bit >>= λ row. sum_bits so_far (zeros place ++ row) none
+-- one row of a product, added to the sum so far
+abbrev pub add_row : (xs : Bits) → (index : ℕ) → (bit : Literal) → (so_far : Bits) → Build Bits
+add_row xs index bit so_far = and_each (take (length xs - index) xs) bit >>= λ row. sum_bits so_far (zeros index ++ row) none
 
 -- whether q y + r = x, in whole numbers
 abbrev pub makes_up : (q r x y : Bits) → Build Literal

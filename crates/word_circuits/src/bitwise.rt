@@ -1,11 +1,11 @@
 ghost use Rattle.std.specs.Prelude.{ℕ, IfOk};
 ghost use Rattle.term_spec.specs.Term.{Term};
 ghost use Rattle.blast_spec.specs.Circuits as circuits;
-ghost use Rattle.word_circuits.specs.Gives.{Gives};
+ghost use Rattle.word_circuits.specs.Built.{IsBuilt, MakesBit, MakesWord};
 ghost use Rattle.word_circuits.specs.Kinds.{gate_of, gate_with};
 
 use crate::Gates;
-use crate::words::{negation, negations, none, one};
+use crate::words::{negations, none, one};
 use clause_spec::Literal;
 use std::alloc::{AllocError, Global};
 
@@ -26,7 +26,7 @@ pub enum Connective {
 #[derive(Clone, Copy, Debug)]
 pub(crate) enum With {
     /// the bit and this one
-    AndBehind(Literal),
+    AndAfter(Literal),
     /// this one and the bit
     AndBefore(Literal),
     /// where the first holds the second, else the bit
@@ -36,7 +36,8 @@ pub(crate) enum With {
 impl Gates {
     /// So many new bits.
     pub fn new_bits(&mut self, alloc: Global, count: usize) -> Result<Vec<Literal>, AllocError>
-        ensures { IfOk result (λ out. (term : Term) (place : ℕ) → Gives (circuits.new_bits term place count) self.old out.items self.new) }
+        ensures { IfOk result (λ out. (term : Term) (index : ℕ)
+            → IsBuilt (circuits.new_bits term index count) self.old out.items self.new) }
     {
         let mut out = Vec::new(alloc);
         for _ in 0..count {
@@ -53,7 +54,7 @@ impl Gates {
         a: Literal,
         b: Literal,
     ) -> Result<Literal, AllocError>
-        ensures { IfOk result (λ o. Gives (gate_of connective a b) self.old o self.new) }
+        ensures { MakesBit result (gate_of connective a b) self.old self.new }
     {
         match connective {
             Connective::And => self.and_gate(a, b),
@@ -63,7 +64,7 @@ impl Gates {
         }
     }
 
-    /// A gate of two bits for each place that both words have.
+    /// A gate of two bits for each index that both words have.
     pub fn each_two(
         &mut self,
         alloc: Global,
@@ -71,11 +72,12 @@ impl Gates {
         xs: &[Literal],
         ys: &[Literal],
     ) -> Result<Vec<Literal>, AllocError>
-        ensures { IfOk result (λ out. Gives (circuits.each_two (gate_of connective) xs.now ys.now) self.old out.items self.new) }
+        ensures { MakesWord result (circuits.each_two
+            (gate_of connective) xs.now ys.now) self.old self.new }
     {
         let mut out = Vec::new(alloc);
-        for place in 0..xs.len().min(ys.len()) {
-            let bit = self.connect(connective, xs[place], ys[place])?;
+        for index in 0..xs.len().min(ys.len()) {
+            let bit = self.connect(connective, xs[index], ys[index])?;
             out.push(bit)?;
         }
         Ok(out)
@@ -89,17 +91,17 @@ impl Gates {
         xs: &[Literal],
         ys: &[Literal],
     ) -> Result<Vec<Literal>, AllocError>
-        ensures { IfOk result (λ out. Gives (circuits.choose_bits c xs.now ys.now) self.old out.items self.new) }
+        ensures { MakesWord result (circuits.choose_bits c xs.now ys.now) self.old self.new }
     {
         self.each_two(alloc, Connective::Choose(c), xs, ys)
     }
 
     /// A gate of one bit.
     fn connect_with(&mut self, with: With, x: Literal) -> Result<Literal, AllocError>
-        ensures { IfOk result (λ o. Gives (gate_with with x) self.old o self.new) }
+        ensures { MakesBit result (gate_with with x) self.old self.new }
     {
         match with {
-            With::AndBehind(bit) => self.and_gate(x, bit),
+            With::AndAfter(bit) => self.and_gate(x, bit),
             With::AndBefore(bit) => self.and_gate(bit, x),
             With::Choose(c, a) => self.mux_gate(c, a, x),
         }
@@ -112,7 +114,7 @@ impl Gates {
         with: With,
         xs: &[Literal],
     ) -> Result<Vec<Literal>, AllocError>
-        ensures { IfOk result (λ out. Gives (circuits.each (gate_with with) xs.now) self.old out.items self.new) }
+        ensures { MakesWord result (circuits.each (gate_with with) xs.now) self.old self.new }
     {
         let mut out = Vec::new(alloc);
         for x in xs {
@@ -122,14 +124,15 @@ impl Gates {
         Ok(out)
     }
 
-    /// A gate of what stands so far and of each further bit, from the lowest on.
+    /// A gate of the result so far and of each further bit, from the lowest on.
     fn fold_gates(
         &mut self,
         connective: Connective,
         first: Literal,
         bits: &[Literal],
     ) -> Result<Literal, AllocError>
-        ensures { IfOk result (λ o. Gives (circuits.fold_gates (gate_of connective) first bits.now) self.old o self.new) }
+        ensures { MakesBit result (circuits.fold_gates
+            (gate_of connective) first bits.now) self.old self.new }
     {
         let mut so_far = first;
         for bit in bits {
@@ -140,7 +143,7 @@ impl Gates {
 
     /// All bits; truth where there are none.
     pub fn and_all(&mut self, bits: &[Literal]) -> Result<Literal, AllocError>
-        ensures { IfOk result (λ o. Gives (circuits.and_all bits.now) self.old o self.new) }
+        ensures { MakesBit result (circuits.and_all bits.now) self.old self.new }
     {
         match bits {
             [] => Ok(one()),
@@ -150,7 +153,7 @@ impl Gates {
 
     /// One of the bits at least; falsehood where there are none.
     pub fn or_all(&mut self, bits: &[Literal]) -> Result<Literal, AllocError>
-        ensures { IfOk result (λ o. Gives (circuits.or_all bits.now) self.old o self.new) }
+        ensures { MakesBit result (circuits.or_all bits.now) self.old self.new }
     {
         match bits {
             [] => Ok(none()),
@@ -158,14 +161,14 @@ impl Gates {
         }
     }
 
-    /// Whether the words are equal, at the places that both have.
+    /// Whether the words are equal, at the indices that both have.
     pub fn equal_bits(
         &mut self,
         alloc: Global,
         xs: &[Literal],
         ys: &[Literal],
     ) -> Result<Literal, AllocError>
-        ensures { IfOk result (λ o. Gives (circuits.equal_bits xs.now ys.now) self.old o self.new) }
+        ensures { MakesBit result (circuits.equal_bits xs.now ys.now) self.old self.new }
     {
         let unlike = self.each_two(alloc, Connective::Xor, xs, ys)?;
         let alike = negations(alloc, &unlike)?;

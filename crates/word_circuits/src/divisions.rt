@@ -1,16 +1,17 @@
-ghost use Rattle.std.specs.Prelude.{IfOk, OnOk};
 ghost use Rattle.blast_spec.specs.Gates.{claim};
 ghost use Rattle.blast_spec.specs.Circuits as circuits;
-ghost use Rattle.word_circuits.specs.Gives.{Gives};
+ghost use Rattle.word_circuits.specs.Built.{MakesBit, MakesClauses};
 ghost use Rattle.word_circuits.specs.Kinds.{makes_up};
 
 use crate::Gates;
-use crate::words::{negation, none, twice_as_wide};
+use crate::words::{none, twice_as_wide};
 use clause_spec::Literal;
+use cnf_core::negation;
 use std::alloc::{AllocError, Global};
 
 impl Gates {
-    /// Claims what quotient and remainder are where the divisor is 0: all bits set, and the dividend.
+    /// Claims what quotient and remainder are where the divisor is 0: all bits set, and the
+    /// dividend.
     fn claim_without_divisor(
         &mut self,
         some: Literal,
@@ -18,12 +19,13 @@ impl Gates {
         r: &[Literal],
         x: &[Literal],
     ) -> Result<(), AllocError>
-        ensures { OnOk result (Gives (claim (circuits.without_divisor some q.now r.now x.now)) self.old tt self.new) }
+        ensures { MakesClauses result (claim
+            (circuits.without_divisor some q.now r.now x.now)) self.old self.new }
     {
-        for place in 0..q.len().min(r.len()).min(x.len()) {
-            self.claim(&[some, q[place]])?;
-            self.claim(&[some, negation(r[place]), x[place]])?;
-            self.claim(&[some, r[place], negation(x[place])])?;
+        for index in 0..q.len().min(r.len()).min(x.len()) {
+            self.claim(&[some, q[index]])?;
+            self.claim(&[some, negation(r[index]), x[index]])?;
+            self.claim(&[some, r[index], negation(x[index])])?;
         }
         Ok(())
     }
@@ -37,7 +39,7 @@ impl Gates {
         x: &[Literal],
         y: &[Literal],
     ) -> Result<Literal, AllocError>
-        ensures { IfOk result (λ o. Gives (makes_up q.now r.now x.now y.now) self.old o self.new) }
+        ensures { MakesBit result (makes_up q.now r.now x.now y.now) self.old self.new }
     {
         let wide_q = twice_as_wide(alloc, q)?;
         let wide_y = twice_as_wide(alloc, y)?;
@@ -48,8 +50,8 @@ impl Gates {
         self.equal_bits(alloc, &sum, &wide_x)
     }
 
-    /// Claims that q and r are the quotient and the remainder of x and y: where y is not 0, q y + r = x in whole
-    /// numbers and r is less than y; else q has all bits set and r is x.
+    /// Claims that q and r are the quotient and the remainder of x and y: where y is not 0, q y + r
+    /// = x in whole numbers and r is less than y; else q has all bits set and r is x.
     pub fn division(
         &mut self,
         alloc: Global,
@@ -58,7 +60,7 @@ impl Gates {
         x: &[Literal],
         y: &[Literal],
     ) -> Result<(), AllocError>
-        ensures { OnOk result (Gives (circuits.division q.now r.now x.now y.now) self.old tt self.new) }
+        ensures { MakesClauses result (circuits.division q.now r.now x.now y.now) self.old self.new }
     {
         let some = self.or_all(y)?;
         let same = self.makes_up(alloc, q, r, x, y)?;

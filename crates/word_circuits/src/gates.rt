@@ -2,15 +2,14 @@ ghost use Rattle.std.specs.Prelude.{◌≡◌, ◌+◌, ◌++◌, ◌∷◌, [],
 ghost use Rattle.clause_spec.specs.Clause.{are_of};
 ghost use Rattle.blast_spec.specs.Gates as build;
 ghost use Rattle.blast_spec.specs.Circuits as circuits;
-ghost use Rattle.word_circuits.specs.Gives.{no_clauses, Gives};
+ghost use Rattle.word_circuits.specs.Built.{no_clauses, MakesBit, MakesClauses};
 
-use crate::words::negation;
 use clause_spec::Literal;
-use cnf_core::{ClauseList, Cnf};
+use cnf_core::{ClauseList, Cnf, negation};
 use std::alloc::{AllocError, Global};
 use std::marker::Model;
 
-/// Gates over numbered variables, each made behind the others.
+/// Gates over numbered variables, each made after the others (Tseitin's transformation).
 ///
 /// After an `Err` of one of its calls it is fit only to be dropped.
 #[derive(Drop)]
@@ -45,23 +44,19 @@ impl Gates {
         self.variables
     }
 
-    /// The clauses of all gates, copied. They may name only variables that were made.
-    pub fn into_cnf(self, alloc: Global) -> Result<Cnf, AllocError>
+    /// The clauses of all gates, moved out. They may name only variables that were made.
+    pub fn into_cnf(self) -> Cnf
         requires { are_of self.variables self.clauses ≡ true }
-        ensures { IfOk result (λ cnf. cnf ≡ self) }
+        ensures { result ≡ self }
     {
-        let mut cnf = Cnf::new(alloc, self.variables);
-        for place in 0..self.clauses.len() {
-            let clause = self.clauses.get(place).unwrap();
-            cnf.push(clause)?;
-        }
-        Ok(cnf)
+        Cnf::from_clauses(self.variables, self.clauses)
     }
 
-    /// The literal of a new variable. That there are no more numbers counts as want of memory.
+    /// The literal of a new variable. That there are no more numbers counts as out of memory.
     pub(crate) fn fresh(&mut self) -> Result<Literal, AllocError>
         ensures new { IfOk result (λ o. o ≡ build.literal_of (self.old.variables + 1)) }
-        ensures added { OnOk result (self.new ≡ record self.old { variables = self.old.variables + 1 }) }
+        ensures added { OnOk result (self.new
+            ≡ record self.old { variables = self.old.variables + 1 }) }
     {
         if self.variables == usize::MAX {
             return Err(AllocError);
@@ -73,23 +68,24 @@ impl Gates {
         })
     }
 
-    /// Adds a clause behind the others.
+    /// Adds a clause after the others.
     pub(crate) fn push(&mut self, clause: &[Literal]) -> Result<(), AllocError>
-        ensures { OnOk result (self.new ≡ record self.old { clauses = self.old.clauses ++ clause.now ∷ [] }) }
+        ensures { OnOk result (self.new
+            ≡ record self.old { clauses = self.old.clauses ++ clause.now ∷ [] }) }
     {
         self.clauses.push(clause)
     }
 
-    /// A clause that is to be met.
+    /// A clause that is to be satisfied.
     pub fn claim(&mut self, clause: &[Literal]) -> Result<(), AllocError>
-        ensures { OnOk result (Gives (build.claim (clause.now ∷ [])) self.old tt self.new) }
+        ensures { MakesClauses result (build.claim (clause.now ∷ [])) self.old self.new }
     {
         self.push(clause)
     }
 
     /// A literal that holds.
     pub fn truth(&mut self) -> Result<Literal, AllocError>
-        ensures { IfOk result (λ o. Gives (build.make build.Truth) self.old o self.new) }
+        ensures { MakesBit result (build.make build.Truth) self.old self.new }
     {
         let o = self.fresh()?;
         self.push(&[o])?;
@@ -98,7 +94,7 @@ impl Gates {
 
     /// Both.
     pub fn and_gate(&mut self, a: Literal, b: Literal) -> Result<Literal, AllocError>
-        ensures { IfOk result (λ o. Gives (circuits.and_gate a b) self.old o self.new) }
+        ensures { MakesBit result (circuits.and_gate a b) self.old self.new }
     {
         let o = self.fresh()?;
         self.push(&[negation(o), a])?;
@@ -109,7 +105,7 @@ impl Gates {
 
     /// One of them at least.
     pub fn or_gate(&mut self, a: Literal, b: Literal) -> Result<Literal, AllocError>
-        ensures { IfOk result (λ o. Gives (circuits.or_gate a b) self.old o self.new) }
+        ensures { MakesBit result (circuits.or_gate a b) self.old self.new }
     {
         let neither = self.and_gate(negation(a), negation(b))?;
         Ok(negation(neither))
@@ -117,7 +113,7 @@ impl Gates {
 
     /// One of them alone.
     pub fn xor_gate(&mut self, a: Literal, b: Literal) -> Result<Literal, AllocError>
-        ensures { IfOk result (λ o. Gives (circuits.xor_gate a b) self.old o self.new) }
+        ensures { MakesBit result (circuits.xor_gate a b) self.old self.new }
     {
         let o = self.fresh()?;
         self.push(&[negation(o), a, b])?;
@@ -129,7 +125,7 @@ impl Gates {
 
     /// The second where the first holds, else the third.
     pub fn mux_gate(&mut self, c: Literal, a: Literal, b: Literal) -> Result<Literal, AllocError>
-        ensures { IfOk result (λ o. Gives (circuits.mux_gate c a b) self.old o self.new) }
+        ensures { MakesBit result (circuits.mux_gate c a b) self.old self.new }
     {
         let o = self.fresh()?;
         self.push(&[negation(c), negation(a), o])?;
@@ -146,7 +142,7 @@ impl Gates {
         b: Literal,
         c: Literal,
     ) -> Result<Literal, AllocError>
-        ensures { IfOk result (λ o. Gives (circuits.majority_gate a b c) self.old o self.new) }
+        ensures { MakesBit result (circuits.majority_gate a b c) self.old self.new }
     {
         let o = self.fresh()?;
         self.push(&[negation(a), negation(b), o])?;

@@ -1,11 +1,8 @@
 //! Circuits for words, as clauses over numbered variables.
 //!
-//! The main type is [`Gates`], which a clause sees as the clauses of the gates that were made so far. Each of its
-//! calls makes exactly the gates that `blast_spec` (`specs/Gates.antt`, `specs/Circuits.antt`) has for it, numbered
-//! on from the last variable: what it answers and the clauses behind it are those of the build that its contract
-//! names (`specs/Gives.antt`). A word is the list of the literals of its bits, the lowest first.
-//!
-//! Each call can want memory. After an `Err` nothing is said of a [`Gates`]: it is fit only to be dropped.
+//! The main type is [`Gates`], which a contract sees as the clauses of the gates so far. Each of
+//! its calls makes exactly the gates that `blast_spec` (`specs/Gates.antt`, `specs/Circuits.antt`)
+//! has for it, numbered on from the last variable (`specs/Built.antt`).
 #![tactic(auto)]
 
 mod bitwise;
@@ -20,4 +17,4 @@ pub use bitwise::Connective;
 pub use clause_spec::Literal;
 pub use gates::Gates;
 pub use shifts::Shift;
-pub use words::{negation, negations, none, one, padded, sign_of};
+pub use words::{negations, none, one, padded, sign_of};

@@ -1,10 +1,10 @@
-ghost use Rattle.std.specs.Prelude.{IfOk};
 ghost use Rattle.blast_spec.specs.Circuits as circuits;
-ghost use Rattle.word_circuits.specs.Gives.{Gives};
+ghost use Rattle.word_circuits.specs.Built.{MakesBit, MakesWord};
 
 use crate::Gates;
-use crate::words::{negation, negations, one};
+use crate::words::{negations, one};
 use clause_spec::Literal;
+use cnf_core::negation;
 use std::alloc::{AllocError, Global};
 
 impl Gates {
@@ -16,14 +16,14 @@ impl Gates {
         ys: &[Literal],
         carry: Literal,
     ) -> Result<Vec<Literal>, AllocError>
-        ensures { IfOk result (λ out. Gives (circuits.sum_bits xs.now ys.now carry) self.old out.items self.new) }
+        ensures { MakesWord result (circuits.sum_bits xs.now ys.now carry) self.old self.new }
     {
         let mut out = Vec::new(alloc);
         let mut carried = carry;
-        for place in 0..xs.len().min(ys.len()) {
-            let half = self.xor_gate(xs[place], ys[place])?;
+        for index in 0..xs.len().min(ys.len()) {
+            let half = self.xor_gate(xs[index], ys[index])?;
             let bit = self.xor_gate(half, carried)?;
-            carried = self.majority_gate(xs[place], ys[place], carried)?;
+            carried = self.majority_gate(xs[index], ys[index], carried)?;
             out.push(bit)?;
         }
         Ok(out)
@@ -36,7 +36,7 @@ impl Gates {
         xs: &[Literal],
         ys: &[Literal],
     ) -> Result<Vec<Literal>, AllocError>
-        ensures { IfOk result (λ out. Gives (circuits.difference_bits xs.now ys.now) self.old out.items self.new) }
+        ensures { MakesWord result (circuits.difference_bits xs.now ys.now) self.old self.new }
     {
         let complement = negations(alloc, ys)?;
         self.sum_bits(alloc, xs, &complement, one())
@@ -49,11 +49,11 @@ impl Gates {
         ys: &[Literal],
         carry: Literal,
     ) -> Result<Literal, AllocError>
-        ensures { IfOk result (λ o. Gives (circuits.carry_bit xs.now ys.now carry) self.old o self.new) }
+        ensures { MakesBit result (circuits.carry_bit xs.now ys.now carry) self.old self.new }
     {
         let mut last = carry;
-        for place in 0..xs.len().min(ys.len()) {
-            last = self.majority_gate(xs[place], ys[place], last)?;
+        for index in 0..xs.len().min(ys.len()) {
+            last = self.majority_gate(xs[index], ys[index], last)?;
         }
         Ok(last)
     }
@@ -65,7 +65,7 @@ impl Gates {
         xs: &[Literal],
         ys: &[Literal],
     ) -> Result<Literal, AllocError>
-        ensures { IfOk result (λ o. Gives (circuits.less_bit xs.now ys.now) self.old o self.new) }
+        ensures { MakesBit result (circuits.less_bit xs.now ys.now) self.old self.new }
     {
         let complement = negations(alloc, ys)?;
         let carry = self.carry_bit(xs, &complement, one())?;

@@ -3,6 +3,7 @@ ghost use Rattle.clause_spec.specs.Clause as clause;
 ghost use Rattle.blast_spec.specs.Circuits as circuits;
 
 use clause_spec::Literal;
+use cnf_core::negation;
 use std::alloc::{AllocError, Global};
 
 /// Truth: variable 1.
@@ -22,16 +23,6 @@ pub fn none() -> Literal
     negation(one())
 }
 
-/// The other literal of the variable.
-pub fn negation(literal: Literal) -> Literal
-    ensures { result ≡ clause.negation literal }
-{
-    Literal {
-        variable: literal.variable,
-        is_negated: !literal.is_negated,
-    }
-}
-
 /// Each bit negated.
 pub fn negations(alloc: Global, xs: &[Literal]) -> Result<Vec<Literal>, AllocError>
     ensures { IfOk result (λ out. out.items ≡ map clause.negation xs.now) }
@@ -39,7 +30,7 @@ pub fn negations(alloc: Global, xs: &[Literal]) -> Result<Vec<Literal>, AllocErr
     xs.iter().map(|x| negation(*x)).collect(alloc)
 }
 
-/// A word with so many copies of a literal behind its top bit.
+/// A word with so many copies of a literal after its top bit.
 pub fn padded(
     alloc: Global,
     xs: &[Literal],
@@ -55,8 +46,8 @@ pub fn padded(
     Ok(out)
 }
 
-/// The word behind so many bits that don't hold.
-pub(crate) fn behind_zeros(
+/// The word after so many bits that don't hold.
+pub(crate) fn after_zeros(
     alloc: Global,
     count: usize,
     xs: &[Literal],

@@ -1,5 +1,5 @@
 use Rattle.c_parse_token.specs.Lists.{fault_of}
-use Rattle.c_parse.proofs.Told.{fault-numbered}
+use Rattle.c_parse.proofs.Reported.{fault-numbered}
 use Rattle.c_parse.proofs.fault_at.Goals as goal
 
 pub returns-in-At : goal.returns-in-At

@@ -1,6 +1,6 @@
 use Rattle.std.proofs.Common.{sym, arith}
 use Rattle.std.proofs.lemmas.List.{map-append, nil_from_length}
-use Rattle.c_token.proofs.Steps.{at_start, behind_blank, behind_token, at_fault, at_end}
+use Rattle.c_token.proofs.Steps.{at_start, after_blank, after_token, at_fault, at_end}
 use Rattle.c_token.proofs.Unique.{not_both, same_tokens}
 use Rattle.c_token.proofs.tokens.Goals as goal
 
@@ -12,13 +12,13 @@ pieces-init c = record {
 
 pub pieces-preserved-in-Blank : goal.pieces-preserved-in-Blank
 pieces-preserved-in-Blank c = record {
-  goes_on = rw c.split_at.ensures.back (behind_blank c.in-Some.first.now c.in-Some.after.now c.in-Blank.count c.in-Blank.then_fresh c.pieces.invariant.goes_on c.in-Some.ensures.cases.0 (sym c.in-Blank.ensures.piece));
+  goes_on = rw c.split_at.ensures.back (after_blank c.in-Some.first.now c.in-Some.after.now c.in-Blank.count c.in-Blank.then_fresh c.pieces.invariant.goes_on c.in-Some.ensures.cases.0 (sym c.in-Blank.ensures.piece));
   parts = omega (arith, c.pieces.invariant.parts, c.split_at.ensures.back_len);
 }
 
 pub pieces-preserved : goal.pieces-preserved
 pieces-preserved c = record {
-  goes_on = rw (c.split_at-in-Lexeme.ensures.back, c.in_ok-push-in-Lexeme.ensures.items, map-append) (behind_token c.in-Some.first.now c.in-Some.after.now _ c.in-Lexeme.count c.pieces.invariant.goes_on c.in-Some.ensures.cases.0 (sym c.in-Lexeme.ensures.piece));
+  goes_on = rw (c.split_at-in-Lexeme.ensures.back, c.in_ok-push-in-Lexeme.ensures.items, map-append) (after_token c.in-Some.first.now c.in-Some.after.now _ c.in-Lexeme.count c.pieces.invariant.goes_on c.in-Some.ensures.cases.0 (sym c.in-Lexeme.ensures.piece));
   parts = omega (arith, c.pieces.invariant.parts, c.split_at-in-Lexeme.ensures.back_len);
 }
 

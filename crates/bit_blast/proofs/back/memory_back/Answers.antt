@@ -2,8 +2,8 @@ use Rattle.std.proofs.Common.{◌∙◌, ◌-◌, ℕ, List, map, ap, sym, arith
 use Rattle.cnf_core.specs.Bits.{valuation}
 use Rattle.term_spec.specs.Value.{low_bits}
 use Rattle.term_core.specs.Memory.{bytes_of}
-use Rattle.goal_read.specs.Back.{first_byte}
-use Rattle.bit_blast.specs.declared.loads.LoadPlace.{LoadPlace}
+use Rattle.bit_blast_laws.specs.Back.{first_byte}
+use Rattle.bit_blast.specs.declared.loads.LoadIndices.{LoadIndices}
 use Rattle.bit_blast.specs.Loads.{load_at}
 use Rattle.bit_blast.proofs.Loading.{blank_load, within_at}
 use Rattle.bit_blast.proofs.Ties.{from_end}
@@ -14,15 +14,15 @@ pub backwards-init : goal.backwards-init
 backwards-init c = (
   omega arith,
   λ short q. ap (λ (f : ℕ → ℕ). f q) c.new-memory.ensures
-      ∙ ap (λ (list : List LoadPlace). low_bits 8 (first_byte (valuation c.args.values.now) q (map (load_at c.args.table.now) list))) (sym (from_end c.args.loads.now)),
+      ∙ ap (λ (list : List LoadIndices). low_bits 8 (first_byte (valuation c.args.values.now) q (map (load_at c.args.table.now) list))) (sym (from_end c.args.loads.now)),
 )
 
 pub write_back-requires : goal.write_back-requires
-write_back-requires c = within_at c.args.table.now c.args.loads.now (c.backwards.place - 1) blank_load c.requires (omega arith)
+write_back-requires c = within_at c.args.table.now c.args.loads.now (c.backwards.index - 1) blank_load c.requires (omega arith)
 
 pub backwards-preserved : goal.backwards-preserved
 backwards-preserved c = (
   omega (arith, c.backwards.invariant.0),
-  back_one (valuation c.args.values.now) c.args.table.now c.args.loads.now c.backwards.place (c.backwards.place - 1) blank_load (bytes_of c.backwards.memory)
+  back_one (valuation c.args.values.now) c.args.table.now c.args.loads.now c.backwards.index (c.backwards.index - 1) blank_load (bytes_of c.backwards.memory)
       (bytes_of c.write_back.new.memory) (omega arith) c.backwards.invariant.0 c.backwards.invariant.1 c.in_ok-write_back.ensures,
 )

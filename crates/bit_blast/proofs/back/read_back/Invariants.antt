@@ -6,4 +6,4 @@ use Rattle.bit_blast.proofs.Restored.{Read}
 use Rattle.bit_blast.proofs.back.read_back.Given as goal
 
 abbrev pub invariant-terms : goal.invariant-terms
-invariant-terms l = AreShort (loads_of l.blasted.table l.blasted.table) → Read (valuation l.values) l.blasted.table l.place (assignment_of l.assignment)
+invariant-terms l = AreShort (loads_of l.blasted.table l.blasted.table) → Read (valuation l.values) l.blasted.table l.index (assignment_of l.assignment)

@@ -4,9 +4,9 @@ use Rattle.clause_spec.specs.Clause.{holds}
 use Rattle.cnf_core.specs.Bits.{valuation}
 use Rattle.blast_spec.specs.Circuits.{Bits}
 use Rattle.blast_spec.specs.Goal.{bit_of}
-use Rattle.blast_laws.specs.Meaning.{number_of}
+use Rattle.bit_blast_laws.specs.Meaning.{number_of}
 use Rattle.term_core.specs.Memory.{bytes_of}
-use Rattle.bit_blast.specs.declared.loads.LoadPlace.{LoadPlace}
+use Rattle.bit_blast.specs.declared.loads.LoadIndices.{LoadIndices}
 use Rattle.bit_blast.specs.Loads.{AreWithin}
 use Rattle.bit_blast.proofs.Loading.{within_filter}
 use Rattle.bit_blast.proofs.Valued.{truth_back, word_back, bytes_back}
@@ -15,20 +15,20 @@ use Rattle.bit_blast.proofs.back.value_back.Goals as goal
 pub memory_back-requires : goal.memory_back-requires
 memory_back-requires c =
     subst (AreWithin c.args.table.now) (sym (c.deref.ensures.value ∙ c.in_ok-own-in-Memory.ensures))
-    (within_filter c.args.table.now c.is_distinct.ensures (λ (load : LoadPlace). load.memory == c.args.place) c.args.loads.now c.requires.within)
+    (within_filter c.args.table.now c.is_distinct.ensures (λ (load : LoadIndices). load.memory == c.args.index) c.args.loads.now c.requires.within)
 
 pub returns-in-Truth : goal.returns-in-Truth
 returns-in-Truth c = λ short.
-    truth_back (valuation c.args.values.now) c.args.table.now c.args.place c.args.variable c.holds.result c.in-Truth.is c.requires.term
+    truth_back (valuation c.args.values.now) c.args.table.now c.args.index c.args.variable c.holds.result c.in-Truth.is c.requires.term
     (c.holds.ensures ∙ ap (holds (valuation c.args.values.now)) (c.bit_of.ensures ∙ ap bit_of c.bits.ensures))
 
 pub returns-in-Word : goal.returns-in-Word
 returns-in-Word c = λ short.
-    word_back (valuation c.args.values.now) c.args.table.now c.args.place c.args.variable c.in-Word.width c.number_of.result c.low_bits.result c.in-Word.is c.requires.term
+    word_back (valuation c.args.values.now) c.args.table.now c.args.index c.args.variable c.in-Word.width c.number_of.result c.low_bits.result c.in-Word.is c.requires.term
     (c.number_of.ensures ∙ ap (λ (xs : Bits). number_of (valuation c.args.values.now) xs % 2 ^ 64) c.bits-in-Word.ensures) c.low_bits.ensures
 
 pub returns-in_ok-memory-in-Memory : goal.returns-in_ok-memory-in-Memory
 returns-in_ok-memory-in-Memory c = λ short.
-    bytes_back (valuation c.args.values.now) c.args.table.now c.is_distinct.ensures c.args.loads.now c.requires.within c.requires.loads c.args.place c.args.variable
+    bytes_back (valuation c.args.values.now) c.args.table.now c.is_distinct.ensures c.args.loads.now c.requires.within c.requires.loads c.args.index c.args.variable
     c.deref.result.now (bytes_of c.in_ok-memory-in-Memory.memory) c.requires.below c.in-Memory.is c.requires.term (c.deref.ensures.value ∙ c.in_ok-own-in-Memory.ensures)
     c.in_ok-memory-in-Memory.ensures short

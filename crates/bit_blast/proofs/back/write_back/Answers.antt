@@ -1,9 +1,9 @@
 use Rattle.std.proofs.Common.{◌≡◌, ◌∙◌, ◌%◌, ◌^◌, ap, arith}
 use Rattle.cnf_core.specs.Bits.{valuation}
 use Rattle.blast_spec.specs.Circuits.{Bits}
-use Rattle.blast_laws.specs.Meaning.{number_of}
+use Rattle.bit_blast_laws.specs.Meaning.{number_of}
 use Rattle.term_core.specs.Memory.{bytes_of}
-use Rattle.term_bits.specs.Places.{bits_at}
+use Rattle.bit_blast.specs.BitsAt.{bits_at}
 use Rattle.bit_blast.proofs.Numbers.{short_number}
 use Rattle.bit_blast.proofs.Written.{write_one}
 use Rattle.bit_blast.proofs.back.write_back.Goals as goal

@@ -2,22 +2,22 @@ use Rattle.std.proofs.Common.{ap, subst, length, arith}
 use Rattle.term_spec.specs.Term.{divide, remainder}
 use Rattle.term_bank.specs.Nodes.{tree_at}
 use Rattle.blast_spec.specs.Circuits.{Bits, division}
-use Rattle.word_circuits.specs.Gives.{Gives}
-use Rattle.term_table.specs.Terms.{terms_in}
-use Rattle.term_bits.specs.Places.{bits_at}
+use Rattle.word_circuits.specs.Built.{IsBuilt}
+use Rattle.bit_blast.specs.Terms.{terms_in}
+use Rattle.bit_blast.specs.BitsAt.{bits_at}
 use Rattle.bit_blast.proofs.Entered.{second_absent, second_grown, second_longer, division_gives}
 use Rattle.bit_blast.proofs.entry.enter_division.Goals as goal
 
 pub enter-requires-2-clause-absent : goal.enter-requires-2-clause-absent
 enter-requires-2-clause-absent c =
-    second_absent c.args.table.now c.enter.new.self c.args.x c.args.y c.in_ok-q.q.items c.requires.dividend c.requires.divisor c.in_ok-place.ensures.entered c.requires.no_remainder
+    second_absent c.args.table.now c.enter.new.self c.args.x c.args.y c.in_ok-q.q.items c.requires.dividend c.requires.divisor c.in_ok-index.ensures.entered c.requires.no_remainder
 
 pub returns-clause-rest : goal.returns-clause-rest
 returns-clause-rest c =
     omega (
       arith,
-      c.in_ok-rest.ensures.place,
-      second_longer c.args.table.now c.enter.new.self c.args.x c.args.y c.in_ok-q.q.items c.requires.dividend c.requires.divisor c.in_ok-place.ensures.entered,
+      c.in_ok-rest.ensures.index,
+      second_longer c.args.table.now c.enter.new.self c.args.x c.args.y c.in_ok-q.q.items c.requires.dividend c.requires.divisor c.in_ok-index.ensures.entered,
     )
 
 pub returns-clause-gives : goal.returns-clause-gives
@@ -27,9 +27,9 @@ returns-clause-gives c =
     division_gives dividend divisor c.args.table.now c.enter-2.new.self c.args.gates.now c.new_bits.new.self c.new_bits-2.new.self c.division.new.self
     (length c.bits-count.result.now) c.in_ok-q.q.items c.in_ok-r.r.items (ap (λ (bits : Bits). length bits) c.bits-count.ensures)
     (c.in_ok-q.ensures (divide dividend divisor) 0) (c.in_ok-r.ensures (remainder dividend divisor) 0)
-    (subst (λ (q : Bits). Gives (division q c.in_ok-r.r.items (bits_at c.args.table.now c.args.x) (bits_at c.args.table.now c.args.y)) c.new_bits-2.new.self tt c.division.new.self) c.deref.ensures.value
-    (subst (λ (r : Bits). Gives (division c.deref.result.now r (bits_at c.args.table.now c.args.x) (bits_at c.args.table.now c.args.y)) c.new_bits-2.new.self tt c.division.new.self) c.deref-2.ensures.value
-    (subst (λ (x : Bits). Gives (division c.deref.result.now c.deref-2.result.now x (bits_at c.args.table.now c.args.y)) c.new_bits-2.new.self tt c.division.new.self) c.bits.ensures
-    (subst (λ (y : Bits). Gives (division c.deref.result.now c.deref-2.result.now c.bits.result.now y) c.new_bits-2.new.self tt c.division.new.self) c.bits-2.ensures c.in_ok-division.ensures))))
-    (second_grown c.args.table.now c.enter.new.self c.args.x c.args.y c.in_ok-q.q.items c.requires.dividend c.requires.divisor c.in_ok-place.ensures.entered
+    (subst (λ (q : Bits). IsBuilt (division q c.in_ok-r.r.items (bits_at c.args.table.now c.args.x) (bits_at c.args.table.now c.args.y)) c.new_bits-2.new.self tt c.division.new.self) c.deref.ensures.value
+    (subst (λ (r : Bits). IsBuilt (division c.deref.result.now r (bits_at c.args.table.now c.args.x) (bits_at c.args.table.now c.args.y)) c.new_bits-2.new.self tt c.division.new.self) c.deref-2.ensures.value
+    (subst (λ (x : Bits). IsBuilt (division c.deref.result.now c.deref-2.result.now x (bits_at c.args.table.now c.args.y)) c.new_bits-2.new.self tt c.division.new.self) c.bits.ensures
+    (subst (λ (y : Bits). IsBuilt (division c.deref.result.now c.deref-2.result.now c.bits.result.now y) c.new_bits-2.new.self tt c.division.new.self) c.bits-2.ensures c.in_ok-division.ensures))))
+    (second_grown c.args.table.now c.enter.new.self c.args.x c.args.y c.in_ok-q.q.items c.requires.dividend c.requires.divisor c.in_ok-index.ensures.entered
     c.enter-2.new.self c.in_ok-r.r.items c.in_ok-rest.ensures.entered)

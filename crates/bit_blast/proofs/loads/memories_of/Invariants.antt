@@ -3,7 +3,7 @@ use Rattle.bit_blast.specs.Loads.{memories_of}
 use Rattle.bit_blast.proofs.loads.memories_of.Given as goal
 
 abbrev pub invariant-backwards : goal.invariant-backwards
-invariant-backwards l = (l.place ≤ length l.loads) × (l.memories.items ≡ memories_of (drop l.place l.loads))
+invariant-backwards l = (l.index ≤ length l.loads) × (l.memories.items ≡ memories_of (drop l.index l.loads))
 
 abbrev pub decreases-backwards : goal.decreases-backwards
-decreases-backwards l = l.place
+decreases-backwards l = l.index

@@ -1,10 +1,10 @@
 use Rattle.std.proofs.Common.{map, drop}
 use Rattle.blast_spec.specs.Goal.{tie}
-use Rattle.word_circuits.specs.Gives.{Leads}
+use Rattle.word_circuits.specs.Built.{Continues}
 use Rattle.bit_blast.specs.Loads.{load_at}
 use Rattle.bit_blast.proofs.loads.tie.Given as goal
 
 abbrev pub invariant-ties : goal.invariant-ties
 invariant-ties l =
-    Leads (tie (load_at l.table l.load) (map (load_at l.table) l.later)) l.initial.gates l.gates
+    Continues (tie (load_at l.table l.load) (map (load_at l.table) l.later)) l.initial.gates l.gates
     (tie (load_at l.table l.load) (map (load_at l.table) (drop l.other-index l.later))) (λ (u : Unit {0}). u)

@@ -1,9 +1,9 @@
 use Rattle.std.proofs.Common.{map, drop}
 use Rattle.blast_spec.specs.Goal.{tie_all}
-use Rattle.word_circuits.specs.Gives.{Leads}
 use Rattle.bit_blast.specs.Loads.{load_at}
+use Rattle.bit_blast.proofs.Within.{ContinuesWithin}
 use Rattle.bit_blast.proofs.loads.tie_all.Given as goal
 
 abbrev pub invariant-ties : goal.invariant-ties
 invariant-ties l =
-    Leads (tie_all (map (load_at l.table) l.loads)) l.initial.gates l.gates (tie_all (map (load_at l.table) (drop l.place l.loads))) (λ (u : Unit {0}). u)
+    ContinuesWithin l.maximum (tie_all (map (load_at l.table) l.loads)) l.initial.gates l.gates (tie_all (map (load_at l.table) (drop l.index l.loads)))

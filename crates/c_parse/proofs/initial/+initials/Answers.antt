@@ -2,16 +2,16 @@ use Rattle.std.proofs.Common.{arith, ℕ, ◌+◌, ◌-◌, ◌∙◌, sym}
 use Rattle.c_spec.specs.declared.token.Punctuator.TheVariants as punctuator
 use Rattle.c_grammar_spec.specs.declared.Role.{Role}
 use Rattle.c_grammar_spec.specs.declared.Role.TheVariants.{Nothing}
-use Rattle.c_grammar_spec.specs.Leaves.{awaited}
+use Rattle.c_grammar_spec.specs.Leaves.{expected}
 use Rattle.exact_read.specs.Grammar.{read_map}
-use Rattle.c_expression_reader.specs.Classes.{mark_place}
-use Rattle.c_expression_reader.specs.Readers.{token}
-use Rattle.c_unit_reader.specs.Initializers.{end_of_initial, read_designated, read_initial, read_initials}
+use Rattle.c_expression_laws.specs.Classes.{mark_offset}
+use Rattle.c_expression_laws.specs.Parsers.{token}
+use Rattle.c_statement_laws.specs.Initializers.{end_of_initial, read_designated, read_initial, read_initials}
 use Rattle.c_syntax.specs.Expressions.{expression_of}
 use Rattle.c_parse_token.specs.Lists.{list_of, names_of}
 use Rattle.c_parse_token.proofs.Steps.{fewer}
 use Rattle.c_parse_expression.specs.Whole.{expressions}
-use Rattle.c_parse_expression.proofs.Errors.{gives-from, passed}
+use Rattle.c_parse_token.proofs.Errors.{gives-from, passed}
 use Rattle.c_parse.proofs.Initials.{initials-start, initials-first_error, initials-comma, initials-comma_error, initials-step, initials-error, initials-end, initials-unclosed, initials-end_comma, initials-unclosed_comma, braced-found, braced-error}
 use Rattle.c_parse.proofs.Shorter.{conditional-shorter}
 use Rattle.c_parse.proofs.initial.+initials.Goals as goal
@@ -20,13 +20,13 @@ pub initials-items-init : goal.initials-items-init
 initials-items-init t c =
     let names = names_of c.args.names.now in
     let inner = expressions c.args.names.now in
-    record { going = initials-start names inner c.args.depth (read_initial names inner c.args.room c.args.depth) c.in_ok-end.end (list_of c.args.tokens.now.rest.now) (list_of c.designated.new.tokens.rest.now) c.in_ok-end.ensures.gives; fewer = c.in_ok-end.ensures.shorter }
+    record { going = initials-start names inner c.args.depth (read_initial names inner c.args.fuel c.args.depth) c.in_ok-end.end (list_of c.args.tokens.now.rest.now) (list_of c.designated.new.tokens.rest.now) c.in_ok-end.ensures.gives; fewer = c.in_ok-end.ensures.shorter }
 
 pub initials-items-preserved : goal.initials-items-preserved
 initials-items-preserved t c =
     let names = names_of c.args.names.now in
     let inner = expressions c.args.names.now in
-    let whole = read_initials names inner c.args.depth (read_initial names inner c.args.room c.args.depth) (list_of c.args.tokens.now.rest.now) in
+    let whole = read_initials names inner c.args.depth (read_initial names inner c.args.fuel c.args.depth) (list_of c.args.tokens.now.rest.now) in
     let rest = c.designated-in-items.new.tokens.rest.now in
     let comma = initials-comma {whole = whole} c.items.invariant.going (sym c.next_is.ensures ∙ c.items-test.true) c.in_ok-mark.ensures.gives (fewer c.mark.new.self.rest.now c.items.tokens.rest.now (omega (arith, c.in_ok-mark.ensures.shorter))) in
     record {
@@ -38,33 +38,33 @@ pub initials-returns-in_err-mark-clause-gives : goal.initials-returns-in_err-mar
 initials-returns-in_err-mark-clause-gives t c =
     let names = names_of c.args.names.now in
     let inner = expressions c.args.names.now in
-    let whole = read_initials names inner c.args.depth (read_initial names inner c.args.room c.args.depth) (list_of c.args.tokens.now.rest.now) in
-    passed whole (λ (_ : Unit {0}). tt {0}) _ _ c.in_err-mark.field-0.0 c.from_residual-in_err-mark.ensures.1 (gives-from (token c.items.end (awaited c.items.end) (mark_place punctuator.Comma) (list_of c.items.tokens.rest.now)) whole (λ (x : ℕ). x) (λ (_ : Unit {0}). tt {0}) _ c.in_err-mark.field-0.0
+    let whole = read_initials names inner c.args.depth (read_initial names inner c.args.fuel c.args.depth) (list_of c.args.tokens.now.rest.now) in
+    passed whole (λ (_ : Unit {0}). tt {0}) _ _ c.in_err-mark.field-0.0 c.from_residual-in_err-mark.ensures.1 (gives-from (token c.items.end (expected c.items.end) (mark_offset punctuator.Comma) (list_of c.items.tokens.rest.now)) whole (λ (x : ℕ). x) (λ (_ : Unit {0}). tt {0}) _ c.in_err-mark.field-0.0
     (initials-comma_error {whole = whole} c.items.invariant.going (sym c.next_is.ensures ∙ c.items-test.true)) c.in_err-mark.ensures.gives)
 
 pub initials-returns-in_err-mark-2-clause-gives : goal.initials-returns-in_err-mark-2-clause-gives
 initials-returns-in_err-mark-2-clause-gives t c =
     let names = names_of c.args.names.now in
     let inner = expressions c.args.names.now in
-    let whole = read_initials names inner c.args.depth (read_initial names inner c.args.room c.args.depth) (list_of c.args.tokens.now.rest.now) in
+    let whole = read_initials names inner c.args.depth (read_initial names inner c.args.fuel c.args.depth) (list_of c.args.tokens.now.rest.now) in
     let comma = initials-comma {whole = whole} c.items.invariant.going (sym c.next_is.ensures ∙ c.items-test.true) c.in_ok-mark.ensures.gives (fewer c.mark.new.self.rest.now c.items.tokens.rest.now (omega (arith, c.in_ok-mark.ensures.shorter))) in
-    passed whole (λ (_ : Unit {0}). tt {0}) _ _ c.in_err-mark-2.field-0.0 c.from_residual-in_err-mark-2.ensures.1 (gives-from (token Nothing (awaited Nothing) (mark_place punctuator.RightBrace) (list_of c.mark.new.self.rest.now)) whole (λ (x : ℕ). x) (λ (_ : Unit {0}). tt {0}) _ c.in_err-mark-2.field-0.0
+    passed whole (λ (_ : Unit {0}). tt {0}) _ _ c.in_err-mark-2.field-0.0 c.from_residual-in_err-mark-2.ensures.1 (gives-from (token Nothing (expected Nothing) (mark_offset punctuator.RightBrace) (list_of c.mark.new.self.rest.now)) whole (λ (x : ℕ). x) (λ (_ : Unit {0}). tt {0}) _ c.in_err-mark-2.field-0.0
     (initials-unclosed_comma {whole = whole} comma (sym c.starts_initial.ensures ∙ c.if-not-starts_initial.true)) c.in_err-mark-2.ensures.gives)
 
 pub initials-returns-in_err-end-2-clause-gives : goal.initials-returns-in_err-end-2-clause-gives
 initials-returns-in_err-end-2-clause-gives t c =
     let names = names_of c.args.names.now in
     let inner = expressions c.args.names.now in
-    let whole = read_initials names inner c.args.depth (read_initial names inner c.args.room c.args.depth) (list_of c.args.tokens.now.rest.now) in
+    let whole = read_initials names inner c.args.depth (read_initial names inner c.args.fuel c.args.depth) (list_of c.args.tokens.now.rest.now) in
     let comma = initials-comma {whole = whole} c.items.invariant.going (sym c.next_is.ensures ∙ c.items-test.true) c.in_ok-mark.ensures.gives (fewer c.mark.new.self.rest.now c.items.tokens.rest.now (omega (arith, c.in_ok-mark.ensures.shorter))) in
-    passed whole (λ (_ : Unit {0}). tt {0}) _ _ c.in_err-end-2.field-0.0 c.from_residual-in_err-end-2.ensures.1 (gives-from (read_map end_of_initial (read_designated inner c.args.depth (read_initial names inner c.args.room c.args.depth)) (list_of c.mark.new.self.rest.now)) whole (λ (x : Role). x) (λ (_ : Unit {0}). tt {0}) _ c.in_err-end-2.field-0.0
+    passed whole (λ (_ : Unit {0}). tt {0}) _ _ c.in_err-end-2.field-0.0 c.from_residual-in_err-end-2.ensures.1 (gives-from (read_map end_of_initial (read_designated inner c.args.depth (read_initial names inner c.args.fuel c.args.depth)) (list_of c.mark.new.self.rest.now)) whole (λ (x : Role). x) (λ (_ : Unit {0}). tt {0}) _ c.in_err-end-2.field-0.0
     (initials-error {whole = whole} comma (sym c.starts_initial.ensures ∙ c.if-not-starts_initial.false)) c.in_err-end-2.ensures.gives)
 
 pub initials-returns-then-not-starts_initial-clause-gives : goal.initials-returns-then-not-starts_initial-clause-gives
 initials-returns-then-not-starts_initial-clause-gives t c =
     let names = names_of c.args.names.now in
     let inner = expressions c.args.names.now in
-    let whole = read_initials names inner c.args.depth (read_initial names inner c.args.room c.args.depth) (list_of c.args.tokens.now.rest.now) in
+    let whole = read_initials names inner c.args.depth (read_initial names inner c.args.fuel c.args.depth) (list_of c.args.tokens.now.rest.now) in
     let comma = initials-comma {whole = whole} c.items.invariant.going (sym c.next_is.ensures ∙ c.items-test.true) c.in_ok-mark.ensures.gives (fewer c.mark.new.self.rest.now c.items.tokens.rest.now (omega (arith, c.in_ok-mark.ensures.shorter))) in
     initials-end_comma {whole = whole} comma (sym c.starts_initial.ensures ∙ c.if-not-starts_initial.true) c.in_ok-mark-2.ensures.gives
 
@@ -72,8 +72,8 @@ pub initials-returns-in_err-mark-3-clause-gives : goal.initials-returns-in_err-m
 initials-returns-in_err-mark-3-clause-gives t c =
     let names = names_of c.args.names.now in
     let inner = expressions c.args.names.now in
-    let whole = read_initials names inner c.args.depth (read_initial names inner c.args.room c.args.depth) (list_of c.args.tokens.now.rest.now) in
-    passed whole (λ (_ : Unit {0}). tt {0}) _ _ c.in_err-mark-3.field-0.0 c.from_residual-in_err-mark-3.ensures.1 (gives-from (token c.items.end (awaited c.items.end) (mark_place punctuator.RightBrace) (list_of c.items.tokens.rest.now)) whole (λ (x : ℕ). x) (λ (_ : Unit {0}). tt {0}) _ c.in_err-mark-3.field-0.0
+    let whole = read_initials names inner c.args.depth (read_initial names inner c.args.fuel c.args.depth) (list_of c.args.tokens.now.rest.now) in
+    passed whole (λ (_ : Unit {0}). tt {0}) _ _ c.in_err-mark-3.field-0.0 c.from_residual-in_err-mark-3.ensures.1 (gives-from (token c.items.end (expected c.items.end) (mark_offset punctuator.RightBrace) (list_of c.items.tokens.rest.now)) whole (λ (x : ℕ). x) (λ (_ : Unit {0}). tt {0}) _ c.in_err-mark-3.field-0.0
     (initials-unclosed {whole = whole} c.items.invariant.going (sym c.next_is.ensures ∙ c.items-test.false)) c.in_err-mark-3.ensures.gives)
 
 pub initials-returns-in_err-end-clause-gives : goal.initials-returns-in_err-end-clause-gives
@@ -81,9 +81,9 @@ initials-returns-in_err-end-clause-gives t c =
     let names = names_of c.args.names.now in
     let inner = expressions c.args.names.now in
     let tokens = list_of c.args.tokens.now.rest.now in
-    let whole = read_initials names inner c.args.depth (read_initial names inner c.args.room c.args.depth) tokens in
-    passed whole (λ (_ : Unit {0}). tt {0}) _ _ c.in_err-end.field-0.0 c.from_residual.ensures.1 (gives-from (read_map end_of_initial (read_designated inner c.args.depth (read_initial names inner c.args.room c.args.depth)) tokens) whole (λ (x : Role). x) (λ (_ : Unit {0}). tt {0}) _ c.in_err-end.field-0.0
-    (initials-first_error names inner c.args.depth (read_initial names inner c.args.room c.args.depth) tokens) c.in_err-end.ensures.gives)
+    let whole = read_initials names inner c.args.depth (read_initial names inner c.args.fuel c.args.depth) tokens in
+    passed whole (λ (_ : Unit {0}). tt {0}) _ _ c.in_err-end.field-0.0 c.from_residual.ensures.1 (gives-from (read_map end_of_initial (read_designated inner c.args.depth (read_initial names inner c.args.fuel c.args.depth)) tokens) whole (λ (x : Role). x) (λ (_ : Unit {0}). tt {0}) _ c.in_err-end.field-0.0
+    (initials-first_error names inner c.args.depth (read_initial names inner c.args.fuel c.args.depth) tokens) c.in_err-end.ensures.gives)
 
 pub initials-returns-clause-gives : goal.initials-returns-clause-gives
 initials-returns-clause-gives t c = initials-end c.items.invariant.going (sym c.next_is.ensures ∙ c.items-test.false) c.in_ok-mark-3.ensures.gives
@@ -97,11 +97,11 @@ initial-returns-in_err-initials-clause-gives t c =
     let inner = expressions c.args.names.now in
     let tokens = list_of c.args.tokens.now.rest.now in
     let middle = list_of c.opening.new.self.rest.now in
-    let left = c.args.room - 1 in
+    let left = c.args.fuel - 1 in
     let opened = c.args.depth + 1 in
-    let whole = read_map end_of_initial (read_initial names inner c.args.room c.args.depth) tokens in
+    let whole = read_map end_of_initial (read_initial names inner c.args.fuel c.args.depth) tokens in
     passed whole (λ (x : Role). x) _ _ c.in_err-initials.field-0.0 c.from_residual-in_err-initials.ensures.1 (gives-from (read_initials names inner opened (read_initial names inner left opened) middle) whole (λ (_ : Unit {0}). tt {0}) (λ (x : Role). x) _ c.in_err-initials.field-0.0
-    (braced-error names inner c.args.room left c.args.depth opened c.in_ok-opening.field-0 tokens middle (omega arith) (omega arith) c.if-room-eq0.false (sym c.next_is.ensures ∙ c.if-not-next_is.false) c.in_ok-opening.ensures.gives (sym c.next_is-2.ensures ∙ c.if-next_is.false)) c.in_err-initials.ensures.gives)
+    (braced-error names inner c.args.fuel left c.args.depth opened c.in_ok-opening.field-0 tokens middle (omega arith) (omega arith) c.if-fuel-eq0.false (sym c.next_is.ensures ∙ c.if-not-next_is.false) c.in_ok-opening.ensures.gives (sym c.next_is-2.ensures ∙ c.if-next_is.false)) c.in_err-initials.ensures.gives)
 
 pub initial-returns-clause-gives : goal.initial-returns-clause-gives
 initial-returns-clause-gives t c =
@@ -109,4 +109,4 @@ initial-returns-clause-gives t c =
     let inner = expressions c.args.names.now in
     let tokens = list_of c.args.tokens.now.rest.now in
     let middle = list_of c.opening.new.self.rest.now in
-    braced-found names inner c.args.room (c.args.room - 1) c.args.depth (c.args.depth + 1) c.in_ok-opening.field-0 tokens middle (list_of c.initials.new.tokens.rest.now) (omega arith) (omega arith) c.if-room-eq0.false (sym c.next_is.ensures ∙ c.if-not-next_is.false) c.in_ok-opening.ensures.gives (sym c.next_is-2.ensures ∙ c.if-next_is.false) c.in_ok-initials.ensures.gives
+    braced-found names inner c.args.fuel (c.args.fuel - 1) c.args.depth (c.args.depth + 1) c.in_ok-opening.field-0 tokens middle (list_of c.initials.new.tokens.rest.now) (omega arith) (omega arith) c.if-fuel-eq0.false (sym c.next_is.ensures ∙ c.if-not-next_is.false) c.in_ok-opening.ensures.gives (sym c.next_is-2.ensures ∙ c.if-next_is.false) c.in_ok-initials.ensures.gives

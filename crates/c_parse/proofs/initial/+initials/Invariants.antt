@@ -1,22 +1,22 @@
 use Rattle.std.proofs.Common.{◌+◌, ◌*◌, ◌<◌, length}
-use Rattle.c_unit_reader.specs.Initializers.{read_initial, read_initials}
+use Rattle.c_statement_laws.specs.Initializers.{read_initial, read_initials}
 use Rattle.c_parse_token.specs.Lists.{list_of, names_of}
 use Rattle.c_parse_expression.specs.Whole.{expressions}
 use Rattle.c_parse.proofs.Initials.{Awaiting}
 use Rattle.c_parse.proofs.initial.+initials.Given as goal
 
 abbrev pub decreases-initial : goal.decreases-initial
-decreases-initial l = 3 * l.room
+decreases-initial l = 3 * l.fuel
 
 abbrev pub decreases-designated : goal.decreases-designated
-decreases-designated l = 3 * l.room + 1
+decreases-designated l = 3 * l.fuel + 1
 
 abbrev pub decreases-initials : goal.decreases-initials
-decreases-initials l = 3 * l.room + 2
+decreases-initials l = 3 * l.fuel + 2
 
 abbrev pub invariant-initials-items : goal.invariant-initials-items
 invariant-initials-items l = record {
-  going : Awaiting (names_of l.names) (expressions l.names) l.depth (read_initial (names_of l.names) (expressions l.names) l.room l.depth) (read_initials (names_of l.names) (expressions l.names) l.depth (read_initial (names_of l.names) (expressions l.names) l.room l.depth) (list_of l.fn.tokens.rest.now)) l.end (list_of l.tokens.rest.now);
+  going : Awaiting (names_of l.names) (expressions l.names) l.depth (read_initial (names_of l.names) (expressions l.names) l.fuel l.depth) (read_initials (names_of l.names) (expressions l.names) l.depth (read_initial (names_of l.names) (expressions l.names) l.fuel l.depth) (list_of l.fn.tokens.rest.now)) l.end (list_of l.tokens.rest.now);
   fewer : length l.tokens.rest.now < length l.fn.tokens.rest.now;
 }
 

@@ -1,9 +1,9 @@
 use Rattle.std.proofs.Common.{arith, ◌∙◌, sym}
-use Rattle.c_unit_reader.specs.Initializers.{read_designator, read_designators}
+use Rattle.c_statement_laws.specs.Initializers.{read_designator, read_designators}
 use Rattle.c_parse_token.specs.Lists.{list_of}
 use Rattle.c_parse_token.proofs.Steps.{fewer}
 use Rattle.c_parse_expression.specs.Whole.{expressions}
-use Rattle.c_parse_expression.proofs.Errors.{gives-from, passed}
+use Rattle.c_parse_token.proofs.Errors.{gives-from, passed}
 use Rattle.c_parse.proofs.Initials.{designating-start, designating-step, designating-error, designating-end}
 use Rattle.c_parse.proofs.initial.designators.Goals as goal
 

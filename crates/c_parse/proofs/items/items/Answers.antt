@@ -4,33 +4,33 @@ use Rattle.std.proofs.lemmas.List.{length-map}
 use Rattle.std.specs.declared.alloc.Global.{Global}
 use Rattle.std.specs.declared.boxed.Box.{Box}
 use Rattle.c_token.specs.Pieces.{placed_of}
-use Rattle.c_unit_reader.specs.Units.{read_item, read_items}
-use Rattle.c_syntax.specs.declared.unit.Item.{Item}
+use Rattle.c_statement_laws.specs.Units.{read_external_declaration, read_external_declarations}
+use Rattle.c_syntax.specs.declared.unit.ExternalDeclaration.{ExternalDeclaration}
 use Rattle.c_syntax.specs.Expressions.{unboxed}
-use Rattle.c_syntax.specs.Units.{item_of}
+use Rattle.c_syntax.specs.Units.{external_declaration_of}
 use Rattle.c_parse_token.specs.Lists.{list_of, names_of}
 use Rattle.c_parse_token.proofs.Steps.{fewer}
-use Rattle.c_parse_expression.proofs.Errors.{gives-from, passed}
+use Rattle.c_parse_token.proofs.Errors.{gives-from, passed}
 use Rattle.c_parse.proofs.AllItems.{items-begun, items-more, items-error, items-done, items-joined, no-tokens}
 use Rattle.c_parse.proofs.items.items.Goals as goal
 
 pub items-init : goal.items-init
-items-init c = record { going = items-begun (list_of c.args.tokens.now.rest.now) (map item_of (unboxed c.args.all.now)) (names_of c.args.names.now) (ap (λ l. map item_of (map (λ b. b.value) l)) c.requires.none) c.requires.unnamed }
+items-init c = record { going = items-begun (list_of c.args.tokens.now.rest.now) (map external_declaration_of (unboxed c.args.all.now)) (names_of c.args.names.now) (ap (λ l. map external_declaration_of (map (λ b. b.value) l)) c.requires.none) c.requires.unnamed }
 
 pub items-preserved : goal.items-preserved
 items-preserved c =
     record {
-      going = items-more (read_items (list_of c.args.tokens.now.rest.now)) (map item_of (unboxed c.items.all)) (map item_of (unboxed c.push.new.self)) (names_of c.items.names) (names_of c.item.new.names) (item_of c.in_ok-next.next.value) (list_of c.items.tokens.rest.now) (list_of c.item.new.tokens.rest.now) (items-joined c.items.all c.push.new.self c.in_ok-next.next c.in_ok-push.ensures.items) c.items.invariant.going c.in_ok-next.ensures.gives (fewer c.item.new.tokens.rest.now c.items.tokens.rest.now c.in_ok-next.ensures.shorter);
+      going = items-more (read_external_declarations (list_of c.args.tokens.now.rest.now)) (map external_declaration_of (unboxed c.items.all)) (map external_declaration_of (unboxed c.push.new.self)) (names_of c.items.names) (names_of c.item.new.names) (external_declaration_of c.in_ok-next.next.value) (list_of c.items.tokens.rest.now) (list_of c.item.new.tokens.rest.now) (items-joined c.items.all c.push.new.self c.in_ok-next.next c.in_ok-push.ensures.items) c.items.invariant.going c.in_ok-next.ensures.gives (fewer c.item.new.tokens.rest.now c.items.tokens.rest.now c.in_ok-next.ensures.shorter);
     }
 
 pub returns-in_err-next-clause-gives : goal.returns-in_err-next-clause-gives
 returns-in_err-next-clause-gives c =
     let some = eqb-false (length c.items.tokens.rest.now) 0 (sym c.is_empty.ensures ∙ c.items-test.true) in
-    let whole = read_items (list_of c.args.tokens.now.rest.now) in
-    passed whole (λ (_ : Unit {0}). map item_of (unboxed c.items.all)) _ _ c.in_err-next.field-0.0 c.from_residual.ensures.1 (gives-from (read_item (names_of c.items.names) (list_of c.items.tokens.rest.now)) whole (λ (x : Box Item Global). (item_of x.value, names_of c.item.new.names)) (λ (_ : Unit {0}). map item_of (unboxed c.items.all)) _ c.in_err-next.field-0.0
-    (items-error whole (map item_of (unboxed c.items.all)) (names_of c.items.names) (list_of c.items.tokens.rest.now) c.items.invariant.going (rw (length-map c.items.tokens.rest.now placed_of) (omega (arith, some)))) c.in_err-next.ensures.gives)
+    let whole = read_external_declarations (list_of c.args.tokens.now.rest.now) in
+    passed whole (λ (_ : Unit {0}). map external_declaration_of (unboxed c.items.all)) _ _ c.in_err-next.field-0.0 c.from_residual.ensures.1 (gives-from (read_external_declaration (names_of c.items.names) (list_of c.items.tokens.rest.now)) whole (λ (x : Box ExternalDeclaration Global). (external_declaration_of x.value, names_of c.item.new.names)) (λ (_ : Unit {0}). map external_declaration_of (unboxed c.items.all)) _ c.in_err-next.field-0.0
+    (items-error whole (map external_declaration_of (unboxed c.items.all)) (names_of c.items.names) (list_of c.items.tokens.rest.now) c.items.invariant.going (rw (length-map c.items.tokens.rest.now placed_of) (omega (arith, some)))) c.in_err-next.ensures.gives)
 
 pub returns-clause-gives : goal.returns-clause-gives
 returns-clause-gives c =
     let none = no-tokens c.items.tokens.rest.now (eqb-true (length c.items.tokens.rest.now) 0 (sym c.is_empty.ensures ∙ c.items-test.false)) in
-    items-done (read_items (list_of c.args.tokens.now.rest.now)) (map item_of (unboxed c.items.all)) (names_of c.items.names) (list_of c.items.tokens.rest.now) (ap list_of none) c.items.invariant.going
+    items-done (read_external_declarations (list_of c.args.tokens.now.rest.now)) (map external_declaration_of (unboxed c.items.all)) (names_of c.items.names) (list_of c.items.tokens.rest.now) (ap list_of none) c.items.invariant.going

@@ -1,13 +1,13 @@
 use Rattle.std.proofs.Common.{◌<◌, length, map, arith, ap, sym, ◌∙◌}
 use Rattle.c_spec.specs.declared.token.Punctuator.TheVariants.{Semicolon}
-use Rattle.c_declaration_reader.specs.Declarations.{read_list_from, read_local, end_of_local}
+use Rattle.c_declaration_laws.specs.Declarations.{read_list_from, read_local, end_of_local}
 use Rattle.c_syntax.specs.Locals.{local_of}
 use Rattle.exact_read.specs.Grammar.{read_nothing}
 use Rattle.c_syntax.specs.Expressions.{unboxed}
 use Rattle.c_parse_token.specs.Lists.{list_of, names_of}
 use Rattle.c_parse_token.proofs.Steps.{fewer}
 use Rattle.c_parse_expression.specs.Whole.{expressions}
-use Rattle.c_parse_declaration.proofs.Listed.{listed, listed-start, listing-more, listing-item_error, listing-unclosed, listing-end, pushed, first-pushed, passed}
+use Rattle.c_parse_declaration.proofs.Listed.{listed, listed-start, listing-more, listing-item_error, listing-unclosed, listing-end, pushed, first-pushed, relayed}
 use Rattle.c_parse_declaration.proofs.declaration.more_locals.Goals as goal
 
 pub items-init : goal.items-init
@@ -32,14 +32,14 @@ pub returns-in_err-next-clause-gives : goal.returns-in_err-next-clause-gives
 returns-in_err-next-clause-gives c =
     let item = read_local (names_of c.args.names.now) (expressions c.args.names.now) c.args.depth in
     let whole = read_list_from end_of_local Semicolon (read_nothing (local_of c.args.first.value)) item (list_of c.args.tokens.now.rest.now) in
-    passed whole _ _ _ c.in_err-next.field-0.0 c.from_residual-in_err-next.ensures.1
+    relayed whole _ _ _ c.in_err-next.field-0.0 c.from_residual-in_err-next.ensures.1
     (listing-item_error (listed end_of_local Semicolon item) whole (map local_of (unboxed c.items.locals)) c.items.end _ (list_of c.items.tokens.rest.now) (list_of c.mark.new.self.rest.now) _ c.in_err-next.field-0.0 c.items.invariant.going (sym c.next_is.ensures ∙ c.items-test.true) c.in_ok-mark.ensures.gives c.in_err-next.ensures.gives)
 
 pub returns-in_err-mark-2-clause-gives : goal.returns-in_err-mark-2-clause-gives
 returns-in_err-mark-2-clause-gives c =
     let item = read_local (names_of c.args.names.now) (expressions c.args.names.now) c.args.depth in
     let whole = read_list_from end_of_local Semicolon (read_nothing (local_of c.args.first.value)) item (list_of c.args.tokens.now.rest.now) in
-    passed whole _ _ _ c.in_err-mark-2.field-0.0 c.from_residual-in_err-mark-2.ensures.1
+    relayed whole _ _ _ c.in_err-mark-2.field-0.0 c.from_residual-in_err-mark-2.ensures.1
     (listing-unclosed (listed end_of_local Semicolon item) whole (map local_of (unboxed c.items.locals)) c.items.end (list_of c.items.tokens.rest.now) _ c.in_err-mark-2.field-0.0 c.items.invariant.going (sym c.next_is.ensures ∙ c.items-test.false) c.in_err-mark-2.ensures.gives)
 
 pub returns-clause-gives : goal.returns-clause-gives

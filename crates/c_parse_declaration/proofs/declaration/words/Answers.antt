@@ -18,13 +18,13 @@ items-preserved c =
     let whole = read_words c.args.of_item (list_of c.args.tokens.now.rest.now) in
     let tokens = list_of c.items.tokens.rest.now in
     let rest = c.take_word.new.tokens.rest.now in
-    let first : unwrap_or c.items.first c.in-Some.place ≡ c.unwrap_or.result = grind arith in
+    let first : unwrap_or c.items.first c.in-Some.offset ≡ c.unwrap_or.result = grind arith in
     let less : length (drop 1 tokens) < length tokens = subst (λ left. length left < length tokens) c.in-Some.ensures.rest (fewer rest c.items.tokens.rest.now (omega (arith, c.in-Some.ensures.shorter))) in
-    let step = words-step c.args.of_item whole (storage_of c.items.storage) (storage_of c.in-Some.said) c.items.first c.in-Some.place tokens c.items.invariant.going c.in-Some.ensures.said less in
+    let step = words-step c.args.of_item whole (storage_of c.items.storage) (storage_of c.in-Some.said) c.items.first c.in-Some.offset tokens c.items.invariant.going c.in-Some.ensures.said less in
     record {
       going = subst (λ left. Words c.args.of_item whole (storage_of c.both-storage.result) (Some c.unwrap_or.result) left) (sym c.in-Some.ensures.rest)
-          (subst (λ place. Words c.args.of_item whole (storage_of c.both-storage.result) (Some place) (drop 1 tokens)) first
-          (subst (λ storage. Words c.args.of_item whole storage (Some (unwrap_or c.items.first c.in-Some.place)) (drop 1 tokens)) (sym c.both-storage.ensures) step));
+          (subst (λ offset. Words c.args.of_item whole (storage_of c.both-storage.result) (Some offset) (drop 1 tokens)) first
+          (subst (λ storage. Words c.args.of_item whole storage (Some (unwrap_or c.items.first c.in-Some.offset)) (drop 1 tokens)) (sym c.both-storage.ensures) step));
       fewer = omega (arith, c.in-Some.ensures.shorter, c.items.invariant.fewer);
     }
 

@@ -5,7 +5,7 @@ use Rattle.c_parse_token.specs.Lists.{list_of, Gives}
 use Rattle.c_parse_token.proofs.Steps.{fewer}
 use Rattle.c_parse_expression.specs.Whole.{expressions}
 use Rattle.c_parse_declaration.specs.Parts.{read_arguments_from}
-use Rattle.c_parse_declaration.proofs.Listed.{argued, argued-start, listing-more, listing-item_error, listing-unclosed, listing-end, pushed, first-pushed, passed, same-expressions}
+use Rattle.c_parse_declaration.proofs.Listed.{argued, argued-start, listing-more, listing-item_error, listing-unclosed, listing-end, pushed, first-pushed, relayed, same-expressions}
 use Rattle.c_parse_declaration.proofs.statement.more_arguments.Goals as goal
 
 pub items-init : goal.items-init
@@ -35,14 +35,14 @@ pub returns-in_err-next-clause-gives : goal.returns-in_err-next-clause-gives
 returns-in_err-next-clause-gives c =
     let inner = expressions c.args.names.now in
     let whole = read_arguments_from inner c.args.depth c.args.tokens.now.count (expression_of c.args.first.value) (list_of c.args.tokens.now.rest.now) in
-    passed whole _ _ _ c.in_err-next.field-0.0 c.from_residual-in_err-next.ensures.1
+    relayed whole _ _ _ c.in_err-next.field-0.0 c.from_residual-in_err-next.ensures.1
     (listing-item_error (argued inner c.args.depth) whole (map expression_of (unboxed c.items.arguments)) c.items.tokens.count _ (list_of c.items.tokens.rest.now) (list_of c.mark.new.self.rest.now) _ c.in_err-next.field-0.0 c.items.invariant.going (sym c.next_is.ensures ∙ c.items-test.true) c.in_ok-mark.ensures.gives (subst (λ n. Gives (inner.conditional c.args.depth n (list_of c.mark.new.self.rest.now)) (λ x. x) c.conditional.new.tokens.rest.now (Err c.in_err-next.field-0.0)) c.in_ok-mark.ensures.count c.in_err-next.ensures.gives))
 
 pub returns-in_err-mark-2-clause-gives : goal.returns-in_err-mark-2-clause-gives
 returns-in_err-mark-2-clause-gives c =
     let inner = expressions c.args.names.now in
     let whole = read_arguments_from inner c.args.depth c.args.tokens.now.count (expression_of c.args.first.value) (list_of c.args.tokens.now.rest.now) in
-    passed whole _ _ _ c.in_err-mark-2.field-0.0 c.from_residual-in_err-mark-2.ensures.1
+    relayed whole _ _ _ c.in_err-mark-2.field-0.0 c.from_residual-in_err-mark-2.ensures.1
     (listing-unclosed (argued inner c.args.depth) whole (map expression_of (unboxed c.items.arguments)) c.items.tokens.count (list_of c.items.tokens.rest.now) _ c.in_err-mark-2.field-0.0 c.items.invariant.going (sym c.next_is.ensures ∙ c.items-test.false) c.in_err-mark-2.ensures.gives)
 
 pub returns-clause-gives : goal.returns-clause-gives

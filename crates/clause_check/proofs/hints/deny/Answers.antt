@@ -3,7 +3,7 @@ use Rattle.std.specs.Prelude.{IsTrue}
 use Rattle.std.proofs.lemmas.List.{take_more}
 use Rattle.clause_spec.specs.Clause.{negation}
 use Rattle.clause_spec.specs.Step.{are_fit}
-use Rattle.clause_check.specs.Signs.{Tells}
+use Rattle.clause_check.specs.Signs.{Reports}
 use Rattle.clause_check.proofs.More.{unfit_at, blank}
 use Rattle.clause_check.proofs.hints.deny.Goals as goal
 
@@ -12,7 +12,7 @@ returns-then-not-deny_one-clause-fit c =
     let len = c.loop-literal.invariant.len in
     let before = take c.loop-literal.literal-index c.args.literals.now in
     let fit = subst (λ n. are_fit n before ≡ true) (sym len) c.loop-literal.invariant.fit in
-    let answer = c.deny_one.ensures.fit before fit c.loop-literal.invariant.told in
+    let answer = c.deny_one.ensures.fit before fit c.loop-literal.invariant.reported in
     sym (unfit_at (length c.args.marks.now) c.args.literals.now c.loop-literal.literal-index blank c.loop-literal-test.true
     (subst (λ n. are_fit n (before ++ get_or c.args.literals.now c.loop-literal.literal-index blank ∷ []) ≡ false) len (sym answer ∙ c.if-not-deny_one.true)))
 
@@ -21,11 +21,11 @@ loop-literal-preserved c =
     let len = c.loop-literal.invariant.len in
     let before = take c.loop-literal.literal-index c.args.literals.now in
     let fit = subst (λ n. are_fit n before ≡ true) (sym len) c.loop-literal.invariant.fit in
-    let answer = c.deny_one.ensures.fit before fit c.loop-literal.invariant.told in
+    let answer = c.deny_one.ensures.fit before fit c.loop-literal.invariant.reported in
     let more = take_more c.args.literals.now c.loop-literal.literal-index blank c.loop-literal-test.true in
     let yes : IsTrue c.deny_one.result = search rules in
     record {
       fit = ap (are_fit (length c.args.marks.now)) more ∙ subst (λ n. are_fit n (before ++ get_or c.args.literals.now c.loop-literal.literal-index blank ∷ []) ≡ true) len (sym answer ∙ c.if-not-deny_one.false);
-      told = subst (λ l. Tells c.deny_one.new.marks (map negation l)) (sym more) (c.deny_one.ensures.told before yes c.loop-literal.invariant.told);
+      reported = subst (λ l. Reports c.deny_one.new.marks (map negation l)) (sym more) (c.deny_one.ensures.reported before yes c.loop-literal.invariant.reported);
       len = c.deny_one.ensures.len ∙ len;
     }

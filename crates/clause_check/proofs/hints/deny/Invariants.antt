@@ -1,12 +1,12 @@
 use Rattle.std.proofs.Common.{◌≡◌, true, length, map, take}
 use Rattle.clause_spec.specs.Clause.{negation}
 use Rattle.clause_spec.specs.Step.{are_fit}
-use Rattle.clause_check.specs.Signs.{Tells}
+use Rattle.clause_check.specs.Signs.{Reports}
 use Rattle.clause_check.proofs.hints.deny.Given as goal
 
 abbrev pub invariant-loop-literal : goal.invariant-loop-literal
 invariant-loop-literal l = record {
   fit : are_fit (length l.initial.marks) (take l.literal-index l.literals) ≡ true;
-  told : Tells l.marks (map negation (take l.literal-index l.literals));
+  reported : Reports l.marks (map negation (take l.literal-index l.literals));
   len : length l.marks ≡ length l.initial.marks;
 }

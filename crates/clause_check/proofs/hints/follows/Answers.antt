@@ -3,7 +3,7 @@ use Rattle.std.proofs.lemmas.List.{length-replicate}
 use Rattle.std.specs.Prelude.{IsTrue}
 use Rattle.clause_spec.specs.Clause.{are_of, negation}
 use Rattle.clause_spec.specs.Step.{are_fit}
-use Rattle.clause_check.proofs.Walks.{unfit_outcome, fit_outcome}
+use Rattle.clause_check.proofs.Propagation.{unfit_outcome, fit_outcome}
 use Rattle.clause_check.proofs.hints.follows.Goals as goal
 
 pub deny-requires : goal.deny-requires
@@ -11,8 +11,8 @@ deny-requires c =
     let len = ap length c.clear.ensures ∙ length-replicate (length c.args.marks.now) None in
     c.clear.ensures ∙ ap (λ n. replicate n None) (sym len)
 
-pub walk-requires : goal.walk-requires
-walk-requires c =
+pub propagate-requires : goal.propagate-requires
+propagate-requires c =
     let len = c.deny.ensures.len ∙ ap length c.clear.ensures ∙ length-replicate (length c.args.marks.now) None in
     subst (λ n. are_of n c.args.clauses.now.clauses ≡ true) (sym len) c.requires
 
@@ -26,6 +26,6 @@ pub returns-clause-outcome : goal.returns-clause-outcome
 returns-clause-outcome c =
     let len = ap length c.clear.ensures ∙ length-replicate (length c.args.marks.now) None in
     let yes : IsTrue c.deny.result = search rules in
-    c.walk.ensures.outcome (map negation c.args.literals.now) (c.deny.ensures.told yes)
+    c.propagate.ensures.outcome (map negation c.args.literals.now) (c.deny.ensures.reported yes)
     ∙ sym (fit_outcome (length c.args.marks.now) c.args.clauses.now.clauses c.args.literals.now c.args.hints.now
     (ap (λ n. are_fit n c.args.literals.now) (sym len) ∙ sym c.deny.ensures.fit ∙ c.if-not-deny.false))

@@ -1,5 +1,5 @@
 use Rattle.std.proofs.Common.{◌-◌, length, sym}
-use Rattle.clause_check.proofs.Places.{named_at}
+use Rattle.clause_check.proofs.Indices.{named_at}
 use Rattle.clause_check.proofs.hints.found_at.Goals as goal
 
 pub found_in-requires : goal.found_in-requires

@@ -9,15 +9,15 @@ loop-literal-init c = search rules
 
 pub loop-literal-preserved : goal.loop-literal-preserved
 loop-literal-preserved c = record {
-  seen = λ truths tells.
-      c.with_literal-seen.ensures.told truths _ tells (c.loop-literal.invariant.seen truths tells)
+  seen = λ truths reports.
+      c.with_literal-seen.ensures.reported truths _ reports (c.loop-literal.invariant.seen truths reports)
       ∙ ap (finding truths) (sym (take_more c.args.clause.now c.loop-literal.literal-index _ c.loop-literal-test.true));
   open_literal = c.with_literal-seen.ensures.«open» c.loop-literal.invariant.open_literal;
 }
 
 pub returns : goal.returns
 returns c = record {
-  told = λ truths tells.
-      c.loop-literal.invariant.seen truths tells ∙ ap (finding truths) (take_all c.loop-literal.literal-index c.args.clause.now c.loop-literal-test.false);
+  reported = λ truths reports.
+      c.loop-literal.invariant.seen truths reports ∙ ap (finding truths) (take_all c.loop-literal.literal-index c.args.clause.now c.loop-literal-test.false);
   «open» = c.loop-literal.invariant.open_literal;
 }

@@ -1,8 +1,8 @@
 use Rattle.std.proofs.Common.{◌≡◌, true, take}
 use Rattle.std.specs.List.{list_all}
-use Rattle.clause_spec.specs.Clause.{is_met}
+use Rattle.clause_spec.specs.Clause.{satisfies_clause}
 use Rattle.cnf_core.specs.Bits.{valuation}
 use Rattle.cnf_core.proofs.evaluation.eval.Given as goal
 
-abbrev pub invariant-loop-place : goal.invariant-loop-place
-invariant-loop-place l = list_all (is_met (valuation l.bits)) (take l.place l.cnf.clauses) ≡ true
+abbrev pub invariant-loop-index : goal.invariant-loop-index
+invariant-loop-index l = list_all (satisfies_clause (valuation l.bits)) (take l.index l.cnf.clauses) ≡ true

@@ -9,10 +9,10 @@ loop-at-preserved-in_ok-insert c =
     record {
       upto = omega arith;
       sizes = λ entry.
-          sized _ _ entry _ blank _ _ c.loop-at-test.true c.loop-at.invariant.upto c.if-symbols-at-eq2.true
+          sized _ _ entry _ blank _ _ c.loop-at-test.true c.loop-at.invariant.upto c.if-symbols-at-eq-STT_FUNC.true
           (c.max.ensures
           ∙ ap (λ n. max (get_or c.args.symbols.now (c.loop-at.at - 1) blank).size n)
-          (c.unwrap_or-behind.ensures
+          (c.unwrap_or-following.ensures
           ∙ ap (λ o. unwrap_or o 0) (c.copied.ensures ∙ c.get.ensures.value ∙ c.loop-at.invariant.sizes (get_or c.args.symbols.now (c.loop-at.at - 1) blank).value)))
           (c.loop-at.invariant.sizes entry) (updates.0 entry);
     }

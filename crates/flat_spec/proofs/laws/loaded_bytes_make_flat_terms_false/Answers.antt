@@ -1,4 +1,4 @@
-use Rattle.flat_spec.proofs.Whole.{bytes_assign, flat_false}
+use Rattle.flat_spec.proofs.Validity.{bytes_assign, flat_false}
 use Rattle.flat_spec.proofs.laws.loaded_bytes_make_flat_terms_false.Goals as goal
 
 pub returns-clause-assignment : goal.returns-clause-assignment

@@ -1,5 +1,5 @@
 use Rattle.flat_spec.specs.Flat.{flat_loads}
-use Rattle.flat_spec.proofs.Whole.{rebuilt_assigns, term_false}
+use Rattle.flat_spec.proofs.Validity.{rebuilt_assigns, term_false}
 use Rattle.flat_spec.proofs.laws.rebuilt_memories_make_terms_false.Goals as goal
 
 pub returns-clause-assignment : goal.returns-clause-assignment

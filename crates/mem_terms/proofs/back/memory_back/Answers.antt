@@ -4,13 +4,13 @@ use Rattle.term_spec.specs.declared.Family.TheVariants.{Register}
 use Rattle.term_spec.specs.declared.Sort.TheVariants.{Truth}
 use Rattle.term_core.specs.Values.{value_of}
 use Rattle.term_core.specs.Memory.{bytes_of}
-use Rattle.mem_terms.specs.declared.places.LoadPlaces.{LoadPlaces}
+use Rattle.mem_terms.specs.declared.ids.LoadIds.{LoadIds}
 use Rattle.mem_terms.specs.Back.{first_among}
 use Rattle.mem_terms.proofs.Pairs.{within_at}
 use Rattle.mem_terms.proofs.Rebuilt.{set_step, none_among}
 use Rattle.mem_terms.proofs.back.memory_back.Goals as goal
 
-nothing : LoadPlaces
+nothing : LoadIds
 nothing = record { memory = record { family = Register; index = 0; instance = 0; sort = Truth }; address = 0; byte = 0 }
 
 pub loop-i-init : goal.loop-i-init

@@ -8,8 +8,8 @@ use Rattle.term_spec.specs.Same.{same_variable}
 use Rattle.term_core.specs.Values.{value_of}
 use Rattle.term_core.specs.Assignment.{assignment_of}
 use Rattle.flat_spec.specs.Flat.{memories_of}
-use Rattle.flat_spec.specs.Back.{rebuilt}
-use Rattle.mem_terms.specs.Places.{load_at}
+use Rattle.flat_spec.specs.Assignments.{rebuilt}
+use Rattle.mem_terms.specs.Ids.{load_at}
 use Rattle.mem_terms.specs.Back.{memory_among}
 use Rattle.mem_terms.proofs.Rebuilt.{restore_step, rebuilt_whole, falsified}
 use Rattle.mem_terms.proofs.back.rebuild.Goals as goal

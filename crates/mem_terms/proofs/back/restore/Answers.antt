@@ -2,7 +2,7 @@ use Rattle.std.proofs.Common.{◌≡◌, length, map, sym, ap, ◌∙◌, subst}
 use Rattle.std.proofs.lemmas.Result.{on_ok_weaker}
 use Rattle.term_core.specs.Values.{value_of}
 use Rattle.term_core.specs.Assignment.{assignment_of}
-use Rattle.mem_terms.specs.Places.{AreWithin}
+use Rattle.mem_terms.specs.Ids.{AreWithin}
 use Rattle.mem_terms.proofs.Pairs.{within_filter}
 use Rattle.mem_terms.proofs.Rebuilt.{restored}
 use Rattle.mem_terms.proofs.back.restore.Goals as goal

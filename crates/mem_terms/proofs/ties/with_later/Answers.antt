@@ -2,12 +2,12 @@ use Rattle.std.proofs.Common.{◌<◌, length, get_or, arith}
 use Rattle.term_spec.specs.declared.Family.TheVariants.{Register}
 use Rattle.term_spec.specs.declared.Sort.TheVariants.{Truth}
 use Rattle.term_bank.specs.Nodes.{tree_at}
-use Rattle.mem_terms.specs.declared.places.LoadPlaces.{LoadPlaces}
+use Rattle.mem_terms.specs.declared.ids.LoadIds.{LoadIds}
 use Rattle.mem_terms.proofs.Trees.{extends_then, within_later, tree_as}
 use Rattle.mem_terms.proofs.Pairs.{within_at, later_step}
 use Rattle.mem_terms.proofs.ties.with_later.Goals as goal
 
-nothing : LoadPlaces
+nothing : LoadIds
 nothing = record { memory = record { family = Register; index = 0; instance = 0; sort = Truth }; address = 0; byte = 0 }
 
 pub with_agreement-requires-clause-y_within : goal.with_agreement-requires-clause-y_within

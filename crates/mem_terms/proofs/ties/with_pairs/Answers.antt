@@ -3,13 +3,13 @@ use Rattle.term_spec.specs.declared.Family.TheVariants.{Register}
 use Rattle.term_spec.specs.declared.Sort.TheVariants.{Truth}
 use Rattle.term_bank.specs.Nodes.{tree_at}
 use Rattle.flat_spec.specs.Flat.{agree, all_of}
-use Rattle.mem_terms.specs.declared.places.LoadPlaces.{LoadPlaces}
-use Rattle.mem_terms.specs.Places.{load_at, AreWithin}
+use Rattle.mem_terms.specs.declared.ids.LoadIds.{LoadIds}
+use Rattle.mem_terms.specs.Ids.{load_at, AreWithin}
 use Rattle.mem_terms.proofs.Trees.{extends_then, within_later, all_within_later}
 use Rattle.mem_terms.proofs.Pairs.{later_is, within_at, within_drop, pairs_step}
 use Rattle.mem_terms.proofs.ties.with_pairs.Goals as goal
 
-nothing : LoadPlaces
+nothing : LoadIds
 nothing = record { memory = record { family = Register; index = 0; instance = 0; sort = Truth }; address = 0; byte = 0 }
 
 pub with_later-requires-clause-load_within : goal.with_later-requires-clause-load_within

@@ -2,7 +2,7 @@ use Rattle.std.proofs.Common.{refl, ◌∙◌, length}
 use Rattle.std.proofs.Math.Bool.{and-true}
 use Rattle.term_spec.specs.Value.{binary_value}
 use Rattle.term_bank.specs.Nodes.{tree_at}
-use Rattle.normal_spec.specs.Seen.{is_constant}
+use Rattle.normal_spec.specs.Patterns.{is_constant}
 use Rattle.normal_spec.specs.Normal.{normal_join}
 use Rattle.normal_rules.proofs.bytes.join_two_form.Goals as goal
 

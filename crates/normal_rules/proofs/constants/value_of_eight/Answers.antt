@@ -1,5 +1,5 @@
 use Rattle.std.proofs.Common.{refl, ap, ◌∙◌}
-use Rattle.normal_spec.specs.Seen.{constant_of}
+use Rattle.normal_spec.specs.Patterns.{constant_of}
 use Rattle.normal_rules.proofs.constants.value_of_eight.Goals as goal
 
 pub returns-clause-tree : goal.returns-clause-tree

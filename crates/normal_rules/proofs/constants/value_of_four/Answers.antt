@@ -1,6 +1,6 @@
 use Rattle.std.proofs.Common.{refl, ap, ◌∙◌}
 use Rattle.term_spec.specs.Value.{quaternary_value}
-use Rattle.normal_spec.specs.Seen.{constant_of}
+use Rattle.normal_spec.specs.Patterns.{constant_of}
 use Rattle.normal_rules.proofs.constants.value_of_four.Goals as goal
 
 pub returns-clause-tree : goal.returns-clause-tree

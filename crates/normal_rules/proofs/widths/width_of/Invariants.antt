@@ -1,6 +1,6 @@
 use Rattle.std.proofs.Common.{◌≡◌, ◌<◌, length}
 use Rattle.term_bank.specs.Nodes.{tree_at}
-use Rattle.normal_spec.specs.Seen.{width_of}
+use Rattle.normal_spec.specs.Patterns.{width_of}
 use Rattle.normal_rules.proofs.widths.width_of.Given as goal
 
 abbrev pub invariant-loop-width : goal.invariant-loop-width

@@ -1,4 +1,4 @@
-use Rattle.normal_spec.proofs.Whole.{keeps_normal}
+use Rattle.normal_spec.proofs.Soundness.{keeps_normal}
 use Rattle.normal_spec.proofs.laws.normal_form_has_the_sort.Goals as goal
 
 pub returns : goal.returns

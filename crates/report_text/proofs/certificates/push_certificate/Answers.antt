@@ -1,6 +1,6 @@
 use Rattle.std.proofs.Common.{arith}
 use Rattle.std.proofs.lemmas.Grind.{common_steps}
-use Rattle.claim_spec.specs.Verdict.{certificate_of}
+use Rattle.report_spec.specs.Certificate.{certificate_of}
 use Rattle.report_text.proofs.Texts.{parts_are}
 use Rattle.report_text.proofs.certificates.push_certificate.Goals as goal
 

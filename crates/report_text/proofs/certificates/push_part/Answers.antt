@@ -1,6 +1,6 @@
 use Rattle.std.proofs.Common.{◌≡◌, subst, codes}
 use Rattle.std.specs.Prelude.{OnOk, decimal}
-use Rattle.claim_spec.specs.Verdict.{line}
+use Rattle.report_spec.specs.Report.{line}
 use Rattle.report_text.proofs.Texts.{part_of_four}
 use Rattle.report_text.proofs.certificates.push_part.Goals as goal
 

@@ -16,5 +16,5 @@ returns-clause-done c =
     let second = ap (read_register m) (sym c.sources-first.ensures.second) ∙ sym c.register-b.ensures in
     let here = ap instr (sym c.word.ensures) ∙ sym c.decode.ensures ∙ c.in-Some.is in
     stepped m c.apply.new.self c.effect-done.result c.apply.result
-    (step_at m c.in-Some.form here ∙ c.effect-done.ensures.meaning m (sym c.pc.ensures) first second)
+    (step_at m c.in-Some.instruction here ∙ c.effect-done.ensures.meaning m (sym c.pc.ensures) first second)
     c.apply.ensures.done

@@ -1,5 +1,5 @@
 use Rattle.std.proofs.Common.{sym, ap, ◌∙◌}
-use Rattle.normal_spec.specs.Seen.{is_true}
+use Rattle.normal_spec.specs.Patterns.{is_true}
 use Rattle.term_bank.specs.Nodes.{build}
 use Rattle.straight_code.proofs.Places.{form_is}
 use Rattle.straight_code.proofs.equations.is_equal.Goals as goal

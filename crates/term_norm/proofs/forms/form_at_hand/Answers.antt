@@ -1,7 +1,8 @@
 use Rattle.std.proofs.Common.{rules, arith}
 use Rattle.std.proofs.lemmas.Grind.{common_steps}
-use Rattle.term_norm.specs.Runs.{runs_of, form_with}
-use Rattle.term_norm.proofs.Parts.{told, form_within, form_is, form_leaf, form_one, form_two, form_three, form_four, form_eight}
+use Rattle.memory_spec.specs.Viewed.{runs_of}
+use Rattle.term_norm.specs.Runs.{form_with}
+use Rattle.term_norm.proofs.Parts.{holds_as, form_within, form_is, form_leaf, form_one, form_two, form_three, form_four, form_eight}
 use Rattle.term_norm.proofs.forms.form_at_hand.Goals as goal
 
 pub normal_unary-requires : goal.normal_unary-requires
@@ -53,14 +54,14 @@ returns-in-Leaf-clause-form c = form_leaf (runs_of c.args.runs.now) c.args.bank.
 
 pub returns-in_ok-normal_unary-in-Unary-clause-form : goal.returns-in_ok-normal_unary-in-Unary-clause-form
 returns-in_ok-normal_unary-in-Unary-clause-form c =
-    told c.normal_unary.new.bank c.in_ok-normal_unary-in-Unary.field-0 _ _
+    holds_as c.normal_unary.new.bank c.in_ok-normal_unary-in-Unary.field-0 _ _
     (form_one (runs_of c.args.runs.now) c.args.bank.now c.args.walk.now.at c.in-Unary.operator c.in-Unary.a c.in_ok-x-in-Unary.x c.in-Unary.ensures.tree
     (form_is (form_with c.args.runs.now) c.args.bank.now c.args.walk.now c.requires.forms c.in-Unary.a c.in_ok-x-in-Unary.x c.in_ok-x-in-Unary.ensures.found))
     c.in_ok-normal_unary-in-Unary.ensures.form
 
 pub returns-in_ok-binary-in-Binary-clause-form : goal.returns-in_ok-binary-in-Binary-clause-form
 returns-in_ok-binary-in-Binary-clause-form c =
-    told c.binary.new.bank c.in_ok-binary-in-Binary.field-0 _ _
+    holds_as c.binary.new.bank c.in_ok-binary-in-Binary.field-0 _ _
     (form_two (runs_of c.args.runs.now) c.args.bank.now c.args.walk.now.at c.in-Binary.operator c.in-Binary.a c.in-Binary.b c.in_ok-x-in-Binary.x c.in_ok-y-in-Binary.y c.in-Binary.ensures.tree
     (form_is (form_with c.args.runs.now) c.args.bank.now c.args.walk.now c.requires.forms c.in-Binary.a c.in_ok-x-in-Binary.x c.in_ok-x-in-Binary.ensures.found)
     (form_is (form_with c.args.runs.now) c.args.bank.now c.args.walk.now c.requires.forms c.in-Binary.b c.in_ok-y-in-Binary.y c.in_ok-y-in-Binary.ensures.found))
@@ -68,7 +69,7 @@ returns-in_ok-binary-in-Binary-clause-form c =
 
 pub returns-in_ok-normal_ternary-in-Ternary-clause-form : goal.returns-in_ok-normal_ternary-in-Ternary-clause-form
 returns-in_ok-normal_ternary-in-Ternary-clause-form c =
-    told c.normal_ternary.new.bank c.in_ok-normal_ternary-in-Ternary.field-0 _ _
+    holds_as c.normal_ternary.new.bank c.in_ok-normal_ternary-in-Ternary.field-0 _ _
     (form_three (runs_of c.args.runs.now) c.args.bank.now c.args.walk.now.at c.in-Ternary.operator c.in-Ternary.a c.in-Ternary.b c.in-Ternary.c c.in_ok-x-in-Ternary.x c.in_ok-y-in-Ternary.y c.in_ok-z-in-Ternary.z c.in-Ternary.ensures.tree
     (form_is (form_with c.args.runs.now) c.args.bank.now c.args.walk.now c.requires.forms c.in-Ternary.a c.in_ok-x-in-Ternary.x c.in_ok-x-in-Ternary.ensures.found)
     (form_is (form_with c.args.runs.now) c.args.bank.now c.args.walk.now c.requires.forms c.in-Ternary.b c.in_ok-y-in-Ternary.y c.in_ok-y-in-Ternary.ensures.found)
@@ -77,7 +78,7 @@ returns-in_ok-normal_ternary-in-Ternary-clause-form c =
 
 pub returns-in_ok-normal_quaternary-in-Quaternary-clause-form : goal.returns-in_ok-normal_quaternary-in-Quaternary-clause-form
 returns-in_ok-normal_quaternary-in-Quaternary-clause-form c =
-    told c.normal_quaternary.new.bank c.in_ok-normal_quaternary-in-Quaternary.field-0 _ _
+    holds_as c.normal_quaternary.new.bank c.in_ok-normal_quaternary-in-Quaternary.field-0 _ _
     (form_four (runs_of c.args.runs.now) c.args.bank.now c.args.walk.now.at c.in-Quaternary.operator c.in-Quaternary.a c.in-Quaternary.b c.in-Quaternary.c c.in-Quaternary.d c.in_ok-x-in-Quaternary.x c.in_ok-x-in-Quaternary.y c.in_ok-x-in-Quaternary.z c.in_ok-x-in-Quaternary.w c.in-Quaternary.ensures.tree
     (form_is (form_with c.args.runs.now) c.args.bank.now c.args.walk.now c.requires.forms c.in-Quaternary.a c.in_ok-x-in-Quaternary.x c.in_ok-x-in-Quaternary.ensures.found.0)
     (form_is (form_with c.args.runs.now) c.args.bank.now c.args.walk.now c.requires.forms c.in-Quaternary.b c.in_ok-x-in-Quaternary.y c.in_ok-x-in-Quaternary.ensures.found.1)
@@ -87,7 +88,7 @@ returns-in_ok-normal_quaternary-in-Quaternary-clause-form c =
 
 pub returns-in_ok-normal_octonary-in-Octonary-clause-form : goal.returns-in_ok-normal_octonary-in-Octonary-clause-form
 returns-in_ok-normal_octonary-in-Octonary-clause-form c =
-    told c.normal_octonary.new.bank c.in_ok-normal_octonary-in-Octonary.field-0 _ _
+    holds_as c.normal_octonary.new.bank c.in_ok-normal_octonary-in-Octonary.field-0 _ _
     (form_eight (runs_of c.args.runs.now) c.args.bank.now c.args.walk.now.at c.in-Octonary.a c.in-Octonary.b c.in-Octonary.c c.in-Octonary.d c.in-Octonary.e c.in-Octonary.f c.in-Octonary.g c.in-Octonary.h c.in_ok-s-in-Octonary.s c.in_ok-s-in-Octonary.t c.in_ok-s-in-Octonary.u c.in_ok-s-in-Octonary.v c.in_ok-w-in-Octonary.w c.in_ok-w-in-Octonary.x c.in_ok-w-in-Octonary.y c.in_ok-w-in-Octonary.z c.in-Octonary.ensures.tree
     (form_is (form_with c.args.runs.now) c.args.bank.now c.args.walk.now c.requires.forms c.in-Octonary.a c.in_ok-s-in-Octonary.s c.in_ok-s-in-Octonary.ensures.found.0)
     (form_is (form_with c.args.runs.now) c.args.bank.now c.args.walk.now c.requires.forms c.in-Octonary.b c.in_ok-s-in-Octonary.t c.in_ok-s-in-Octonary.ensures.found.1)

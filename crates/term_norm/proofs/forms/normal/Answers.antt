@@ -1,6 +1,7 @@
 use Rattle.std.proofs.lemmas.Result.{IfOk-weaker}
 use Rattle.term_bank.specs.Nodes.{tree_at}
-use Rattle.term_norm.specs.Runs.{runs_of, form_with}
+use Rattle.memory_spec.specs.Viewed.{runs_of}
+use Rattle.term_norm.specs.Runs.{form_with}
 use Rattle.term_norm.proofs.Growth.{read, within}
 use Rattle.term_norm.proofs.Kept.{form_sort, form_value}
 use Rattle.term_norm.proofs.forms.normal.Goals as goal

@@ -4,8 +4,8 @@ use Rattle.term_spec.specs.declared.Width.TheVariants.{W8}
 use Rattle.term_spec.specs.Term as tree
 use Rattle.term_bank.specs.Nodes.{tree_at, Holds}
 use Rattle.normal_spec.specs.Normal as spec
-use Rattle.term_norm.specs.Runs.{runs_of}
-use Rattle.term_norm.proofs.Parts.{told, load_known, load_unknown}
+use Rattle.memory_spec.specs.Viewed.{runs_of}
+use Rattle.term_norm.proofs.Parts.{holds_as, load_known, load_unknown}
 use Rattle.term_norm.proofs.loads.load_of_variable.Goals as goal
 
 pub returns-in-Some-clause-form : goal.returns-in-Some-clause-form
@@ -14,7 +14,7 @@ returns-in-Some-clause-form c =
     let d = tree_at c.args.bank.now c.args.d in
     let new = c.constant_byte.new.bank in
     IfOk-weaker c.constant_byte.result (λ (i : ℕ). Holds new i (tree.constant W8 c.in-Some.byte)) (λ (i : ℕ). Holds new i (spec.load_of_variable (runs_of c.args.runs.now) m d))
-    (λ i h. told new i (tree.constant W8 c.in-Some.byte) (spec.load_of_variable (runs_of c.args.runs.now) m d) (load_known (runs_of c.args.runs.now) m d c.in-Some.byte c.in-Some.ensures) h) c.constant_byte.ensures.form
+    (λ i h. holds_as new i (tree.constant W8 c.in-Some.byte) (spec.load_of_variable (runs_of c.args.runs.now) m d) (load_known (runs_of c.args.runs.now) m d c.in-Some.byte c.in-Some.ensures) h) c.constant_byte.ensures.form
 
 pub returns-in-None-clause-form : goal.returns-in-None-clause-form
 returns-in-None-clause-form c =
@@ -22,4 +22,4 @@ returns-in-None-clause-form c =
     let d = tree_at c.args.bank.now c.args.d in
     let new = c.add.new.self in
     IfOk-weaker c.add.result (λ (i : ℕ). Holds new i (tree.load m d)) (λ (i : ℕ). Holds new i (spec.load_of_variable (runs_of c.args.runs.now) m d))
-    (λ i h. told new i (tree.load m d) (spec.load_of_variable (runs_of c.args.runs.now) m d) (load_unknown (runs_of c.args.runs.now) m d c.in-None.ensures) h) c.add.ensures.id
+    (λ i h. holds_as new i (tree.load m d) (spec.load_of_variable (runs_of c.args.runs.now) m d) (load_unknown (runs_of c.args.runs.now) m d c.in-None.ensures) h) c.add.ensures.id

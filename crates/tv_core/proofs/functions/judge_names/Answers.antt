@@ -11,8 +11,8 @@ returns-then-is_empty-clause-exact c =
     refused_empty c.args.image.now c.args.unit.now c.args.names.now c.refused_pair.result c.refused_pair.ensures.ok
     (nil_from_length c.args.names.now ((Decides-eqb (length c.args.names.now) 0).0 (sym c.is_empty.ensures ∙ c.if-is_empty.true)))
 
-pub returns-then-names-gt-FUNCTIONS-clause-exact : goal.returns-then-names-gt-FUNCTIONS-clause-exact
-returns-then-names-gt-FUNCTIONS-clause-exact c = refused_many c.args.image.now c.args.unit.now c.args.names.now (search rules)
+pub returns-then-names-gt-MAX_FUNCTIONS-clause-exact : goal.returns-then-names-gt-MAX_FUNCTIONS-clause-exact
+returns-then-names-gt-MAX_FUNCTIONS-clause-exact c = refused_many c.args.image.now c.args.unit.now c.args.names.now (search rules)
 
 pub refused_unpaired-requires : goal.refused_unpaired-requires
 refused_unpaired-requires c = unpaired_faulty c.args.image.now c.args.unit.now c.args.names.now c.as_slice.result.now

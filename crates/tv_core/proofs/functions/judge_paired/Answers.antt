@@ -1,5 +1,5 @@
 use Rattle.std.proofs.Common.{◌≡◌, get_or, None, rules, sym, ◌∙◌, subst}
-use Rattle.claim_spec.specs.Verdict.{pair_fault}
+use Rattle.verdict_spec.specs.Listing.{pair_fault}
 use Rattle.tv_core.proofs.Naming.{all_paired}
 use Rattle.tv_core.proofs.Judged.{one_more, first_fault, all_judged, all_sound, refused_by}
 use Rattle.tv_core.proofs.functions.judge_paired.Goals as goal

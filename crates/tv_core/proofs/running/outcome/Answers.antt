@@ -8,7 +8,7 @@ use Rattle.tv_core.proofs.running.outcome.Goals as goal
 pub returns-in_ok-verdict-in-Some-clause-exact : goal.returns-in_ok-verdict-in-Some-clause-exact
 returns-in_ok-verdict-in-Some-clause-exact g c = λ words asked.
     outcome_of_some words _ (option_map proving_of c.args.job.now) (proving_of c.in-Some.job) (verdict_of c.in_ok-verdict-in-Some.verdict)
-    (ap (option_map proving_of) c.in-Some.is) asked c.in_ok-verdict-in-Some.ensures.a_command c.in_ok-verdict-in-Some.ensures.reached
+    (ap (option_map proving_of) c.in-Some.is) asked c.in_ok-verdict-in-Some.ensures.of_command c.in_ok-verdict-in-Some.ensures.judged
 
 pub returns-in-None-clause-exact : goal.returns-in-None-clause-exact
 returns-in-None-clause-exact g c = λ words asked.

@@ -1,28 +1,27 @@
-use Rattle.std.proofs.Common.{map}
+use Rattle.std.proofs.Common.{map, inl}
 use Rattle.std.specs.Prelude.{string_bytes}
-use Rattle.tv_core.proofs.Ending.{ends_valid, ends_as_told, ends_without_command, not_cut}
+use Rattle.tv_core.proofs.Ending.{ends_valid, ends_as_decided, ends_by_usage, not_cut}
 use Rattle.tv_core.proofs.running.run.Goals as goal
 
-pub returns-in-Ok-clause-valid : goal.returns-in-Ok-clause-valid
-returns-in-Ok-clause-valid g c =
-    ends_valid (map string_bytes c.args.words.now) (g.D.Desk.bytes c.args.desk.now) (g.R.Sink.begun c.args.report.now)
-    (g.R.Sink.held c.args.report.now) (g.R.Sink.held c.try_run.new.report) (g.K.Sink.held c.args.certificate.now) (g.K.Sink.held c.try_run.new.certificate)
-    c.in-Ok.code c.in-Ok.ensures.ended
-
-pub returns-in-Ok-clause-no_command : goal.returns-in-Ok-clause-no_command
-returns-in-Ok-clause-no_command g c = λ four five.
-    ends_without_command (map string_bytes c.args.words.now) (g.D.Desk.bytes c.args.desk.now) c.in-Ok.code (g.R.Sink.begun c.args.report.now)
-    (g.R.Sink.held c.args.report.now) (g.R.Sink.held c.try_run.new.report) (g.K.Sink.held c.args.certificate.now) (g.K.Sink.held c.try_run.new.certificate)
-    c.in-Ok.ensures.ended
-
-pub returns-in-Ok-clause-told : goal.returns-in-Ok-clause-told
-returns-in-Ok-clause-told g c = λ four five.
-    ends_as_told (map string_bytes c.args.words.now) (g.D.Desk.bytes c.args.desk.now) c.in-Ok.code (g.R.Sink.begun c.args.report.now)
-    (g.R.Sink.held c.args.report.now) (g.R.Sink.held c.try_run.new.report) (g.K.Sink.held c.args.certificate.now) (g.K.Sink.held c.try_run.new.certificate)
-    c.in-Ok.ensures.ended
-
-pub returns-in-Ok-clause-part : goal.returns-in-Ok-clause-part
-returns-in-Ok-clause-part g c = λ cut.
-    not_cut (map string_bytes c.args.words.now) (g.D.Desk.bytes c.args.desk.now) c.in-Ok.code (g.R.Sink.begun c.args.report.now)
-    (g.R.Sink.held c.args.report.now) (g.R.Sink.held c.try_run.new.report) (g.K.Sink.held c.args.certificate.now) (g.K.Sink.held c.try_run.new.certificate)
-    c.in-Ok.ensures.ended cut
+pub returns-in-Ok : goal.returns-in-Ok
+returns-in-Ok g c =
+    let words = map string_bytes c.args.words.now in
+    let files = g.D.Desk.bytes c.args.desk.now in
+    let code = c.in-Ok.code in
+    let ends = c.in-Ok.ensures.ended in
+    record {
+      valid = ends_valid words files _ _ code ends;
+      ended = λ four five. ends;
+      usage = λ four five. ends_by_usage words files _ _ code ends;
+      decided = λ four five. ends_as_decided words files _ _ code ends;
+      part = not_cut words files _ _ code ends;
+      store_part = c.in-Ok.ensures.store_part;
+      taken = c.in-Ok.ensures.taken;
+      opened = c.in-Ok.ensures.opened;
+      safely = record {
+        fault = λ four. not_cut words files _ _ code ends (inl four);
+        counts = λ other. c.in-Ok.ensures.unfailing;
+        store_first = c.in-Ok.ensures.store_first;
+        same_files = c.in-Ok.ensures.same_files;
+      };
+    }

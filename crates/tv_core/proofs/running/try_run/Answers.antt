@@ -1,21 +1,52 @@
-use Rattle.std.proofs.Common.{map}
+use Rattle.std.proofs.Common.{rules, arith, map, refl, inl}
 use Rattle.std.specs.Prelude.{string_bytes}
+use Rattle.std.proofs.lemmas.Grind.{common_steps}
 use Rattle.tv_core.proofs.running.try_run.Goals as goal
 
-pub returns-in_err-verdict-clause-taken : goal.returns-in_err-verdict-clause-taken
-returns-in_err-verdict-clause-taken g c = c.outcome.ensures.taken (map string_bytes c.args.words.now) c.in_ok-job.ensures.exact
+pub returns-in_err-verdict : goal.returns-in_err-verdict
+returns-in_err-verdict g c =
+    let words = map string_bytes c.args.words.now in
+    record {
+      ended = first_of (search rules, grind (arith, common_steps));
+      part = first_of (search rules, grind (arith, common_steps));
+      store_part = inl refl;
+      store_first = inl refl;
+      taken = c.outcome.ensures.taken words c.in_ok-job.ensures.exact;
+      opened = c.outcome.ensures.opened words c.in_ok-job.ensures.exact;
+      same_files = c.outcome.ensures.same_bytes;
+      failed = first_of (search rules, grind (arith, common_steps));
+      unfailing = first_of (search rules, grind (arith, common_steps));
+      no_memory = first_of (search rules, grind (arith, common_steps));
+    }
 
-pub returns-in_err-publish-clause-taken : goal.returns-in_err-publish-clause-taken
-returns-in_err-publish-clause-taken g c = c.outcome.ensures.taken (map string_bytes c.args.words.now) c.in_ok-job.ensures.exact
+pub returns-in_err-publish : goal.returns-in_err-publish
+returns-in_err-publish g c =
+    let words = map string_bytes c.args.words.now in
+    record {
+      ended = first_of (search rules, grind (arith, common_steps));
+      part = first_of (search rules, grind (arith, common_steps));
+      store_part = first_of (search rules, grind (arith, common_steps));
+      store_first = c.publish.ensures.store_first;
+      taken = c.outcome.ensures.taken words c.in_ok-job.ensures.exact;
+      opened = c.outcome.ensures.opened words c.in_ok-job.ensures.exact;
+      same_files = c.outcome.ensures.same_bytes;
+      failed = first_of (search rules, grind (arith, common_steps));
+      unfailing = first_of (search rules, grind (arith, common_steps));
+      no_memory = first_of (search rules, grind (arith, common_steps));
+    }
 
-pub returns-clause-taken : goal.returns-clause-taken
-returns-clause-taken g c = c.outcome.ensures.taken (map string_bytes c.args.words.now) c.in_ok-job.ensures.exact
-
-pub returns-in_err-verdict-clause-opened : goal.returns-in_err-verdict-clause-opened
-returns-in_err-verdict-clause-opened g c = c.outcome.ensures.opened (map string_bytes c.args.words.now) c.in_ok-job.ensures.exact
-
-pub returns-in_err-publish-clause-opened : goal.returns-in_err-publish-clause-opened
-returns-in_err-publish-clause-opened g c = c.outcome.ensures.opened (map string_bytes c.args.words.now) c.in_ok-job.ensures.exact
-
-pub returns-clause-opened : goal.returns-clause-opened
-returns-clause-opened g c = c.outcome.ensures.opened (map string_bytes c.args.words.now) c.in_ok-job.ensures.exact
+pub returns : goal.returns
+returns g c =
+    let words = map string_bytes c.args.words.now in
+    record {
+      ended = first_of (search rules, grind (arith, common_steps));
+      part = first_of (search rules, grind (arith, common_steps));
+      store_part = first_of (search rules, grind (arith, common_steps));
+      store_first = c.publish.ensures.store_first;
+      taken = c.outcome.ensures.taken words c.in_ok-job.ensures.exact;
+      opened = c.outcome.ensures.opened words c.in_ok-job.ensures.exact;
+      same_files = c.outcome.ensures.same_bytes;
+      failed = first_of (search rules, grind (arith, common_steps));
+      unfailing = first_of (search rules, grind (arith, common_steps));
+      no_memory = first_of (search rules, grind (arith, common_steps));
+    }

@@ -1,6 +1,6 @@
 use Rattle.std.proofs.Common.{◌-◌, length, take, drop}
 use Rattle.blast_spec.specs.Circuits.{and_gate, fold_gates, and_all}
-use Rattle.word_circuits.proofs.Gives.{same_ok}
+use Rattle.word_circuits.proofs.Built.{same_ok}
 use Rattle.word_circuits.proofs.Steps.{bit_at}
 use Rattle.word_circuits.proofs.Calls.{and_all_none, and_all_some}
 use Rattle.word_circuits.proofs.gates.Gates.and_all.Goals as goal

@@ -1,7 +1,7 @@
 use Rattle.std.proofs.Common.{map, refl, ◌∙◌}
 use Rattle.clause_spec.specs.Clause.{negation}
 use Rattle.blast_spec.specs.Circuits.{one, sum_bits, difference_bits}
-use Rattle.word_circuits.proofs.Gives.{same_ok}
+use Rattle.word_circuits.proofs.Built.{same_ok}
 use Rattle.word_circuits.proofs.Calls.{sum_same}
 use Rattle.word_circuits.proofs.gates.Gates.difference_bits.Goals as goal
 

@@ -1,7 +1,7 @@
 use Rattle.std.proofs.Common.{map, ap, ◌∙◌}
 use Rattle.clause_spec.specs.Clause.{negation}
 use Rattle.blast_spec.specs.Circuits.{and_all, equal_bits}
-use Rattle.word_circuits.proofs.Gives.{then_ok, same_ok}
+use Rattle.word_circuits.proofs.Built.{then_ok, same_ok}
 use Rattle.word_circuits.proofs.gates.Gates.equal_bits.Goals as goal
 
 pub returns : goal.returns

@@ -1,6 +1,6 @@
 use Rattle.std.proofs.Common.{arith}
 use Rattle.word_circuits.specs.Kinds.{gate_of}
-use Rattle.word_circuits.proofs.Gives.{leads_start}
+use Rattle.word_circuits.proofs.Built.{continues_start}
 use Rattle.word_circuits.proofs.Steps.{fold_at, fold_end}
 use Rattle.word_circuits.proofs.gates.Gates.fold_gates.Goals as goal
 
@@ -8,7 +8,7 @@ pub returns : goal.returns
 returns c = fold_end (gate_of c.args.connective) c.loop-bit.so_far c.args.bits.now c.loop-bit.bit-index (omega arith) c.loop-bit.invariant
 
 pub loop-bit-init : goal.loop-bit-init
-loop-bit-init c = leads_start _ _
+loop-bit-init c = continues_start _ _
 
 pub loop-bit-preserved : goal.loop-bit-preserved
 loop-bit-preserved c =

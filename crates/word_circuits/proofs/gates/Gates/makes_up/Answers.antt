@@ -1,7 +1,7 @@
 use Rattle.std.proofs.Common.{◌∙◌}
 use Rattle.blast_spec.specs.Gates.{◌>>=◌}
 use Rattle.blast_spec.specs.Circuits.{none, twice_as_wide, product_bits, sum_bits, equal_bits}
-use Rattle.word_circuits.proofs.Gives.{then_ok, same_ok, same_gives}
+use Rattle.word_circuits.proofs.Built.{then_ok, same_ok, same_gives}
 use Rattle.word_circuits.proofs.Calls.{product_same, sum_same, equal_same}
 use Rattle.word_circuits.proofs.gates.Gates.makes_up.Goals as goal
 

@@ -3,12 +3,12 @@ use Rattle.word_circuits.proofs.Stages.{new_start, new_at, new_end}
 use Rattle.word_circuits.proofs.gates.Gates.new_bits.Goals as goal
 
 pub returns : goal.returns
-returns c = λ term place. new_end term place c.args.count c.loop.counter c.loop.out.items (omega arith) (c.loop.invariant term place)
+returns c = λ term index. new_end term index c.args.count c.loop.counter c.loop.out.items (omega arith) (c.loop.invariant term index)
 
 pub loop-init : goal.loop-init
-loop-init c = λ term place. new_start term place c.args.count c.args.self.now c.new-out.result.items c.new-out.ensures.items
+loop-init c = λ term index. new_start term index c.args.count c.args.self.now c.new-out.result.items c.new-out.ensures.items
 
 pub loop-preserved : goal.loop-preserved
 loop-preserved c =
-    λ term place. new_at term place c.args.count c.loop.counter c.in_ok-bit.bit c.loop.out.items c.push.new.self.items (omega arith) c.in_ok-push.ensures.items
-    c.in_ok-bit.ensures.new c.in_ok-bit.ensures.added (c.loop.invariant term place)
+    λ term index. new_at term index c.args.count c.loop.counter c.in_ok-bit.bit c.loop.out.items c.push.new.self.items (omega arith) c.in_ok-push.ensures.items
+    c.in_ok-bit.ensures.new c.in_ok-bit.ensures.added (c.loop.invariant term index)

@@ -6,4 +6,4 @@ use Rattle.word_circuits.proofs.gates.Gates.new_bits.Given as goal
 
 abbrev pub invariant-loop : goal.invariant-loop
 invariant-loop l =
-    (term : Term) (place : ℕ) → Adds (new_bits term place l.count) l.fn.self l.self l.out.items (new_bits term (place + l.counter) (l.count - l.counter))
+    (term : Term) (index : ℕ) → Adds (new_bits term index l.count) l.fn.self l.self l.out.items (new_bits term (index + l.counter) (l.count - l.counter))

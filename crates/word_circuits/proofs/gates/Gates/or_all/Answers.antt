@@ -1,6 +1,6 @@
 use Rattle.std.proofs.Common.{◌-◌, length, take, drop}
 use Rattle.blast_spec.specs.Circuits.{or_gate, fold_gates, or_all}
-use Rattle.word_circuits.proofs.Gives.{same_ok}
+use Rattle.word_circuits.proofs.Built.{same_ok}
 use Rattle.word_circuits.proofs.Steps.{bit_at}
 use Rattle.word_circuits.proofs.Calls.{or_all_none, or_all_some}
 use Rattle.word_circuits.proofs.gates.Gates.or_all.Goals as goal

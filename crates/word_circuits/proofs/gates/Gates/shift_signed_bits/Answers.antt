@@ -1,6 +1,6 @@
 use Rattle.std.proofs.Common.{ap, ◌∙◌}
 use Rattle.blast_spec.specs.Circuits.{mux_gate, each, sign_of, moved_down, shift_stages}
-use Rattle.word_circuits.proofs.Gives.{then_ok, same_ok, same_gives}
+use Rattle.word_circuits.proofs.Built.{then_ok, same_ok, same_gives}
 use Rattle.word_circuits.proofs.gates.Gates.shift_signed_bits.Goals as goal
 
 pub returns : goal.returns

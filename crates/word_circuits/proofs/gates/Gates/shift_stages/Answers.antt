@@ -3,7 +3,7 @@ use Rattle.std.proofs.lemmas.Bool.{lt-ltb, le-ltb}
 use Rattle.std.proofs.lemmas.List.{take_rest}
 use Rattle.blast_spec.specs.Circuits.{choose_bits, or_all}
 use Rattle.word_circuits.specs.Kinds.{move_of}
-use Rattle.word_circuits.proofs.Gives.{same_gives}
+use Rattle.word_circuits.proofs.Built.{same_gives}
 use Rattle.word_circuits.proofs.Steps.{bit_at}
 use Rattle.word_circuits.proofs.Stages.{stages_start, stages_at, stages_past_at, stages_end, chosen_same}
 use Rattle.word_circuits.proofs.gates.Gates.shift_stages.Goals as goal
@@ -15,23 +15,23 @@ pub loop-stage-preserved : goal.loop-stage-preserved
 loop-stage-preserved c =
     let move = move_of c.args.shift in
     let width : c.len.result ≡ length c.loop-stage.word.items = search rules in
-    stages_at move c.loop-stage.places (c.loop-stage.places * 2) c.args.counts.now c.loop-stage.word.items c.in_ok-word-2.word.items c.loop-stage.stage (omega arith)
-    (lt-ltb c.loop-stage.places (length c.loop-stage.word.items) (omega arith)) (omega arith) c.loop-stage.invariant
+    stages_at move c.loop-stage.distance (c.loop-stage.distance * 2) c.args.counts.now c.loop-stage.word.items c.in_ok-word-2.word.items c.loop-stage.stage (omega arith)
+    (lt-ltb c.loop-stage.distance (length c.loop-stage.word.items) (omega arith)) (omega arith) c.loop-stage.invariant
     (same_gives (choose_bits (bit_at c.args.counts.now c.loop-stage.stage) c.deref-in-loop-stage.result.now c.deref-in-loop-stage-2.result.now)
-    (choose_bits (bit_at c.args.counts.now c.loop-stage.stage) (move c.loop-stage.places c.loop-stage.word.items) c.loop-stage.word.items)
-    (chosen_same move c.loop-stage.places (bit_at c.args.counts.now c.loop-stage.stage) c.loop-stage.word.items c.deref.result.now c.in_ok-shifted.shifted.items
+    (choose_bits (bit_at c.args.counts.now c.loop-stage.stage) (move c.loop-stage.distance c.loop-stage.word.items) c.loop-stage.word.items)
+    (chosen_same move c.loop-stage.distance (bit_at c.args.counts.now c.loop-stage.stage) c.loop-stage.word.items c.deref.result.now c.in_ok-shifted.shifted.items
     c.deref-in-loop-stage.result.now c.deref-in-loop-stage-2.result.now
     c.deref-in-loop-stage.ensures.value c.in_ok-shifted.ensures c.deref.ensures.value c.deref-in-loop-stage-2.ensures.value)
     c.in_ok-word-2.ensures)
 
 pub returns : goal.returns
 returns c =
-    stages_end (move_of c.args.shift) c.loop-stage.places c.args.counts.now c.loop-stage.word.items c.loop-stage.stage c.none.result (omega arith) c.none.ensures c.loop-stage.invariant
+    stages_end (move_of c.args.shift) c.loop-stage.distance c.args.counts.now c.loop-stage.word.items c.loop-stage.stage c.none.result (omega arith) c.none.ensures c.loop-stage.invariant
 
-pub returns-then-places-len : goal.returns-then-places-len
-returns-then-places-len c =
+pub returns-then-distance-len : goal.returns-then-distance-len
+returns-then-distance-len c =
     let width : c.len.result ≡ length c.loop-stage.word.items = search rules in
-    stages_past_at (move_of c.args.shift) c.loop-stage.places c.in_ok-past.past c.args.counts.now c.loop-stage.word.items c.loop-stage.stage (omega arith)
-    (le-ltb c.loop-stage.places (length c.loop-stage.word.items) (omega arith)) c.loop-stage.invariant
+    stages_past_at (move_of c.args.shift) c.loop-stage.distance c.in_ok-past.past c.args.counts.now c.loop-stage.word.items c.loop-stage.stage (omega arith)
+    (le-ltb c.loop-stage.distance (length c.loop-stage.word.items) (omega arith)) c.loop-stage.invariant
     (same_gives (or_all (take (length c.args.counts.now - c.loop-stage.stage) (drop c.loop-stage.stage c.args.counts.now))) (or_all (drop c.loop-stage.stage c.args.counts.now))
     (ap or_all (take_rest c.args.counts.now c.loop-stage.stage)) c.in_ok-past.ensures)

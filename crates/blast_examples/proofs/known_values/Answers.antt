@@ -1,7 +1,0 @@
-use Rattle.std.proofs.Common.{refl}
-use Rattle.blast_examples.proofs.Computes.{clauses_compute}
-use Rattle.blast_examples.proofs.known_values.Goals as goal
-
-pub returns : goal.returns
-unfolding clauses_compute
-returns c = record { truth = refl; falsehood = refl }

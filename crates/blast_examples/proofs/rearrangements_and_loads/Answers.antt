@@ -1,7 +1,0 @@
-use Rattle.std.proofs.Common.{refl}
-use Rattle.blast_examples.proofs.Computes.{clauses_compute}
-use Rattle.blast_examples.proofs.rearrangements_and_loads.Goals as goal
-
-pub returns : goal.returns
-unfolding clauses_compute
-returns c = record { rearranged = refl; loads = refl }

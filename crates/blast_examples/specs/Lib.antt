@@ -1,3 +1,0 @@
-pub mod Goals
-pub mod Truths
-pub mod Words

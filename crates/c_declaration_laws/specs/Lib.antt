@@ -1,0 +1,11 @@
+pub mod Around
+pub mod Values
+pub mod Ends
+pub mod Declarations
+pub mod Texts
+pub mod Exactness
+pub mod Samples
+pub mod Parameters
+pub mod GlobalTexts
+pub mod GlobalExactness
+pub mod GlobalSamples

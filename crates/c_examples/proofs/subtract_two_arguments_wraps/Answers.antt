@@ -1,7 +1,0 @@
-use Rattle.std.proofs.Common.{refl}
-use Rattle.c_meaning_spec.specs.Run.{c_run}
-use Rattle.c_examples.proofs.subtract_two_arguments_wraps.Goals as goal
-
-pub returns : goal.returns
-unfolding c_run
-returns c = λ memory place bars. refl

@@ -1,0 +1,16 @@
+pub mod Classes
+pub mod Stops
+pub mod Parsers
+pub mod Types
+pub mod Fuel
+pub mod Budget
+pub mod Firm
+pub mod Exactness
+pub mod Firsts
+pub mod Beside
+pub mod Declarators
+pub mod Endings
+pub mod Rich
+pub mod Specified
+pub mod TypeExactness
+pub mod Samples

@@ -1,5 +1,0 @@
-use Rattle.c_fault_examples.proofs.Worked as worked
-use Rattle.c_fault_examples.proofs.bit_field_is_told.Goals as goal
-
-pub returns : goal.returns
-returns c = worked.bit_field

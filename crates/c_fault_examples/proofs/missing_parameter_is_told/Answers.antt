@@ -1,5 +1,0 @@
-use Rattle.c_fault_examples.proofs.Worked as worked
-use Rattle.c_fault_examples.proofs.missing_parameter_is_told.Goals as goal
-
-pub returns : goal.returns
-returns c = worked.missing_parameter

@@ -1,9 +1,0 @@
-pub mod Mapped
-pub mod Parameters
-pub mod Starting
-pub mod Voids
-pub mod Functions
-pub mod Inside
-pub mod Globals
-pub mod All
-pub mod Worked

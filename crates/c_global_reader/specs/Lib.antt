@@ -1,4 +1,0 @@
-pub mod Parameters
-pub mod Texts
-pub mod Exactness
-pub mod Samples

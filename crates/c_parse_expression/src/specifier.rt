@@ -1,0 +1,523 @@
+//! The types in expressions, and the specifiers and arrays of declarations (6.7).
+
+ghost use Rattle.std.specs.Prelude.{◌≡◌, ◌≤◌, ◌<◌, IfOk};
+ghost use Rattle.c_grammar_spec.specs.Expressions.{operators, operators_of_type};
+ghost use Rattle.c_grammar_spec.specs.Expressions.{operators_of_specifiers};
+ghost use Rattle.c_grammar_spec.specs.Expressions.{operators_of_type_specifier};
+ghost use Rattle.c_grammar_spec.specs.Expressions.{operators_of_members, operators_of_declarators};
+ghost use Rattle.c_grammar_spec.specs.Expressions.{operators_of_declarator, operators_of_lengths};
+ghost use Rattle.c_grammar_spec.specs.Expressions.{operators_of_constants, advance};
+ghost use Rattle.c_expression_laws.specs.Classes.{name_at};
+ghost use Rattle.c_expression_laws.specs.Types as types;
+ghost use Rattle.c_syntax.specs.Expressions.{expressions_in, declarators_in, members_in};
+ghost use Rattle.c_syntax.specs.Expressions.{constants_in};
+ghost use Rattle.c_parse_token.specs.Lists.{Parses, IsShorter, IsNoLonger};
+ghost use Rattle.c_parse_token.specs.Words.{head_of};
+ghost use Rattle.c_parse_expression.specs.Steps.{tree_of, type_of, specified_of, specifier_of};
+ghost use Rattle.c_parse_expression.specs.Steps.{member_row, declarator_row, array_of, length_rows};
+ghost use Rattle.c_parse_expression.specs.Steps.{constant_row, constant_rows};
+ghost use Rattle.c_parse_expression.specs.Steps.{read_all_members, read_member_row};
+ghost use Rattle.c_parse_expression.specs.Steps.{read_more_declarators, read_next_declarator};
+ghost use Rattle.c_parse_expression.specs.Steps.{read_open_array, read_given_array};
+ghost use Rattle.c_parse_expression.specs.Steps.{read_lengths_from, read_constants_from};
+ghost use Rattle.c_parse_expression.specs.Steps.{counting_of, IsAdvanced};
+ghost use Rattle.c_parse_expression.specs.Steps.{around, names_in, type_in, counting_in};
+ghost use Rattle.c_grammar_spec.specs.Limits.{nesting_limit, operator_limit};
+
+use crate::ends::{constant_end, member_end};
+use crate::expression::{Parsed, Scope, conditional, ended};
+use crate::operand::begin_whole;
+use c_grammar_spec::Role;
+use c_parse_token::{
+    Fault, Head, Stopped, Tokens, consts, integer_type, pointer, type_specifier_head,
+};
+use c_spec::token::Punctuator;
+use c_syntax::expression::{
+    Constant, Declarator, Dimensions, Expression, Member, Specifiers, Storage, TypeName,
+    TypeSpecifier,
+};
+
+type Rows<T> = Result<Vec<Box<T>>, Stopped>;
+
+// No storage-class words.
+const NO_STORAGE: Storage = Storage {
+    is_typedef: false,
+    is_static: false,
+};
+
+// The type of a cast or of `sizeof` (6.7.7).
+#[cycle(parser)]
+pub fn type_name<'t>(scope: Scope<'_, 't>, tokens: &mut Tokens<'t>) -> Parsed<TypeName<'t>>
+    requires depth { scope.depth ≤ nesting_limit }
+    requires count { tokens.old.count ≤ operator_limit }
+    ensures gives { Parses ((around scope.entry).type_name scope.entry.depth
+        (counting_in scope.entry tokens.old)) type_of tokens.old tokens.new result }
+    ensures counted { IfOk result (λ x. IsAdvanced scope.entry.is_alone tokens.old.count
+        (operators_of_type (type_of x)) tokens.new.count) }
+    ensures shorter { IfOk result (λ _. IsNoLonger tokens.new tokens.old) }
+{
+    if scope.fuel == 0 {
+        return Err(Stopped::At(Fault::LimitExceeded));
+    }
+    let left = Scope {
+        fuel: scope.fuel - 1,
+        ..scope
+    };
+    pointed(left, tokens)
+}
+
+// Specifiers and `*`.
+#[cycle(parser)]
+fn pointed<'t>(scope: Scope<'_, 't>, tokens: &mut Tokens<'t>) -> Parsed<TypeName<'t>>
+    requires depth { scope.depth ≤ nesting_limit }
+    requires count { tokens.old.count ≤ operator_limit }
+    ensures gives { Parses (type_in (types.read_type_name (names_in scope.entry)) scope.entry
+        tokens.old) type_of tokens.old tokens.new result }
+    ensures counted { IfOk result (λ x. IsAdvanced scope.entry.is_alone tokens.old.count
+        (operators_of_type (type_of x)) tokens.new.count) }
+    ensures shorter { IfOk result (λ _. IsNoLonger tokens.new tokens.old) }
+{
+    let specifiers = specified(scope, tokens)?;
+    let pointers = pointer(tokens);
+    Ok(TypeName::new(scope.alloc, specifiers, pointers)?)
+}
+
+// Specifiers (6.7) without storage-class words.
+#[cycle(parser)]
+pub fn specifiers<'t>(scope: Scope<'_, 't>, tokens: &mut Tokens<'t>) -> Parsed<Specifiers<'t>>
+    requires depth { scope.depth ≤ nesting_limit }
+    requires count { tokens.old.count ≤ operator_limit }
+    ensures gives { Parses ((around scope.entry).specifiers scope.entry.depth
+        (counting_in scope.entry tokens.old)) specified_of tokens.old tokens.new result }
+    ensures counted { IfOk result (λ x. IsAdvanced scope.entry.is_alone tokens.old.count
+        (operators_of_specifiers (specified_of x)) tokens.new.count) }
+    ensures shorter { IfOk result (λ _. IsNoLonger tokens.new tokens.old) }
+{
+    if scope.fuel == 0 {
+        return Err(Stopped::At(Fault::LimitExceeded));
+    }
+    let left = Scope {
+        fuel: scope.fuel - 1,
+        ..scope
+    };
+    specified(left, tokens)
+}
+
+// A type specifier, and `const` around it.
+#[cycle(parser)]
+fn specified<'t>(scope: Scope<'_, 't>, tokens: &mut Tokens<'t>) -> Parsed<Specifiers<'t>>
+    requires depth { scope.depth ≤ nesting_limit }
+    requires count { tokens.old.count ≤ operator_limit }
+    ensures gives { Parses (type_in (types.read_specifiers (names_in scope.entry)) scope.entry
+        tokens.old) specified_of tokens.old tokens.new result }
+    ensures counted { IfOk result (λ x. IsAdvanced scope.entry.is_alone tokens.old.count
+        (operators_of_specifiers (specified_of x)) tokens.new.count) }
+    ensures shorter { IfOk result (λ _. IsNoLonger tokens.new tokens.old) }
+{
+    let first = consts(tokens);
+    let (head, offset) = type_specifier_head(tokens, scope.names)?;
+    let base = base(scope, tokens, head)?;
+    consts(tokens);
+    Ok(Specifiers::new(scope.alloc, NO_STORAGE, base, first.unwrap_or(offset))?)
+}
+
+// What is after the first token of a type specifier (6.7.2).
+#[cycle(parser)]
+pub fn base<'t>(
+    scope: Scope<'_, 't>,
+    tokens: &mut Tokens<'t>,
+    head: Head<'t>,
+) -> Parsed<TypeSpecifier<'t>>
+    requires depth { scope.depth ≤ nesting_limit }
+    requires count { tokens.old.count ≤ operator_limit }
+    ensures gives { Parses (types.read_type_specifier_rest (names_in scope.entry) (around
+        scope.entry) scope.entry.depth (counting_in scope.entry tokens.old) (head_of head.entry))
+        specifier_of tokens.old tokens.new result }
+    ensures counted { IfOk result (λ x. IsAdvanced scope.entry.is_alone tokens.old.count
+        (operators_of_type_specifier (specifier_of x)) tokens.new.count) }
+    ensures shorter { IfOk result (λ _. IsNoLonger tokens.new tokens.old) }
+{
+    match head {
+        Head::Void => Ok(TypeSpecifier::void(scope.alloc)?),
+        Head::Integer(first) => {
+            let named = integer_type(scope.alloc, tokens, first)?;
+            Ok(TypeSpecifier::integer(scope.alloc, named)?)
+        }
+        Head::Named(name) => Ok(TypeSpecifier::typedef_name(scope.alloc, name)?),
+        Head::Struct => structure(scope, tokens),
+        Head::Enum => enumeration(scope, tokens),
+    }
+}
+
+// What is after `struct`.
+#[cycle(parser)]
+fn structure<'t>(scope: Scope<'_, 't>, tokens: &mut Tokens<'t>) -> Parsed<TypeSpecifier<'t>>
+    requires depth { scope.depth ≤ nesting_limit }
+    requires count { tokens.old.count ≤ operator_limit }
+    ensures gives { Parses (type_in (types.read_struct (names_in scope.entry)) scope.entry
+        tokens.old) specifier_of tokens.old tokens.new result }
+    ensures counted { IfOk result (λ x. IsAdvanced scope.entry.is_alone tokens.old.count
+        (operators_of_type_specifier (specifier_of x)) tokens.new.count) }
+    ensures shorter { IfOk result (λ _. IsNoLonger tokens.new tokens.old) }
+{
+    if !tokens.starts_plain_name(scope.names) {
+        let rows = members(scope, tokens)?;
+        return Ok(TypeSpecifier::structure(scope.alloc, None, rows)?);
+    }
+    let tag = tokens.plain_name(scope.names)?;
+    if !tokens.next_is(Punctuator::LeftBrace) {
+        return Ok(TypeSpecifier::struct_tag(scope.alloc, tag)?);
+    }
+    let rows = members(scope, tokens)?;
+    Ok(TypeSpecifier::structure(scope.alloc, Some(tag), rows)?)
+}
+
+// What is after `enum`.
+#[cycle(parser)]
+fn enumeration<'t>(scope: Scope<'_, 't>, tokens: &mut Tokens<'t>) -> Parsed<TypeSpecifier<'t>>
+    requires depth { scope.depth ≤ nesting_limit }
+    requires count { tokens.old.count ≤ operator_limit }
+    ensures gives { Parses (type_in (types.read_enum (names_in scope.entry)) scope.entry tokens.old)
+        specifier_of tokens.old tokens.new result }
+    ensures counted { IfOk result (λ x. IsAdvanced scope.entry.is_alone tokens.old.count
+        (operators_of_type_specifier (specifier_of x)) tokens.new.count) }
+    ensures shorter { IfOk result (λ _. IsNoLonger tokens.new tokens.old) }
+{
+    if !tokens.starts_plain_name(scope.names) {
+        let rows = constants(scope, tokens)?;
+        return Ok(TypeSpecifier::enumeration(scope.alloc, None, rows)?);
+    }
+    let tag = tokens.plain_name(scope.names)?;
+    if !tokens.next_is(Punctuator::LeftBrace) {
+        return Ok(TypeSpecifier::enum_tag(scope.alloc, tag)?);
+    }
+    let rows = constants(scope, tokens)?;
+    Ok(TypeSpecifier::enumeration(scope.alloc, Some(tag), rows)?)
+}
+
+// Declarations of members in braces (6.7.2.1).
+#[cycle(parser)]
+fn members<'t>(scope: Scope<'_, 't>, tokens: &mut Tokens<'t>) -> Rows<Member<'t>>
+    requires depth { scope.depth ≤ nesting_limit }
+    requires count { tokens.old.count ≤ operator_limit }
+    ensures gives { Parses (type_in (types.read_members (names_in scope.entry)) scope.entry
+        tokens.old) members_in tokens.old tokens.new result }
+    ensures counted { IfOk result (λ x. IsAdvanced scope.entry.is_alone tokens.old.count
+        (operators_of_members (members_in x)) tokens.new.count) }
+    ensures shorter { IfOk result (λ _. IsNoLonger tokens.new tokens.old) }
+{
+    tokens.opening(Punctuator::LeftBrace, scope.depth)?;
+    let deeper = Scope {
+        depth: scope.depth + 1,
+        ..scope
+    };
+    let rows = all_members(deeper, tokens)?;
+    tokens.mark(Punctuator::RightBrace, Role::Nothing)?;
+    Ok(rows)
+}
+
+// Declarations of members, as long as one begins.
+#[cycle(parser)]
+fn all_members<'t>(scope: Scope<'_, 't>, tokens: &mut Tokens<'t>) -> Rows<Member<'t>>
+    requires depth { scope.depth ≤ nesting_limit }
+    requires count { tokens.old.count ≤ operator_limit }
+    ensures gives { Parses (type_in (read_all_members (names_in scope.entry)) scope.entry
+        tokens.old) members_in tokens.old tokens.new result }
+    ensures counted { IfOk result (λ x. IsAdvanced scope.entry.is_alone tokens.old.count
+        (operators_of_members (members_in x)) tokens.new.count) }
+    ensures shorter { IfOk result (λ _. IsNoLonger tokens.new tokens.old) }
+{
+    let mut rows: Vec<Box<Member<'t>>> = Vec::new(scope.alloc);
+    'items: while tokens.starts_type(scope.names) {
+        let row = member(scope, tokens)?;
+        rows.push(row)?;
+    }
+    Ok(rows)
+}
+
+// A declaration of members.
+#[cycle(parser)]
+fn member<'t>(scope: Scope<'_, 't>, tokens: &mut Tokens<'t>) -> Parsed<Member<'t>>
+    requires depth { scope.depth ≤ nesting_limit }
+    requires count { tokens.old.count ≤ operator_limit }
+    ensures gives { Parses (type_in read_member_row scope.entry tokens.old) member_row tokens.old
+        tokens.new result }
+    ensures counted { IfOk result (λ x. IsAdvanced scope.entry.is_alone tokens.old.count
+        (types.operators_of_member (member_row x)) tokens.new.count) }
+    ensures shorter { IfOk result (λ _. IsShorter tokens.new tokens.old) }
+{
+    let specifiers = specifiers(scope, tokens)?;
+    let declarators = member_list(scope, tokens)?;
+    Ok(Member::new(scope.alloc, specifiers, declarators)?)
+}
+
+// Declarators of members, and the `;` after them.
+#[cycle(parser)]
+fn member_list<'t>(scope: Scope<'_, 't>, tokens: &mut Tokens<'t>) -> Rows<Declarator<'t>>
+    requires depth { scope.depth ≤ nesting_limit }
+    requires count { tokens.old.count ≤ operator_limit }
+    ensures gives { Parses (type_in types.read_member_list scope.entry tokens.old) declarators_in
+        tokens.old tokens.new result }
+    ensures counted { IfOk result (λ x. IsAdvanced scope.entry.is_alone tokens.old.count
+        (operators_of_declarators (declarators_in x)) tokens.new.count) }
+    ensures shorter { IfOk result (λ _. IsShorter tokens.new tokens.old) }
+{
+    let before = tokens.count;
+    let first = declarator(scope, tokens)?;
+    more_declarators(scope, tokens, before, first)
+}
+
+// Further declarators after the first, and the `;` after them.
+#[cycle(parser)]
+fn more_declarators<'t>(
+    scope: Scope<'_, 't>,
+    tokens: &mut Tokens<'t>,
+    before: usize,
+    first: Box<Declarator<'t>>,
+) -> Rows<Declarator<'t>>
+    requires depth { scope.depth ≤ nesting_limit }
+    requires count { tokens.old.count ≤ operator_limit }
+    requires before { advance (counting_of scope.is_alone before) (operators_of_declarator
+        (declarator_row first)) ≡ counting_of scope.is_alone tokens.old.count }
+    ensures gives { Parses (read_more_declarators (around scope.entry) scope.entry.depth
+        (counting_in scope.entry tokens.old) (declarator_row first.entry)) declarators_in tokens.old
+        tokens.new result }
+    ensures counted { IfOk result (λ x. IsAdvanced scope.entry.is_alone before
+        (operators_of_declarators (declarators_in x)) tokens.new.count) }
+    ensures shorter { IfOk result (λ _. IsShorter tokens.new tokens.old) }
+{
+    let mut end = member_end(&first);
+    let mut all: Vec<Box<Declarator<'t>>> = Vec::new(scope.alloc);
+    all.push(first)?;
+    'items: while tokens.next_is(Punctuator::Comma) {
+        let next = next_declarator(scope, tokens)?;
+        end = member_end(&next);
+        all.push(next)?;
+    }
+    tokens.mark(Punctuator::Semicolon, end)?;
+    Ok(all)
+}
+
+// A comma and a declarator.
+#[cycle(parser)]
+fn next_declarator<'t>(scope: Scope<'_, 't>, tokens: &mut Tokens<'t>) -> Parsed<Declarator<'t>>
+    requires depth { scope.depth ≤ nesting_limit }
+    requires count { tokens.old.count ≤ operator_limit }
+    ensures gives { Parses (type_in read_next_declarator scope.entry tokens.old) declarator_row
+        tokens.old tokens.new result }
+    ensures counted { IfOk result (λ x. IsAdvanced scope.entry.is_alone tokens.old.count
+        (operators_of_declarator (declarator_row x)) tokens.new.count) }
+    ensures shorter { IfOk result (λ _. IsShorter tokens.new tokens.old) }
+{
+    tokens.mark(Punctuator::Comma, Role::Nothing)?;
+    declarator(scope, tokens)
+}
+
+// A declarator of a member (6.7.6).
+#[cycle(parser)]
+fn declarator<'t>(scope: Scope<'_, 't>, tokens: &mut Tokens<'t>) -> Parsed<Declarator<'t>>
+    requires depth { scope.depth ≤ nesting_limit }
+    requires count { tokens.old.count ≤ operator_limit }
+    ensures gives { Parses (types.read_declarator name_at (around scope.entry) scope.entry.depth
+        (counting_in scope.entry tokens.old)) declarator_row tokens.old tokens.new result }
+    ensures counted { IfOk result (λ x. IsAdvanced scope.entry.is_alone tokens.old.count
+        (operators_of_declarator (declarator_row x)) tokens.new.count) }
+    ensures shorter { IfOk result (λ _. IsShorter tokens.new tokens.old) }
+{
+    let pointers = pointer(tokens);
+    let name = tokens.name(Role::DeclaredName)?;
+    let dimensions = dimensions(scope, tokens)?;
+    Ok(Declarator::new(scope.alloc, pointers, name, dimensions)?)
+}
+
+// The lengths of an array, and whether the first is left out (6.7.6.2).
+#[cycle(parser)]
+pub fn dimensions<'t>(scope: Scope<'_, 't>, tokens: &mut Tokens<'t>) -> Parsed<Dimensions<'t>>
+    requires depth { scope.depth ≤ nesting_limit }
+    requires count { tokens.old.count ≤ operator_limit }
+    ensures gives { Parses (type_in types.read_dimensions scope.entry tokens.old) array_of
+        tokens.old tokens.new result }
+    ensures counted { IfOk result (λ x. IsAdvanced scope.entry.is_alone tokens.old.count
+        (operators_of_lengths (array_of x).1) tokens.new.count) }
+    ensures shorter { IfOk result (λ _. IsNoLonger tokens.new tokens.old) }
+{
+    if !tokens.next_is(Punctuator::LeftBracket) {
+        return Ok(Dimensions::new(scope.alloc, false, Vec::new(scope.alloc))?);
+    }
+    tokens.opening(Punctuator::LeftBracket, scope.depth)?;
+    if tokens.next_is(Punctuator::RightBracket) {
+        open_array(scope, tokens)
+    } else {
+        given_array(scope, tokens)
+    }
+}
+
+// After `[` an array whose first length is left out.
+#[cycle(parser)]
+fn open_array<'t>(scope: Scope<'_, 't>, tokens: &mut Tokens<'t>) -> Parsed<Dimensions<'t>>
+    requires depth { scope.depth ≤ nesting_limit }
+    requires count { tokens.old.count ≤ operator_limit }
+    ensures gives { Parses (type_in read_open_array scope.entry tokens.old) array_of tokens.old
+        tokens.new result }
+    ensures counted { IfOk result (λ x. IsAdvanced scope.entry.is_alone tokens.old.count
+        (operators_of_lengths (array_of x).1) tokens.new.count) }
+    ensures shorter { IfOk result (λ _. IsNoLonger tokens.new tokens.old) }
+{
+    tokens.mark(Punctuator::RightBracket, Role::Nothing)?;
+    let before = tokens.count;
+    let none: Vec<Box<Expression<'t>>> = Vec::new(scope.alloc);
+    let all = lengths(scope, tokens, before, none)?;
+    Ok(Dimensions::new(scope.alloc, true, all)?)
+}
+
+// After `[` an array whose first length is given.
+#[cycle(parser)]
+fn given_array<'t>(scope: Scope<'_, 't>, tokens: &mut Tokens<'t>) -> Parsed<Dimensions<'t>>
+    requires depth { scope.depth < nesting_limit }
+    requires count { tokens.old.count ≤ operator_limit }
+    ensures gives { Parses (type_in read_given_array scope.entry tokens.old) array_of tokens.old
+        tokens.new result }
+    ensures counted { IfOk result (λ x. IsAdvanced scope.entry.is_alone tokens.old.count
+        (operators_of_lengths (array_of x).1) tokens.new.count) }
+    ensures shorter { IfOk result (λ _. IsNoLonger tokens.new tokens.old) }
+{
+    let before = tokens.count;
+    begin_whole(tokens, scope.is_alone);
+    let deeper = Scope {
+        depth: scope.depth + 1,
+        ..scope
+    };
+    let first = ended(deeper, tokens, Punctuator::RightBracket)?;
+    let mut given: Vec<Box<Expression<'t>>> = Vec::new(scope.alloc);
+    given.push(first)?;
+    let all = lengths(scope, tokens, before, given)?;
+    Ok(Dimensions::new(scope.alloc, false, all)?)
+}
+
+// Further lengths, after those given.
+#[cycle(parser)]
+fn lengths<'t>(
+    scope: Scope<'_, 't>,
+    tokens: &mut Tokens<'t>,
+    before: usize,
+    given: Vec<Box<Expression<'t>>>,
+) -> Rows<Expression<'t>>
+    requires depth { scope.depth ≤ nesting_limit }
+    requires count { tokens.old.count ≤ operator_limit }
+    requires before { advance (counting_of scope.is_alone before) (operators_of_lengths
+        (expressions_in given)) ≡ counting_of scope.is_alone tokens.old.count }
+    ensures gives { Parses (read_lengths_from (length_rows given.entry) (around scope.entry)
+        scope.entry.depth (counting_in scope.entry tokens.old)) expressions_in tokens.old tokens.new
+        result }
+    ensures counted { IfOk result (λ x. IsAdvanced scope.entry.is_alone before
+        (operators_of_lengths (expressions_in x)) tokens.new.count) }
+    ensures shorter { IfOk result (λ _. IsNoLonger tokens.new tokens.old) }
+{
+    let mut all = given;
+    'items: while tokens.next_is(Punctuator::LeftBracket) {
+        let next = length(scope, tokens)?;
+        all.push(next)?;
+    }
+    Ok(all)
+}
+
+// A length in brackets.
+#[cycle(parser)]
+fn length<'t>(scope: Scope<'_, 't>, tokens: &mut Tokens<'t>) -> Parsed<Expression<'t>>
+    requires depth { scope.depth ≤ nesting_limit }
+    requires count { tokens.old.count ≤ operator_limit }
+    ensures gives { Parses (type_in types.read_length scope.entry tokens.old) tree_of tokens.old
+        tokens.new result }
+    ensures counted { IfOk result (λ x. IsAdvanced scope.entry.is_alone tokens.old.count
+        (operators (tree_of x)) tokens.new.count) }
+    ensures shorter { IfOk result (λ _. IsShorter tokens.new tokens.old) }
+{
+    tokens.opening(Punctuator::LeftBracket, scope.depth)?;
+    begin_whole(tokens, scope.is_alone);
+    let deeper = Scope {
+        depth: scope.depth + 1,
+        ..scope
+    };
+    ended(deeper, tokens, Punctuator::RightBracket)
+}
+
+// Constants in braces (6.7.2.2).
+#[cycle(parser)]
+fn constants<'t>(scope: Scope<'_, 't>, tokens: &mut Tokens<'t>) -> Rows<Constant<'t>>
+    requires depth { scope.depth ≤ nesting_limit }
+    requires count { tokens.old.count ≤ operator_limit }
+    ensures gives { Parses (type_in (types.read_constants (names_in scope.entry)) scope.entry
+        tokens.old) constants_in tokens.old tokens.new result }
+    ensures counted { IfOk result (λ x. IsAdvanced scope.entry.is_alone tokens.old.count
+        (operators_of_constants (constants_in x)) tokens.new.count) }
+    ensures shorter { IfOk result (λ _. IsNoLonger tokens.new tokens.old) }
+{
+    tokens.opening(Punctuator::LeftBrace, scope.depth)?;
+    let before = tokens.count;
+    let deeper = Scope {
+        depth: scope.depth + 1,
+        ..scope
+    };
+    let first = constant(deeper, tokens)?;
+    let end = constant_end(&first);
+    let mut rows: Vec<Box<Constant<'t>>> = Vec::new(scope.alloc);
+    rows.push(first)?;
+    let end = more_constants(deeper, tokens, before, &mut rows, end)?;
+    tokens.mark(Punctuator::RightBrace, end)?;
+    Ok(rows)
+}
+
+// Further constants after those read, each after a comma; a comma may be after the last. Gives what
+// is expected after them, where this is expected after those read.
+#[cycle(parser)]
+fn more_constants<'t>(
+    scope: Scope<'_, 't>,
+    tokens: &mut Tokens<'t>,
+    before: usize,
+    rows: &mut Vec<Box<Constant<'t>>>,
+    end: Role,
+) -> Result<Role, Stopped>
+    requires depth { scope.depth ≤ nesting_limit }
+    requires count { tokens.old.count ≤ operator_limit }
+    requires before { advance (counting_of scope.is_alone before) (operators_of_constants
+        (constants_in rows.old)) ≡ counting_of scope.is_alone tokens.old.count }
+    ensures gives { Parses (read_constants_from (names_in scope.entry) (around scope.entry)
+        scope.entry.depth (constant_rows rows.old) (types.AfterConstant end (counting_in scope.entry
+        tokens.old))) (λ x. (constant_rows rows.new, x)) tokens.old tokens.new result }
+    ensures counted { IfOk result (λ _. IsAdvanced scope.entry.is_alone before
+        (operators_of_constants (constants_in rows.new)) tokens.new.count) }
+    ensures shorter { IfOk result (λ _. IsNoLonger tokens.new tokens.old) }
+{
+    let mut end = end;
+    'items: while tokens.next_is(Punctuator::Comma) {
+        tokens.mark(Punctuator::Comma, Role::Nothing)?;
+        if !tokens.starts_plain_name(scope.names) {
+            return Ok(Role::Nothing);
+        }
+        let next = constant(scope, tokens)?;
+        end = constant_end(&next);
+        rows.push(next)?;
+    }
+    Ok(end)
+}
+
+// A constant, and its value where it has one.
+#[cycle(parser)]
+fn constant<'t>(scope: Scope<'_, 't>, tokens: &mut Tokens<'t>) -> Parsed<Constant<'t>>
+    requires depth { scope.depth ≤ nesting_limit }
+    requires count { tokens.old.count ≤ operator_limit }
+    ensures gives { Parses (type_in (types.read_constant (names_in scope.entry)) scope.entry
+        tokens.old) constant_row tokens.old tokens.new result }
+    ensures counted { IfOk result (λ x. IsAdvanced scope.entry.is_alone tokens.old.count
+        (types.operators_of_constant (constant_row x)) tokens.new.count) }
+    ensures shorter { IfOk result (λ _. IsShorter tokens.new tokens.old) }
+{
+    let name = tokens.plain_name(scope.names)?;
+    if !tokens.next_is(Punctuator::Assign) {
+        return Ok(Constant::new(scope.alloc, name, None)?);
+    }
+    tokens.mark(Punctuator::Assign, Role::Nothing)?;
+    begin_whole(tokens, scope.is_alone);
+    let value = conditional(scope, tokens)?;
+    Ok(Constant::new(scope.alloc, name, Some(value))?)
+}

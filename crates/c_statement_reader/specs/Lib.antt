@@ -1,4 +1,0 @@
-pub mod Statements
-pub mod Ends
-pub mod Exactness
-pub mod Samples

@@ -1,5 +1,0 @@
-use Rattle.c_type_reader.proofs.Worked as worked
-use Rattle.c_type_reader.proofs.reads_cast.Goals as goal
-
-pub returns : goal.returns
-returns c = worked.reads_cast

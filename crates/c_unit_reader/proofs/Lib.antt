@@ -1,9 +1,0 @@
-pub mod Initials
-pub mod Values
-pub mod Lists
-pub mod Braces
-pub mod Globals
-pub mod Items
-pub mod All
-pub mod Worked
-pub mod Faults

@@ -1,5 +1,0 @@
-use Rattle.c_unit_reader.proofs.Faults.{unit-tells}
-use Rattle.c_unit_reader.proofs.unit_tells.Goals as goal
-
-pub returns : goal.returns
-returns c = unit-tells

@@ -1,4 +1,0 @@
-pub mod Initializers
-pub mod Units
-pub mod Exactness
-pub mod Samples

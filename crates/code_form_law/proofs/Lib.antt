@@ -1,4 +1,0 @@
-pub mod Words
-pub mod Values
-pub mod Forms
-pub mod Access

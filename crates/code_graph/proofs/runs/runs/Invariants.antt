@@ -1,9 +1,0 @@
-use Rattle.std.proofs.Common.{◌-◌, ◌^◌, length}
-use Rattle.code_graph.proofs.Extents.{AreFirst}
-use Rattle.code_graph.proofs.runs.runs.Given as goal
-
-abbrev pub invariant-loop-run : goal.invariant-loop-run
-invariant-loop-run l = AreFirst l.image l.runs.items
-
-abbrev pub decreases-loop-run : goal.decreases-loop-run
-decreases-loop-run l = 2 ^ 32 - length l.runs.items

@@ -1,7 +1,0 @@
-use Rattle.std.proofs.Common.{refl}
-use Rattle.code_graph_examples.proofs.Computes.{nodes_compute}
-use Rattle.code_graph_examples.proofs.a_call_with_a_frame.Goals as goal
-
-pub returns : goal.returns
-unfolding nodes_compute
-returns c = record { opens = refl; calls = refl; lands = refl; loads = refl; adds = refl; closes = refl; returns = refl }

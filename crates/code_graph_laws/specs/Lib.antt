@@ -1,0 +1,4 @@
+pub mod Evaluation
+pub mod Together
+pub mod Layout
+pub mod Valid

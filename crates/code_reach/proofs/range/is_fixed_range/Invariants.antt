@@ -1,0 +1,7 @@
+use Rattle.std.proofs.Common.{ℕ, IsSome}
+use Rattle.elf_spec.specs.Image.{fixed_byte}
+use Rattle.code_spec.specs.Code.{InRange}
+use Rattle.code_reach.proofs.range.is_fixed_range.Given as goal
+
+abbrev pub invariant-loop-k : goal.invariant-loop-k
+invariant-loop-k l = (address : ℕ) → InRange l.entry l.k address → IsSome (fixed_byte l.image address)

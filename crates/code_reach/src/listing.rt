@@ -1,0 +1,77 @@
+//! The words of a function.
+
+ghost use Rattle.std.specs.Prelude.{◌≡◌, ◌+◌, ◌<◌, ◌≤◌, ◌^◌, All, IfOk, IfErr, IsSome, Some, None};
+ghost use Rattle.elf_spec.specs.Image.{size_at};
+ghost use Rattle.code_spec.specs.Code.{word_at};
+ghost use Rattle.code_reach.specs.Flows as spec;
+ghost use Rattle.code_reach.specs.Growth.{IsPlace};
+ghost use Rattle.code_reach.specs.Listing.{AreWords, IsListingError};
+ghost use Rattle.code_reach.specs.Found.{IsCode, IsCodeError};
+
+use crate::faults::{CodeError, CodeFault, fault_at};
+use crate::flows::word;
+use crate::range::range_fault;
+use crate::walk::reached;
+use code_spec::CodeKind;
+use elf_read::Image;
+use std::alloc::Global;
+
+/// The word at an address of a function, unless the instruction is wrong.
+fn sound_word(image: &Image<'_>, entry: u32, size: u32, address: u32) -> Result<u32, CodeFault>
+    requires { IsPlace entry size address }
+    ensures word { IfOk result (λ found. word_at image.now address ≡ Some found) }
+    ensures sound { IfOk result (λ _. spec.fault_at image.now entry size address ≡ None) }
+    ensures fault { IfErr result (λ fault. spec.fault_at image.now entry size address
+        ≡ Some fault.kind) }
+    ensures address { IfErr result (λ fault. fault.address ≡ address) }
+{
+    let Some(found) = word(image, address) else {
+        return Err(CodeFault {
+            kind: CodeKind::Undecoded,
+            address,
+        });
+    };
+    match fault_at(image, entry, size, address) {
+        Some(kind) => Err(CodeFault { kind, address }),
+        None => Ok(found),
+    }
+}
+
+/// The words at some addresses of a function, unless one of their instructions is wrong.
+fn words(
+    alloc: Global,
+    image: &Image<'_>,
+    entry: u32,
+    size: u32,
+    addresses: &[u32],
+) -> Result<Vec<(u32, u32)>, CodeError>
+    requires { All (IsPlace entry size) addresses.now }
+    ensures listed { IfOk result (λ words. AreWords image.now entry size addresses.now words.items) }
+    ensures fault { IfErr result (λ error. IsListingError image.now entry size addresses.now error) }
+{
+    let mut words = Vec::new(alloc);
+    for address in addresses {
+        let found = sound_word(image, entry, size, *address)?;
+        words.push((*address, found))?;
+    }
+    Ok(words)
+}
+
+/// The code of the function at an entry: the address and the word of each instruction that it
+/// reaches, ascending. The fault is the first of the function's own, by address and then by kind;
+/// other functions, those that it calls too, aren't looked at.
+pub fn code(alloc: Global, image: &Image<'_>, entry: u32) -> Result<Vec<(u32, u32)>, CodeError>
+    requires { IsSome (size_at image.now entry) }
+    ensures found { IfOk result (λ words. IsCode image.now entry words.items) }
+    ensures fault { IfErr result (λ error. IsCodeError image.now entry error) }
+{
+    let size = image.size_at(entry).unwrap();
+    if let Some(kind) = range_fault(image, entry, size) {
+        return Err(CodeError::Fault(CodeFault {
+            kind,
+            address: entry,
+        }));
+    }
+    let places = reached(alloc, image, entry, size)?;
+    words(alloc, image, entry, size, places.as_slice())
+}

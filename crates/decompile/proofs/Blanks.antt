@@ -1,0 +1,106 @@
+-- A graph has the addresses of the runs of fixed bytes, and not the bytes.
+use Rattle.std.proofs.Common.{◌≡◌, ◌∙◌, ℕ, ◌+◌, ◌-◌, ◌%◌, ◌==◌, Bool, true, false, cond, refl, sym, ap, arith, List, [], ◌∷◌, ◌++◌, length, map, Option, Some, None, ℤ}
+use Rattle.std.proofs.lemmas.List.{length-map, length-replicate}
+use Rattle.rv_instr.specs.declared.Instr.{Instr}
+use Rattle.rv_instr.specs.declared.Instr.TheVariants as instr
+use Rattle.rv_instr.specs.declared.StoreKind.{StoreKind}
+use Rattle.memory_spec.specs.Runs.{Run}
+use Rattle.code_spec.specs.Code.{Flow, Falls, Branches, Jumps, Calls, Links, Returns, Stops}
+use Rattle.term_spec.specs.Term.{Term, or_term, less}
+use Rattle.graph_spec.specs.declared.Next.{Next}
+use Rattle.graph_spec.specs.declared.Next.TheVariants as next
+use Rattle.graph_spec.specs.Graph.{Node, Basic, Cond, Graph}
+use Rattle.code_graph_spec.specs.InstructionTerms.{number, avoids, access_tests, address, aligned_for, last_written}
+use Rattle.code_graph_spec.specs.Blocks.{Of, Setting, Ending, Does, Goes, onward, toward, chain, tests_of, ending_of, nodes_at, landing_of}
+use Rattle.code_graph_laws.specs.Layout.{Item, block, blocks, laid, landing_node, AreNumbered}
+use Rattle.decompile.specs.Settings.{blanked}
+
+avoids_blank : (a e : Term) (run : Run) → avoids a e (blanked run) ≡ avoids a e run
+avoids_blank a e run = ap (λ (n : ℕ). or_term (less (number (run.start + n - 1)) a) (less e (number run.start))) (length-replicate (length run.bytes) 0)
+
+all_avoid : (a e : Term) (runs : List Run) → map (avoids a e) (map blanked runs) ≡ map (avoids a e) runs
+all_avoid a e [] = refl
+all_avoid a e (run ∷ runs) = cc (avoids_blank a e run, all_avoid a e runs)
+
+same_accesses : (runs : List Run) (i : Instr) → access_tests (map blanked runs) i ≡ access_tests runs i
+same_accesses runs (instr.Lui rd imm) = refl
+same_accesses runs (instr.Auipc rd imm) = refl
+same_accesses runs (instr.Jal rd offset) = refl
+same_accesses runs (instr.Jalr rd base offset) = refl
+same_accesses runs (instr.Branch test left right offset) = refl
+same_accesses runs (instr.Load kind rd base offset) = refl
+same_accesses runs (instr.Store kind base source offset) =
+    ap (λ (tests : List Term). aligned_for kind (address base offset) ++ tests) (all_avoid (address base offset) (last_written kind (address base offset)) runs)
+same_accesses runs (instr.Immediate operation rd source imm) = refl
+same_accesses runs (instr.Shift operation rd source amount) = refl
+same_accesses runs (instr.Arithmetic operation rd left right) = refl
+same_accesses runs (instr.Fence rd source bits) = refl
+same_accesses runs instr.Ecall = refl
+same_accesses runs instr.Ebreak = refl
+
+module _ (f : Setting) where
+  abbrev pub blank_setting : Setting
+  blank_setting = record f { runs = map blanked f.runs }
+
+  same_tests : (i : Instr) (flow : Flow) → tests_of blank_setting i flow ≡ tests_of f i flow
+  unfolding tests_of
+  same_tests i Falls = same_accesses f.runs i
+  same_tests i (Branches target) = refl
+  same_tests i (Jumps target) = refl
+  same_tests i (Calls target) = refl
+  same_tests i (Links target) = refl
+  same_tests i Returns = refl
+  same_tests i Stops = refl
+
+  same_ending : (place : ℕ) (i : Instr) (flow : Flow) → ending_of blank_setting place i flow ≡ ending_of f place i flow
+  unfolding ending_of toward
+  same_ending place i Falls = refl
+  same_ending place i (Branches target) = refl
+  same_ending place i (Jumps target) = refl
+  same_ending place i (Calls target) = refl
+  same_ending place i (Links target) = refl
+  same_ending place i Returns = refl
+  same_ending place i Stops = refl
+
+  same_onward : (place index : ℕ) (tests : List Term) (ending : Ending) → onward blank_setting place index tests ending ≡ onward f place index tests ending
+  same_onward place index [] (Does node) = refl
+  same_onward place index [] (Goes to) = refl
+  same_onward place index (test ∷ tests) ending = refl
+
+  same_chain : (place index : ℕ) (tests : List Term) (ending : Ending) → chain blank_setting place index tests ending ≡ chain f place index tests ending
+  unfolding chain
+  same_chain place index [] (Does node) = refl
+  same_chain place index [] (Goes to) = refl
+  same_chain place index (test ∷ tests) ending =
+      let to : onward blank_setting place (index + 1) tests ending ≡ onward f place (index + 1) tests ending = same_onward place (index + 1) tests ending in
+      let rest : chain blank_setting place (index + 1) tests ending ≡ chain f place (index + 1) tests ending = same_chain place (index + 1) tests ending in
+      cc
+
+  same_landing : (place : ℕ) (flow : Flow) → landing_of blank_setting place flow ≡ landing_of f place flow
+  unfolding landing_of toward
+  same_landing place Falls = refl
+  same_landing place (Branches target) = refl
+  same_landing place (Jumps target) = refl
+  same_landing place (Calls target) = refl
+  same_landing place (Links target) = refl
+  same_landing place Returns = refl
+  same_landing place Stops = refl
+
+  same_block : (item : Item) → block blank_setting item ≡ block f item
+  unfolding nodes_at
+  same_block item =
+      ap (λ (tests : List Term). chain blank_setting item.address 0 tests (ending_of blank_setting item.address item.instruction item.flow) ++ landing_node (landing_of blank_setting item.address item.flow)) (same_tests item.instruction item.flow)
+      ∙ ap (λ (ending : Ending). chain blank_setting item.address 0 (tests_of f item.instruction item.flow) ending ++ landing_node (landing_of blank_setting item.address item.flow)) (same_ending item.address item.instruction item.flow)
+      ∙ ap (λ (nodes : List Node). nodes ++ landing_node (landing_of blank_setting item.address item.flow)) (same_chain item.address 0 (tests_of f item.instruction item.flow) (ending_of f item.address item.instruction item.flow))
+      ∙ ap (λ (o : Option Next). chain f item.address 0 (tests_of f item.instruction item.flow) (ending_of f item.address item.instruction item.flow) ++ landing_node o) (same_landing item.address item.flow)
+
+  same_blocks : (items : List Item) → blocks blank_setting items ≡ blocks f items
+  same_blocks [] = refl
+  same_blocks (item ∷ rest) = ap (λ (nodes : List Node). nodes ++ blocks blank_setting rest) (same_block item) ∙ ap (λ (nodes : List Node). block f item ++ nodes) (same_blocks rest)
+
+  -- the graph is the same
+  pub same_laid : (items : List Item) → laid blank_setting items ≡ laid f items
+  same_laid items =
+      let rest : blocks blank_setting items ≡ blocks f items = same_blocks items in
+      let graph : List Node → Graph = λ nodes. record { nodes = nodes; entry = 0 } in
+      ap (λ (nodes : List Node). graph (Basic [] (next.At (f.at (Of f.entry 0))) ∷ nodes)) rest

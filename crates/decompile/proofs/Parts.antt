@@ -1,0 +1,54 @@
+-- The nodes of an instruction, flow by flow.
+use Rattle.std.proofs.Common.{◌≡◌, ◌≢◌, ◌∙◌, ℕ, ◌+◌, ◌%◌, ◌==◌, Bool, true, false, cond, refl, sym, ap, arith, eq-eqb, List, [], ◌∷◌, ◌++◌, Option, Some, None, ℤ}
+use Rattle.std.proofs.lemmas.Bool.{ne_eqb}
+use Rattle.std.proofs.lemmas.List.{append-nil}
+use Rattle.rv_instr.specs.declared.BranchTest.{BranchTest}
+use Rattle.rv_instr.specs.declared.Instr.{Instr}
+use Rattle.rv_instr.specs.declared.Instr.TheVariants.{Branch}
+use Rattle.rv_spec.specs.Machine.{past}
+use Rattle.code_spec.specs.Code.{Falls, Branches, Jumps, Calls, Links, Returns, Stops}
+use Rattle.graph_spec.specs.declared.Next.TheVariants as next
+use Rattle.graph_spec.specs.Graph.{Node, Basic, Cond, Call}
+use Rattle.code_graph_spec.specs.InstructionTerms.{operand, access_tests, returns_home, effects, branch_test, taken}
+use Rattle.code_graph_spec.specs.Blocks.{Following, call_nodes, Setting, Does, leaves, toward, chain, tests_of, ending_of, nodes_at, landing_of, call_inputs}
+use Rattle.code_graph_laws.specs.Layout.{Item, block}
+use Rattle.decompile.specs.Settings.{asks}
+use Rattle.decompile.proofs.Asked.{chain-asks}
+
+module _ (f : Setting) (address : ℕ) (i : Instr) where
+  pub falls_block : block f (record { address = address; instruction = i; flow = Falls })
+      ≡ asks f address 0 (access_tests f.runs i) ++ Basic (effects address i) (toward f (address + 4)) ∷ []
+  unfolding nodes_at tests_of ending_of landing_of
+  falls_block =
+      append-nil (chain f address 0 (access_tests f.runs i) (Does (Basic (effects address i) (toward f (address + 4)))))
+      ∙ chain-asks f address 0 (access_tests f.runs i) (Basic (effects address i) (toward f (address + 4)))
+
+  pub branch_block : (target : ℕ) → block f (record { address = address; instruction = i; flow = Branches target })
+      ≡ Cond (branch_test i) (toward f target) (toward f (address + 4)) ∷ []
+  unfolding nodes_at chain tests_of ending_of landing_of
+  branch_block target = refl
+
+  pub jump_block : (target : ℕ) → leaves f target ≡ false → block f (record { address = address; instruction = i; flow = Jumps target }) ≡ Basic [] (toward f target) ∷ []
+  unfolding nodes_at chain tests_of ending_of landing_of
+  jump_block target stays = rw stays refl
+
+  pub call_block : (target : ℕ) → target % 4 ≡ 0 → block f (record { address = address; instruction = i; flow = Calls target })
+      ≡ Call (f.graph_number target) (call_inputs (past address 4)) [] (f.at (Following address call_nodes)) ∷ Basic [] (toward f (address + 4)) ∷ []
+  unfolding nodes_at chain tests_of ending_of landing_of
+  call_block target aligned = rw (eq-eqb (target % 4) 0 aligned) refl
+
+  pub bad_call_block : (target : ℕ) → target % 4 ≢ 0 → block f (record { address = address; instruction = i; flow = Calls target }) ≡ Basic [] next.Err ∷ []
+  unfolding nodes_at chain tests_of ending_of landing_of
+  bad_call_block target odd = rw (ne_eqb (target % 4) 0 odd) refl
+
+  pub lead_block : (target : ℕ) → block f (record { address = address; instruction = i; flow = Links target }) ≡ Basic [] next.Err ∷ []
+  unfolding nodes_at chain tests_of ending_of landing_of
+  lead_block target = refl
+
+  pub return_block : block f (record { address = address; instruction = i; flow = Returns }) ≡ Cond returns_home next.Ret next.Err ∷ []
+  unfolding nodes_at chain tests_of ending_of landing_of
+  return_block = refl
+
+  pub stop_block : block f (record { address = address; instruction = i; flow = Stops }) ≡ Basic [] next.Err ∷ []
+  unfolding nodes_at chain tests_of ending_of landing_of
+  stop_block = refl

@@ -1,0 +1,81 @@
+-- How many nodes an instruction has.
+use Rattle.std.proofs.Common.{◌≡◌, ◌∙◌, ℕ, ◌+◌, ◌%◌, ◌^◌, ◌==◌, Bool, true, false, cond, refl, sym, ap, arith, List, [], ◌∷◌, ◌++◌, length, map, Some, None}
+use Rattle.std.proofs.lemmas.List.{length-append, length-map}
+use Rattle.rv_instr.specs.declared.Instr.{Instr}
+use Rattle.rv_instr.specs.declared.Instr.TheVariants as instr
+use Rattle.rv_instr.specs.declared.LoadKind.{LoadKind}
+use Rattle.rv_instr.specs.declared.LoadKind.TheVariants as load_kind
+use Rattle.rv_instr.specs.declared.StoreKind.{StoreKind}
+use Rattle.rv_instr.specs.declared.StoreKind.TheVariants as store_kind
+use Rattle.code_spec.specs.Code.{Flow, Falls, Branches, Jumps, Calls, Links, Returns, Stops}
+use Rattle.term_spec.specs.Term.{Term}
+use Rattle.graph_spec.specs.declared.Next.{Next}
+use Rattle.graph_spec.specs.declared.Next.TheVariants as next
+use Rattle.graph_spec.specs.Graph.{Node, Basic, Call}
+use Rattle.code_graph_spec.specs.InstructionTerms as forms
+use Rattle.code_graph_spec.specs.Blocks.{Following, call_nodes, Setting, Ending, Does, leaves, toward, chain, tests_of, ending_of, nodes_at, landing_of, call_inputs, tail_inputs}
+use Rattle.code_graph_laws.specs.Layout.{Item, landing_node, block}
+use Rattle.decompile.specs.Counts.{load_tests, alignments, access_tests, further_by, further_nodes}
+use Rattle.decompile.specs.Settings.{Stays}
+
+chain_long : (f : Setting) (address index : ℕ) (tests : List Term) (node : Node) → length (chain f address index tests (Does node)) ≡ length tests + 1
+unfolding chain
+chain_long f address index [] node = refl
+chain_long f address index (test ∷ tests) node = omega (arith, chain_long f address (index + 1) tests node)
+
+loads : (kind : LoadKind) (a : Term) → length (forms.load_tests kind a) ≡ load_tests kind
+loads load_kind.Byte a = refl
+loads load_kind.Half a = refl
+loads load_kind.Word a = refl
+loads load_kind.ByteUnsigned a = refl
+loads load_kind.HalfUnsigned a = refl
+
+aligned : (kind : StoreKind) (a : Term) → length (forms.aligned_for kind a) ≡ alignments kind
+aligned store_kind.Byte a = refl
+aligned store_kind.Half a = refl
+aligned store_kind.Word a = refl
+
+accesses : (f : Setting) (i : Instr) → length (forms.access_tests f.runs i) ≡ access_tests (length f.runs) i
+accesses f (instr.Lui rd imm) = refl
+accesses f (instr.Auipc rd imm) = refl
+accesses f (instr.Jal rd offset) = refl
+accesses f (instr.Jalr rd base offset) = refl
+accesses f (instr.Branch test left right offset) = refl
+accesses f (instr.Load kind rd base offset) = loads kind (forms.address base offset)
+accesses f (instr.Store kind base source offset) =
+    let a : Term = forms.address base offset in
+    let e : Term = forms.last_written kind a in
+    length-append (forms.aligned_for kind a) (map (forms.avoids a e) f.runs) ∙ omega (arith, aligned kind a, length-map f.runs (forms.avoids a e))
+accesses f (instr.Immediate operation rd source imm) = refl
+accesses f (instr.Shift operation rd source amount) = refl
+accesses f (instr.Arithmetic operation rd left right) = refl
+accesses f (instr.Fence rd source bits) = refl
+accesses f instr.Ecall = refl
+accesses f instr.Ebreak = refl
+
+call_long : (f : Setting) (address target : ℕ) (b : Bool)
+    → length ((cond b (Call (f.graph_number target) (call_inputs ((address + 4) % 2 ^ 32)) [] (f.at (Following address call_nodes))) (Basic [] next.Err) ∷ [])
+    ++ landing_node (cond b (Some (toward f (address + 4))) None)) ≡ cond b 1 0 + 1
+call_long f address target true = refl
+call_long f address target false = refl
+
+jump_long : (f : Setting) (address target : ℕ) (i : Instr) → leaves f target ≡ false
+    → length (nodes_at f address i (Jumps target) ++ landing_node (landing_of f address (Jumps target))) ≡ 1
+unfolding nodes_at chain tests_of ending_of landing_of
+jump_long f address target i e = rw e refl
+
+pub block_long : (f : Setting) (item : Item) → Stays f item.flow → length (block f item) ≡ further_nodes (length f.runs) item + 1
+unfolding nodes_at chain tests_of ending_of landing_of
+block_long f item stays = of item.flow stays
+  where
+    of : (flow : Flow) → Stays f flow → length (nodes_at f item.address item.instruction flow ++ landing_node (landing_of f item.address flow)) ≡ further_by (length f.runs) item.instruction flow + 1
+    of Falls s =
+        let node : Node = Basic (forms.effects item.address item.instruction) (toward f (item.address + 4)) in
+        length-append (chain f item.address 0 (forms.access_tests f.runs item.instruction) (Does node)) []
+        ∙ omega (arith, chain_long f item.address 0 (forms.access_tests f.runs item.instruction) node, accesses f item.instruction)
+    of (Branches target) s = refl
+    of (Jumps target) s = jump_long f item.address target item.instruction s
+    of (Calls target) s = call_long f item.address target (target % 4 == 0)
+    of (Links target) s = refl
+    of Returns s = refl
+    of Stops s = refl

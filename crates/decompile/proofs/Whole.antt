@@ -1,0 +1,144 @@
+-- The answer of the program is the graph of the function.
+use Rattle.std.proofs.Common.{◌≡◌, ◌∙◌, ℕ, zero, suc, ◌+◌, ◌-◌, ◌%◌, ◌^◌, ◌<◌, ◌≤◌, ◌==◌, ◌&&◌, Bool, true, false, refl, sym, ap, subst, arith, List, [], ◌∷◌, ◌++◌, All, length, map, get_or, Option, Some, None}
+use Rattle.std.specs.Prelude.{Contains, replicate, ⊤}
+use Rattle.std.specs.List.Sorted.{IsStrictlyIncreasing}
+use Rattle.std.proofs.lemmas.Bool.{le-leb, lt-ltb}
+use Rattle.std.proofs.lemmas.List.{length-map, length-replicate, get_or-map}
+use Rattle.std.proofs.lemmas.Option.{same_Some}
+use Rattle.std.proofs.lemmas.List.Elements.{All-head, All-tail}
+use Rattle.rv_instr.specs.declared.Instr.{Instr}
+use Rattle.elf_spec.specs.Image.{Image, size_at}
+use Rattle.memory_spec.specs.Runs.{Run}
+use Rattle.elf_read.specs.declared.parts.Extent.{Extent}
+use Rattle.code_spec.specs.Code.{InRange, Flow, Falls, Branches, Jumps, Calls, Links, Returns, Stops, flow_of, instr_at, flow_at, IsReachable}
+use Rattle.code_spec.specs.Faults.{HasNoFault, goes_to}
+use Rattle.graph_spec.specs.Graph.{Node, Graph}
+use Rattle.code_graph_spec.specs.Blocks.{NodeName, Of, Setting, is_inside, leaves}
+use Rattle.code_graph_spec.specs.CodeGraph.{IsCodeGraph, IsCall}
+use Rattle.code_graph_laws.proofs.Reached.{flow_alone, stays_inside, code_there}
+use Rattle.code_graph_laws.specs.Layout.{Item, laid, blocks, AreItems, AreNumbered, LaidAreCodeGraphs}
+use Rattle.code_graph_laws.specs.Valid.{CodeGraphsAreValid}
+use Rattle.decompile.specs.declared.items.Item.{Item as CodeItem}
+use Rattle.decompile.specs.Items.{item_of, AreInstructions}
+use Rattle.decompile.specs.Answer.{first_in, setting, IsFunctionGraph}
+use Rattle.decompile.specs.Counts.{numbered, counted}
+use Rattle.decompile.specs.Settings.{run_of, blanked, HaveExtents, Stays}
+use Rattle.decompile.proofs.Blanks.{blank_setting, same_laid}
+use Rattle.decompile.proofs.Counted.{laid_counted}
+use Rattle.decompile.proofs.Rising.{one_list}
+use Rattle.decompile.proofs.Numbered.{key, same_keys, keys-numbered, are_numbered, are_first_nodes}
+
+-- ---- nothing jumps out of the range
+
+off : (b : Bool) → (b && false) ≡ false
+off true = refl
+off false = refl
+
+stays_there : (f : Setting) (target : ℕ) → InRange f.entry f.size target → leaves f target ≡ false
+stays_there f target inside = rw (le-leb f.entry target inside.from, lt-ltb target (f.entry + f.size) inside.below) (off (target % 4 == 0))
+
+pub stays : (image : Image) (f : Setting) (item : Item) → HasNoFault image f.entry f.size → IsReachable image f.entry f.size item.address
+    → instr_at image item.address ≡ Some item.instruction → flow_at image f.entry item.address ≡ Some item.flow → Stays f item.flow
+stays image f item sound there instruction flow = of item.flow refl
+  where
+    alone : item.flow ≡ flow_of None item.address item.instruction
+    alone = (flow_alone image f.entry f.size item.address sound there item.instruction item.flow instruction flow).0
+
+    of : (fl : Flow) → item.flow ≡ fl → Stays f fl
+    of Falls e = tt
+    of (Branches target) e = tt
+    of (Jumps target) e =
+        stays_there f target
+        (stays_inside image f.entry f.size item.address sound there item.instruction target instruction
+        (subst (λ (fl : Flow). Contains (goes_to item.address fl) target) (sym e ∙ alone) (0, omega arith, refl)))
+    of (Calls target) e = tt
+    of (Links target) e = tt
+    of Returns e = tt
+    of Stops e = tt
+
+-- ---- the instructions that were read
+
+pub rising_items : (items : List CodeItem) → IsStrictlyIncreasing (map (λ (item : Item). item.address) (map item_of items)) → IsStrictlyIncreasing (map (λ (item : CodeItem). item.address) items)
+rising_items items up = subst (λ (xs : List ℕ). IsStrictlyIncreasing xs) (same_keys items) up
+
+pub all_stay : (image : Image) (f : Setting) (items : List CodeItem) → HasNoFault image f.entry f.size → AreItems image f.entry f.size (map item_of items)
+    → All (λ (item : CodeItem). Stays f (item_of item).flow) items
+all_stay image f items sound are k d h =
+    let among : Contains (map item_of items) (item_of (get_or items k d)) =
+    (k, omega (arith, length-map items item_of), get_or-map item_of items k d (item_of (get_or items k d)) h) in
+    stays image f (item_of (get_or items k d)) sound (are.reached (item_of (get_or items k d)) among) (are.instructions (item_of (get_or items k d)) among) (are.flows (item_of (get_or items k d)) among)
+
+pub sized : (image : Image) (entry size : ℕ) (items : List CodeItem) → AreInstructions image entry items → size_at image entry ≡ Some size
+    → HasNoFault image entry size × AreItems image entry size (map item_of items)
+sized image entry size items are size_is =
+    let same : are.size ≡ size = same_Some are.size size (sym are.size_is ∙ size_is) in
+    (subst (HasNoFault image entry) same are.sound, subst (λ (n : ℕ). AreItems image entry n (map item_of items)) same are.are_items)
+
+pub in_space : (image : Image) (entry size : ℕ) → HasNoFault image entry size → entry + size ≤ 2 ^ 32
+in_space image entry size sound = (code_there image entry size sound).range_fixed.in_space
+
+-- ---- the runs end at 2^32 at the latest
+
+run_small : (extents : List Extent) (runs : List Run) → map run_of extents ≡ map blanked runs → All (λ e. e.first ≤ e.last) extents → All (λ e. e.last < 2 ^ 32) extents
+    → (run : Run) → Contains runs run → run.start + length run.bytes ≤ 2 ^ 32
+run_small extents [] same ordered below run (k, within, is) = absurd (omega arith)
+run_small [] (r ∷ runs) same ordered below run among = absurd cc
+run_small (e ∷ extents) (r ∷ runs) same ordered below run (zero, within, is) =
+    let one : run_of e ≡ blanked r = cc in
+    let start : e.first ≡ r.start = ap (λ (x : Run). x.start) one in
+    let long : length (replicate (e.last + 1 - e.first) 0) ≡ length (replicate (length r.bytes) 0) = ap (λ (x : Run). length x.bytes) one in
+    let count : e.last + 1 - e.first ≡ length r.bytes = sym (length-replicate (e.last + 1 - e.first) 0) ∙ long ∙ length-replicate (length r.bytes) 0 in
+    let order : e.first ≤ e.last = All-head (λ (x : Extent). x.first ≤ x.last) e extents ordered in
+    let small : e.last < 2 ^ 32 = All-head (λ (x : Extent). x.last < 2 ^ 32) e extents below in
+    let here : r.start + length r.bytes ≤ 2 ^ 32 = omega arith in
+    subst (λ (x : Run). x.start + length x.bytes ≤ 2 ^ 32) is here
+run_small (e ∷ extents) (r ∷ runs) same ordered below run (suc k, within, is) =
+    let rest : map run_of extents ≡ map blanked runs = cc in
+    run_small extents runs rest (All-tail (λ (x : Extent). x.first ≤ x.last) e extents ordered) (All-tail (λ (x : Extent). x.last < 2 ^ 32) e extents below) run (k, omega arith, is)
+
+-- ---- the whole
+
+module _ (image : Image) (entry size : ℕ) (entries : List ℕ) (items : List Item) (extents : List Extent) (firsts : List (ℕ × ℕ)) (graph : Graph)
+    (sound : HasNoFault image entry size) (listed : (address callee : ℕ) → IsCall image entry size address callee → Contains entries callee)
+    (are : AreItems image entry size items) (have : HaveExtents image extents)
+    (numbers : firsts ≡ numbered (length extents) 1 items) (made : graph ≡ laid (setting entry size (map run_of extents) entries firsts) items) where
+  abbrev own : Setting
+  own = setting entry size have.runs entries firsts
+
+  same_count : length extents ≡ length have.runs
+  same_count = sym (length-map extents run_of) ∙ ap length have.same ∙ length-map have.runs blanked
+
+  up : IsStrictlyIncreasing (map key firsts)
+  up = subst (λ (xs : List ℕ). IsStrictlyIncreasing xs) (sym (ap (map key) numbers ∙ keys-numbered (length extents) 1 items)) are.rising
+
+  numbers_there : AreNumbered own (first_in firsts) 1 items
+  numbers_there =
+      are_numbered own firsts up [] 1 items (ap (λ (n : ℕ). numbered n 1 items) (sym same_count) ∙ sym numbers)
+      (λ item among. stays image own item sound (are.reached item among) (are.instructions item among) (are.flows item among))
+
+  laid_so : graph ≡ laid own items
+  laid_so = made ∙ ap (λ (rs : List Run). laid (setting entry size rs entries firsts) items) have.same ∙ same_laid own items
+
+  is_graph : LaidAreCodeGraphs → IsCodeGraph image own graph
+  is_graph layout = subst (IsCodeGraph image own) (sym laid_so) (layout image own (first_in firsts) items have.are_runs are (λ name. refl) numbers_there)
+
+  pub whole : size_at image entry ≡ Some size → LaidAreCodeGraphs → CodeGraphsAreValid → IsFunctionGraph image entry entries graph firsts
+  whole size_is layout valid = record {
+    size = size;
+    size_is = size_is;
+    runs = have.runs;
+    only_runs = λ others are_too. one_list image others have.runs are_too have.are_runs;
+    sound = sound;
+    listed = listed;
+    graph_is = is_graph layout;
+    firsts_are = are_first_nodes image own (length extents) items firsts are numbers (λ address index. refl);
+    valid = valid image own graph sound (run_small extents have.runs have.same have.ordered have.below) (is_graph layout);
+  }
+
+  -- it has as many nodes as were counted
+  pub made_counted : length graph.nodes ≡ counted (length extents) 1 items
+  made_counted =
+      ap (λ (g : Graph). length g.nodes) made
+      ∙ laid_counted (setting entry size (map run_of extents) entries firsts) items
+      (λ item among. stays image (setting entry size (map run_of extents) entries firsts) item sound (are.reached item among) (are.instructions item among) (are.flows item among))
+      ∙ ap (λ (n : ℕ). counted n 1 items) (length-map extents run_of)

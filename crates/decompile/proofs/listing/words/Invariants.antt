@@ -1,5 +1,0 @@
-use Rattle.decompile.proofs.Listed.{IsListed}
-use Rattle.decompile.proofs.listing.words.Given as goal
-
-abbrev pub invariant-loop-address : goal.invariant-loop-address
-invariant-loop-address l = IsListed l.image l.entry l.size l.addresses l.address-index l.words.items

@@ -1,0 +1,8 @@
+use Rattle.std.proofs.Common.{◌≡◌, ◌++◌, map, drop}
+use Rattle.decompile.specs.Items.{item_of}
+use Rattle.decompile.specs.Counts.{numbered}
+use Rattle.decompile.proofs.numbers.first_nodes.Given as goal
+
+abbrev pub invariant-loop-item : goal.invariant-loop-item
+invariant-loop-item l =
+    l.firsts.entries ++ numbered l.fn.runs l.next (map item_of (drop l.item-index l.items)) ≡ numbered l.fn.runs 1 (map item_of l.items)

@@ -1,5 +1,0 @@
-use Rattle.decompile.proofs.Acyclic.{depth-acyclic}
-use Rattle.decompile.proofs.stacks.stack.Goals as goal
-
-pub returns-clause-acyclic : goal.returns-clause-acyclic
-returns-clause-acyclic c = depth-acyclic c.args.image.now c.args.entry c.in_ok-depth.depth c.in_ok-depth.ensures

@@ -1,9 +1,0 @@
-use Rattle.std.proofs.Common.{◌-◌, ◌^◌}
-use Rattle.decompile.proofs.Places.{IsWalkedFrom}
-use Rattle.decompile.proofs.walk.add_reached.Given as goal
-
-abbrev pub invariant-loop-next : goal.invariant-loop-next
-invariant-loop-next l = IsWalkedFrom l.image l.entry l.size l.next l.reached.keys
-
-abbrev pub decreases-loop-next : goal.decreases-loop-next
-decreases-loop-next l = 2 ^ 64 - l.next

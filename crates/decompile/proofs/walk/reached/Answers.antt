@@ -1,7 +1,0 @@
-use Rattle.decompile.proofs.Places.{sorted-reached}
-use Rattle.decompile.proofs.walk.reached.Goals as goal
-
-pub returns : goal.returns
-returns c =
-    sorted-reached c.args.image.now c.args.entry c.args.size c.add_reached.new.reached.keys c.sort.new.self.keys c.in_ok-add_reached.ensures c.sort.ensures.reordered.0
-    c.in_ok-sort.ensures.sorted c.sort.ensures.unique

@@ -1,0 +1,43 @@
+-- The graph of a function of an executable, as it is answered.
+use Rattle.std.specs.Prelude.{◌≡◌, ◌==◌, ℕ, List, Some, nat_eq, unwrap_or, Contains}
+use Rattle.std.specs.List.{position_or_len}
+use Rattle.std.specs.Map.{lookup}
+use Rattle.elf_spec.specs.Image.{Image, size_at}
+use Rattle.memory_spec.specs.Runs.{Run}
+use Rattle.elf_spec.specs.Runs.{AreRuns}
+use Rattle.code_spec.specs.Faults.{HasNoFault}
+use Rattle.graph_spec.specs.Graph.{Graph, IsValid}
+use Rattle.code_graph_spec.specs.Blocks.{Setting}
+use Rattle.code_graph_spec.specs.CodeGraph.{IsCodeGraph, AreFirstNodes, IsCall}
+use Rattle.code_graph_laws.specs.Layout.{numbers_by}
+
+-- the number of a function's graph is the index of its entry in a list; where it isn't there, the list's length
+abbrev pub number_in : List ℕ → (callee : ℕ) → ℕ
+number_in entries callee = position_or_len (λ entry. entry == callee) entries
+
+-- the number of the first node of the instruction at an address, of those that are listed
+abbrev pub first_in : List (ℕ × ℕ) → (address : ℕ) → ℕ
+first_in firsts address = unwrap_or (lookup (nat_eq address) firsts) 0
+
+-- how graphs and nodes are numbered: graphs by a list of entries, nodes by the first one of each instruction
+abbrev pub setting : (entry size : ℕ) → List Run → (entries : List ℕ) → (firsts : List (ℕ × ℕ)) → Setting
+setting entry size runs entries firsts = record {
+  entry = entry;
+  size = size;
+  runs = runs;
+  graph_number = number_in entries;
+  at = numbers_by (first_in firsts);
+}
+
+-- the function at an entry has no fault, and the functions that it calls are listed; this is its graph, whose stores
+-- avoid these runs of fixed bytes, the only list of all of the file's, and these are the first nodes of its instructions
+pub record IsFunctionGraph (image : Image) (entry : ℕ) (entries : List ℕ) (graph : Graph) (firsts : List (ℕ × ℕ)) : Type 0 where
+  pub size : ℕ
+  pub size_is : size_at image entry ≡ Some size
+  pub runs : List Run
+  pub only_runs : (others : List Run) → AreRuns image others → others ≡ runs
+  pub sound : HasNoFault image entry size
+  pub listed : (address callee : ℕ) → IsCall image entry size address callee → Contains entries callee
+  pub graph_is : IsCodeGraph image (setting entry size runs entries firsts) graph
+  pub firsts_are : AreFirstNodes image (setting entry size runs entries firsts) firsts
+  pub valid : IsValid graph

@@ -1,0 +1,45 @@
+-- A function as the program has it, and the runs of fixed bytes by their addresses.
+use Rattle.std.specs.Prelude.{◌≡◌, ℕ, ◌+◌, ◌-◌, ◌^◌, ◌<◌, ◌≤◌, false, ⊤, List, [], ◌∷◌, length, map, replicate, All}
+use Rattle.elf_spec.specs.Image.{Image}
+use Rattle.memory_spec.specs.Runs.{Run}
+use Rattle.elf_spec.specs.Runs.{AreRuns}
+use Rattle.elf_read.specs.declared.parts.Extent.{Extent}
+use Rattle.code_spec.specs.Code.{Flow, Jumps}
+use Rattle.term_spec.specs.Term.{Term}
+use Rattle.graph_spec.specs.declared.Next.TheVariants as next
+use Rattle.graph_spec.specs.Graph.{Node, Cond}
+use Rattle.code_graph_spec.specs.Blocks.{Setting, Of, leaves}
+use Rattle.decompile.specs.Answer.{setting}
+use Rattle.decompile.specs.declared.function.Function.{Function}
+
+-- of a run of fixed bytes a graph has the first address and the last one, whatever the bytes are: a run with 0 in
+-- place of its bytes
+abbrev pub blank : (start count : ℕ) → Run
+blank start count = record { start = start; bytes = replicate count 0 }
+
+abbrev pub blanked : Run → Run
+blanked run = blank run.start (length run.bytes)
+
+abbrev pub run_of : Extent → Run
+run_of e = blank e.first (e.last + 1 - e.first)
+
+-- these are the addresses of the runs of fixed bytes
+pub record HaveExtents (image : Image) (extents : List Extent) : Type 0 where
+  pub runs : List Run
+  pub are_runs : AreRuns image runs
+  pub ordered : All (λ e. e.first ≤ e.last) extents
+  pub below : All (λ e. e.last < 2 ^ 32) extents
+  pub same : map run_of extents ≡ map blanked runs
+
+abbrev pub setting_of : Function → Setting
+setting_of f = setting f.entry f.size (map run_of f.runs.now) f.entries.now f.firsts.now.entries
+
+-- the instruction doesn't jump out of the range
+abbrev pub Stays : Setting → Flow → Type 0
+Stays f (Jumps target) = leaves f target ≡ false
+Stays f flow = ⊤
+
+-- the nodes of tests, each of which continues at the node after it
+unfoldable pub asks : Setting → (address index : ℕ) → List Term → List Node
+asks f address index [] = []
+asks f address index (test ∷ tests) = Cond test (next.At (f.at (Of address (index + 1)))) next.Err ∷ asks f address (index + 1) tests

@@ -1,0 +1,74 @@
+//! Whether the functions that a function calls are listed.
+
+ghost use Rattle.std.specs.Prelude.{◌≡◌, ◌↔◌, ◌%◌, ◌==◌, if◌then◌else◌, All, Contains, IsTrue};
+ghost use Rattle.std.specs.Prelude.{IfErr, OnOk, Some, None};
+ghost use Rattle.std.specs.List.Sorted.{IsStrictlyIncreasing};
+ghost use Rattle.decompile.specs.Callees as spec;
+
+use crate::error::GraphError;
+use crate::items::Item;
+use rv_instr::Instr;
+
+/// The address, if it is a multiple of 4.
+fn aligned(target: u32) -> Option<u32>
+    ensures { result ≡ (if target % 4 == 0 then Some target else None) }
+{
+    if target.is_multiple_of(4) {
+        Some(target)
+    } else {
+        None
+    }
+}
+
+/// The entry of the function that an instruction calls, if it calls one.
+fn callee(item: &Item) -> Option<u32>
+    ensures { result ≡ spec.callee_of_item item.now }
+{
+    match item.instruction {
+        Instr::Jal { rd, offset } if rd.number() == 1 => aligned(item.target(offset)),
+        _ => None,
+    }
+}
+
+/// Whether an entry is among entries that ascend.
+fn is_listed(entries: &[u32], callee: u32) -> bool
+    requires { IsStrictlyIncreasing entries.now }
+    ensures { IsTrue result ↔ Contains entries.now callee }
+{
+    match entries.binary_search(&callee) {
+        Ok(_) => true,
+        Err(_) => false,
+    }
+}
+
+/// Refuses an instruction whose callee isn't listed.
+fn check_callee(item: &Item, entries: &[u32]) -> Result<(), GraphError>
+    requires { IsStrictlyIncreasing entries.now }
+    ensures listed { OnOk result (spec.IsListed entries.now item.now) }
+    ensures refused { IfErr result (spec.IsUnlisted entries.now item.now) }
+{
+    match callee(item) {
+        Some(callee) => {
+            if !is_listed(entries, callee) {
+                return Err(GraphError::Unlisted {
+                    address: item.address,
+                    callee,
+                });
+            }
+            Ok(())
+        }
+        None => Ok(()),
+    }
+}
+
+/// Refuses the first of some instructions whose callee isn't listed.
+pub(crate) fn check_callees(items: &[Item], entries: &[u32]) -> Result<(), GraphError>
+    requires { IsStrictlyIncreasing entries.now }
+    ensures listed { OnOk result (All (spec.IsListed entries.now) items.now) }
+    ensures refused { IfErr result (spec.IsFirstUnlisted entries.now items.now) }
+{
+    for item in items {
+        check_callee(item, entries)?;
+    }
+    Ok(())
+}

@@ -1,0 +1,90 @@
+//! What is read of a function while its nodes are written.
+
+ghost use Rattle.std.specs.Prelude.{◌+◌, ◌^◌, ◌≤◌, All};
+ghost use Rattle.std.specs.List.Sorted.{IsStrictlyIncreasing};
+
+use crate::numbers::plus;
+use elf_read::Extent;
+use graph_spec::Next;
+use indexmap::IndexMap;
+use std::alloc::AllocError;
+
+/// A function, the fixed bytes that its stores must not meet, and the numbers of nodes and graphs.
+#[derive(Drop)]
+pub(crate) struct Function<'a> {
+    /// Where it begins.
+    pub entry: u32,
+    /// How many bytes it has.
+    pub size: u32,
+    /// The runs of fixed bytes of the file, by address.
+    pub runs: &'a [Extent],
+    /// The entries of functions, ascending; a function's graph has its entry's index.
+    pub entries: &'a [u32],
+    /// The number of the first node of each instruction, by its address.
+    pub firsts: &'a IndexMap<u32, usize>,
+    ghost in_space: { entry + size ≤ 2 ^ 32 },
+    ghost ordered: { All (λ run. run.first ≤ run.last) runs.now },
+    ghost rising: { IsStrictlyIncreasing entries.now },
+}
+
+impl Function<'_> {
+    ghost use Rattle.std.specs.Prelude.{◌≡◌, ◌+◌, IfOk};
+    ghost use Rattle.code_graph_spec.specs.Blocks as spec;
+    ghost use Rattle.decompile.specs.Answer.{first_in, number_in};
+    ghost use Rattle.decompile.specs.Settings.{setting_of};
+
+    /// The number of the first node of the instruction at an address.
+    fn first(&self, address: u32) -> usize
+        ensures { result ≡ first_in self.now.firsts.now.entries address }
+    {
+        self.firsts.get(&address).copied().unwrap_or(0)
+    }
+
+    /// The number of a node of the instruction at an address, if there are so many numbers.
+    pub(crate) fn node(&self, address: u32, index: usize) -> Result<usize, AllocError>
+        ensures { IfOk result (λ number. number
+            ≡ (setting_of self.now).at (spec.Of address index)) }
+    {
+        plus(self.first(address), index)
+    }
+
+    /// Whether an address lies in the range.
+    fn is_inside(&self, target: u32) -> bool
+        ensures { result ≡ spec.is_inside (setting_of self.now) target }
+    {
+        target >= self.entry && target - self.entry < self.size
+    }
+
+    /// On to the instruction at an address; an error at no multiple of 4, and outside the range.
+    #[tactic(auto, unfolding(code_graph_spec::specs::Blocks::toward))]
+    pub(crate) fn toward(&self, target: u32) -> Next
+        ensures { result ≡ spec.toward (setting_of self.now) target }
+    {
+        if target.is_multiple_of(4) && self.is_inside(target) {
+            Next::At(self.first(target))
+        } else {
+            Next::Err
+        }
+    }
+
+    /// On to the instruction after the one at an address.
+    #[tactic(auto, unfolding(code_graph_spec::specs::Blocks::toward))]
+    pub(crate) fn onward(&self, address: u32) -> Next
+        ensures { result ≡ spec.toward (setting_of self.now) (address + 4) }
+    {
+        match address.checked_add(4) {
+            Some(next) => self.toward(next),
+            None => Next::Err,
+        }
+    }
+
+    /// The number of the graph of the function at an entry.
+    pub(crate) fn graph_number(&self, callee: u32) -> usize
+        ensures { result ≡ number_in self.now.entries.now callee }
+    {
+        match self.entries.binary_search(&callee) {
+            Ok(index) => index,
+            Err(_) => self.entries.len(),
+        }
+    }
+}

@@ -1,0 +1,135 @@
+//! The graph of a function.
+
+ghost use Rattle.std.specs.Prelude.{◌≡◌, ◌≤◌, ◌-◌, ◌^◌, ℕ, length, map, IfOk, IfErr, IsSome, All};
+ghost use Rattle.std.specs.List.Sorted.{IsStrictlyIncreasing};
+ghost use Rattle.elf_spec.specs.Image.{size_at};
+ghost use Rattle.graph_core.specs.Graphs.{graph_of};
+ghost use Rattle.decompile.specs.Answer.{IsFunctionGraph};
+ghost use Rattle.decompile.specs.Callees.{IsListed};
+ghost use Rattle.decompile.specs.Errors.{IsGraphError};
+ghost use Rattle.decompile.specs.Items.{AreInstructions};
+
+use crate::callees::check_callees;
+use crate::error::GraphError;
+use crate::function::Function;
+use crate::items::{Item, instructions};
+use crate::numbers::{count_nodes, first_nodes};
+use crate::runs::runs;
+use code_graph_laws::layout::laid_are_code_graphs;
+use code_graph_laws::validity::code_graphs_are_valid;
+use elf_read::Image;
+use graph_core::{Graph, Node};
+use graph_spec::Next;
+use indexmap::IndexMap;
+use std::alloc::{AllocError, Global};
+
+/// The graph of a function, and where its instructions are in it.
+#[derive(Drop)]
+pub struct CodeGraph {
+    /// The graph. A call's callee is an index in the list of entries.
+    pub graph: Graph,
+    /// The address of each instruction that the function reaches, ascending, and the number of its
+    /// first node.
+    pub firsts: IndexMap<u32, usize>,
+}
+
+impl Function<'_> {
+    ghost use Rattle.std.specs.Prelude.{◌≡◌, map, All, IfOk};
+    ghost use Rattle.code_graph_laws.specs.Layout.{laid};
+    ghost use Rattle.graph_core.specs.Graphs.{graph_of as seen};
+    ghost use Rattle.decompile.specs.Items.{item_of};
+    ghost use Rattle.decompile.specs.Settings.{setting_of, Stays};
+
+    /// The graph of some instructions: a landing node at the entry, and the nodes of each in order.
+    fn graph(&self, alloc: Global, items: &[Item]) -> Result<Graph, AllocError>
+        requires { All (λ item. Stays (setting_of self.now) (item_of item).flow) items.now }
+        ensures { IfOk result (λ graph. seen graph
+            ≡ laid (setting_of self.now) (map item_of items.now)) }
+    {
+        let mut graph = Graph::new(alloc);
+        let first = self.node(self.entry, 0)?;
+        graph.add(Node::Basic {
+            bindings: Vec::new(alloc),
+            next: Next::At(first),
+        })?;
+        for item in items {
+            self.add_block(alloc, &mut graph, item)?;
+        }
+        Ok(graph)
+    }
+}
+
+/// The instructions that the function at an entry reaches, where each function that it calls is
+/// listed.
+fn listed_instructions(
+    alloc: Global,
+    image: &Image<'_>,
+    entry: u32,
+    entries: &[u32],
+) -> Result<Vec<Item>, GraphError>
+    requires function { IsSome (size_at image.now entry) }
+    requires rising { IsStrictlyIncreasing entries.now }
+    ensures found { IfOk result (λ items. AreInstructions image.now entry items.items
+        × All (IsListed entries.now) items.items) }
+    ensures fault { IfErr result (λ error. (maximum : ℕ)
+        → IsGraphError image.now entry entries.now maximum error) }
+{
+    let items = instructions(alloc, image, entry)?;
+    check_callees(items.as_slice(), entries)?;
+    Ok(items)
+}
+
+/// The graph of the function at an entry, if it has at most so many nodes; they are counted before
+/// anything of it is built. A call of another function names its graph by the index of its entry
+/// among `entries`, which ascend and have each function that is called. The error is, in this
+/// order, the first fault of the function's own, as that of [`code_reach::code`]; the first call
+/// whose callee isn't listed; and a number of nodes above the maximum.
+pub fn decompile_within(
+    alloc: Global,
+    image: &Image<'_>,
+    entry: u32,
+    entries: &[u32],
+    maximum: usize,
+) -> Result<CodeGraph, GraphError>
+    requires function { IsSome (size_at image.now entry) }
+    requires rising { IsStrictlyIncreasing entries.now }
+    ensures graph { IfOk result (λ found. IsFunctionGraph image.now entry entries.now
+        (graph_of found.graph) found.firsts.entries) }
+    ensures within { IfOk result (λ found. length (graph_of found.graph).nodes ≤ maximum) }
+    ensures error { IfErr result (IsGraphError image.now entry entries.now maximum) }
+{
+    let size = image.size_at(entry).unwrap();
+    let items = listed_instructions(alloc, image, entry, entries)?;
+    let runs = runs(alloc, image)?;
+    // laws, of which nothing runs
+    laid_are_code_graphs();
+    code_graphs_are_valid();
+    count_nodes(runs.len(), items.as_slice(), maximum)?;
+    let firsts = first_nodes(alloc, runs.len(), items.as_slice())?;
+    let function = Function {
+        entry,
+        size,
+        runs: runs.as_slice(),
+        entries,
+        firsts: &firsts,
+    };
+    let graph = function.graph(alloc, items.as_slice())?;
+    Ok(CodeGraph { graph, firsts })
+}
+
+/// The graph of the function at an entry, whatever its size; as [`decompile_within`].
+pub fn decompile(
+    alloc: Global,
+    image: &Image<'_>,
+    entry: u32,
+    entries: &[u32],
+) -> Result<CodeGraph, GraphError>
+    requires function { IsSome (size_at image.now entry) }
+    requires rising { IsStrictlyIncreasing entries.now }
+    ensures graph { IfOk result (λ found. IsFunctionGraph image.now entry entries.now
+        (graph_of found.graph) found.firsts.entries) }
+    ensures error { IfErr result (IsGraphError image.now entry entries.now (2 ^ 64 - 1)) }
+{
+    let found = decompile_within(alloc, image, entry, entries, usize::MAX)?;
+    Ok(found)
+}

@@ -1,0 +1,12 @@
+pub mod AddTwoArguments
+pub mod Sum
+pub mod AddTwoArgumentsCalled
+pub mod Call
+pub mod Loops
+pub mod Countdown
+pub mod Numbered
+pub mod Goals
+pub mod Truths
+pub mod Words
+pub mod FaultSamples
+pub mod CodeSamples

@@ -1,0 +1,73 @@
+-- A numbering under which the nodes of small functions are written out: the first node of the instruction at address
+-- 10000 hex and 4 k more is 10 k + 1, and its further nodes follow; the landing node after it is 10 k + 10.
+use Rattle.std.specs.Prelude.{ℕ, ◌+◌, ◌-◌, ◌*◌, ◌/◌, List, [], ◌∷◌, replicate, Option, None, option_map, option_and_then}
+use Rattle.rv_instr.specs.Instr.{instr}
+use Rattle.code_spec.specs.Code.{flow_of}
+use Rattle.term_spec.specs.Term.{Term, open_term, equal, add, less, or_term}
+use Rattle.graph_spec.specs.declared.Next.{Next}
+use Rattle.graph_spec.specs.declared.Next.TheVariants as next
+use Rattle.graph_spec.specs.Graph.{Node, Basic, Cond}
+use Rattle.code_graph_spec.specs.State.{register, entry_register, memory}
+use Rattle.code_graph_spec.specs.InstructionTerms.{number}
+use Rattle.code_graph_spec.specs.Blocks.{NodeName, Entrance, Of, Following, Setting, nodes_at, landing_of}
+
+abbrev pub number_of : NodeName → ℕ
+number_of Entrance = 0
+number_of (Of address k) = (address - 0x10000) / 4 * 10 + k + 1
+number_of (Following address count) = (address - 0x10000) / 4 * 10 + 10
+
+-- a function at 10000 hex; the file fixes 100 hex bytes there, and four bytes from 20000 hex on
+abbrev pub function : ℕ → Setting
+function size = record {
+  entry = 0x10000;
+  size = size;
+  runs = record { start = 0x10000; bytes = replicate 0x100 0 } ∷ record { start = 0x20000; bytes = 1 ∷ 2 ∷ 3 ∷ 4 ∷ [] } ∷ [];
+  graph_number = λ entry. entry / 0x1000;
+  at = number_of;
+}
+
+-- the nodes of a word at an address of that function, if the word has a form
+abbrev pub nodes_of : (size address word : ℕ) → Option (List Node)
+nodes_of size address word = option_map (λ i. nodes_at (function size) address i (flow_of None address i)) (instr word)
+
+-- where its landing node continues
+abbrev pub landing_after : (size address word : ℕ) → Option Next
+landing_after size address word = option_and_then (λ i. landing_of (function size) address (flow_of None address i)) (instr word)
+
+-- ---- short words
+
+-- a register, and what it was at the entry
+abbrev pub x : ℕ → Term
+x r = open_term (register r)
+
+abbrev pub e : ℕ → Term
+e r = open_term (entry_register r)
+
+abbrev pub m : Term
+m = open_term memory
+
+-- a node that sets a register
+abbrev pub sets : ℕ → Term → Next → Node
+sets r term to = Basic (record { variable = register r; term = term } ∷ []) to
+
+-- a node that sets memory
+abbrev pub writes : Term → Next → Node
+writes term to = Basic (record { variable = memory; term = term } ∷ []) to
+
+-- a test that has to hold
+abbrev pub asks : Term → Next → Node
+asks test to = Cond test to next.Err
+
+-- the node of a return
+abbrev pub comes_home : Node
+comes_home = asks (equal (x 1) (e 1)) next.Ret
+
+-- ---- addresses
+
+-- the address that x10 and an offset give
+abbrev pub x10_plus : ℕ → Term
+x10_plus offset = add (x 10) (number offset)
+
+-- the bytes from a to e meet none from first to last
+abbrev pub avoiding : (first last : ℕ) → (a e : Term) → Term
+avoiding first last a e = or_term (less (number last) a) (less e (number first))

@@ -1,0 +1,43 @@
+//! Worked facts of the claim: each function's clauses are facts, and its body is empty.
+//!
+//! They are of the example `add_two_arguments`: the bytes of its file and their image, a machine
+//! that calls its function with 5 and 7, and the C run of this call. So there are files and a call
+//! of which all holds that agreement asks.
+
+ghost use Rattle.std.specs.Prelude.{◌≡◌, Contains, Some, codes};
+ghost use Rattle.elf_spec.specs.Image.{function_named};
+ghost use Rattle.elf_spec.specs.File.{IsElf};
+ghost use Rattle.elf_spec.specs.declared.SymbolValues.TheVariants.{One};
+ghost use Rattle.code_spec.specs.Code.{IsStack};
+ghost use Rattle.c_spec.specs.Unit.{bodies};
+ghost use Rattle.c_meaning_spec.specs.Types.{type_of, HaveTypes};
+ghost use Rattle.claim_spec.specs.Convention.{argument_words, Meets};
+ghost use Rattle.claim_spec.specs.Claim.{BreaksNoGuard, RunsBack};
+ghost use Rattle.example_laws.specs.AddTwoArguments.{start};
+ghost use Rattle.example_laws.specs.Sum.{sum_unit};
+ghost use Rattle.example_laws.specs.AddTwoArgumentsCalled.{file, image, binary, values, run};
+
+/// The bytes of the file are an executable, and this is its image.
+pub fn the_file_of_add_two_arguments_is_an_executable()
+    ensures { IsElf file image }
+{}
+
+/// The function has one entry in the file, where it takes no stack, and a body in the source.
+pub fn add_two_arguments_has_code_and_a_body()
+    ensures entry { function_named image (codes "f") ≡ One 0x10000 }
+    ensures stack { IsStack image 0x10000 0 }
+    ensures body { Contains (bodies sum_unit) (codes "f") }
+    ensures typed { type_of sum_unit (codes "f") ≡ Some binary }
+{}
+
+/// The machine calls the function by the convention with 5 and 7.
+pub fn a_call_of_add_two_arguments_meets_the_convention()
+    ensures types { HaveTypes binary.parameters values }
+    ensures meets { Meets image 0x10000 0 start (argument_words binary values) }
+{}
+
+/// The C run of this call breaks no guard and returns.
+pub fn a_run_of_add_two_arguments_returns()
+    ensures guards { BreaksNoGuard run }
+    ensures back { RunsBack run }
+{}

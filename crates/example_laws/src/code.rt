@@ -1,0 +1,41 @@
+//! Functions of small images: an AUIPC pair, a tail call, a cycle of calls, and a stack. The words
+//! of each image are in `specs/CodeSamples.antt`.
+
+ghost use Rattle.std.specs.Prelude.{◌≡◌, Some, [], ◌∷◌};
+ghost use Rattle.code_spec.specs.declared.CodeKind.TheVariants.{Indirect, Leaves};
+ghost use Rattle.code_spec.specs.Code.{Calls, Jumps, Stops, flow_at, IsReachable, AreReachable};
+ghost use Rattle.code_spec.specs.Code.{CallsOn, Reaches, IsCyclic, IsStack};
+ghost use Rattle.code_spec.specs.Faults.{direct_flow, IsInstructionFault};
+ghost use Rattle.example_laws.specs.CodeSamples.{pair, tail_call, circle, frame};
+
+/// `auipc x5,0; jalr x1,12(x5); ret`: the two words together are a call of the function 12 bytes
+/// after the AUIPC, and what follows them is reached. Alone the JALR has no known target, and it is
+/// refused so far.
+pub fn a_pair_is_a_call()
+    ensures flow { flow_at pair 0x10000 0x10004 ≡ Some (Calls 0x1000c) }
+    ensures returns { IsReachable pair 0x10000 12 0x10008 }
+    ensures calls { CallsOn pair 0x10000 12 0x1000c }
+    ensures alone { direct_flow pair 0x10004 ≡ Some Stops }
+    ensures refused { IsInstructionFault pair 0x10000 12 0x10004 Indirect }
+{}
+
+/// `jal x0,+4` at the end of a function: it ends by a jump to the next function, which is called so
+/// and is no address of its own. It is refused so far.
+pub fn a_jump_out_is_a_tail_call()
+    ensures flow { flow_at tail_call 0x10000 0x10000 ≡ Some (Jumps 0x10004) }
+    ensures calls { CallsOn tail_call 0x10000 4 0x10004 }
+    ensures reaches { Reaches tail_call 0x10000 0x10004 }
+    ensures outside { IsReachable tail_call 0x10000 4 0x10004 → ⊥ }
+    ensures refused { IsInstructionFault tail_call 0x10000 4 0x10000 Leaves }
+{}
+
+/// Two functions that call each other: a cycle of calls is reached.
+pub fn a_circle_of_calls_is_cyclic()
+    ensures { IsCyclic circle 0x10000 }
+{}
+
+/// `addi x2,x2,-16; ret`: both words are reached, and the stack is 16 bytes deep.
+pub fn a_frame_takes_stack()
+    ensures reachable { AreReachable frame 0x10000 8 (0x10000 ∷ 0x10004 ∷ []) }
+    ensures stack { IsStack frame 0x10000 16 }
+{}

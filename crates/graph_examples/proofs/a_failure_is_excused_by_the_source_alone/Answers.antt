@@ -1,5 +1,0 @@
-use Rattle.graph_examples.proofs.Loops.{failing_agree, failing_binary}
-use Rattle.graph_examples.proofs.a_failure_is_excused_by_the_source_alone.Goals as goal
-
-pub returns : goal.returns
-returns c = record { excused = failing_agree; refused = failing_binary }

@@ -1,3 +1,0 @@
-pub mod Call
-pub mod Loops
-pub mod Countdown

@@ -1,0 +1,2 @@
+-- laws of runs that proofs above cite
+pub mod Runs

@@ -1,0 +1,4 @@
+pub mod Memory
+pub mod Zones
+pub mod Runs
+pub mod Viewed

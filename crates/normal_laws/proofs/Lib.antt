@@ -1,4 +1,0 @@
-pub mod Forms
-pub mod Sums
-pub mod Rules
-pub mod Settled

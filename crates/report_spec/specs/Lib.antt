@@ -1,0 +1,4 @@
+pub mod Verdict
+pub mod Words
+pub mod Report
+pub mod Certificate

@@ -1,0 +1,33 @@
+-- The report of each verdict, byte for byte.
+use Rattle.std.specs.Prelude.{ℕ, not, if◌then◌else◌, List, [], ◌∷◌, ◌++◌, flat_map, count_by, codes, decimal}
+use Rattle.std.specs.Int.{w32, to_be_bytes}
+use Rattle.hex.specs.Hex.{encode_lower}
+use Rattle.report_spec.specs.Verdict.{Judgement, Verdict, RefusedWords, TooLarge, RefusedElf, RefusedC, RefusedPair, RefusedCode, Judged, maximum_of}
+use Rattle.report_spec.specs.Words.{quantity_word, elf_word, source_word, pair_word, code_word}
+
+-- a line feed at its end
+abbrev pub line : List ℕ → List ℕ
+line text = text ++ 10 ∷ []
+
+abbrev pub judgement_line : Judgement → List ℕ
+judgement_line j =
+    line (if j.valid then codes "valid " ++ j.name ++ codes " stack=" ++ decimal j.stack else codes "unproved " ++ j.name)
+
+unfoldable pub total_line : (valid unproved : ℕ) → List ℕ
+total_line valid unproved = line (codes "total valid=" ++ decimal valid ++ codes " unproved=" ++ decimal unproved)
+
+-- what is reported of the listed functions
+unfoldable pub judgements_text : List Judgement → List ℕ
+judgements_text judgements =
+    flat_map judgement_line judgements ++ total_line (count_by (λ j. j.valid) judgements) (count_by (λ j. not j.valid) judgements)
+
+-- the report, to the last byte; an address has eight digits
+abbrev pub report_of : Verdict → List ℕ
+report_of RefusedWords = line (codes "refused words")
+report_of (TooLarge quantity) = line (codes "limit " ++ quantity_word quantity ++ codes " " ++ decimal (maximum_of quantity))
+report_of (RefusedElf fault offset) = line (codes "refused elf " ++ elf_word fault ++ codes " at " ++ decimal offset)
+report_of (RefusedC kind offset) = line (codes "refused c " ++ source_word kind ++ codes " at " ++ decimal offset)
+report_of (RefusedPair kind name) = line (codes "refused pair " ++ pair_word kind ++ codes " " ++ name)
+report_of (RefusedCode kind name address) =
+    line (codes "refused code " ++ code_word kind ++ codes " " ++ name ++ codes " at " ++ encode_lower (to_be_bytes w32 address))
+report_of (Judged judgements) = judgements_text judgements

@@ -1,0 +1,52 @@
+-- The verdicts of a run, and the status of each.
+use Rattle.std.specs.Prelude.{ℕ, Bool, if◌then◌else◌, List}
+use Rattle.std.specs.List.{list_all}
+use Rattle.tv_base.specs.declared.limits.TheConstants.{MAX_ELF_BYTES, MAX_C_BYTES, MAX_FUNCTIONS}
+use Rattle.elf_spec.specs.declared.ElfKind.{ElfKind}
+use Rattle.code_spec.specs.declared.CodeKind.{CodeKind}
+use Rattle.report_spec.specs.declared.Quantity.{Quantity}
+use Rattle.report_spec.specs.declared.Quantity.TheVariants.{Elf, C, Functions}
+use Rattle.report_spec.specs.declared.SourceKind.{SourceKind}
+use Rattle.report_spec.specs.declared.PairKind.{PairKind}
+
+-- the judgement on a listed function: whether it is valid, and how much stack it takes
+pub record Judgement : Type 0 where
+  pub name : List ℕ
+  pub valid : Bool
+  pub stack : ℕ
+
+-- a verdict, one for each form of report
+pub data Verdict : Type 0 where
+  -- a usage error: the words are no command
+  RefusedWords : Verdict
+  -- a quantity is above its maximum
+  TooLarge : (quantity : Quantity) → Verdict
+  -- the first file is no executable, for this reason at this offset of it
+  RefusedElf : (kind : ElfKind) → (offset : ℕ) → Verdict
+  -- the second file is no source, for this reason at this offset of it
+  RefusedC : (kind : SourceKind) → (offset : ℕ) → Verdict
+  -- a name can't be validated; or none is there, and the name is `-`
+  RefusedPair : (kind : PairKind) → (name : List ℕ) → Verdict
+  -- the code of the function of this name has a fault at this address
+  RefusedCode : (kind : CodeKind) → (name : List ℕ) → (address : ℕ) → Verdict
+  -- each listed function has its judgement, in the order of the list
+  Judged : (judgements : List Judgement) → Verdict
+
+-- how many bytes a file may have, and how many functions the list
+abbrev pub maximum_of : Quantity → ℕ
+maximum_of Elf = MAX_ELF_BYTES
+maximum_of C = MAX_C_BYTES
+maximum_of Functions = MAX_FUNCTIONS
+
+abbrev pub all_valid : List Judgement → Bool
+all_valid judgements = list_all (λ j. j.valid) judgements
+
+-- the exit status
+abbrev pub status_of : Verdict → ℕ
+status_of RefusedWords = 2
+status_of (TooLarge quantity) = 7
+status_of (RefusedElf fault offset) = 3
+status_of (RefusedC kind offset) = 3
+status_of (RefusedPair kind name) = 3
+status_of (RefusedCode kind name address) = 3
+status_of (Judged judgements) = if all_valid judgements then 0 else 1

@@ -1,9 +1,0 @@
-pub mod Lists
-pub mod Fronts
-pub mod Basics
-pub mod Then
-pub mod Begins
-pub mod Or
-pub mod Many
-pub mod Folds
-pub mod Whole

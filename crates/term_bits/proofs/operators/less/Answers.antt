@@ -1,7 +1,0 @@
-use Rattle.blast_spec.specs.Goal.{binary_bits}
-use Rattle.term_bits.proofs.Bare.{single_gives}
-use Rattle.term_bits.proofs.operators.less.Goals as goal
-
-pub returns : goal.returns
-unfolding binary_bits
-returns c = λ term. single_gives c.in_ok-out.out.items c.in_ok-out.ensures c.in_ok-less.ensures

@@ -1,9 +1,0 @@
-use Rattle.std.proofs.Common.{subst}
-use Rattle.term_bank.specs.Nodes.{AreDistinct}
-use Rattle.blast_spec.specs.Goal.{Table}
-use Rattle.term_table.specs.Terms.{terms_in}
-use Rattle.term_table.proofs.Tables.{table_distinct}
-use Rattle.term_table.proofs.table.TermTable.is_distinct.Goals as goal
-
-pub returns : goal.returns
-returns c = subst (λ (t : Table). AreDistinct (terms_in t)) c.self.view_is (table_distinct c.self.inside.entries.entries c.self.invariant)

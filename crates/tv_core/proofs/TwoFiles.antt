@@ -1,0 +1,106 @@
+-- The verdict on two files, from the bytes that were read of them.
+use Rattle.std.proofs.Common.{◌≡◌, ◌≢◌, ◌⊎◌, ◌+◌, ◌<◌, ◌≤◌, ℕ, List, [], ◌∷◌, map, Option, Some, None, length, take, take_all, arith, refl, ap, ◌∙◌, subst, inl, inr}
+use Rattle.std.specs.Prelude.{IfSome}
+use Rattle.std.proofs.lemmas.List.{length-take}
+use Rattle.report_spec.specs.Verdict.{Verdict, TooLarge, Judgement}
+use Rattle.report_spec.specs.declared.Quantity.TheVariants.{Elf, C}
+use Rattle.verdict_spec.specs.Verdicts.{IsSound, Judges, elf_refused, no_tokens, no_unit, other_form, too_many, nothing_listed, pair_refused, code_refused, judged, elf_large, c_large, within}
+use Rattle.tv_base.specs.declared.limits.TheConstants.{MAX_ELF_BYTES, MAX_C_BYTES}
+use Rattle.tv_base.specs.Reading.{with_name}
+use Rattle.tv_words.specs.Commands.{Proving}
+use Rattle.tv_core.specs.Objects.{Contents}
+use Rattle.tv_core.specs.Ends.{IsOfCommand, IsVerdictOn, TakesAtMost, TakesOfTwo, OpensOfTwo}
+
+-- the bytes that were read of a file that contracts see
+read_of : (file : Option (List ℕ)) (text read : List ℕ) (most : ℕ) → IfSome file (λ bytes. read ≡ take most bytes) → file ≡ Some text → read ≡ take most text
+read_of file text read most h e = let there = subst (λ o. IfSome o (λ bytes. read ≡ take most bytes)) e h in there
+
+longer : (text read : List ℕ) (most : ℕ) → read ≡ take (most + 1) text → most < length read → most < length text
+longer text read most e h = let l = ap length e ∙ length-take (most + 1) text in omega arith
+
+short : (text read : List ℕ) (most : ℕ) → read ≡ take (most + 1) text → length read ≤ most → length text ≤ most
+short text read most e h = let l = ap length e ∙ length-take (most + 1) text in omega arith
+
+-- a file that was read whole
+whole : (text read : List ℕ) (most : ℕ) → read ≡ take (most + 1) text → length read ≤ most → read ≡ text
+whole text read most e h = e ∙ take_all (most + 1) text (let s = short text read most e h in omega arith)
+
+pub elf_too_large : (files : Contents) (job : Proving) (read : List ℕ) → IfSome (files job.elf) (λ text. read ≡ take (MAX_ELF_BYTES + 1) text)
+    → MAX_ELF_BYTES < length read → IsVerdictOn files job (TooLarge Elf)
+elf_too_large files job read taken large =
+    (λ elf e over. refl, λ elf c e f. (elf_large (longer elf read MAX_ELF_BYTES (read_of (files job.elf) elf read (MAX_ELF_BYTES + 1) taken e) large), tt))
+
+not_too_large : {A : Type 0} (files : Contents) (job : Proving) (read : List ℕ) → IfSome (files job.elf) (λ text. read ≡ take (MAX_ELF_BYTES + 1) text)
+    → length read ≤ MAX_ELF_BYTES → (elf : List ℕ) → files job.elf ≡ Some elf → MAX_ELF_BYTES < length elf → A
+not_too_large files job read taken small elf e over =
+    let within = short elf read MAX_ELF_BYTES (read_of (files job.elf) elf read (MAX_ELF_BYTES + 1) taken e) small in absurd (omega arith)
+
+pub c_too_large : (files : Contents) (job : Proving) (elf_read c_read : List ℕ)
+    → IfSome (files job.elf) (λ text. elf_read ≡ take (MAX_ELF_BYTES + 1) text) → length elf_read ≤ MAX_ELF_BYTES
+    → IfSome (files job.source) (λ text. c_read ≡ take (MAX_C_BYTES + 1) text) → MAX_C_BYTES < length c_read → IsVerdictOn files job (TooLarge C)
+c_too_large files job elf_read c_read elf_taken small c_taken large = (
+  not_too_large files job elf_read elf_taken small,
+  λ elf c e f. (
+    c_large (short elf elf_read MAX_ELF_BYTES (read_of (files job.elf) elf elf_read (MAX_ELF_BYTES + 1) elf_taken e) small)
+        (longer c c_read MAX_C_BYTES (read_of (files job.source) c c_read (MAX_C_BYTES + 1) c_taken f) large),
+    tt,
+  ),
+)
+
+pub files_judged : (files : Contents) (job : Proving) (elf_read c_read : List ℕ) (verdict : Verdict)
+    → IfSome (files job.elf) (λ text. elf_read ≡ take (MAX_ELF_BYTES + 1) text) → length elf_read ≤ MAX_ELF_BYTES
+    → IfSome (files job.source) (λ text. c_read ≡ take (MAX_C_BYTES + 1) text) → length c_read ≤ MAX_C_BYTES
+    → Judges elf_read c_read job.functions verdict → IsSound elf_read c_read job.functions verdict → IsVerdictOn files job verdict
+files_judged files job elf_read c_read verdict elf_taken elf_small c_taken c_small exact sound = (
+  not_too_large files job elf_read elf_taken elf_small,
+  λ elf c e f.
+      let elf_read_of = read_of (files job.elf) elf elf_read (MAX_ELF_BYTES + 1) elf_taken e in
+      let c_read_of = read_of (files job.source) c c_read (MAX_C_BYTES + 1) c_taken f in
+      let elf_is = whole elf elf_read MAX_ELF_BYTES elf_read_of elf_small in
+      let c_is = whole c c_read MAX_C_BYTES c_read_of c_small in (
+        within verdict (short elf elf_read MAX_ELF_BYTES elf_read_of elf_small) (short c c_read MAX_C_BYTES c_read_of c_small)
+            (subst (λ x. Judges elf x job.functions verdict) c_is (subst (λ x. Judges x c_read job.functions verdict) elf_is exact)),
+        subst (λ x. IsSound elf x job.functions verdict) c_is (subst (λ x. IsSound x c_read job.functions verdict) elf_is sound),
+      ),
+)
+
+-- what the first read took, and then the second
+pub taken_of_two : (files : Contents) (elf_name source_name : List ℕ) (before middle now : Option (List ℕ))
+    → TakesAtMost files elf_name (MAX_ELF_BYTES + 1) before middle → TakesAtMost files source_name (MAX_C_BYTES + 1) middle now
+    → TakesOfTwo files elf_name source_name before now
+taken_of_two files elf_name source_name before middle now first (inl same) =
+    elim first [ inl e ↦ inl (inl (same ∙ e)) | inr t ↦ inl (inr (t.0, t.1, same ∙ t.2)) ]
+taken_of_two files elf_name source_name before middle now first (inr t) = inr (inr t)
+
+-- the executable, where contracts see it, is no longer than what was read of it
+elf_within : (file : Option (List ℕ)) (read : List ℕ) → IfSome file (λ text. read ≡ take (MAX_ELF_BYTES + 1) text) → length read ≤ MAX_ELF_BYTES
+    → IfSome file (λ text. length text ≤ MAX_ELF_BYTES)
+elf_within None read taken small = tt
+elf_within (Some text) read taken small = short text read MAX_ELF_BYTES taken small
+
+-- what was begun first, and then
+pub opened_of_two : (files : Contents) (elf_name source_name read : List ℕ) (before middle now : Option (List (List ℕ)))
+    → IfSome (files elf_name) (λ text. read ≡ take (MAX_ELF_BYTES + 1) text) → length read ≤ MAX_ELF_BYTES
+    → middle ≡ with_name before elf_name → (now ≡ middle) ⊎ (now ≡ with_name middle source_name)
+    → OpensOfTwo files elf_name source_name before now
+opened_of_two files elf_name source_name read before middle now taken small first (inl same) = inr (inl (same ∙ first))
+opened_of_two files elf_name source_name read before middle now taken small first (inr then) =
+    inr (inr (then ∙ ap (λ names. with_name names source_name) first, elf_within (files elf_name) read taken small))
+
+-- ---- the verdict is one of a command
+
+one_at_least : (js : List Judgement) → map (λ j. j.name) js ≢ [] → js ≢ []
+one_at_least [] some e = some refl
+one_at_least (j ∷ js) some e = absurd (cc)
+
+-- a verdict on two files is not that of a usage error, and never an empty list of judgements
+pub of_command : (elf c : List ℕ) (functions : Option (List (List ℕ))) (verdict : Verdict) → Judges elf c functions verdict → IsOfCommand verdict
+of_command elf c functions _ (elf_refused fault offset h) = tt
+of_command elf c functions _ (no_tokens image kind offset h k) = tt
+of_command elf c functions _ (no_unit image kind offset h k) = tt
+of_command elf c functions _ (other_form image tree h k l) = tt
+of_command elf c functions _ (too_many image unit names h k) = tt
+of_command elf c functions _ (nothing_listed image unit h) = tt
+of_command elf c functions _ (pair_refused image unit names kind name h k l m) = tt
+of_command elf c functions _ (code_refused image unit names kind name address h k) = tt
+of_command elf c functions _ (judged image unit judgements pairs h) = one_at_least judgements pairs.some

@@ -1,0 +1,69 @@
+-- What contracts see of the objects in memory.
+use Rattle.std.specs.Prelude.{ℕ, List, [], Option, Some, None, map, string_bytes}
+use Rattle.tv_outside.specs.Given.{bytes_of, steady_bytes_of}
+use Rattle.tv_outside.specs.Shelf.{unnamed, on_shelf}
+use Rattle.tv_outside.specs.declared.desks.MemDesk.{MemDesk}
+use Rattle.tv_outside.specs.declared.desks.SteadyDesk.{SteadyDesk}
+use Rattle.tv_outside.specs.declared.sinks.MemSink.{MemSink}
+use Rattle.tv_outside.specs.declared.sinks.SteadySink.{SteadySink}
+use Rattle.tv_outside.specs.declared.stores.MemStore.{MemStore}
+use Rattle.tv_outside.specs.declared.stores.SteadyStore.{SteadyStore}
+
+-- no call of a steady object fails
+abbrev pub steady_faults : {T : Type 0} → T → ℕ
+steady_faults object = 0
+
+-- ---- desks: the bytes of each name, what is left of the begun file, the names begun, and the failed calls
+
+abbrev pub desk_bytes : MemDesk → List ℕ → Option (List ℕ)
+desk_bytes desk = bytes_of desk.files.now
+
+abbrev pub desk_left : MemDesk → Option (List ℕ)
+desk_left desk = Some desk.left.now
+
+abbrev pub desk_opened : MemDesk → Option (List (List ℕ))
+desk_opened desk = Some (map string_bytes desk.opened.items)
+
+abbrev pub desk_faults : MemDesk → ℕ
+desk_faults desk = desk.mishaps.faults
+
+abbrev pub steady_bytes : SteadyDesk → List ℕ → Option (List ℕ)
+steady_bytes desk = steady_bytes_of desk.files.now
+
+abbrev pub steady_left : SteadyDesk → Option (List ℕ)
+steady_left desk = Some desk.left.now
+
+abbrev pub steady_opened : SteadyDesk → Option (List (List ℕ))
+steady_opened desk = None
+
+-- ---- sinks and stores: what is held under each name, the name begun last, and the failed calls
+
+abbrev pub sink_held : MemSink → List ℕ → Option (List ℕ)
+sink_held sink = unnamed sink.text.items
+
+abbrev pub sink_begun : MemSink → List ℕ
+sink_begun sink = []
+
+abbrev pub sink_faults : MemSink → ℕ
+sink_faults sink = sink.mishaps.faults
+
+abbrev pub steady_sink_held : SteadySink → List ℕ → Option (List ℕ)
+steady_sink_held sink = unnamed sink.text.items
+
+abbrev pub steady_sink_begun : SteadySink → List ℕ
+steady_sink_begun sink = []
+
+abbrev pub store_held : MemStore → List ℕ → Option (List ℕ)
+store_held store = on_shelf store.shelf
+
+abbrev pub store_begun : MemStore → List ℕ
+store_begun store = string_bytes store.shelf.last.name
+
+abbrev pub store_faults : MemStore → ℕ
+store_faults store = store.mishaps.faults
+
+abbrev pub steady_store_held : SteadyStore → List ℕ → Option (List ℕ)
+steady_store_held store = on_shelf store.shelf
+
+abbrev pub steady_store_begun : SteadyStore → List ℕ
+steady_store_begun store = string_bytes store.shelf.last.name

@@ -1,5 +1,0 @@
-pub mod Builds
-pub mod Runs
-pub mod Keeps
-pub mod Visits
-pub mod Closed

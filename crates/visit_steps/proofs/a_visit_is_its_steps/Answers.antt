@@ -1,5 +1,0 @@
-use Rattle.visit_steps.proofs.Visits.{visit_steps}
-use Rattle.visit_steps.proofs.a_visit_is_its_steps.Goals as goal
-
-pub returns : goal.returns
-returns c = λ steps term table last closed. visit_steps steps term table last closed

@@ -1,0 +1,1 @@
+unsigned f(unsigned a,unsigned b){return a+b;}
