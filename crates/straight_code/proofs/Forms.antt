@@ -7,8 +7,8 @@ use Rattle.rv_instr.specs.declared.Instr.TheVariants.{Jalr, Immediate, Arithmeti
 use Rattle.rv_instr.specs.declared.ArithmeticOperation.TheVariants.{Add, Subtract}
 use Rattle.rv_instr.specs.declared.ImmediateOperation.TheVariants as immediate
 use Rattle.elf_spec.specs.Image.{Image}
-use Rattle.code_spec.specs.Code.{instr_at}
-use Rattle.straight_code.specs.Straight.{is_zero, is_return, is_plain, not_straight_from}
+use Rattle.code_spec.specs.Code.{instr_at, is_zero}
+use Rattle.straight_code.specs.Straight.{is_return, is_plain, not_straight_from}
 
 -- the three forms before the return
 pub data IsPlain : Option Instr → Type 0 where

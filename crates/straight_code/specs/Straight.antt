@@ -1,15 +1,11 @@
 -- The form of straight-line code: ADD, SUB and ADDI that leave the stack pointer alone, and then the return.
-use Rattle.std.specs.Prelude.{ℕ, zero, suc, ◌+◌, ◌-◌, ◌/◌, ◌==◌, ◌&&◌, not, Bool, false, if◌then◌else◌, ℤ, pos, negsuc, Option, Some, None}
+use Rattle.std.specs.Prelude.{ℕ, zero, suc, ◌+◌, ◌-◌, ◌/◌, ◌==◌, ◌&&◌, not, Bool, false, if◌then◌else◌, Option, Some, None}
 use Rattle.rv_instr.specs.declared.Instr.{Instr}
 use Rattle.rv_instr.specs.declared.Instr.TheVariants.{Jalr, Immediate, Arithmetic}
 use Rattle.rv_instr.specs.declared.ArithmeticOperation.TheVariants.{Add, Subtract}
 use Rattle.rv_instr.specs.declared.ImmediateOperation.TheVariants as immediate
 use Rattle.elf_spec.specs.Image.{Image}
-use Rattle.code_spec.specs.Code.{instr_at}
-
-abbrev pub is_zero : ℤ → Bool
-is_zero (pos n) = n == 0
-is_zero (negsuc n) = false
+use Rattle.code_spec.specs.Code.{instr_at, is_zero}
 
 -- the return: JALR x0, 0(x1) (RISC-V psABI, the return address is in x1)
 abbrev pub is_return : Option Instr → Bool

@@ -7,12 +7,12 @@ ghost use Rattle.term_spec.specs.Value.{Assignment as assignment, IsAssignment, 
 ghost use Rattle.normal_spec.specs.Fixed.{HoldsFixed};
 ghost use Rattle.normal_spec.specs.Normal as spec;
 ghost use Rattle.term_bank.specs.Nodes.{tree_at, Holds, Extends};
-ghost use Rattle.memory_spec.specs.Runs.{AreBytes};
 ghost use Rattle.memory_spec.specs.Viewed.{runs_of};
 ghost use Rattle.term_norm.specs.Runs.{form_with};
 ghost use Rattle.term_norm.specs.Walk.{form_at, IsStop, AreForms};
 
 use crate::loads::load;
+use crate::runs::hold_runs;
 use crate::walk::{Stop, Walk};
 use memory_spec::Run;
 use normal_rules::{
@@ -116,8 +116,8 @@ pub fn normal(
     requires { term < length bank.old }
     ensures form { IfOk result (λ i. Holds bank.new i
         (spec.normal (runs_of runs.now) (tree_at bank.old term))) }
-    ensures sort { IfOk result (λ i. AreBytes (runs_of runs.now) → (s : Sort)
-        → sort_of (tree_at bank.old term) ≡ Some s → sort_of (tree_at bank.new i) ≡ Some s) }
+    ensures sort { IfOk result (λ i. (s : Sort) → sort_of (tree_at bank.old term) ≡ Some s
+        → sort_of (tree_at bank.new i) ≡ Some s) }
 
     // It has the value of the term wherever the memories of the source hold these bytes.
     ensures value { IfOk result (λ i. (s : Sort) → sort_of (tree_at bank.old term) ≡ Some s
@@ -126,5 +126,6 @@ pub fn normal(
     ensures within { IfOk result (λ i. i < length bank.new) }
     ensures extends { Extends bank.old bank.new }
 {
+    hold_runs(runs);
     form_of(alloc, bank, term, runs)
 }

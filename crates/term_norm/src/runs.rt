@@ -1,6 +1,6 @@
 // Runs of fixed bytes.
 
-ghost use Rattle.std.specs.Prelude.{◌≡◌};
+ghost use Rattle.std.specs.Prelude.{◌≡◌, ◌<◌, ◌^◌, All};
 ghost use Rattle.memory_spec.specs.Runs as fixed_runs;
 ghost use Rattle.memory_spec.specs.Viewed.{run_of, runs_of};
 
@@ -28,4 +28,20 @@ pub fn fixed_byte(runs: &[Run], address: u64) -> Option<u8>
         }
     }
     None
+}
+
+// What a list of bytes has are bytes, by its type.
+fn hold_bytes(bytes: &[u8])
+    ensures { All (λ b. b < 2 ^ 8) bytes.now }
+{
+    let _count = bytes.len();
+}
+
+/// What runs have are bytes. Only their number is looked at.
+pub fn hold_runs(runs: &[Run])
+    ensures { fixed_runs.AreBytes (runs_of runs.now) }
+{
+    for run in runs {
+        hold_bytes(run.bytes.as_slice());
+    }
 }

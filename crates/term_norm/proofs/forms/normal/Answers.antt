@@ -10,7 +10,7 @@ pub returns-clause-sort : goal.returns-clause-sort
 returns-clause-sort c =
     IfOk-weaker c.form_of.result _ _
     (λ i h. form_sort (runs_of c.args.runs.now) (tree_at c.args.bank.now c.args.term) (tree_at c.form_of.new.bank i)
-    (read c.form_of.new.bank i (form_with c.args.runs.now (tree_at c.args.bank.now c.args.term)) h))
+    (read c.form_of.new.bank i (form_with c.args.runs.now (tree_at c.args.bank.now c.args.term)) h) c.hold_runs.ensures)
     c.form_of.ensures.form
 
 pub returns-clause-value : goal.returns-clause-value
