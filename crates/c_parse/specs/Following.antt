@@ -50,3 +50,7 @@ read_globals_after specifiers read state tokens =
     bind (read_many (λ (_ : State) next. is_mark punctuator.Comma next.token) (λ now. following (token now.1 (expected now.1) (mark_offset punctuator.Comma)) (λ _. read_initial_declarator now.0 (is_typedef specifiers))) (next_state (is_typedef specifiers)) state tokens)
     (λ more after. bind (token (state_following (is_typedef specifiers) state more).1 (expected (state_following (is_typedef specifiers) state more).1) (mark_offset punctuator.Semicolon) after)
     (λ _ rest. Ok ((unit.Declaration specifiers (read ++ globals_of more), (state_following (is_typedef specifiers) state more).0), rest)))
+
+-- a declaration of these globals, and the typedef names in scope after it
+abbrev pub declared_as : tree.Specifiers → (globals : List unit.Global) → (names : List (List ℕ)) → Read
+declared_as specifiers globals names = (unit.Declaration specifiers globals, names)

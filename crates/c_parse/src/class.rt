@@ -52,10 +52,7 @@ fn begins_designator(kind: Kind<'_>) -> bool
 pub fn starts_designator(tokens: &Tokens<'_>) -> bool
     ensures { result ≡ next_is initializers.begins_designator (list_of tokens.now.rest.now) }
 {
-    match tokens.rest {
-        [first, ..] => begins_designator(first.kind),
-        [] => false,
-    }
+    matches!(tokens.rest, [first, ..] if begins_designator(first.kind))
 }
 
 /// The next token begins an initial value, or the designators before one.

@@ -1,7 +1,6 @@
 //! The globals of an external declaration, and the typedef names in scope after them (6.7, 6.7.9).
 
 ghost use Rattle.std.specs.Prelude.{◌≡◌, ◌++◌, ◌∷◌, [], IfOk, false, map};
-ghost use Rattle.c_tree_spec.specs.Unit as tree;
 ghost use Rattle.c_grammar_spec.specs.Expressions.{is_typedef_name};
 ghost use Rattle.c_grammar_spec.specs.Units.{name_of_global, names_after};
 ghost use Rattle.exact_read.specs.Grammar.{read_map};
@@ -9,12 +8,12 @@ ghost use Rattle.c_statement_laws.specs.Units as units;
 ghost use Rattle.c_syntax.specs.Expressions.{specifiers_of, unboxed};
 ghost use Rattle.c_syntax.specs.Units.{global_of, external_declaration_of};
 ghost use Rattle.c_parse_token.specs.Lists.{names_of, Parses, IsShorter, IsNoLonger};
-ghost use Rattle.c_parse.specs.Following.{read_value, read_globals_after};
+ghost use Rattle.c_parse.specs.Following.{read_value, read_globals_after, declared_as};
 
 use crate::class::{declare, is_typedef};
 use crate::initial::initial;
 use c_grammar_spec::{Role, STATEMENT_FUEL};
-use c_parse_declaration::global;
+use c_parse_declaration::{Scope, global};
 use c_parse_token::{Stopped, Tokens, TypedefNames};
 use c_spec::token::Punctuator;
 use c_syntax::expression::{Specifiers, boxed};
@@ -35,8 +34,12 @@ fn value<'t>(
         return Ok(Role::Nothing);
     }
     tokens.mark(Punctuator::Assign, Role::Nothing)?;
-    let end = initial(alloc, tokens, names, 0, STATEMENT_FUEL)?;
-    Ok(end)
+    let scope = Scope {
+        alloc,
+        names,
+        depth: 0,
+    };
+    Ok(initial(scope, tokens, STATEMENT_FUEL)?)
 }
 
 // A global, pushed after those before it, and what is expected after it. Its name is in scope after
@@ -52,7 +55,8 @@ fn declared<'t>(
     requires fresh { is_typedef_name (names_of names.old) (name_of_global (global_of first.value))
         ≡ false }
     ensures gives { Parses (read_map units.end_of_global (read_value (names_after is_typedef
-        (global_of first.entry.value) (names_of names.old)))) (λ x. x) tokens.old tokens.new result }
+        (global_of first.entry.value) (names_of names.old)))) (λ x. x) tokens.old tokens.new
+        result }
     ensures now { IfOk result (λ _. (names_of names.new ≡ names_after is_typedef (global_of
         first.entry.value) (names_of names.old)) × (all.new.items ≡ all.old.items ++ first.entry ∷
         [])) }
@@ -74,11 +78,8 @@ fn more_globals<'t>(
     end: Role,
 ) -> Result<(), Stopped>
     ensures gives { Parses (read_globals_after (specifiers_of specifiers.now) (map global_of
-        (unboxed all.old)) (names_of names.old, end)) (λ _. (
-          tree.Declaration (specifiers_of
-              specifiers.now) (map global_of (unboxed all.new)),
-          names_of names.new,
-        )) tokens.old
+        (unboxed all.old)) (names_of names.old, end)) (λ _. declared_as (specifiers_of
+        specifiers.now) (map global_of (unboxed all.new)) (names_of names.new)) tokens.old
         tokens.new result }
     ensures shorter { IfOk result (λ _. IsShorter tokens.new tokens.old) }
 {

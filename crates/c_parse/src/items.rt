@@ -13,7 +13,7 @@ ghost use Rattle.c_parse.specs.Following.{read_block, read_after_specifiers};
 use crate::class::is_typedef;
 use crate::globals::globals;
 use c_grammar_spec::Role;
-use c_parse_declaration::{external_specifiers, global};
+use c_parse_declaration::{Scope, external_specifiers, global};
 use c_parse_statement::parts;
 use c_parse_token::{Stopped, Tokens, TypedefNames};
 use c_spec::token::Punctuator;
@@ -35,7 +35,12 @@ fn body<'t>(
     ensures shorter { IfOk result (λ _. IsShorter tokens.new tokens.old) }
 {
     tokens.opening(Punctuator::LeftBrace, 0)?;
-    let parts = parts(alloc, tokens, names, 1)?;
+    let scope = Scope {
+        alloc,
+        names,
+        depth: 1,
+    };
+    let parts = parts(scope, tokens)?;
     let close = tokens.mark(Punctuator::RightBrace, Role::Nothing)?;
     Ok((parts, close))
 }
@@ -54,10 +59,8 @@ fn definition<'t>(
     ensures shorter { IfOk result (λ _. IsShorter tokens.new tokens.old) }
 {
     let (parts, close) = body(alloc, tokens, names)?;
-    Ok(boxed(
-        alloc,
-        ExternalDeclaration::Definition(specifiers, declarator, parts, close),
-    )?)
+    let made = ExternalDeclaration::Definition(specifiers, declarator, parts, close);
+    Ok(boxed(alloc, made)?)
 }
 
 // The rest of an external declaration after its specifiers and its first declarator, with them.
@@ -103,10 +106,8 @@ fn after_specifiers<'t>(
 {
     if tokens.next_is(Punctuator::Semicolon) {
         tokens.mark(Punctuator::Semicolon, Role::Nothing)?;
-        return Ok(boxed(
-            alloc,
-            ExternalDeclaration::Declaration(specifiers, Vec::new(alloc)),
-        )?);
+        let made = ExternalDeclaration::Declaration(specifiers, Vec::new(alloc));
+        return Ok(boxed(alloc, made)?);
     }
     let first = global(alloc, tokens, names, is_typedef(&specifiers))?;
     after_global(alloc, tokens, names, specifiers, first)

@@ -5,7 +5,7 @@
 //! the grammar's derivations alone (`specs/Units.antt`, `specs/Faults.antt`).
 #![tactic(auto)]
 
-ghost use Rattle.std.specs.Prelude.{◌≡◌, IfOk, IfErr, Err, drop};
+ghost use Rattle.std.specs.Prelude.{◌≡◌, IfOk, IfErr, OnOk, Err, drop};
 ghost use Rattle.c_tree_spec.specs.Unit as tree;
 ghost use Rattle.c_grammar_spec.specs.Faults.{IsUnit, offset_of};
 ghost use Rattle.c_syntax.specs.Units.{unit_of};
@@ -101,5 +101,18 @@ pub fn parse<'t>(alloc: Global, tokens: &'t [Token<'t>]) -> Result<TranslationUn
     match unit(alloc, &mut left) {
         Ok(read) => Ok(read),
         Err(stopped) => Err(fault_at(tokens, left.rest, stopped)),
+    }
+}
+
+/// Whether tokens are a unit; or their first fault. As [`parse`], for a caller that doesn't want
+/// the tree.
+pub fn check<'t>(alloc: Global, tokens: &'t [Token<'t>]) -> Result<(), ParseError>
+    ensures found { OnOk result ((unit : tree.TranslationUnit) × IsUnit (list_of tokens.now)
+        unit) }
+    ensures fault { IfErr result (λ error. IsFaultOf (list_of tokens.now) error) }
+{
+    match parse(alloc, tokens) {
+        Ok(_unit) => Ok(()),
+        Err(error) => Err(error),
     }
 }

@@ -14,6 +14,16 @@ use Rattle.c_expression_laws.specs.Classes.{is_mark, mark_offset}
 use Rattle.c_expression_laws.specs.Parsers.{Parsers, token, following}
 use Rattle.c_expression_laws.specs.Types.{expressions_of}
 use Rattle.c_declaration_laws.specs.Parameters as parameters
+use Rattle.c_parse_token.specs.Lists.{names_of}
+use Rattle.c_parse_expression.specs.Whole.{expressions}
+use Rattle.c_parse_declaration.specs.declared.Scope.{Scope}
+
+-- the typedef names in a scope, and the reference parsers of expressions and types there
+abbrev pub names_in : Scope → List (List ℕ)
+names_in scope = names_of scope.names.now
+
+abbrev pub parsers_in : Scope → Parsers
+parsers_in scope = expressions scope.names.now
 
 -- arguments after a first one, up to which there are so many operators, and the `)`
 abbrev pub read_arguments_from : Parsers → (depth count : ℕ) → (first : tree.Expression) → Parser Placed Role tree.Expressions

@@ -21,9 +21,11 @@ ghost use Rattle.c_parse_token.specs.Lists.{list_of, names_of};
 ghost use Rattle.c_parse_token.specs.Lists.{Parses, TakesOne, IsShorter, IsNoLonger};
 ghost use Rattle.c_parse_expression.specs.Whole.{expressions};
 ghost use Rattle.c_parse_declaration.specs.Words.{says, next_says, read_words, read_specifiers};
+ghost use Rattle.c_parse_declaration.specs.Parts.{names_in, parsers_in};
 ghost use Rattle.c_grammar_spec.specs.Limits.{nesting_limit};
 
 use crate::statement::value;
+use crate::{Parsed, Scope};
 use c_grammar_spec::Role;
 use c_parse_expression::{base, dimensions};
 use c_parse_token::class::begins_type;
@@ -103,23 +105,21 @@ fn words(tokens: &mut Tokens<'_>, of_item: bool) -> (Storage, Option<usize>)
 
 // Specifiers with words around their type specifier.
 fn specifiers<'t>(
-    alloc: Global,
+    scope: Scope<'_, 't>,
     tokens: &mut Tokens<'t>,
-    names: &TypedefNames<'t>,
-    depth: usize,
     of_item: bool,
-) -> Result<Box<Specifiers<'t>>, Stopped>
-    requires depth { depth ≤ nesting_limit }
-    ensures gives { Parses (read_specifiers of_item (names_of names.now) (expressions names.now)
-        depth) (λ x. specifiers_of x.value) tokens.old tokens.new result }
+) -> Parsed<Specifiers<'t>>
+    requires depth { scope.depth ≤ nesting_limit }
+    ensures gives { Parses (read_specifiers of_item (names_in scope.entry) (parsers_in scope.entry)
+        scope.entry.depth) (λ x. specifiers_of x.value) tokens.old tokens.new result }
     ensures shorter { IfOk result (λ _. IsShorter tokens.new tokens.old) }
 {
     let (before, first) = words(tokens, of_item);
-    let (head, offset) = type_specifier_head(tokens, names)?;
-    let base = base(alloc, tokens, names, depth, head)?;
+    let (head, offset) = type_specifier_head(tokens, scope.names)?;
+    let base = base(scope.alloc, tokens, scope.names, scope.depth, head)?;
     let (following, _) = words(tokens, of_item);
     let storage = both(before, following);
-    Ok(Specifiers::new(alloc, storage, base, first.unwrap_or(offset))?)
+    Ok(Specifiers::new(scope.alloc, storage, base, first.unwrap_or(offset))?)
 }
 
 /// The specifiers of an external declaration (6.7).
@@ -132,7 +132,12 @@ pub fn external_specifiers<'t>(
         (λ x. specifiers_of x.value) tokens.old tokens.new result }
     ensures shorter { IfOk result (λ _. IsShorter tokens.new tokens.old) }
 {
-    specifiers(alloc, tokens, names, 0, true)
+    let scope = Scope {
+        alloc,
+        names,
+        depth: 0,
+    };
+    specifiers(scope, tokens, true)
 }
 
 /// The next token begins a declaration of locals.
@@ -171,48 +176,39 @@ pub fn declared_name<'t>(
 }
 
 // A local's declarator (6.7.6).
-fn declarator<'t>(
-    alloc: Global,
-    tokens: &mut Tokens<'t>,
-    names: &TypedefNames<'t>,
-    depth: usize,
-) -> Result<Box<Declarator<'t>>, Stopped>
-    requires depth { depth ≤ nesting_limit }
-    ensures gives { Parses (read_declarator (plain_name_at (names_of names.now)) (expressions
-        names.now) depth Alone) (λ x. declarator_of x.value) tokens.old tokens.new result }
+fn declarator<'t>(scope: Scope<'_, 't>, tokens: &mut Tokens<'t>) -> Parsed<Declarator<'t>>
+    requires depth { scope.depth ≤ nesting_limit }
+    ensures gives { Parses (read_declarator (plain_name_at (names_in scope.entry)) (parsers_in
+        scope.entry) scope.entry.depth Alone) (λ x. declarator_of x.value) tokens.old tokens.new
+        result }
     ensures shorter { IfOk result (λ _. IsShorter tokens.new tokens.old) }
 {
     let pointers = pointer(tokens);
-    let name = declared_name(tokens, names)?;
-    let dimensions = dimensions(alloc, tokens, names, depth)?;
-    Ok(Declarator::new(alloc, pointers, name, dimensions)?)
+    let name = declared_name(tokens, scope.names)?;
+    let dimensions = dimensions(scope.alloc, tokens, scope.names, scope.depth)?;
+    Ok(Declarator::new(scope.alloc, pointers, name, dimensions)?)
 }
 
 // A local, and its initial value, which is a whole expression.
-fn local<'t>(
-    alloc: Global,
-    tokens: &mut Tokens<'t>,
-    names: &TypedefNames<'t>,
-    depth: usize,
-) -> Result<Box<Local<'t>>, Stopped>
-    requires depth { depth ≤ nesting_limit }
-    ensures gives { Parses (declarations.read_local (names_of names.now) (expressions names.now)
-        depth) (λ x. local_of x.value) tokens.old tokens.new result }
+fn local<'t>(scope: Scope<'_, 't>, tokens: &mut Tokens<'t>) -> Parsed<Local<'t>>
+    requires depth { scope.depth ≤ nesting_limit }
+    ensures gives { Parses (declarations.read_local (names_in scope.entry) (parsers_in scope.entry)
+        scope.entry.depth) (λ x. local_of x.value) tokens.old tokens.new result }
     ensures shorter { IfOk result (λ _. IsShorter tokens.new tokens.old) }
 {
-    let declarator = declarator(alloc, tokens, names, depth)?;
+    let declarator = declarator(scope, tokens)?;
     if !tokens.next_is(Punctuator::Assign) {
         let value = None;
-        return Ok(boxed(alloc, Local { declarator, value })?);
+        return Ok(boxed(scope.alloc, Local { declarator, value })?);
     }
     tokens.mark(Punctuator::Assign, Role::Nothing)?;
     tokens.count = 0;
-    let value = Some(value(alloc, tokens, names, depth)?);
-    Ok(boxed(alloc, Local { declarator, value })?)
+    let value = Some(value(scope, tokens)?);
+    Ok(boxed(scope.alloc, Local { declarator, value })?)
 }
 
-// What is expected after a value.
-fn value_end(value: &Value<'_>) -> Role
+/// What is expected after a value.
+pub fn value_end(value: &Value<'_>) -> Role
     ensures { result ≡ grammar.value_end (value_of value.now) }
 {
     match value {
@@ -233,26 +229,24 @@ fn end_of_local(local: &Local<'_>) -> Role
 
 // The locals after the first, with it, and the `;`.
 fn more_locals<'t>(
-    alloc: Global,
+    scope: Scope<'_, 't>,
     tokens: &mut Tokens<'t>,
-    names: &TypedefNames<'t>,
-    depth: usize,
     first: Box<Local<'t>>,
     locals: &mut Vec<Box<Local<'t>>>,
 ) -> Result<(), Stopped>
-    requires depth { depth ≤ nesting_limit }
+    requires depth { scope.depth ≤ nesting_limit }
     requires empty { locals.old.items ≡ [] }
     ensures gives { Parses (declarations.read_list_from declarations.end_of_local Semicolon
-        (read_nothing (local_of first.entry.value)) (declarations.read_local (names_of names.now)
-        (expressions names.now) depth)) (λ _. map local_of (unboxed locals.new)) tokens.old
-        tokens.new result }
+        (read_nothing (local_of first.entry.value)) (declarations.read_local (names_in scope.entry)
+        (parsers_in scope.entry) scope.entry.depth)) (λ _. map local_of (unboxed locals.new))
+        tokens.old tokens.new result }
     ensures shorter { IfOk result (λ _. IsShorter tokens.new tokens.old) }
 {
     let mut end = end_of_local(&first);
     locals.push(first)?;
     'items: while tokens.next_is(Punctuator::Comma) {
         tokens.mark(Punctuator::Comma, end)?;
-        let next = local(alloc, tokens, names, depth)?;
+        let next = local(scope, tokens)?;
         end = end_of_local(&next);
         locals.push(next)?;
     }
@@ -261,20 +255,15 @@ fn more_locals<'t>(
 }
 
 /// A declaration of locals with its `;` (6.7).
-pub fn locals<'t>(
-    alloc: Global,
-    tokens: &mut Tokens<'t>,
-    names: &TypedefNames<'t>,
-    depth: usize,
-) -> Result<Box<Locals<'t>>, Stopped>
-    requires depth { depth ≤ nesting_limit }
-    ensures gives { Parses (declarations.read_locals (names_of names.now) (expressions names.now)
-        depth) (λ x. locals_of x.value) tokens.old tokens.new result }
+pub fn locals<'t>(scope: Scope<'_, 't>, tokens: &mut Tokens<'t>) -> Parsed<Locals<'t>>
+    requires depth { scope.depth ≤ nesting_limit }
+    ensures gives { Parses (declarations.read_locals (names_in scope.entry) (parsers_in scope.entry)
+        scope.entry.depth) (λ x. locals_of x.value) tokens.old tokens.new result }
     ensures shorter { IfOk result (λ _. IsShorter tokens.new tokens.old) }
 {
-    let specifiers = specifiers(alloc, tokens, names, depth, false)?;
-    let first = local(alloc, tokens, names, depth)?;
-    let mut locals = Vec::new(alloc);
-    more_locals(alloc, tokens, names, depth, first, &mut locals)?;
-    Ok(boxed(alloc, Locals { specifiers, locals })?)
+    let specifiers = specifiers(scope, tokens, false)?;
+    let first = local(scope, tokens)?;
+    let mut locals = Vec::new(scope.alloc);
+    more_locals(scope, tokens, first, &mut locals)?;
+    Ok(boxed(scope.alloc, Locals { specifiers, locals })?)
 }

@@ -18,9 +18,11 @@ ghost use Rattle.c_parse_token.specs.Lists.{list_of, names_of};
 ghost use Rattle.c_parse_token.specs.Lists.{Parses, TakesOne, IsShorter, IsNoLonger};
 ghost use Rattle.c_parse_expression.specs.Whole.{expressions};
 ghost use Rattle.c_parse_declaration.specs.Parts.{has_none, read_function};
+ghost use Rattle.c_parse_declaration.specs.Parts.{names_in, parsers_in};
 ghost use Rattle.c_grammar_spec.specs.Limits.{nesting_limit};
 
 use crate::declaration::{declared_name, stored};
+use crate::{Parsed, Scope};
 use c_grammar_spec::Role;
 use c_parse_expression::{dimensions, specifiers};
 use c_parse_token::{Stopped, Tokens, TypedefNames, consts, pointer};
@@ -61,29 +63,26 @@ fn optional_name<'t>(
     if !tokens.starts_plain_name(names) {
         return Ok(None);
     }
-    let name = declared_name(tokens, names)?;
-    Ok(Some(name))
+    Ok(Some(declared_name(tokens, names)?))
 }
 
 // What follows the specifiers of a parameter, with them.
 fn parameter_after<'t>(
-    alloc: Global,
+    scope: Scope<'_, 't>,
     tokens: &mut Tokens<'t>,
-    names: &TypedefNames<'t>,
-    depth: usize,
     specifiers: Box<Specifiers<'t>>,
-) -> Result<Box<Parameter<'t>>, Stopped>
-    requires depth { depth ≤ nesting_limit }
+) -> Parsed<Parameter<'t>>
+    requires depth { scope.depth ≤ nesting_limit }
     ensures gives { Parses (read_map (parameters.parameter_of (specifiers_of
-        specifiers.entry.value)) (parameters.read_parameter_rest (names_of names.now)
-        (expressions names.now) depth)) (λ x. parameter_of x.value) tokens.old tokens.new result }
+        specifiers.entry.value)) (parameters.read_parameter_rest (names_in scope.entry) (parsers_in
+        scope.entry) scope.entry.depth)) (λ x. parameter_of x.value) tokens.old tokens.new result }
     ensures shorter { IfOk result (λ _. IsNoLonger tokens.new tokens.old) }
 {
     let pointers = pointer(tokens);
-    let name = optional_name(tokens, names)?;
-    let dimensions = dimensions(alloc, tokens, names, depth)?;
+    let name = optional_name(tokens, scope.names)?;
+    let dimensions = dimensions(scope.alloc, tokens, scope.names, scope.depth)?;
     Ok(boxed(
-        alloc,
+        scope.alloc,
         Parameter {
             specifiers,
             pointers,
@@ -94,38 +93,32 @@ fn parameter_after<'t>(
 }
 
 // A parameter.
-fn parameter<'t>(
-    alloc: Global,
-    tokens: &mut Tokens<'t>,
-    names: &TypedefNames<'t>,
-    depth: usize,
-) -> Result<Box<Parameter<'t>>, Stopped>
-    requires depth { depth ≤ nesting_limit }
-    ensures gives { Parses (parameters.read_parameter (names_of names.now) (expressions names.now)
-        depth) (λ x. parameter_of x.value) tokens.old tokens.new result }
+fn parameter<'t>(scope: Scope<'_, 't>, tokens: &mut Tokens<'t>) -> Parsed<Parameter<'t>>
+    requires depth { scope.depth ≤ nesting_limit }
+    ensures gives { Parses (parameters.read_parameter (names_in scope.entry) (parsers_in
+        scope.entry) scope.entry.depth) (λ x. parameter_of x.value) tokens.old tokens.new result }
     ensures shorter { IfOk result (λ _. IsNoLonger tokens.new tokens.old) }
 {
-    let specifiers = specifiers(alloc, tokens, names, depth)?;
-    parameter_after(alloc, tokens, names, depth, specifiers)
+    let specifiers = specifiers(scope.alloc, tokens, scope.names, scope.depth)?;
+    parameter_after(scope, tokens, specifiers)
 }
 
 // A parameter of which `void` at this offset was read.
 fn void_parameter<'t>(
-    alloc: Global,
+    scope: Scope<'_, 't>,
     tokens: &mut Tokens<'t>,
-    names: &TypedefNames<'t>,
-    depth: usize,
     offset: usize,
-) -> Result<Box<Parameter<'t>>, Stopped>
-    requires depth { depth ≤ nesting_limit }
-    ensures gives { Parses (parameters.read_void_parameter (names_of names.now) (expressions
-        names.now) depth offset) (λ x. parameter_of x.value) tokens.old tokens.new result }
+) -> Parsed<Parameter<'t>>
+    requires depth { scope.depth ≤ nesting_limit }
+    ensures gives { Parses (parameters.read_void_parameter (names_in scope.entry) (parsers_in
+        scope.entry) scope.entry.depth offset) (λ x. parameter_of x.value) tokens.old tokens.new
+        result }
     ensures shorter { IfOk result (λ _. IsNoLonger tokens.new tokens.old) }
 {
     consts(tokens);
-    let base = TypeSpecifier::void(alloc)?;
-    let specifiers = Specifiers::new(alloc, stored(false, false), base, offset)?;
-    parameter_after(alloc, tokens, names, depth, specifiers)
+    let base = TypeSpecifier::void(scope.alloc)?;
+    let specifiers = Specifiers::new(scope.alloc, stored(false, false), base, offset)?;
+    parameter_after(scope, tokens, specifiers)
 }
 
 // They are those of no array.
@@ -149,26 +142,24 @@ fn parameter_end(parameter: &Parameter<'_>) -> Role
 
 // The parameters after the first, with it, and the `)`.
 fn more_parameters<'t>(
-    alloc: Global,
+    scope: Scope<'_, 't>,
     tokens: &mut Tokens<'t>,
-    names: &TypedefNames<'t>,
-    depth: usize,
     first: Box<Parameter<'t>>,
     list: &mut Vec<Box<Parameter<'t>>>,
 ) -> Result<(), Stopped>
-    requires depth { depth ≤ nesting_limit }
+    requires depth { scope.depth ≤ nesting_limit }
     requires empty { list.old.items ≡ [] }
     ensures gives { Parses (read_list_from parameters.end_of_parameter RightParenthesis
-        (read_nothing (parameter_of first.entry.value)) (parameters.read_parameter (names_of
-        names.now) (expressions names.now) depth)) (λ _. map parameter_of (unboxed list.new))
-        tokens.old tokens.new result }
+        (read_nothing (parameter_of first.entry.value)) (parameters.read_parameter (names_in
+        scope.entry) (parsers_in scope.entry) scope.entry.depth)) (λ _. map parameter_of (unboxed
+        list.new)) tokens.old tokens.new result }
     ensures shorter { IfOk result (λ _. IsShorter tokens.new tokens.old) }
 {
     let mut end = parameter_end(&first);
     list.push(first)?;
     'items: while tokens.next_is(Punctuator::Comma) {
         tokens.mark(Punctuator::Comma, end)?;
-        let next = parameter(alloc, tokens, names, depth)?;
+        let next = parameter(scope, tokens)?;
         end = parameter_end(&next);
         list.push(next)?;
     }
@@ -178,16 +169,15 @@ fn more_parameters<'t>(
 
 // The parameters after the `(` of a function, with its `)`.
 fn parameters<'t>(
-    alloc: Global,
+    scope: Scope<'_, 't>,
     tokens: &mut Tokens<'t>,
-    names: &TypedefNames<'t>,
-    depth: usize,
     list: &mut Vec<Box<Parameter<'t>>>,
 ) -> Result<(), Stopped>
-    requires depth { depth ≤ nesting_limit }
+    requires depth { scope.depth ≤ nesting_limit }
     requires empty { list.old.items ≡ [] }
-    ensures gives { Parses (parameters.read_parameters (names_of names.now) (expressions names.now)
-        depth) (λ _. map parameter_of (unboxed list.new)) tokens.old tokens.new result }
+    ensures gives { Parses (parameters.read_parameters (names_in scope.entry) (parsers_in
+        scope.entry) scope.entry.depth) (λ _. map parameter_of (unboxed list.new)) tokens.old
+        tokens.new result }
     ensures shorter { IfOk result (λ _. IsShorter tokens.new tokens.old) }
 {
     if tokens.next_is(Punctuator::RightParenthesis) {
@@ -195,15 +185,15 @@ fn parameters<'t>(
         return Ok(());
     }
     let Some(offset) = take_void(tokens) else {
-        let first = parameter(alloc, tokens, names, depth)?;
-        return more_parameters(alloc, tokens, names, depth, first, list);
+        let first = parameter(scope, tokens)?;
+        return more_parameters(scope, tokens, first, list);
     };
     if tokens.next_is(Punctuator::RightParenthesis) {
         tokens.mark(Punctuator::RightParenthesis, Role::DeclaredName)?;
         return Ok(());
     }
-    let first = void_parameter(alloc, tokens, names, depth, offset)?;
-    more_parameters(alloc, tokens, names, depth, first, list)
+    let first = void_parameter(scope, tokens, offset)?;
+    more_parameters(scope, tokens, first, list)
 }
 
 // The parameters after the name of a function, with the name and the `*` before it.
@@ -217,11 +207,17 @@ fn function<'t>(
     ensures gives { Parses (read_function (names_of names.now) (expressions names.now) pointers
         (name_of name.entry)) (λ x. global_of x.value) tokens.old tokens.new result }
     ensures shorter { IfOk result (λ _. IsNoLonger tokens.new tokens.old) }
-    ensures named { IfOk result (λ x. name_of_global (global_of x.value) ≡ name.entry.spelling.now) }
+    ensures named { IfOk result (λ x. name_of_global (global_of x.value) ≡
+        name.entry.spelling.now) }
 {
     tokens.opening(Punctuator::LeftParenthesis, 0)?;
     let mut list = Vec::new(alloc);
-    parameters(alloc, tokens, names, 1, &mut list)?;
+    let scope = Scope {
+        alloc,
+        names,
+        depth: 1,
+    };
+    parameters(scope, tokens, &mut list)?;
     let declarator = boxed(
         alloc,
         FunctionDeclarator {
@@ -250,8 +246,7 @@ pub fn global<'t>(
     let pointers = pointer(tokens);
     let name = declared_name(tokens, names)?;
     if !is_typedef && tokens.next_is(Punctuator::LeftParenthesis) {
-        let declarator = function(alloc, tokens, names, pointers, name)?;
-        return Ok(declarator);
+        return Ok(function(alloc, tokens, names, pointers, name)?);
     }
     let dimensions = dimensions(alloc, tokens, names, 0)?;
     let declarator = Declarator::new(alloc, pointers, name, dimensions)?;

@@ -11,6 +11,22 @@ mod declaration;
 mod item;
 mod statement;
 
-pub use declaration::{external_specifiers, locals, starts_locals};
+use c_parse_token::{Stopped, TypedefNames};
+pub use declaration::{external_specifiers, locals, starts_locals, value_end};
 pub use item::global;
 pub use statement::{simple, value};
+use std::alloc::Global;
+
+/// Where a part is parsed.
+#[derive(Clone, Copy)]
+pub struct Scope<'n, 't> {
+    /// Where memory comes from.
+    pub alloc: Global,
+    /// The typedef names in scope.
+    pub names: &'n TypedefNames<'t>,
+    /// How many constructs are open around.
+    pub depth: usize,
+}
+
+/// What a parser of a part gives.
+pub type Parsed<T> = Result<Box<T>, Stopped>;

@@ -13,13 +13,13 @@ ghost use Rattle.c_syntax.specs.Expressions.{expression_of, expressions_in};
 ghost use Rattle.c_syntax.specs.Simples.{call_of, value_of, simple_of};
 ghost use Rattle.c_token.specs.Pieces.{token_of};
 ghost use Rattle.c_parse_token.specs.Lists.{list_of, Parses, TakesOne, IsNoLonger};
-ghost use Rattle.c_parse_expression.specs.Whole.{expressions};
-ghost use Rattle.c_parse_declaration.specs.Parts.{read_arguments_from};
+ghost use Rattle.c_parse_declaration.specs.Parts.{parsers_in, read_arguments_from};
 ghost use Rattle.c_grammar_spec.specs.Limits.{nesting_limit, operator_limit};
 
+use crate::{Parsed, Scope};
 use c_grammar_spec::{OPERATOR_LIMIT, Role};
 use c_parse_expression::{any_unary, conditional, whole};
-use c_parse_token::{Fault, Stopped, Tokens, TypedefNames};
+use c_parse_token::{Fault, Stopped, Tokens};
 use c_spec::token::Punctuator;
 use c_syntax::expression::{Expression, Name, boxed};
 use c_syntax::simple::{Call, Simple, Value};
@@ -62,10 +62,7 @@ fn starts_assignment(tokens: &Tokens<'_>) -> bool
     ensures { result ≡ next_is (λ next. is_some (values.assign_operator next))
         (list_of tokens.now.rest.now) }
 {
-    match tokens.rest {
-        [first, ..] => assign_operator(first.kind).is_some(),
-        [] => false,
-    }
+    matches!(tokens.rest, [first, ..] if assign_operator(first.kind).is_some())
 }
 
 // The next token is `++` or `--`.
@@ -73,10 +70,7 @@ fn starts_step(tokens: &Tokens<'_>) -> bool
     ensures { result ≡ next_is (λ next. is_some (values.step_operator next))
         (list_of tokens.now.rest.now) }
 {
-    match tokens.rest {
-        [first, ..] => step_operator(first.kind).is_some(),
-        [] => false,
-    }
+    matches!(tokens.rest, [first, ..] if step_operator(first.kind).is_some())
 }
 
 // An operator with `=`, and its offset.
@@ -184,25 +178,23 @@ fn name_alone<'t>(x: &Expression<'t>) -> Option<Name<'t>>
 
 // The arguments after the first, with it, and the `)`.
 fn more_arguments<'t>(
-    alloc: Global,
+    scope: Scope<'_, 't>,
     tokens: &mut Tokens<'t>,
-    names: &TypedefNames<'t>,
-    depth: usize,
     first: Box<Expression<'t>>,
     arguments: &mut Vec<Box<Expression<'t>>>,
 ) -> Result<(), Stopped>
-    requires depth { depth ≤ nesting_limit }
+    requires depth { scope.depth ≤ nesting_limit }
     requires count { tokens.old.count ≤ operator_limit }
     requires empty { arguments.old.items ≡ [] }
-    ensures gives { Parses (read_arguments_from (expressions names.now) depth tokens.old.count
-        (expression_of first.entry.value)) (λ _. expressions_in arguments.new) tokens.old tokens.new
-        result }
+    ensures gives { Parses (read_arguments_from (parsers_in scope.entry) scope.entry.depth
+        tokens.old.count (expression_of first.entry.value)) (λ _. expressions_in arguments.new)
+        tokens.old tokens.new result }
     ensures shorter { IfOk result (λ _. IsNoLonger tokens.new tokens.old) }
 {
     arguments.push(first)?;
     'items: while tokens.next_is(Punctuator::Comma) {
         tokens.mark(Punctuator::Comma, Role::OperandEnd)?;
-        let next = conditional(alloc, tokens, names, depth)?;
+        let next = conditional(scope.alloc, tokens, scope.names, scope.depth)?;
         arguments.push(next)?;
     }
     tokens.mark(Punctuator::RightParenthesis, Role::OperandEnd)?;
@@ -210,125 +202,110 @@ fn more_arguments<'t>(
 }
 
 // A call after its name (6.5.2.2).
-fn call<'t>(
-    alloc: Global,
-    tokens: &mut Tokens<'t>,
-    names: &TypedefNames<'t>,
-    depth: usize,
-    callee: Name<'t>,
-) -> Result<Box<Call<'t>>, Stopped>
-    requires depth { depth ≤ nesting_limit }
+fn call<'t>(scope: Scope<'_, 't>, tokens: &mut Tokens<'t>, callee: Name<'t>) -> Parsed<Call<'t>>
+    requires depth { scope.depth ≤ nesting_limit }
     requires count { tokens.old.count ≤ operator_limit }
-    ensures gives { Parses (values.read_call (expressions names.now) depth tokens.old.count
-        (name_of callee.entry)) (λ x. call_of x.value) tokens.old tokens.new result }
+    ensures gives { Parses (values.read_call (parsers_in scope.entry) scope.entry.depth
+        tokens.old.count (name_of callee.entry)) (λ x. call_of x.value) tokens.old tokens.new
+        result }
     ensures shorter { IfOk result (λ _. IsNoLonger tokens.new tokens.old) }
 {
-    tokens.bracket(Punctuator::LeftParenthesis, depth)?;
-    let mut arguments = Vec::new(alloc);
+    tokens.bracket(Punctuator::LeftParenthesis, scope.depth)?;
+    let mut arguments = Vec::new(scope.alloc);
     if tokens.next_is(Punctuator::RightParenthesis) {
         tokens.mark(Punctuator::RightParenthesis, Role::Nothing)?;
-        return Ok(boxed(alloc, Call { callee, arguments })?);
+        return Ok(boxed(scope.alloc, Call { callee, arguments })?);
     }
-    let first = conditional(alloc, tokens, names, depth + 1)?;
-    more_arguments(alloc, tokens, names, depth + 1, first, &mut arguments)?;
-    Ok(boxed(alloc, Call { callee, arguments })?)
+    let first = conditional(scope.alloc, tokens, scope.names, scope.depth + 1)?;
+    let deeper = Scope {
+        depth: scope.depth + 1,
+        ..scope
+    };
+    more_arguments(deeper, tokens, first, &mut arguments)?;
+    Ok(boxed(scope.alloc, Call { callee, arguments })?)
 }
 
 // A value whose first part was read: a call, where that is a name with `(` after it.
 fn called<'t>(
-    alloc: Global,
+    scope: Scope<'_, 't>,
     tokens: &mut Tokens<'t>,
-    names: &TypedefNames<'t>,
-    depth: usize,
     first: Box<Expression<'t>>,
-) -> Result<Box<Value<'t>>, Stopped>
-    requires depth { depth ≤ nesting_limit }
+) -> Parsed<Value<'t>>
+    requires depth { scope.depth ≤ nesting_limit }
     requires count { tokens.old.count ≤ operator_limit }
-    ensures gives { Parses (values.read_called (expressions names.now) depth tokens.old.count
-        (expression_of first.entry.value)) (λ x. value_of x.value) tokens.old tokens.new result }
+    ensures gives { Parses (values.read_called (parsers_in scope.entry) scope.entry.depth
+        tokens.old.count (expression_of first.entry.value)) (λ x. value_of x.value) tokens.old
+        tokens.new result }
     ensures shorter { IfOk result (λ _. IsNoLonger tokens.new tokens.old) }
 {
     let Some(callee) = name_alone(&first) else {
-        return Ok(boxed(alloc, Value::Computed(first))?);
+        return Ok(boxed(scope.alloc, Value::Computed(first))?);
     };
     if !tokens.next_is(Punctuator::LeftParenthesis) {
-        return Ok(boxed(alloc, Value::Computed(first))?);
+        return Ok(boxed(scope.alloc, Value::Computed(first))?);
     }
-    let call = call(alloc, tokens, names, depth, callee)?;
-    Ok(boxed(alloc, Value::Called(call))?)
+    let call = call(scope, tokens, callee)?;
+    Ok(boxed(scope.alloc, Value::Called(call))?)
 }
 
 /// A call, or a conditional expression: what is assigned, given to a local or returned.
-pub fn value<'t>(
-    alloc: Global,
-    tokens: &mut Tokens<'t>,
-    names: &TypedefNames<'t>,
-    depth: usize,
-) -> Result<Box<Value<'t>>, Stopped>
-    requires depth { depth ≤ nesting_limit }
+pub fn value<'t>(scope: Scope<'_, 't>, tokens: &mut Tokens<'t>) -> Parsed<Value<'t>>
+    requires depth { scope.depth ≤ nesting_limit }
     requires count { tokens.old.count ≤ operator_limit }
-    ensures gives { Parses (values.read_value (expressions names.now) depth tokens.old.count)
-        (λ x. value_of x.value) tokens.old tokens.new result }
+    ensures gives { Parses (values.read_value (parsers_in scope.entry) scope.entry.depth
+        tokens.old.count) (λ x. value_of x.value) tokens.old tokens.new result }
     ensures shorter { IfOk result (λ _. IsNoLonger tokens.new tokens.old) }
 {
-    let first = conditional(alloc, tokens, names, depth)?;
-    called(alloc, tokens, names, depth, first)
+    let first = conditional(scope.alloc, tokens, scope.names, scope.depth)?;
+    called(scope, tokens, first)
 }
 
 // `++target`, `--target`.
-fn step_before<'t>(
-    alloc: Global,
-    tokens: &mut Tokens<'t>,
-    names: &TypedefNames<'t>,
-    depth: usize,
-) -> Result<Box<Simple<'t>>, Stopped>
-    requires depth { depth ≤ nesting_limit }
-    ensures gives { Parses (values.read_step_before (expressions names.now) depth)
+fn step_before<'t>(scope: Scope<'_, 't>, tokens: &mut Tokens<'t>) -> Parsed<Simple<'t>>
+    requires depth { scope.depth ≤ nesting_limit }
+    ensures gives { Parses (values.read_step_before (parsers_in scope.entry) scope.entry.depth)
         (λ x. simple_of x.value) tokens.old tokens.new result }
     ensures shorter { IfOk result (λ _. IsNoLonger tokens.new tokens.old) }
 {
     tokens.count = 0;
     let (operator, offset) = step(tokens)?;
-    let target = any_unary(alloc, tokens, names, depth)?;
-    Ok(boxed(alloc, Simple::StepBefore(operator, target, offset))?)
+    let target = any_unary(scope.alloc, tokens, scope.names, scope.depth)?;
+    Ok(boxed(scope.alloc, Simple::StepBefore(operator, target, offset))?)
 }
 
 // `=` and a value after a target.
 fn assign<'t>(
-    alloc: Global,
+    scope: Scope<'_, 't>,
     tokens: &mut Tokens<'t>,
-    names: &TypedefNames<'t>,
-    depth: usize,
     target: Box<Expression<'t>>,
-) -> Result<Box<Simple<'t>>, Stopped>
-    requires depth { depth ≤ nesting_limit }
+) -> Parsed<Simple<'t>>
+    requires depth { scope.depth ≤ nesting_limit }
     requires counted { tokens.old.count ≡ operators (expression_of target.value) }
-    ensures gives { Parses (values.read_assign (expressions names.now) depth
+    ensures gives { Parses (values.read_assign (parsers_in scope.entry) scope.entry.depth
         (expression_of target.entry.value)) (λ x. simple_of x.value) tokens.old tokens.new result }
     ensures shorter { IfOk result (λ _. IsNoLonger tokens.new tokens.old) }
 {
     let offset = tokens.operator(Punctuator::Assign)?;
-    let value = value(alloc, tokens, names, depth)?;
-    Ok(boxed(alloc, Simple::Assign(target, value, offset))?)
+    let value = value(scope, tokens)?;
+    Ok(boxed(scope.alloc, Simple::Assign(target, value, offset))?)
 }
 
 // An operator with `=`, and its operand, after a target.
 fn assign_by<'t>(
-    alloc: Global,
+    scope: Scope<'_, 't>,
     tokens: &mut Tokens<'t>,
-    names: &TypedefNames<'t>,
-    depth: usize,
     target: Box<Expression<'t>>,
-) -> Result<Box<Simple<'t>>, Stopped>
-    requires depth { depth ≤ nesting_limit }
+) -> Parsed<Simple<'t>>
+    requires depth { scope.depth ≤ nesting_limit }
     requires counted { tokens.old.count ≡ operators (expression_of target.value) }
-    ensures gives { Parses (values.read_assign_by (expressions names.now) depth
+    ensures gives { Parses (values.read_assign_by (parsers_in scope.entry) scope.entry.depth
         (expression_of target.entry.value)) (λ x. simple_of x.value) tokens.old tokens.new result }
     ensures shorter { IfOk result (λ _. IsNoLonger tokens.new tokens.old) }
 {
     let (operator, offset) = assignment(tokens)?;
-    let operand = conditional(alloc, tokens, names, depth)?;
-    Ok(boxed(alloc, Simple::AssignBy(operator, target, operand, offset))?)
+    let operand = conditional(scope.alloc, tokens, scope.names, scope.depth)?;
+    let made = Simple::AssignBy(operator, target, operand, offset);
+    Ok(boxed(scope.alloc, made)?)
 }
 
 // `++` or `--` after a target.
@@ -348,48 +325,41 @@ fn step_after<'t>(
 
 // What follows an expression that begins an expression statement, with it.
 fn simple_after<'t>(
-    alloc: Global,
+    scope: Scope<'_, 't>,
     tokens: &mut Tokens<'t>,
-    names: &TypedefNames<'t>,
-    depth: usize,
     first: Box<Expression<'t>>,
-) -> Result<Box<Simple<'t>>, Stopped>
-    requires depth { depth ≤ nesting_limit }
+) -> Parsed<Simple<'t>>
+    requires depth { scope.depth ≤ nesting_limit }
     requires counted { tokens.old.count ≡ operators (expression_of first.value) }
     requires count { tokens.old.count ≤ operator_limit }
-    ensures gives { Parses (values.read_simple_after (expressions names.now) depth
+    ensures gives { Parses (values.read_simple_after (parsers_in scope.entry) scope.entry.depth
         (expression_of first.entry.value)) (λ x. simple_of x.value) tokens.old tokens.new result }
     ensures shorter { IfOk result (λ _. IsNoLonger tokens.new tokens.old) }
 {
     if is_unary(&first) && tokens.next_is(Punctuator::Assign) {
-        return assign(alloc, tokens, names, depth, first);
+        return assign(scope, tokens, first);
     }
     if is_unary(&first) && starts_assignment(tokens) {
-        return assign_by(alloc, tokens, names, depth, first);
+        return assign_by(scope, tokens, first);
     }
     if is_postfix(&first) && starts_step(tokens) {
-        return step_after(alloc, tokens, first);
+        return step_after(scope.alloc, tokens, first);
     }
-    let value = called(alloc, tokens, names, depth, first)?;
-    Ok(boxed(alloc, Simple::Evaluate(value))?)
+    let value = called(scope, tokens, first)?;
+    Ok(boxed(scope.alloc, Simple::Evaluate(value))?)
 }
 
 /// An expression statement without its `;`, or a piece of a `for` (6.8.3, 6.8.5.3). It begins a
 /// whole expression.
-pub fn simple<'t>(
-    alloc: Global,
-    tokens: &mut Tokens<'t>,
-    names: &TypedefNames<'t>,
-    depth: usize,
-) -> Result<Box<Simple<'t>>, Stopped>
-    requires depth { depth ≤ nesting_limit }
-    ensures gives { Parses (values.read_simple (expressions names.now) depth)
+pub fn simple<'t>(scope: Scope<'_, 't>, tokens: &mut Tokens<'t>) -> Parsed<Simple<'t>>
+    requires depth { scope.depth ≤ nesting_limit }
+    ensures gives { Parses (values.read_simple (parsers_in scope.entry) scope.entry.depth)
         (λ x. simple_of x.value) tokens.old tokens.new result }
     ensures shorter { IfOk result (λ _. IsNoLonger tokens.new tokens.old) }
 {
     if starts_step(tokens) {
-        return step_before(alloc, tokens, names, depth);
+        return step_before(scope, tokens);
     }
-    let first = whole(alloc, tokens, names, depth)?;
-    simple_after(alloc, tokens, names, depth, first)
+    let first = whole(scope.alloc, tokens, scope.names, scope.depth)?;
+    simple_after(scope, tokens, first)
 }

@@ -5,5 +5,6 @@ pub mod Gathering
 pub mod Levels
 pub mod Operations
 pub mod Parts
+pub mod Taken
 pub mod Suffixes
 pub mod Fuel

@@ -1,17 +1,17 @@
 -- The reference parsers of the program's functions, where `c_expression_laws` has no name for them.
-use Rattle.std.specs.Prelude.{◌≡◌, ◌≤◌, ◌+◌, IfOk, Result, ℕ, suc, Bool, true, false, List, [], ◌∷◌, ◌++◌, map, Option, Some, None, Ok, Vec}
+use Rattle.std.specs.Prelude.{◌≡◌, ◌≤◌, ◌+◌, Result, ℕ, suc, Bool, true, false, List, [], ◌∷◌, ◌++◌, map, Option, Some, None, Ok, Err, Vec}
 use Rattle.std.specs.declared.alloc.Global.{Global}
 use Rattle.std.specs.declared.boxed.Box.{Box}
 use Rattle.c_spec.specs.declared.token.Punctuator.{Punctuator}
 use Rattle.c_spec.specs.declared.token.Punctuator.TheVariants as punctuator
 use Rattle.c_spec.specs.Lexical.{Placed}
 use Rattle.c_tree_spec.specs.Expression as tree
-use Rattle.c_grammar_spec.specs.Limits.{operator_limit}
+use Rattle.c_grammar_spec.specs.Limits.{nesting_limit, operator_limit}
 use Rattle.c_grammar_spec.specs.declared.Role.{Role}
 use Rattle.c_grammar_spec.specs.declared.Role.TheVariants.{Nothing, OperandEnd}
 use Rattle.c_grammar_spec.specs.Leaves.{expected, plain}
-use Rattle.c_grammar_spec.specs.Expressions.{Counting, Alone, Within, advance, count_at, member_end, operators, operators_of_specifiers, operators_of_declarator}
-use Rattle.exact_read.specs.Reading.{Parser}
+use Rattle.c_grammar_spec.specs.Expressions.{Counting, Alone, Within, advance, count_at, member_end, operators, operators_of_specifiers, operators_of_declarator, operators_of_lengths, operators_of_constants}
+use Rattle.exact_read.specs.Reading.{Outcome, Parser}
 use Rattle.exact_read.specs.Grammar.{bind, read_map, read_then, read_many}
 use Rattle.c_expression_laws.specs.Classes.{is_mark, mark_offset, name_at, begins_type}
 use Rattle.c_expression_laws.specs.Parsers.{Parsers, token, following, before, choose, with_suffix, with_operation, read_operation, read_suffix, read_index, read_member, read_open, read_type, read_bracketed}
@@ -25,9 +25,10 @@ use Rattle.c_syntax.specs.declared.expression.Expression.{Expression}
 use Rattle.c_syntax.specs.declared.expression.Member.{Member}
 use Rattle.c_syntax.specs.declared.expression.Specifiers.{Specifiers}
 use Rattle.c_syntax.specs.declared.expression.TypeName.{TypeName}
-use Rattle.c_syntax.specs.Expressions.{unboxed, expression_of, type_name_of, specifiers_of, type_specifier_of, member_of, declarator_of, dimensions_of, constant_of}
+use Rattle.c_syntax.specs.Expressions.{unboxed, expression_of, type_name_of, specifiers_of, type_specifier_of, member_of, declarator_of, dimensions_of, constant_of, constants_of}
 use Rattle.c_parse_token.specs.declared.names.TypedefNames.{TypedefNames}
-use Rattle.c_parse_token.specs.Lists.{names_of, IsCounted}
+use Rattle.c_parse_token.specs.declared.outcome.Stopped.{Stopped}
+use Rattle.c_parse_token.specs.Lists.{list_of, names_of, Gives, IsCounted, IsNoLonger}
 use Rattle.c_parse_token.specs.declared.tokens.Tokens.{Tokens}
 use Rattle.c_parse_expression.specs.declared.expression.Scope.{Scope}
 
@@ -49,15 +50,38 @@ tree_of x = expression_of x.value
 abbrev pub type_of : Box TypeName Global → tree.TypeName
 type_of x = type_name_of x.value
 
--- the operators of an expression that was read, after so many, or after a part of it that was read before
-abbrev pub operators_in : Box Expression Global → ℕ
-operators_in x = operators (tree_of x)
+-- What a parser of a part reads: the value and the tokens after it are those that the reference parser gives, `Moves`
+-- relates the value to the operators that are counted after it, and `Shrinks` the tokens after it to those before.
+pub record Took {X Y : Type 0} (outcome : Outcome Placed Role Y) (view : X → Y) (Moves : Y → ℕ → Type 0) (Shrinks : Tokens → Tokens → Type 0) (old new : Tokens) (x : X) : Type 0 where
+  pub gives : outcome ≡ Ok (view x, list_of new.rest.now)
+  pub counted : Moves (view x) new.count
+  pub shorter : Shrinks new old
 
-abbrev pub Counts : {X E : Type 0} → (count : X → ℕ) → (before after : ℕ) → (result : Result X E) → Type 0
-Counts count before after result = IfOk result (λ x. IsCounted before (count x) after)
+-- the same, or the fault that the reference parser gives, or out of memory
+abbrev pub Given : {X Y : Type 0} → (outcome : Outcome Placed Role Y) → (view : X → Y) → (Moves : Y → ℕ → Type 0) → (Shrinks : Tokens → Tokens → Type 0) → (old new : Tokens) → Result X Stopped → Type 0
+Given outcome view Moves Shrinks old new (Ok x) = Took outcome view Moves Shrinks old new x
+Given {X = X} outcome view Moves Shrinks old new (Err stopped) = Gives {X = X} outcome view new.rest.now (Err stopped)
 
-abbrev pub CountsAfter : {E : Type 0} → (part : tree.Expression) → (before after : ℕ) → (result : Result (Box Expression Global) E) → Type 0
-CountsAfter part before after result = IfOk result (λ x. (after + operators part ≡ before + operators_in x) × (after ≤ operator_limit))
+abbrev pub Reads : {X Y : Type 0} → (reader : Parser Placed Role Y) → (view : X → Y) → (Moves : Y → ℕ → Type 0) → (Shrinks : Tokens → Tokens → Type 0) → (old new : Tokens) → Result X Stopped → Type 0
+Reads reader view Moves Shrinks old new result = Given (reader (list_of old.rest.now)) view Moves Shrinks old new result
+
+-- no limit is exceeded yet
+abbrev pub Fits : Scope → Tokens → Type 0
+Fits scope tokens = (scope.depth ≤ nesting_limit) × (tokens.count ≤ operator_limit)
+
+-- the operators of a part are counted after so many, or those of an expression after those of a part of it that was read before
+abbrev pub Counts : {Y : Type 0} → (operators_of : Y → ℕ) → (before : ℕ) → Y → (after : ℕ) → Type 0
+Counts operators_of before y after = IsCounted before (operators_of y) after
+
+abbrev pub CountsAfter : (part : tree.Expression) → (before : ℕ) → tree.Expression → (after : ℕ) → Type 0
+CountsAfter part before x after = (after + operators part ≡ before + operators x) × (after ≤ operator_limit)
+
+-- an expression is read, and one that begins with a part that was read before
+abbrev pub ReadsExpression : (reader : Parser Placed Role tree.Expression) → (before : ℕ) → (old new : Tokens) → Result (Box Expression Global) Stopped → Type 0
+ReadsExpression reader before old new result = Reads reader tree_of (Counts operators before) IsNoLonger old new result
+
+abbrev pub ReadsAfter : (reader : Parser Placed Role tree.Expression) → (part : tree.Expression) → (Shrinks : Tokens → Tokens → Type 0) → (old new : Tokens) → Result (Box Expression Global) Stopped → Type 0
+ReadsAfter reader part Shrinks old new result = Reads reader tree_of (CountsAfter part old.count) Shrinks old new result
 
 -- an expression and the punctuator that ends it
 abbrev pub read_ended : Parsers → (depth count : ℕ) → (end : Punctuator) → Parser Placed Role tree.Expression
@@ -103,6 +127,14 @@ type_in parser scope tokens = parser (around scope) scope.depth (counting_in sco
 abbrev pub IsAdvanced : (is_alone : Bool) → (before more after : ℕ) → Type 0
 IsAdvanced is_alone before more after = (advance (counting_of is_alone before) more ≡ counting_of is_alone after) × (after ≤ operator_limit)
 
+-- the operators of a part of a type are counted after so many
+abbrev pub Advances : {Y : Type 0} → (operators_of : Y → ℕ) → (is_alone : Bool) → (before : ℕ) → Y → (after : ℕ) → Type 0
+Advances operators_of is_alone before y after = IsAdvanced is_alone before (operators_of y) after
+
+-- a part of a type is read
+abbrev pub ReadsPart : {X Y : Type 0} → (reader : Parsers → (depth : ℕ) → Counting → Parser Placed Role Y) → (view : X → Y) → (operators_of : Y → ℕ) → (Shrinks : Tokens → Tokens → Type 0) → Scope → (old new : Tokens) → Result X Stopped → Type 0
+ReadsPart reader view operators_of Shrinks scope old new result = Reads (type_in reader scope old) view (Advances operators_of scope.is_alone old.count) Shrinks old new result
+
 -- the trees of parts of types, and of lists of them
 abbrev pub specified_of : Box Specifiers Global → tree.Specifiers
 specified_of x = specifiers_of x.value
@@ -133,6 +165,13 @@ constant_row x = constant_of x.value
 
 abbrev pub constant_rows : Vec (Box Constant Global) Global → List (tree.Name × Option tree.Expression)
 constant_rows rows = map constant_of (unboxed rows)
+
+-- the operators of an array, and of constants with what is expected after them
+abbrev pub operators_of_array : Bool × tree.Expressions → ℕ
+operators_of_array array = operators_of_lengths array.1
+
+abbrev pub operators_of_rows : List (tree.Name × Option tree.Expression) × Role → ℕ
+operators_of_rows read = operators_of_constants (constants_of read.0)
 
 -- a declaration of members, and such declarations
 abbrev pub read_member_row : Parsers → (depth : ℕ) → (counting : Counting) → Parser Placed Role (tree.Specifiers × tree.Declarators)

@@ -1,15 +1,14 @@
 //! Expressions (6.5).
 
-ghost use Rattle.std.specs.Prelude.{◌≡◌, ◌≤◌, ◌<◌, ◌+◌, IfOk, suc};
+ghost use Rattle.std.specs.Prelude.{◌≡◌, ◌≤◌, ◌<◌, ◌+◌, suc};
 ghost use Rattle.c_grammar_spec.specs.Expressions.{operators, operators_of_type};
 ghost use Rattle.c_expression_laws.specs.Parsers as parsers;
-ghost use Rattle.c_parse_token.specs.Lists.{IsCounted, Parses, IsShorter, IsNoLonger};
-ghost use Rattle.c_parse_expression.specs.Steps.{tree_of, type_of};
-ghost use Rattle.c_parse_expression.specs.Steps.{read_ended};
+ghost use Rattle.c_parse_token.specs.Lists.{IsShorter, IsNoLonger};
+ghost use Rattle.c_parse_expression.specs.Steps.{tree_of, type_of, read_ended};
 ghost use Rattle.c_parse_expression.specs.Steps.{read_operation_after, read_suffix_after};
 ghost use Rattle.c_parse_expression.specs.Steps.{read_index_after, read_sized_in_brackets};
-ghost use Rattle.c_parse_expression.specs.Steps.{around, names_in, operators_in, Counts};
-ghost use Rattle.c_parse_expression.specs.Steps.{CountsAfter, expression_in};
+ghost use Rattle.c_parse_expression.specs.Steps.{around, names_in, expression_in, Fits, Counts};
+ghost use Rattle.c_parse_expression.specs.Steps.{Reads, ReadsExpression, ReadsAfter};
 ghost use Rattle.c_grammar_spec.specs.Limits.{nesting_limit, operator_limit};
 
 use crate::operand::{atom, member as member_access};
@@ -42,12 +41,9 @@ pub type Parsed<T> = Result<Box<T>, Stopped>;
 // A conditional expression (6.5.15).
 #[cycle(parser)]
 pub fn conditional<'t>(scope: Scope<'_, 't>, tokens: &mut Tokens<'t>) -> Parsed<Expression<'t>>
-    requires depth { scope.depth ≤ nesting_limit }
-    requires count { tokens.old.count ≤ operator_limit }
-    ensures gives { Parses ((around scope.entry).conditional scope.entry.depth tokens.old.count)
-        tree_of tokens.old tokens.new result }
-    ensures counted { Counts operators_in tokens.old.count tokens.new.count result }
-    ensures shorter { IfOk result (λ _. IsNoLonger tokens.new tokens.old) }
+    requires fits { Fits scope tokens.old }
+    ensures { ReadsExpression ((around scope.entry).conditional scope.entry.depth tokens.old.count)
+        tokens.old.count tokens.old tokens.new result }
 {
     if scope.fuel == 0 {
         return Err(Stopped::At(Fault::LimitExceeded));
@@ -62,18 +58,15 @@ pub fn conditional<'t>(scope: Scope<'_, 't>, tokens: &mut Tokens<'t>) -> Parsed<
 // A condition, and the values that it chooses from, if there are some.
 #[cycle(parser)]
 fn choice<'t>(scope: Scope<'_, 't>, tokens: &mut Tokens<'t>) -> Parsed<Expression<'t>>
-    requires depth { scope.depth ≤ nesting_limit }
-    requires count { tokens.old.count ≤ operator_limit }
-    ensures gives { Parses (expression_in parsers.read_conditional scope.entry tokens.old) tree_of
-        tokens.old tokens.new result }
-    ensures counted { Counts operators_in tokens.old.count tokens.new.count result }
-    ensures shorter { IfOk result (λ _. IsNoLonger tokens.new tokens.old) }
+    requires fits { Fits scope tokens.old }
+    ensures { ReadsExpression (expression_in parsers.read_conditional scope.entry tokens.old)
+        tokens.old.count tokens.old tokens.new result }
 {
     let test = binary(scope, tokens, 10)?;
     if !tokens.next_is(Punctuator::Question) {
         return Ok(test);
     }
-    chosen(scope, tokens, test)
+    Ok(chosen(scope, tokens, test)?)
 }
 
 // After a condition `?` and two values.
@@ -83,12 +76,10 @@ fn chosen<'t>(
     tokens: &mut Tokens<'t>,
     test: Box<Expression<'t>>,
 ) -> Parsed<Expression<'t>>
-    requires depth { scope.depth ≤ nesting_limit }
-    requires count { tokens.old.count ≤ operator_limit }
-    ensures gives { Parses (parsers.read_choice (around scope.entry) scope.entry.depth
-        tokens.old.count (tree_of test.entry)) tree_of tokens.old tokens.new result }
-    ensures counted { CountsAfter (tree_of test.entry) tokens.old.count tokens.new.count result }
-    ensures shorter { IfOk result (λ _. IsNoLonger tokens.new tokens.old) }
+    requires fits { Fits scope tokens.old }
+    ensures { ReadsAfter (parsers.read_choice (around scope.entry) scope.entry.depth
+        tokens.old.count (tree_of test.entry)) (tree_of test.entry) IsNoLonger tokens.old tokens.new
+        result }
 {
     let offset = tokens.operator(Punctuator::Question)?;
     let first = ended(scope, tokens, Punctuator::Colon)?;
@@ -103,12 +94,9 @@ pub fn ended<'t>(
     tokens: &mut Tokens<'t>,
     end: Punctuator,
 ) -> Parsed<Expression<'t>>
-    requires depth { scope.depth ≤ nesting_limit }
-    requires count { tokens.old.count ≤ operator_limit }
-    ensures gives { Parses (read_ended (around scope.entry) scope.entry.depth tokens.old.count end)
-        tree_of tokens.old tokens.new result }
-    ensures counted { Counts operators_in tokens.old.count tokens.new.count result }
-    ensures shorter { IfOk result (λ _. IsNoLonger tokens.new tokens.old) }
+    requires fits { Fits scope tokens.old }
+    ensures { ReadsExpression (read_ended (around scope.entry) scope.entry.depth tokens.old.count
+        end) tokens.old.count tokens.old tokens.new result }
 {
     let x = conditional(scope, tokens)?;
     tokens.mark(end, Role::OperandEnd)?;
@@ -118,13 +106,10 @@ pub fn ended<'t>(
 // The operators of the levels up to this one, and their operands (6.5.5 to 6.5.14).
 #[cycle(parser)]
 fn binary<'t>(scope: Scope<'_, 't>, tokens: &mut Tokens<'t>, level: u8) -> Parsed<Expression<'t>>
-    requires depth { scope.depth ≤ nesting_limit }
-    requires count { tokens.old.count ≤ operator_limit }
+    requires fits { Fits scope tokens.old }
     requires level { level ≤ 10 }
-    ensures gives { Parses (parsers.read_binary (around scope.entry) scope.entry.depth level
-        tokens.old.count) tree_of tokens.old tokens.new result }
-    ensures counted { Counts operators_in tokens.old.count tokens.new.count result }
-    ensures shorter { IfOk result (λ _. IsNoLonger tokens.new tokens.old) }
+    ensures { ReadsExpression (parsers.read_binary (around scope.entry) scope.entry.depth level
+        tokens.old.count) tokens.old.count tokens.old tokens.new result }
 {
     let before = tokens.count;
     let mut x = cast(scope, tokens)?;
@@ -145,14 +130,11 @@ fn operations<'t>(
     before: usize,
     first: Box<Expression<'t>>,
 ) -> Parsed<Expression<'t>>
-    requires depth { scope.depth ≤ nesting_limit }
-    requires count { tokens.old.count ≤ operator_limit }
+    requires fits { Fits scope tokens.old }
     requires level { level < 10 }
     requires before { tokens.old.count ≡ before + operators (tree_of first) }
-    ensures gives { Parses (parsers.read_operations (around scope.entry) scope.entry.depth level
-        before (tree_of first.entry)) tree_of tokens.old tokens.new result }
-    ensures counted { Counts operators_in before tokens.new.count result }
-    ensures shorter { IfOk result (λ _. IsNoLonger tokens.new tokens.old) }
+    ensures { ReadsExpression (parsers.read_operations (around scope.entry) scope.entry.depth level
+        before (tree_of first.entry)) before tokens.old tokens.new result }
 {
     let mut left = first;
     'items: while tokens.starts_level(level + 1) {
@@ -169,13 +151,11 @@ fn operation<'t>(
     level: u8,
     left: Box<Expression<'t>>,
 ) -> Parsed<Expression<'t>>
-    requires depth { scope.depth ≤ nesting_limit }
-    requires count { tokens.old.count ≤ operator_limit }
+    requires fits { Fits scope tokens.old }
     requires level { level < 10 }
-    ensures gives { Parses (read_operation_after (around scope.entry) scope.entry.depth level
-        tokens.old.count (tree_of left.entry)) tree_of tokens.old tokens.new result }
-    ensures counted { CountsAfter (tree_of left.entry) tokens.old.count tokens.new.count result }
-    ensures shorter { IfOk result (λ _. IsShorter tokens.new tokens.old) }
+    ensures { ReadsAfter (read_operation_after (around scope.entry) scope.entry.depth level
+        tokens.old.count (tree_of left.entry)) (tree_of left.entry) IsShorter tokens.old tokens.new
+        result }
 {
     let (operator, offset) = tokens.infix(level + 1)?;
     let right = binary(scope, tokens, level)?;
@@ -185,12 +165,9 @@ fn operation<'t>(
 // A cast (6.5.4).
 #[cycle(parser)]
 fn cast<'t>(scope: Scope<'_, 't>, tokens: &mut Tokens<'t>) -> Parsed<Expression<'t>>
-    requires depth { scope.depth ≤ nesting_limit }
-    requires count { tokens.old.count ≤ operator_limit }
-    ensures gives { Parses ((around scope.entry).cast scope.entry.depth tokens.old.count) tree_of
-        tokens.old tokens.new result }
-    ensures counted { Counts operators_in tokens.old.count tokens.new.count result }
-    ensures shorter { IfOk result (λ _. IsNoLonger tokens.new tokens.old) }
+    requires fits { Fits scope tokens.old }
+    ensures { ReadsExpression ((around scope.entry).cast scope.entry.depth tokens.old.count)
+        tokens.old.count tokens.old tokens.new result }
 {
     if scope.fuel == 0 {
         return Err(Stopped::At(Fault::LimitExceeded));
@@ -205,12 +182,9 @@ fn cast<'t>(scope: Scope<'_, 't>, tokens: &mut Tokens<'t>) -> Parsed<Expression<
 // A type in brackets and its operand, or a unary expression.
 #[cycle(parser)]
 fn operand<'t>(scope: Scope<'_, 't>, tokens: &mut Tokens<'t>) -> Parsed<Expression<'t>>
-    requires depth { scope.depth ≤ nesting_limit }
-    requires count { tokens.old.count ≤ operator_limit }
-    ensures gives { Parses (expression_in (parsers.read_cast (names_in scope.entry)) scope.entry
-        tokens.old) tree_of tokens.old tokens.new result }
-    ensures counted { Counts operators_in tokens.old.count tokens.new.count result }
-    ensures shorter { IfOk result (λ _. IsNoLonger tokens.new tokens.old) }
+    requires fits { Fits scope tokens.old }
+    ensures { ReadsExpression (expression_in (parsers.read_cast (names_in scope.entry)) scope.entry
+        tokens.old) tokens.old.count tokens.old tokens.new result }
 {
     if !tokens.next_is(Punctuator::LeftParenthesis) {
         return unary(scope, tokens);
@@ -218,10 +192,9 @@ fn operand<'t>(scope: Scope<'_, 't>, tokens: &mut Tokens<'t>) -> Parsed<Expressi
     let before = tokens.count;
     let offset = tokens.bracket(Punctuator::LeftParenthesis, scope.depth)?;
     if tokens.starts_type(scope.names) {
-        converted(scope, tokens, before, offset)
-    } else {
-        bracketed(scope, tokens, before, offset)
+        return Ok(converted(scope, tokens, before, offset)?);
     }
+    Ok(bracketed(scope, tokens, before, offset)?)
 }
 
 // After `(` a type, its bracket and an operand.
@@ -235,10 +208,8 @@ fn converted<'t>(
     requires depth { scope.depth < nesting_limit }
     requires count { tokens.old.count ≤ operator_limit }
     requires before { tokens.old.count ≡ suc before }
-    ensures gives { Parses (parsers.read_converted (around scope.entry) scope.entry.depth before
-        offset) tree_of tokens.old tokens.new result }
-    ensures counted { Counts operators_in before tokens.new.count result }
-    ensures shorter { IfOk result (λ _. IsNoLonger tokens.new tokens.old) }
+    ensures { ReadsExpression (parsers.read_converted (around scope.entry) scope.entry.depth before
+        offset) before tokens.old tokens.new result }
 {
     let to = bracketed_type(scope, tokens)?;
     let operand = cast(scope, tokens)?;
@@ -250,11 +221,8 @@ fn converted<'t>(
 fn bracketed_type<'t>(scope: Scope<'_, 't>, tokens: &mut Tokens<'t>) -> Parsed<TypeName<'t>>
     requires depth { scope.depth < nesting_limit }
     requires count { tokens.old.count ≤ operator_limit }
-    ensures gives { Parses (expression_in parsers.read_type scope.entry tokens.old) type_of
-        tokens.old tokens.new result }
-    ensures counted { IfOk result (λ x. IsCounted tokens.old.count (operators_of_type (type_of x))
-        tokens.new.count) }
-    ensures shorter { IfOk result (λ _. IsNoLonger tokens.new tokens.old) }
+    ensures { Reads (expression_in parsers.read_type scope.entry tokens.old) type_of (Counts
+        operators_of_type tokens.old.count) IsNoLonger tokens.old tokens.new result }
 {
     let deeper = Scope {
         depth: scope.depth + 1,
@@ -277,10 +245,8 @@ pub fn bracketed<'t>(
     requires depth { scope.depth < nesting_limit }
     requires count { tokens.old.count ≤ operator_limit }
     requires before { tokens.old.count ≡ suc before }
-    ensures gives { Parses (parsers.read_bracketed (around scope.entry) scope.entry.depth before
-        offset) tree_of tokens.old tokens.new result }
-    ensures counted { Counts operators_in before tokens.new.count result }
-    ensures shorter { IfOk result (λ _. IsNoLonger tokens.new tokens.old) }
+    ensures { ReadsExpression (parsers.read_bracketed (around scope.entry) scope.entry.depth before
+        offset) before tokens.old tokens.new result }
 {
     let deeper = Scope {
         depth: scope.depth + 1,
@@ -288,7 +254,7 @@ pub fn bracketed<'t>(
     };
     let inner = ended(deeper, tokens, Punctuator::RightParenthesis)?;
     let first = Expression::bracketed(scope.alloc, inner, offset)?;
-    suffixes(scope, tokens, before, first)
+    Ok(suffixes(scope, tokens, before, first)?)
 }
 
 // `[`, `.` and `->` after a first part (6.5.2).
@@ -299,13 +265,10 @@ fn suffixes<'t>(
     before: usize,
     first: Box<Expression<'t>>,
 ) -> Parsed<Expression<'t>>
-    requires depth { scope.depth ≤ nesting_limit }
-    requires count { tokens.old.count ≤ operator_limit }
+    requires fits { Fits scope tokens.old }
     requires before { tokens.old.count ≡ before + operators (tree_of first) }
-    ensures gives { Parses (parsers.read_suffixes_after (around scope.entry) scope.entry.depth
-        before (tree_of first.entry)) tree_of tokens.old tokens.new result }
-    ensures counted { Counts operators_in before tokens.new.count result }
-    ensures shorter { IfOk result (λ _. IsNoLonger tokens.new tokens.old) }
+    ensures { ReadsExpression (parsers.read_suffixes_after (around scope.entry) scope.entry.depth
+        before (tree_of first.entry)) before tokens.old tokens.new result }
 {
     let mut base = first;
     'items: while tokens.starts_suffix() {
@@ -321,12 +284,9 @@ fn suffix<'t>(
     tokens: &mut Tokens<'t>,
     base: Box<Expression<'t>>,
 ) -> Parsed<Expression<'t>>
-    requires depth { scope.depth ≤ nesting_limit }
-    requires count { tokens.old.count ≤ operator_limit }
-    ensures gives { Parses (read_suffix_after (around scope.entry) scope.entry.depth
-        tokens.old.count (tree_of base.entry)) tree_of tokens.old tokens.new result }
-    ensures counted { CountsAfter (tree_of base.entry) tokens.old.count tokens.new.count result }
-    ensures shorter { IfOk result (λ _. IsShorter tokens.new tokens.old) }
+    requires fits { Fits scope tokens.old }
+    ensures { ReadsAfter (read_suffix_after (around scope.entry) scope.entry.depth tokens.old.count
+        (tree_of base.entry)) (tree_of base.entry) IsShorter tokens.old tokens.new result }
 {
     if tokens.next_is(Punctuator::LeftBracket) {
         index(scope, tokens, base)
@@ -342,12 +302,9 @@ fn index<'t>(
     tokens: &mut Tokens<'t>,
     base: Box<Expression<'t>>,
 ) -> Parsed<Expression<'t>>
-    requires depth { scope.depth ≤ nesting_limit }
-    requires count { tokens.old.count ≤ operator_limit }
-    ensures gives { Parses (read_index_after (around scope.entry) scope.entry.depth tokens.old.count
-        (tree_of base.entry)) tree_of tokens.old tokens.new result }
-    ensures counted { CountsAfter (tree_of base.entry) tokens.old.count tokens.new.count result }
-    ensures shorter { IfOk result (λ _. IsShorter tokens.new tokens.old) }
+    requires fits { Fits scope tokens.old }
+    ensures { ReadsAfter (read_index_after (around scope.entry) scope.entry.depth tokens.old.count
+        (tree_of base.entry)) (tree_of base.entry) IsShorter tokens.old tokens.new result }
 {
     let offset = tokens.bracket(Punctuator::LeftBracket, scope.depth)?;
     let deeper = Scope {
@@ -361,12 +318,9 @@ fn index<'t>(
 // A unary expression (6.5.3) that begins with no bracket.
 #[cycle(parser)]
 pub fn unary<'t>(scope: Scope<'_, 't>, tokens: &mut Tokens<'t>) -> Parsed<Expression<'t>>
-    requires depth { scope.depth ≤ nesting_limit }
-    requires count { tokens.old.count ≤ operator_limit }
-    ensures gives { Parses ((around scope.entry).unary scope.entry.depth tokens.old.count) tree_of
-        tokens.old tokens.new result }
-    ensures counted { Counts operators_in tokens.old.count tokens.new.count result }
-    ensures shorter { IfOk result (λ _. IsNoLonger tokens.new tokens.old) }
+    requires fits { Fits scope tokens.old }
+    ensures { ReadsExpression ((around scope.entry).unary scope.entry.depth tokens.old.count)
+        tokens.old.count tokens.old tokens.new result }
 {
     if scope.fuel == 0 {
         return Err(Stopped::At(Fault::LimitExceeded));
@@ -381,12 +335,9 @@ pub fn unary<'t>(scope: Scope<'_, 't>, tokens: &mut Tokens<'t>) -> Parsed<Expres
 // An operator and its operand, `sizeof` and its operand, or a postfix expression.
 #[cycle(parser)]
 fn prefix_or_postfix<'t>(scope: Scope<'_, 't>, tokens: &mut Tokens<'t>) -> Parsed<Expression<'t>>
-    requires depth { scope.depth ≤ nesting_limit }
-    requires count { tokens.old.count ≤ operator_limit }
-    ensures gives { Parses (expression_in (parsers.read_unary (names_in scope.entry)) scope.entry
-        tokens.old) tree_of tokens.old tokens.new result }
-    ensures counted { Counts operators_in tokens.old.count tokens.new.count result }
-    ensures shorter { IfOk result (λ _. IsNoLonger tokens.new tokens.old) }
+    requires fits { Fits scope tokens.old }
+    ensures { ReadsExpression (expression_in (parsers.read_unary (names_in scope.entry)) scope.entry
+        tokens.old) tokens.old.count tokens.old tokens.new result }
 {
     if tokens.starts_prefix() {
         return prefixed(scope, tokens);
@@ -396,18 +347,15 @@ fn prefix_or_postfix<'t>(scope: Scope<'_, 't>, tokens: &mut Tokens<'t>) -> Parse
     }
     let before = tokens.count;
     let first = atom(scope.alloc, tokens, scope.names)?;
-    suffixes(scope, tokens, before, first)
+    Ok(suffixes(scope, tokens, before, first)?)
 }
 
 // An operator before its operand.
 #[cycle(parser)]
 fn prefixed<'t>(scope: Scope<'_, 't>, tokens: &mut Tokens<'t>) -> Parsed<Expression<'t>>
-    requires depth { scope.depth ≤ nesting_limit }
-    requires count { tokens.old.count ≤ operator_limit }
-    ensures gives { Parses (expression_in parsers.read_prefixed scope.entry tokens.old) tree_of
-        tokens.old tokens.new result }
-    ensures counted { Counts operators_in tokens.old.count tokens.new.count result }
-    ensures shorter { IfOk result (λ _. IsNoLonger tokens.new tokens.old) }
+    requires fits { Fits scope tokens.old }
+    ensures { ReadsExpression (expression_in parsers.read_prefixed scope.entry tokens.old)
+        tokens.old.count tokens.old tokens.new result }
 {
     let (operator, offset) = tokens.prefix()?;
     let operand = cast(scope, tokens)?;
@@ -417,19 +365,16 @@ fn prefixed<'t>(scope: Scope<'_, 't>, tokens: &mut Tokens<'t>) -> Parsed<Express
 // `sizeof` and its operand.
 #[cycle(parser)]
 fn size<'t>(scope: Scope<'_, 't>, tokens: &mut Tokens<'t>) -> Parsed<Expression<'t>>
-    requires depth { scope.depth ≤ nesting_limit }
-    requires count { tokens.old.count ≤ operator_limit }
-    ensures gives { Parses (expression_in (parsers.read_sizeof (names_in scope.entry)) scope.entry
-        tokens.old) tree_of tokens.old tokens.new result }
-    ensures counted { Counts operators_in tokens.old.count tokens.new.count result }
-    ensures shorter { IfOk result (λ _. IsNoLonger tokens.new tokens.old) }
+    requires fits { Fits scope tokens.old }
+    ensures { ReadsExpression (expression_in (parsers.read_sizeof (names_in scope.entry))
+        scope.entry tokens.old) tokens.old.count tokens.old tokens.new result }
 {
     let offset = tokens.sizeof_word()?;
     if !tokens.next_is(Punctuator::LeftParenthesis) {
         let operand = unary(scope, tokens)?;
         return Ok(Expression::sizeof(scope.alloc, operand, offset)?);
     }
-    size_in_brackets(scope, tokens, offset)
+    Ok(size_in_brackets(scope, tokens, offset)?)
 }
 
 // What is after `sizeof` where it begins with `(`: nothing is after a type in brackets.
@@ -439,13 +384,10 @@ fn size_in_brackets<'t>(
     tokens: &mut Tokens<'t>,
     offset: usize,
 ) -> Parsed<Expression<'t>>
-    requires depth { scope.depth ≤ nesting_limit }
-    requires count { tokens.old.count ≤ operator_limit }
-    ensures gives { Parses (read_sized_in_brackets (names_in scope.entry) (around scope.entry)
-        scope.entry.depth tokens.old.count offset) tree_of tokens.old tokens.new result }
-    ensures counted { IfOk result (λ x. (suc tokens.new.count ≡ tokens.old.count + operators
-        (tree_of x)) × (tokens.new.count ≤ operator_limit)) }
-    ensures shorter { IfOk result (λ _. IsNoLonger tokens.new tokens.old) }
+    requires fits { Fits scope tokens.old }
+    ensures { Reads (read_sized_in_brackets (names_in scope.entry) (around scope.entry)
+        scope.entry.depth tokens.old.count offset) tree_of (λ x after. (suc after ≡ tokens.old.count
+        + operators x) × (after ≤ operator_limit)) IsNoLonger tokens.old tokens.new result }
 {
     let before = tokens.count;
     let opened = tokens.bracket(Punctuator::LeftParenthesis, scope.depth)?;

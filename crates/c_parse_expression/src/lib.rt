@@ -57,7 +57,7 @@ pub fn conditional<'t>(
         (operators (expression_of x.value)) tokens.new.count) }
     ensures shorter { IfOk result (λ _. IsNoLonger tokens.new tokens.old) }
 {
-    expression::conditional(scope(alloc, names, depth), tokens)
+    Ok(expression::conditional(scope(alloc, names, depth), tokens)?)
 }
 
 /// A whole expression: a conditional expression with no operator before it.
@@ -75,7 +75,7 @@ pub fn whole<'t>(
     ensures shorter { IfOk result (λ _. IsNoLonger tokens.new tokens.old) }
 {
     tokens.count = 0;
-    expression::conditional(scope(alloc, names, depth), tokens)
+    Ok(expression::conditional(scope(alloc, names, depth), tokens)?)
 }
 
 /// A unary expression (6.5.3).
@@ -94,11 +94,11 @@ pub fn any_unary<'t>(
     ensures shorter { IfOk result (λ _. IsNoLonger tokens.new tokens.old) }
 {
     if !tokens.next_is(Punctuator::LeftParenthesis) {
-        return expression::unary(scope(alloc, names, depth), tokens);
+        return Ok(expression::unary(scope(alloc, names, depth), tokens)?);
     }
     let before = tokens.count;
     let offset = tokens.bracket(Punctuator::LeftParenthesis, depth)?;
-    expression::bracketed(scope(alloc, names, depth), tokens, before, offset)
+    Ok(expression::bracketed(scope(alloc, names, depth), tokens, before, offset)?)
 }
 
 /// Specifiers (6.7) without storage-class words, as in a type name, a member or a parameter.
@@ -118,7 +118,7 @@ pub fn specifiers<'t>(
         is_alone: true,
         ..scope(alloc, names, depth)
     };
-    specifier::specifiers(alone, tokens)
+    Ok(specifier::specifiers(alone, tokens)?)
 }
 
 /// What follows the first token of a type specifier (6.7.2).
@@ -140,7 +140,7 @@ pub fn base<'t>(
         is_alone: true,
         ..scope(alloc, names, depth)
     };
-    specifier::base(alone, tokens, head)
+    Ok(specifier::base(alone, tokens, head)?)
 }
 
 /// The lengths of an array, and whether the first is left out (6.7.6.2).
@@ -160,5 +160,5 @@ pub fn dimensions<'t>(
         is_alone: true,
         ..scope(alloc, names, depth)
     };
-    specifier::dimensions(alone, tokens)
+    Ok(specifier::dimensions(alone, tokens)?)
 }

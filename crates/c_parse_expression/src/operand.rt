@@ -8,7 +8,7 @@ ghost use Rattle.c_expression_laws.specs.Classes.{atom_at};
 ghost use Rattle.c_expression_laws.specs.Parsers.{token};
 ghost use Rattle.c_parse_token.specs.Lists.{names_of, Parses, IsShorter};
 ghost use Rattle.c_parse_expression.specs.Steps.{tree_of, read_member_after, counting_of};
-ghost use Rattle.c_parse_expression.specs.Steps.{CountsAfter};
+ghost use Rattle.c_parse_expression.specs.Steps.{ReadsAfter};
 ghost use Rattle.c_grammar_spec.specs.Limits.{operator_limit};
 
 use c_grammar_spec::Role;
@@ -52,10 +52,8 @@ pub fn member<'t>(
     base: Box<Expression<'t>>,
 ) -> Result<Box<Expression<'t>>, Stopped>
     requires count { tokens.old.count ≤ operator_limit }
-    ensures gives { Parses (read_member_after tokens.old.count (tree_of base.entry)) tree_of
-        tokens.old tokens.new result }
-    ensures counted { CountsAfter (tree_of base.entry) tokens.old.count tokens.new.count result }
-    ensures shorter { IfOk result (λ _. IsShorter tokens.new tokens.old) }
+    ensures { ReadsAfter (read_member_after tokens.old.count (tree_of base.entry)) (tree_of
+        base.entry) IsShorter tokens.old tokens.new result }
 {
     let (access, offset) = tokens.access()?;
     let name = tokens.name(Role::Nothing)?;

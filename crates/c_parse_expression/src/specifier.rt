@@ -1,17 +1,12 @@
 //! The types in expressions, and the specifiers and arrays of declarations (6.7).
 
-ghost use Rattle.std.specs.Prelude.{◌≡◌, ◌≤◌, ◌<◌, IfOk};
-ghost use Rattle.c_grammar_spec.specs.Expressions.{operators, operators_of_type};
-ghost use Rattle.c_grammar_spec.specs.Expressions.{operators_of_specifiers};
-ghost use Rattle.c_grammar_spec.specs.Expressions.{operators_of_type_specifier};
-ghost use Rattle.c_grammar_spec.specs.Expressions.{operators_of_members, operators_of_declarators};
-ghost use Rattle.c_grammar_spec.specs.Expressions.{operators_of_declarator, operators_of_lengths};
-ghost use Rattle.c_grammar_spec.specs.Expressions.{operators_of_constants, advance};
+ghost use Rattle.std.specs.Prelude.{◌≡◌, ◌≤◌, ◌<◌};
+ghost use Rattle.c_grammar_spec.specs.Expressions as grammar;
 ghost use Rattle.c_expression_laws.specs.Classes.{name_at};
 ghost use Rattle.c_expression_laws.specs.Types as types;
 ghost use Rattle.c_syntax.specs.Expressions.{expressions_in, declarators_in, members_in};
 ghost use Rattle.c_syntax.specs.Expressions.{constants_in};
-ghost use Rattle.c_parse_token.specs.Lists.{Parses, IsShorter, IsNoLonger};
+ghost use Rattle.c_parse_token.specs.Lists.{IsShorter, IsNoLonger};
 ghost use Rattle.c_parse_token.specs.Words.{head_of};
 ghost use Rattle.c_parse_expression.specs.Steps.{tree_of, type_of, specified_of, specifier_of};
 ghost use Rattle.c_parse_expression.specs.Steps.{member_row, declarator_row, array_of, length_rows};
@@ -20,8 +15,9 @@ ghost use Rattle.c_parse_expression.specs.Steps.{read_all_members, read_member_r
 ghost use Rattle.c_parse_expression.specs.Steps.{read_more_declarators, read_next_declarator};
 ghost use Rattle.c_parse_expression.specs.Steps.{read_open_array, read_given_array};
 ghost use Rattle.c_parse_expression.specs.Steps.{read_lengths_from, read_constants_from};
-ghost use Rattle.c_parse_expression.specs.Steps.{counting_of, IsAdvanced};
-ghost use Rattle.c_parse_expression.specs.Steps.{around, names_in, type_in, counting_in};
+ghost use Rattle.c_parse_expression.specs.Steps.{operators_of_array, operators_of_rows};
+ghost use Rattle.c_parse_expression.specs.Steps.{counting_of, counting_in, around, names_in};
+ghost use Rattle.c_parse_expression.specs.Steps.{Fits, Advances, Reads, ReadsPart};
 ghost use Rattle.c_grammar_spec.specs.Limits.{nesting_limit, operator_limit};
 
 use crate::ends::{constant_end, member_end};
@@ -48,13 +44,9 @@ const NO_STORAGE: Storage = Storage {
 // The type of a cast or of `sizeof` (6.7.7).
 #[cycle(parser)]
 pub fn type_name<'t>(scope: Scope<'_, 't>, tokens: &mut Tokens<'t>) -> Parsed<TypeName<'t>>
-    requires depth { scope.depth ≤ nesting_limit }
-    requires count { tokens.old.count ≤ operator_limit }
-    ensures gives { Parses ((around scope.entry).type_name scope.entry.depth
-        (counting_in scope.entry tokens.old)) type_of tokens.old tokens.new result }
-    ensures counted { IfOk result (λ x. IsAdvanced scope.entry.is_alone tokens.old.count
-        (operators_of_type (type_of x)) tokens.new.count) }
-    ensures shorter { IfOk result (λ _. IsNoLonger tokens.new tokens.old) }
+    requires fits { Fits scope tokens.old }
+    ensures { ReadsPart (λ inner. inner.type_name) type_of grammar.operators_of_type IsNoLonger
+        scope.entry tokens.old tokens.new result }
 {
     if scope.fuel == 0 {
         return Err(Stopped::At(Fault::LimitExceeded));
@@ -69,13 +61,9 @@ pub fn type_name<'t>(scope: Scope<'_, 't>, tokens: &mut Tokens<'t>) -> Parsed<Ty
 // Specifiers and `*`.
 #[cycle(parser)]
 fn pointed<'t>(scope: Scope<'_, 't>, tokens: &mut Tokens<'t>) -> Parsed<TypeName<'t>>
-    requires depth { scope.depth ≤ nesting_limit }
-    requires count { tokens.old.count ≤ operator_limit }
-    ensures gives { Parses (type_in (types.read_type_name (names_in scope.entry)) scope.entry
-        tokens.old) type_of tokens.old tokens.new result }
-    ensures counted { IfOk result (λ x. IsAdvanced scope.entry.is_alone tokens.old.count
-        (operators_of_type (type_of x)) tokens.new.count) }
-    ensures shorter { IfOk result (λ _. IsNoLonger tokens.new tokens.old) }
+    requires fits { Fits scope tokens.old }
+    ensures { ReadsPart (types.read_type_name (names_in scope.entry)) type_of
+        grammar.operators_of_type IsNoLonger scope.entry tokens.old tokens.new result }
 {
     let specifiers = specified(scope, tokens)?;
     let pointers = pointer(tokens);
@@ -85,13 +73,9 @@ fn pointed<'t>(scope: Scope<'_, 't>, tokens: &mut Tokens<'t>) -> Parsed<TypeName
 // Specifiers (6.7) without storage-class words.
 #[cycle(parser)]
 pub fn specifiers<'t>(scope: Scope<'_, 't>, tokens: &mut Tokens<'t>) -> Parsed<Specifiers<'t>>
-    requires depth { scope.depth ≤ nesting_limit }
-    requires count { tokens.old.count ≤ operator_limit }
-    ensures gives { Parses ((around scope.entry).specifiers scope.entry.depth
-        (counting_in scope.entry tokens.old)) specified_of tokens.old tokens.new result }
-    ensures counted { IfOk result (λ x. IsAdvanced scope.entry.is_alone tokens.old.count
-        (operators_of_specifiers (specified_of x)) tokens.new.count) }
-    ensures shorter { IfOk result (λ _. IsNoLonger tokens.new tokens.old) }
+    requires fits { Fits scope tokens.old }
+    ensures { ReadsPart (λ inner. inner.specifiers) specified_of grammar.operators_of_specifiers
+        IsNoLonger scope.entry tokens.old tokens.new result }
 {
     if scope.fuel == 0 {
         return Err(Stopped::At(Fault::LimitExceeded));
@@ -106,13 +90,9 @@ pub fn specifiers<'t>(scope: Scope<'_, 't>, tokens: &mut Tokens<'t>) -> Parsed<S
 // A type specifier, and `const` around it.
 #[cycle(parser)]
 fn specified<'t>(scope: Scope<'_, 't>, tokens: &mut Tokens<'t>) -> Parsed<Specifiers<'t>>
-    requires depth { scope.depth ≤ nesting_limit }
-    requires count { tokens.old.count ≤ operator_limit }
-    ensures gives { Parses (type_in (types.read_specifiers (names_in scope.entry)) scope.entry
-        tokens.old) specified_of tokens.old tokens.new result }
-    ensures counted { IfOk result (λ x. IsAdvanced scope.entry.is_alone tokens.old.count
-        (operators_of_specifiers (specified_of x)) tokens.new.count) }
-    ensures shorter { IfOk result (λ _. IsNoLonger tokens.new tokens.old) }
+    requires fits { Fits scope tokens.old }
+    ensures { ReadsPart (types.read_specifiers (names_in scope.entry)) specified_of
+        grammar.operators_of_specifiers IsNoLonger scope.entry tokens.old tokens.new result }
 {
     let first = consts(tokens);
     let (head, offset) = type_specifier_head(tokens, scope.names)?;
@@ -128,14 +108,10 @@ pub fn base<'t>(
     tokens: &mut Tokens<'t>,
     head: Head<'t>,
 ) -> Parsed<TypeSpecifier<'t>>
-    requires depth { scope.depth ≤ nesting_limit }
-    requires count { tokens.old.count ≤ operator_limit }
-    ensures gives { Parses (types.read_type_specifier_rest (names_in scope.entry) (around
-        scope.entry) scope.entry.depth (counting_in scope.entry tokens.old) (head_of head.entry))
-        specifier_of tokens.old tokens.new result }
-    ensures counted { IfOk result (λ x. IsAdvanced scope.entry.is_alone tokens.old.count
-        (operators_of_type_specifier (specifier_of x)) tokens.new.count) }
-    ensures shorter { IfOk result (λ _. IsNoLonger tokens.new tokens.old) }
+    requires fits { Fits scope tokens.old }
+    ensures { ReadsPart (λ inner depth counting. types.read_type_specifier_rest (names_in
+        scope.entry) inner depth counting (head_of head.entry)) specifier_of
+        grammar.operators_of_type_specifier IsNoLonger scope.entry tokens.old tokens.new result }
 {
     match head {
         Head::Void => Ok(TypeSpecifier::void(scope.alloc)?),
@@ -152,13 +128,9 @@ pub fn base<'t>(
 // What is after `struct`.
 #[cycle(parser)]
 fn structure<'t>(scope: Scope<'_, 't>, tokens: &mut Tokens<'t>) -> Parsed<TypeSpecifier<'t>>
-    requires depth { scope.depth ≤ nesting_limit }
-    requires count { tokens.old.count ≤ operator_limit }
-    ensures gives { Parses (type_in (types.read_struct (names_in scope.entry)) scope.entry
-        tokens.old) specifier_of tokens.old tokens.new result }
-    ensures counted { IfOk result (λ x. IsAdvanced scope.entry.is_alone tokens.old.count
-        (operators_of_type_specifier (specifier_of x)) tokens.new.count) }
-    ensures shorter { IfOk result (λ _. IsNoLonger tokens.new tokens.old) }
+    requires fits { Fits scope tokens.old }
+    ensures { ReadsPart (types.read_struct (names_in scope.entry)) specifier_of
+        grammar.operators_of_type_specifier IsNoLonger scope.entry tokens.old tokens.new result }
 {
     if !tokens.starts_plain_name(scope.names) {
         let rows = members(scope, tokens)?;
@@ -175,13 +147,9 @@ fn structure<'t>(scope: Scope<'_, 't>, tokens: &mut Tokens<'t>) -> Parsed<TypeSp
 // What is after `enum`.
 #[cycle(parser)]
 fn enumeration<'t>(scope: Scope<'_, 't>, tokens: &mut Tokens<'t>) -> Parsed<TypeSpecifier<'t>>
-    requires depth { scope.depth ≤ nesting_limit }
-    requires count { tokens.old.count ≤ operator_limit }
-    ensures gives { Parses (type_in (types.read_enum (names_in scope.entry)) scope.entry tokens.old)
-        specifier_of tokens.old tokens.new result }
-    ensures counted { IfOk result (λ x. IsAdvanced scope.entry.is_alone tokens.old.count
-        (operators_of_type_specifier (specifier_of x)) tokens.new.count) }
-    ensures shorter { IfOk result (λ _. IsNoLonger tokens.new tokens.old) }
+    requires fits { Fits scope tokens.old }
+    ensures { ReadsPart (types.read_enum (names_in scope.entry)) specifier_of
+        grammar.operators_of_type_specifier IsNoLonger scope.entry tokens.old tokens.new result }
 {
     if !tokens.starts_plain_name(scope.names) {
         let rows = constants(scope, tokens)?;
@@ -198,13 +166,9 @@ fn enumeration<'t>(scope: Scope<'_, 't>, tokens: &mut Tokens<'t>) -> Parsed<Type
 // Declarations of members in braces (6.7.2.1).
 #[cycle(parser)]
 fn members<'t>(scope: Scope<'_, 't>, tokens: &mut Tokens<'t>) -> Rows<Member<'t>>
-    requires depth { scope.depth ≤ nesting_limit }
-    requires count { tokens.old.count ≤ operator_limit }
-    ensures gives { Parses (type_in (types.read_members (names_in scope.entry)) scope.entry
-        tokens.old) members_in tokens.old tokens.new result }
-    ensures counted { IfOk result (λ x. IsAdvanced scope.entry.is_alone tokens.old.count
-        (operators_of_members (members_in x)) tokens.new.count) }
-    ensures shorter { IfOk result (λ _. IsNoLonger tokens.new tokens.old) }
+    requires fits { Fits scope tokens.old }
+    ensures { ReadsPart (types.read_members (names_in scope.entry)) members_in
+        grammar.operators_of_members IsNoLonger scope.entry tokens.old tokens.new result }
 {
     tokens.opening(Punctuator::LeftBrace, scope.depth)?;
     let deeper = Scope {
@@ -219,13 +183,9 @@ fn members<'t>(scope: Scope<'_, 't>, tokens: &mut Tokens<'t>) -> Rows<Member<'t>
 // Declarations of members, as long as one begins.
 #[cycle(parser)]
 fn all_members<'t>(scope: Scope<'_, 't>, tokens: &mut Tokens<'t>) -> Rows<Member<'t>>
-    requires depth { scope.depth ≤ nesting_limit }
-    requires count { tokens.old.count ≤ operator_limit }
-    ensures gives { Parses (type_in (read_all_members (names_in scope.entry)) scope.entry
-        tokens.old) members_in tokens.old tokens.new result }
-    ensures counted { IfOk result (λ x. IsAdvanced scope.entry.is_alone tokens.old.count
-        (operators_of_members (members_in x)) tokens.new.count) }
-    ensures shorter { IfOk result (λ _. IsNoLonger tokens.new tokens.old) }
+    requires fits { Fits scope tokens.old }
+    ensures { ReadsPart (read_all_members (names_in scope.entry)) members_in
+        grammar.operators_of_members IsNoLonger scope.entry tokens.old tokens.new result }
 {
     let mut rows: Vec<Box<Member<'t>>> = Vec::new(scope.alloc);
     'items: while tokens.starts_type(scope.names) {
@@ -238,13 +198,9 @@ fn all_members<'t>(scope: Scope<'_, 't>, tokens: &mut Tokens<'t>) -> Rows<Member
 // A declaration of members.
 #[cycle(parser)]
 fn member<'t>(scope: Scope<'_, 't>, tokens: &mut Tokens<'t>) -> Parsed<Member<'t>>
-    requires depth { scope.depth ≤ nesting_limit }
-    requires count { tokens.old.count ≤ operator_limit }
-    ensures gives { Parses (type_in read_member_row scope.entry tokens.old) member_row tokens.old
-        tokens.new result }
-    ensures counted { IfOk result (λ x. IsAdvanced scope.entry.is_alone tokens.old.count
-        (types.operators_of_member (member_row x)) tokens.new.count) }
-    ensures shorter { IfOk result (λ _. IsShorter tokens.new tokens.old) }
+    requires fits { Fits scope tokens.old }
+    ensures { ReadsPart read_member_row member_row types.operators_of_member IsShorter scope.entry
+        tokens.old tokens.new result }
 {
     let specifiers = specifiers(scope, tokens)?;
     let declarators = member_list(scope, tokens)?;
@@ -254,17 +210,13 @@ fn member<'t>(scope: Scope<'_, 't>, tokens: &mut Tokens<'t>) -> Parsed<Member<'t
 // Declarators of members, and the `;` after them.
 #[cycle(parser)]
 fn member_list<'t>(scope: Scope<'_, 't>, tokens: &mut Tokens<'t>) -> Rows<Declarator<'t>>
-    requires depth { scope.depth ≤ nesting_limit }
-    requires count { tokens.old.count ≤ operator_limit }
-    ensures gives { Parses (type_in types.read_member_list scope.entry tokens.old) declarators_in
-        tokens.old tokens.new result }
-    ensures counted { IfOk result (λ x. IsAdvanced scope.entry.is_alone tokens.old.count
-        (operators_of_declarators (declarators_in x)) tokens.new.count) }
-    ensures shorter { IfOk result (λ _. IsShorter tokens.new tokens.old) }
+    requires fits { Fits scope tokens.old }
+    ensures { ReadsPart types.read_member_list declarators_in grammar.operators_of_declarators
+        IsShorter scope.entry tokens.old tokens.new result }
 {
     let before = tokens.count;
     let first = declarator(scope, tokens)?;
-    more_declarators(scope, tokens, before, first)
+    Ok(more_declarators(scope, tokens, before, first)?)
 }
 
 // Further declarators after the first, and the `;` after them.
@@ -275,16 +227,14 @@ fn more_declarators<'t>(
     before: usize,
     first: Box<Declarator<'t>>,
 ) -> Rows<Declarator<'t>>
-    requires depth { scope.depth ≤ nesting_limit }
-    requires count { tokens.old.count ≤ operator_limit }
-    requires before { advance (counting_of scope.is_alone before) (operators_of_declarator
-        (declarator_row first)) ≡ counting_of scope.is_alone tokens.old.count }
-    ensures gives { Parses (read_more_declarators (around scope.entry) scope.entry.depth
-        (counting_in scope.entry tokens.old) (declarator_row first.entry)) declarators_in tokens.old
+    requires fits { Fits scope tokens.old }
+    requires before { grammar.advance (counting_of scope.is_alone before)
+        (grammar.operators_of_declarator (declarator_row first)) ≡ counting_of scope.is_alone
+        tokens.old.count }
+    ensures { Reads (read_more_declarators (around scope.entry) scope.entry.depth (counting_in
+        scope.entry tokens.old) (declarator_row first.entry)) declarators_in (Advances
+        grammar.operators_of_declarators scope.entry.is_alone before) IsShorter tokens.old
         tokens.new result }
-    ensures counted { IfOk result (λ x. IsAdvanced scope.entry.is_alone before
-        (operators_of_declarators (declarators_in x)) tokens.new.count) }
-    ensures shorter { IfOk result (λ _. IsShorter tokens.new tokens.old) }
 {
     let mut end = member_end(&first);
     let mut all: Vec<Box<Declarator<'t>>> = Vec::new(scope.alloc);
@@ -301,28 +251,20 @@ fn more_declarators<'t>(
 // A comma and a declarator.
 #[cycle(parser)]
 fn next_declarator<'t>(scope: Scope<'_, 't>, tokens: &mut Tokens<'t>) -> Parsed<Declarator<'t>>
-    requires depth { scope.depth ≤ nesting_limit }
-    requires count { tokens.old.count ≤ operator_limit }
-    ensures gives { Parses (type_in read_next_declarator scope.entry tokens.old) declarator_row
-        tokens.old tokens.new result }
-    ensures counted { IfOk result (λ x. IsAdvanced scope.entry.is_alone tokens.old.count
-        (operators_of_declarator (declarator_row x)) tokens.new.count) }
-    ensures shorter { IfOk result (λ _. IsShorter tokens.new tokens.old) }
+    requires fits { Fits scope tokens.old }
+    ensures { ReadsPart read_next_declarator declarator_row grammar.operators_of_declarator
+        IsShorter scope.entry tokens.old tokens.new result }
 {
     tokens.mark(Punctuator::Comma, Role::Nothing)?;
-    declarator(scope, tokens)
+    Ok(declarator(scope, tokens)?)
 }
 
 // A declarator of a member (6.7.6).
 #[cycle(parser)]
 fn declarator<'t>(scope: Scope<'_, 't>, tokens: &mut Tokens<'t>) -> Parsed<Declarator<'t>>
-    requires depth { scope.depth ≤ nesting_limit }
-    requires count { tokens.old.count ≤ operator_limit }
-    ensures gives { Parses (types.read_declarator name_at (around scope.entry) scope.entry.depth
-        (counting_in scope.entry tokens.old)) declarator_row tokens.old tokens.new result }
-    ensures counted { IfOk result (λ x. IsAdvanced scope.entry.is_alone tokens.old.count
-        (operators_of_declarator (declarator_row x)) tokens.new.count) }
-    ensures shorter { IfOk result (λ _. IsShorter tokens.new tokens.old) }
+    requires fits { Fits scope tokens.old }
+    ensures { ReadsPart (types.read_declarator name_at) declarator_row
+        grammar.operators_of_declarator IsShorter scope.entry tokens.old tokens.new result }
 {
     let pointers = pointer(tokens);
     let name = tokens.name(Role::DeclaredName)?;
@@ -333,35 +275,26 @@ fn declarator<'t>(scope: Scope<'_, 't>, tokens: &mut Tokens<'t>) -> Parsed<Decla
 // The lengths of an array, and whether the first is left out (6.7.6.2).
 #[cycle(parser)]
 pub fn dimensions<'t>(scope: Scope<'_, 't>, tokens: &mut Tokens<'t>) -> Parsed<Dimensions<'t>>
-    requires depth { scope.depth ≤ nesting_limit }
-    requires count { tokens.old.count ≤ operator_limit }
-    ensures gives { Parses (type_in types.read_dimensions scope.entry tokens.old) array_of
+    requires fits { Fits scope tokens.old }
+    ensures { ReadsPart types.read_dimensions array_of operators_of_array IsNoLonger scope.entry
         tokens.old tokens.new result }
-    ensures counted { IfOk result (λ x. IsAdvanced scope.entry.is_alone tokens.old.count
-        (operators_of_lengths (array_of x).1) tokens.new.count) }
-    ensures shorter { IfOk result (λ _. IsNoLonger tokens.new tokens.old) }
 {
     if !tokens.next_is(Punctuator::LeftBracket) {
         return Ok(Dimensions::new(scope.alloc, false, Vec::new(scope.alloc))?);
     }
     tokens.opening(Punctuator::LeftBracket, scope.depth)?;
     if tokens.next_is(Punctuator::RightBracket) {
-        open_array(scope, tokens)
-    } else {
-        given_array(scope, tokens)
+        return Ok(open_array(scope, tokens)?);
     }
+    Ok(given_array(scope, tokens)?)
 }
 
 // After `[` an array whose first length is left out.
 #[cycle(parser)]
 fn open_array<'t>(scope: Scope<'_, 't>, tokens: &mut Tokens<'t>) -> Parsed<Dimensions<'t>>
-    requires depth { scope.depth ≤ nesting_limit }
-    requires count { tokens.old.count ≤ operator_limit }
-    ensures gives { Parses (type_in read_open_array scope.entry tokens.old) array_of tokens.old
-        tokens.new result }
-    ensures counted { IfOk result (λ x. IsAdvanced scope.entry.is_alone tokens.old.count
-        (operators_of_lengths (array_of x).1) tokens.new.count) }
-    ensures shorter { IfOk result (λ _. IsNoLonger tokens.new tokens.old) }
+    requires fits { Fits scope tokens.old }
+    ensures { ReadsPart read_open_array array_of operators_of_array IsNoLonger scope.entry
+        tokens.old tokens.new result }
 {
     tokens.mark(Punctuator::RightBracket, Role::Nothing)?;
     let before = tokens.count;
@@ -375,11 +308,8 @@ fn open_array<'t>(scope: Scope<'_, 't>, tokens: &mut Tokens<'t>) -> Parsed<Dimen
 fn given_array<'t>(scope: Scope<'_, 't>, tokens: &mut Tokens<'t>) -> Parsed<Dimensions<'t>>
     requires depth { scope.depth < nesting_limit }
     requires count { tokens.old.count ≤ operator_limit }
-    ensures gives { Parses (type_in read_given_array scope.entry tokens.old) array_of tokens.old
-        tokens.new result }
-    ensures counted { IfOk result (λ x. IsAdvanced scope.entry.is_alone tokens.old.count
-        (operators_of_lengths (array_of x).1) tokens.new.count) }
-    ensures shorter { IfOk result (λ _. IsNoLonger tokens.new tokens.old) }
+    ensures { ReadsPart read_given_array array_of operators_of_array IsNoLonger scope.entry
+        tokens.old tokens.new result }
 {
     let before = tokens.count;
     begin_whole(tokens, scope.is_alone);
@@ -402,16 +332,14 @@ fn lengths<'t>(
     before: usize,
     given: Vec<Box<Expression<'t>>>,
 ) -> Rows<Expression<'t>>
-    requires depth { scope.depth ≤ nesting_limit }
-    requires count { tokens.old.count ≤ operator_limit }
-    requires before { advance (counting_of scope.is_alone before) (operators_of_lengths
-        (expressions_in given)) ≡ counting_of scope.is_alone tokens.old.count }
-    ensures gives { Parses (read_lengths_from (length_rows given.entry) (around scope.entry)
-        scope.entry.depth (counting_in scope.entry tokens.old)) expressions_in tokens.old tokens.new
+    requires fits { Fits scope tokens.old }
+    requires before { grammar.advance (counting_of scope.is_alone before)
+        (grammar.operators_of_lengths (expressions_in given)) ≡ counting_of scope.is_alone
+        tokens.old.count }
+    ensures { Reads (read_lengths_from (length_rows given.entry) (around scope.entry)
+        scope.entry.depth (counting_in scope.entry tokens.old)) expressions_in (Advances
+        grammar.operators_of_lengths scope.entry.is_alone before) IsNoLonger tokens.old tokens.new
         result }
-    ensures counted { IfOk result (λ x. IsAdvanced scope.entry.is_alone before
-        (operators_of_lengths (expressions_in x)) tokens.new.count) }
-    ensures shorter { IfOk result (λ _. IsNoLonger tokens.new tokens.old) }
 {
     let mut all = given;
     'items: while tokens.next_is(Punctuator::LeftBracket) {
@@ -424,13 +352,9 @@ fn lengths<'t>(
 // A length in brackets.
 #[cycle(parser)]
 fn length<'t>(scope: Scope<'_, 't>, tokens: &mut Tokens<'t>) -> Parsed<Expression<'t>>
-    requires depth { scope.depth ≤ nesting_limit }
-    requires count { tokens.old.count ≤ operator_limit }
-    ensures gives { Parses (type_in types.read_length scope.entry tokens.old) tree_of tokens.old
+    requires fits { Fits scope tokens.old }
+    ensures { ReadsPart types.read_length tree_of grammar.operators IsShorter scope.entry tokens.old
         tokens.new result }
-    ensures counted { IfOk result (λ x. IsAdvanced scope.entry.is_alone tokens.old.count
-        (operators (tree_of x)) tokens.new.count) }
-    ensures shorter { IfOk result (λ _. IsShorter tokens.new tokens.old) }
 {
     tokens.opening(Punctuator::LeftBracket, scope.depth)?;
     begin_whole(tokens, scope.is_alone);
@@ -438,19 +362,15 @@ fn length<'t>(scope: Scope<'_, 't>, tokens: &mut Tokens<'t>) -> Parsed<Expressio
         depth: scope.depth + 1,
         ..scope
     };
-    ended(deeper, tokens, Punctuator::RightBracket)
+    Ok(ended(deeper, tokens, Punctuator::RightBracket)?)
 }
 
 // Constants in braces (6.7.2.2).
 #[cycle(parser)]
 fn constants<'t>(scope: Scope<'_, 't>, tokens: &mut Tokens<'t>) -> Rows<Constant<'t>>
-    requires depth { scope.depth ≤ nesting_limit }
-    requires count { tokens.old.count ≤ operator_limit }
-    ensures gives { Parses (type_in (types.read_constants (names_in scope.entry)) scope.entry
-        tokens.old) constants_in tokens.old tokens.new result }
-    ensures counted { IfOk result (λ x. IsAdvanced scope.entry.is_alone tokens.old.count
-        (operators_of_constants (constants_in x)) tokens.new.count) }
-    ensures shorter { IfOk result (λ _. IsNoLonger tokens.new tokens.old) }
+    requires fits { Fits scope tokens.old }
+    ensures { ReadsPart (types.read_constants (names_in scope.entry)) constants_in
+        grammar.operators_of_constants IsNoLonger scope.entry tokens.old tokens.new result }
 {
     tokens.opening(Punctuator::LeftBrace, scope.depth)?;
     let before = tokens.count;
@@ -477,16 +397,14 @@ fn more_constants<'t>(
     rows: &mut Vec<Box<Constant<'t>>>,
     end: Role,
 ) -> Result<Role, Stopped>
-    requires depth { scope.depth ≤ nesting_limit }
-    requires count { tokens.old.count ≤ operator_limit }
-    requires before { advance (counting_of scope.is_alone before) (operators_of_constants
-        (constants_in rows.old)) ≡ counting_of scope.is_alone tokens.old.count }
-    ensures gives { Parses (read_constants_from (names_in scope.entry) (around scope.entry)
+    requires fits { Fits scope tokens.old }
+    requires before { grammar.advance (counting_of scope.is_alone before)
+        (grammar.operators_of_constants (constants_in rows.old)) ≡ counting_of scope.is_alone
+        tokens.old.count }
+    ensures { Reads (read_constants_from (names_in scope.entry) (around scope.entry)
         scope.entry.depth (constant_rows rows.old) (types.AfterConstant end (counting_in scope.entry
-        tokens.old))) (λ x. (constant_rows rows.new, x)) tokens.old tokens.new result }
-    ensures counted { IfOk result (λ _. IsAdvanced scope.entry.is_alone before
-        (operators_of_constants (constants_in rows.new)) tokens.new.count) }
-    ensures shorter { IfOk result (λ _. IsNoLonger tokens.new tokens.old) }
+        tokens.old))) (λ x. (constant_rows rows.new, x)) (Advances operators_of_rows
+        scope.entry.is_alone before) IsNoLonger tokens.old tokens.new result }
 {
     let mut end = end;
     'items: while tokens.next_is(Punctuator::Comma) {
@@ -504,13 +422,9 @@ fn more_constants<'t>(
 // A constant, and its value where it has one.
 #[cycle(parser)]
 fn constant<'t>(scope: Scope<'_, 't>, tokens: &mut Tokens<'t>) -> Parsed<Constant<'t>>
-    requires depth { scope.depth ≤ nesting_limit }
-    requires count { tokens.old.count ≤ operator_limit }
-    ensures gives { Parses (type_in (types.read_constant (names_in scope.entry)) scope.entry
-        tokens.old) constant_row tokens.old tokens.new result }
-    ensures counted { IfOk result (λ x. IsAdvanced scope.entry.is_alone tokens.old.count
-        (types.operators_of_constant (constant_row x)) tokens.new.count) }
-    ensures shorter { IfOk result (λ _. IsShorter tokens.new tokens.old) }
+    requires fits { Fits scope tokens.old }
+    ensures { ReadsPart (types.read_constant (names_in scope.entry)) constant_row
+        types.operators_of_constant IsShorter scope.entry tokens.old tokens.new result }
 {
     let name = tokens.plain_name(scope.names)?;
     if !tokens.next_is(Punctuator::Assign) {

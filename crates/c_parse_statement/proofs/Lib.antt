@@ -3,3 +3,4 @@ pub mod Runs
 pub mod Loops
 pub mod Split
 pub mod Chain
+pub mod Made

@@ -1,5 +1,5 @@
 -- Parts of the reference parsers of statements, and of what they give.
-use Rattle.std.specs.Prelude.{ℕ, suc, ◌&&◌, not, Bool, List, map, Vec}
+use Rattle.std.specs.Prelude.{ℕ, suc, ◌&&◌, not, Bool, List, map, Vec, Result, Ok, Err}
 use Rattle.std.specs.declared.alloc.Global.{Global}
 use Rattle.c_spec.specs.declared.token.Keyword.TheVariants.{Break, Continue, Else, Return}
 use Rattle.c_spec.specs.declared.token.Punctuator.TheVariants as punctuator
@@ -21,12 +21,18 @@ use Rattle.c_syntax.specs.declared.statement.Part.{Part}
 use Rattle.c_syntax.specs.Locals.{label_of}
 use Rattle.c_syntax.specs.Statements.{Piece, Declares, States, part_of}
 use Rattle.c_parse_token.specs.declared.names.TypedefNames.{TypedefNames}
+use Rattle.c_parse_token.specs.declared.outcome.Stopped.{Stopped}
+use Rattle.c_parse_token.specs.declared.outcome.Stopped.TheVariants.{NoMemory}
 use Rattle.c_parse_token.specs.Lists.{names_of}
 use Rattle.c_parse_expression.specs.Whole.{expressions}
+use Rattle.c_parse_declaration.specs.declared.Scope.{Scope}
 
 -- statements in which so many constructs may open
 abbrev pub within : TypedefNames → (fuel : ℕ) → statements.Statements
 within names fuel = statements.read_statement (names_of names) (expressions names) fuel
+
+abbrev pub statements_in : Scope → (fuel : ℕ) → statements.Statements
+statements_in scope fuel = within scope.names.now fuel
 
 -- a part of a block, as the reference parser gives it
 abbrev pub read_of : Piece → statements.Part
@@ -62,3 +68,8 @@ read_else inside depth x body offset =
 -- an expression statement that begins a `for`
 abbrev pub read_start_simple : Parsers → (depth : ℕ) → Parser Placed Role unit.ForStart
 read_start_simple inner depth = read_map (λ made. unit.StartsSimple made.0) (read_then (read_simple inner depth) (λ x. token (simple_end x) (expected (simple_end x)) (mark_offset punctuator.Semicolon)))
+
+-- what was made, or out of memory
+abbrev pub kept : {X E : Type 0} → Result X E → Result X Stopped
+kept (Ok x) = Ok x
+kept (Err error) = Err NoMemory

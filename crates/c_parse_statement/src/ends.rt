@@ -8,19 +8,10 @@ ghost use Rattle.c_syntax.specs.Simples.{value_of, simple_of};
 ghost use Rattle.c_syntax.specs.Statements.{statement_of};
 
 use c_grammar_spec::Role;
+use c_parse_declaration::value_end;
 use c_syntax::expression::Expression;
 use c_syntax::simple::{Simple, Value};
 use c_syntax::statement::Statement;
-
-/// What is expected after a value.
-pub fn value_end(value: &Value<'_>) -> Role
-    ensures { result ≡ grammar.value_end (value_of value.now) }
-{
-    match value {
-        Value::Called(_) => Role::CallEnd,
-        Value::Computed(_) => Role::OperandEnd,
-    }
-}
 
 /// What is expected after a part of a `for`.
 pub fn simple_end(simple: &Simple<'_>) -> Role

@@ -1,7 +1,7 @@
 //! Tests, the parts of a `for`, labels, and statements that contain no other (6.8.1, 6.8.3 to
 //! 6.8.6).
 
-ghost use Rattle.std.specs.Prelude.{◌≤◌, IfOk};
+ghost use Rattle.std.specs.Prelude.{◌≡◌, ◌≤◌, IfOk};
 ghost use Rattle.std.specs.Option.{option_map};
 ghost use Rattle.c_spec.specs.declared.token.Punctuator.TheVariants as punctuator;
 ghost use Rattle.c_grammar_spec.specs.declared.Role.TheVariants.{Nothing};
@@ -13,92 +13,75 @@ ghost use Rattle.c_syntax.specs.Expressions.{expression_of};
 ghost use Rattle.c_syntax.specs.Simples.{simple_of};
 ghost use Rattle.c_syntax.specs.Locals.{start_of, label_of};
 ghost use Rattle.c_syntax.specs.Statements.{statement_of};
-ghost use Rattle.c_parse_token.specs.Lists.{names_of, Parses, IsShorter};
-ghost use Rattle.c_parse_expression.specs.Whole.{expressions};
-ghost use Rattle.c_parse_statement.specs.Pieces.{read_plain, read_start_simple, taken_labels};
+ghost use Rattle.c_parse_token.specs.Lists.{Parses, IsShorter};
+ghost use Rattle.c_parse_declaration.specs.Parts.{names_in, parsers_in};
+ghost use Rattle.c_parse_statement.specs.Pieces.{read_plain, read_start_simple, taken_labels, kept};
 ghost use Rattle.c_parse_statement.specs.Runs.{Runs};
 ghost use Rattle.c_grammar_spec.specs.Limits.{nesting_limit};
 
 use crate::class::{keyword, next_keyword, starts_label};
-use crate::ends::{simple_end, statement_end, value_end};
+use crate::ends::{simple_end, statement_end};
 use c_grammar_spec::Role;
-use c_parse_declaration::{locals, simple, starts_locals, value};
+use c_parse_declaration::{Parsed, Scope, locals, simple, starts_locals, value, value_end};
 use c_parse_expression::whole;
-use c_parse_token::{Stopped, Tokens, TypedefNames};
+use c_parse_token::{Stopped, Tokens};
 use c_spec::token::{Keyword, Punctuator};
 use c_syntax::expression::{Expression, boxed};
 use c_syntax::simple::Simple;
 use c_syntax::statement::{ForStart, Label, Statement};
-use std::alloc::Global;
+use std::alloc::AllocError;
 
 /// A test in brackets.
-pub fn test<'t>(
-    alloc: Global,
-    tokens: &mut Tokens<'t>,
-    names: &TypedefNames<'t>,
-    depth: usize,
-) -> Result<Box<Expression<'t>>, Stopped>
-    requires depth { depth ≤ nesting_limit }
-    ensures gives { Parses (statements.read_test (expressions names.now) depth)
+pub fn test<'t>(scope: Scope<'_, 't>, tokens: &mut Tokens<'t>) -> Parsed<Expression<'t>>
+    requires depth { scope.depth ≤ nesting_limit }
+    ensures gives { Parses (statements.read_test (parsers_in scope.entry) scope.entry.depth)
         (λ x. expression_of x.value) tokens.old tokens.new result }
     ensures shorter { IfOk result (λ _. IsShorter tokens.new tokens.old) }
 {
-    tokens.opening(Punctuator::LeftParenthesis, depth)?;
-    let test = whole(alloc, tokens, names, depth + 1)?;
+    tokens.opening(Punctuator::LeftParenthesis, scope.depth)?;
+    let test = whole(scope.alloc, tokens, scope.names, scope.depth + 1)?;
     tokens.mark(Punctuator::RightParenthesis, Role::OperandEnd)?;
     Ok(test)
 }
 
 // An expression statement that begins a `for`.
-fn simple_start<'t>(
-    alloc: Global,
-    tokens: &mut Tokens<'t>,
-    names: &TypedefNames<'t>,
-    depth: usize,
-) -> Result<Box<ForStart<'t>>, Stopped>
-    requires depth { depth ≤ nesting_limit }
-    ensures gives { Parses (read_start_simple (expressions names.now) depth) (λ x. start_of x.value)
-        tokens.old tokens.new result }
+fn simple_start<'t>(scope: Scope<'_, 't>, tokens: &mut Tokens<'t>) -> Parsed<ForStart<'t>>
+    requires depth { scope.depth ≤ nesting_limit }
+    ensures gives { Parses (read_start_simple (parsers_in scope.entry) scope.entry.depth) (λ x.
+        start_of x.value) tokens.old tokens.new result }
     ensures shorter { IfOk result (λ _. IsShorter tokens.new tokens.old) }
 {
-    let start = simple(alloc, tokens, names, depth)?;
+    let start = simple(scope, tokens)?;
     let end = simple_end(&start);
     tokens.mark(Punctuator::Semicolon, end)?;
-    Ok(boxed(alloc, ForStart::Simple(start))?)
+    Ok(boxed(scope.alloc, ForStart::Simple(start))?)
 }
 
 /// How a `for` begins, with its first `;`.
-pub fn for_start<'t>(
-    alloc: Global,
-    tokens: &mut Tokens<'t>,
-    names: &TypedefNames<'t>,
-    depth: usize,
-) -> Result<Box<ForStart<'t>>, Stopped>
-    requires depth { depth ≤ nesting_limit }
-    ensures gives { Parses (statements.read_for_start (names_of names.now) (expressions names.now)
-        depth) (λ x. start_of x.value) tokens.old tokens.new result }
+pub fn for_start<'t>(scope: Scope<'_, 't>, tokens: &mut Tokens<'t>) -> Parsed<ForStart<'t>>
+    requires depth { scope.depth ≤ nesting_limit }
+    ensures gives { Parses (statements.read_for_start (names_in scope.entry) (parsers_in
+        scope.entry) scope.entry.depth) (λ x. start_of x.value) tokens.old tokens.new result }
     ensures shorter { IfOk result (λ _. IsShorter tokens.new tokens.old) }
 {
     if tokens.next_is(Punctuator::Semicolon) {
         tokens.mark(Punctuator::Semicolon, Role::Nothing)?;
-        return Ok(boxed(alloc, ForStart::Empty)?);
+        return Ok(boxed(scope.alloc, ForStart::Empty)?);
     }
-    if starts_locals(tokens, names) {
-        let locals = locals(alloc, tokens, names, depth)?;
-        return Ok(boxed(alloc, ForStart::Locals(locals))?);
+    if starts_locals(tokens, scope.names) {
+        let locals = locals(scope, tokens)?;
+        return Ok(boxed(scope.alloc, ForStart::Locals(locals))?);
     }
-    simple_start(alloc, tokens, names, depth)
+    simple_start(scope, tokens)
 }
 
 /// The test of a `for`, with its `;`.
 pub fn for_test<'t>(
-    alloc: Global,
+    scope: Scope<'_, 't>,
     tokens: &mut Tokens<'t>,
-    names: &TypedefNames<'t>,
-    depth: usize,
 ) -> Result<Option<Box<Expression<'t>>>, Stopped>
-    requires depth { depth ≤ nesting_limit }
-    ensures gives { Parses (statements.read_for_test (expressions names.now) depth)
+    requires depth { scope.depth ≤ nesting_limit }
+    ensures gives { Parses (statements.read_for_test (parsers_in scope.entry) scope.entry.depth)
         (λ x. option_map (λ test. expression_of test.value) x) tokens.old tokens.new result }
     ensures shorter { IfOk result (λ _. IsShorter tokens.new tokens.old) }
 {
@@ -106,20 +89,18 @@ pub fn for_test<'t>(
         tokens.mark(Punctuator::Semicolon, Role::Nothing)?;
         return Ok(None);
     }
-    let test = whole(alloc, tokens, names, depth)?;
+    let test = whole(scope.alloc, tokens, scope.names, scope.depth)?;
     tokens.mark(Punctuator::Semicolon, Role::OperandEnd)?;
     Ok(Some(test))
 }
 
 /// The step of a `for`, with its `)`.
 pub fn for_step<'t>(
-    alloc: Global,
+    scope: Scope<'_, 't>,
     tokens: &mut Tokens<'t>,
-    names: &TypedefNames<'t>,
-    depth: usize,
 ) -> Result<Option<Box<Simple<'t>>>, Stopped>
-    requires depth { depth ≤ nesting_limit }
-    ensures gives { Parses (statements.read_for_step (expressions names.now) depth)
+    requires depth { scope.depth ≤ nesting_limit }
+    ensures gives { Parses (statements.read_for_step (parsers_in scope.entry) scope.entry.depth)
         (λ x. option_map (λ step. simple_of step.value) x) tokens.old tokens.new result }
     ensures shorter { IfOk result (λ _. IsShorter tokens.new tokens.old) }
 {
@@ -127,22 +108,17 @@ pub fn for_step<'t>(
         tokens.mark(Punctuator::RightParenthesis, Role::Nothing)?;
         return Ok(None);
     }
-    let simple = simple(alloc, tokens, names, depth)?;
+    let simple = simple(scope, tokens)?;
     let end = simple_end(&simple);
     tokens.mark(Punctuator::RightParenthesis, end)?;
     Ok(Some(simple))
 }
 
 // A label of a `switch`.
-fn label<'t>(
-    alloc: Global,
-    tokens: &mut Tokens<'t>,
-    names: &TypedefNames<'t>,
-    depth: usize,
-) -> Result<Label<'t>, Stopped>
-    requires depth { depth ≤ nesting_limit }
-    ensures gives { Parses (statements.read_label (expressions names.now) depth) label_of tokens.old
-        tokens.new result }
+fn label<'t>(scope: Scope<'_, 't>, tokens: &mut Tokens<'t>) -> Result<Label<'t>, Stopped>
+    requires depth { scope.depth ≤ nesting_limit }
+    ensures gives { Parses (statements.read_label (parsers_in scope.entry) scope.entry.depth)
+        label_of tokens.old tokens.new result }
     ensures shorter { IfOk result (λ _. IsShorter tokens.new tokens.old) }
 {
     if !next_keyword(tokens, Keyword::Case) {
@@ -151,28 +127,33 @@ fn label<'t>(
         return Ok(Label::Default(offset));
     }
     let offset = keyword(tokens, Keyword::Case)?;
-    let value = whole(alloc, tokens, names, depth)?;
+    let value = whole(scope.alloc, tokens, scope.names, scope.depth)?;
     tokens.mark(Punctuator::Colon, Role::OperandEnd)?;
     Ok(Label::Case(value, offset))
 }
 
 /// Labels, as long as one is next.
-pub fn labels<'t>(
-    alloc: Global,
-    tokens: &mut Tokens<'t>,
-    names: &TypedefNames<'t>,
-    depth: usize,
-) -> Result<Vec<Label<'t>>, Stopped>
-    requires depth { depth ≤ nesting_limit }
-    ensures runs { Runs statements.begins_label (statements.read_label (expressions names.now)
-        depth) taken_labels tokens.old.rest.now tokens.new.rest.now result }
+pub fn labels<'t>(scope: Scope<'_, 't>, tokens: &mut Tokens<'t>) -> Result<Vec<Label<'t>>, Stopped>
+    requires depth { scope.depth ≤ nesting_limit }
+    ensures runs { Runs statements.begins_label (statements.read_label (parsers_in scope.entry)
+        scope.entry.depth) taken_labels tokens.old.rest.now tokens.new.rest.now result }
 {
-    let mut all: Vec<Label<'t>> = Vec::new(alloc);
+    let mut all: Vec<Label<'t>> = Vec::new(scope.alloc);
     'items: while starts_label(tokens) {
-        let next = label(alloc, tokens, names, depth)?;
+        let next = label(scope, tokens)?;
         all.push(next)?;
     }
     Ok(all)
+}
+
+/// A statement that was made, or out of memory.
+pub fn or_no_memory<'t>(made: Result<Box<Statement<'t>>, AllocError>) -> Parsed<Statement<'t>>
+    ensures { result ≡ kept made.entry }
+{
+    match made {
+        Ok(statement) => Ok(statement),
+        Err(_) => Err(Stopped::NoMemory),
+    }
 }
 
 // A keyword and its `;`: the keyword's offset.
@@ -187,69 +168,54 @@ fn jump(tokens: &mut Tokens<'_>, word: Keyword) -> Result<usize, Stopped>
 }
 
 // `return`, with a value or without.
-fn return_statement<'t>(
-    alloc: Global,
-    tokens: &mut Tokens<'t>,
-    names: &TypedefNames<'t>,
-    depth: usize,
-) -> Result<Box<Statement<'t>>, Stopped>
-    requires depth { depth ≤ nesting_limit }
-    ensures gives { Parses (statements.read_return (expressions names.now) depth)
+fn return_statement<'t>(scope: Scope<'_, 't>, tokens: &mut Tokens<'t>) -> Parsed<Statement<'t>>
+    requires depth { scope.depth ≤ nesting_limit }
+    ensures gives { Parses (statements.read_return (parsers_in scope.entry) scope.entry.depth)
         (λ x. statement_of x.value) tokens.old tokens.new result }
     ensures shorter { IfOk result (λ _. IsShorter tokens.new tokens.old) }
 {
     let offset = keyword(tokens, Keyword::Return)?;
     if tokens.next_is(Punctuator::Semicolon) {
         tokens.mark(Punctuator::Semicolon, Role::Nothing)?;
-        return Ok(Statement::return_at(alloc, None, offset)?);
+        return or_no_memory(Statement::return_at(scope.alloc, None, offset));
     }
     tokens.count = 0;
-    let value = value(alloc, tokens, names, depth)?;
+    let value = value(scope, tokens)?;
     let end = value_end(&value);
     tokens.mark(Punctuator::Semicolon, end)?;
-    Ok(Statement::return_at(alloc, Some(value), offset)?)
+    or_no_memory(Statement::return_at(scope.alloc, Some(value), offset))
 }
 
 // An expression statement.
-fn perform<'t>(
-    alloc: Global,
-    tokens: &mut Tokens<'t>,
-    names: &TypedefNames<'t>,
-    depth: usize,
-) -> Result<Box<Statement<'t>>, Stopped>
-    requires depth { depth ≤ nesting_limit }
-    ensures gives { Parses (statements.read_perform (expressions names.now) depth)
+fn perform<'t>(scope: Scope<'_, 't>, tokens: &mut Tokens<'t>) -> Parsed<Statement<'t>>
+    requires depth { scope.depth ≤ nesting_limit }
+    ensures gives { Parses (statements.read_perform (parsers_in scope.entry) scope.entry.depth)
         (λ x. statement_of x.value) tokens.old tokens.new result }
     ensures shorter { IfOk result (λ _. IsShorter tokens.new tokens.old) }
 {
-    let simple = simple(alloc, tokens, names, depth)?;
+    let simple = simple(scope, tokens)?;
     let end = statement_end(&simple);
     tokens.mark(Punctuator::Semicolon, end)?;
-    Ok(Statement::perform(alloc, simple)?)
+    or_no_memory(Statement::perform(scope.alloc, simple))
 }
 
 /// `continue`, `break`, `return` or an expression statement.
-pub fn plain_statement<'t>(
-    alloc: Global,
-    tokens: &mut Tokens<'t>,
-    names: &TypedefNames<'t>,
-    depth: usize,
-) -> Result<Box<Statement<'t>>, Stopped>
-    requires depth { depth ≤ nesting_limit }
-    ensures gives { Parses (read_plain (expressions names.now) depth) (λ x. statement_of x.value)
-        tokens.old tokens.new result }
+pub fn plain_statement<'t>(scope: Scope<'_, 't>, tokens: &mut Tokens<'t>) -> Parsed<Statement<'t>>
+    requires depth { scope.depth ≤ nesting_limit }
+    ensures gives { Parses (read_plain (parsers_in scope.entry) scope.entry.depth) (λ x.
+        statement_of x.value) tokens.old tokens.new result }
     ensures shorter { IfOk result (λ _. IsShorter tokens.new tokens.old) }
 {
     if next_keyword(tokens, Keyword::Continue) {
         let offset = jump(tokens, Keyword::Continue)?;
-        return Ok(Statement::continue_at(alloc, offset)?);
+        return or_no_memory(Statement::continue_at(scope.alloc, offset));
     }
     if next_keyword(tokens, Keyword::Break) {
         let offset = jump(tokens, Keyword::Break)?;
-        return Ok(Statement::break_at(alloc, offset)?);
+        return or_no_memory(Statement::break_at(scope.alloc, offset));
     }
     if next_keyword(tokens, Keyword::Return) {
-        return return_statement(alloc, tokens, names, depth);
+        return return_statement(scope, tokens);
     }
-    perform(alloc, tokens, names, depth)
+    perform(scope, tokens)
 }

@@ -4,66 +4,58 @@ ghost use Rattle.std.specs.Prelude.{◌≤◌, IfOk};
 ghost use Rattle.c_statement_laws.specs.Statements as statements;
 ghost use Rattle.c_syntax.specs.Expressions.{expression_of};
 ghost use Rattle.c_syntax.specs.Statements.{statement_of, part_of, parts_in, groups_in};
-ghost use Rattle.c_parse_token.specs.Lists.{names_of, Parses, IsShorter, IsNoLonger};
-ghost use Rattle.c_parse_expression.specs.Whole.{expressions};
-ghost use Rattle.c_parse_statement.specs.Pieces.{within, read_of, read_else, starts_part};
+ghost use Rattle.c_parse_token.specs.Lists.{Parses, IsShorter, IsNoLonger};
+ghost use Rattle.c_parse_declaration.specs.Parts.{names_in, parsers_in};
+ghost use Rattle.c_parse_statement.specs.Pieces.{statements_in, read_of, read_else, starts_part};
 ghost use Rattle.c_parse_statement.specs.Pieces.{taken_parts};
 ghost use Rattle.c_parse_statement.specs.Runs.{Runs};
 ghost use Rattle.c_grammar_spec.specs.Limits.{nesting_limit, statement_fuel};
 
 use crate::class::{keyword, next_keyword, opening, starts_label, starts_part};
 use crate::ends::takes_else;
-use crate::pieces::{for_start, for_step, for_test, labels, plain_statement, test};
+use crate::pieces::{for_start, for_step, for_test, labels, or_no_memory, plain_statement, test};
 use c_grammar_spec::{Role, STATEMENT_FUEL};
-use c_parse_declaration::{locals, starts_locals};
-use c_parse_token::{Fault, Stopped, Tokens, TypedefNames};
+use c_parse_declaration::{Parsed, Scope, locals, starts_locals};
+use c_parse_token::{Fault, Stopped, Tokens};
 use c_spec::token::{Keyword, Punctuator};
 use c_syntax::expression::Expression;
 use c_syntax::statement::{Group, Part, Statement};
-use std::alloc::Global;
 
 // A declaration or a statement.
 #[cycle(statements)]
-fn part<'t>(
-    alloc: Global,
-    tokens: &mut Tokens<'t>,
-    names: &TypedefNames<'t>,
-    depth: usize,
-    fuel: usize,
-) -> Result<Part<'t>, Stopped>
-    requires depth { depth ≤ nesting_limit }
-    ensures gives { Parses (statements.read_part (names_of names.now) (expressions names.now)
-        (within names.now fuel) depth) (λ x. read_of (part_of x)) tokens.old tokens.new result }
+fn part<'t>(scope: Scope<'_, 't>, tokens: &mut Tokens<'t>, fuel: usize) -> Result<Part<'t>, Stopped>
+    requires depth { scope.depth ≤ nesting_limit }
+    ensures gives { Parses (statements.read_part (names_in scope.entry) (parsers_in scope.entry)
+        (statements_in scope.entry fuel) scope.entry.depth) (λ x. read_of (part_of x)) tokens.old
+        tokens.new result }
     ensures shorter { IfOk result (λ _. IsShorter tokens.new tokens.old) }
 {
-    if starts_locals(tokens, names) {
-        let locals = locals(alloc, tokens, names, depth)?;
+    if starts_locals(tokens, scope.names) {
+        let locals = locals(scope, tokens)?;
         return Ok(Part::declared(locals));
     }
-    let statement = statement(alloc, tokens, names, depth, fuel)?;
+    let statement = statement(scope, tokens, fuel)?;
     Ok(Part::stated(statement))
 }
 
 // The parts of a block, as long as one can begin with the next token.
 #[cycle(statements)]
 fn all_parts<'t>(
-    alloc: Global,
+    scope: Scope<'_, 't>,
     tokens: &mut Tokens<'t>,
-    names: &TypedefNames<'t>,
-    depth: usize,
     fuel: usize,
 ) -> Result<Vec<Part<'t>>, Stopped>
-    requires depth { depth ≤ nesting_limit }
-    ensures gives { Parses (statements.read_parts (names_of names.now) (expressions names.now)
-        (within names.now fuel) depth) parts_in tokens.old tokens.new result }
+    requires depth { scope.depth ≤ nesting_limit }
+    ensures gives { Parses (statements.read_parts (names_in scope.entry) (parsers_in scope.entry)
+        (statements_in scope.entry fuel) scope.entry.depth) parts_in tokens.old tokens.new result }
     ensures shorter { IfOk result (λ _. IsNoLonger tokens.new tokens.old) }
-    ensures runs { Runs starts_part (statements.read_part (names_of names.now) (expressions
-        names.now) (within names.now fuel) depth) taken_parts tokens.old.rest.now
-        tokens.new.rest.now result }
+    ensures runs { Runs starts_part (statements.read_part (names_in scope.entry) (parsers_in
+        scope.entry) (statements_in scope.entry fuel) scope.entry.depth) taken_parts
+        tokens.old.rest.now tokens.new.rest.now result }
 {
-    let mut all: Vec<Part<'t>> = Vec::new(alloc);
+    let mut all: Vec<Part<'t>> = Vec::new(scope.alloc);
     'items: while starts_part(tokens) {
-        let next = part(alloc, tokens, names, depth, fuel)?;
+        let next = part(scope, tokens, fuel)?;
         all.push(next)?;
     }
     Ok(all)
@@ -71,154 +63,167 @@ fn all_parts<'t>(
 
 // `{ .. }`
 #[cycle(statements)]
-fn block<'t>(
-    alloc: Global,
-    tokens: &mut Tokens<'t>,
-    names: &TypedefNames<'t>,
-    depth: usize,
-    fuel: usize,
-) -> Result<Box<Statement<'t>>, Stopped>
-    requires depth { depth ≤ nesting_limit }
-    ensures gives { Parses (statements.read_block (names_of names.now) (expressions names.now)
-        (within names.now fuel) depth) (λ x. statement_of x.value) tokens.old tokens.new result }
+fn block<'t>(scope: Scope<'_, 't>, tokens: &mut Tokens<'t>, fuel: usize) -> Parsed<Statement<'t>>
+    requires depth { scope.depth ≤ nesting_limit }
+    ensures gives { Parses (statements.read_block (names_in scope.entry) (parsers_in scope.entry)
+        (statements_in scope.entry fuel) scope.entry.depth) (λ x. statement_of x.value) tokens.old
+        tokens.new result }
     ensures shorter { IfOk result (λ _. IsShorter tokens.new tokens.old) }
 {
-    let offset = tokens.opening(Punctuator::LeftBrace, depth)?;
-    let parts = all_parts(alloc, tokens, names, depth + 1, fuel)?;
+    let offset = tokens.opening(Punctuator::LeftBrace, scope.depth)?;
+    let deeper = Scope {
+        depth: scope.depth + 1,
+        ..scope
+    };
+    let parts = all_parts(deeper, tokens, fuel)?;
     tokens.mark(Punctuator::RightBrace, Role::Nothing)?;
-    Ok(Statement::block(alloc, parts, offset)?)
+    or_no_memory(Statement::block(scope.alloc, parts, offset))
 }
 
 // The end of an `if` after its body: an `else` belongs to the last `if` that can take it.
 #[cycle(statements)]
 fn else_part<'t>(
-    alloc: Global,
+    scope: Scope<'_, 't>,
     tokens: &mut Tokens<'t>,
-    names: &TypedefNames<'t>,
-    depth: usize,
     fuel: usize,
     test: Box<Expression<'t>>,
     body: Box<Statement<'t>>,
     offset: usize,
-) -> Result<Box<Statement<'t>>, Stopped>
-    requires depth { depth ≤ nesting_limit }
-    ensures gives { Parses (read_else (within names.now fuel) depth (expression_of test.entry.value)
-        (statement_of body.entry.value) offset) (λ x. statement_of x.value) tokens.old tokens.new
-        result }
+) -> Parsed<Statement<'t>>
+    requires depth { scope.depth ≤ nesting_limit }
+    ensures gives { Parses (read_else (statements_in scope.entry fuel) scope.entry.depth
+        (expression_of test.entry.value) (statement_of body.entry.value) offset) (λ x. statement_of
+        x.value) tokens.old tokens.new result }
     ensures shorter { IfOk result (λ _. IsNoLonger tokens.new tokens.old) }
 {
     if takes_else(&body) || !next_keyword(tokens, Keyword::Else) {
-        return Ok(Statement::if_only(alloc, test, body, offset)?);
+        return Ok(Statement::if_only(scope.alloc, test, body, offset)?);
     }
-    opening(tokens, Keyword::Else, depth + 1)?;
-    let otherwise = statement(alloc, tokens, names, depth + 2, fuel)?;
-    Ok(Statement::if_else(alloc, test, body, otherwise, offset)?)
+    opening(tokens, Keyword::Else, scope.depth + 1)?;
+    let deeper = Scope {
+        depth: scope.depth + 2,
+        ..scope
+    };
+    let otherwise = statement(deeper, tokens, fuel)?;
+    Ok(Statement::if_else(scope.alloc, test, body, otherwise, offset)?)
 }
 
 // `if`
 #[cycle(statements)]
 fn if_statement<'t>(
-    alloc: Global,
+    scope: Scope<'_, 't>,
     tokens: &mut Tokens<'t>,
-    names: &TypedefNames<'t>,
-    depth: usize,
     fuel: usize,
-) -> Result<Box<Statement<'t>>, Stopped>
-    requires depth { depth ≤ nesting_limit }
-    ensures gives { Parses (statements.read_if (expressions names.now) (within names.now fuel)
-        depth) (λ x. statement_of x.value) tokens.old tokens.new result }
+) -> Parsed<Statement<'t>>
+    requires depth { scope.depth ≤ nesting_limit }
+    ensures gives { Parses (statements.read_if (parsers_in scope.entry) (statements_in scope.entry
+        fuel) scope.entry.depth) (λ x. statement_of x.value) tokens.old tokens.new result }
     ensures shorter { IfOk result (λ _. IsShorter tokens.new tokens.old) }
 {
-    let offset = opening(tokens, Keyword::If, depth)?;
-    let test = test(alloc, tokens, names, depth + 1)?;
-    let body = statement(alloc, tokens, names, depth + 1, fuel)?;
-    else_part(alloc, tokens, names, depth, fuel, test, body, offset)
+    let offset = opening(tokens, Keyword::If, scope.depth)?;
+    let deeper = Scope {
+        depth: scope.depth + 1,
+        ..scope
+    };
+    let test = test(deeper, tokens)?;
+    let body = statement(deeper, tokens, fuel)?;
+    else_part(scope, tokens, fuel, test, body, offset)
 }
 
 // `while`
 #[cycle(statements)]
 fn while_statement<'t>(
-    alloc: Global,
+    scope: Scope<'_, 't>,
     tokens: &mut Tokens<'t>,
-    names: &TypedefNames<'t>,
-    depth: usize,
     fuel: usize,
-) -> Result<Box<Statement<'t>>, Stopped>
-    requires depth { depth ≤ nesting_limit }
-    ensures gives { Parses (statements.read_while (expressions names.now) (within names.now fuel)
-        depth) (λ x. statement_of x.value) tokens.old tokens.new result }
+) -> Parsed<Statement<'t>>
+    requires depth { scope.depth ≤ nesting_limit }
+    ensures gives { Parses (statements.read_while (parsers_in scope.entry) (statements_in
+        scope.entry fuel) scope.entry.depth) (λ x. statement_of x.value) tokens.old tokens.new
+        result }
     ensures shorter { IfOk result (λ _. IsShorter tokens.new tokens.old) }
 {
-    let offset = opening(tokens, Keyword::While, depth)?;
-    let test = test(alloc, tokens, names, depth + 1)?;
-    let body = statement(alloc, tokens, names, depth + 1, fuel)?;
-    Ok(Statement::while_loop(alloc, test, body, offset)?)
+    let offset = opening(tokens, Keyword::While, scope.depth)?;
+    let deeper = Scope {
+        depth: scope.depth + 1,
+        ..scope
+    };
+    let test = test(deeper, tokens)?;
+    let body = statement(deeper, tokens, fuel)?;
+    or_no_memory(Statement::while_loop(scope.alloc, test, body, offset))
 }
 
 // `do`
 #[cycle(statements)]
 fn do_statement<'t>(
-    alloc: Global,
+    scope: Scope<'_, 't>,
     tokens: &mut Tokens<'t>,
-    names: &TypedefNames<'t>,
-    depth: usize,
     fuel: usize,
-) -> Result<Box<Statement<'t>>, Stopped>
-    requires depth { depth ≤ nesting_limit }
-    ensures gives { Parses (statements.read_do (expressions names.now) (within names.now fuel)
-        depth) (λ x. statement_of x.value) tokens.old tokens.new result }
+) -> Parsed<Statement<'t>>
+    requires depth { scope.depth ≤ nesting_limit }
+    ensures gives { Parses (statements.read_do (parsers_in scope.entry) (statements_in scope.entry
+        fuel) scope.entry.depth) (λ x. statement_of x.value) tokens.old tokens.new result }
     ensures shorter { IfOk result (λ _. IsShorter tokens.new tokens.old) }
 {
-    let offset = opening(tokens, Keyword::Do, depth)?;
-    let body = statement(alloc, tokens, names, depth + 1, fuel)?;
+    let offset = opening(tokens, Keyword::Do, scope.depth)?;
+    let deeper = Scope {
+        depth: scope.depth + 1,
+        ..scope
+    };
+    let body = statement(deeper, tokens, fuel)?;
     keyword(tokens, Keyword::While)?;
-    let test = test(alloc, tokens, names, depth + 1)?;
+    let test = test(deeper, tokens)?;
     tokens.mark(Punctuator::Semicolon, Role::Nothing)?;
-    Ok(Statement::do_loop(alloc, body, test, offset)?)
+    or_no_memory(Statement::do_loop(scope.alloc, body, test, offset))
 }
 
 // `for`
 #[cycle(statements)]
 fn for_statement<'t>(
-    alloc: Global,
+    scope: Scope<'_, 't>,
     tokens: &mut Tokens<'t>,
-    names: &TypedefNames<'t>,
-    depth: usize,
     fuel: usize,
-) -> Result<Box<Statement<'t>>, Stopped>
-    requires depth { depth ≤ nesting_limit }
-    ensures gives { Parses (statements.read_for (names_of names.now) (expressions names.now)
-        (within names.now fuel) depth) (λ x. statement_of x.value) tokens.old tokens.new result }
+) -> Parsed<Statement<'t>>
+    requires depth { scope.depth ≤ nesting_limit }
+    ensures gives { Parses (statements.read_for (names_in scope.entry) (parsers_in scope.entry)
+        (statements_in scope.entry fuel) scope.entry.depth) (λ x. statement_of x.value) tokens.old
+        tokens.new result }
     ensures shorter { IfOk result (λ _. IsShorter tokens.new tokens.old) }
 {
-    let offset = opening(tokens, Keyword::For, depth)?;
-    tokens.opening(Punctuator::LeftParenthesis, depth + 1)?;
-    let start = for_start(alloc, tokens, names, depth + 2)?;
-    let test = for_test(alloc, tokens, names, depth + 2)?;
-    let step = for_step(alloc, tokens, names, depth + 2)?;
-    let body = statement(alloc, tokens, names, depth + 1, fuel)?;
-    Ok(Statement::for_loop(alloc, start, test, step, body, offset)?)
+    let offset = opening(tokens, Keyword::For, scope.depth)?;
+    tokens.opening(Punctuator::LeftParenthesis, scope.depth + 1)?;
+    let head = Scope {
+        depth: scope.depth + 2,
+        ..scope
+    };
+    let start = for_start(head, tokens)?;
+    let test = for_test(head, tokens)?;
+    let step = for_step(head, tokens)?;
+    let deeper = Scope {
+        depth: scope.depth + 1,
+        ..scope
+    };
+    let body = statement(deeper, tokens, fuel)?;
+    or_no_memory(Statement::for_loop(scope.alloc, start, test, step, body, offset))
 }
 
 // The groups of a `switch`.
 #[cycle(statements)]
 fn groups<'t>(
-    alloc: Global,
+    scope: Scope<'_, 't>,
     tokens: &mut Tokens<'t>,
-    names: &TypedefNames<'t>,
-    depth: usize,
     fuel: usize,
 ) -> Result<Vec<Box<Group<'t>>>, Stopped>
-    requires depth { depth ≤ nesting_limit }
-    ensures gives { Parses (statements.read_groups (names_of names.now) (expressions names.now)
-        (within names.now fuel) depth) groups_in tokens.old tokens.new result }
+    requires depth { scope.depth ≤ nesting_limit }
+    ensures gives { Parses (statements.read_groups (names_in scope.entry) (parsers_in scope.entry)
+        (statements_in scope.entry fuel) scope.entry.depth) groups_in tokens.old tokens.new result }
     ensures shorter { IfOk result (λ _. IsNoLonger tokens.new tokens.old) }
 {
-    let mut all: Vec<Box<Group<'t>>> = Vec::new(alloc);
+    let mut all: Vec<Box<Group<'t>>> = Vec::new(scope.alloc);
     'items: while starts_label(tokens) {
-        let labels = labels(alloc, tokens, names, depth)?;
-        let parts = all_parts(alloc, tokens, names, depth, fuel)?;
-        let group = Group::new(alloc, labels, parts)?;
+        let labels = labels(scope, tokens)?;
+        let parts = all_parts(scope, tokens, fuel)?;
+        let group = Group::new(scope.alloc, labels, parts)?;
         all.push(group)?;
     }
     Ok(all)
@@ -227,38 +232,43 @@ fn groups<'t>(
 // `switch`
 #[cycle(statements)]
 fn switch_statement<'t>(
-    alloc: Global,
+    scope: Scope<'_, 't>,
     tokens: &mut Tokens<'t>,
-    names: &TypedefNames<'t>,
-    depth: usize,
     fuel: usize,
-) -> Result<Box<Statement<'t>>, Stopped>
-    requires depth { depth ≤ nesting_limit }
-    ensures gives { Parses (statements.read_switch (names_of names.now) (expressions names.now)
-        (within names.now fuel) depth) (λ x. statement_of x.value) tokens.old tokens.new result }
+) -> Parsed<Statement<'t>>
+    requires depth { scope.depth ≤ nesting_limit }
+    ensures gives { Parses (statements.read_switch (names_in scope.entry) (parsers_in scope.entry)
+        (statements_in scope.entry fuel) scope.entry.depth) (λ x. statement_of x.value) tokens.old
+        tokens.new result }
     ensures shorter { IfOk result (λ _. IsShorter tokens.new tokens.old) }
 {
-    let offset = opening(tokens, Keyword::Switch, depth)?;
-    let test = test(alloc, tokens, names, depth + 1)?;
-    tokens.opening(Punctuator::LeftBrace, depth + 1)?;
-    let groups = groups(alloc, tokens, names, depth + 2, fuel)?;
+    let offset = opening(tokens, Keyword::Switch, scope.depth)?;
+    let deeper = Scope {
+        depth: scope.depth + 1,
+        ..scope
+    };
+    let test = test(deeper, tokens)?;
+    tokens.opening(Punctuator::LeftBrace, deeper.depth)?;
+    let inside = Scope {
+        depth: scope.depth + 2,
+        ..scope
+    };
+    let groups = groups(inside, tokens, fuel)?;
     tokens.mark(Punctuator::RightBrace, Role::Nothing)?;
-    Ok(Statement::switch(alloc, test, groups, offset)?)
+    or_no_memory(Statement::switch(scope.alloc, test, groups, offset))
 }
 
 // A statement in which so many constructs may open, by its first token.
 #[tactic(auto, using(crate::proofs::StatementFuel::fuel_cases))]
 #[cycle(statements)]
 fn statement<'t>(
-    alloc: Global,
+    scope: Scope<'_, 't>,
     tokens: &mut Tokens<'t>,
-    names: &TypedefNames<'t>,
-    depth: usize,
     fuel: usize,
-) -> Result<Box<Statement<'t>>, Stopped>
-    requires depth { depth ≤ nesting_limit }
-    ensures gives { Parses (within names.now fuel depth) (λ x. statement_of x.value) tokens.old
-        tokens.new result }
+) -> Parsed<Statement<'t>>
+    requires depth { scope.depth ≤ nesting_limit }
+    ensures gives { Parses (statements_in scope.entry fuel scope.entry.depth) (λ x. statement_of
+        x.value) tokens.old tokens.new result }
     ensures shorter { IfOk result (λ _. IsShorter tokens.new tokens.old) }
 {
     if fuel == 0 {
@@ -266,42 +276,37 @@ fn statement<'t>(
     }
     let inner = fuel - 1;
     if tokens.next_is(Punctuator::LeftBrace) {
-        return block(alloc, tokens, names, depth, inner);
+        return block(scope, tokens, inner);
     }
     if tokens.next_is(Punctuator::Semicolon) {
         let offset = tokens.mark(Punctuator::Semicolon, Role::Nothing)?;
-        return Ok(Statement::empty(alloc, offset)?);
+        return or_no_memory(Statement::empty(scope.alloc, offset));
     }
     if next_keyword(tokens, Keyword::If) {
-        return if_statement(alloc, tokens, names, depth, inner);
+        return if_statement(scope, tokens, inner);
     }
     if next_keyword(tokens, Keyword::Switch) {
-        return switch_statement(alloc, tokens, names, depth, inner);
+        return switch_statement(scope, tokens, inner);
     }
     if next_keyword(tokens, Keyword::While) {
-        return while_statement(alloc, tokens, names, depth, inner);
+        return while_statement(scope, tokens, inner);
     }
     if next_keyword(tokens, Keyword::Do) {
-        return do_statement(alloc, tokens, names, depth, inner);
+        return do_statement(scope, tokens, inner);
     }
     if next_keyword(tokens, Keyword::For) {
-        return for_statement(alloc, tokens, names, depth, inner);
+        return for_statement(scope, tokens, inner);
     }
-    plain_statement(alloc, tokens, names, depth)
+    plain_statement(scope, tokens)
 }
 
 /// The parts of a block, as long as one can begin with the next token.
-pub fn parts<'t>(
-    alloc: Global,
-    tokens: &mut Tokens<'t>,
-    names: &TypedefNames<'t>,
-    depth: usize,
-) -> Result<Vec<Part<'t>>, Stopped>
-    requires depth { depth ≤ nesting_limit }
-    ensures gives { Parses (statements.read_parts (names_of names.now) (expressions names.now)
-        (statements.read_statement (names_of names.now) (expressions names.now) statement_fuel)
-        depth) parts_in tokens.old tokens.new result }
+pub fn parts<'t>(scope: Scope<'_, 't>, tokens: &mut Tokens<'t>) -> Result<Vec<Part<'t>>, Stopped>
+    requires depth { scope.depth ≤ nesting_limit }
+    ensures gives { Parses (statements.read_parts (names_in scope.entry) (parsers_in scope.entry)
+        (statements.read_statement (names_in scope.entry) (parsers_in scope.entry) statement_fuel)
+        scope.entry.depth) parts_in tokens.old tokens.new result }
     ensures shorter { IfOk result (λ _. IsNoLonger tokens.new tokens.old) }
 {
-    all_parts(alloc, tokens, names, depth, STATEMENT_FUEL)
+    all_parts(scope, tokens, STATEMENT_FUEL)
 }

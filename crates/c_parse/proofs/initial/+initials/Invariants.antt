@@ -16,7 +16,7 @@ decreases-initials l = 3 * l.fuel + 2
 
 abbrev pub invariant-initials-items : goal.invariant-initials-items
 invariant-initials-items l = record {
-  going : Awaiting (names_of l.names) (expressions l.names) l.depth (read_initial (names_of l.names) (expressions l.names) l.fuel l.depth) (read_initials (names_of l.names) (expressions l.names) l.depth (read_initial (names_of l.names) (expressions l.names) l.fuel l.depth) (list_of l.fn.tokens.rest.now)) l.end (list_of l.tokens.rest.now);
+  going : Awaiting (names_of l.scope.names.now) (expressions l.scope.names.now) l.scope.depth (read_initial (names_of l.scope.names.now) (expressions l.scope.names.now) l.fuel l.scope.depth) (read_initials (names_of l.scope.names.now) (expressions l.scope.names.now) l.scope.depth (read_initial (names_of l.scope.names.now) (expressions l.scope.names.now) l.fuel l.scope.depth) (list_of l.fn.tokens.rest.now)) l.end (list_of l.tokens.rest.now);
   fewer : length l.tokens.rest.now < length l.fn.tokens.rest.now;
 }
 

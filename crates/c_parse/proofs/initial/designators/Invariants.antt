@@ -7,7 +7,7 @@ use Rattle.c_parse.proofs.initial.designators.Given as goal
 
 abbrev pub invariant-items : goal.invariant-items
 invariant-items l = record {
-  going : Designating (expressions l.names) l.depth (read_designators (expressions l.names) l.depth (list_of l.fn.tokens.rest.now)) (list_of l.tokens.rest.now);
+  going : Designating (expressions l.scope.names.now) l.scope.depth (read_designators (expressions l.scope.names.now) l.scope.depth (list_of l.fn.tokens.rest.now)) (list_of l.tokens.rest.now);
   fewer : length l.tokens.rest.now < length l.fn.tokens.rest.now;
 }
 

@@ -12,13 +12,13 @@ use Rattle.c_parse_declaration.proofs.declaration.more_locals.Goals as goal
 
 pub items-init : goal.items-init
 items-init c = record {
-  going = listed-start end_of_local Semicolon (read_local (names_of c.args.names.now) (expressions c.args.names.now) c.args.depth) (local_of c.args.first.value) (map local_of (unboxed c.push.new.self)) c.end_of_local-end.result (list_of c.args.tokens.now.rest.now) (first-pushed local_of _ _ c.args.first c.in_ok-push.ensures.items c.requires.empty) (c.end_of_local-end.ensures ∙ ap (λ x. end_of_local (local_of x)) c.deref.ensures);
+  going = listed-start end_of_local Semicolon (read_local (names_of c.args.scope.names.now) (expressions c.args.scope.names.now) c.args.scope.depth) (local_of c.args.first.value) (map local_of (unboxed c.push.new.self)) c.end_of_local-end.result (list_of c.args.tokens.now.rest.now) (first-pushed local_of _ _ c.args.first c.in_ok-push.ensures.items c.requires.empty) (c.end_of_local-end.ensures ∙ ap (λ x. end_of_local (local_of x)) c.deref.ensures);
   fewer = omega arith;
 }
 
 pub items-preserved : goal.items-preserved
 items-preserved c =
-    let item = read_local (names_of c.args.names.now) (expressions c.args.names.now) c.args.depth in
+    let item = read_local (names_of c.args.scope.names.now) (expressions c.args.scope.names.now) c.args.scope.depth in
     let whole = read_list_from end_of_local Semicolon (read_nothing (local_of c.args.first.value)) item (list_of c.args.tokens.now.rest.now) in
     let middle = list_of c.mark.new.self.rest.now in
     let rest = c.local.new.tokens.rest.now in
@@ -30,20 +30,20 @@ items-preserved c =
 
 pub returns-in_err-next-clause-gives : goal.returns-in_err-next-clause-gives
 returns-in_err-next-clause-gives c =
-    let item = read_local (names_of c.args.names.now) (expressions c.args.names.now) c.args.depth in
+    let item = read_local (names_of c.args.scope.names.now) (expressions c.args.scope.names.now) c.args.scope.depth in
     let whole = read_list_from end_of_local Semicolon (read_nothing (local_of c.args.first.value)) item (list_of c.args.tokens.now.rest.now) in
     relayed whole _ _ _ c.in_err-next.field-0.0 c.from_residual-in_err-next.ensures.1
     (listing-item_error (listed end_of_local Semicolon item) whole (map local_of (unboxed c.items.locals)) c.items.end _ (list_of c.items.tokens.rest.now) (list_of c.mark.new.self.rest.now) _ c.in_err-next.field-0.0 c.items.invariant.going (sym c.next_is.ensures ∙ c.items-test.true) c.in_ok-mark.ensures.gives c.in_err-next.ensures.gives)
 
 pub returns-in_err-mark-2-clause-gives : goal.returns-in_err-mark-2-clause-gives
 returns-in_err-mark-2-clause-gives c =
-    let item = read_local (names_of c.args.names.now) (expressions c.args.names.now) c.args.depth in
+    let item = read_local (names_of c.args.scope.names.now) (expressions c.args.scope.names.now) c.args.scope.depth in
     let whole = read_list_from end_of_local Semicolon (read_nothing (local_of c.args.first.value)) item (list_of c.args.tokens.now.rest.now) in
     relayed whole _ _ _ c.in_err-mark-2.field-0.0 c.from_residual-in_err-mark-2.ensures.1
     (listing-unclosed (listed end_of_local Semicolon item) whole (map local_of (unboxed c.items.locals)) c.items.end (list_of c.items.tokens.rest.now) _ c.in_err-mark-2.field-0.0 c.items.invariant.going (sym c.next_is.ensures ∙ c.items-test.false) c.in_err-mark-2.ensures.gives)
 
 pub returns-clause-gives : goal.returns-clause-gives
 returns-clause-gives c =
-    let item = read_local (names_of c.args.names.now) (expressions c.args.names.now) c.args.depth in
+    let item = read_local (names_of c.args.scope.names.now) (expressions c.args.scope.names.now) c.args.scope.depth in
     let whole = read_list_from end_of_local Semicolon (read_nothing (local_of c.args.first.value)) item (list_of c.args.tokens.now.rest.now) in
     listing-end (listed end_of_local Semicolon item) whole (map local_of (unboxed c.items.locals)) c.items.end _ (list_of c.items.tokens.rest.now) (list_of c.mark-2.new.self.rest.now) c.items.invariant.going (sym c.next_is.ensures ∙ c.items-test.false) c.in_ok-mark-2.ensures.gives

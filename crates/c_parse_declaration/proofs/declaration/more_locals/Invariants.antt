@@ -11,7 +11,7 @@ use Rattle.c_parse_declaration.proofs.declaration.more_locals.Given as goal
 
 abbrev pub invariant-items : goal.invariant-items
 invariant-items l = record {
-  going : Listing (listed end_of_local Semicolon (read_local (names_of l.names) (expressions l.names) l.depth)) (read_list_from end_of_local Semicolon (read_nothing (local_of l.fn.first.value)) (read_local (names_of l.names) (expressions l.names) l.depth) (list_of l.initial.tokens.rest.now)) (map local_of (unboxed l.locals)) l.end (list_of l.tokens.rest.now);
+  going : Listing (listed end_of_local Semicolon (read_local (names_of l.scope.names.now) (expressions l.scope.names.now) l.scope.depth)) (read_list_from end_of_local Semicolon (read_nothing (local_of l.fn.first.value)) (read_local (names_of l.scope.names.now) (expressions l.scope.names.now) l.scope.depth) (list_of l.initial.tokens.rest.now)) (map local_of (unboxed l.locals)) l.end (list_of l.tokens.rest.now);
   fewer : length l.tokens.rest.now ≤ length l.initial.tokens.rest.now;
 }
 

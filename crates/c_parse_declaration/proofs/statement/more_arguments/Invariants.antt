@@ -9,7 +9,7 @@ use Rattle.c_parse_declaration.proofs.statement.more_arguments.Given as goal
 
 abbrev pub invariant-items : goal.invariant-items
 invariant-items l = record {
-  going : Listing (argued (expressions l.names) l.depth) (read_arguments_from (expressions l.names) l.depth l.initial.tokens.count (expression_of l.fn.first.value) (list_of l.initial.tokens.rest.now)) (map expression_of (unboxed l.arguments)) l.tokens.count (list_of l.tokens.rest.now);
+  going : Listing (argued (expressions l.scope.names.now) l.scope.depth) (read_arguments_from (expressions l.scope.names.now) l.scope.depth l.initial.tokens.count (expression_of l.fn.first.value) (list_of l.initial.tokens.rest.now)) (map expression_of (unboxed l.arguments)) l.tokens.count (list_of l.tokens.rest.now);
   within : l.tokens.count ≤ operator_limit;
   fewer : length l.tokens.rest.now ≤ length l.initial.tokens.rest.now;
 }

@@ -7,7 +7,7 @@ use Rattle.c_parse_statement.specs.Runs.{Run}
 use Rattle.c_parse_statement.proofs.pieces.labels.Given as goal
 
 abbrev pub invariant-items : goal.invariant-items
-invariant-items l = Run begins_label (read_label (expressions l.names) l.depth) (list_of l.initial.tokens.rest.now) (taken_labels l.all) (list_of l.tokens.rest.now)
+invariant-items l = Run begins_label (read_label (expressions l.scope.names.now) l.scope.depth) (list_of l.initial.tokens.rest.now) (taken_labels l.all) (list_of l.tokens.rest.now)
 
 abbrev pub decreases-items : goal.decreases-items
 decreases-items l = length l.tokens.rest.now

@@ -44,7 +44,7 @@ decreases-for_statement l = 16 * l.fuel + 1
 
 abbrev pub invariant-all_parts-items : goal.invariant-all_parts-items
 invariant-all_parts-items l = record {
-  run : Run starts_part (read_part (names_of l.names) (expressions l.names) (within l.names l.fuel) l.depth) (list_of l.initial.tokens.rest.now) (taken_parts l.all) (list_of l.tokens.rest.now);
+  run : Run starts_part (read_part (names_of l.scope.names.now) (expressions l.scope.names.now) (within l.scope.names.now l.fuel) l.scope.depth) (list_of l.initial.tokens.rest.now) (taken_parts l.all) (list_of l.tokens.rest.now);
   fewer : length l.tokens.rest.now ≤ length l.initial.tokens.rest.now;
 }
 
@@ -53,7 +53,7 @@ decreases-all_parts-items l = length l.tokens.rest.now
 
 abbrev pub invariant-groups-items : goal.invariant-groups-items
 invariant-groups-items l = record {
-  going : Groups (names_of l.names) (expressions l.names) (within l.names l.fuel) l.depth (read_groups (names_of l.names) (expressions l.names) (within l.names l.fuel) l.depth (list_of l.initial.tokens.rest.now)) (map group_of (unboxed l.all)) (list_of l.tokens.rest.now);
+  going : Groups (names_of l.scope.names.now) (expressions l.scope.names.now) (within l.scope.names.now l.fuel) l.scope.depth (read_groups (names_of l.scope.names.now) (expressions l.scope.names.now) (within l.scope.names.now l.fuel) l.scope.depth (list_of l.initial.tokens.rest.now)) (map group_of (unboxed l.all)) (list_of l.tokens.rest.now);
   fewer : length l.tokens.rest.now ≤ length l.initial.tokens.rest.now;
 }
 
