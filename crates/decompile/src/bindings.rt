@@ -19,20 +19,28 @@ use rv_instr::{
 };
 use std::alloc::{AllocError, Global};
 use term_core::Term;
-use term_spec::Atom;
+use term_spec::{Atom, Variable};
+
+/// Binds a variable.
+fn bind(alloc: Global, variable: Variable, term: Box<Term>) -> Result<Vec<Binding>, AllocError>
+    ensures { BuildsBindings result (record {
+      variable = variable;
+      term = boxed_term term;
+    } ∷ []) }
+{
+    let mut bindings = Vec::new(alloc);
+    bindings.push(Binding { variable, term })?;
+    Ok(bindings)
+}
 
 /// Binds a register, unless it is x0, which nothing writes.
 fn put(alloc: Global, rd: Reg, term: Box<Term>) -> Result<Vec<Binding>, AllocError>
     ensures { BuildsBindings result (spec.put rd (boxed_term term)) }
 {
-    let mut bindings = Vec::new(alloc);
-    if rd.number() != 0 {
-        bindings.push(Binding {
-            variable: register(rd),
-            term,
-        })?;
+    if rd.number() == 0 {
+        return Ok(Vec::new(alloc));
     }
-    Ok(bindings)
+    bind(alloc, register(rd), term)
 }
 
 /// Binds a register to a number.
@@ -147,12 +155,7 @@ fn stores(
     let a = address(alloc, base, offset)?;
     let source = operand(alloc, source)?;
     let term = stored(alloc, kind, &a, &source)?;
-    let mut bindings = Vec::new(alloc);
-    bindings.push(Binding {
-        variable: memory(),
-        term,
-    })?;
-    Ok(bindings)
+    bind(alloc, memory(), term)
 }
 
 /// The upper 20 bits of a word.
@@ -241,22 +244,37 @@ fn enter(alloc: Global, bindings: &mut Vec<Binding>, numbers: &[u8]) -> Result<(
     Ok(())
 }
 
-/// What a called function starts with, where this is the address after the call.
+/// Adds what binds a variable to a number.
+fn bind_number(
+    alloc: Global,
+    bindings: &mut Vec<Binding>,
+    variable: Variable,
+    n: u32,
+) -> Result<(), AllocError>
+    ensures { OnOk result (bindings_of bindings.new
+        ≡ bindings_of bindings.old ++ record { variable = variable; term = spec.number n } ∷ []) }
+{
+    let term = number(alloc, n)?;
+    bindings.push(Binding { variable, term })?;
+    Ok(())
+}
+
+/// Adds what a called function starts with, where this is the address after the call.
 #[tactic(auto, unfolding(code_graph_spec::specs::Blocks::call_inputs))]
+fn add_inputs(alloc: Global, inputs: &mut Vec<Binding>, back: u32) -> Result<(), AllocError>
+    ensures { OnOk result (bindings_of inputs.new
+        ≡ bindings_of inputs.old ++ call_inputs_are back) }
+{
+    bind_number(alloc, inputs, register(Reg::new(1)), back)?;
+    bind_number(alloc, inputs, entry_register(Reg::new(1)), back)?;
+    enter(alloc, inputs, &OTHER_REGISTERS)
+}
+
+/// What a called function starts with, where this is the address after the call.
 pub(crate) fn call_inputs(alloc: Global, back: u32) -> Result<Vec<Binding>, AllocError>
     ensures { BuildsBindings result (call_inputs_are back) }
 {
-    let now = number(alloc, back)?;
-    let entry = number(alloc, back)?;
     let mut inputs = Vec::new(alloc);
-    inputs.push(Binding {
-        variable: register(Reg::new(1)),
-        term: now,
-    })?;
-    inputs.push(Binding {
-        variable: entry_register(Reg::new(1)),
-        term: entry,
-    })?;
-    enter(alloc, &mut inputs, &OTHER_REGISTERS)?;
+    add_inputs(alloc, &mut inputs, back)?;
     Ok(inputs)
 }

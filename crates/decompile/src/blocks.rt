@@ -144,18 +144,9 @@ impl Function<'_> {
             (jal_flow rd target)) }
     {
         match rd.number() {
-            0 => {
-                add_plain(alloc, graph, self.toward(target))?;
-                Ok(())
-            }
-            1 => {
-                self.add_call(alloc, graph, item, target)?;
-                Ok(())
-            }
-            _ => {
-                add_plain(alloc, graph, Next::Err)?;
-                Ok(())
-            }
+            0 => add_plain(alloc, graph, self.toward(target)),
+            1 => self.add_call(alloc, graph, item, target),
+            _ => add_plain(alloc, graph, Next::Err),
         }
     }
 
@@ -196,12 +187,10 @@ impl Function<'_> {
     {
         match item.instruction {
             Instr::Jal { rd, offset } => {
-                self.add_jump(alloc, graph, item, rd, item.target(offset))?;
-                Ok(())
+                self.add_jump(alloc, graph, item, rd, item.target(offset))
             }
             Instr::Jalr { .. } => {
-                self.add_return(alloc, graph, item, is_return(&item.instruction))?;
-                Ok(())
+                self.add_return(alloc, graph, item, is_return(&item.instruction))
             }
             Instr::Branch {
                 test,
@@ -210,13 +199,9 @@ impl Function<'_> {
                 offset,
             } => {
                 let test = branch_test(alloc, test, left, right)?;
-                self.add_branch(graph, item, test, item.target(offset))?;
-                Ok(())
+                self.add_branch(graph, item, test, item.target(offset))
             }
-            Instr::Ecall | Instr::Ebreak => {
-                self.add_return(alloc, graph, item, false)?;
-                Ok(())
-            }
+            Instr::Ecall | Instr::Ebreak => self.add_return(alloc, graph, item, false),
             Instr::Lui { .. }
             | Instr::Auipc { .. }
             | Instr::Load { .. }
@@ -224,10 +209,7 @@ impl Function<'_> {
             | Instr::Immediate { .. }
             | Instr::Shift { .. }
             | Instr::Arithmetic { .. }
-            | Instr::Fence { .. } => {
-                self.add_step(alloc, graph, item)?;
-                Ok(())
-            }
+            | Instr::Fence { .. } => self.add_step(alloc, graph, item),
         }
     }
 }

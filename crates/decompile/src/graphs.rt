@@ -34,27 +34,39 @@ pub struct CodeGraph {
 }
 
 impl Function<'_> {
-    ghost use Rattle.std.specs.Prelude.{◌≡◌, map, All, IfOk};
+    ghost use Rattle.std.specs.Prelude.{◌≡◌, map, All, IfOk, OnOk};
+    ghost use Rattle.graph_spec.specs.Graph.{empty};
     ghost use Rattle.code_graph_laws.specs.Layout.{laid};
     ghost use Rattle.graph_core.specs.Graphs.{graph_of as seen};
     ghost use Rattle.decompile.specs.Items.{item_of};
     ghost use Rattle.decompile.specs.Settings.{setting_of, Stays};
 
-    /// The graph of some instructions: a landing node at the entry, and the nodes of each in order.
-    fn graph(&self, alloc: Global, items: &[Item]) -> Result<Graph, AllocError>
-        requires { All (λ item. Stays (setting_of self.now) (item_of item).flow) items.now }
-        ensures { IfOk result (λ graph. seen graph
-            ≡ laid (setting_of self.now) (map item_of items.now)) }
+    /// Adds to a graph without nodes those of some instructions: a landing node at the entry, and
+    /// the nodes of each in order.
+    fn add_blocks(&self, alloc: Global, graph: &mut Graph, items: &[Item]) -> Result<(), AllocError>
+        requires none { seen graph.old ≡ empty }
+        requires stay { All (λ item. Stays (setting_of self.now) (item_of item).flow) items.now }
+        ensures { OnOk result (seen graph.new ≡ laid (setting_of self.now) (map item_of items.now)) }
     {
-        let mut graph = Graph::new(alloc);
         let first = self.node(self.entry, 0)?;
         graph.add(Node::Basic {
             bindings: Vec::new(alloc),
             next: Next::At(first),
         })?;
         for item in items {
-            self.add_block(alloc, &mut graph, item)?;
+            self.add_block(alloc, graph, item)?;
         }
+        Ok(())
+    }
+
+    /// The graph of some instructions.
+    fn graph(&self, alloc: Global, items: &[Item]) -> Result<Graph, AllocError>
+        requires { All (λ item. Stays (setting_of self.now) (item_of item).flow) items.now }
+        ensures { IfOk result (λ graph. seen graph
+            ≡ laid (setting_of self.now) (map item_of items.now)) }
+    {
+        let mut graph = Graph::new(alloc);
+        self.add_blocks(alloc, &mut graph, items)?;
         Ok(graph)
     }
 }

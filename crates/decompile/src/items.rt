@@ -13,7 +13,7 @@ use rv_instr::Instr;
 use std::alloc::Global;
 
 /// An instruction and its address.
-#[derive(Clone, Copy, Debug, Drop)]
+#[derive(Clone, Copy, Drop)]
 pub(crate) struct Item {
     /// Where it is.
     pub address: u32,

@@ -1,6 +1,6 @@
 //! The numbers of nodes: which is the first of each instruction.
 
-ghost use Rattle.std.specs.Prelude.{◌≡◌, ◌+◌, ◌<◌, ◌≤◌, map, IfOk, IfErr};
+ghost use Rattle.std.specs.Prelude.{◌≡◌, ◌+◌, ◌<◌, ◌≤◌, [], map, IfOk, IfErr, OnOk};
 ghost use Rattle.std.specs.List.Sorted.{IsStrictlyIncreasing};
 ghost use Rattle.decompile.specs.Items.{item_of};
 ghost use Rattle.decompile.specs.Counts as spec;
@@ -58,6 +58,16 @@ fn further_nodes(runs: usize, item: &Item) -> Result<usize, AllocError>
     }
 }
 
+/// The number of the first node after those of an instruction, of which this is the first.
+fn after(runs: usize, item: &Item, first: usize) -> Result<usize, AllocError>
+    ensures { IfOk result (λ next. next
+        ≡ first + (spec.further_nodes runs (item_of item.now) + 1)) }
+{
+    let further = further_nodes(runs, item)?;
+    let own = plus(further, 1)?;
+    plus(first, own)
+}
+
 /// A number of nodes, if it is at most the maximum.
 fn bounded(count: usize, maximum: usize) -> Result<usize, GraphError>
     ensures within { IfOk result (λ same. (same ≡ count) × (count ≤ maximum)) }
@@ -78,16 +88,34 @@ pub(crate) fn count_nodes(runs: usize, items: &[Item], maximum: usize) -> Result
 {
     let mut count = bounded(1, maximum)?;
     for item in items {
-        let further = further_nodes(runs, item)?;
-        let next = plus(count, plus(further, 1)?)?;
+        let next = after(runs, item, count)?;
         count = bounded(next, maximum)?;
     }
     Ok(count)
 }
 
+/// Numbers the first node of each of some instructions, where there are so many runs of fixed bytes:
+/// the landing node at the entry has the number 0, and the nodes of the instructions follow in
+/// order.
+fn number_nodes(
+    firsts: &mut IndexMap<u32, usize>,
+    runs: usize,
+    items: &[Item],
+) -> Result<(), AllocError>
+    requires none { firsts.old.entries ≡ [] }
+    requires rising { IsStrictlyIncreasing (map (λ item. item.address) items.now) }
+    ensures { OnOk result (firsts.new.entries ≡ spec.numbered runs 1 (map item_of items.now)) }
+{
+    let mut next: usize = 1;
+    for item in items {
+        firsts.insert(item.address, next)?;
+        next = after(runs, item, next)?;
+    }
+    Ok(())
+}
+
 /// The number of the first node of each of some instructions, where there are so many runs of fixed
-/// bytes: the landing node at the entry has the number 0, and the nodes of the instructions follow
-/// in order.
+/// bytes, by its address.
 pub(crate) fn first_nodes(
     alloc: Global,
     runs: usize,
@@ -98,11 +126,6 @@ pub(crate) fn first_nodes(
         ≡ spec.numbered runs 1 (map item_of items.now)) }
 {
     let mut firsts = IndexMap::new(alloc);
-    let mut next: usize = 1;
-    for item in items {
-        firsts.insert(item.address, next)?;
-        let further = further_nodes(runs, item)?;
-        next = plus(next, plus(further, 1)?)?;
-    }
+    number_nodes(&mut firsts, runs, items)?;
     Ok(firsts)
 }

@@ -1,5 +1,6 @@
 -- Trees at indices of a bank that grows.
-use Rattle.std.proofs.Common.{◌≡◌, ℕ, ◌+◌, ◌<◌, ◌≤◌, false, List, [], ◌∷◌, ◌++◌, length, map, Some, refl, sym, ap, ◌∙◌, arith, append_assoc, append-nil, length-append}
+use Rattle.std.proofs.Common.{◌≡◌, ℕ, ◌+◌, ◌<◌, ◌≤◌, false, List, [], ◌∷◌, ◌++◌, length, map, Some, Result, refl, sym, ap, ◌∙◌, subst, arith, append_assoc, append-nil, length-append}
+use Rattle.std.specs.Prelude.{IfOk}
 use Rattle.std.proofs.lemmas.Option.{slice_get_within, get_or_from_slice_get, slice_get-get_or}
 use Rattle.term_spec.specs.declared.Atom.TheVariants as atom
 use Rattle.term_spec.specs.declared.Variable.{Variable}
@@ -8,7 +9,7 @@ use Rattle.term_spec.specs.Term.{Term}
 use Rattle.term_bank.specs.declared.node.TermNode.{TermNode}
 use Rattle.term_bank.specs.Nodes.{IsNode, tree_at, build, Holds, Extends}
 use Rattle.term_bank.proofs.Growth.{tree_at-front, build-front}
-use Rattle.flat_spec.specs.Flat.{FlatLoad}
+use Rattle.flat_spec.specs.Flat.{FlatLoad, agree}
 use Rattle.mem_terms.specs.declared.ids.LoadIds.{LoadIds}
 use Rattle.mem_terms.specs.Ids.{IsTreeAt, load_at, IsWithin, AreWithin}
 
@@ -61,3 +62,17 @@ within_later a b l e h = (within_longer a b l.address e h.0, within_longer a b l
 pub all_within_later : (a b : List Term) (loads : List LoadIds) → Extends a b → AreWithin (length a) loads → AreWithin (length b) loads
 all_within_later a b [] e h = tt
 all_within_later a b (l ∷ loads) e h = (within_later a b l e h.0, all_within_later a b loads e h.1)
+
+-- two loads agree, by a test of their addresses and one of their bytes
+pub agreed : {E : Type 0} (old first second new : List Term) (x y : LoadIds) (a b : ℕ) (r : Result ℕ E) → Extends old first → Extends first second
+    → IsWithin (length old) x → IsWithin (length old) y → IsTreeAt first a (tree.equal (tree_at old x.address) (tree_at old y.address))
+    → IsTreeAt second b (tree.equal (tree_at first x.byte) (tree_at first y.byte))
+    → IfOk r (λ i. IsTreeAt new i (tree.or_term (tree.not_term (tree_at second a)) (tree_at second b)))
+    → IfOk r (λ i. IsTreeAt new i (agree (load_at old x) (load_at old y)))
+agreed old first second new x y a b r e1 e2 x_within y_within at_a at_b made =
+    let addresses : tree_at second a ≡ tree.equal (tree_at old x.address) (tree_at old y.address) = kept_tree first second a e2 at_a.within ∙ at_a.tree in
+    let bytes : tree_at second b ≡ tree.equal (tree_at first x.byte) (tree_at first y.byte) = at_b.tree in
+    let x_byte : tree_at first x.byte ≡ tree_at old x.byte = kept_tree old first x.byte e1 x_within.1 in
+    let y_byte : tree_at first y.byte ≡ tree_at old y.byte = kept_tree old first y.byte e1 y_within.1 in
+    let same : tree.or_term (tree.not_term (tree_at second a)) (tree_at second b) ≡ agree (load_at old x) (load_at old y) = cc in
+    subst (λ t. IfOk r (λ i. IsTreeAt new i t)) same made

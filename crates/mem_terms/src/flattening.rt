@@ -15,6 +15,23 @@ use crate::walk::Walk;
 use std::alloc::{AllocError, Global};
 use term_bank::{Bank, TermId};
 
+// The flat term of a term, in the same bank.
+fn flat_of(alloc: Global, bank: &mut Bank, goal: TermId) -> Result<Flat, AllocError>
+    requires { goal < length bank.old }
+    ensures flat { IfOk result (λ flat. IsFlatOf bank.new flat (tree_at bank.old goal)) }
+    ensures extends { Extends bank.old bank.new }
+{
+    // equal trees have one index from here on
+    let _truth = truth(bank)?;
+    let mut walk = Walk::new(alloc, bank, goal)?;
+    walk.run(bank)?;
+    let without = walk.flat_id(goal);
+    let loads = walk.into_loads();
+    let all = consistent(alloc, bank, &loads)?;
+    let term = implied(bank, all, without)?;
+    Ok(Flat { term, loads })
+}
+
 /// The flat term of a term, in the same bank: each load of a memory variable is a byte of its own.
 /// Out of memory, the bank may have some more terms.
 pub fn flat(alloc: Global, bank: &mut Bank, goal: TermId) -> Result<Flat, AllocError>
@@ -32,13 +49,5 @@ pub fn flat(alloc: Global, bank: &mut Bank, goal: TermId) -> Result<Flat, AllocE
         → IsAlwaysTrue t ↔ IsAlwaysTrue (tree_at bank.new flat.term)) }
     ensures extends { Extends bank.old bank.new }
 {
-    // equal trees have one index from here on
-    let _truth = truth(bank)?;
-    let mut walk = Walk::new(alloc, bank, goal)?;
-    walk.run(bank)?;
-    let without = walk.flat_id(goal);
-    let loads = walk.into_loads();
-    let all = consistent(alloc, bank, &loads)?;
-    let term = implied(bank, all, without)?;
-    Ok(Flat { term, loads })
+    flat_of(alloc, bank, goal)
 }

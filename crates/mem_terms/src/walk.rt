@@ -16,7 +16,7 @@ use term_bank::{Bank, TermId, TermNode};
 use term_spec::{Atom, BinaryOperator, Variable};
 
 /// What is left to do at a term.
-#[derive(Clone, Copy, Debug)]
+#[derive(Clone, Copy)]
 pub enum Task {
     /// first its arguments, then the term
     Visit(TermId),
@@ -25,7 +25,7 @@ pub enum Task {
 }
 
 /// A load of a variable.
-#[derive(Clone, Copy, Debug)]
+#[derive(Clone, Copy)]
 pub struct LoadNode {
     /// the memory
     pub memory: Variable,
@@ -34,7 +34,7 @@ pub struct LoadNode {
 }
 
 /// The walk so far.
-#[derive(Debug, Drop)]
+#[derive(Drop)]
 pub struct Walk {
     /// the index of each term's flat term, where it has one already
     done: Vec<Option<TermId>>,

@@ -2,7 +2,7 @@
 use Rattle.std.proofs.Common.{◌≡◌, ℕ, ◌+◌, ◌<◌, ◌≤◌, [], ◌∷◌, ◌++◌, length, eqb, Option, Some, None, Result, Ok, sym, ap, ◌∙◌, subst, arith}
 use Rattle.std.specs.Prelude.{MatchOption}
 use Rattle.std.specs.Map.{update}
-use Rattle.std.proofs.lemmas.Option.{MatchOption-at_none}
+use Rattle.std.proofs.lemmas.Option.{MatchOption-at_none, MatchOption-at_some}
 use Rattle.std.proofs.lemmas.Map.{update_here, update_apart}
 use Rattle.term_norm.specs.declared.walk.Stop.{Stop}
 use Rattle.term_norm.specs.declared.walk.Walk.{Walk}
@@ -34,6 +34,11 @@ alone walk start sound e = sym (first_alone walk.waiting.items walk.at e) ∙ so
 -- the first has no form yet
 pub goes_on : (old new : Walk) (start : ℕ) (outcome : Result ℕ Stop) (end : Option ℕ) → end ≡ None → MatchOption end (Advances old new start) (λ last. (outcome ≡ Ok last) × (old.at ≡ start)) → Advances old new start
 goes_on old new start outcome end none h = MatchOption-at_none (Advances old new start) (λ last. (outcome ≡ Ok last) × (old.at ≡ start)) none h
+
+-- the first has a form
+pub ends : (old new : Walk) (start : ℕ) (outcome : Result ℕ Stop) (end : Option ℕ) (last : ℕ) → end ≡ Some last
+    → MatchOption end (Advances old new start) (λ last. (outcome ≡ Ok last) × (old.at ≡ start)) → (outcome ≡ Ok last) × (old.at ≡ start)
+ends old new start outcome end last is h = MatchOption-at_some (Advances old new start) (λ last. (outcome ≡ Ok last) × (old.at ≡ start)) last is h
 
 module _ (old new : Walk) (start form : ℕ) (noted : (k : ℕ) → form_at new k ≡ update eqb (form_at old) old.at (Some form) k) (walk : IsWalk old start) where
   -- the last that waits is at hand again

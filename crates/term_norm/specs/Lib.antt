@@ -1,2 +1,3 @@
+pub mod Nodes
 pub mod Runs
 pub mod Walk

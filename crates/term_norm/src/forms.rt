@@ -1,15 +1,16 @@
 // The normal form of the terms of a bank.
 
-ghost use Rattle.std.specs.Prelude.{◌≡◌, ◌<◌, length, Some, IfOk, IfErr};
+ghost use Rattle.std.specs.Prelude.{◌≡◌, ◌<◌, ℕ, length, Some, None, IfOk, IfErr};
 ghost use Rattle.term_spec.specs.declared.Sort.{Sort};
 ghost use Rattle.term_spec.specs.Sort.{sort_of};
 ghost use Rattle.term_spec.specs.Value.{Assignment as assignment, IsAssignment, value};
 ghost use Rattle.normal_spec.specs.Fixed.{HoldsFixed};
 ghost use Rattle.normal_spec.specs.Normal as spec;
-ghost use Rattle.term_bank.specs.Nodes.{tree_at, Holds, Extends};
+ghost use Rattle.term_bank.specs.Nodes.{IsNode, tree_at, Holds, Extends};
 ghost use Rattle.memory_spec.specs.Viewed.{runs_of};
 ghost use Rattle.term_norm.specs.Runs.{form_with};
-ghost use Rattle.term_norm.specs.Walk.{form_at, IsStop, AreForms};
+ghost use Rattle.term_norm.specs.Nodes.{normal_node};
+ghost use Rattle.term_norm.specs.Walk.{form_at, IsWalk, IsStop, AreForms};
 
 use crate::loads::load;
 use crate::runs::hold_runs;
@@ -51,6 +52,32 @@ fn binary(
     }
 }
 
+// A node whose arguments are in normal form.
+fn normal_node(
+    alloc: Global,
+    bank: &mut Bank,
+    runs: &[Run],
+    node: TermNode,
+) -> Result<TermId, AllocError>
+    requires { IsNode (length bank.old) node }
+    ensures form { IfOk result (λ i. Holds bank.new i
+        (normal_node (runs_of runs.now) bank.old node)) }
+    ensures extends { Extends bank.old bank.new }
+{
+    match node {
+        TermNode::Leaf(leaf) => bank.add(TermNode::Leaf(leaf)),
+        TermNode::Unary(operator, x) => normal_unary(bank, operator, x),
+        TermNode::Binary(operator, x, y) => binary(alloc, bank, runs, operator, x, y),
+        TermNode::Ternary(operator, x, y, z) => normal_ternary(bank, operator, x, y, z),
+        TermNode::Quaternary(operator, x, y, z, w) => {
+            normal_quaternary(bank, operator, x, y, z, w)
+        }
+        TermNode::Octonary(s, t, u, v, w, x, y, z) => {
+            normal_octonary(bank, s, t, u, v, w, x, y, z)
+        }
+    }
+}
+
 // The form of the term at hand, by those of its arguments; or which of these is needed first.
 fn form_at_hand(alloc: Global, bank: &mut Bank, runs: &[Run], walk: &Walk) -> Result<TermId, Stop>
     requires within { walk.now.at < length bank.old }
@@ -60,31 +87,30 @@ fn form_at_hand(alloc: Global, bank: &mut Bank, runs: &[Run], walk: &Walk) -> Re
     ensures wanted { IfErr result (IsStop (form_at walk.now) walk.now.at) }
     ensures extends { Extends bank.old bank.new }
 {
-    match bank.node(walk.at) {
-        TermNode::Leaf(_) => Ok(walk.at),
-        TermNode::Unary(operator, a) => {
-            let x = walk.form(a)?;
-            Ok(normal_unary(bank, operator, x)?)
-        }
-        TermNode::Binary(operator, a, b) => {
-            let x = walk.form(a)?;
-            let y = walk.form(b)?;
-            Ok(binary(alloc, bank, runs, operator, x, y)?)
-        }
-        TermNode::Ternary(operator, a, b, c) => {
-            let x = walk.form(a)?;
-            let y = walk.form(b)?;
-            let z = walk.form(c)?;
-            Ok(normal_ternary(bank, operator, x, y, z)?)
-        }
-        TermNode::Quaternary(operator, a, b, c, d) => {
-            let (x, y, z, w) = walk.four_forms(a, b, c, d)?;
-            Ok(normal_quaternary(bank, operator, x, y, z, w)?)
-        }
-        TermNode::Octonary(a, b, c, d, e, f, g, h) => {
-            let (s, t, u, v) = walk.four_forms(a, b, c, d)?;
-            let (w, x, y, z) = walk.four_forms(e, f, g, h)?;
-            Ok(normal_octonary(bank, s, t, u, v, w, x, y, z)?)
+    let node = walk.with_forms(bank.node(walk.at))?;
+    let form = normal_node(alloc, bank, runs, node)?;
+    Ok(form)
+}
+
+// The form of the first term of a walk on which nothing is made yet.
+fn form_on(
+    alloc: Global,
+    bank: &mut Bank,
+    term: TermId,
+    runs: &[Run],
+    walk: &mut Walk,
+) -> Result<TermId, AllocError>
+    requires within { term < length bank.old }
+    requires begins { IsWalk walk.old term }
+    requires none { (id : ℕ) → form_at walk.old id ≡ None }
+    ensures form { IfOk result (λ i. Holds bank.new i
+        (form_with runs.now (tree_at bank.old term))) }
+    ensures extends { Extends bank.old bank.new }
+{
+    loop {
+        let outcome = form_at_hand(alloc, bank, runs, walk);
+        if let Some(form) = walk.take(outcome)? {
+            return Ok(form);
         }
     }
 }
@@ -97,12 +123,7 @@ fn form_of(alloc: Global, bank: &mut Bank, term: TermId, runs: &[Run]) -> Result
     ensures extends { Extends bank.old bank.new }
 {
     let mut walk = Walk::new(alloc, term);
-    loop {
-        let outcome = form_at_hand(alloc, bank, runs, &walk);
-        if let Some(form) = walk.take(outcome)? {
-            return Ok(form);
-        }
-    }
+    form_on(alloc, bank, term, runs, &mut walk)
 }
 
 /// The index of the normal form of a term, where `runs` are the bytes that each memory of the

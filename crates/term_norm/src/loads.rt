@@ -1,13 +1,14 @@
 // The load of a byte from a memory in normal form.
 
-ghost use Rattle.std.specs.Prelude.{◌≡◌, ◌<◌, length, None, if◌then◌else◌, ◌&&◌, IfOk, IfErr};
+ghost use Rattle.std.specs.Prelude.{◌≡◌, ◌<◌, ℕ, length, None, if◌then◌else◌, ◌&&◌, IfOk, IfErr};
 ghost use Rattle.normal_spec.specs.Normal as spec;
 ghost use Rattle.normal_spec.specs.Patterns as patterns;
 ghost use Rattle.memory_spec.specs.Runs as fixed_runs;
-ghost use Rattle.term_bank.specs.Nodes.{tree_at, Holds, Extends};
+ghost use Rattle.term_bank.specs.Nodes.{IsNode, tree_at, Holds, Extends};
 ghost use Rattle.memory_spec.specs.Viewed.{runs_of};
 ghost use Rattle.term_norm.specs.Runs.{load_from};
-ghost use Rattle.term_norm.specs.Walk.{form_at, IsStop, AreForms};
+ghost use Rattle.term_norm.specs.Nodes.{load_node};
+ghost use Rattle.term_norm.specs.Walk.{form_at, IsWalk, IsStop, AreForms};
 
 use crate::runs::fixed_byte;
 use crate::walk::{Stop, Walk};
@@ -128,6 +129,33 @@ fn load_of_overlay(
     normal_choose(bank, test, upper, lower)
 }
 
+// The load of the memory at an index, by its node over the loads of its memories.
+fn load_of_node(
+    bank: &mut Bank,
+    runs: &[Run],
+    m: TermId,
+    d: TermId,
+    node: TermNode,
+) -> Result<TermId, AllocError>
+    requires memory { m < length bank.old }
+    requires address { d < length bank.old }
+    requires node { IsNode (length bank.old) node }
+    ensures form { IfOk result (λ i. Holds bank.new i
+        (load_node (runs_of runs.now) bank.old m d node)) }
+    ensures extends { Extends bank.old bank.new }
+{
+    match node {
+        TermNode::Ternary(TernaryOperator::Store, below, a, b) => {
+            load_of_store(bank, d, a, b, below)
+        }
+        TermNode::Ternary(TernaryOperator::Choose, test, x, y) => normal_choose(bank, test, x, y),
+        TermNode::Quaternary(QuaternaryOperator::Over, lower, upper, low, high) => {
+            load_of_overlay(bank, d, low, high, upper, lower)
+        }
+        _ => load_of_variable(bank, runs, m, d),
+    }
+}
+
 // The load of the memory at hand, by those of its memories; or which of these is needed first.
 fn load_at_hand(bank: &mut Bank, runs: &[Run], walk: &Walk, d: TermId) -> Result<TermId, Stop>
     requires memory { walk.now.at < length bank.old }
@@ -138,27 +166,33 @@ fn load_at_hand(bank: &mut Bank, runs: &[Run], walk: &Walk, d: TermId) -> Result
     ensures wanted { IfErr result (IsStop (form_at walk.now) walk.now.at) }
     ensures extends { Extends bank.old bank.new }
 {
-    match bank.node(walk.at) {
-        TermNode::Ternary(operator, a, b, c) => match operator {
-            TernaryOperator::Store => {
-                let below = walk.form(a)?;
-                Ok(load_of_store(bank, d, b, c, below)?)
-            }
-            TernaryOperator::Choose => {
-                let x = walk.form(b)?;
-                let y = walk.form(c)?;
-                Ok(normal_choose(bank, a, x, y)?)
-            }
-        },
-        TermNode::Quaternary(operator, m, z, low, high) => match operator {
-            QuaternaryOperator::Over => {
-                let lower = walk.form(m)?;
-                let upper = walk.form(z)?;
-                Ok(load_of_overlay(bank, d, low, high, upper, lower)?)
-            }
-            QuaternaryOperator::Join => Ok(load_of_variable(bank, runs, walk.at, d)?),
-        },
-        _ => Ok(load_of_variable(bank, runs, walk.at, d)?),
+    let node = walk.with_loads(bank.node(walk.at))?;
+    let load = load_of_node(bank, runs, walk.at, d, node)?;
+    Ok(load)
+}
+
+// The load of the first memory of a walk on which nothing is made yet.
+fn load_on(
+    bank: &mut Bank,
+    runs: &[Run],
+    m: TermId,
+    d: TermId,
+    walk: &mut Walk,
+) -> Result<TermId, AllocError>
+    requires memory { m < length bank.old }
+    requires address { d < length bank.old }
+    requires begins { IsWalk walk.old m }
+    requires none { (id : ℕ) → form_at walk.old id ≡ None }
+    ensures form { IfOk result (λ i. Holds bank.new i
+        (load_from runs.now (tree_at bank.old d) (tree_at bank.old m))) }
+    ensures within { IfOk result (λ i. i < length bank.new) }
+    ensures extends { Extends bank.old bank.new }
+{
+    loop {
+        let outcome = load_at_hand(bank, runs, walk, d);
+        if let Some(load) = walk.take(outcome)? {
+            return Ok(load);
+        }
     }
 }
 
@@ -178,10 +212,5 @@ pub fn load(
     ensures extends { Extends bank.old bank.new }
 {
     let mut walk = Walk::new(alloc, m);
-    loop {
-        let outcome = load_at_hand(bank, runs, &walk, d);
-        if let Some(form) = walk.take(outcome)? {
-            return Ok(form);
-        }
-    }
+    load_on(bank, runs, m, d, &mut walk)
 }

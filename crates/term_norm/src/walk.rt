@@ -3,14 +3,16 @@
 ghost use Rattle.std.specs.Prelude.{◌≡◌, ◌<◌, ◌⊎◌, ℕ, nat_eq, Some, None, Ok, IfOk, IfErr, OnOk};
 ghost use Rattle.std.specs.Prelude.{MatchOption};
 ghost use Rattle.std.specs.Map.{update};
+ghost use Rattle.term_norm.specs.Nodes.{HasForms, HasLoads, IsOver};
 ghost use Rattle.term_norm.specs.Walk.{form_at, IsWalk, Advances, IsStop};
 
 use std::alloc::{AllocError, Global};
 use std::collections::HashMap;
-use term_bank::TermId;
+use term_bank::{TermId, TermNode};
+use term_spec::{BinaryOperator, QuaternaryOperator, TernaryOperator, UnaryOperator};
 
 /// Why a term has no form yet.
-#[derive(Clone, Copy, Debug)]
+#[derive(Clone, Copy)]
 pub enum Stop {
     /// that of this argument is needed first
     Needs(TermId),
@@ -51,8 +53,8 @@ impl Walk {
         }
     }
 
-    /// The form of an argument; where it isn't made, that it is needed.
-    pub fn form(&self, id: TermId) -> Result<TermId, Stop>
+    // The form of an argument; where it isn't made, that it is needed.
+    fn form(&self, id: TermId) -> Result<TermId, Stop>
         ensures found { IfOk result (λ form. form_at self.now id ≡ Some form) }
         ensures wanted { IfErr result (λ stop. (bound : ℕ) → id < bound
             → IsStop (form_at self.now) bound stop) }
@@ -63,8 +65,41 @@ impl Walk {
         }
     }
 
-    /// The forms of four arguments; where one isn't made, that it is needed.
-    pub fn four_forms(
+    // An operator with one argument over its form.
+    fn with_one(&self, operator: UnaryOperator, a: TermId) -> Result<TermNode, Stop>
+        ensures { IsOver HasForms (form_at self.now) (TermNode.Unary operator a) result }
+    {
+        let x = self.form(a)?;
+        Ok(TermNode::Unary(operator, x))
+    }
+
+    // An operator with two arguments over their forms.
+    fn with_two(&self, operator: BinaryOperator, a: TermId, b: TermId) -> Result<TermNode, Stop>
+        ensures { IsOver HasForms (form_at self.now) (TermNode.Binary operator a b) result }
+    {
+        let x = self.form(a)?;
+        let y = self.form(b)?;
+        Ok(TermNode::Binary(operator, x, y))
+    }
+
+    // An operator with three arguments over their forms.
+    fn with_three(
+        &self,
+        operator: TernaryOperator,
+        a: TermId,
+        b: TermId,
+        c: TermId,
+    ) -> Result<TermNode, Stop>
+        ensures { IsOver HasForms (form_at self.now) (TermNode.Ternary operator a b c) result }
+    {
+        let x = self.form(a)?;
+        let y = self.form(b)?;
+        let z = self.form(c)?;
+        Ok(TermNode::Ternary(operator, x, y, z))
+    }
+
+    // The forms of four arguments; where one isn't made, that it is needed.
+    fn four_forms(
         &self,
         a: TermId,
         b: TermId,
@@ -74,10 +109,113 @@ impl Walk {
         ensures found { IfOk result (λ f. (form_at self.now a ≡ Some f.0)
             × (form_at self.now b ≡ Some f.1) × (form_at self.now c ≡ Some f.2)
             × (form_at self.now d ≡ Some f.3)) }
-        ensures wanted { IfErr result (λ stop. (bound : ℕ) → a < bound → b < bound → c < bound
-            → d < bound → IsStop (form_at self.now) bound stop) }
+        ensures wanted { IfErr result (λ stop. (bound : ℕ) → (a < bound) × (b < bound)
+            × (c < bound) × (d < bound) → IsStop (form_at self.now) bound stop) }
     {
-        Ok((self.form(a)?, self.form(b)?, self.form(c)?, self.form(d)?))
+        let x = self.form(a)?;
+        let y = self.form(b)?;
+        let z = self.form(c)?;
+        let w = self.form(d)?;
+        Ok((x, y, z, w))
+    }
+
+    // An operator with four arguments over their forms.
+    fn with_four(
+        &self,
+        operator: QuaternaryOperator,
+        a: TermId,
+        b: TermId,
+        c: TermId,
+        d: TermId,
+    ) -> Result<TermNode, Stop>
+        ensures { IsOver HasForms (form_at self.now)
+            (TermNode.Quaternary operator a b c d) result }
+    {
+        let (x, y, z, w) = self.four_forms(a, b, c, d)?;
+        Ok(TermNode::Quaternary(operator, x, y, z, w))
+    }
+
+    // Eight bytes over their forms.
+    fn with_eight(
+        &self,
+        a: TermId,
+        b: TermId,
+        c: TermId,
+        d: TermId,
+        e: TermId,
+        f: TermId,
+        g: TermId,
+        h: TermId,
+    ) -> Result<TermNode, Stop>
+        ensures { IsOver HasForms (form_at self.now)
+            (TermNode.Octonary a b c d e f g h) result }
+    {
+        let (s, t, u, v) = self.four_forms(a, b, c, d)?;
+        let (w, x, y, z) = self.four_forms(e, f, g, h)?;
+        Ok(TermNode::Octonary(s, t, u, v, w, x, y, z))
+    }
+
+    /// A node over the forms of its arguments; where one isn't made, that it is needed.
+    pub fn with_forms(&self, node: TermNode) -> Result<TermNode, Stop>
+        ensures { IsOver HasForms (form_at self.now) node result }
+    {
+        match node {
+            TermNode::Leaf(leaf) => Ok(TermNode::Leaf(leaf)),
+            TermNode::Unary(operator, a) => self.with_one(operator, a),
+            TermNode::Binary(operator, a, b) => self.with_two(operator, a, b),
+            TermNode::Ternary(operator, a, b, c) => self.with_three(operator, a, b, c),
+            TermNode::Quaternary(operator, a, b, c, d) => self.with_four(operator, a, b, c, d),
+            TermNode::Octonary(a, b, c, d, e, f, g, h) => {
+                self.with_eight(a, b, c, d, e, f, g, h)
+            }
+        }
+    }
+
+    // A store over the load of the memory below it.
+    fn with_below(&self, m: TermId, a: TermId, b: TermId) -> Result<TermNode, Stop>
+        ensures { IsOver HasLoads (form_at self.now)
+            (TermNode.Ternary TernaryOperator.Store m a b) result }
+    {
+        let below = self.form(m)?;
+        Ok(TermNode::Ternary(TernaryOperator::Store, below, a, b))
+    }
+
+    // A choice over the loads of its memories.
+    fn with_choices(&self, test: TermId, m: TermId, n: TermId) -> Result<TermNode, Stop>
+        ensures { IsOver HasLoads (form_at self.now)
+            (TermNode.Ternary TernaryOperator.Choose test m n) result }
+    {
+        let x = self.form(m)?;
+        let y = self.form(n)?;
+        Ok(TermNode::Ternary(TernaryOperator::Choose, test, x, y))
+    }
+
+    // An overlay over the loads of its memories.
+    fn with_layers(&self, m: TermId, n: TermId, low: TermId, high: TermId) -> Result<TermNode, Stop>
+        ensures { IsOver HasLoads (form_at self.now)
+            (TermNode.Quaternary QuaternaryOperator.Over m n low high) result }
+    {
+        let lower = self.form(m)?;
+        let upper = self.form(n)?;
+        Ok(TermNode::Quaternary(QuaternaryOperator::Over, lower, upper, low, high))
+    }
+
+    /// A node over the loads of the memories that it is made of; where one isn't made, that it is
+    /// needed.
+    pub fn with_loads(&self, node: TermNode) -> Result<TermNode, Stop>
+        ensures { IsOver HasLoads (form_at self.now) node result }
+    {
+        match node {
+            TermNode::Ternary(operator, a, b, c) => match operator {
+                TernaryOperator::Store => self.with_below(a, b, c),
+                TernaryOperator::Choose => self.with_choices(a, b, c),
+            },
+            TermNode::Quaternary(operator, a, b, c, d) => match operator {
+                QuaternaryOperator::Over => self.with_layers(a, b, c, d),
+                QuaternaryOperator::Join => Ok(node),
+            },
+            _ => Ok(node),
+        }
     }
 
     // Goes on with an argument of the term at hand, which waits.

@@ -1,13 +1,15 @@
 -- The ends of a run, from its outcome.
-use Rattle.std.proofs.Common.{◌≡◌, ◌≢◌, ◌⊎◌, ◌≤◌, ℕ, Bool, true, false, List, Option, Some, None, refl, arith, ap, sym, ◌∙◌, subst, inl, inr}
-use Rattle.std.specs.Prelude.{◌↔◌, if◌then◌else◌}
+use Rattle.std.proofs.Common.{◌≡◌, ◌≢◌, ◌⊎◌, ◌≤◌, ℕ, Bool, true, false, List, Option, Some, None, Ok, Err, refl, arith, ap, sym, ◌∙◌, subst, inl, inr}
+use Rattle.std.specs.Prelude.{◌↔◌, if◌then◌else◌, Result, IfOk}
 use Rattle.report_spec.specs.Verdict.{Verdict, RefusedWords, TooLarge, RefusedElf, RefusedC, RefusedPair, RefusedCode, Judged, Judgement, status_of}
 use Rattle.report_spec.specs.Certificate.{certificate_of}
+use Rattle.tv_base.specs.declared.faults.OutsideFault.{OutsideFault}
+use Rattle.tv_base.specs.declared.faults.OutsideFault.TheVariants.{Failed, NoMemory}
 use Rattle.tv_words.specs.Commands.{Command, Prove, Proving, IsCommand}
 use Rattle.tv_words.proofs.Commands.{same_command}
 use Rattle.verdict_spec.proofs.Once.{one-verdict}
 use Rattle.tv_core.specs.Objects.{Contents, Outputs}
-use Rattle.tv_core.specs.Ends.{AskFor, IsUsageError, IsOfCommand, IsVerdictOn, IsOutcome, usage_error, commanded, Becomes, LeavesUnder, Reports, certificate_name, EndsBy, EndsWith, EndsAsDecided, EndsValid}
+use Rattle.tv_core.specs.Ends.{AskFor, IsUsageError, IsOfCommand, IsVerdictOn, IsOutcome, usage_error, commanded, Becomes, LeavesUnder, Reports, certificate_name, Publishes, EndsBy, EndsWith, EndsAsDecided, EndsValid}
 
 -- ---- outcomes
 
@@ -155,3 +157,41 @@ module _ (words : List (List ℕ)) (files : Contents) (before now : Outputs) whe
         | inl small ↦ elim cut [ inl four ↦ absurd (omega (arith, small, e, four)) | inr five ↦ absurd (omega (arith, small, e, five)) ]
         | inr seven ↦ elim cut [ inl four ↦ absurd (omega (arith, seven, e, four)) | inr five ↦ absurd (omega (arith, seven, e, five)) ]
       ]
+
+-- ---- a verdict that is published
+
+pub ended_by : (words : List (List ℕ)) (files : Contents) (name : List ℕ) (verdict : Verdict) (before now : Outputs) (r : Result ℕ OutsideFault)
+    → IsOutcome words files name verdict → IfOk r (λ code. code ≡ status_of verdict) → Publishes name verdict before now r
+    → IfOk r (λ code. EndsWith words files code before now)
+ended_by words files name verdict before now (Ok code) outcome is published =
+    record { name = name; verdict = verdict; outcome = outcome; ends = record { status_is = is; reported = published.reported; stored = published.stored } }
+ended_by words files name verdict before now (Err fault) outcome is published = tt
+
+-- the same up to its status
+pub as_status : {T : Type 0} (x : T) (name : List ℕ) (verdict : Verdict) (before now : Outputs) (code : ℕ) → Publishes {T = T} name verdict before now (Ok x) → Publishes {T = ℕ} name verdict before now (Ok code)
+as_status x name verdict before now code p = record {
+  reported = p.reported;
+  stored = p.stored;
+  part = tt;
+  store_part = p.store_part;
+  store_first = p.store_first;
+  report_later = p.report_later;
+  store_later = p.store_later;
+  failed = λ e. absurd cc;
+  unfailing = p.unfailing;
+  no_memory = λ e. absurd cc;
+}
+
+pub as_fault : {T U : Type 0} (name : List ℕ) (verdict : Verdict) (before now : Outputs) (fault : OutsideFault) → Publishes {T = T} name verdict before now (Err fault) → Publishes {T = U} name verdict before now (Err fault)
+as_fault name verdict before now fault p = record {
+  reported = tt;
+  stored = tt;
+  part = p.part;
+  store_part = p.store_part;
+  store_first = p.store_first;
+  report_later = p.report_later;
+  store_later = p.store_later;
+  failed = λ e. let is : fault ≡ Failed = cc in p.failed (ap Err is);
+  unfailing = tt;
+  no_memory = λ e. let is : fault ≡ NoMemory = cc in p.no_memory (ap Err is);
+}

@@ -1,3 +1,6 @@
+pub mod Desks
+pub mod Judging
+pub mod Stored
 mod TwoFiles
 mod Ending
 mod Naming

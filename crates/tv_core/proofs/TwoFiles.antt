@@ -1,15 +1,20 @@
 -- The verdict on two files, from the bytes that were read of them.
-use Rattle.std.proofs.Common.{◌≡◌, ◌≢◌, ◌⊎◌, ◌+◌, ◌<◌, ◌≤◌, ℕ, List, [], ◌∷◌, map, Option, Some, None, length, take, take_all, arith, refl, ap, ◌∙◌, subst, inl, inr}
-use Rattle.std.specs.Prelude.{IfSome}
+use Rattle.std.proofs.Common.{◌≡◌, ◌≢◌, ◌⊎◌, ◌+◌, ◌<◌, ◌≤◌, ℕ, List, [], ◌∷◌, map, Option, Some, None, Ok, Err, length, take, take_all, arith, refl, sym, ap, ◌∙◌, subst, inl, inr}
+use Rattle.std.specs.Prelude.{IfSome, Vec, Result, IfOk}
+use Rattle.std.specs.Global.{Global}
 use Rattle.std.proofs.lemmas.List.{length-take}
 use Rattle.report_spec.specs.Verdict.{Verdict, TooLarge, Judgement}
+use Rattle.report_text.specs.declared.verdicts.Verdict.{Verdict as CodeVerdict}
+use Rattle.report_text.specs.Verdicts.{verdict_of}
 use Rattle.report_spec.specs.declared.Quantity.TheVariants.{Elf, C}
 use Rattle.verdict_spec.specs.Verdicts.{IsSound, Judges, elf_refused, no_tokens, no_unit, other_form, too_many, nothing_listed, pair_refused, code_refused, judged, elf_large, c_large, within}
 use Rattle.tv_base.specs.declared.limits.TheConstants.{MAX_ELF_BYTES, MAX_C_BYTES}
+use Rattle.tv_base.specs.declared.faults.OutsideFault.{OutsideFault}
 use Rattle.tv_base.specs.Reading.{with_name}
 use Rattle.tv_words.specs.Commands.{Proving}
-use Rattle.tv_core.specs.Objects.{Contents}
-use Rattle.tv_core.specs.Ends.{IsOfCommand, IsVerdictOn, TakesAtMost, TakesOfTwo, OpensOfTwo}
+use Rattle.tv_core.specs.Objects.{Contents, DeskState}
+use Rattle.tv_core.specs.Ends.{IsOfCommand, IsVerdictOn, TakesAtMost, TakesOfTwo}
+use Rattle.tv_core.specs.Files.{AreOf, JudgesRead, JudgesFiles, ReadsFile, ReadsSource, ReadsTwo}
 
 -- the bytes that were read of a file that contracts see
 read_of : (file : Option (List ℕ)) (text read : List ℕ) (most : ℕ) → IfSome file (λ bytes. read ≡ take most bytes) → file ≡ Some text → read ≡ take most text
@@ -78,15 +83,6 @@ elf_within : (file : Option (List ℕ)) (read : List ℕ) → IfSome file (λ te
 elf_within None read taken small = tt
 elf_within (Some text) read taken small = short text read MAX_ELF_BYTES taken small
 
--- what was begun first, and then
-pub opened_of_two : (files : Contents) (elf_name source_name read : List ℕ) (before middle now : Option (List (List ℕ)))
-    → IfSome (files elf_name) (λ text. read ≡ take (MAX_ELF_BYTES + 1) text) → length read ≤ MAX_ELF_BYTES
-    → middle ≡ with_name before elf_name → (now ≡ middle) ⊎ (now ≡ with_name middle source_name)
-    → OpensOfTwo files elf_name source_name before now
-opened_of_two files elf_name source_name read before middle now taken small first (inl same) = inr (inl (same ∙ first))
-opened_of_two files elf_name source_name read before middle now taken small first (inr then) =
-    inr (inr (then ∙ ap (λ names. with_name names source_name) first, elf_within (files elf_name) read taken small))
-
 -- ---- the verdict is one of a command
 
 one_at_least : (js : List Judgement) → map (λ j. j.name) js ≢ [] → js ≢ []
@@ -104,3 +100,38 @@ of_command elf c functions _ (nothing_listed image unit h) = tt
 of_command elf c functions _ (pair_refused image unit names kind name h k l m) = tt
 of_command elf c functions _ (code_refused image unit names kind name address h k) = tt
 of_command elf c functions _ (judged image unit judgements pairs h) = one_at_least judgements pairs.some
+
+-- ---- one call after the other
+
+-- the verdict on what was read of both
+pub judged_files : (files : Contents) (job : Proving) (elf c : List ℕ) (verdict : Verdict) → AreOf files job.elf MAX_ELF_BYTES elf → length elf ≤ MAX_ELF_BYTES
+    → AreOf files job.source MAX_C_BYTES c → JudgesRead elf c job.functions verdict → JudgesFiles files job verdict
+judged_files files job elf c verdict elf_read small c_read (inl large) =
+    subst (JudgesFiles files job) (sym large.1) (c_too_large files job elf c elf_read small c_read large.0, tt)
+judged_files files job elf c verdict elf_read small c_read (inr h) =
+    (files_judged files job elf c verdict elf_read small c_read h.0 h.1 h.2, of_command elf c job.functions verdict h.1)
+
+pub reads_source : (name elf : List ℕ) (before now : DeskState) (r : Result (Vec ℕ Global) OutsideFault) → ReadsFile name MAX_C_BYTES before now r → length elf ≤ MAX_ELF_BYTES → ReadsSource name elf before now
+reads_source name elf before now r reads small =
+    record { taken = reads.taken; opened = elim reads.opened_part [ inl e ↦ inl e | inr e ↦ inr (e, small) ] }
+
+pub reads_elf : (job : Proving) (before now : DeskState) (r : Result (Vec ℕ Global) OutsideFault) → ReadsFile job.elf MAX_ELF_BYTES before now r → ReadsTwo job before now
+reads_elf job before now r reads =
+    record { taken = inl reads.taken; opened = elim reads.opened_part [ inl e ↦ inl e | inr e ↦ inr (inl e) ] }
+
+pub reads_two : (job : Proving) (elf : List ℕ) (before middle now : DeskState) → AreOf before.files job.elf MAX_ELF_BYTES elf → TakesAtMost before.files job.elf (MAX_ELF_BYTES + 1) before.left middle.left
+    → middle.opened ≡ with_name before.opened job.elf → middle.files ≡ before.files → ReadsSource job.source elf middle now → ReadsTwo job before now
+reads_two job elf before middle now read first names files second = record {
+  taken = taken_of_two before.files job.elf job.source before.left middle.left now.left first
+      (subst (λ b. TakesAtMost b job.source (MAX_C_BYTES + 1) middle.left now.left) files second.taken);
+  opened = elim second.opened [
+    | inl e ↦ inr (inl (e ∙ names))
+    | inr h ↦ inr (inr (h.0 ∙ ap (λ names. with_name names job.source) names, elf_within (before.files job.elf) elf read h.1))
+  ];
+}
+
+pub judged_read : (elf c : List ℕ) (functions : Option (List (List ℕ))) (r : Result CodeVerdict OutsideFault) → length c ≤ MAX_C_BYTES
+    → IfOk r (λ verdict. Judges elf c functions (verdict_of verdict)) → IfOk r (λ verdict. IsSound elf c functions (verdict_of verdict))
+    → IfOk r (λ verdict. JudgesRead elf c functions (verdict_of verdict))
+judged_read elf c functions (Ok verdict) small exact sound = inr (small, exact, sound)
+judged_read elf c functions (Err f) small exact sound = tt

@@ -6,6 +6,7 @@ use Rattle.report_spec.specs.Report.{report_of, judgements_text}
 use Rattle.report_spec.specs.Certificate.{certificate_of}
 use Rattle.tv_base.specs.declared.faults.OutsideFault.{OutsideFault}
 use Rattle.tv_base.specs.declared.faults.OutsideFault.TheVariants.{Failed, NoMemory}
+use Rattle.tv_base.specs.Faults.{HasCause}
 use Rattle.tv_base.specs.Reading.{with_name}
 use Rattle.tv_base.specs.Writing.{Grows, GrowsPartly}
 use Rattle.tv_words.specs.Commands.{Command, Prove, Proving, IsCommand}
@@ -71,6 +72,14 @@ LeavesUnder name verdict before now = now ≡ before
 abbrev pub LeavesPartly : (name : List ℕ) → Verdict → (before now : Contents) → Type 0
 LeavesPartly name (Judged judgements) before now = BecomesPartly before name (certificate_of judgements) now
 LeavesPartly name verdict before now = now ≡ before
+
+-- a call makes this text what is under this name; or, where it fails, a prefix of it
+pub record Stores {T : Type 0} (name text : List ℕ) (before now : SinkState) (result : Result T OutsideFault) : Type 0 where
+  pub ok : OnOk result (Becomes before.held name text now.held)
+  pub part : BecomesPartly before.held name text now.held
+  pub cause : HasCause before.faults now.faults result
+  pub unfailing : OnOk result (now.faults ≡ before.faults)
+  pub no_memory : IsErrOf result NoMemory → now.faults ≡ before.faults
 
 -- ---- the report
 

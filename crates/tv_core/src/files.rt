@@ -1,12 +1,11 @@
-ghost use Rattle.std.specs.Prelude.{◌≡◌, ◌⊎◌, ◌<◌, ◌^◌, ◌+◌, ℕ, IfOk, OnOk, IsErrOf, IfSome};
-ghost use Rattle.std.specs.Prelude.{take};
+ghost use Rattle.std.specs.Prelude.{◌<◌, ◌^◌, IfOk, OnErr, IsErrOf};
 ghost use Rattle.tv_base.specs.declared.faults.OutsideFault.TheVariants.{NoMemory};
-ghost use Rattle.tv_base.specs.Faults.{HasCause};
-ghost use Rattle.tv_base.specs.Reading.{with_name};
+ghost use Rattle.tv_base.specs.declared.limits.TheConstants.{MAX_ELF_BYTES as ELF_BYTES};
 ghost use Rattle.report_text.specs.Verdicts.{verdict_of};
 ghost use Rattle.tv_words.specs.Jobs.{proving_of};
-ghost use Rattle.tv_core.specs.Ends.{IsOfCommand, IsVerdictOn, TakesAtMost, TakesOfTwo};
-ghost use Rattle.tv_core.specs.Ends.{OpensOfTwo};
+ghost use Rattle.tv_core.specs.Objects.{desk_state};
+ghost use Rattle.tv_core.specs.Files.{KeepsDesk, AreOf, ReadsFile, JudgesRead, JudgesFiles};
+ghost use Rattle.tv_core.specs.Files.{ReadsSource, ReadsTwo};
 
 use crate::judge::judge;
 use report_spec::Quantity;
@@ -24,21 +23,64 @@ fn read_file<D: Desk>(
     maximum: usize,
 ) -> Result<Vec<u8>, OutsideFault>
     requires { maximum < 2 ^ 32 }
-    ensures bytes { IfOk result (λ bytes. IfSome (D.bytes desk.old name.now) (λ text. bytes.items
-        ≡ take (maximum + 1) text)) }
-    ensures taken { TakesAtMost (D.bytes desk.old) name.now (maximum + 1) (D.left desk.old)
-        (D.left desk.new) }
-    ensures opened { OnOk result (D.opened desk.new ≡ with_name (D.opened desk.old) name.now) }
-    ensures opened_part { (D.opened desk.new ≡ D.opened desk.old)
-        ⊎ (D.opened desk.new ≡ with_name (D.opened desk.old) name.now) }
-    ensures same_bytes { D.bytes desk.new ≡ D.bytes desk.old }
-    ensures cause { HasCause (D.faults desk.old) (D.faults desk.new) result }
-    ensures unfailing { OnOk result (D.faults desk.new ≡ D.faults desk.old) }
-    ensures no_memory { IsErrOf result NoMemory → D.faults desk.new ≡ D.faults desk.old }
+    ensures reads { ReadsFile name.now maximum
+        (desk_state (D.bytes desk.old) (D.left desk.old) (D.opened desk.old) (D.faults desk.old))
+        (desk_state (D.bytes desk.new) (D.left desk.new) (D.opened desk.new) (D.faults desk.new))
+        result }
+    ensures kept { KeepsDesk
+        (desk_state (D.bytes desk.old) (D.left desk.old) (D.opened desk.old) (D.faults desk.old))
+        (desk_state (D.bytes desk.new) (D.left desk.new) (D.opened desk.new) (D.faults desk.new))
+        result }
 {
-    desk.begin(name)?;
-    let bytes = read_up_to(alloc, desk, maximum + 1)?;
-    Ok(bytes)
+    match desk.begin(name) {
+        Ok(()) => read_up_to(alloc, desk, maximum + 1),
+        Err(fault) => Err(fault),
+    }
+}
+
+/// The verdict on what was read of two files, of which the executable is within its maximum.
+fn judge_read(
+    alloc: Global,
+    job: &Proving<'_>,
+    elf: &[u8],
+    source: &[u8],
+) -> Result<Verdict, OutsideFault>
+    ensures judged { IfOk result (λ verdict. JudgesRead elf.now source.now
+        (proving_of job.now).functions (verdict_of verdict)) }
+    ensures memory { OnErr result (IsErrOf result NoMemory) }
+{
+    if source.len() > MAX_C_BYTES {
+        return Ok(Verdict::TooLarge(Quantity::C));
+    }
+    judge(alloc, elf, source, job)
+}
+
+/// The verdict on the files of a job, of which the executable is read. It reads the source.
+fn judge_with_elf<D: Desk>(
+    alloc: Global,
+    job: &Proving<'_>,
+    desk: &mut D,
+    elf: &[u8],
+) -> Result<Verdict, OutsideFault>
+    requires { AreOf (D.bytes desk.old) (proving_of job.now).elf ELF_BYTES elf.now }
+    ensures judged { IfOk result (λ verdict. JudgesFiles (D.bytes desk.old) (proving_of job.now)
+        (verdict_of verdict)) }
+    ensures reads { ReadsSource (proving_of job.now).source elf.now
+        (desk_state (D.bytes desk.old) (D.left desk.old) (D.opened desk.old) (D.faults desk.old))
+        (desk_state (D.bytes desk.new) (D.left desk.new) (D.opened desk.new)
+        (D.faults desk.new)) }
+    ensures kept { KeepsDesk
+        (desk_state (D.bytes desk.old) (D.left desk.old) (D.opened desk.old) (D.faults desk.old))
+        (desk_state (D.bytes desk.new) (D.left desk.new) (D.opened desk.new) (D.faults desk.new))
+        result }
+{
+    if elf.len() > MAX_ELF_BYTES {
+        return Ok(Verdict::TooLarge(Quantity::Elf));
+    }
+    match read_file(alloc, desk, job.source, MAX_C_BYTES) {
+        Ok(source) => judge_read(alloc, job, elf, source.as_slice()),
+        Err(fault) => Err(fault),
+    }
 }
 
 /// The verdict on the files of a job, which it reads.
@@ -47,26 +89,19 @@ pub(crate) fn judge_files<D: Desk>(
     job: &Proving<'_>,
     desk: &mut D,
 ) -> Result<Verdict, OutsideFault>
-    ensures judged { IfOk result (λ verdict. IsVerdictOn (D.bytes desk.old) (proving_of job.now)
+    ensures judged { IfOk result (λ verdict. JudgesFiles (D.bytes desk.old) (proving_of job.now)
         (verdict_of verdict)) }
-    ensures of_command { IfOk result (λ verdict. IsOfCommand (verdict_of verdict)) }
-    ensures taken { TakesOfTwo (D.bytes desk.old) (proving_of job.now).elf
-        (proving_of job.now).source (D.left desk.old) (D.left desk.new) }
-    ensures opened { OpensOfTwo (D.bytes desk.old) (proving_of job.now).elf
-        (proving_of job.now).source (D.opened desk.old) (D.opened desk.new) }
-    ensures same_bytes { D.bytes desk.new ≡ D.bytes desk.old }
-    ensures cause { HasCause (D.faults desk.old) (D.faults desk.new) result }
-    ensures unfailing { OnOk result (D.faults desk.new ≡ D.faults desk.old) }
-    ensures no_memory { IsErrOf result NoMemory → D.faults desk.new ≡ D.faults desk.old }
+    ensures reads { ReadsTwo (proving_of job.now)
+        (desk_state (D.bytes desk.old) (D.left desk.old) (D.opened desk.old) (D.faults desk.old))
+        (desk_state (D.bytes desk.new) (D.left desk.new) (D.opened desk.new)
+        (D.faults desk.new)) }
+    ensures kept { KeepsDesk
+        (desk_state (D.bytes desk.old) (D.left desk.old) (D.opened desk.old) (D.faults desk.old))
+        (desk_state (D.bytes desk.new) (D.left desk.new) (D.opened desk.new) (D.faults desk.new))
+        result }
 {
-    let elf = read_file(alloc, desk, job.elf, MAX_ELF_BYTES)?;
-    if elf.len() > MAX_ELF_BYTES {
-        return Ok(Verdict::TooLarge(Quantity::Elf));
+    match read_file(alloc, desk, job.elf, MAX_ELF_BYTES) {
+        Ok(elf) => judge_with_elf(alloc, job, desk, elf.as_slice()),
+        Err(fault) => Err(fault),
     }
-    let source = read_file(alloc, desk, job.source, MAX_C_BYTES)?;
-    if source.len() > MAX_C_BYTES {
-        return Ok(Verdict::TooLarge(Quantity::C));
-    }
-    let verdict = judge(alloc, elf.as_slice(), source.as_slice(), job)?;
-    Ok(verdict)
 }

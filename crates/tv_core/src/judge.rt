@@ -8,19 +8,21 @@ ghost use Rattle.report_text.specs.Verdicts.{verdict_of};
 ghost use Rattle.tv_words.specs.Jobs.{proving_of};
 ghost use Rattle.verdict_spec.specs.Verdicts.{IsInGrammar, Judges, IsSound};
 ghost use Rattle.c_spec.specs.Lexical.{AreTokens};
+ghost use Rattle.c_spec.specs.Unit.{IsC};
 ghost use Rattle.c_parse_token.specs.Lists.{list_of};
 ghost use Rattle.c_parse.specs.Refused as syntax;
 ghost use Rattle.c_token.specs.Refused as token;
+ghost use Rattle.tv_core.specs.Files.{JudgesBy};
 
 use crate::functions::judge_names;
 use crate::listing::names;
-use c_parse::{ParseError, parse};
+use c_parse::{ParseError, check};
 use c_token::{Token, TokenError, tokens};
-use elf_read::ElfError;
+use elf_read::{ElfError, Image};
 use report_spec::SourceKind;
 use report_text::Verdict;
 use std::alloc::Global;
-use thin_source::SourceError;
+use thin_source::{SourceError, Unit};
 use tv_base::OutsideFault;
 use tv_words::Proving;
 
@@ -37,26 +39,74 @@ pub(crate) fn judge(
         (proving_of job.now).functions (verdict_of verdict)) }
     ensures memory { OnErr result (IsErrOf result NoMemory) }
 {
-    let image = match elf_read::read(alloc, elf) {
-        Ok(image) => image,
-        Err(error) => return refused_elf(error),
-    };
-    let lexed = match tokens(alloc, source) {
-        Ok(lexed) => lexed,
-        Err(error) => return without_tokens(error),
-    };
-    match parse(alloc, lexed.as_slice()) {
-        Ok(tree) => drop(tree),
-        Err(error) => return without_unit(error, lexed.as_slice(), source),
+    match elf_read::read(alloc, elf) {
+        Ok(image) => judge_source(alloc, &image, source, job),
+        Err(error) => refused_elf(error),
     }
-    drop(lexed);
-    let unit = match thin_source::read(alloc, source) {
-        Ok(unit) => unit,
-        Err(error) => return refused_source(error),
-    };
-    let names = names(alloc, job, &image, &unit)?;
-    let verdict = judge_names(alloc, &image, &unit, names.as_slice())?;
-    Ok(verdict)
+}
+
+/// The verdict on an image and a source.
+fn judge_source(
+    alloc: Global,
+    image: &Image<'_>,
+    source: &[u8],
+    job: &Proving<'_>,
+) -> Result<Verdict, OutsideFault>
+    ensures { JudgesBy image.now source.now (proving_of job.now).functions result }
+{
+    match tokens(alloc, source) {
+        Ok(lexed) => judge_tokens(alloc, image, source, lexed.as_slice(), job),
+        Err(error) => without_tokens(error),
+    }
+}
+
+/// The verdict on an image and a source, of which these are the tokens.
+fn judge_tokens(
+    alloc: Global,
+    image: &Image<'_>,
+    source: &[u8],
+    lexed: &[Token<'_>],
+    job: &Proving<'_>,
+) -> Result<Verdict, OutsideFault>
+    requires { AreTokens source.now (list_of lexed.now) }
+    ensures { JudgesBy image.now source.now (proving_of job.now).functions result }
+{
+    match check(alloc, lexed) {
+        Ok(()) => judge_text(alloc, image, source, job),
+        Err(error) => without_unit(error, lexed, source),
+    }
+}
+
+/// The verdict on an image and a source that is in the grammar.
+fn judge_text(
+    alloc: Global,
+    image: &Image<'_>,
+    source: &[u8],
+    job: &Proving<'_>,
+) -> Result<Verdict, OutsideFault>
+    requires { IsInGrammar source.now }
+    ensures { JudgesBy image.now source.now (proving_of job.now).functions result }
+{
+    match thin_source::read(alloc, source) {
+        Ok(unit) => judge_unit(alloc, image, &unit, job),
+        Err(error) => refused_source(error),
+    }
+}
+
+/// The verdict on an image and the unit of a source.
+fn judge_unit(
+    alloc: Global,
+    image: &Image<'_>,
+    unit: &Unit,
+    job: &Proving<'_>,
+) -> Result<Verdict, OutsideFault>
+    ensures { (c : List ℕ) → IsInGrammar c → IsC c unit.now
+        → JudgesBy image.now c (proving_of job.now).functions result }
+{
+    match names(alloc, job, image, unit) {
+        Ok(names) => judge_names(alloc, image, unit, names.as_slice()),
+        Err(_) => Err(OutsideFault::NoMemory),
+    }
 }
 
 /// The verdict where there is an image and the source has no tokens.

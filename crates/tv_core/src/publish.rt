@@ -5,11 +5,23 @@ ghost use Rattle.tv_base.specs.Faults.{HasCause};
 ghost use Rattle.report_text.specs.Judgements.{judgements_of};
 ghost use Rattle.report_text.specs.Verdicts.{verdict_of};
 ghost use Rattle.tv_core.specs.Objects.{outputs_of, sink_state};
-ghost use Rattle.tv_core.specs.Ends.{Becomes, BecomesPartly, LeavesUnder, LeavesPartly, Publishes};
+ghost use Rattle.tv_core.specs.Ends.{LeavesUnder, LeavesPartly, Stores, Publishes};
 
 use report_text::{Judgement, Verdict, certificate, report};
 use std::alloc::Global;
 use tv_base::{OutsideFault, Sink, Store, write_all};
+
+/// Writes a text under a name.
+fn store_text<K: Store>(name: &str, text: &[u8], store: &mut K) -> Result<(), OutsideFault>
+    ensures { Stores name.now text.now
+        (sink_state (K.held store.old) (K.begun store.old) (K.faults store.old))
+        (sink_state (K.held store.new) (K.begun store.new) (K.faults store.new)) result }
+{
+    match store.begin(name) {
+        Ok(()) => write_all(store, text),
+        Err(fault) => Err(fault),
+    }
+}
 
 /// Writes the certificate of the valid functions under its name.
 fn store_certificate<K: Store>(
@@ -18,18 +30,14 @@ fn store_certificate<K: Store>(
     judgements: &[Judgement],
     store: &mut K,
 ) -> Result<(), OutsideFault>
-    ensures ok { OnOk result (Becomes (K.held store.old) name.now
-        (certificate_of (judgements_of judgements.now)) (K.held store.new)) }
-    ensures part { BecomesPartly (K.held store.old) name.now
-        (certificate_of (judgements_of judgements.now)) (K.held store.new) }
-    ensures cause { HasCause (K.faults store.old) (K.faults store.new) result }
-    ensures unfailing { OnOk result (K.faults store.new ≡ K.faults store.old) }
-    ensures no_memory { IsErrOf result NoMemory → K.faults store.new ≡ K.faults store.old }
+    ensures { Stores name.now (certificate_of (judgements_of judgements.now))
+        (sink_state (K.held store.old) (K.begun store.old) (K.faults store.old))
+        (sink_state (K.held store.new) (K.begun store.new) (K.faults store.new)) result }
 {
-    let text = certificate(alloc, judgements)?;
-    store.begin(name)?;
-    write_all(store, text.as_slice())?;
-    Ok(())
+    match certificate(alloc, judgements) {
+        Ok(text) => store_text(name, text.as_slice(), store),
+        Err(_) => Err(OutsideFault::NoMemory),
+    }
 }
 
 /// Writes what a verdict leaves in the store: a certificate where functions were judged.
@@ -49,8 +57,7 @@ fn store_verdict<K: Store>(
 {
     match verdict {
         Verdict::Judged(judgements) => {
-            store_certificate(alloc, name, judgements.as_slice(), store)?;
-            Ok(())
+            store_certificate(alloc, name, judgements.as_slice(), store)
         }
         _ => Ok(()),
     }

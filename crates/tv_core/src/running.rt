@@ -1,12 +1,13 @@
-ghost use Rattle.std.specs.Prelude.{◌≡◌, ℕ, List, IfOk, OnOk, OnErr, IsErrOf, map};
+ghost use Rattle.std.specs.Prelude.{◌≡◌, ℕ, List, IfOk, OnErr, IsErrOf, map};
 ghost use Rattle.std.specs.Prelude.{option_map, string_bytes};
 ghost use Rattle.tv_base.specs.declared.faults.OutsideFault.TheVariants.{NoMemory};
-ghost use Rattle.tv_base.specs.Faults.{HasCause};
 ghost use Rattle.report_text.specs.Verdicts.{verdict_of};
 ghost use Rattle.tv_words.specs.Jobs.{proving_of};
-ghost use Rattle.tv_core.specs.Objects.{state_of, desk_state, sink_state};
-ghost use Rattle.tv_core.specs.Ends.{AskFor, IsOutcome, TakesLittle, OpensInOrder};
-ghost use Rattle.tv_core.specs.Ends.{certificate_name, RunsTo, Ends};
+ghost use Rattle.report_spec.specs.Verdict.{status_of};
+ghost use Rattle.tv_core.specs.Objects.{state_of, desk_state, outputs_of, sink_state};
+ghost use Rattle.tv_core.specs.Ends.{AskFor, IsOutcome, certificate_name, Publishes, RunsTo};
+ghost use Rattle.tv_core.specs.Ends.{Ends};
+ghost use Rattle.tv_core.specs.Files.{KeepsDesk, ReadsAsked};
 
 use crate::files::judge_files;
 use crate::publish::publish;
@@ -38,20 +39,18 @@ fn outcome<D: Desk>(
         → AskFor words (option_map proving_of job.now)
         → IsOutcome words (D.bytes desk.old) (certificate_name (option_map proving_of job.now))
         (verdict_of verdict)) }
-    ensures taken { (words : List (List ℕ)) → AskFor words (option_map proving_of job.now)
-        → TakesLittle words (D.bytes desk.old) (D.left desk.old) (D.left desk.new) }
-    ensures opened { (words : List (List ℕ)) → AskFor words (option_map proving_of job.now)
-        → OpensInOrder words (D.bytes desk.old) (D.opened desk.old) (D.opened desk.new) }
-    ensures same_bytes { D.bytes desk.new ≡ D.bytes desk.old }
-    ensures cause { HasCause (D.faults desk.old) (D.faults desk.new) result }
-    ensures unfailing { OnOk result (D.faults desk.new ≡ D.faults desk.old) }
-    ensures no_memory { IsErrOf result NoMemory → D.faults desk.new ≡ D.faults desk.old }
+    ensures reads { (words : List (List ℕ)) → AskFor words (option_map proving_of job.now)
+        → ReadsAsked words
+        (desk_state (D.bytes desk.old) (D.left desk.old) (D.opened desk.old) (D.faults desk.old))
+        (desk_state (D.bytes desk.new) (D.left desk.new) (D.opened desk.new)
+        (D.faults desk.new)) }
+    ensures kept { KeepsDesk
+        (desk_state (D.bytes desk.old) (D.left desk.old) (D.opened desk.old) (D.faults desk.old))
+        (desk_state (D.bytes desk.new) (D.left desk.new) (D.opened desk.new) (D.faults desk.new))
+        result }
 {
     match job {
-        Some(job) => {
-            let verdict = judge_files(alloc, job, desk)?;
-            Ok(verdict)
-        }
+        Some(job) => judge_files(alloc, job, desk),
         None => Ok(Verdict::RefusedWords),
     }
 }
@@ -63,6 +62,54 @@ fn name_of<'a>(job: &Option<Proving<'a>>) -> &'a str
     match job {
         Some(job) => job.certificate,
         None => "",
+    }
+}
+
+/// Gives the certificate and the report of a verdict, and answers its status.
+fn give<R: Sink, K: Store>(
+    alloc: Global,
+    name: &str,
+    verdict: &Verdict,
+    report: &mut R,
+    certificate: &mut K,
+) -> Result<u8, OutsideFault>
+    ensures published { Publishes name.now (verdict_of verdict.now)
+        (outputs_of (sink_state (R.held report.old) (R.begun report.old) (R.faults report.old))
+        (sink_state (K.held certificate.old) (K.begun certificate.old) (K.faults certificate.old)))
+        (outputs_of (sink_state (R.held report.new) (R.begun report.new) (R.faults report.new))
+        (sink_state (K.held certificate.new) (K.begun certificate.new) (K.faults certificate.new)))
+        result }
+    ensures status { IfOk result (λ code. code ≡ status_of (verdict_of verdict.now)) }
+{
+    match publish(alloc, name, verdict, report, certificate) {
+        Ok(()) => Ok(status(verdict)),
+        Err(fault) => Err(fault),
+    }
+}
+
+/// A run on a job, or on words that are no command, up to its status, or to what cut it off.
+fn run_job<D: Desk, R: Sink, K: Store>(
+    alloc: Global,
+    job: &Option<Proving<'_>>,
+    desk: &mut D,
+    report: &mut R,
+    certificate: &mut K,
+) -> Result<u8, OutsideFault>
+    ensures { (words : List (List ℕ)) → AskFor words (option_map proving_of job.now)
+        → RunsTo words
+        (state_of (desk_state (D.bytes desk.old) (D.left desk.old) (D.opened desk.old)
+        (D.faults desk.old))
+        (sink_state (R.held report.old) (R.begun report.old) (R.faults report.old))
+        (sink_state (K.held certificate.old) (K.begun certificate.old) (K.faults certificate.old)))
+        (state_of (desk_state (D.bytes desk.new) (D.left desk.new) (D.opened desk.new)
+        (D.faults desk.new))
+        (sink_state (R.held report.new) (R.begun report.new) (R.faults report.new))
+        (sink_state (K.held certificate.new) (K.begun certificate.new) (K.faults certificate.new)))
+        result }
+{
+    match outcome(alloc, job, desk) {
+        Ok(verdict) => give(alloc, name_of(job), &verdict, report, certificate),
+        Err(fault) => Err(fault),
     }
 }
 
@@ -85,10 +132,10 @@ fn try_run<D: Desk, R: Sink, K: Store>(
         (sink_state (K.held certificate.new) (K.begun certificate.new) (K.faults certificate.new)))
         result }
 {
-    let job = asked(alloc, words)?;
-    let verdict = outcome(alloc, &job, desk)?;
-    publish(alloc, name_of(&job), &verdict, report, certificate)?;
-    Ok(status(&verdict))
+    match asked(alloc, words) {
+        Ok(job) => run_job(alloc, &job, desk, report, certificate),
+        Err(fault) => Err(fault),
+    }
 }
 
 /// A run of the program on these words: it reads the two files that they name from `desk`, judges

@@ -1,9 +1,9 @@
-use Rattle.std.proofs.Common.{◌≡◌, ◌∙◌, ◌+◌, ◌∷◌, List, map, drop, sym, ap, rules, arith}
+use Rattle.std.proofs.Common.{◌≡◌, ◌∙◌, ◌+◌, ◌∷◌, List, map, drop, refl, sym, ap, rules, arith}
 use Rattle.std.proofs.lemmas.Grind.{common_steps}
 use Rattle.std.proofs.lemmas.List.{drop_more}
 use Rattle.decompile.specs.declared.items.Item.{Item}
 use Rattle.decompile.specs.Items.{item_of}
-use Rattle.decompile.specs.Counts.{counted}
+use Rattle.decompile.specs.Counts.{further_nodes, counted}
 use Rattle.decompile.proofs.Counted.{one_too_many, none_fits}
 use Rattle.decompile.proofs.numbers.count_nodes.Goals as goal
 
@@ -17,8 +17,9 @@ returns-in_err-count-2-clause-large c =
     let rest : drop c.loop-item.item-index c.args.items.now ≡ c.item-item.result ∷ drop (c.loop-item.item-index + 1) c.args.items.now =
     drop_more c.args.items.now c.loop-item.item-index c.item-item.result c.loop-item-test.true
     ∙ ap (λ (x : Item). x ∷ drop (c.loop-item.item-index + 1) c.args.items.now) (sym c.item-item.is) in
-    let fact = one_too_many c.args.runs c.loop-item.count c.in_ok-further.further c.in_ok-plus.field-0 c.in_ok-next.next (item_of c.item-item.result)
-    (map item_of (drop (c.loop-item.item-index + 1) c.args.items.now)) (map item_of c.args.items.now) c.in_ok-further.ensures c.in_ok-plus.ensures c.in_ok-next.ensures
+    let further = further_nodes c.args.runs (item_of c.item-item.result) in
+    let fact = one_too_many c.args.runs c.loop-item.count further (further + 1) c.in_ok-next.next (item_of c.item-item.result)
+    (map item_of (drop (c.loop-item.item-index + 1) c.args.items.now)) (map item_of c.args.items.now) refl refl c.in_ok-next.ensures
     (ap (λ (is : List Item). counted c.args.runs c.loop-item.count (map item_of is)) (sym rest) ∙ c.loop-item.invariant.1)
     c.args.maximum _ c.in_err-count-2.ensures.large.0 c.in_err-count-2.ensures.large.1 in
     first_of (search (rules, fact), grind (arith, common_steps, fact))

@@ -1,6 +1,6 @@
 use Rattle.std.proofs.Common.{[], ◌∷◌, lit<}
 use Rattle.decompile.proofs.Extents.{small_all}
-use Rattle.decompile.proofs.bindings.call_inputs.Goals as goal
+use Rattle.decompile.proofs.bindings.add_inputs.Goals as goal
 
 pub enter-requires : goal.enter-requires
 enter-requires c =

@@ -7,7 +7,7 @@ use Rattle.decompile.specs.declared.items.Item.{Item}
 use Rattle.decompile.specs.Items.{item_of}
 use Rattle.decompile.specs.Settings.{setting_of}
 use Rattle.decompile.proofs.Added.{block_added}
-use Rattle.decompile.proofs.function.Function.graph.Goals as goal
+use Rattle.decompile.proofs.function.Function.add_blocks.Goals as goal
 
 pub loop-item-preserved : goal.loop-item-preserved
 loop-item-preserved c =

@@ -4,7 +4,7 @@ use Rattle.graph_core.specs.Graphs.{graph_of}
 use Rattle.code_graph_laws.specs.Layout.{blocks, laid}
 use Rattle.decompile.specs.Items.{item_of}
 use Rattle.decompile.specs.Settings.{setting_of}
-use Rattle.decompile.proofs.function.Function.graph.Given as goal
+use Rattle.decompile.proofs.function.Function.add_blocks.Given as goal
 
 abbrev pub invariant-loop-item : goal.invariant-loop-item
 invariant-loop-item l =

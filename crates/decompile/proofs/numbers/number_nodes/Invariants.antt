@@ -1,7 +1,7 @@
 use Rattle.std.proofs.Common.{◌≡◌, ◌++◌, map, drop}
 use Rattle.decompile.specs.Items.{item_of}
 use Rattle.decompile.specs.Counts.{numbered}
-use Rattle.decompile.proofs.numbers.first_nodes.Given as goal
+use Rattle.decompile.proofs.numbers.number_nodes.Given as goal
 
 abbrev pub invariant-loop-item : goal.invariant-loop-item
 invariant-loop-item l =

@@ -1,0 +1,48 @@
+use Rattle.std.proofs.Common.{refl, sym, inl, inr, subst}
+use Rattle.std.specs.Prelude.{option_map}
+use Rattle.std.proofs.lemmas.Result.{on_ok_weaker, on_err_weaker}
+use Rattle.report_text.specs.Verdicts.{verdict_of}
+use Rattle.tv_words.specs.Jobs.{proving_of}
+use Rattle.tv_core.specs.Ends.{certificate_name, IsOutcome}
+use Rattle.tv_core.proofs.Desks.{same_fault}
+use Rattle.tv_core.proofs.Ending.{ended_by}
+use Rattle.tv_core.proofs.running.run_job.Goals as goal
+
+pub returns-in-Ok : goal.returns-in-Ok
+returns-in-Ok g c = λ words asked.
+    let files = g.D.Desk.bytes c.args.desk.now in
+    let name = c.name_of.result.now in
+    let verdict = verdict_of c.in-Ok.verdict in
+    let outcome : IsOutcome words files name verdict = subst (λ n. IsOutcome words files n verdict) (sym c.name_of.ensures) (c.in-Ok.ensures.exact words asked) in
+    let read = c.in-Ok.ensures.reads words asked in
+    let desk = c.in-Ok.ensures.kept in
+    let out = c.give.ensures.published in
+    record {
+      ended = ended_by words files name verdict _ _ c.give.result outcome c.give.ensures.status out;
+      part = on_err_weaker c.give.result (λ h. inr (name, verdict, outcome, h)) out.part;
+      store_part = inr (name, verdict, outcome, out.store_part);
+      store_first = out.store_first;
+      taken = read.0;
+      opened = read.1;
+      same_files = desk.same_files;
+      failed = λ e. inr (out.failed e);
+      unfailing = on_ok_weaker c.give.result (λ same. (desk.unfailing, same)) out.unfailing;
+      no_memory = λ e. (desk.unfailing, out.no_memory e);
+    }
+
+pub returns-in-Err : goal.returns-in-Err
+returns-in-Err g c = λ words asked.
+    let read = c.in-Err.ensures.reads words asked in
+    let desk = same_fault _ _ c.in-Err.fault c.in-Err.ensures.kept in
+    record {
+      ended = tt;
+      part = inl refl;
+      store_part = inl refl;
+      store_first = inl refl;
+      taken = read.0;
+      opened = read.1;
+      same_files = desk.same_files;
+      failed = λ e. inl (desk.cause.failed e);
+      unfailing = tt;
+      no_memory = λ e. (desk.no_memory e, (refl, refl));
+    }
