@@ -43,8 +43,8 @@ fn add_clauses(text: &mut String, cnf: &Cnf, places: &str) -> anyhow::Result<()>
     for place in number(from) as usize..usize::min(number(to) as usize, cnf.len()) {
         if let Some(clause) = cnf.clause(place) {
             for literal in clause {
-                let sign = if literal.is_negated { "-" } else { "" };
-                write!(text, " {sign}{}", literal.variable)?;
+                let sign = if literal.is_negated() { "-" } else { "" };
+                write!(text, " {sign}{}", literal.variable())?;
             }
             text.push_str(" 0")?;
         }

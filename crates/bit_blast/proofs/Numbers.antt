@@ -33,17 +33,14 @@ bits_from (x ∷ xs) (suc index) d below =
     let next : suc index + 1 ≡ suc (index + 1) = omega arith in
     bits_from xs index d (omega arith) ∙ ap (λ (n : ℕ). get_or xs index d ∷ drop n (x ∷ xs)) (sym next)
 
-abbrev pub blank_bit : Literal
-blank_bit = record { variable = 0; is_negated = false }
-
-pub number_at : (values : Valuation) (xs : Bits) (index before : ℕ) (old new : ℕ) → index ≡ before + 1 → index ≤ length xs
-    → old ≡ number_of values (drop index xs) % 2 ^ 64 → new ≡ (old * 2 % 2 ^ 64 + digit (holds values (get_or xs before blank_bit))) % 2 ^ 64
+pub number_at : (values : Valuation) (xs : Bits) (bit : Literal) (index before : ℕ) (old new : ℕ) → index ≡ before + 1 → index ≤ length xs → bit ≡ get_or xs before bit
+    → old ≡ number_of values (drop index xs) % 2 ^ 64 → new ≡ (old * 2 % 2 ^ 64 + digit (holds values bit)) % 2 ^ 64
     → new ≡ number_of values (drop before xs) % 2 ^ 64
-number_at values xs index before old new e within was made =
+number_at values xs bit index before old new e within here was made =
     let below : before < length xs = omega (arith, e) in
     made
-    ∙ number_step values (get_or xs before blank_bit) (drop (before + 1) xs) old (was ∙ ap (λ (n : ℕ). number_of values (drop n xs) % 2 ^ 64) e)
-    ∙ ap (λ (list : Bits). number_of values list % 2 ^ 64) (sym (bits_from xs before blank_bit below))
+    ∙ number_step values bit (drop (before + 1) xs) old (was ∙ ap (λ (n : ℕ). number_of values (drop n xs) % 2 ^ 64) e)
+    ∙ ap (λ (list : Bits). number_of values list % 2 ^ 64) (ap (λ (b : Literal). b ∷ drop (before + 1) xs) here ∙ sym (bits_from xs before bit below))
 
 -- a number of at most 32 bits
 pub short_number : (values : Valuation) (xs : Bits) (n : ℕ) → n ≡ number_of values xs % 2 ^ 64 → length xs ≤ 32 → (n ≡ number_of values xs) × (n < 2 ^ 32)

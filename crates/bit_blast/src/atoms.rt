@@ -6,7 +6,7 @@ ghost use Rattle.blast_spec.specs.Goal as spec;
 ghost use Rattle.word_circuits.specs.Built.{MakesWord};
 
 use crate::parts::single;
-use clause_spec::Literal;
+use cnf_core::Literal;
 use std::alloc::{AllocError, Global};
 use term_core::bit_count;
 use term_spec::{Atom, Sort, Width};

@@ -25,7 +25,7 @@ use crate::blasted::Blasted;
 use crate::loads::{LoadIndices, loads_from, loads_of};
 use crate::operators::bit_of;
 use crate::table::TermTable;
-use clause_spec::Literal;
+use cnf_core::Literal;
 use std::alloc::{AllocError, Global};
 use term_bank::TermNode;
 use term_core::{Assignment, Memory, Value, low_bits};
@@ -34,9 +34,9 @@ use term_spec::{Atom, Sort, Variable};
 fn holds(values: &[bool], literal: Literal) -> bool
     ensures { result ≡ clause.holds (valuation values.now) literal }
 {
-    let index = literal.variable.saturating_sub(1);
+    let index = literal.variable().saturating_sub(1);
     let value = index < values.len() && values[index];
-    if literal.is_negated { !value } else { value }
+    if literal.is_negated() { !value } else { value }
 }
 
 /// A number with a bit below its bits, in 64 bits.

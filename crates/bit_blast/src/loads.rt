@@ -9,8 +9,7 @@ ghost use Rattle.bit_blast.specs.Loads as spec;
 ghost use Rattle.bit_blast.specs.Within.{BuiltWithin};
 
 use crate::table::TermTable;
-use clause_spec::Literal;
-use cnf_core::negation;
+use cnf_core::{Literal, negation};
 use std::alloc::{AllocError, Global};
 use term_bank::TermNode;
 use term_spec::BinaryOperator;

@@ -11,7 +11,7 @@ use crate::atoms::atom_bits;
 use crate::operators::{binary_bits, bit_of, quaternary_bits, ternary_bits, unary_bits};
 use crate::parts::with_four;
 use crate::table::TermTable;
-use clause_spec::Literal;
+use cnf_core::Literal;
 use std::alloc::{AllocError, Global};
 use term_bank::TermNode;
 use word_circuits::Gates;

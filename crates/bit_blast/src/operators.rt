@@ -7,7 +7,7 @@ ghost use Rattle.word_circuits.specs.Built.{IsBuilt, MakesWord};
 
 use crate::atoms::word_size;
 use crate::parts::{joined, part, prefix, single, with_four};
-use clause_spec::Literal;
+use cnf_core::Literal;
 use std::alloc::{AllocError, Global};
 use term_spec::{BinaryOperator, QuaternaryOperator, TernaryOperator, UnaryOperator, WordOperator};
 use word_circuits::{Connective, Gates, Shift, negations, none, padded, sign_of};

@@ -4,7 +4,7 @@ ghost use Rattle.term_bank.specs.Nodes.{IsNode, build, tree_at, Holds, AreDistin
 ghost use Rattle.blast_spec.specs.Goal.{is_there, bits_in};
 ghost use Rattle.bit_blast.specs.Terms.{terms_in};
 
-use clause_spec::Literal;
+use cnf_core::Literal;
 use indexmap::IndexMap;
 use std::alloc::{AllocError, Global};
 use std::marker::Model;

@@ -1,5 +1,5 @@
 -- The clause that a hint names.
-use Rattle.std.proofs.Common.{◌≡◌, ◌-◌, ℕ, true, false, List, Option, Some, ap, ◌∙◌, subst}
+use Rattle.std.proofs.Common.{◌≡◌, ◌<◌, ◌-◌, ℕ, true, false, List, length, get_or, Option, Some, ap, sym, ◌∙◌, subst}
 use Rattle.std.specs.Prelude.{slice_get, if◌then◌else◌, ◌==◌}
 use Rattle.std.specs.List.{list_all}
 use Rattle.std.proofs.lemmas.Option.{slice_get_within, get_or_from_slice_get}
@@ -14,6 +14,11 @@ pub named_at : (variables : ℕ) (clauses : List Clause) (index : ℕ) (clause :
 named_at variables clauses index clause named here =
     subst (λ c. list_all (is_of variables) c ≡ true) (get_or_from_slice_get clauses index clause clause here)
     (AllPass-from_list_all (list_all (is_of variables)) clauses named index clause (slice_get_within clauses index clause here))
+
+pub literal_named : (variables : ℕ) (clause : Clause) (index : ℕ) (l : Literal) → list_all (is_of variables) clause ≡ true → index < length clause
+    → l ≡ get_or clause index l → is_of variables l ≡ true
+literal_named variables clause index l named below here =
+    subst (λ k. is_of variables k ≡ true) (sym here) (AllPass-from_list_all (is_of variables) clause named index l below)
 
 -- its finding
 pub found_there : (clauses : List Clause) (truths : List Literal) (number : ℕ) (clause : Option Clause) → (number == 0) ≡ false

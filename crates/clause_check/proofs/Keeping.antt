@@ -1,5 +1,5 @@
 -- What stays true of the clauses of a log.
-use Rattle.std.proofs.Common.{◌≡◌, ◌+◌, ℕ, Bool, true, false, List, [], ◌∷◌, ◌++◌, take, drop, Some, refl, ap, sym, ◌∙◌, subst, arith, length-append}
+use Rattle.std.proofs.Common.{◌≡◌, ℕ, Bool, true, false, List, [], ◌∷◌, ◌++◌, length, take, take_all, drop, Some, refl, ap, sym, ◌∙◌, subst, arith, length-append}
 use Rattle.std.specs.Prelude.{◌&&◌, slice_get}
 use Rattle.std.specs.List.{list_all}
 use Rattle.std.proofs.lemmas.List.{take-append-le, take-append-drop}
@@ -22,6 +22,15 @@ both_and false b e f = cc
 left_and : (a b : Bool) → (a && b) ≡ true → a ≡ true
 left_and true b e = refl
 left_and false b e = cc
+
+-- ---- at the start
+
+pub kept_at_first : (variables : ℕ) (clauses : List Clause) → are_of variables clauses ≡ true → IsKept variables (length clauses) clauses
+kept_at_first variables clauses named = record {
+  named = named;
+  within = omega arith;
+  sound = λ values satisfied. ap (satisfies values) (sym (take_all (length clauses) clauses (omega arith))) ∙ satisfied;
+}
 
 -- ---- one more step
 

@@ -1,4 +1,4 @@
-mod Marked
+mod Stamped
 mod Reported
 mod Indices
 mod More

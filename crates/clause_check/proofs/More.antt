@@ -228,7 +228,3 @@ pub unfit_at : (variables : ℕ) (literals : List Literal) (i : ℕ) (d : Litera
 unfit_at variables literals i d below e =
     let prefix : are_fit variables (take (i + 1) literals) ≡ false = ap (are_fit variables) (take_more literals i d below) ∙ e in
     ap (are_fit variables) (sym (take-append-drop (i + 1) literals)) ∙ unfit_prefix variables (take (i + 1) literals) (drop (i + 1) literals) prefix
-
--- past the end
-abbrev pub blank : Literal
-blank = record { variable = 0; is_negated = false }

@@ -1,13 +1,12 @@
 -- Signs that report which literals are true.
 use Rattle.std.proofs.Common.{◌≡◌, Bool, true, false, List, [], ◌∷◌, ◌++◌, length, Option, Some, None, refl, ap, sym, ◌∙◌, filter}
-use Rattle.std.specs.Prelude.{◌||◌, not, if◌then◌else◌}
+use Rattle.std.specs.Prelude.{◌||◌, not, is_some, if◌then◌else◌}
 use Rattle.std.specs.List.{list_any}
 use Rattle.std.proofs.lemmas.List.Folds.{list_any-append}
 use Rattle.std.proofs.lemmas.List.{append-nil}
 use Rattle.std.proofs.lemmas.List.Elements.{filter-append}
-use mathlib.Core.Bool.{beq}
 use Rattle.clause_spec.specs.declared.Literal.{Literal}
-use Rattle.clause_spec.specs.Clause.{Clause, is_of, negation, same_sign}
+use Rattle.clause_spec.specs.Clause.{Clause, is_of, negation}
 use Rattle.clause_spec.specs.Step.{is_true, is_false, Finding, Holds, found_among, finding}
 use Rattle.clause_check.specs.Signs.{is_sign, sign_of, Reports}
 
@@ -16,38 +15,38 @@ not_false truths literal = not (is_false truths literal)
 
 -- ---- one literal
 
-same_sign_refl : (b : Bool) → same_sign b b ≡ true
-same_sign_refl true = refl
-same_sign_refl false = refl
+-- whether it is true, and whether it is false
+pub true_by_sign : (signs : List (Option Bool)) (truths : List Literal) (l : Literal) (b : Bool) → Reports signs truths → is_of (length signs) l ≡ true
+    → is_sign (sign_of signs l) l.is_negated ≡ b → is_true truths l ≡ b
+true_by_sign signs truths l b reports named sign = reports l named ∙ sign
 
-pub true_by_sign : (signs : List (Option Bool)) (truths : List Literal) (l : Literal) → Reports signs truths → is_of (length signs) l ≡ true
-    → sign_of signs l ≡ Some l.is_negated → is_true truths l ≡ true
-true_by_sign signs truths l reports named sign = reports l named ∙ ap (λ o. is_sign o l.is_negated) sign ∙ same_sign_refl l.is_negated
+pub not_false_by_sign : (signs : List (Option Bool)) (truths : List Literal) (l : Literal) (b : Bool) → Reports signs truths → is_of (length signs) l ≡ true
+    → is_sign (sign_of signs l) (not l.is_negated) ≡ b → not_false truths l ≡ not b
+not_false_by_sign signs truths l b reports named sign = ap not (reports (negation l) named ∙ sign)
 
-pub not_true_by_sign : (signs : List (Option Bool)) (truths : List Literal) (l : Literal) → Reports signs truths → is_of (length signs) l ≡ true
-    → sign_of signs l ≡ None → is_true truths l ≡ false
-not_true_by_sign signs truths l reports named sign = reports l named ∙ ap (λ o. is_sign o l.is_negated) sign
+-- not both
+pub not_true_by_false : (sign : Option Bool) (b : Bool) → is_sign sign (not b) ≡ true → is_sign sign b ≡ false
+not_true_by_false None b e = cc
+not_true_by_false (Some true) true e = cc
+not_true_by_false (Some true) false e = refl
+not_true_by_false (Some false) true e = refl
+not_true_by_false (Some false) false e = cc
 
-pub not_false_by_sign : (signs : List (Option Bool)) (truths : List Literal) (l : Literal) → Reports signs truths → is_of (length signs) l ≡ true
-    → sign_of signs l ≡ None → not_false truths l ≡ true
-not_false_by_sign signs truths l reports named sign =
-    ap not (reports (negation l) named ∙ ap (λ o. is_sign o (not l.is_negated)) sign)
+-- neither
+pub no_sign : (sign : Option Bool) (b : Bool) → is_sign sign (not b) ≡ false → is_sign sign b ≡ false → sign ≡ None
+no_sign None b e f = refl
+no_sign (Some true) true e f = cc
+no_sign (Some true) false e f = cc
+no_sign (Some false) true e f = cc
+no_sign (Some false) false e f = cc
 
-other_sign : (a b : Bool) → (a ≡ b → ⊥) → (same_sign a b ≡ false) × (same_sign a (not b) ≡ true)
-other_sign true true ne = absurd (ne refl)
-other_sign true false ne = (refl, refl)
-other_sign false true ne = (refl, refl)
-other_sign false false ne = absurd (ne refl)
-
-pub not_true_by_other : (signs : List (Option Bool)) (truths : List Literal) (l : Literal) (b : Bool) → Reports signs truths → is_of (length signs) l ≡ true
-    → sign_of signs l ≡ Some b → (b ≡ l.is_negated → ⊥) → is_true truths l ≡ false
-not_true_by_other signs truths l b reports named sign ne =
-    reports l named ∙ ap (λ o. is_sign o l.is_negated) sign ∙ (other_sign b l.is_negated ne).0
-
-pub false_by_other : (signs : List (Option Bool)) (truths : List Literal) (l : Literal) (b : Bool) → Reports signs truths → is_of (length signs) l ≡ true
-    → sign_of signs l ≡ Some b → (b ≡ l.is_negated → ⊥) → not_false truths l ≡ false
-false_by_other signs truths l b reports named sign ne =
-    ap not (reports (negation l) named ∙ ap (λ o. is_sign o (not l.is_negated)) sign ∙ (other_sign b l.is_negated ne).1)
+-- one of them
+pub either_sign : (sign : Option Bool) (b : Bool) → (is_sign sign (not b) || is_sign sign b) ≡ is_some sign
+either_sign None b = refl
+either_sign (Some true) true = refl
+either_sign (Some true) false = refl
+either_sign (Some false) true = refl
+either_sign (Some false) false = refl
 
 -- ---- one more literal of a clause
 
@@ -75,10 +74,15 @@ not_held : (truths : List Literal) (clause : Clause) → list_any (is_true truth
 unfolding finding
 not_held truths clause e = ap (λ b. if b then Holds else found_among (filter (not_false truths) clause)) e
 
-pub more_true : (truths before : List Literal) (l : Literal) → is_true truths l ≡ true → finding truths (before ++ l ∷ []) ≡ Holds
-more_true truths before l e =
-    held truths (before ++ l ∷ [])
-    (list_any-append (is_true truths) before (l ∷ []) ∙ or_right (list_any (is_true truths) before) (is_true truths l) e)
+pub held_at : (truths clause before after : List Literal) (l : Literal) → clause ≡ (before ++ l ∷ []) ++ after → is_true truths l ≡ true
+    → finding truths clause ≡ Holds
+held_at truths clause before after l same e =
+    let first : list_any (is_true truths) (before ++ l ∷ []) ≡ true =
+    list_any-append (is_true truths) before (l ∷ []) ∙ or_right (list_any (is_true truths) before) (is_true truths l) e
+    in
+    held truths clause
+    (ap (list_any (is_true truths)) same ∙ list_any-append (is_true truths) (before ++ l ∷ []) after
+    ∙ or_left (list_any (is_true truths) (before ++ l ∷ [])) (list_any (is_true truths) after) first)
 
 still_held : (truths before : List Literal) (l : Literal) → list_any (is_true truths) before ≡ true → finding truths (before ++ l ∷ []) ≡ Holds
 still_held truths before l e =
@@ -120,15 +124,3 @@ more_open truths before l seen more e f same among when_held = by_any (list_any 
     by_any false h =
         among (filter (not_false truths) before) (same ∙ not_held truths before h)
         ∙ sym (not_held truths (before ++ l ∷ []) (none_held truths before l h e) ∙ ap found_among (kept truths before l true f))
-
-pub same_by_test : (a b : Bool) → beq a b ≡ true → a ≡ b
-same_by_test true true e = refl
-same_by_test true false e = cc
-same_by_test false true e = cc
-same_by_test false false e = refl
-
-pub other_by_test : (a b : Bool) → beq a b ≡ false → a ≡ b → ⊥
-other_by_test true true e f = cc
-other_by_test true false e f = cc
-other_by_test false true e f = cc
-other_by_test false false e f = cc

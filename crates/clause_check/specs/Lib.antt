@@ -1,4 +1,5 @@
 pub mod Signs
+pub mod Stamps
 pub mod Logged
 pub mod Kept
 pub mod Answers

@@ -8,9 +8,9 @@ ghost use Rattle.clause_check.specs.Signs.{Reports};
 ghost use Rattle.clause_check.specs.Answers.{reported, outcome_of, outcome_after, IsOpen};
 ghost use Rattle.clause_check.specs.Answers.{IsOpenAfter};
 
-use crate::marks::Marks;
-use clause_spec::{Literal, StepFaultKind};
-use cnf_core::{ClauseList, negation};
+use crate::stamps::Stamps;
+use clause_spec::StepFaultKind;
+use cnf_core::{ClauseList, Literal, negation};
 use thiserror::Error;
 
 /// Why and where a step doesn't follow: its first fault.
@@ -48,53 +48,44 @@ fn with_open(seen: Finding, literal: Literal) -> Finding
 {
     match seen {
         Finding::Fails => Finding::Forces(literal),
-        Finding::Forces(first) if first == literal => seen,
+        Finding::Forces(first) if first.code() == literal.code() => seen,
         Finding::Holds => seen,
         _ => Finding::Several,
     }
 }
 
-/// The status of literals of a clause, with one more.
-fn with_literal(seen: Finding, literal: Literal, marks: &Marks) -> Finding
-    requires { spec.is_of (length marks.now) literal ≡ true }
-    ensures reported { (truths before : List Lit) → Reports marks.now truths
-        → reported seen ≡ step.finding truths before
-        → reported result ≡ step.finding truths (before ++ literal ∷ []) }
-    ensures open { IsOpen marks.now seen → IsOpen marks.now result }
-{
-    match marks.sign(literal) {
-        None => with_open(seen, literal),
-        Some(is_negated) if is_negated == literal.is_negated => Finding::Holds,
-        Some(_) => seen,
-    }
-}
-
 /// The status of a clause.
-fn found_in(clause: &[Literal], marks: &Marks) -> Finding
-    requires { list_all (spec.is_of (length marks.now)) clause.now ≡ true }
-    ensures reported { (truths : List Lit) → Reports marks.now truths
+fn found_in(clause: &[Literal], stamps: &Stamps) -> Finding
+    requires { list_all (spec.is_of (length stamps.now)) clause.now ≡ true }
+    ensures reported { (truths : List Lit) → Reports stamps.now truths
         → reported result ≡ step.finding truths clause.now }
-    ensures open { IsOpen marks.now result }
+    ensures open { IsOpen stamps.now result }
 {
     let mut seen = Finding::Fails;
     for literal in clause {
-        seen = with_literal(seen, *literal, marks);
+        if stamps.is_false(*literal) {
+            continue;
+        }
+        if stamps.is_true(*literal) {
+            return Finding::Holds;
+        }
+        seen = with_open(seen, *literal);
     }
     seen
 }
 
 /// The status of the clause of a number.
-fn found_at(clauses: &ClauseList, marks: &Marks, number: usize) -> Finding
-    requires { spec.are_of (length marks.now) clauses.now.clauses ≡ true }
-    ensures reported { (truths : List Lit) → Reports marks.now truths
+fn found_at(clauses: &ClauseList, stamps: &Stamps, number: usize) -> Finding
+    requires { spec.are_of (length stamps.now) clauses.now.clauses ≡ true }
+    ensures reported { (truths : List Lit) → Reports stamps.now truths
         → reported result ≡ step.finding_at clauses.now.clauses truths number }
-    ensures open { IsOpen marks.now result }
+    ensures open { IsOpen stamps.now result }
 {
     if number == 0 {
         return Finding::Missing;
     }
     match clauses.get(number - 1) {
-        Some(clause) => found_in(clause, marks),
+        Some(clause) => found_in(clause, stamps),
         None => Finding::Missing,
     }
 }
@@ -116,15 +107,15 @@ fn forced(finding: Finding, is_last: bool) -> Result<Option<Literal>, StepFaultK
 }
 
 /// Unit propagation along the hints: whether they lead to a clause whose literals are all false.
-fn propagate(clauses: &ClauseList, hints: &[usize], marks: &mut Marks) -> Result<(), StepFault>
-    requires { spec.are_of (length marks.old) clauses.now.clauses ≡ true }
-    ensures outcome { (truths : List Lit) → Reports marks.old truths
+fn propagate(clauses: &ClauseList, hints: &[usize], stamps: &mut Stamps) -> Result<(), StepFault>
+    requires { spec.are_of (length stamps.old) clauses.now.clauses ≡ true }
+    ensures outcome { (truths : List Lit) → Reports stamps.old truths
         → outcome_of result ≡ step.propagate clauses.now.clauses hints.now truths 0 }
-    ensures len { length marks.new ≡ length marks.old }
+    ensures len { length stamps.new ≡ length stamps.old }
 {
     for (done, number) in hints.iter().enumerate() {
-        match forced(found_at(clauses, marks, *number), done + 1 == hints.len()) {
-            Ok(Some(literal)) => marks.set(literal),
+        match forced(found_at(clauses, stamps, *number), done + 1 == hints.len()) {
+            Ok(Some(literal)) => stamps.set(literal),
             Ok(None) => return Ok(()),
             Err(kind) => return Err(StepFault {
                 hint: done + 1,
@@ -138,42 +129,35 @@ fn propagate(clauses: &ClauseList, hints: &[usize], marks: &mut Marks) -> Result
     })
 }
 
-/// Whether the literal is of a variable from 1 to this number.
-fn is_of(literal: Literal, variables: usize) -> bool
-    ensures { result ≡ spec.is_of variables literal }
-{
-    1 <= literal.variable && literal.variable <= variables
-}
-
 /// Makes one more literal false, if it is of the variables and no other one of its own was.
-fn deny_one(literal: Literal, marks: &mut Marks) -> bool
-    ensures fit { (before : List Lit) → step.are_fit (length marks.old) before ≡ true
-        → Reports marks.old (map spec.negation before)
-        → result ≡ step.are_fit (length marks.old) (before ++ literal ∷ []) }
+fn deny_one(literal: Literal, stamps: &mut Stamps) -> bool
+    ensures fit { (before : List Lit) → step.are_fit (length stamps.old) before ≡ true
+        → Reports stamps.old (map spec.negation before)
+        → result ≡ step.are_fit (length stamps.old) (before ++ literal ∷ []) }
     ensures reported { (before : List Lit) → IsTrue result
-        → Reports marks.old (map spec.negation before)
-        → Reports marks.new (map spec.negation (before ++ literal ∷ [])) }
-    ensures len { length marks.new ≡ length marks.old }
+        → Reports stamps.old (map spec.negation before)
+        → Reports stamps.new (map spec.negation (before ++ literal ∷ [])) }
+    ensures len { length stamps.new ≡ length stamps.old }
 {
-    if !is_of(literal, marks.len()) {
+    if !literal.is_of(stamps.len()) {
         return false;
     }
-    if marks.sign(literal).is_some() {
+    if stamps.is_set(literal) {
         return false;
     }
-    marks.set(negation(literal));
+    stamps.set(negation(literal));
     true
 }
 
 /// Makes the literals false, if they are of the variables and no variable occurs twice.
-fn deny(literals: &[Literal], marks: &mut Marks) -> bool
-    requires { marks.old ≡ replicate (length marks.old) None }
-    ensures fit { result ≡ step.are_fit (length marks.old) literals.now }
-    ensures reported { IsTrue result → Reports marks.new (map spec.negation literals.now) }
-    ensures len { length marks.new ≡ length marks.old }
+fn deny(literals: &[Literal], stamps: &mut Stamps) -> bool
+    requires { stamps.old ≡ replicate (length stamps.old) None }
+    ensures fit { result ≡ step.are_fit (length stamps.old) literals.now }
+    ensures reported { IsTrue result → Reports stamps.new (map spec.negation literals.now) }
+    ensures len { length stamps.new ≡ length stamps.old }
 {
     for literal in literals {
-        if !deny_one(*literal, marks) {
+        if !deny_one(*literal, stamps) {
             return false;
         }
     }
@@ -183,21 +167,21 @@ fn deny(literals: &[Literal], marks: &mut Marks) -> bool
 /// Whether a step with these literals and hints follows from the clauses.
 pub fn follows(
     clauses: &ClauseList,
-    marks: &mut Marks,
+    stamps: &mut Stamps,
     literals: &[Literal],
     hints: &[usize],
 ) -> Result<(), StepFault>
-    requires { spec.are_of (length marks.old) clauses.now.clauses ≡ true }
+    requires { spec.are_of (length stamps.old) clauses.now.clauses ≡ true }
     ensures outcome { outcome_of result
-        ≡ step.outcome (length marks.old) clauses.now.clauses literals.now hints.now }
-    ensures len { length marks.new ≡ length marks.old }
+        ≡ step.outcome (length stamps.old) clauses.now.clauses literals.now hints.now }
+    ensures len { length stamps.new ≡ length stamps.old }
 {
-    marks.clear();
-    if !deny(literals, marks) {
+    stamps.clear();
+    if !deny(literals, stamps) {
         return Err(StepFault {
             hint: 0,
             kind: StepFaultKind::Literals,
         });
     }
-    propagate(clauses, hints, marks)
+    propagate(clauses, hints, stamps)
 }

@@ -8,8 +8,9 @@
 
 mod hints;
 mod log;
-mod marks;
+mod stamps;
 
-pub use clause_spec::{Literal, StepFaultKind};
+pub use clause_spec::StepFaultKind;
+pub use cnf_core::Literal;
 pub use hints::StepFault;
 pub use log::{Log, StepError};

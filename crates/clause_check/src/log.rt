@@ -7,9 +7,8 @@ ghost use Rattle.clause_check.specs.Logged.{clauses_of};
 ghost use Rattle.clause_check.specs.declared.hints.StepFault.{StepFault};
 
 use crate::hints::{StepFault, follows};
-use crate::marks::Marks;
-use clause_spec::Literal;
-use cnf_core::{ClauseList, Cnf};
+use crate::stamps::Stamps;
+use cnf_core::{ClauseList, Cnf, Literal};
 use std::alloc::{AllocError, Global};
 use std::marker::Model;
 use thiserror::Error;
@@ -51,7 +50,7 @@ impl From<StepFault> for StepError {
 pub struct Log {
     given: usize,
     clauses: ClauseList,
-    marks: Marks,
+    stamps: Stamps,
 }
 
 impl Model for Log {
@@ -62,12 +61,12 @@ impl Model for Log {
     ghost Value = { Logged };
 
     ghost view = { λ log. record {
-      cnf = record { variables = length log.marks; clauses = take log.given log.clauses.clauses };
+      cnf = record { variables = length log.stamps; clauses = take log.given log.clauses.clauses };
       added = drop log.given log.clauses.clauses;
       spare = log.clauses.spare;
     } };
 
-    ghost invariant = { λ log. IsKept (length log.marks) log.given log.clauses.clauses };
+    ghost invariant = { λ log. IsKept (length log.stamps) log.given log.clauses.clauses };
 }
 
 impl Log {
@@ -76,11 +75,11 @@ impl Log {
         ensures cnf { IfOk result (λ log. log.cnf ≡ cnf) }
         ensures added { IfOk result (λ log. log.added ≡ []) }
     {
-        let marks = Marks::new(alloc, cnf.variables())?;
+        let stamps = Stamps::new(alloc, cnf.variables())?;
         Ok(Log {
             given: cnf.len(),
             clauses: cnf.into_clauses(),
-            marks,
+            stamps,
         })
     }
 
@@ -118,7 +117,7 @@ impl Log {
         ensures spare { OnOk result (self.old.spare ≤ self.new.spare + (length literals.now + 1)) }
         ensures kept { OnErr result (self.old.spare ≤ self.new.spare) }
     {
-        follows(&self.clauses, &mut self.marks, literals, hints)?;
+        follows(&self.clauses, &mut self.stamps, literals, hints)?;
         self.clauses.push(literals)?;
         Ok(())
     }

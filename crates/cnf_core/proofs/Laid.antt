@@ -1,10 +1,9 @@
 -- Clauses in one list of literals: the clause of an index, and one clause more.
-use Rattle.std.proofs.Common.{◌≡◌, ◌≤◌, ◌<◌, ◌+◌, ◌-◌, ◌++◌, ℕ, zero, suc, List, [], ◌∷◌, length, get_or, take, drop, Option, Some, None, refl, ap, sym, ◌∙◌, subst, arith}
+use Rattle.std.proofs.Common.{◌≡◌, ◌≤◌, ◌-◌, ◌++◌, ℕ, zero, suc, List, [], ◌∷◌, length, take, drop, Some, refl, ap, sym, ◌∙◌, subst, arith}
 use Rattle.std.specs.Prelude.{slice_get, slice_range}
 use Rattle.std.proofs.lemmas.List.{length-drop, length-append, take-append-le, drop-append-le, take_all}
 use Rattle.std.proofs.Math.Seq.{drop-append_seam}
 use Rattle.clause_spec.specs.declared.Literal.{Literal}
-use Rattle.clause_spec.specs.Clause.{Clause}
 use Rattle.cnf_core.specs.Laid.{clauses_from, clauses_in, start_of, AreEnds}
 
 -- ---- indices
@@ -20,12 +19,6 @@ clause_at from literals (e ∷ ends) zero end here =
     let same : e ≡ end = cc in ap (λ to. Some (slice_range literals from to)) same
 clause_at from literals (e ∷ ends) (suc index) end here =
     clause_at e literals ends index end here ∙ ap (λ s. Some (slice_range literals s end)) (first_index from e ends index)
-
-pub no_clause_at : (from : ℕ) (literals : List Literal) (ends : List ℕ) (index : ℕ) → slice_get ends index ≡ None
-    → slice_get (clauses_from from literals ends) index ≡ None
-no_clause_at from literals [] index here = refl
-no_clause_at from literals (e ∷ ends) zero here = cc
-no_clause_at from literals (e ∷ ends) (suc index) here = no_clause_at e literals ends index here
 
 pub clause_count : (from : ℕ) (literals : List Literal) (ends : List ℕ) → length (clauses_from from literals ends) ≡ length ends
 clause_count from literals [] = refl

@@ -1,3 +1,4 @@
 mod Laid
 mod Named
 mod Loops
+mod Negated

@@ -1,5 +1,5 @@
 -- Values of variables as a list of bits.
-use Rattle.std.specs.Prelude.{ℕ, ◌-◌, Bool, false, List, get_or}
+use Rattle.std.specs.Prelude.{◌-◌, Bool, false, List, get_or}
 use Rattle.clause_spec.specs.Clause.{Valuation}
 
 -- that of variable 1 comes first

@@ -4,8 +4,7 @@ ghost use Rattle.std.specs.List.{list_all};
 ghost use Rattle.std.specs.Option.{option_map};
 ghost use Rattle.clause_spec.specs.Clause as spec;
 
-use crate::ClauseList;
-use clause_spec::Literal;
+use crate::{ClauseList, Literal};
 use std::alloc::{AllocError, Global};
 use std::marker::Model;
 

@@ -3,15 +3,14 @@ ghost use Rattle.std.specs.List.{list_all};
 ghost use Rattle.clause_spec.specs.Clause as spec;
 ghost use Rattle.cnf_core.specs.Bits.{valuation};
 
-use crate::Cnf;
-use clause_spec::Literal;
+use crate::{Cnf, Literal};
 
 /// Whether the literal holds.
 fn holds(literal: Literal, bits: &[bool]) -> bool
     requires { spec.is_of (length bits.now) literal ≡ true }
     ensures { result ≡ spec.holds (valuation bits.now) literal }
 {
-    bits[literal.variable - 1] != literal.is_negated
+    bits[literal.variable() - 1] != literal.is_negated()
 }
 
 /// Whether a literal of the clause holds.

@@ -1,8 +1,8 @@
 //! Clauses over numbered variables.
 //!
 //! The main type is [`Cnf`], which a contract sees as the clauses of `clause_spec`
-//! (`specs/Clause.antt`), over a [`ClauseList`]. [`eval`] says whether an assignment satisfies all
-//! clauses.
+//! (`specs/Clause.antt`), over a [`ClauseList`]: four bytes a [`Literal`], which a contract sees as
+//! a variable and a sign. [`eval`] says whether an assignment satisfies all clauses.
 #![tactic(auto)]
 
 mod cnf;
@@ -10,8 +10,7 @@ mod evaluation;
 mod list;
 mod literals;
 
-pub use clause_spec::Literal;
 pub use cnf::Cnf;
 pub use evaluation::eval;
 pub use list::ClauseList;
-pub use literals::negation;
+pub use literals::{Literal, MAX_VARIABLE, negation};

@@ -1,9 +1,9 @@
-ghost use Rattle.std.specs.Prelude.{◌≡◌, ◌==◌, ◌+◌, ◌≤◌, ◌++◌, ◌∷◌, [], length, slice_get};
-ghost use Rattle.std.specs.Prelude.{slice_range, None, Some, IfSome, IfNone, IsOk, OnOk, OnErr};
+ghost use Rattle.std.specs.Prelude.{◌≡◌, ◌==◌, ◌+◌, ◌<◌, ◌≤◌, ◌++◌, ◌∷◌, [], length, slice_get};
+ghost use Rattle.std.specs.Prelude.{slice_range, Some, IsOk, OnOk, OnErr};
 ghost use Rattle.std.specs.Option.{option_map};
 ghost use Rattle.cnf_core.specs.Laid.{start_of};
 
-use clause_spec::Literal;
+use crate::Literal;
 use std::alloc::{AllocError, Global};
 use std::marker::Model;
 
@@ -57,12 +57,24 @@ impl ClauseList {
         self.ends.is_empty()
     }
 
+    /// The clause of an index that is there, counted from 0.
+    pub fn clause(&self, index: usize) -> &[Literal]
+        requires { index < length self.now.clauses }
+        ensures { slice_get self.now.clauses index ≡ Some result.now }
+    {
+        let (start, end) = bounds_of(self.ends.as_slice(), index);
+        part_of(self.literals.as_slice(), start, end)
+    }
+
     /// The clause of an index, counted from 0.
     pub fn get(&self, index: usize) -> Option<&[Literal]>
         ensures { option_map (λ clause. clause.now) result ≡ slice_get self.now.clauses index }
     {
-        let (start, end) = bounds_of(self.ends.as_slice(), index)?;
-        Some(part_of(self.literals.as_slice(), start, end))
+        if index < self.len() {
+            Some(self.clause(index))
+        } else {
+            None
+        }
     }
 
     /// Makes room: clauses that have with one for each so many literals are then added without
@@ -94,16 +106,16 @@ impl ClauseList {
 }
 
 /// Where the clause of an index begins and ends, by the ends of all clauses.
-fn bounds_of(ends: &[usize], index: usize) -> Option<(usize, usize)>
-    ensures there { IfSome result (λ bounds. (bounds.0 ≡ start_of 0 ends.now index)
-        × (slice_get ends.now index ≡ Some bounds.1)) }
-    ensures nowhere { IfNone result (slice_get ends.now index ≡ None) }
+fn bounds_of(ends: &[usize], index: usize) -> (usize, usize)
+    requires { index < length ends.now }
+    ensures start { result.0 ≡ start_of 0 ends.now index }
+    ensures end { slice_get ends.now index ≡ Some result.1 }
 {
-    let end = *ends.get(index)?;
+    let end = ends[index];
     if index == 0 {
-        return Some((0, end));
+        return (0, end);
     }
-    Some((ends[index - 1], end))
+    (ends[index - 1], end)
 }
 
 /// The literals from one offset up to another.

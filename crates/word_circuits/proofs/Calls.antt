@@ -11,7 +11,7 @@ use Rattle.blast_spec.specs.Circuits.{Bits, one, none, and_gate, or_gate, fold_g
 use Rattle.word_circuits.specs.Built.{IsBuilt}
 use Rattle.word_circuits.specs.Kinds.{makes_up}
 use Rattle.word_circuits.proofs.Built.{then_gives, give_gives, same_gives, gives_three, claims_more}
-use Rattle.word_circuits.proofs.Steps.{bit_at, bit_before}
+use Rattle.word_circuits.proofs.Steps.{IsAt, bit_before}
 
 -- ---- sums and comparison
 
@@ -40,15 +40,15 @@ or_all_none bits o old e f =
     subst (λ answer. IsBuilt (or_all bits) old answer old) (sym f)
     (subst (λ xs. IsBuilt (or_all xs) old none old) (sym (nil_from_length bits (omega (arith, e)))) (give_gives none old))
 
-pub and_all_some : (bits : Bits) → 1 ≤ length bits → fold_gates and_gate (bit_at bits 0) (take (length bits - 1) (drop 1 bits)) ≡ and_all bits
+pub and_all_some : (bits : Bits) (x : Literal) → 1 ≤ length bits → IsAt bits 0 x → fold_gates and_gate x (take (length bits - 1) (drop 1 bits)) ≡ and_all bits
 unfolding and_all
-and_all_some bits some =
-    ap (fold_gates and_gate (bit_at bits 0)) (take_rest bits 1) ∙ ap and_all (sym (bit_before bits 0 some))
+and_all_some bits x some first =
+    ap (fold_gates and_gate x) (take_rest bits 1) ∙ ap and_all (sym (bit_before bits 0 x some first))
 
-pub or_all_some : (bits : Bits) → 1 ≤ length bits → fold_gates or_gate (bit_at bits 0) (take (length bits - 1) (drop 1 bits)) ≡ or_all bits
+pub or_all_some : (bits : Bits) (x : Literal) → 1 ≤ length bits → IsAt bits 0 x → fold_gates or_gate x (take (length bits - 1) (drop 1 bits)) ≡ or_all bits
 unfolding or_all
-or_all_some bits some =
-    ap (fold_gates or_gate (bit_at bits 0)) (take_rest bits 1) ∙ ap or_all (sym (bit_before bits 0 some))
+or_all_some bits x some first =
+    ap (fold_gates or_gate x) (take_rest bits 1) ∙ ap or_all (sym (bit_before bits 0 x some first))
 
 -- ---- the top bit
 

@@ -1,7 +1,7 @@
 -- Loops over rows, stages and new bits, and clauses that are claimed one after the other.
-use Rattle.std.proofs.Common.{◌≡◌, ◌≤◌, ◌<◌, ◌+◌, ◌-◌, ◌*◌, ◌++◌, ℕ, suc, true, false, List, [], ◌∷◌, length, drop, take, min, refl, ap, sym, ◌∙◌, subst, arith, inl, inr}
+use Rattle.std.proofs.Common.{◌≡◌, ◌≤◌, ◌<◌, ◌+◌, ◌-◌, ◌*◌, ◌++◌, ℕ, suc, true, false, List, [], ◌∷◌, length, drop, take, get_or, min, refl, ap, sym, ◌∙◌, subst, arith, inl, inr}
 use Rattle.std.specs.Prelude.{nat_lt, if◌then◌else◌}
-use Rattle.std.proofs.lemmas.List.{drop_all}
+use Rattle.std.proofs.lemmas.List.{drop_all, drop_more}
 use Rattle.std.proofs.lemmas.Bool.{cases_lt}
 use Rattle.clause_spec.specs.declared.Literal.{Literal}
 use Rattle.clause_spec.specs.Clause.{Clause, Cnf, negation}
@@ -11,7 +11,7 @@ use Rattle.blast_spec.specs.Circuits.{Bits, none, zeros, or_all, choose_bits, su
 use Rattle.word_circuits.specs.Built.{IsBuilt, Continues}
 use Rattle.word_circuits.specs.Kinds.{add_row}
 use Rattle.word_circuits.proofs.Built.{no_gates_after, gives_grouped, give_gives, continues_start, continues_then, continues_end, claims_more}
-use Rattle.word_circuits.proofs.Steps.{Adds, adds_start, adds_bit, adds_end, bit_at, bit_before}
+use Rattle.word_circuits.proofs.Steps.{Adds, adds_start, adds_bit, adds_end, IsAt, bit_before}
 
 -- ---- rows
 
@@ -34,25 +34,25 @@ rows_step xs ys so_far sum y index on made =
     (continues_grouped (and_each (take (length xs - index) xs) y) (λ row. sum_bits so_far (zeros index ++ row) none) (λ sum. add_rows xs (suc index) ys sum) on)
     made
 
-pub rows_at : {whole : Build Bits} {old now mid : Cnf} (xs ys so_far sum : Bits) (index : ℕ) → index < length ys
-    → Continues whole old now (add_rows xs index (drop index ys) so_far) (λ bits. bits) → IsBuilt (add_row xs index (bit_at ys index) so_far) now sum mid
+pub rows_at : {whole : Build Bits} {old now mid : Cnf} (xs ys so_far sum : Bits) (y : Literal) (index : ℕ) → index < length ys → IsAt ys index y
+    → Continues whole old now (add_rows xs index (drop index ys) so_far) (λ bits. bits) → IsBuilt (add_row xs index y so_far) now sum mid
     → Continues whole old mid (add_rows xs (index + 1) (drop (index + 1) ys) sum) (λ bits. bits)
-rows_at {whole = whole} {old = old} {now = now} {mid = mid} xs ys so_far sum index below on made =
+rows_at {whole = whole} {old = old} {now = now} {mid = mid} xs ys so_far sum y index below first on made =
     let next : suc index ≡ index + 1 = omega arith in
     subst (λ n. Continues whole old mid (add_rows xs n (drop (index + 1) ys) sum) (λ bits. bits)) next
-    (rows_step xs (drop (index + 1) ys) so_far sum (bit_at ys index) index
-    (subst (λ zs. Continues whole old now (add_rows xs index zs so_far) (λ bits. bits)) (bit_before ys index below) on) made)
+    (rows_step xs (drop (index + 1) ys) so_far sum y index
+    (subst (λ zs. Continues whole old now (add_rows xs index zs so_far) (λ bits. bits)) (bit_before ys index y below first) on) made)
 
 product_some : {now mid : Cnf} (xs ys row : Bits) (y : Literal) → IsBuilt (and_each xs y) now row mid
     → Continues (product_bits xs (y ∷ ys)) now mid (add_rows xs 1 ys row) (λ bits. bits)
 unfolding product_bits
 product_some {now = now} xs ys row y made = continues_then (λ row. add_rows xs 1 ys row) (continues_start (product_bits xs (y ∷ ys)) now) made
 
-pub product_start : {now mid : Cnf} (xs ys row : Bits) → 0 < length ys → IsBuilt (and_each xs (bit_at ys 0)) now row mid
+pub product_start : {now mid : Cnf} (xs ys row : Bits) (y : Literal) → 0 < length ys → IsAt ys 0 y → IsBuilt (and_each xs y) now row mid
     → Continues (product_bits xs ys) now mid (add_rows xs 1 (drop 1 ys) row) (λ bits. bits)
-product_start {now = now} {mid = mid} xs ys row some made =
-    subst (λ zs. Continues (product_bits xs zs) now mid (add_rows xs 1 (drop 1 ys) row) (λ bits. bits)) (sym (bit_before ys 0 some))
-    (product_some xs (drop 1 ys) row (bit_at ys 0) made)
+product_start {now = now} {mid = mid} xs ys row y some first made =
+    subst (λ zs. Continues (product_bits xs zs) now mid (add_rows xs 1 (drop 1 ys) row) (λ bits. bits)) (sym (bit_before ys 0 y some first))
+    (product_some xs (drop 1 ys) row y made)
 
 pub product_none : (xs ys out : Bits) (old : Cnf) → length ys ≤ 0 → out ≡ [] → IsBuilt (product_bits xs ys) old out old
 unfolding product_bits
@@ -95,22 +95,26 @@ stages_past {whole = whole} {old = old} {now = now} move distance c past counts 
     (if b then choose_bits c (move distance xs) xs >>= (λ moved. shift_stages move (2 * distance) counts moved) else or_all (c ∷ counts) >>= (λ past. give (xs, past)))
     (λ made. made)) large on) made)
 
-pub stages_at : {whole : Build (Bits × Literal)} {old now mid : Cnf} (move : ℕ → Bits → Bits) (distance double : ℕ) (counts xs moved : Bits) (stage : ℕ)
-    → stage < length counts → nat_lt distance (length xs) ≡ true → double ≡ 2 * distance
+pub stages_at : {whole : Build (Bits × Literal)} {old now mid : Cnf} (move : ℕ → Bits → Bits) (distance double : ℕ) (c : Literal) (counts xs moved : Bits) (stage : ℕ)
+    → stage < length counts → IsAt counts stage c → nat_lt distance (length xs) ≡ true → double ≡ 2 * distance
     → Continues whole old now (shift_stages move distance (drop stage counts) xs) (λ made. made)
-    → IsBuilt (choose_bits (bit_at counts stage) (move distance xs) xs) now moved mid
+    → IsBuilt (choose_bits c (move distance xs) xs) now moved mid
     → Continues whole old mid (shift_stages move double (drop (stage + 1) counts) moved) (λ made. made)
-stages_at {whole = whole} {old = old} {now = now} {mid = mid} move distance double counts xs moved stage below small twice on made =
+stages_at {whole = whole} {old = old} {now = now} {mid = mid} move distance double c counts xs moved stage below here small twice on made =
     subst (λ n. Continues whole old mid (shift_stages move n (drop (stage + 1) counts) moved) (λ made. made)) (sym twice)
-    (stages_step move distance (bit_at counts stage) (drop (stage + 1) counts) xs moved small
-    (subst (λ cs. Continues whole old now (shift_stages move distance cs xs) (λ made. made)) (bit_before counts stage below) on) made)
+    (stages_step move distance c (drop (stage + 1) counts) xs moved small
+    (subst (λ cs. Continues whole old now (shift_stages move distance cs xs) (λ made. made)) (bit_before counts stage c below here) on) made)
+
+-- what is read past the end
+abbrev blank : Literal
+blank = record { variable = 0; is_negated = false }
 
 pub stages_past_at : {whole : Build (Bits × Literal)} {old now mid : Cnf} (move : ℕ → Bits → Bits) (distance : ℕ) (past : Literal) (counts xs : Bits) (stage : ℕ)
     → stage < length counts → nat_lt distance (length xs) ≡ false → Continues whole old now (shift_stages move distance (drop stage counts) xs) (λ made. made)
     → IsBuilt (or_all (drop stage counts)) now past mid → IsBuilt whole old (xs, past) mid
 stages_past_at {whole = whole} {old = old} {now = now} {mid = mid} move distance past counts xs stage below large on made =
-    let here = bit_before counts stage below in
-    stages_past move distance (bit_at counts stage) past (drop (stage + 1) counts) xs large
+    let here = drop_more counts stage blank below in
+    stages_past move distance (get_or counts stage blank) past (drop (stage + 1) counts) xs large
     (subst (λ cs. Continues whole old now (shift_stages move distance cs xs) (λ made. made)) here on)
     (subst (λ cs. IsBuilt (or_all cs) now past mid) here made)
 
@@ -184,19 +188,19 @@ divisor_step n q r x qs rs xs on a b c =
     (claims_on ((n ∷ negation r ∷ x ∷ []) ∷ []) ((n ∷ r ∷ negation x ∷ []) ∷ without_divisor n qs rs xs)
     (claims_on ((n ∷ q ∷ []) ∷ []) ((n ∷ negation r ∷ x ∷ []) ∷ (n ∷ r ∷ negation x ∷ []) ∷ without_divisor n qs rs xs) on a) b) c
 
-pub divisor_at : {whole : List Clause} {old s0 s3 : Cnf} (s1 s2 : Cnf) (n not_r not_x : Literal) (q r x : Bits) (index : ℕ)
-    → index < length q → index < length r → index < length x → not_r ≡ negation (bit_at r index) → not_x ≡ negation (bit_at x index)
-    → Claims whole old s0 (without_divisor n (drop index q) (drop index r) (drop index x)) → IsBuilt (claim ((n ∷ bit_at q index ∷ []) ∷ [])) s0 tt s1
-    → IsBuilt (claim ((n ∷ not_r ∷ bit_at x index ∷ []) ∷ [])) s1 tt s2 → IsBuilt (claim ((n ∷ bit_at r index ∷ not_x ∷ []) ∷ [])) s2 tt s3
+pub divisor_at : {whole : List Clause} {old s0 s3 : Cnf} (s1 s2 : Cnf) (n a b c not_b not_c : Literal) (q r x : Bits) (index : ℕ)
+    → index < length q → index < length r → index < length x → IsAt q index a → IsAt r index b → IsAt x index c → not_b ≡ negation b → not_c ≡ negation c
+    → Claims whole old s0 (without_divisor n (drop index q) (drop index r) (drop index x)) → IsBuilt (claim ((n ∷ a ∷ []) ∷ [])) s0 tt s1
+    → IsBuilt (claim ((n ∷ not_b ∷ c ∷ []) ∷ [])) s1 tt s2 → IsBuilt (claim ((n ∷ b ∷ not_c ∷ []) ∷ [])) s2 tt s3
     → Claims whole old s3 (without_divisor n (drop (index + 1) q) (drop (index + 1) r) (drop (index + 1) x))
-divisor_at {whole = whole} {old = old} {s0 = s0} {s3 = s3} s1 s2 n not_r not_x q r x index below_q below_r below_x e f on a b c =
-    divisor_step n (bit_at q index) (bit_at r index) (bit_at x index) (drop (index + 1) q) (drop (index + 1) r) (drop (index + 1) x)
-    (subst (λ zs. Claims whole old s0 (without_divisor n zs (bit_at r index ∷ drop (index + 1) r) (bit_at x index ∷ drop (index + 1) x))) (bit_before q index below_q)
-    (subst (λ zs. Claims whole old s0 (without_divisor n (drop index q) zs (bit_at x index ∷ drop (index + 1) x))) (bit_before r index below_r)
-    (subst (λ zs. Claims whole old s0 (without_divisor n (drop index q) (drop index r) zs)) (bit_before x index below_x) on)))
-    a
-    (subst (λ l. IsBuilt (claim ((n ∷ l ∷ bit_at x index ∷ []) ∷ [])) s1 tt s2) e b)
-    (subst (λ l. IsBuilt (claim ((n ∷ bit_at r index ∷ l ∷ []) ∷ [])) s2 tt s3) f c)
+divisor_at {whole = whole} {old = old} {s0 = s0} {s3 = s3} s1 s2 n a b c not_b not_c q r x index below_q below_r below_x at_q at_r at_x e f on first second third =
+    divisor_step n a b c (drop (index + 1) q) (drop (index + 1) r) (drop (index + 1) x)
+    (subst (λ zs. Claims whole old s0 (without_divisor n zs (b ∷ drop (index + 1) r) (c ∷ drop (index + 1) x))) (bit_before q index a below_q at_q)
+    (subst (λ zs. Claims whole old s0 (without_divisor n (drop index q) zs (c ∷ drop (index + 1) x))) (bit_before r index b below_r at_r)
+    (subst (λ zs. Claims whole old s0 (without_divisor n (drop index q) (drop index r) zs)) (bit_before x index c below_x at_x) on)))
+    first
+    (subst (λ l. IsBuilt (claim ((n ∷ l ∷ c ∷ []) ∷ [])) s1 tt s2) e second)
+    (subst (λ l. IsBuilt (claim ((n ∷ b ∷ l ∷ []) ∷ [])) s2 tt s3) f third)
 
 no_remainders : (n : Literal) (qs xs : Bits) → without_divisor n qs [] xs ≡ []
 no_remainders n [] xs = refl

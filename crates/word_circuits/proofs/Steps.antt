@@ -36,15 +36,12 @@ adds_end {whole = whole} {old = old} {now = now} out rest none on =
 
 -- ---- words at an index
 
--- what is read past the end
-abbrev pub blank : Literal
-blank = record { variable = 0; is_negated = false }
+-- a bit is that of an index
+abbrev pub IsAt : Bits → ℕ → Literal → Type 0
+IsAt xs index x = x ≡ get_or xs index x
 
-abbrev pub bit_at : Bits → ℕ → Literal
-bit_at xs index = get_or xs index blank
-
-pub bit_before : (xs : Bits) (index : ℕ) → index < length xs → drop index xs ≡ bit_at xs index ∷ drop (index + 1) xs
-bit_before xs index below = drop_more xs index blank below
+pub bit_before : (xs : Bits) (index : ℕ) (x : Literal) → index < length xs → IsAt xs index x → drop index xs ≡ x ∷ drop (index + 1) xs
+bit_before xs index x below here = drop_more xs index x below ∙ ap (λ y. y ∷ drop (index + 1) xs) (sym here)
 
 -- past the shorter of two words
 shorter_done : (xs ys : Bits) (index : ℕ) → min (length xs) (length ys) ≤ index → (drop index xs ≡ []) ⊎ (drop index ys ≡ [])
@@ -64,11 +61,11 @@ at_shorter F v left right xs ys index past =
     ]
 
 -- what is so of both words from an index on, by their bits there
-pub both_before : (P : Bits → Bits → Type 0) (xs ys : Bits) (index : ℕ) → index < length xs → index < length ys → P (drop index xs) (drop index ys)
-    → P (bit_at xs index ∷ drop (index + 1) xs) (bit_at ys index ∷ drop (index + 1) ys)
-both_before P xs ys index below also here =
-    subst (λ zs. P zs (bit_at ys index ∷ drop (index + 1) ys)) (bit_before xs index below)
-    (subst (λ zs. P (drop index xs) zs) (bit_before ys index also) here)
+pub both_before : (P : Bits → Bits → Type 0) (xs ys : Bits) (index : ℕ) (x y : Literal) → index < length xs → index < length ys → IsAt xs index x → IsAt ys index y
+    → P (drop index xs) (drop index ys) → P (x ∷ drop (index + 1) xs) (y ∷ drop (index + 1) ys)
+both_before P xs ys index x y below also first second here =
+    subst (λ zs. P zs (y ∷ drop (index + 1) ys)) (bit_before xs index x below first)
+    (subst (λ zs. P (drop index xs) zs) (bit_before ys index y also second) here)
 
 -- ---- one gate for each index
 
@@ -93,13 +90,13 @@ unfolding each_two
 each_two_step gate x y o xs ys out more same on made =
     adds_bit out more o same (continues_then (λ o. each_two gate xs ys >>= λ rest. give (o ∷ rest)) on.continues made)
 
-pub each_two_at : {whole : Build Bits} {old now mid : Cnf} (gate : Literal → Literal → Build Literal) (o : Literal) (xs ys : Bits) (index : ℕ) (out more : Bits)
-    → index < length xs → index < length ys → more ≡ out ++ o ∷ []
-    → Adds whole old now out (each_two gate (drop index xs) (drop index ys)) → IsBuilt (gate (bit_at xs index) (bit_at ys index)) now o mid
+pub each_two_at : {whole : Build Bits} {old now mid : Cnf} (gate : Literal → Literal → Build Literal) (x y o : Literal) (xs ys : Bits) (index : ℕ) (out more : Bits)
+    → index < length xs → index < length ys → IsAt xs index x → IsAt ys index y → more ≡ out ++ o ∷ []
+    → Adds whole old now out (each_two gate (drop index xs) (drop index ys)) → IsBuilt (gate x y) now o mid
     → Adds whole old mid more (each_two gate (drop (index + 1) xs) (drop (index + 1) ys))
-each_two_at {whole = whole} {old = old} {now = now} gate o xs ys index out more below also same on made =
-    each_two_step gate (bit_at xs index) (bit_at ys index) o (drop (index + 1) xs) (drop (index + 1) ys) out more same
-    (both_before (λ xs ys. Adds whole old now out (each_two gate xs ys)) xs ys index below also on) made
+each_two_at {whole = whole} {old = old} {now = now} gate x y o xs ys index out more below also first second same on made =
+    each_two_step gate x y o (drop (index + 1) xs) (drop (index + 1) ys) out more same
+    (both_before (λ xs ys. Adds whole old now out (each_two gate xs ys)) xs ys index x y below also first second on) made
 
 each_nothing : (gate : Literal → Build Literal) → each gate [] ≡ give []
 unfolding each
@@ -115,12 +112,12 @@ each_step : {whole : Build Bits} {old now mid : Cnf} (gate : Literal → Build L
 unfolding each
 each_step gate x o xs out more same on made = adds_bit out more o same (continues_then (λ o. each gate xs >>= λ rest. give (o ∷ rest)) on.continues made)
 
-pub each_at : {whole : Build Bits} {old now mid : Cnf} (gate : Literal → Build Literal) (o : Literal) (xs : Bits) (index : ℕ) (out more : Bits)
-    → index < length xs → more ≡ out ++ o ∷ [] → Adds whole old now out (each gate (drop index xs)) → IsBuilt (gate (bit_at xs index)) now o mid
+pub each_at : {whole : Build Bits} {old now mid : Cnf} (gate : Literal → Build Literal) (x o : Literal) (xs : Bits) (index : ℕ) (out more : Bits)
+    → index < length xs → IsAt xs index x → more ≡ out ++ o ∷ [] → Adds whole old now out (each gate (drop index xs)) → IsBuilt (gate x) now o mid
     → Adds whole old mid more (each gate (drop (index + 1) xs))
-each_at {whole = whole} {old = old} {now = now} gate o xs index out more below same on made =
-    each_step gate (bit_at xs index) o (drop (index + 1) xs) out more same
-    (subst (λ zs. Adds whole old now out (each gate zs)) (bit_before xs index below) on) made
+each_at {whole = whole} {old = old} {now = now} gate x o xs index out more below first same on made =
+    each_step gate x o (drop (index + 1) xs) out more same
+    (subst (λ zs. Adds whole old now out (each gate zs)) (bit_before xs index x below first) on) made
 
 -- ---- folds
 
@@ -135,12 +132,12 @@ fold_step : {whole : Build Literal} {old now mid : Cnf} (gate : Literal → Lite
 unfolding fold_gates
 fold_step gate so_far x o xs on made = continues_then (λ o. fold_gates gate o xs) on made
 
-pub fold_at : {whole : Build Literal} {old now mid : Cnf} (gate : Literal → Literal → Build Literal) (so_far o : Literal) (xs : Bits) (index : ℕ)
-    → index < length xs → Continues whole old now (fold_gates gate so_far (drop index xs)) (λ o. o) → IsBuilt (gate so_far (bit_at xs index)) now o mid
+pub fold_at : {whole : Build Literal} {old now mid : Cnf} (gate : Literal → Literal → Build Literal) (so_far x o : Literal) (xs : Bits) (index : ℕ)
+    → index < length xs → IsAt xs index x → Continues whole old now (fold_gates gate so_far (drop index xs)) (λ o. o) → IsBuilt (gate so_far x) now o mid
     → Continues whole old mid (fold_gates gate o (drop (index + 1) xs)) (λ o. o)
-fold_at {whole = whole} {old = old} {now = now} gate so_far o xs index below on made =
-    fold_step gate so_far (bit_at xs index) o (drop (index + 1) xs)
-    (subst (λ zs. Continues whole old now (fold_gates gate so_far zs) (λ o. o)) (bit_before xs index below) on) made
+fold_at {whole = whole} {old = old} {now = now} gate so_far x o xs index below first on made =
+    fold_step gate so_far x o (drop (index + 1) xs)
+    (subst (λ zs. Continues whole old now (fold_gates gate so_far zs) (λ o. o)) (bit_before xs index x below first) on) made
 
 -- ---- sums
 
@@ -170,15 +167,15 @@ sum_step x y carry half bit next xs ys out more same on of_half of_bit of_next =
     (continues_then (λ half. xor_gate half carry >>= λ bit. majority_gate x y carry >>= λ next. sum_bits xs ys next >>= λ rest. give (bit ∷ rest)) on.continues of_half)
     of_bit) of_next)
 
-pub sum_at : {whole : Build Bits} {old s0 s1 s2 s3 : Cnf} (carry half bit next : Literal) (xs ys : Bits) (index : ℕ) (out more : Bits)
-    → index < length xs → index < length ys → more ≡ out ++ bit ∷ []
+pub sum_at : {whole : Build Bits} {old s0 s1 s2 s3 : Cnf} (x y carry half bit next : Literal) (xs ys : Bits) (index : ℕ) (out more : Bits)
+    → index < length xs → index < length ys → IsAt xs index x → IsAt ys index y → more ≡ out ++ bit ∷ []
     → Adds whole old s0 out (sum_bits (drop index xs) (drop index ys) carry)
-    → IsBuilt (xor_gate (bit_at xs index) (bit_at ys index)) s0 half s1 → IsBuilt (xor_gate half carry) s1 bit s2
-    → IsBuilt (majority_gate (bit_at xs index) (bit_at ys index) carry) s2 next s3
+    → IsBuilt (xor_gate x y) s0 half s1 → IsBuilt (xor_gate half carry) s1 bit s2
+    → IsBuilt (majority_gate x y carry) s2 next s3
     → Adds whole old s3 more (sum_bits (drop (index + 1) xs) (drop (index + 1) ys) next)
-sum_at {whole = whole} {old = old} {s0 = s0} carry half bit next xs ys index out more below also same on of_half of_bit of_next =
-    sum_step (bit_at xs index) (bit_at ys index) carry half bit next (drop (index + 1) xs) (drop (index + 1) ys) out more same
-    (both_before (λ xs ys. Adds whole old s0 out (sum_bits xs ys carry)) xs ys index below also on) of_half of_bit of_next
+sum_at {whole = whole} {old = old} {s0 = s0} x y carry half bit next xs ys index out more below also first second same on of_half of_bit of_next =
+    sum_step x y carry half bit next (drop (index + 1) xs) (drop (index + 1) ys) out more same
+    (both_before (λ xs ys. Adds whole old s0 out (sum_bits xs ys carry)) xs ys index x y below also first second on) of_half of_bit of_next
 
 -- ---- carries
 
@@ -203,9 +200,9 @@ carry_step : {whole : Build Literal} {old now mid : Cnf} (x y carry next : Liter
 unfolding carry_bit
 carry_step x y carry next xs ys on made = continues_then (λ next. carry_bit xs ys next) on made
 
-pub carry_at : {whole : Build Literal} {old now mid : Cnf} (carry next : Literal) (xs ys : Bits) (index : ℕ) → index < length xs → index < length ys
-    → Continues whole old now (carry_bit (drop index xs) (drop index ys) carry) (λ o. o) → IsBuilt (majority_gate (bit_at xs index) (bit_at ys index) carry) now next mid
+pub carry_at : {whole : Build Literal} {old now mid : Cnf} (x y carry next : Literal) (xs ys : Bits) (index : ℕ) → index < length xs → index < length ys → IsAt xs index x → IsAt ys index y
+    → Continues whole old now (carry_bit (drop index xs) (drop index ys) carry) (λ o. o) → IsBuilt (majority_gate x y carry) now next mid
     → Continues whole old mid (carry_bit (drop (index + 1) xs) (drop (index + 1) ys) next) (λ o. o)
-carry_at {whole = whole} {old = old} {now = now} carry next xs ys index below also on made =
-    carry_step (bit_at xs index) (bit_at ys index) carry next (drop (index + 1) xs) (drop (index + 1) ys)
-    (both_before (λ xs ys. Continues whole old now (carry_bit xs ys carry) (λ o. o)) xs ys index below also on) made
+carry_at {whole = whole} {old = old} {now = now} x y carry next xs ys index below also first second on made =
+    carry_step x y carry next (drop (index + 1) xs) (drop (index + 1) ys)
+    (both_before (λ xs ys. Continues whole old now (carry_bit xs ys carry) (λ o. o)) xs ys index x y below also first second on) made

@@ -6,7 +6,7 @@ ghost use Rattle.word_circuits.specs.Kinds.{gate_of, gate_with};
 
 use crate::Gates;
 use crate::words::{negations, none, one};
-use clause_spec::Literal;
+use cnf_core::Literal;
 use std::alloc::{AllocError, Global};
 
 /// A gate of two bits.
@@ -50,17 +50,17 @@ impl Gates {
     /// A gate of two bits.
     pub fn connect(
         &mut self,
-        connective: Connective,
+        connective: &Connective,
         a: Literal,
         b: Literal,
     ) -> Result<Literal, AllocError>
-        ensures { MakesBit result (gate_of connective a b) self.old self.new }
+        ensures { MakesBit result (gate_of connective.now a b) self.old self.new }
     {
         match connective {
             Connective::And => self.and_gate(a, b),
             Connective::Or => self.or_gate(a, b),
             Connective::Xor => self.xor_gate(a, b),
-            Connective::Choose(c) => self.mux_gate(c, a, b),
+            Connective::Choose(c) => self.mux_gate(*c, a, b),
         }
     }
 
@@ -77,7 +77,9 @@ impl Gates {
     {
         let mut out = Vec::new(alloc);
         for index in 0..xs.len().min(ys.len()) {
-            let bit = self.connect(connective, xs[index], ys[index])?;
+            let x = xs[index];
+            let y = ys[index];
+            let bit = self.connect(&connective, x, y)?;
             out.push(bit)?;
         }
         Ok(out)
@@ -97,13 +99,13 @@ impl Gates {
     }
 
     /// A gate of one bit.
-    fn connect_with(&mut self, with: With, x: Literal) -> Result<Literal, AllocError>
-        ensures { MakesBit result (gate_with with x) self.old self.new }
+    fn connect_with(&mut self, with: &With, x: Literal) -> Result<Literal, AllocError>
+        ensures { MakesBit result (gate_with with.now x) self.old self.new }
     {
         match with {
-            With::AndAfter(bit) => self.and_gate(x, bit),
-            With::AndBefore(bit) => self.and_gate(bit, x),
-            With::Choose(c, a) => self.mux_gate(c, a, x),
+            With::AndAfter(bit) => self.and_gate(x, *bit),
+            With::AndBefore(bit) => self.and_gate(*bit, x),
+            With::Choose(c, a) => self.mux_gate(*c, *a, x),
         }
     }
 
@@ -118,7 +120,7 @@ impl Gates {
     {
         let mut out = Vec::new(alloc);
         for x in xs {
-            let bit = self.connect_with(with, *x)?;
+            let bit = self.connect_with(&with, *x)?;
             out.push(bit)?;
         }
         Ok(out)
@@ -136,7 +138,7 @@ impl Gates {
     {
         let mut so_far = first;
         for bit in bits {
-            so_far = self.connect(connective, so_far, *bit)?;
+            so_far = self.connect(&connective, so_far, *bit)?;
         }
         Ok(so_far)
     }

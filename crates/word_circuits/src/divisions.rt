@@ -5,8 +5,7 @@ ghost use Rattle.word_circuits.specs.Kinds.{makes_up};
 
 use crate::Gates;
 use crate::words::{none, twice_as_wide};
-use clause_spec::Literal;
-use cnf_core::negation;
+use cnf_core::{Literal, negation};
 use std::alloc::{AllocError, Global};
 
 impl Gates {
@@ -23,9 +22,12 @@ impl Gates {
             (circuits.without_divisor some q.now r.now x.now)) self.old self.new }
     {
         for index in 0..q.len().min(r.len()).min(x.len()) {
-            self.claim(&[some, q[index]])?;
-            self.claim(&[some, negation(r[index]), x[index]])?;
-            self.claim(&[some, r[index], negation(x[index])])?;
+            let quotient = q[index];
+            let remainder = r[index];
+            let dividend = x[index];
+            self.claim(&[some, quotient])?;
+            self.claim(&[some, negation(remainder), dividend])?;
+            self.claim(&[some, remainder, negation(dividend)])?;
         }
         Ok(())
     }

@@ -4,8 +4,7 @@ ghost use Rattle.blast_spec.specs.Gates as build;
 ghost use Rattle.blast_spec.specs.Circuits as circuits;
 ghost use Rattle.word_circuits.specs.Built.{no_clauses, MakesBit, MakesClauses};
 
-use clause_spec::Literal;
-use cnf_core::{ClauseList, Cnf, negation};
+use cnf_core::{ClauseList, Cnf, Literal, MAX_VARIABLE, negation};
 use std::alloc::{AllocError, Global};
 use std::marker::Model;
 
@@ -58,14 +57,11 @@ impl Gates {
         ensures added { OnOk result (self.new
             ≡ record self.old { variables = self.old.variables + 1 }) }
     {
-        if self.variables == usize::MAX {
+        if self.variables >= MAX_VARIABLE {
             return Err(AllocError);
         }
         self.variables += 1;
-        Ok(Literal {
-            variable: self.variables,
-            is_negated: false,
-        })
+        Ok(Literal::new(self.variables, false))
     }
 
     /// Adds a clause after the others.

@@ -14,7 +14,7 @@ mod sums;
 mod words;
 
 pub use bitwise::Connective;
-pub use clause_spec::Literal;
+pub use cnf_core::Literal;
 pub use gates::Gates;
 pub use shifts::Shift;
 pub use words::{negations, none, one, padded, sign_of};

@@ -5,7 +5,7 @@ ghost use Rattle.word_circuits.specs.Kinds.{add_row};
 use crate::Gates;
 use crate::bitwise::With;
 use crate::words::{after_zeros, none};
-use clause_spec::Literal;
+use cnf_core::Literal;
 use std::alloc::{AllocError, Global};
 
 impl Gates {
@@ -49,9 +49,11 @@ impl Gates {
         if ys.is_empty() {
             return Ok(Vec::new(alloc));
         }
-        let mut sum = self.and_each(alloc, xs, ys[0])?;
+        let first = ys[0];
+        let mut sum = self.and_each(alloc, xs, first)?;
         for index in 1..ys.len() {
-            sum = self.add_row(alloc, xs, index, ys[index], &sum)?;
+            let y = ys[index];
+            sum = self.add_row(alloc, xs, index, y, &sum)?;
         }
         Ok(sum)
     }

@@ -6,8 +6,7 @@ ghost use Rattle.word_circuits.specs.Kinds.{move_of};
 use crate::Gates;
 use crate::bitwise::With;
 use crate::words::{after_zeros, none, padded, sign_of};
-use clause_spec::Literal;
-use cnf_core::negation;
+use cnf_core::{Literal, negation};
 use std::alloc::{AllocError, Global};
 
 /// How a word is moved.
@@ -22,16 +21,16 @@ pub enum Shift {
 /// The word moved by so many bits.
 fn moved(
     alloc: Global,
-    shift: Shift,
+    shift: &Shift,
     distance: usize,
     xs: &[Literal],
 ) -> Result<Vec<Literal>, AllocError>
     requires { distance ≤ length xs.now }
-    ensures { IfOk result (λ out. out.items ≡ move_of shift distance xs.now) }
+    ensures { IfOk result (λ out. out.items ≡ move_of shift.now distance xs.now) }
 {
     match shift {
         Shift::Up => after_zeros(alloc, distance, &xs[..xs.len() - distance]),
-        Shift::Down(fill) => padded(alloc, &xs[distance..], fill, distance),
+        Shift::Down(fill) => padded(alloc, &xs[distance..], *fill, distance),
     }
 }
 
@@ -56,8 +55,9 @@ impl Gates {
                 let past = self.or_all(&counts[stage..])?;
                 return Ok((word, past));
             }
-            let shifted = moved(alloc, shift, distance, &word)?;
-            word = self.choose_bits(alloc, counts[stage], &shifted, &word)?;
+            let shifted = moved(alloc, &shift, distance, &word)?;
+            let count = counts[stage];
+            word = self.choose_bits(alloc, count, &shifted, &word)?;
             distance *= 2;
         }
         Ok((word, none()))

@@ -3,8 +3,7 @@ ghost use Rattle.word_circuits.specs.Built.{MakesBit, MakesWord};
 
 use crate::Gates;
 use crate::words::{negations, one};
-use clause_spec::Literal;
-use cnf_core::negation;
+use cnf_core::{Literal, negation};
 use std::alloc::{AllocError, Global};
 
 impl Gates {
@@ -21,9 +20,11 @@ impl Gates {
         let mut out = Vec::new(alloc);
         let mut carried = carry;
         for index in 0..xs.len().min(ys.len()) {
-            let half = self.xor_gate(xs[index], ys[index])?;
+            let x = xs[index];
+            let y = ys[index];
+            let half = self.xor_gate(x, y)?;
             let bit = self.xor_gate(half, carried)?;
-            carried = self.majority_gate(xs[index], ys[index], carried)?;
+            carried = self.majority_gate(x, y, carried)?;
             out.push(bit)?;
         }
         Ok(out)
@@ -53,7 +54,9 @@ impl Gates {
     {
         let mut last = carry;
         for index in 0..xs.len().min(ys.len()) {
-            last = self.majority_gate(xs[index], ys[index], last)?;
+            let x = xs[index];
+            let y = ys[index];
+            last = self.majority_gate(x, y, last)?;
         }
         Ok(last)
     }

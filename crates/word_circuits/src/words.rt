@@ -2,18 +2,14 @@ ghost use Rattle.std.specs.Prelude.{◌≡◌, ◌++◌, map, replicate, IfOk};
 ghost use Rattle.clause_spec.specs.Clause as clause;
 ghost use Rattle.blast_spec.specs.Circuits as circuits;
 
-use clause_spec::Literal;
-use cnf_core::negation;
+use cnf_core::{Literal, negation};
 use std::alloc::{AllocError, Global};
 
 /// Truth: variable 1.
 pub fn one() -> Literal
     ensures { result ≡ circuits.one }
 {
-    Literal {
-        variable: 1,
-        is_negated: false,
-    }
+    Literal::new(1, false)
 }
 
 /// Falsehood: the negation of variable 1.

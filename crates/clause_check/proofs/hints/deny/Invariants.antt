@@ -6,7 +6,7 @@ use Rattle.clause_check.proofs.hints.deny.Given as goal
 
 abbrev pub invariant-loop-literal : goal.invariant-loop-literal
 invariant-loop-literal l = record {
-  fit : are_fit (length l.initial.marks) (take l.literal-index l.literals) ≡ true;
-  reported : Reports l.marks (map negation (take l.literal-index l.literals));
-  len : length l.marks ≡ length l.initial.marks;
+  fit : are_fit (length l.initial.stamps) (take l.literal-index l.literals) ≡ true;
+  reported : Reports l.stamps (map negation (take l.literal-index l.literals));
+  len : length l.stamps ≡ length l.initial.stamps;
 }

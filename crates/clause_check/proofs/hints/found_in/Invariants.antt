@@ -7,6 +7,6 @@ use Rattle.clause_check.proofs.hints.found_in.Given as goal
 
 abbrev pub invariant-loop-literal : goal.invariant-loop-literal
 invariant-loop-literal l = record {
-  seen : (truths : List Literal) → Reports l.marks truths → reported l.seen ≡ finding truths (take l.literal-index l.clause);
-  open_literal : IsOpen l.marks l.seen;
+  seen : (truths : List Literal) → Reports l.stamps truths → reported l.seen ≡ finding truths (take l.literal-index l.clause);
+  open_literal : IsOpen l.stamps l.seen;
 }

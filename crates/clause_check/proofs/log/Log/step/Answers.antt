@@ -10,15 +10,15 @@ invariant_of-self c =
 
 pub invariant_of-self-2 : goal.invariant_of-self-2
 invariant_of-self-2 c =
-    let follows : outcome (length c.self.inside.marks) c.self.inside.clauses.clauses c.args.literals.now c.args.hints.now ≡ Follows =
+    let follows : outcome (length c.self.inside.stamps) c.self.inside.clauses.clauses c.args.literals.now c.args.hints.now ≡ Follows =
     sym c.in_ok-follows.ensures.outcome
     in
     subst (λ n. IsKept n c.self.inside.given c.push.new.self.clauses) (sym c.follows.ensures.len)
-    (subst (IsKept (length c.self.inside.marks) c.self.inside.given) (sym c.in_ok-push.ensures.added)
-    (kept_more (length c.self.inside.marks) c.self.inside.given c.self.inside.clauses.clauses c.args.literals.now c.args.hints.now c.self.invariant follows))
+    (subst (IsKept (length c.self.inside.stamps) c.self.inside.given) (sym c.in_ok-push.ensures.added)
+    (kept_more (length c.self.inside.stamps) c.self.inside.given c.self.inside.clauses.clauses c.args.literals.now c.args.hints.now c.self.invariant follows))
 
 pub returns-clause-follows : goal.returns-clause-follows
 returns-clause-follows c =
-    outcome_of_parts c.args.self.now (length c.self.inside.marks) c.self.inside.given c.self.inside.clauses.clauses c.args.literals.now c.args.hints.now
+    outcome_of_parts c.args.self.now (length c.self.inside.stamps) c.self.inside.given c.self.inside.clauses.clauses c.args.literals.now c.args.hints.now
     (ap (λ l. l.cnf.variables) c.self.view_is) (ap (λ l. l.cnf.clauses) c.self.view_is) (ap (λ l. l.added) c.self.view_is)
     ∙ sym c.in_ok-follows.ensures.outcome

@@ -11,4 +11,4 @@ loop-index-init c = continues_start _ _
 
 pub loop-index-preserved : goal.loop-index-preserved
 loop-index-preserved c =
-    carry_at c.loop-index.last c.in_ok-last.last c.args.xs.now c.args.ys.now c.loop-index.index (omega arith) (omega arith) c.loop-index.invariant c.in_ok-last.ensures
+    carry_at c.index-xs-index.result c.index-ys-index.result c.loop-index.last c.in_ok-last.last c.args.xs.now c.args.ys.now c.loop-index.index (omega arith) (omega arith) c.index-xs-index.is c.index-ys-index.is c.loop-index.invariant c.in_ok-last.ensures

@@ -10,6 +10,6 @@ loop-index-init c = claims_start _ _
 
 pub loop-index-preserved : goal.loop-index-preserved
 loop-index-preserved c =
-    divisor_at c.claim.new.self c.claim-in-loop-index.new.self c.args.some c.negation.result c.negation-in-loop-index.result
-    c.args.q.now c.args.r.now c.args.x.now c.loop-index.index (omega arith) (omega arith) (omega arith) c.negation.ensures c.negation-in-loop-index.ensures
+    divisor_at c.claim.new.self c.claim-in-loop-index.new.self c.args.some c.index-q-index.result c.index-r-index.result c.index-x-index.result c.negation.result c.negation-in-loop-index.result
+    c.args.q.now c.args.r.now c.args.x.now c.loop-index.index (omega arith) (omega arith) (omega arith) c.index-q-index.is c.index-r-index.is c.index-x-index.is c.negation.ensures c.negation-in-loop-index.ensures
     c.loop-index.invariant c.in_ok-claim.ensures c.in_ok-claim-2.ensures c.in_ok-claim-3.ensures

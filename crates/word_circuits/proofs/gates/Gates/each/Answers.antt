@@ -11,5 +11,5 @@ loop-x-init c = adds_start _ _ c.new-out.result.items c.new-out.ensures.items
 
 pub loop-x-preserved : goal.loop-x-preserved
 loop-x-preserved c =
-    each_at (gate_with c.args.with) c.in_ok-bit.bit c.args.xs.now c.loop-x.x-index c.loop-x.out.items c.push.new.self.items
-    (omega arith) c.in_ok-push.ensures.items c.loop-x.invariant c.in_ok-bit.ensures
+    each_at (gate_with c.args.with) c.x-item.result c.in_ok-bit.bit c.args.xs.now c.loop-x.x-index c.loop-x.out.items c.push.new.self.items
+    (omega arith) c.x-item.is c.in_ok-push.ensures.items c.loop-x.invariant c.in_ok-bit.ensures

@@ -11,5 +11,5 @@ loop-index-init c = adds_start _ _ c.new-out.result.items c.new-out.ensures.item
 
 pub loop-index-preserved : goal.loop-index-preserved
 loop-index-preserved c =
-    each_two_at (gate_of c.args.connective) c.in_ok-bit.bit c.args.xs.now c.args.ys.now c.loop-index.index c.loop-index.out.items c.push.new.self.items
-    (omega arith) (omega arith) c.in_ok-push.ensures.items c.loop-index.invariant c.in_ok-bit.ensures
+    each_two_at (gate_of c.args.connective) c.index-xs-index.result c.index-ys-index.result c.in_ok-bit.bit c.args.xs.now c.args.ys.now c.loop-index.index c.loop-index.out.items
+    c.push.new.self.items (omega arith) (omega arith) c.index-xs-index.is c.index-ys-index.is c.in_ok-push.ensures.items c.loop-index.invariant c.in_ok-bit.ensures

@@ -12,4 +12,4 @@ loop-bit-init c = continues_start _ _
 
 pub loop-bit-preserved : goal.loop-bit-preserved
 loop-bit-preserved c =
-    fold_at (gate_of c.args.connective) c.loop-bit.so_far c.in_ok-so_far.so_far c.args.bits.now c.loop-bit.bit-index (omega arith) c.loop-bit.invariant c.in_ok-so_far.ensures
+    fold_at (gate_of c.args.connective) c.loop-bit.so_far c.bit-item.result c.in_ok-so_far.so_far c.args.bits.now c.loop-bit.bit-index (omega arith) c.bit-item.is c.loop-bit.invariant c.in_ok-so_far.ensures

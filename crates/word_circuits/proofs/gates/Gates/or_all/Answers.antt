@@ -1,7 +1,6 @@
 use Rattle.std.proofs.Common.{◌-◌, length, take, drop}
 use Rattle.blast_spec.specs.Circuits.{or_gate, fold_gates, or_all}
 use Rattle.word_circuits.proofs.Built.{same_ok}
-use Rattle.word_circuits.proofs.Steps.{bit_at}
 use Rattle.word_circuits.proofs.Calls.{or_all_none, or_all_some}
 use Rattle.word_circuits.proofs.gates.Gates.or_all.Goals as goal
 
@@ -11,5 +10,5 @@ returns-in-empty c = or_all_none c.args.bits.now c.none.result c.args.self.now c
 pub returns-in-len1-up : goal.returns-in-len1-up
 returns-in-len1-up c =
     same_ok c.args.self.now c.fold_gates.new.self c.fold_gates.result (λ o. o)
-    (fold_gates or_gate (bit_at c.args.bits.now 0) (take (length c.args.bits.now - 1) (drop 1 c.args.bits.now))) (or_all c.args.bits.now)
-    (or_all_some c.args.bits.now c.in-len1-up.len_at_least) c.fold_gates.ensures
+    (fold_gates or_gate c.first-item.result (take (length c.args.bits.now - 1) (drop 1 c.args.bits.now))) (or_all c.args.bits.now)
+    (or_all_some c.args.bits.now c.first-item.result c.in-len1-up.len_at_least c.first-item.is) c.fold_gates.ensures

@@ -4,7 +4,6 @@ use Rattle.std.proofs.lemmas.List.{take_rest}
 use Rattle.blast_spec.specs.Circuits.{choose_bits, or_all}
 use Rattle.word_circuits.specs.Kinds.{move_of}
 use Rattle.word_circuits.proofs.Built.{same_gives}
-use Rattle.word_circuits.proofs.Steps.{bit_at}
 use Rattle.word_circuits.proofs.Stages.{stages_start, stages_at, stages_past_at, stages_end, chosen_same}
 use Rattle.word_circuits.proofs.gates.Gates.shift_stages.Goals as goal
 
@@ -15,11 +14,11 @@ pub loop-stage-preserved : goal.loop-stage-preserved
 loop-stage-preserved c =
     let move = move_of c.args.shift in
     let width : c.len.result ≡ length c.loop-stage.word.items = search rules in
-    stages_at move c.loop-stage.distance (c.loop-stage.distance * 2) c.args.counts.now c.loop-stage.word.items c.in_ok-word-2.word.items c.loop-stage.stage (omega arith)
+    stages_at move c.loop-stage.distance (c.loop-stage.distance * 2) c.index-counts-stage.result c.args.counts.now c.loop-stage.word.items c.in_ok-word-2.word.items c.loop-stage.stage (omega arith) c.index-counts-stage.is
     (lt-ltb c.loop-stage.distance (length c.loop-stage.word.items) (omega arith)) (omega arith) c.loop-stage.invariant
-    (same_gives (choose_bits (bit_at c.args.counts.now c.loop-stage.stage) c.deref-in-loop-stage.result.now c.deref-in-loop-stage-2.result.now)
-    (choose_bits (bit_at c.args.counts.now c.loop-stage.stage) (move c.loop-stage.distance c.loop-stage.word.items) c.loop-stage.word.items)
-    (chosen_same move c.loop-stage.distance (bit_at c.args.counts.now c.loop-stage.stage) c.loop-stage.word.items c.deref.result.now c.in_ok-shifted.shifted.items
+    (same_gives (choose_bits c.index-counts-stage.result c.deref-in-loop-stage.result.now c.deref-in-loop-stage-2.result.now)
+    (choose_bits c.index-counts-stage.result (move c.loop-stage.distance c.loop-stage.word.items) c.loop-stage.word.items)
+    (chosen_same move c.loop-stage.distance c.index-counts-stage.result c.loop-stage.word.items c.deref.result.now c.in_ok-shifted.shifted.items
     c.deref-in-loop-stage.result.now c.deref-in-loop-stage-2.result.now
     c.deref-in-loop-stage.ensures.value c.in_ok-shifted.ensures c.deref.ensures.value c.deref-in-loop-stage-2.ensures.value)
     c.in_ok-word-2.ensures)

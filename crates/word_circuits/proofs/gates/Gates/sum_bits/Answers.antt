@@ -10,5 +10,5 @@ loop-index-init c = adds_start _ _ c.new-out.result.items c.new-out.ensures.item
 
 pub loop-index-preserved : goal.loop-index-preserved
 loop-index-preserved c =
-    sum_at c.loop-index.carried c.in_ok-half.half c.in_ok-bit.bit c.in_ok-carried.carried c.args.xs.now c.args.ys.now c.loop-index.index c.loop-index.out.items c.push.new.self.items
-    (omega arith) (omega arith) c.in_ok-push.ensures.items c.loop-index.invariant c.in_ok-half.ensures c.in_ok-bit.ensures c.in_ok-carried.ensures
+    sum_at c.index-xs-index.result c.index-ys-index.result c.loop-index.carried c.in_ok-half.half c.in_ok-bit.bit c.in_ok-carried.carried c.args.xs.now c.args.ys.now c.loop-index.index c.loop-index.out.items c.push.new.self.items
+    (omega arith) (omega arith) c.index-xs-index.is c.index-ys-index.is c.in_ok-push.ensures.items c.loop-index.invariant c.in_ok-half.ensures c.in_ok-bit.ensures c.in_ok-carried.ensures
