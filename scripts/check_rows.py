@@ -23,7 +23,7 @@ BY_HAND = ("indices", "twice")
 
 
 def atom(word):
-    name, _, rest = word.partition(":")
+    name, _, rest = word.rpartition("/")[2].partition(":")
     if name in ("true", "false"):
         return (name,)
     if name.isdigit():
@@ -31,7 +31,8 @@ def atom(word):
     return ("var", word, "memory" if name[0] in "mz" else "bool" if name in "pqr" else 8 if name == "v" else int(rest))
 
 
-def term(text):
+def terms(text):
+    """Terms one after the other."""
     read = []
     for word in reversed(text.replace("(", "").replace(")", "").split()):
         name, _, rest = word.partition(":")
@@ -43,7 +44,11 @@ def term(text):
             read.append(("join" if name.startswith("join") else name, *parts))
         else:
             read.append(atom(word))
-    (made,) = read
+    return read[::-1]
+
+
+def term(text):
+    (made,) = terms(text)
     return made
 
 
@@ -116,7 +121,7 @@ def shown(kind, found):
     if kind == "bool":
         return f"Truth({str(bool(found)).lower()})"
     if kind == "memory":
-        return "Bytes(Memory { bytes: {" + ", ".join(f"{d}: {found[d]}" for d in sorted(found)) + "} })"
+        return "Bytes(Memory { bytes: {" + ", ".join(f"{d}: {found[d]}" for d in sorted(found) if found[d]) + "} })"
     return f"Number(W{kind}, {found})"
 
 
@@ -126,6 +131,33 @@ def shown_value(t, values):
 
 def shown_sort(kind):
     return {None: "None", "bool": "Some(Truth)", "memory": "Some(Memory)"}.get(kind, f"Some(Word(W{kind}))")
+
+
+# ---- trees
+
+
+def subterms(t):
+    """The distinct subterms of a term, itself among them."""
+    return {t}.union(*map(subterms, arguments(t)))
+
+
+def with_atoms(t, change):
+    """The term with another in place of each variable."""
+    if not arguments(t):
+        return change(t) if t[0] == "var" else t
+    head = t[:2] if t[0] in NUMBERED else t[:1]
+    return head + tuple(with_atoms(a, change) for a in arguments(t))
+
+
+def substituted(names, made, others):
+    state = dict(zip(map(atom, names.split(",")), others))
+    return with_atoms(made, lambda v: state.get(v, v))
+
+
+def renamed(instance, t):
+    own = lambda v: v[1].rpartition("/")[2].partition(":")[0] in ("a", "b", "c", "p", "q", "r")
+    return with_atoms(t, lambda v: ("var", f"{instance}/{v[1].rpartition('/')[2]}", v[2]) if own(v) and instance != "0"
+                      else ("var", v[1].rpartition("/")[2], v[2]) if own(v) else v)
 
 
 # ---- flat terms
@@ -241,7 +273,13 @@ def answer(name, detail, text, form, values):
     """The answer to a question, and the values of the variables after it."""
     if name == "log":
         return log(int(detail), text), values
-    t = term(text)
+    t, *others = terms(text)
+    if name == "subterms":
+        count = len(subterms(t))
+        return str(count) if count <= int(detail) else "above", values
+    if name in ("substitute", "rename"):
+        made = renamed(detail, t) if name == "rename" else substituted(detail, t, others)
+        return (form if form != "?" and term(form) == made else spelled(made)), values
     if name in ("value", "set"):
         found = shown_value(t, values)
         return found, values | {detail: value(t, values)} if name == "set" else values

@@ -30,18 +30,22 @@ fn size(words: usize) -> u32 {
 fn take(made: &mut Made, part: &str) -> Result<(), AllocError> {
     if let Some((entry, size)) = part.split_once('+') {
         let symbol = [0, hexadecimal(entry), hexadecimal(size), 0x0001_0012];
-        made.symbols.extend_from_slice(&symbol)
-    } else if let Some((address, flags)) = part.split_once(':') {
-        let first = made.words.len();
-        let span = Span {
-            address: hexadecimal(address),
-            flags: hexadecimal(flags),
-            first,
-        };
-        Ok(made.spans.push(span)?)
-    } else {
-        Ok(made.words.push(hexadecimal(part))?)
+        return made.symbols.extend_from_slice(&symbol);
     }
+    match part.split_once(':') {
+        Some((address, flags)) => begin(made, address, flags),
+        None => Ok(made.words.push(hexadecimal(part))?),
+    }
+}
+
+/// A segment that begins.
+fn begin(made: &mut Made, address: &str, flags: &str) -> Result<(), AllocError> {
+    let span = Span {
+        address: hexadecimal(address),
+        flags: hexadecimal(flags),
+        first: made.words.len(),
+    };
+    Ok(made.spans.push(span)?)
 }
 
 /// The program header of each segment, whose bytes begin after the headers.

@@ -107,6 +107,25 @@ fn put_run(run: Option<&Run>, out: &mut Out) {
     }
 }
 
+/// The bytes of a run.
+fn put_bytes(
+    alloc: Global,
+    image: &Image<'_>,
+    value: &str,
+    out: &mut Out,
+) -> Result<(), AllocError> {
+    let runs = image.runs(alloc)?;
+    put_run(runs.get(decimal(value)), out);
+    Ok(())
+}
+
+/// The first and the last address of a run.
+fn put_addresses(image: &Image<'_>, index: usize, out: &mut Out) {
+    let run = image.run(index);
+    put_number(run.map(|run| run.first), out);
+    put_number(run.map(|run| run.last), out);
+}
+
 /// What a query gives.
 fn put_answer(
     alloc: Global,
@@ -118,15 +137,8 @@ fn put_answer(
     match query {
         "segment" => put_segment(image.segment(decimal(value)), out),
         "symbol" => put_symbol(image.symbol(decimal(value)), out),
-        "run" => {
-            let run = image.run(decimal(value));
-            put_number(run.map(|run| run.first), out);
-            put_number(run.map(|run| run.last), out);
-        }
-        "bytes" => {
-            let runs = image.runs(alloc)?;
-            put_run(runs.get(decimal(value)), out);
-        }
+        "run" => put_addresses(image, decimal(value), out),
+        "bytes" => return put_bytes(alloc, image, value, out),
         "at" => {
             put_number(image.size_at(hexadecimal(value)), out);
             put_number(image.fixed_byte(hexadecimal(value)).map(u32::from), out);
@@ -167,6 +179,37 @@ fn change(bytes: &mut Vec<u8>, offset: &str, value: &str) {
     }
 }
 
+/// The changes of a row, made.
+fn make_changes(bytes: &mut Vec<u8>, row: &str) {
+    for word in row.split_whitespace() {
+        if let Some((offset, value)) = word.split_once('=') {
+            change(bytes, offset, value);
+        }
+    }
+}
+
+fn put_error(error: ElfError, out: &mut Out) {
+    match error {
+        ElfError::Fault(fault) => {
+            out.show(&fault.kind);
+            out.put(" at ");
+            out.show(&fault.offset);
+        }
+        ElfError::NoMemory => out.put("no memory"),
+    }
+}
+
+/// What the queries of a row give of these bytes.
+fn put_file(alloc: Global, bytes: &[u8], row: &str, out: &mut Out) -> Result<(), AllocError> {
+    match read(alloc, bytes) {
+        Ok(image) => put_answers(alloc, &image, row, out),
+        Err(error) => {
+            put_error(error, out);
+            Ok(())
+        }
+    }
+}
+
 /// The outcome of a row `read`.
 pub(crate) fn put_read(
     alloc: Global,
@@ -175,19 +218,6 @@ pub(crate) fn put_read(
     out: &mut Out,
 ) -> Result<(), AllocError> {
     let mut bytes = Vec::from_slice(alloc, file)?;
-    for word in row.split_whitespace() {
-        if let Some((offset, value)) = word.split_once('=') {
-            change(&mut bytes, offset, value);
-        }
-    }
-    match read(alloc, bytes.as_slice()) {
-        Ok(image) => put_answers(alloc, &image, row, out)?,
-        Err(ElfError::Fault(fault)) => {
-            out.show(&fault.kind);
-            out.put(" at ");
-            out.show(&fault.offset);
-        }
-        Err(ElfError::NoMemory) => out.put("no memory"),
-    }
-    Ok(())
+    make_changes(&mut bytes, row);
+    put_file(alloc, bytes.as_slice(), row, out)
 }

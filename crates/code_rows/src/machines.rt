@@ -20,6 +20,12 @@ fn is_word(text: &str) -> bool {
 /// A machine with the words of a row.
 fn loaded(alloc: Global, row: &str) -> Result<Machine, AllocError> {
     let mut memory = Memory::new(alloc);
+    load(&mut memory, row)?;
+    Ok(Machine::new(0x1_0000, memory))
+}
+
+/// The words of a row, from 00010000 on.
+fn load(memory: &mut Memory, row: &str) -> Result<(), AllocError> {
     let mut at: u32 = 0x1_0000;
     for word in row.split_whitespace() {
         if is_word(word) {
@@ -29,7 +35,7 @@ fn loaded(alloc: Global, row: &str) -> Result<Machine, AllocError> {
             }
         }
     }
-    Ok(Machine::new(0x1_0000, memory))
+    Ok(())
 }
 
 fn put_value(value: u32, out: &mut Out) {
@@ -86,15 +92,20 @@ fn ask(machine: &mut Machine, name: &str, out: &mut Out) -> Result<(), AllocErro
     Ok(())
 }
 
-/// The outcome of a row.
-pub(crate) fn put_machine(alloc: Global, row: &str, out: &mut Out) -> Result<(), AllocError> {
-    let mut machine = loaded(alloc, row)?;
+/// What the steps of a row do.
+fn put_steps(machine: &mut Machine, row: &str, out: &mut Out) -> Result<(), AllocError> {
     for word in row.split_whitespace() {
         match word.split_once('=') {
-            Some((name, value)) => set(&mut machine, name, value, out)?,
+            Some((name, value)) => set(machine, name, value, out)?,
             None if is_word(word) => {}
-            None => ask(&mut machine, word, out)?,
+            None => ask(machine, word, out)?,
         }
     }
     Ok(())
+}
+
+/// The outcome of a row.
+pub(crate) fn put_machine(alloc: Global, row: &str, out: &mut Out) -> Result<(), AllocError> {
+    let mut machine = loaded(alloc, row)?;
+    put_steps(&mut machine, row, out)
 }

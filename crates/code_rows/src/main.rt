@@ -4,7 +4,8 @@
 //! - `word`, `encode`, `effect`: instructions (`instructions`); `machine`: what a machine does
 //!   (`machines`)
 //! - `file`, `made`, `read`: the bytes of files and what is read off them (`files`)
-//! - `code`, `graphs`: what the functions of made files reach, and their graphs (`functions`)
+//! - `code`, `graphs`, `within`, `alone`: what the functions of made files reach, and their graphs
+//!   (`functions`)
 //! - `nodes`: whether a graph is valid (`nodes`); `countdown`: a walk that has nothing of graphs
 //!   (`walks`)
 //!
@@ -43,7 +44,7 @@ fn put_outcome(
         "made" => return files::put_made(alloc, rest, out),
         "read" => return files::put_read(alloc, rest, file.as_slice(), out),
         "nodes" => return nodes::put_nodes(alloc, rest, out),
-        _ => return functions::put_functions(alloc, asked == "graphs", rest, out),
+        _ => return functions::put_functions(alloc, asked, rest, out),
     }
     Ok(())
 }

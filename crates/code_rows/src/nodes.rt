@@ -52,7 +52,7 @@ fn atom(word: &str) -> Atom {
 fn popped(alloc: Global, stack: &mut Vec<Box<Term>>) -> Result<Box<Term>, AllocError> {
     match stack.pop() {
         Some(term) => Ok(term),
-        None => Ok(Box::new(alloc, Term::Leaf(Atom::Truth(false)))?),
+        None => Term::leaf(alloc, Atom::Truth(false)),
     }
 }
 
@@ -64,7 +64,7 @@ fn combine(
 ) -> Result<(), AllocError> {
     let second = popped(alloc, stack)?;
     let first = popped(alloc, stack)?;
-    Ok(stack.push(Box::new(alloc, Term::Binary(operator, first, second))?)?)
+    Ok(stack.push(Term::binary(alloc, operator, first, second)?)?)
 }
 
 /// The last term is bound.
@@ -90,7 +90,7 @@ fn add_call(
 ) -> Result<usize, AllocError> {
     let (callee, then) = value.split_once(',').unwrap_or((value, ""));
     let inputs = bound(alloc, Family::Parameter, stack)?;
-    stack.push(Box::new(alloc, Term::Leaf(atom("local")))?)?;
+    push_leaf(alloc, "local", stack)?;
     let outputs = bound(alloc, Family::Local, stack)?;
     graph.add_call(alloc, decimal(callee), inputs, outputs, next(then))
 }
@@ -133,6 +133,19 @@ fn add_node(
     }
 }
 
+/// The term of a word.
+fn add_term(alloc: Global, word: &str, stack: &mut Vec<Box<Term>>) -> Result<(), AllocError> {
+    match operator(word) {
+        Some(operator) => combine(alloc, operator, stack),
+        None => push_leaf(alloc, word, stack),
+    }
+}
+
+fn push_leaf(alloc: Global, word: &str, stack: &mut Vec<Box<Term>>) -> Result<(), AllocError> {
+    let leaf = Term::leaf(alloc, atom(word))?;
+    Ok(stack.push(leaf)?)
+}
+
 /// The nodes of a row.
 fn add_nodes(
     alloc: Global,
@@ -141,12 +154,11 @@ fn add_nodes(
     graph: &mut Graph,
 ) -> Result<(), AllocError> {
     for word in row.split_whitespace() {
-        if let Some((kind, value)) = word.split_once('=') {
-            add_node(alloc, kind, value, stack, graph)?;
-        } else if let Some(operator) = operator(word) {
-            combine(alloc, operator, stack)?;
-        } else {
-            stack.push(Box::new(alloc, Term::Leaf(atom(word)))?)?;
+        match word.split_once('=') {
+            Some((kind, value)) => {
+                add_node(alloc, kind, value, stack, graph)?;
+            }
+            None => add_term(alloc, word, stack)?,
         }
     }
     Ok(())

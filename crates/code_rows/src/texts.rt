@@ -7,7 +7,8 @@ use graph_core::{Binding, Next, Node};
 use term_core::Term;
 use term_spec::{Atom, BinaryOperator, Family, Variable};
 
-fn put_variable(variable: Variable, out: &mut Out) {
+/// A variable after a blank.
+pub(crate) fn put_variable(variable: Variable, out: &mut Out) {
     out.put(match variable.family {
         Family::Register => " x",
         Family::Entry => " e",

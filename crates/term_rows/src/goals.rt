@@ -20,8 +20,8 @@ use term_core::Assignment;
 
 fn add_clause(out: &mut String, clause: &[Literal]) -> Result<(), AllocError> {
     for literal in clause {
-        let sign = if literal.is_negated { "-" } else { "" };
-        write!(out, " {sign}{}", literal.variable)?;
+        let sign = if literal.is_negated() { "-" } else { "" };
+        write!(out, " {sign}{}", literal.variable())?;
     }
     out.push_str(" 0")
 }
@@ -44,8 +44,7 @@ fn with_literal(digest: u64, code: u64) -> u64 {
 fn with_clause(digest: u64, clause: &[Literal]) -> u64 {
     let mut digest = digest;
     for literal in clause {
-        let code = (literal.variable as u64).wrapping_mul(2);
-        digest = with_literal(digest, code.wrapping_add(u64::from(literal.is_negated)));
+        digest = with_literal(digest, literal.code() as u64);
     }
     with_literal(digest, 0)
 }

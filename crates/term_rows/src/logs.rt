@@ -10,16 +10,19 @@ use clause_check::{Literal, Log, StepError};
 use cnf_core::Cnf;
 use std::alloc::{AllocError, Global};
 
+/// The literal of a variable. Where its number is too large for one it is 0, which no clauses have
+/// either.
+fn literal_of(variable: u64, is_negated: bool) -> Literal {
+    match Literal::try_new(variable as usize, is_negated) {
+        Some(literal) => literal,
+        None => Literal::new(0, is_negated),
+    }
+}
+
 fn literal(word: &str) -> Literal {
     match word.strip_prefix('-') {
-        Some(rest) => Literal {
-            variable: number(rest) as usize,
-            is_negated: true,
-        },
-        None => Literal {
-            variable: number(word) as usize,
-            is_negated: false,
-        },
+        Some(rest) => literal_of(number(rest), true),
+        None => literal_of(number(word), false),
     }
 }
 
@@ -47,7 +50,7 @@ fn hints(alloc: Global, text: &str) -> Result<Vec<usize>, AllocError> {
 fn are_of(clause: &[Literal], last: usize) -> bool
     ensures { result ≡ list_all (is_of last) clause.now }
 {
-    clause.iter().all(|literal| 1 <= literal.variable && literal.variable <= last)
+    clause.iter().all(|literal| literal.is_of(last))
 }
 
 fn add_clause(cnf: &mut Cnf, clause: &[Literal]) -> Result<(), AllocError> {

@@ -1,13 +1,14 @@
 //! Rows of terms, goals and logs, each with the answer that is expected of it.
 //!
 //! A row is `QUESTION WORDS = ANSWER`; each is printed with `ok`, or with what was found in place
-//! of the answer. The modules `terms`, `goals` and `logs` have the questions, and `words` has how a
-//! term is written. A row without ` = ` is a title.
+//! of the answer. The modules `terms`, `trees`, `goals` and `logs` have the questions, and `words` has
+//! how a term is written. A row without ` = ` is a title.
 #![tactic(auto)]
 
 mod goals;
 mod logs;
 mod terms;
+mod trees;
 mod words;
 
 use std::alloc::{AllocError, Global};
@@ -33,6 +34,19 @@ fn ask_goal(
         terms::add_value(alloc, out, values, bank, id)?;
     }
     Ok(())
+}
+
+/// Answers a question on the tree of a term.
+fn ask_tree(
+    alloc: Global,
+    out: &mut String,
+    bank: &mut Bank,
+    read: &mut Vec<TermId>,
+    text: &str,
+    question: Question<'_>,
+) -> Result<(), AllocError> {
+    let id = words::term(bank, read, text)?;
+    trees::answer(alloc, out, bank, read, id, question)
 }
 
 /// Answers a question on a term.
@@ -63,6 +77,7 @@ fn ask(
         "clauses" | "digest" | "model" | "within" => ask_goal(
             alloc, out, values, bank, read, text, question,
         ),
+        "subterms" | "substitute" | "rename" => ask_tree(alloc, out, bank, read, text, question),
         _ => ask_term(alloc, out, values, bank, read, text, question),
     }
 }

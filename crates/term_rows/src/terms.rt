@@ -48,7 +48,7 @@ fn boxed(alloc: Global, term: Term) -> Result<Box<Term>, AllocError> {
 }
 
 /// The tree of a term.
-fn tree(alloc: Global, bank: &Bank, id: TermId) -> Result<Box<Term>, AllocError>
+pub(crate) fn tree(alloc: Global, bank: &Bank, id: TermId) -> Result<Box<Term>, AllocError>
     requires { id < length bank.now }
 {
     match bank.node(id) {
@@ -142,7 +142,7 @@ fn set(
 }
 
 /// Adds the expected answer where the term is the one that it names; else the term's node.
-fn compare(
+pub(crate) fn compare(
     out: &mut String,
     bank: &mut Bank,
     read: &mut Vec<TermId>,

@@ -1,6 +1,7 @@
 // Terms as words: an operator precedes its arguments, in brackets or not. `join2`, `join4` and
 // `join8` have two, four and eight bytes; `zext`, `sext`, `low` and `byte` have their number after
-// a colon, as in `low:8`; `twice:N` is the last of N sums, each of the one before with itself.
+// a colon, as in `low:8`; `twice:N` is the last of N sums, each of the one before with itself. A
+// variable of an instance has its number and a slash before its name, as in `3/a:32`.
 
 ghost use Rattle.std.specs.Prelude.{◌≡◌, ◌<◌, length, IfOk, IfSome};
 ghost use Rattle.term_bank.specs.Nodes.{IsNode};
@@ -41,8 +42,28 @@ fn open(family: Family, index: usize, sort: Sort) -> Atom {
     })
 }
 
+/// The atom, of an instance if it is a variable.
+fn of_instance(atom: Atom, instance: usize) -> Atom {
+    match atom {
+        Atom::Open(variable) => Atom::Open(Variable {
+            family: variable.family,
+            index: variable.index,
+            instance,
+            sort: variable.sort,
+        }),
+        _ => atom,
+    }
+}
+
 /// A truth value, a variable, or a constant as `WIDTH:NUMBER`.
 pub(crate) fn atom(name: &str, rest: &str) -> Atom {
+    match name.split_once('/') {
+        Some((instance, name)) => of_instance(plain_atom(name, rest), number(instance) as usize),
+        None => plain_atom(name, rest),
+    }
+}
+
+fn plain_atom(name: &str, rest: &str) -> Atom {
     match name {
         "true" => Atom::Truth(true),
         "false" => Atom::Truth(false),
@@ -107,7 +128,7 @@ fn binary(name: &str) -> Option<BinaryOperator> {
 }
 
 /// The last index that was read, if it is below the count.
-fn next(read: &mut Vec<TermId>, count: usize) -> TermId
+pub(crate) fn next(read: &mut Vec<TermId>, count: usize) -> TermId
     requires { 0 < count }
     ensures { result < count }
 {
