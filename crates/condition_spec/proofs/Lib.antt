@@ -1,0 +1,14 @@
+pub mod Growing
+pub mod Truths
+pub mod Merging
+pub mod Leaving
+pub mod Edges
+pub mod Passages
+pub mod Incoming
+pub mod Taken
+pub mod Links
+pub mod Meaning
+pub mod Runs
+pub mod Visiting
+pub mod Ends
+pub mod Stops

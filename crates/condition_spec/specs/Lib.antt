@@ -1,0 +1,5 @@
+pub mod Junctions
+pub mod Conditions
+pub mod Passages
+pub mod Runs
+pub mod Samples

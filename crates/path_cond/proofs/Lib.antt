@@ -1,0 +1,15 @@
+pub mod Parts
+pub mod Banks
+pub mod Merging
+pub mod Numbers
+pub mod Changed
+pub mod Uniting
+pub mod Current
+pub mod Conditionals
+pub mod Left
+pub mod Arriving
+pub mod Tables
+pub mod Walking
+pub mod Positions
+pub mod Listed
+pub mod Starting

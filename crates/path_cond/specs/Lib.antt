@@ -1,0 +1,10 @@
+pub mod Ids
+pub mod Bound
+pub mod Merged
+pub mod States
+pub mod Branches
+pub mod United
+pub mod Known
+pub mod Table
+pub mod Listed
+pub mod Result

@@ -1,0 +1,4 @@
+pub mod Members
+pub mod Walks
+pub mod Images
+pub mod Order

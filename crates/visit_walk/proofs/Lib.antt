@@ -1,0 +1,15 @@
+pub mod Searching
+pub mod Lists
+pub mod Interning
+pub mod Arriving
+pub mod Exploring
+pub mod Counting
+pub mod KeyTest
+pub mod Rounds
+pub mod Passing
+pub mod Cycles
+pub mod Passed
+pub mod Answered
+pub mod Listed
+pub mod Entering
+pub mod Filled

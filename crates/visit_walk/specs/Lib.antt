@@ -1,0 +1,5 @@
+pub mod Search
+pub mod Tables
+pub mod Nodes
+pub mod Listings
+pub mod Found
