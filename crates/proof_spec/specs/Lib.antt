@@ -1,0 +1,4 @@
+pub mod Cuts
+pub mod Frames
+pub mod Proofs
+pub mod Scope

@@ -1,0 +1,4 @@
+mod Ahead
+mod Nested
+mod Somewhere
+mod Lines

@@ -1,0 +1,4 @@
+pub mod Ahead
+pub mod Frames
+pub mod Proofs
+pub mod Scope

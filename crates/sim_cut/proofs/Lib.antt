@@ -1,0 +1,6 @@
+mod Passing
+mod Meeting
+mod Soundness
+mod Over
+mod PassedOver
+mod EachGoal
