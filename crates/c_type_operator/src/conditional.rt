@@ -1,0 +1,170 @@
+//! The conditional operator (6.5.15).
+
+ghost use Rattle.std.specs.Prelude.{◌≡◌, Ok};
+ghost use Rattle.c_type_spec.specs.Types as types;
+ghost use Rattle.c_type_spec.specs.Operands as rule;
+ghost use Rattle.c_type_spec.specs.Operators as operators;
+ghost use Rattle.c_type_operator.specs.Arms.{arms_of, pointers_by, null_first_by, null_second_by};
+ghost use Rattle.c_type_operator.specs.Gives.{Gives};
+ghost use Rattle.c_type_operator.specs.Operands.{operand_of, valued_of};
+
+use crate::arms::Arms;
+use crate::conversion::pointers_agree;
+use crate::operand::{Operand, TypeFault, Valued, convert, core_or_memory, type_or_memory};
+use crate::scalar::{both, common, value_operand};
+use crate::value::is_null;
+use c_core::expression::Core;
+use c_type_layout::types::{Base, CType, Outer, WORD, same_type};
+use c_type_spec::{Scalar, TypeFaultKind};
+use std::alloc::Global;
+
+/// Two integers in their common type.
+#[tactic(auto, unfolding(crate::specs::Arms::arms_of, crate::specs::Operands::valued_of))]
+fn integers<'a>(
+    alloc: Global,
+    of: Scalar,
+    a: Valued<'a>,
+    b: Valued<'a>,
+) -> Result<Arms<'a>, TypeFault>
+    ensures { Gives arms_of result (Ok (operators.arms (types.Integer of) of (rule.convert of
+        (valued_of a.entry).core) (rule.convert of (valued_of b.entry).core))) }
+{
+    let first = convert(alloc, of, a.core)?;
+    let second = convert(alloc, of, b.core)?;
+    Ok(Arms {
+        of: CType::plain(alloc, Base::Integer(of)),
+        scalar: of,
+        first,
+        second,
+    })
+}
+
+/// Two pointers.
+#[tactic(auto, unfolding(crate::specs::Arms::arms_of, crate::specs::Operands::valued_of))]
+fn pointers<'a>(
+    alloc: Global,
+    a: Valued<'a>,
+    b: Valued<'a>,
+    offset: usize,
+) -> Result<Arms<'a>, TypeFault>
+    ensures { Gives arms_of result (pointers_by (valued_of a.entry) (valued_of b.entry) offset
+        (valued_of a.entry).type (valued_of b.entry).type) }
+{
+    if is_null(&a)? {
+        return Ok(Arms {
+            of: b.of,
+            scalar: WORD,
+            first: a.core,
+            second: b.core,
+        });
+    }
+    if is_null(&b)? || same_type(&a.of, &b.of) {
+        return Ok(Arms {
+            of: a.of,
+            scalar: WORD,
+            first: a.core,
+            second: b.core,
+        });
+    }
+    if !pointers_agree(&a.of, &b.of) {
+        return Err(TypeFault::At(TypeFaultKind::Mismatch, offset));
+    }
+    let of = type_or_memory(CType::plain(alloc, Base::Void).pointer())?;
+    Ok(Arms {
+        of,
+        scalar: WORD,
+        first: a.core,
+        second: b.core,
+    })
+}
+
+/// A pointer, and a null pointer constant.
+#[tactic(auto, unfolding(crate::specs::Arms::arms_of, crate::specs::Operands::valued_of))]
+fn null_second<'a>(
+    alloc: Global,
+    a: Valued<'a>,
+    b: Valued<'a>,
+    offset: usize,
+) -> Result<Arms<'a>, TypeFault>
+    ensures { Gives arms_of result (null_second_by (valued_of a.entry) (valued_of b.entry) offset) }
+{
+    if !is_null(&b)? {
+        return Err(TypeFault::At(TypeFaultKind::Mismatch, offset));
+    }
+    let second = convert(alloc, WORD, b.core)?;
+    Ok(Arms {
+        of: a.of,
+        scalar: WORD,
+        first: a.core,
+        second,
+    })
+}
+
+/// A null pointer constant, and a pointer.
+#[tactic(auto, unfolding(crate::specs::Arms::arms_of, crate::specs::Operands::valued_of))]
+fn null_first<'a>(
+    alloc: Global,
+    a: Valued<'a>,
+    b: Valued<'a>,
+    offset: usize,
+) -> Result<Arms<'a>, TypeFault>
+    ensures { Gives arms_of result (null_first_by (valued_of a.entry) (valued_of b.entry) offset) }
+{
+    if !is_null(&a)? {
+        return Err(TypeFault::At(TypeFaultKind::Mismatch, offset));
+    }
+    let first = convert(alloc, WORD, a.core)?;
+    Ok(Arms {
+        of: b.of,
+        scalar: WORD,
+        first,
+        second: b.core,
+    })
+}
+
+/// The second and third operand, in the type of the whole.
+#[tactic(auto, unfolding(crate::specs::Operands::valued_of), using(crate::proofs::Choices::choosing),)]
+fn arms<'a>(
+    alloc: Global,
+    a: Valued<'a>,
+    b: Valued<'a>,
+    offset: usize,
+) -> Result<Arms<'a>, TypeFault>
+    ensures { Gives arms_of result (operators.arms_of (valued_of a.entry) (valued_of b.entry) offset
+        (valued_of a.entry).type (valued_of b.entry).type) }
+{
+    match (a.of.outer(), b.of.outer()) {
+        (Outer::Integer(s), Outer::Integer(t)) => integers(alloc, common(s, t), a, b),
+        (Outer::Pointer, Outer::Pointer) => pointers(alloc, a, b, offset),
+        (Outer::Pointer, Outer::Integer(_)) => null_second(alloc, a, b, offset),
+        (Outer::Integer(_), Outer::Pointer) => null_first(alloc, a, b, offset),
+        _ => Err(TypeFault::At(TypeFaultKind::Mismatch, offset)),
+    }
+}
+
+/// `test ? a : b`
+#[tactic(auto, unfolding(crate::specs::Arms::arms_of, crate::specs::Operands::valued_of, c_type_spec::specs::Operators::conditional,),)]
+pub fn conditional<'a>(
+    alloc: Global,
+    test: Valued<'a>,
+    a: Valued<'a>,
+    b: Valued<'a>,
+    offset: usize,
+) -> Result<Operand<'a>, TypeFault>
+    ensures { Gives operand_of result (operators.conditional (valued_of test.entry)
+        (valued_of a.entry) (valued_of b.entry) offset) }
+{
+    let Some(_) = test.of.scalar() else {
+        return Err(TypeFault::At(TypeFaultKind::Mismatch, offset));
+    };
+    let standing = both(test.standing, both(a.standing, b.standing));
+    let made = arms(alloc, a, b, offset)?;
+    let core = core_or_memory(Core::choose(
+        alloc,
+        made.scalar,
+        test.core,
+        made.first,
+        made.second,
+    ))?;
+    Ok(value_operand(core, made.of, standing, offset))
+}

@@ -1,0 +1,11 @@
+pub mod Types
+pub mod Values
+pub mod Core
+pub mod Names
+pub mod Operands
+pub mod Operators
+pub mod Declarations
+pub mod Expressions
+pub mod Statements
+pub mod Units
+pub mod HasType
