@@ -1,0 +1,2 @@
+mod Markings
+mod Steps

@@ -1,0 +1,4 @@
+mod Values
+mod Levels
+mod Learnt
+mod Loaded

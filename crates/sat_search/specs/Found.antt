@@ -1,0 +1,53 @@
+-- The answers of the search.
+use Rattle.std.specs.Prelude.{◌≡◌, ℕ, ◌+◌, ◌++◌, true, List, [], Option, Some, None, length}
+use Rattle.clause_spec.specs.Clause.{Clause, Cnf, satisfies}
+use Rattle.clause_spec.specs.Log.{Step, Refutes}
+use Rattle.cnf_core.specs.Bits.{valuation}
+use Rattle.sat_spec.specs.Logs.{Spent, Lean, IsClosing}
+use Rattle.sat_spec.specs.Trail.{Trailed, IsSound, IsConflict}
+use Rattle.sat_spec.specs.Watches.{Watched, IsRunning}
+use Rattle.sat_search.specs.declared.search.Progress.{Progress}
+use Rattle.sat_search.specs.declared.search.Progress.TheVariants.{Learnt, Closed as Ended, Satisfied}
+use Rattle.sat_search.specs.Search.{IsSearching, AllHaveValue}
+use Rattle.sat_search.specs.declared.solution.Found.{Found}
+use Rattle.sat_search.specs.declared.solution.Found.TheVariants.{Closed, Model, Limit}
+
+-- Closed: a lean log that refutes the clauses. Model: bits that satisfy them. Limit: a log of as many learnt clauses
+abbrev pub IsFound : Cnf → (limit : ℕ) → Found → Type 0
+IsFound cnf limit (Closed log) = Refutes cnf log.items × Lean cnf log.items limit
+IsFound cnf limit (Model bits) = (length bits.items ≡ cnf.variables) × (satisfies (valuation bits.items) cnf.clauses ≡ true)
+IsFound cnf limit (Limit log) = Spent cnf log.items limit
+
+-- a clause more was learnt, or the log is closed, or every variable has a value
+abbrev pub IsProgress : Cnf → List Clause → Trailed → Watched → List Step → (count : ℕ) → Progress → Type 0
+IsProgress cnf clauses trail watched log count Learnt = IsSearching cnf clauses trail watched log × (length log ≡ count + 1)
+IsProgress cnf clauses trail watched log count Ended = IsClosing cnf log × (length log ≡ count + 1)
+IsProgress cnf clauses trail watched log count Satisfied =
+    IsSearching cnf clauses trail watched log × (watched.head ≡ length trail.entries) × AllHaveValue trail trail.variables
+
+-- the clauses so far are watched, or one of them is false before every decision
+abbrev pub IsLoaded : List Clause → Trailed → Watched → Option ℕ → Type 0
+IsLoaded clauses trail watched None = IsRunning clauses trail watched × (watched.head ≡ 0)
+IsLoaded clauses trail watched (Some number) = IsSound clauses trail × IsConflict clauses trail.entries number
+
+-- all clauses were added, or the first ones up to a false one
+abbrev pub IsFront : Cnf → List Clause → Option ℕ → Type 0
+IsFront cnf clauses None = clauses ≡ cnf.clauses
+IsFront cnf clauses (Some number) = (more : List Clause) × (cnf.clauses ≡ clauses ++ more)
+
+-- a search that has not begun
+pub record IsFresh (clauses : List Clause) (trail : Trailed) (watched : Watched) (log : List Step) (variables : ℕ) : Type 0 where
+  pub running : IsRunning clauses trail watched
+  pub none : clauses ≡ []
+  pub first : watched.head ≡ 0
+  pub undecided : trail.level ≡ 0
+  pub no_steps : log ≡ []
+  pub same : trail.variables ≡ variables
+
+-- the first clauses, of which one is false before every decision
+pub record IsRefuted (cnf : Cnf) (clauses : List Clause) (trail : Trailed) (number : ℕ) : Type 0 where
+  pub sound : IsSound clauses trail
+  pub conflict : IsConflict clauses trail.entries number
+  pub undecided : trail.level ≡ 0
+  pub more : List Clause
+  pub front : cnf.clauses ≡ clauses ++ more

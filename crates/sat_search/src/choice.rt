@@ -1,0 +1,66 @@
+ghost use Rattle.std.specs.Prelude.{◌≤◌, ◌+◌, IfSome, IfNone};
+ghost use Rattle.sat_search.specs.Search.{IsUndecided, HasValue, AllHaveValue};
+
+use crate::order::Order;
+use cnf_core::{Literal, MAX_VARIABLE, negation};
+use sat_trail::Trail;
+
+/// A literal of the variable, if it has no value.
+fn open_literal(trail: &Trail, variable: usize, is_negated: bool) -> Option<Literal>
+    requires positive { 1 ≤ variable }
+    requires within { variable ≤ trail.now.variables }
+    requires small { trail.now.variables ≤ MAX_VARIABLE }
+    ensures found { IfSome result (λ l. IsUndecided trail.now l) }
+    ensures nowhere { IfNone result (HasValue trail.now variable) }
+{
+    let literal = Literal::new(variable, is_negated);
+    if trail.place(literal).is_some() || trail.place(negation(literal)).is_some() {
+        return None;
+    }
+    Some(literal)
+}
+
+/// A literal without value, by the queue; none where the queue names none.
+fn queued(order: &mut Order, trail: &Trail) -> Option<Literal>
+    requires { trail.now.variables ≤ MAX_VARIABLE }
+    ensures { IfSome result (λ l. IsUndecided trail.now l) }
+{
+    let mut variable = order.cursor();
+    for _count in 0..trail.variables() {
+        if variable == 0 || variable > trail.variables() {
+            return None;
+        }
+        if let Some(literal) = open_literal(trail, variable, order.is_negated(variable)) {
+            order.set_cursor(variable);
+            return Some(literal);
+        }
+        variable = order.before(variable);
+    }
+    None
+}
+
+/// A literal without value; none where every variable has one.
+fn scanned(trail: &Trail) -> Option<Literal>
+    requires { trail.now.variables ≤ MAX_VARIABLE }
+    ensures found { IfSome result (λ l. IsUndecided trail.now l) }
+    ensures nowhere { IfNone result (AllHaveValue trail.now trail.now.variables) }
+{
+    for index in 0..trail.variables() {
+        if let Some(literal) = open_literal(trail, index + 1, true) {
+            return Some(literal);
+        }
+    }
+    None
+}
+
+/// The literal that is decided next; none where every variable has a value.
+pub fn pick(order: &mut Order, trail: &Trail) -> Option<Literal>
+    requires { trail.now.variables ≤ MAX_VARIABLE }
+    ensures found { IfSome result (λ l. IsUndecided trail.now l) }
+    ensures nowhere { IfNone result (AllHaveValue trail.now trail.now.variables) }
+{
+    match queued(order, trail) {
+        Some(literal) => Some(literal),
+        None => scanned(trail),
+    }
+}

@@ -1,0 +1,105 @@
+ghost use Rattle.std.specs.Prelude.{◌≡◌, ◌<◌, ◌≤◌, length, IfOk, OnOk};
+ghost use Rattle.sat_spec.specs.Trail.{IsConflict};
+ghost use Rattle.sat_spec.specs.Watches.{IsRunning};
+ghost use Rattle.sat_search.specs.Search.{IsSearching, IsUndecided, IsDecidedBy};
+ghost use Rattle.sat_search.specs.Found.{IsProgress};
+
+use crate::choice::pick;
+use crate::learning::{learn, rewind};
+use crate::order::Order;
+use cnf_core::{ClauseList, Cnf, Literal, MAX_VARIABLE};
+use sat_analysis::{analyse, close};
+use sat_log::Step;
+use sat_trail::Trail;
+use sat_watches::{Watches, propagate};
+use std::alloc::{AllocError, Global};
+
+/// What a search keeps: the clauses with those that were learnt, the literals that are true, the
+/// watched literals, and the steps so far.
+#[derive(Drop)]
+pub struct Search {
+    pub clauses: ClauseList,
+    pub trail: Trail,
+    pub watches: Watches,
+    pub log: Vec<Step>,
+    pub order: Order,
+}
+
+/// How far the search came.
+#[derive(Clone, Copy)]
+pub enum Progress {
+    /// A clause more was learnt.
+    Learnt,
+    /// The empty clause was learnt.
+    Closed,
+    /// All clauses are satisfied.
+    Satisfied,
+}
+
+/// Makes a literal without value true, at a level of its own.
+fn decide(trail: &mut Trail, literal: Literal) -> Result<(), AllocError>
+    requires { IsUndecided trail.old literal }
+    ensures { OnOk result (IsDecidedBy trail.old trail.new literal) }
+{
+    trail.open_level()?;
+    trail.push(literal, 0)
+}
+
+/// Learns from a conflict.
+fn settle(
+    alloc: Global,
+    cnf: &Cnf,
+    search: &mut Search,
+    conflict: usize,
+) -> Result<Progress, AllocError>
+    requires searching { IsSearching cnf.now search.old.clauses.clauses search.old.trail
+        search.old.watches search.old.log.items }
+    requires conflict { IsConflict search.old.clauses.clauses search.old.trail.entries conflict }
+    ensures { IfOk result (λ progress. IsProgress cnf.now search.new.clauses.clauses search.new.trail
+        search.new.watches search.new.log.items (length search.old.log.items) progress) }
+{
+    if search.trail.level() == 0 {
+        let step = close(alloc, &search.clauses, &search.trail, conflict)?;
+        search.log.push(step)?;
+        return Ok(Progress::Closed);
+    }
+    let step = analyse(alloc, &search.clauses, &search.trail, conflict)?;
+    learn(cnf, search, step)?;
+    Ok(Progress::Learnt)
+}
+
+/// Decides and propagates until a clause is false or every variable has a value.
+pub fn run(alloc: Global, cnf: &Cnf, search: &mut Search) -> Result<Progress, AllocError>
+    requires searching { IsSearching cnf.now search.old.clauses.clauses search.old.trail
+        search.old.watches search.old.log.items }
+    requires small { cnf.now.variables ≤ MAX_VARIABLE }
+    ensures { IfOk result (λ progress. IsProgress cnf.now search.new.clauses.clauses search.new.trail
+        search.new.watches search.new.log.items (length search.old.log.items) progress) }
+{
+    'deciding: loop {
+        if let Some(conflict) = propagate(
+            &search.clauses,
+            &mut search.trail,
+            &mut search.watches,
+        )? {
+            return settle(alloc, cnf, search, conflict);
+        }
+        match pick(&mut search.order, &search.trail) {
+            Some(literal) => decide(&mut search.trail, literal)?,
+            None => return Ok(Progress::Satisfied),
+        }
+    }
+}
+
+/// Goes back before every decision, now and then.
+pub fn restart(cnf: &Cnf, search: &mut Search)
+    requires searching { IsSearching cnf.now search.old.clauses.clauses search.old.trail
+        search.old.watches search.old.log.items }
+    ensures searching { IsSearching cnf.now search.new.clauses.clauses search.new.trail
+        search.new.watches search.new.log.items }
+    ensures log { search.new.log.items ≡ search.old.log.items }
+{
+    if search.order.is_restart() && search.trail.level() > 0 {
+        rewind(&mut search.trail, &mut search.watches, &mut search.order, 0);
+    }
+}

@@ -1,0 +1,23 @@
+use Rattle.std.proofs.Common.{rules, ◌≡◌, ◌-◌, ◌∙◌, ◌++◌, ◌∷◌, [], true, length, set, ap, sym, subst}
+use Rattle.clause_spec.specs.Clause.{is_of, negation}
+use Rattle.sat_spec.specs.declared.Entry.{Entry}
+use Rattle.sat_spec.specs.Trail.{IsAbsent}
+use Rattle.sat_trail.specs.Placed.{IsPlaced}
+use Rattle.sat_trail.proofs.Places.{placed_more}
+use Rattle.sat_trail.proofs.entries.Trail.push.Goals as goal
+
+pub invariant_of-self-2 : goal.invariant_of-self-2
+invariant_of-self-2 c =
+    let entries = c.self.inside.entries.items in
+    let places = c.self.inside.places.items in
+    let more : Entry = record { literal = c.args.literal; reason = c.args.reason; level = c.self.inside.level } in
+    let named : is_of (length places) c.args.literal ≡ true = ap (λ t. is_of t.variables c.args.literal) c.self.view_is ∙ c.requires.of_variables in
+    let not_true : IsAbsent entries c.args.literal = subst (λ t. IsAbsent t.entries c.args.literal) (sym c.self.view_is) c.requires.not_true in
+    let not_false : IsAbsent entries (negation c.args.literal) = subst (λ t. IsAbsent t.entries (negation c.args.literal)) (sym c.self.view_is) c.requires.not_false in
+    let added : c.push.new.self.items ≡ entries ++ more ∷ [] = search rules in
+    let place : c.len-place.result ≡ length entries = search rules in
+    let index : c.variable.result ≡ c.args.literal.variable = search rules in
+    subst (λ e. IsPlaced e (set places (c.variable.result - 1) c.len-place.result)) (sym added)
+    (subst (λ v. IsPlaced (entries ++ more ∷ []) (set places (v - 1) c.len-place.result)) (sym index)
+    (subst (λ n. IsPlaced (entries ++ more ∷ []) (set places (c.args.literal.variable - 1) n)) (sym place)
+    (placed_more entries places more c.self.invariant named not_true not_false)))

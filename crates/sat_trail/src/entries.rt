@@ -1,0 +1,157 @@
+ghost use Rattle.std.specs.Prelude.{◌≡◌, ◌+◌, ◌<◌, ◌≤◌, ◌++◌, ◌∷◌, [], length, take, true, false};
+ghost use Rattle.std.specs.Prelude.{◌↔◌, slice_get, Some, IfSome, IfNone, IfOk, OnOk, IsTrue};
+ghost use Rattle.clause_spec.specs.Clause.{is_of, negation as negated};
+ghost use Rattle.sat_spec.specs.Trail.{IsAt, IsAbsent, IsRising, IsCut};
+
+use cnf_core::{Literal, negation};
+use sat_spec::{Entry, is_same};
+use std::alloc::{AllocError, Global};
+use std::marker::Model;
+
+/// The literals that are true, in the order in which they became true.
+#[derive(Drop)]
+pub struct Trail {
+    entries: Vec<Entry>,
+    places: Vec<usize>,
+    level: usize,
+}
+
+impl Model for Trail {
+    ghost use Rattle.std.specs.Prelude.{length};
+    ghost use Rattle.sat_spec.specs.Trail.{Trailed};
+    ghost use Rattle.sat_trail.specs.Placed.{IsPlaced};
+
+    ghost Value = { Trailed };
+
+    ghost view = { λ t. record {
+      variables = length t.places.items;
+      entries = t.entries.items;
+      level = t.level;
+    } };
+
+    ghost invariant = { λ t. IsPlaced t.entries.items t.places.items };
+}
+
+impl Trail {
+    /// No literal of so many variables is true, at level 0.
+    pub fn new(alloc: Global, variables: usize) -> Result<Trail, AllocError>
+        ensures { IfOk result (λ t. t
+            ≡ record { variables = variables; entries = []; level = 0 }) }
+    {
+        let first: usize = 0;
+        let places = vec![in alloc; first; variables]?;
+        Ok(Trail {
+            entries: Vec::new(alloc),
+            places,
+            level: 0,
+        })
+    }
+
+    /// How many variables there are.
+    pub fn variables(&self) -> usize
+        ensures { result ≡ self.now.variables }
+    {
+        self.places.len()
+    }
+
+    /// How many literals are true.
+    pub fn len(&self) -> usize
+        ensures { result ≡ length self.now.entries }
+    {
+        self.entries.len()
+    }
+
+    /// Whether no literal is true.
+    pub fn is_empty(&self) -> bool
+        ensures { IsTrue result ↔ (length self.now.entries ≡ 0) }
+    {
+        self.entries.is_empty()
+    }
+
+    /// How many decisions there are.
+    pub fn level(&self) -> usize
+        ensures { result ≡ self.now.level }
+    {
+        self.level
+    }
+
+    /// The entry of a place.
+    pub fn entry(&self, place: usize) -> Entry
+        requires { place < length self.now.entries }
+        ensures { slice_get self.now.entries place ≡ Some result }
+    {
+        self.entries[place]
+    }
+
+    /// The place at which the literal became true; none where it isn't true.
+    pub fn place(&self, literal: Literal) -> Option<usize>
+        requires { is_of self.now.variables literal ≡ true }
+        ensures there { IfSome result (λ place. IsAt self.now.entries place literal) }
+        ensures nowhere { IfNone result (IsAbsent self.now.entries literal) }
+    {
+        let place = self.places[literal.variable() - 1];
+        if place < self.entries.len() && is_same(self.entries[place].literal, literal) {
+            Some(place)
+        } else {
+            None
+        }
+    }
+
+    /// Makes a literal without value true, at the level of now. The reason is the number of a
+    /// clause, or 0.
+    pub fn push(&mut self, literal: Literal, reason: usize) -> Result<(), AllocError>
+        requires of_variables { is_of self.old.variables literal ≡ true }
+        requires not_true { IsAbsent self.old.entries literal }
+        requires not_false { IsAbsent self.old.entries (negated literal) }
+        ensures added { OnOk result (self.new ≡ record self.old {
+          entries = self.old.entries
+              ++ (record { literal = literal; reason = reason; level = self.old.level }) ∷ [];
+        }) }
+    {
+        let place = self.entries.len();
+        self.entries.push(Entry {
+            literal,
+            reason,
+            level: self.level,
+        })?;
+        self.places[literal.variable() - 1] = place;
+        Ok(())
+    }
+
+    /// One more level.
+    pub fn open_level(&mut self) -> Result<(), AllocError>
+        ensures { OnOk result (self.new ≡ record self.old { level = self.old.level + 1 }) }
+    {
+        match self.level.checked_add(1) {
+            Some(level) => {
+                self.level = level;
+                Ok(())
+            }
+            None => Err(AllocError),
+        }
+    }
+
+    /// How many entries have at most this level.
+    pub fn cut(&self, level: usize) -> usize
+        requires { IsRising self.now.entries }
+        ensures { IsCut self.now.entries level result }
+    {
+        let mut place = self.entries.len();
+        while place > 0 && self.entries[place - 1].level > level {
+            place -= 1;
+        }
+        place
+    }
+
+    /// Only the entries before a place stay, at this level.
+    pub fn shorten(&mut self, place: usize, level: usize)
+        ensures { self.new ≡ record {
+          variables = self.old.variables;
+          entries = take place self.old.entries;
+          level = level;
+        } }
+    {
+        self.entries.truncate(place);
+        self.level = level;
+    }
+}

@@ -1,0 +1,12 @@
+//! The trail of a search: the literals that are true, in the order in which they became true, each
+//! with its reason and its level.
+//!
+//! The main type is [`Trail`], which contracts see as the list of its entries (`Trailed` in
+//! `sat_spec`, `specs/Trail.antt`). A look-up reads the place of the variable and the entry there,
+//! so that going back to an earlier level only shortens the list.
+#![tactic(auto)]
+
+mod entries;
+
+pub use entries::Trail;
+pub use sat_spec::Entry;
