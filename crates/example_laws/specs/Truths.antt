@@ -57,7 +57,7 @@ choice_clauses = record {
       ∷ (isnt 5 ∷ []) ∷ [];
 }
 
--- `and p q`, which is 4, stands twice and is made once; r is 5, the or of 4 and r is the negation of 6, and 7 is all
+-- `and p q`, which is 4, occurs twice and is made once; r is 5, the or of 4 and r is the negation of 6, and 7 is all
 abbrev pub absorbed : Term
 absorbed = and_term (or_term (and_term p q) r) (and_term p q)
 

@@ -293,7 +293,8 @@ rearranged_clauses = record {
       ∷ (isnt 48 ∷ []) ∷ [];
 }
 
--- the addresses have variables 2 to 33 and 42 to 73, the bytes loaded 34 to 41 and 74 to 81; behind the test of the bytes stands that of the addresses, and what it ties
+-- the addresses have variables 2 to 33 and 42 to 73, the bytes loaded 34 to 41 and 74 to 81; after the test of the bytes
+-- comes that of the addresses, and what it ties
 abbrev pub loads : Term
 loads = equal (load m a) (load m b)
 

@@ -7,10 +7,8 @@
 mod faults;
 pub mod limits;
 mod reading;
-mod spans;
 mod writing;
 
 pub use faults::OutsideFault;
 pub use reading::{Desk, read_up_to};
-pub use spans::Span;
 pub use writing::{Sink, Store, write_all};

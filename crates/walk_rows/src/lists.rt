@@ -12,7 +12,7 @@ use std::alloc::{AllocError, Global};
 use visit_spec::{Branch, Incoming};
 use visit_walk::{Visits, WalkFault, visits};
 
-pub(crate) fn add_place(out: &mut String, place: Next) -> Result<(), AllocError> {
+fn add_place(out: &mut String, place: Next) -> Result<(), AllocError> {
     match place {
         Next::At(node) => add_number(out, node),
         Next::Ret => out.push_str("R"),

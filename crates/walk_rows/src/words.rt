@@ -29,7 +29,7 @@ fn number(text: &str) -> usize {
     n
 }
 
-pub(crate) fn place(text: &str) -> Next {
+fn place(text: &str) -> Next {
     match text {
         "R" => Next::Ret,
         "E" => Next::Err,
