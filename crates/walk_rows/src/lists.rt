@@ -1,18 +1,18 @@
 // The question `visits WALK`: its visits in their order, `cyclic` with a node, or `too many`.
 //
-// A visit is its place, in brackets the counts of its marks where it has any, `s` for a stop or
-// `b` for an arrival that breaks a bound, and after `<` the edges into it: each is the position of
-// the visit that it comes from, the first being 0, and `t` or `f` for the branch of a test.
+// A visit is its place, in brackets the counts of its marks where it has any, and after `<` the
+// edges into it: each is the position of the visit that it comes from, the first being 0, and `t`
+// or `f` for the branch of a test.
 
 ghost use Rattle.std.specs.Prelude.{◌<◌, length};
 
-use crate::words::{Words, read};
+use crate::words::read;
 use graph_spec::Next;
 use std::alloc::{AllocError, Global};
 use visit_spec::{Branch, Incoming};
 use visit_walk::{Visits, WalkFault, visits};
 
-fn add_place(out: &mut String, place: Next) -> Result<(), AllocError> {
+pub(crate) fn add_place(out: &mut String, place: Next) -> Result<(), AllocError> {
     match place {
         Next::At(node) => add_number(out, node),
         Next::Ret => out.push_str("R"),
@@ -56,25 +56,7 @@ fn add_edges(out: &mut String, edges: &[Incoming]) -> Result<(), AllocError> {
     Ok(())
 }
 
-/// `s` for a stop, `b` for an arrival that breaks a bound.
-fn end(found: &Visits, walk: &Words, position: usize) -> &'static str
-    requires { position < length found.now.visits }
-{
-    if found.is_stop(position, walk.stops.as_slice()) {
-        return "s";
-    }
-    if found.is_bounded(position, walk.stops.as_slice(), walk.bounds.as_slice()) {
-        return "b";
-    }
-    ""
-}
-
-fn add_visit(
-    out: &mut String,
-    found: &Visits,
-    walk: &Words,
-    position: usize,
-) -> Result<(), AllocError>
+fn add_visit(out: &mut String, found: &Visits, position: usize) -> Result<(), AllocError>
     requires { position < length found.now.visits }
 {
     if position > 0 {
@@ -82,13 +64,12 @@ fn add_visit(
     }
     add_place(out, found.place(position))?;
     add_counts(out, found.counts(position))?;
-    out.push_str(end(found, walk, position))?;
     add_edges(out, found.incoming(position))
 }
 
-fn add_visits(out: &mut String, found: &Visits, walk: &Words) -> Result<(), AllocError> {
+fn add_visits(out: &mut String, found: &Visits) -> Result<(), AllocError> {
     for position in 0..found.len() {
-        add_visit(out, found, walk, position)?;
+        add_visit(out, found, position)?;
     }
     Ok(())
 }
@@ -117,7 +98,7 @@ pub(crate) fn answer(alloc: Global, out: &mut String, text: &str) -> Result<(), 
         walk.maximum,
     );
     match found {
-        Ok(found) => add_visits(out, &found, &walk),
+        Ok(found) => add_visits(out, &found),
         Err(fault) => add_fault(out, fault, walk.maximum),
     }
 }

@@ -29,7 +29,7 @@ fn number(text: &str) -> usize {
     n
 }
 
-fn place(text: &str) -> Next {
+pub(crate) fn place(text: &str) -> Next {
     match text {
         "R" => Next::Ret,
         "E" => Next::Err,
@@ -102,8 +102,7 @@ fn add_all(words: &mut Words, text: &str) -> Result<(), AllocError> {
     Ok(())
 }
 
-/// The walk of a text; it starts at node 0, and has at most 65,536 visits, unless it says
-/// otherwise.
+/// The walk of a text; it starts at node 0, and has at most 65,536 visits, unless it says otherwise.
 pub(crate) fn read(alloc: Global, text: &str) -> Result<Words, AllocError> {
     let mut words = Words {
         shape: Shape {
