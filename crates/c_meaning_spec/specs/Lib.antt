@@ -1,2 +1,7 @@
 pub mod Types
 pub mod Run
+pub mod Setting
+pub mod Accesses
+pub mod Evaluation
+pub mod Execution
+pub mod Calls

@@ -1,7 +1,9 @@
-//! What a C function does: the types of values and functions (`specs/Types.antt`), and the run of a
-//! call with a number of turns (`specs/Run.antt`). A turn is taken at each call and before each
-//! test of a loop, so a run with a number of turns always has an outcome. [`Guard`] names what a
-//! run may not do. Nothing of it runs.
+//! What a C function does with a number of turns. A turn is taken before each round of a loop and at
+//! each call, so a run with a number of turns always has an outcome. Over the typed core the run of a
+//! call is `c_run` in `specs/Calls.antt`, by its statements (`specs/Execution.antt`), expressions
+//! (`specs/Evaluation.antt`) and accesses to memory (`specs/Accesses.antt`). Over the one form that
+//! is judged so far it is that of `specs/Run.antt`, with the types of `specs/Types.antt`. [`Guard`]
+//! names what a run may not do. Nothing of it runs.
 #![tactic(auto)]
 
 /// What a run may not do, in the order of their numbers. A run that does it breaks this guard, and

@@ -1,0 +1,9 @@
+pub mod Alike
+pub mod Simulation
+pub mod Bytes
+pub mod Guards
+pub mod Laws
+pub mod Turns
+pub mod Ranges
+pub mod Typing
+pub mod Storing

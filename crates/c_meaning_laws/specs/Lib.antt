@@ -1,0 +1,4 @@
+pub mod Samples
+pub mod Statements
+pub mod Depth
+pub mod Typing

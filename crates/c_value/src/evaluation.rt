@@ -1,0 +1,252 @@
+//! The value of an expression.
+
+ghost use Rattle.std.specs.Prelude.{◌≡◌, ◌+◌, pos, slice_get, unwrap_or, Ok};
+ghost use Rattle.c_type_spec.specs.Types.{word};
+ghost use Rattle.c_type_spec.specs.Values as rule;
+ghost use Rattle.c_meaning_spec.specs.Accesses as accesses;
+ghost use Rattle.c_meaning_spec.specs.Evaluation as spec;
+ghost use Rattle.c_core.specs.Expressions.{core_of};
+ghost use Rattle.c_value.specs.Settings.{setting_of};
+ghost use Rattle.c_value.specs.Gives.{Gives, GivesValue};
+
+use crate::access::object_value;
+use crate::setting::{Setting, Stop, global_address};
+use c_core::constants::{WORD, has_width};
+use c_core::expression::Core;
+use c_core::values::{arithmetic_value, comparison_value, convert};
+use c_meaning_spec::Guard;
+use c_type_spec::{Arithmetic, Comparison, Direction, Order, Scalar};
+use memory_core::Memory;
+
+/// What an expression is evaluated in.
+#[derive(Clone, Copy)]
+pub struct Scene<'a> {
+    /// What stays as it is for the whole run.
+    pub setting: &'a Setting<'a>,
+    /// The values of the locals.
+    pub locals: &'a [Option<i128>],
+    /// The memory.
+    pub memory: &'a Memory,
+    /// The address of the object that the assignment around the expression stores to, or 0.
+    pub target: u64,
+}
+
+/// The address that the value of a pointer is.
+pub fn address_of(value: i128) -> Result<u64, Stop>
+    ensures { Gives (λ address. address) result (Ok (accesses.address_of value)) }
+{
+    if value < 0 {
+        return Ok(0);
+    }
+    match u64::try_from(value) {
+        Ok(address) => Ok(address),
+        Err(_) => Err(Stop::Memory),
+    }
+}
+
+/// The address so many bytes past the value of a pointer.
+pub fn address_past(value: i128, displacement: usize) -> Result<u64, Stop>
+    ensures { Gives (λ address. address) result (Ok (accesses.address_of value + displacement)) }
+{
+    let address = address_of(value)?;
+    match address.checked_add(displacement as u64) {
+        Some(past) => Ok(past),
+        None => Err(Stop::Memory),
+    }
+}
+
+/// The address of a global, as a value.
+#[tactic(auto, unfolding(crate::specs::Settings::setting_of))]
+fn global_value(setting: &Setting<'_>, name: &[u8]) -> i128
+    ensures { result ≡ pos (unwrap_or ((setting_of setting.now).globals name.now) 0) }
+{
+    let place = setting.place;
+    global_address(place.globals, name) as i128
+}
+
+/// The value of a local.
+#[tactic(auto, unfolding(c_meaning_spec::specs::Evaluation::local_value))]
+fn local_value(locals: &[Option<i128>], local: usize, offset: usize) -> Result<i128, Stop>
+    ensures { GivesValue result (spec.local_value (slice_get locals.now local) offset) }
+{
+    match locals.get(local) {
+        Some(Some(value)) => Ok(*value),
+        Some(None) => Err(Stop::Broke(Guard::UnsetLocal, offset)),
+        None => Err(Stop::Broke(Guard::UnsetLocal, offset)),
+    }
+}
+
+/// A value in another type.
+fn converted(of: Scalar, value: i128) -> Result<i128, Stop>
+    ensures { GivesValue result (Ok (rule.converted of value)) }
+{
+    if !has_width(of) {
+        return Err(Stop::Memory);
+    }
+    Ok(convert(value, of))
+}
+
+/// The guard of an operator.
+fn guard_of(operator: Arithmetic) -> Guard
+    ensures { result ≡ spec.guard_of operator }
+{
+    match operator {
+        Arithmetic::Divide | Arithmetic::Remainder => Guard::Division,
+        Arithmetic::ShiftLeft | Arithmetic::ShiftRight => Guard::ShiftCount,
+        Arithmetic::Add | Arithmetic::Subtract | Arithmetic::Multiply => Guard::SignedOverflow,
+        Arithmetic::And | Arithmetic::Or | Arithmetic::Xor => Guard::SignedOverflow,
+    }
+}
+
+/// An operator on two values.
+#[tactic(auto, unfolding(c_meaning_spec::specs::Evaluation::operated))]
+fn operated(
+    operator: Arithmetic,
+    of: Scalar,
+    left: i128,
+    right: i128,
+    offset: usize,
+) -> Result<i128, Stop>
+    ensures { GivesValue result (spec.operated operator of left right offset) }
+{
+    if !has_width(of) {
+        return Err(Stop::Memory);
+    }
+    match arithmetic_value(operator, of, left, right) {
+        Ok(Some(value)) => Ok(value),
+        Ok(None) => Err(Stop::Broke(guard_of(operator), offset)),
+        Err(_) => Err(Stop::Memory),
+    }
+}
+
+/// A comparison of two values.
+fn compared(operator: Comparison, left: i128, right: i128) -> Result<i128, Stop>
+    ensures { GivesValue result (Ok (rule.comparison_value operator left right)) }
+{
+    Ok(comparison_value(operator, left, right))
+}
+
+/// A pointer and a distance added, or subtracted.
+fn sum_of(direction: Direction, pointer: i128, distance: i128) -> Result<i128, Stop>
+    ensures { Gives (λ sum. sum) result (Ok (spec.sum_of direction pointer distance)) }
+{
+    let sum = match direction {
+        Direction::Up => pointer.checked_add(distance),
+        Direction::Down => pointer.checked_sub(distance),
+    };
+    match sum {
+        Some(sum) => Ok(sum),
+        None => Err(Stop::Memory),
+    }
+}
+
+/// The value is one of a pointer.
+fn is_pointer(value: i128) -> bool
+    ensures { result ≡ rule.is_of word value }
+{
+    convert(value, WORD) == value
+}
+
+/// A pointer moved by so many objects of a size.
+#[tactic(auto, unfolding(c_meaning_spec::specs::Evaluation::moved))]
+fn moved(
+    direction: Direction,
+    size: usize,
+    pointer: i128,
+    index: i128,
+    offset: usize,
+) -> Result<i128, Stop>
+    ensures { GivesValue result (spec.moved direction size pointer index offset) }
+{
+    let Some(distance) = index.checked_mul(size as i128) else {
+        return Err(Stop::Memory);
+    };
+    let sum = sum_of(direction, pointer, distance)?;
+    if is_pointer(sum) {
+        Ok(sum)
+    } else {
+        Err(Stop::Broke(Guard::PointerRange, offset))
+    }
+}
+
+/// An index below a bound.
+#[tactic(auto, unfolding(c_meaning_spec::specs::Evaluation::within))]
+fn within(bound: usize, index: i128, offset: usize) -> Result<i128, Stop>
+    ensures { GivesValue result (spec.within bound index offset) }
+{
+    if 0 <= index && index < bound as i128 {
+        Ok(index)
+    } else {
+        Err(Stop::Broke(Guard::Index, offset))
+    }
+}
+
+/// A pointer at a multiple of an alignment.
+#[tactic(auto, unfolding(c_meaning_spec::specs::Evaluation::aligned))]
+fn aligned(alignment: usize, pointer: i128, offset: usize) -> Result<i128, Stop>
+    ensures { GivesValue result (spec.aligned alignment pointer offset) }
+{
+    let address = address_of(pointer)?;
+    if alignment == 0 {
+        return Err(Stop::Memory);
+    }
+    if address != 0 && address % alignment as u64 == 0 {
+        Ok(pointer)
+    } else {
+        Err(Stop::Broke(Guard::Access, offset))
+    }
+}
+
+/// The value of an expression, or the first guard that it breaks.
+#[tactic(auto, using(c_core::proofs::Views::views), unfolding(c_meaning_spec::specs::Evaluation::value))]
+pub fn value(core: &Core<'_>, scene: &Scene<'_>) -> Result<i128, Stop>
+    ensures { GivesValue result (spec.value (setting_of scene.now.setting.now) scene.now.locals.now
+        scene.now.memory.now scene.now.target (core_of core.now)) }
+{
+    match core {
+        Core::Constant(_, value) => Ok(*value),
+        Core::ReadLocal(_, local, offset) => local_value(scene.locals, *local, *offset),
+        Core::GlobalAddress(name) => Ok(global_value(scene.setting, name)),
+        Core::Target(of, offset) => {
+            object_value(scene.setting, scene.memory, *of, scene.target, *offset)
+        }
+        Core::Load(of, address, displacement, offset) => {
+            let address = address_past(value(address, scene)?, *displacement)?;
+            object_value(scene.setting, scene.memory, *of, address, *offset)
+        }
+        Core::Convert(of, operand) => converted(*of, value(operand, scene)?),
+        Core::Operate(operator, of, left, right, offset) => {
+            let left = value(left, scene)?;
+            let right = value(right, scene)?;
+            operated(*operator, *of, left, right, *offset)
+        }
+        Core::Compare(operator, left, right) => {
+            let left = value(left, scene)?;
+            let right = value(right, scene)?;
+            compared(*operator, left, right)
+        }
+        Core::Move(direction, order, size, pointer, index, offset) => match order {
+            Order::PointerFirst => {
+                let pointer = value(pointer, scene)?;
+                let index = value(index, scene)?;
+                moved(*direction, *size, pointer, index, *offset)
+            }
+            Order::IndexFirst => {
+                let index = value(index, scene)?;
+                let pointer = value(pointer, scene)?;
+                moved(*direction, *size, pointer, index, *offset)
+            }
+        },
+        Core::Within(bound, index, offset) => within(*bound, value(index, scene)?, *offset),
+        Core::Aligned(alignment, pointer, offset) => {
+            aligned(*alignment, value(pointer, scene)?, *offset)
+        }
+        Core::Choose(_, test, first, second) => {
+            if value(test, scene)? == 0 {
+                value(second, scene)
+            } else {
+                value(first, scene)
+            }
+        }
+    }
+}
