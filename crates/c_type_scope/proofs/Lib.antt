@@ -1,0 +1,10 @@
+pub mod Places
+pub mod Tied
+pub mod Blocks
+pub mod Hiding
+pub mod Found
+pub mod Changes
+pub mod Files
+pub mod Ranges
+pub mod Views
+pub mod Declaring

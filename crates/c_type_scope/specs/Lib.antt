@@ -1,0 +1,4 @@
+pub mod Entries
+pub mod Scopes
+pub mod Meanings
+pub mod States
