@@ -1,0 +1,5 @@
+pub mod Together
+pub mod Starts
+pub mod Valid
+pub mod OfUnits
+pub mod Samples

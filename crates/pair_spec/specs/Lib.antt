@@ -1,0 +1,2 @@
+pub mod SourceReach
+pub mod Faults
