@@ -10,8 +10,6 @@ mod proof;
 mod reachable;
 mod scope;
 mod subframe;
-#[cfg(test)]
-mod tests;
 
 pub use frame::{Frame, Goal, Hold, Premise, Start, Stop};
 pub use proof::{BinaryPoint, Point, Points, Proof, SourcePoint, nests_within, term_nests_within};

@@ -9,8 +9,6 @@
 mod allowed;
 pub mod examples;
 mod rules;
-#[cfg(test)]
-mod tests;
 
 pub use allowed::cut_allowed;
 pub use rules::{call_law, hold_law, split_law, wait_law};

@@ -1,5 +1,6 @@
 // The questions `conditions`, and `stops`, `bounds`, `returns` and `failures`, of a graph, as in
 // `graphs`, and after ` | ` of a walk over it, as in `words`; without it, of one from node 0.
+// `sizes` has how many visits there are, and how many terms with their conditions and states.
 //
 // `conditions` has for each visit its place, its condition, and the terms of the variables that
 // differ from those at the start; terms are written as in `graphs`. The others have the same of all
@@ -211,6 +212,9 @@ fn add_found(
     let found = conditions(alloc, graph, visits, &start, &mut bank)?;
     if name == "conditions" {
         return add_visits(out, &bank, visits, &found);
+    }
+    if name == "sizes" {
+        return write!(out, "{} visits {} terms", visits.len(), bank.len());
     }
     let mut members = Vec::new(alloc);
     find_members(&mut members, name, walk, visits)?;

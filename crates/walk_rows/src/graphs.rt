@@ -1,8 +1,8 @@
 // Graphs as words: for each node in turn what it does and where a run continues after it. A node's
 // word is a place, as in `words`; with what it binds before it, as in `a=TERM,b=TERM>PLACE`; a
-// test, as `TERM?PLACE/PLACE`; or `call`. A term has no spaces, and an operator precedes its
-// arguments: `+`, `<`, `!`, `&`, `|`, and `:` for a choice. A letter from `a` to `z` is a variable
-// of that name, a digit a constant; `T` and `F` are the truth values.
+// test, as `TERM?PLACE/PLACE`; or `call`, whose landing node is the next one. A term has no spaces,
+// and an operator precedes its arguments: `+`, `<`, `!`, `&`, `|`, and `:` for a choice. A letter
+// from `a` to `z` is a variable of that name, a digit a constant; `T` and `F` are the truth values.
 
 use crate::words::place;
 use graph_core::{Binding, Graph, Node};
@@ -120,12 +120,13 @@ fn bindings(alloc: Global, text: &str) -> Result<Vec<Binding>, AllocError> {
     Ok(bindings)
 }
 
-fn call(alloc: Global) -> Node {
+// A call whose landing node is this one.
+fn call(alloc: Global, landing: usize) -> Node {
     Node::Call {
         callee: 0,
         inputs: Vec::new(alloc),
         outputs: Vec::new(alloc),
-        landing: 0,
+        landing,
     }
 }
 
@@ -155,9 +156,9 @@ fn continues(alloc: Global, next: Next) -> Node {
     }
 }
 
-fn node(alloc: Global, word: &str) -> Result<Node, AllocError> {
+fn node(alloc: Global, word: &str, number: usize) -> Result<Node, AllocError> {
     if word == "call" {
-        return Ok(call(alloc));
+        return Ok(call(alloc, number.wrapping_add(1)));
     }
     match word.split_once('?') {
         Some((tested, places)) => test(alloc, tested, places),
@@ -169,7 +170,8 @@ fn node(alloc: Global, word: &str) -> Result<Node, AllocError> {
 pub(crate) fn read(alloc: Global, text: &str) -> Result<Graph, AllocError> {
     let mut graph = Graph::new(alloc);
     for word in text.split(' ') {
-        let node = node(alloc, word)?;
+        let number = graph.nodes.len();
+        let node = node(alloc, word, number)?;
         graph.add(node)?;
     }
     Ok(graph)

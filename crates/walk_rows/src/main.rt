@@ -1,13 +1,16 @@
-//! Rows of walks over small graphs, each with the answer that is expected of it.
+//! Rows of walks over small graphs, and of frames and proofs, each with the answer that is expected
+//! of it.
 //!
 //! A row is `QUESTION WORDS = ANSWER`; each is printed with `ok`, or with what was found in place
-//! of the answer. The modules `lists` and `conditions` have the questions, and `words` and `graphs`
-//! have how a walk and a graph are written. A row without ` = ` is a title.
+//! of the answer. The modules `lists`, `conditions`, `cuts` and `nesting` have the questions, and
+//! `words` and `graphs` have how a walk and a graph are written. A row without ` = ` is a title.
 #![tactic(auto)]
 
 mod conditions;
+mod cuts;
 mod graphs;
 mod lists;
+mod nesting;
 mod words;
 
 use std::alloc::{AllocError, Global};
@@ -19,9 +22,11 @@ fn add_found(alloc: Global, out: &mut String, row: &str) -> Result<(), AllocErro
     let (name, text) = row.split_once(' ').unwrap_or((row, ""));
     match name {
         "visits" => lists::answer(alloc, out, text),
-        "conditions" | "stops" | "bounds" | "returns" | "failures" => {
+        "conditions" | "sizes" | "stops" | "bounds" | "returns" | "failures" => {
             conditions::answer(alloc, out, name, text)
         }
+        "cut" => cuts::answer(alloc, out, text),
+        "cases" | "negations" => nesting::answer(alloc, out, name, text),
         _ => Ok(()),
     }
 }

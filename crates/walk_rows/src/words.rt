@@ -19,7 +19,7 @@ pub(crate) struct Words {
 }
 
 /// The number of a decimal numeral.
-fn number(text: &str) -> usize {
+pub(crate) fn number(text: &str) -> usize {
     let mut n: usize = 0;
     for b in text.bytes() {
         n = n
@@ -47,7 +47,7 @@ fn successors(text: &str) -> Successors {
     }
 }
 
-fn mark(text: &str) -> Mark {
+pub(crate) fn mark(text: &str) -> Mark {
     let (node, count) = text.split_once(':').unwrap_or((text, "1"));
     Mark {
         node: number(node),
