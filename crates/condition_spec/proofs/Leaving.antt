@@ -8,7 +8,7 @@ use Rattle.term_spec.specs.Term.{Term, and_term, not_term}
 use Rattle.term_spec.specs.Sort.{sort_of}
 use Rattle.term_spec.specs.Same.{same_variable}
 use Rattle.term_spec.specs.Substitution.{State, substituted, values_of}
-use Rattle.term_spec.specs.Value.{Assignment, IsAssignment, IsOfSort, Value, Truth, value}
+use Rattle.term_spec.specs.Value.{Assignment, IsAssignment, Value, Truth, value}
 use Rattle.term_spec.proofs.Sorts.{as_truth}
 use Rattle.term_spec.proofs.Soundness.{value-sort}
 use Rattle.term_spec.proofs.Substitution.{value-substituted}
@@ -18,7 +18,7 @@ use Rattle.graph_spec.specs.Run.{bound, is_truth}
 use Rattle.graph_spec.proofs.Sorts.{bound_sorted}
 use Rattle.visit_spec.specs.declared.Branch.{Branch}
 use Rattle.visit_spec.specs.declared.Branch.TheVariants.{Only, IfTrue, IfFalse}
-use Rattle.condition_spec.specs.Conditions.{Conditional, assigned, state_after, with_test, condition_after, after_node}
+use Rattle.condition_spec.specs.Conditions.{Conditional, assigned, state_after, condition_after}
 use Rattle.condition_spec.specs.Passages.{takes, target, values_after, holds}
 use Rattle.condition_spec.proofs.Truths.{IsTruth, truth_is, value-and, value-not, and-true}
 

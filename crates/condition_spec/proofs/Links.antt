@@ -1,5 +1,5 @@
 -- The visits of a walk are linked by the edges into them.
-use Rattle.std.proofs.Common.{◌≡◌, ◌∙◌, ◌⊎◌, ℕ, ◌<◌, Bool, true, false, if◌then◌else◌, List, [], ◌∷◌, length, get_or, map, Option, Some, None, refl, sym, ap, ap₂, subst, inl, inr, arith}
+use Rattle.std.proofs.Common.{◌≡◌, ◌∙◌, ◌⊎◌, ℕ, ◌<◌, Bool, true, false, if◌then◌else◌, List, [], ◌∷◌, length, get_or, Option, Some, None, refl, sym, ap, ap₂, subst, inl, inr, arith}
 use Rattle.std.specs.Prelude.{slice_get, Contains, option_map, unwrap_or}
 use Rattle.std.proofs.lemmas.Bool.{cases_lt}
 use Rattle.std.proofs.lemmas.List.{length-map, get_or_past}
@@ -11,10 +11,9 @@ use Rattle.visit_spec.specs.declared.Branch.{Branch}
 use Rattle.visit_spec.specs.declared.Branch.TheVariants.{Only, IfTrue, IfFalse}
 use Rattle.visit_spec.specs.declared.Incoming.{Incoming}
 use Rattle.visit_spec.specs.declared.Successors.{Successors}
-use Rattle.visit_spec.specs.declared.Successors.TheVariants.{One, Nothing}
-use Rattle.visit_spec.specs.Shape.{Shape, shape_of, successors_of, successors_at}
+use Rattle.visit_spec.specs.declared.Successors.TheVariants.{One}
+use Rattle.visit_spec.specs.Shape.{successors_of, successors_at}
 use Rattle.visit_spec.specs.Visits.{Walk, Visit, Edge, followed, edges_at, edges_of, marks, is_marked_end, arrival, first_visit, edges, nexts}
-use Rattle.visit_spec.specs.EdgesInto.{edges_into}
 use Rattle.visit_spec.specs.Outcomes.{AreVisits}
 use Rattle.visit_spec.proofs.Members.{only_contained, contained_map, contained_image}
 use Rattle.condition_spec.specs.Junctions.{Junction, junction_of, junctions, junction_at}

@@ -1,7 +1,7 @@
 -- A run passes a visit exactly where the condition there is true, and then in its state.
-use Rattle.std.proofs.Common.{◌≡◌, ◌∙◌, ◌⊎◌, ℕ, ◌+◌, ◌<◌, zero, suc, Bool, true, false, ◌&&◌, List, [], ◌∷◌, length, get_or, map, take, Option, Some, None, refl, sym, ap, subst, inl, inr, arith}
+use Rattle.std.proofs.Common.{◌≡◌, ◌∙◌, ℕ, ◌<◌, zero, suc, true, List, [], ◌∷◌, length, get_or, map, take, Option, Some, None, refl, sym, ap, subst, inl, inr, arith}
 use Rattle.std.specs.Prelude.{slice_get, Contains}
-use Rattle.std.specs.List.{fold, All}
+use Rattle.std.specs.List.{All}
 use Rattle.std.proofs.lemmas.Bool.{and_parts, and_from, cases_lt}
 use Rattle.std.proofs.lemmas.List.{get_or-take}
 use Rattle.std.proofs.lemmas.Option.{slice_get_within, get_or_from_slice_get}
@@ -15,8 +15,8 @@ use Rattle.graph_spec.specs.Graph.{Node, Graph, IsNode, IsValid}
 use Rattle.graph_spec.specs.Run.{is_truth}
 use Rattle.visit_spec.specs.declared.Incoming.{Incoming}
 use Rattle.condition_spec.specs.Junctions.{Junction, junction_at}
-use Rattle.condition_spec.specs.Conditions.{Conditional, any_of, merged, united, node_of_place, node_of_junction, state_after, condition_after, after_node, conditional_at, along, entered_by, conditional_next, conditionals}
-use Rattle.condition_spec.specs.Passages.{takes, values_after, IsInto, Passes, PassesAt, AreLinked, holds, IsExact}
+use Rattle.condition_spec.specs.Conditions.{Conditional, any_of, merged, united, node_of_place, node_of_junction, after_node, conditional_at, along, entered_by, conditional_next, conditionals}
+use Rattle.condition_spec.specs.Passages.{takes, values_after, IsInto, PassesAt, AreLinked, holds, IsExact}
 use Rattle.condition_spec.proofs.Growing.{grown-at}
 use Rattle.condition_spec.proofs.Truths.{IsTruth, truth_is, value-truth}
 use Rattle.condition_spec.proofs.Merging.{IsTested, some_holds, any-value, Gives, merged-value, IsFit, merged-sort}

@@ -1,10 +1,10 @@
 -- What several conditionals as one mean: one of them is true, and those that are true agree.
-use Rattle.std.proofs.Common.{◌≡◌, ◌∙◌, ◌⊎◌, Bool, true, false, ◌&&◌, ◌||◌, cond, List, [], ◌∷◌, refl, sym, ap, subst, inl, inr}
-use Rattle.std.specs.List.{fold, list_any, list_all, All}
+use Rattle.std.proofs.Common.{◌≡◌, ◌∙◌, Bool, true, false, ◌||◌, cond, List, [], ◌∷◌, refl, sym, ap, subst, inl, inr}
+use Rattle.std.specs.List.{fold, list_any, All}
 use Rattle.std.proofs.lemmas.List.Elements.{All-head, All-tail}
 use Rattle.std.proofs.lemmas.Bool.{and_parts, or_cases, cases_Bool, false≢true}
 use Rattle.term_spec.specs.declared.Variable.{Variable}
-use Rattle.term_spec.specs.Term.{Term, truth, or_term, choose}
+use Rattle.term_spec.specs.Term.{Term, or_term, choose}
 use Rattle.term_spec.specs.Same.{same_term}
 use Rattle.term_spec.specs.Substitution.{State}
 use Rattle.term_spec.specs.Value.{Assignment, Value, Truth, value, IsOfSort}

@@ -1,7 +1,7 @@
 -- A run passes a visit at one moment, with one assignment of values.
-use Rattle.std.proofs.Common.{◌≡◌, ◌∙◌, ◌⊎◌, ℕ, ◌+◌, ◌-◌, ◌<◌, zero, suc, Bool, true, false, Option, Some, None, List, refl, sym, ap, ap₂, subst, inl, inr, arith}
+use Rattle.std.proofs.Common.{◌≡◌, ◌∙◌, ℕ, ◌+◌, ◌-◌, ◌<◌, zero, suc, Bool, true, false, Option, Some, None, List, refl, sym, ap₂, subst, inl, inr, arith}
 use Rattle.std.specs.Prelude.{not}
-use Rattle.std.proofs.lemmas.Bool.{cases_order, false≢true, true≢false}
+use Rattle.std.proofs.lemmas.Bool.{cases_order, false≢true}
 use Rattle.term_spec.specs.Value.{Assignment, value}
 use Rattle.graph_spec.specs.Graph.{Node, Basic, Cond, Call, Graph}
 use Rattle.graph_spec.specs.Run.{is_truth}
@@ -10,7 +10,7 @@ use Rattle.visit_spec.specs.declared.Branch.TheVariants.{Only, IfTrue, IfFalse}
 use Rattle.visit_spec.specs.declared.Incoming.{Incoming}
 use Rattle.condition_spec.specs.Junctions.{Junction}
 use Rattle.condition_spec.specs.Conditions.{node_of_junction}
-use Rattle.condition_spec.specs.Passages.{takes, values_after, IsInto, Passes, PassesAt, AreLinked}
+use Rattle.condition_spec.specs.Passages.{takes, values_after, IsInto, PassesAt, AreLinked}
 
 -- a run takes one branch
 not_both : (p : Bool) → p ≡ true → not p ≡ true → ⊥

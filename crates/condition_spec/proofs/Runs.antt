@@ -1,9 +1,8 @@
 -- A run of graphs comes to the visits of a walk.
-use Rattle.std.proofs.Common.{◌≡◌, ◌∙◌, ◌⊎◌, ℕ, ◌+◌, ◌<◌, ◌==◌, ◌&&◌, zero, suc, Bool, true, false, if◌then◌else◌, List, [], ◌∷◌, length, map, Option, Some, None, refl, sym, ap, ap₂, subst, inl, inr, arith}
+use Rattle.std.proofs.Common.{◌≡◌, ◌∙◌, ℕ, ◌+◌, ◌<◌, ◌==◌, ◌&&◌, zero, suc, Bool, true, false, if◌then◌else◌, List, [], ◌∷◌, length, Option, Some, None, refl, sym, ap, ap₂, subst, inl, inr, arith}
 use Rattle.std.specs.Prelude.{◌≢◌, slice_get, Contains, is_some, not, ⊤, option_and_then, option_map, unwrap_or}
-use Rattle.std.specs.List.{All}
-use Rattle.std.proofs.lemmas.Bool.{cases_lt, cases_order, cases_eq, cases_Bool, false≢true, eq-eqb, ne_eqb, not-true, not_from_false}
-use Rattle.std.proofs.lemmas.Option.{same_Some, slice_get-map, slice_get_within, slice_get-get_or, get_or_from_slice_get}
+use Rattle.std.proofs.lemmas.Bool.{cases_lt, cases_eq, false≢true, eq-eqb, ne_eqb, not-true}
+use Rattle.std.proofs.lemmas.Option.{same_Some, slice_get-map, slice_get_within, get_or_from_slice_get}
 use Rattle.term_spec.specs.Value.{Assignment, value}
 use Rattle.walk_spec.specs.TransitionSystem.{after, arrivals, tick}
 use Rattle.walk_spec.proofs.Runs.{after-suc, arrivals-add}
@@ -14,14 +13,13 @@ use Rattle.graph_spec.specs.Run.{State, Running, Returned, Failed, go, act, step
 use Rattle.visit_spec.specs.declared.Mark.{Mark}
 use Rattle.visit_spec.specs.declared.Branch.{Branch}
 use Rattle.visit_spec.specs.declared.Branch.TheVariants.{Only, IfTrue, IfFalse}
-use Rattle.visit_spec.specs.declared.Incoming.{Incoming}
 use Rattle.visit_spec.specs.declared.Successors.{Successors}
-use Rattle.visit_spec.specs.declared.Successors.TheVariants.{One, Nothing}
-use Rattle.visit_spec.specs.Shape.{shape_of, successors_of, successors_at}
+use Rattle.visit_spec.specs.declared.Successors.TheVariants.{One}
+use Rattle.visit_spec.specs.Shape.{successors_of, successors_at}
 use Rattle.visit_spec.specs.Visits.{Walk, Visit, Edge, counted, followed, edges_at, edges_of, marks, is_marked_end, arrival, first_visit, edges}
-use Rattle.condition_spec.specs.Junctions.{Junction, junctions, junction_at}
+use Rattle.condition_spec.specs.Junctions.{Junction, junctions}
 use Rattle.condition_spec.specs.Conditions.{node_of_place, node_of_junction}
-use Rattle.condition_spec.specs.Passages.{takes, target, values_after, Passes, PassesAt}
+use Rattle.condition_spec.specs.Passages.{takes, target, values_after, PassesAt}
 use Rattle.condition_spec.specs.Runs.{state_at, counts_after, IsAt, GoesOn, Visits, IsWalkOver}
 use Rattle.condition_spec.proofs.Edges.{contains_none, contains_head, contains_tail}
 use Rattle.condition_spec.proofs.Incoming.{edge_to, edge_by}

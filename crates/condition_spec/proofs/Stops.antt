@@ -1,19 +1,18 @@
 -- Where a run is at a visit, it has stopped, failed or broken a bound as the visit says.
-use Rattle.std.proofs.Common.{◌≡◌, ◌∙◌, ◌⊎◌, ℕ, ◌<◌, ◌≤◌, ◌==◌, ◌&&◌, ◌||◌, zero, suc, Bool, true, false, if◌then◌else◌, List, [], ◌∷◌, ◌++◌, length, map, drop, refl, sym, ap, ap₂, subst, inl, inr, arith}
-use Rattle.std.specs.Prelude.{◌≢◌, ◌↔◌, nat_le, Contains, is_some}
+use Rattle.std.proofs.Common.{◌≡◌, ◌∙◌, ℕ, ◌<◌, ◌≤◌, ◌==◌, ◌&&◌, ◌||◌, zero, suc, Bool, true, false, if◌then◌else◌, List, [], ◌∷◌, ◌++◌, length, map, drop, refl, sym, ap, ap₂, inl, inr, arith}
+use Rattle.std.specs.Prelude.{◌≢◌, nat_le, Contains, is_some}
 use Rattle.std.specs.List.{list_any, All}
 use Rattle.std.proofs.lemmas.Bool.{cases_Bool, false≢true, eq-eqb, eqb-true, leb-true, leb-false, lt-leb, le-leb, and_parts, and_right, or_parts}
 use Rattle.std.proofs.lemmas.List.Elements.{All-head, All-tail, All-cons, All-nil, All-contains, Contains-append_left, Contains-append_right}
 use Rattle.term_spec.specs.Value.{Assignment}
-use Rattle.walk_spec.specs.TransitionSystem as walk
 use Rattle.walk_spec.specs.TransitionSystem.{after, arrivals, tick, reached}
 use Rattle.graph_spec.specs.declared.Next.{Next}
 use Rattle.graph_spec.specs.declared.Next.TheVariants as next
 use Rattle.graph_spec.specs.Graph.{Graph, Graphs, node_at}
 use Rattle.graph_spec.specs.Run.{State, Running, has_returned, has_failed, is_at, system_of}
 use Rattle.visit_spec.specs.declared.Mark.{Mark}
-use Rattle.visit_spec.specs.Visits.{Walk, Visit, Edge, marks, edges, edges_at, edges_of, is_full, is_last, is_stop, is_marked_end}
-use Rattle.condition_spec.specs.Runs.{state_at, counts_after, IsAt, GoesOn, Visits, IsWalkOver, mark_of, is_return, is_failure, AreCounted, EndsAs}
+use Rattle.visit_spec.specs.Visits.{Walk, Visit, marks, edges, edges_at, edges_of, is_full, is_last, is_stop, is_marked_end}
+use Rattle.condition_spec.specs.Runs.{state_at, Visits, IsWalkOver, mark_of, is_return, is_failure, AreCounted, EndsAs}
 use Rattle.condition_spec.proofs.Edges.{contains_head, contains_tail, contains_any}
 use Rattle.condition_spec.proofs.Runs.{arrivals-suc, comes, passing}
 

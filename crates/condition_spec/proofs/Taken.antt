@@ -1,9 +1,9 @@
 -- What a depth-first walk from one node lists, by indices.
-use Rattle.std.proofs.Common.{◌≡◌, ◌∙◌, ◌⊎◌, ℕ, ◌<◌, List, [], ◌∷◌, Some, sym, subst, inl, inr, arith}
+use Rattle.std.proofs.Common.{◌≡◌, ◌⊎◌, ℕ, ◌<◌, List, [], ◌∷◌, Some, sym, subst, inl, inr, arith}
 use Rattle.std.specs.Prelude.{slice_get, Contains}
 use Rattle.visit_spec.specs.DepthFirst.{Takes, Leads, here, on, AreDistinct}
 use Rattle.visit_spec.proofs.Members.{none_contained, only_contained, contained_at, index_of_contained}
-use Rattle.visit_spec.proofs.Walks.{Left, walk_whole, walk_head, later_distinct, later_after, later_reached}
+use Rattle.visit_spec.proofs.Walks.{walk_whole, walk_head, later_distinct, later_after, later_reached}
 
 module _ {X : Type 0} (nexts : X → List X) (x : X) (out : List X) (taken : Takes nexts [] (x ∷ []) out) where
   pub taken_first : slice_get out 0 ≡ Some x

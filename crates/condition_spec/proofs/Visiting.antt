@@ -1,18 +1,14 @@
 -- A run comes to a visit exactly where the condition there is true, and then it is in the state there.
-use Rattle.std.proofs.Common.{◌≡◌, ◌∙◌, ◌⊎◌, ℕ, ◌<◌, Bool, true, false, List, [], length, Some, subst, inl, inr, arith}
+use Rattle.std.proofs.Common.{◌≡◌, ℕ, ◌<◌, true, List, [], length, Some, subst, inl, inr, arith}
 use Rattle.std.specs.Prelude.{slice_get}
-use Rattle.std.specs.List.{All}
 use Rattle.std.proofs.lemmas.Bool.{cases_order}
 use Rattle.std.proofs.lemmas.List.{length-map}
 use Rattle.std.proofs.lemmas.Option.{slice_get_within}
-use Rattle.term_spec.specs.declared.Variable.{Variable}
 use Rattle.term_spec.specs.Substitution.{State as Terms, values_of}
-use Rattle.term_spec.specs.Value.{Assignment, IsAssignment, value}
+use Rattle.term_spec.specs.Value.{Assignment, IsAssignment}
 use Rattle.graph_spec.specs.Graph.{Graph, Graphs}
-use Rattle.graph_spec.specs.Run.{State}
 use Rattle.visit_spec.specs.Visits.{Walk, Visit, edges}
 use Rattle.condition_spec.specs.Junctions.{junction_of, junctions}
-use Rattle.condition_spec.specs.Conditions.{Conditional}
 use Rattle.condition_spec.specs.Passages.{PassesAt, holds}
 use Rattle.condition_spec.specs.Runs.{IsAt, GoesOn, Visits, IsWalkOver, conditional, start_of, IsVisitedWhere, IsListed}
 use Rattle.condition_spec.proofs.Meaning.{IsMeant, meant}

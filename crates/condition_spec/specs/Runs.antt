@@ -1,6 +1,6 @@
 -- The visits of a run of graphs, and what the conditions of a walk's visits say of it.
 use Rattle.std.specs.Prelude.{◌≡◌, ◌≢◌, ◌⊎◌, ◌↔◌, ℕ, ◌<◌, ◌≤◌, ◌||◌, Bool, true, false, List, [], length, map, drop, All, Some, slice_get, Contains}
-use Rattle.term_spec.specs.Value.{Assignment, IsAssignment}
+use Rattle.term_spec.specs.Value.{Assignment}
 use Rattle.term_spec.specs.Substitution.{State as Terms, values_of}
 use Rattle.walk_spec.specs.TransitionSystem as walk
 use Rattle.walk_spec.specs.TransitionSystem.{after, arrivals}
@@ -14,7 +14,7 @@ use Rattle.visit_spec.specs.Shape.{Shape, shape_of, successors_at}
 use Rattle.visit_spec.specs.Visits.{Walk, Visit, marks, edges, is_stop, is_last}
 use Rattle.visit_spec.specs.Outcomes.{AreVisits}
 use Rattle.condition_spec.specs.Junctions.{junctions}
-use Rattle.condition_spec.specs.Conditions.{Conditional, conditionals, conditional_at, conditional_of}
+use Rattle.condition_spec.specs.Conditions.{Conditional, conditionals, conditional_at}
 use Rattle.condition_spec.specs.Passages.{holds}
 
 -- ---- the visits of a run

@@ -10,7 +10,7 @@ use Rattle.graph_spec.specs.Graph.{Graph, Basic, Cond}
 use Rattle.visit_spec.specs.Shape.{shape_of}
 use Rattle.visit_spec.specs.Visits.{Walk, Visit}
 use Rattle.condition_spec.specs.Junctions.{junctions}
-use Rattle.condition_spec.specs.Conditions.{Conditional, conditionals, conditional_at, conditional_of}
+use Rattle.condition_spec.specs.Conditions.{Conditional, conditionals, conditional_at}
 
 abbrev pub test : Variable
 test = record { family = IsSet; index = 0; instance = 0; sort = sort.Truth }

@@ -12,7 +12,7 @@ use Rattle.term_bank.specs.Nodes.{tree_at, Holds}
 use Rattle.graph_spec.specs.Graph.{Graph}
 use Rattle.visit_spec.specs.declared.Incoming.{Incoming}
 use Rattle.condition_spec.specs.Junctions.{Junction}
-use Rattle.condition_spec.specs.Conditions.{Conditional, united, conditional_at, condition_after, node_of_junction, along}
+use Rattle.condition_spec.specs.Conditions.{Conditional, united, conditional_at, along}
 use Rattle.path_cond.specs.declared.ids.Ids.{Ids}
 use Rattle.path_cond.specs.declared.leave.Leaving.{Leaving}
 use Rattle.path_cond.specs.declared.known.Known.{Known}
@@ -21,7 +21,7 @@ use Rattle.path_cond.specs.Branches.{id_by}
 use Rattle.path_cond.specs.Merged.{AreIds}
 use Rattle.path_cond.specs.Known.{AreConditionals}
 use Rattle.path_cond.specs.States.{IsFull}
-use Rattle.path_cond.specs.Table.{edge_id, IsArriving, AreArriving, IsEdge, AreEdges, IsKnownAt, AreKnown}
+use Rattle.path_cond.specs.Table.{edge_id, AreArriving, IsEdge, AreEdges, IsKnownAt, AreKnown}
 use Rattle.path_cond.specs.United.{id_of, ids_of, AreFull}
 use Rattle.path_cond.proofs.Banks.{tree_is}
 use Rattle.path_cond.proofs.Current.{full_state}

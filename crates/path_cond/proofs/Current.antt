@@ -1,5 +1,5 @@
 -- The map of the terms that are substituted, as it is set to a state.
-use Rattle.std.proofs.Common.{◌≡◌, ◌∙◌, ◌⊎◌, ℕ, ◌<◌, ◌||◌, zero, suc, Bool, true, false, List, [], ◌∷◌, length, Option, Some, None, refl, sym, ap, subst, inl, inr, arith}
+use Rattle.std.proofs.Common.{◌≡◌, ◌∙◌, ℕ, ◌<◌, zero, suc, true, false, List, [], ◌∷◌, length, Option, Some, None, refl, sym, ap, subst, inl, inr, arith}
 use Rattle.std.specs.Prelude.{slice_get}
 use Rattle.std.proofs.lemmas.Bool.{cases_Bool, or_cases, false≢true}
 use Rattle.std.proofs.lemmas.Option.{same_Some, slice_get_within}
@@ -8,7 +8,7 @@ use Rattle.term_spec.specs.Same.{same_variable}
 use Rattle.term_spec.specs.Term.{Term, open_term}
 use Rattle.term_spec.specs.Substitution.{State}
 use Rattle.term_spec.proofs.Same.{variable-same}
-use Rattle.term_bank.specs.Nodes.{tree_at, Holds, Extends}
+use Rattle.term_bank.specs.Nodes.{Extends}
 use Rattle.term_substitution.specs.States.{tree_or, state_of, AreBelow}
 use Rattle.path_cond.specs.Bound.{has}
 use Rattle.path_cond.specs.States.{HasState, IsCurrent, IsFull, IsSet, IsOutside, Stays}

@@ -1,5 +1,5 @@
 -- What leaves a node.
-use Rattle.std.proofs.Common.{◌≡◌, List, Some, None, subst}
+use Rattle.std.proofs.Common.{◌≡◌, List, Some, subst}
 use Rattle.std.proofs.lemmas.Option.{slice_get_within, get_or_from_slice_get}
 use Rattle.term_spec.specs.declared.Variable.{Variable}
 use Rattle.term_spec.specs.Term.{Term}

@@ -1,6 +1,5 @@
 -- Listed visits are those of a walk.
-use Rattle.std.proofs.Common.{◌≡◌, ◌∙◌, ℕ, ◌+◌, ◌<◌, zero, suc, List, [], ◌∷◌, length, get_or, map, refl, sym, ap, subst, arith}
-use Rattle.graph_spec.specs.declared.Next.TheVariants as next
+use Rattle.std.proofs.Common.{◌≡◌, ◌∙◌, ℕ, ◌<◌, zero, suc, List, [], ◌∷◌, length, get_or, map, refl, sym, ap, subst, arith}
 use Rattle.visit_spec.specs.declared.Incoming.{Incoming}
 use Rattle.visit_spec.specs.Visits.{Walk, Visit}
 use Rattle.visit_spec.specs.EdgesInto.{edges_into}

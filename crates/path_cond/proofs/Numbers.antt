@@ -1,8 +1,8 @@
 -- The numbers of variables: their places in a list in which each occurs once.
-use Rattle.std.proofs.Common.{◌≡◌, ◌∙◌, ◌⊎◌, ℕ, ◌+◌, ◌<◌, ◌==◌, ◌||◌, zero, suc, Bool, true, false, cond, List, [], ◌∷◌, ◌++◌, length, get_or, Option, Some, None, refl, sym, ap, subst, inl, inr, arith}
+use Rattle.std.proofs.Common.{◌≡◌, ◌∙◌, ℕ, ◌+◌, ◌<◌, ◌==◌, zero, suc, Bool, true, false, cond, List, [], ◌∷◌, ◌++◌, get_or, Option, Some, refl, sym, ap, subst, inl, inr, arith}
 use Rattle.std.specs.Prelude.{slice_get, if◌then◌else◌}
-use Rattle.std.specs.List.{list_any, IsDistinct, AllByRecursion, position}
-use Rattle.std.proofs.lemmas.Bool.{cases_eq, cases_Bool, cases_lt, eq-eqb, ne_eqb, false_from_ne_true, false≢true, or_left, or_right}
+use Rattle.std.specs.List.{IsDistinct, AllByRecursion, position}
+use Rattle.std.proofs.lemmas.Bool.{cases_eq, cases_Bool, eq-eqb, ne_eqb, false_from_ne_true, false≢true, or_left, or_right}
 use Rattle.std.proofs.lemmas.Option.{same_Some, slice_get_within, slice_get-get_or, get_or_from_slice_get}
 use Rattle.std.proofs.lemmas.List.Folds.{list_any_at, list_any-append}
 use Rattle.std.proofs.lemmas.List.Quantifiers.{position-Some}
@@ -11,7 +11,7 @@ use Rattle.term_spec.specs.contracts.VariableEq.TheImpl.Laws as variable_laws
 use Rattle.term_spec.specs.Same.{same_variable}
 use Rattle.term_spec.proofs.Same.{variable-same}
 use Rattle.path_cond.specs.Bound.{has}
-use Rattle.path_cond.specs.States.{IsSet, IsPut}
+use Rattle.path_cond.specs.States.{IsPut}
 
 pub same_self : (v : Variable) → same_variable v v ≡ true
 same_self v = variable_laws.lawful.laws.refl v

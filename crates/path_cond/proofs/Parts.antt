@@ -1,5 +1,5 @@
 -- Ids by their parts: at 0, at the odd numbers, and at the other even ones.
-use Rattle.std.proofs.Common.{◌≡◌, ◌∙◌, ◌⊎◌, ℕ, ◌<◌, ◌==◌, ◌-◌, ◌/◌, ◌%◌, Bool, true, false, if◌then◌else◌, Option, Some, refl, sym, ap, ap₂, inl, inr, arith}
+use Rattle.std.proofs.Common.{◌≡◌, ◌∙◌, ℕ, ◌==◌, ◌-◌, ◌/◌, ◌%◌, Bool, if◌then◌else◌, Option, Some, sym, ap, ap₂, inl, inr, arith}
 use Rattle.std.proofs.lemmas.Bool.{cases_eq, eq-eqb, ne_eqb}
 
 abbrev pub parted : Option ℕ → (ℕ → Option ℕ) → (ℕ → Option ℕ) → ℕ → Option ℕ

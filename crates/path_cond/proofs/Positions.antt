@@ -17,7 +17,7 @@ use Rattle.path_cond.specs.Ids.{id_at}
 use Rattle.path_cond.specs.Merged.{AreIds}
 use Rattle.path_cond.specs.Known.{AreConditionals, HasConditional}
 use Rattle.path_cond.specs.Result.{conditions_at}
-use Rattle.path_cond.specs.States.{HasState, IsFull}
+use Rattle.path_cond.specs.States.{HasState}
 use Rattle.path_cond.specs.Table.{IsKnownAt, AreKnown}
 use Rattle.path_cond.specs.United.{id_of, ids_of, AreFull}
 use Rattle.path_cond.proofs.Banks.{tree_is}

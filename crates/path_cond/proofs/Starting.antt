@@ -1,5 +1,5 @@
 -- The terms of the start, in a map that has what the start has.
-use Rattle.std.proofs.Common.{◌≡◌, ◌∙◌, ℕ, List, length, Option, Some, sym, ap}
+use Rattle.std.proofs.Common.{◌≡◌, ◌∙◌, ℕ, List, length, Option, sym, ap}
 use Rattle.term_spec.specs.declared.Variable.{Variable}
 use Rattle.term_spec.specs.Term.{Term, open_term}
 use Rattle.term_bank.specs.Nodes.{Extends}

@@ -1,16 +1,15 @@
 -- States as one, at the numbers of variables.
-use Rattle.std.proofs.Common.{◌≡◌, ◌∙◌, ◌⊎◌, ℕ, ◌+◌, ◌<◌, ◌≤◌, ◌==◌, Bool, true, false, zero, suc, List, [], ◌∷◌, ◌++◌, length, get_or, map, Option, Some, None, refl, sym, ap, ap₂, subst, inl, inr, arith}
-use Rattle.std.specs.Prelude.{slice_get, option_and_then, if◌then◌else◌}
-use Rattle.std.specs.List.{All, cons_option}
+use Rattle.std.proofs.Common.{◌≡◌, ◌∙◌, ℕ, ◌<◌, ◌==◌, Bool, suc, List, [], ◌∷◌, length, get_or, map, Option, Some, refl, sym, ap, ap₂, subst, inl, inr, arith}
+use Rattle.std.specs.Prelude.{option_and_then, if◌then◌else◌}
+use Rattle.std.specs.List.{cons_option}
 use Rattle.std.proofs.lemmas.Bool.{cases_eq, eq-eqb, ne_eqb}
 use Rattle.std.proofs.lemmas.List.Elements.{All-head, All-tail, All-cons, All-nil}
 use Rattle.term_spec.specs.Term.{Term}
-use Rattle.term_bank.specs.Nodes.{tree_at, Holds, Extends}
+use Rattle.term_bank.specs.Nodes.{tree_at, Extends}
 use Rattle.term_bank.proofs.Substitution.{kept}
 use Rattle.path_cond.specs.declared.ids.Ids.{Ids}
 use Rattle.path_cond.specs.Ids.{id_at}
 use Rattle.path_cond.specs.Merged.{AreIds, merged_term}
-use Rattle.path_cond.specs.States.{IsFull}
 use Rattle.path_cond.specs.United.{id_of, ids_of, AreFull, AreFullAt, IsUnitedAt}
 use Rattle.path_cond.proofs.Banks.{within_longer, kept_tree}
 

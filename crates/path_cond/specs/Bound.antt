@@ -1,5 +1,5 @@
 -- Lists that have the variables that some nodes bind.
-use Rattle.std.specs.Prelude.{◌≡◌, ℕ, Bool, true, List, ⊤, All}
+use Rattle.std.specs.Prelude.{◌≡◌, Bool, true, List, ⊤, All}
 use Rattle.std.specs.List.{list_any}
 use Rattle.term_spec.specs.declared.Variable.{Variable}
 use Rattle.term_spec.specs.Same.{same_variable}

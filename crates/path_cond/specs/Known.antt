@@ -1,6 +1,5 @@
 -- Conditions and states in a bank, and what is known of the visits so far.
-use Rattle.std.specs.Prelude.{◌≡◌, ℕ, ◌<◌, Bool, false, List, length, map, slice_get, Some, All}
-use Rattle.std.specs.Option.{option_map_or}
+use Rattle.std.specs.Prelude.{◌≡◌, ℕ, ◌<◌, false, List, map, slice_get, Some, All}
 use Rattle.term_spec.specs.declared.Variable.{Variable}
 use Rattle.term_spec.specs.Term.{Term}
 use Rattle.term_spec.specs.Substitution.{State}

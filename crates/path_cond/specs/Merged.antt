@@ -1,5 +1,5 @@
 -- Conditions and terms of one variable as one, by lists.
-use Rattle.std.specs.Prelude.{◌≡◌, ℕ, ◌<◌, Bool, true, false, if◌then◌else◌, List, [], ◌∷◌, map, All}
+use Rattle.std.specs.Prelude.{ℕ, ◌<◌, false, if◌then◌else◌, List, [], ◌∷◌, All}
 use Rattle.std.specs.List.{fold, list_all}
 use Rattle.term_spec.specs.Term.{Term, truth, or_term, choose}
 use Rattle.term_spec.specs.Same.{same_term}

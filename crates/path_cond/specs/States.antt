@@ -17,6 +17,11 @@ pub record HasState (trees : List Term) (variables : List Variable) (start : Sta
 abbrev pub IsCurrent : List Term → (Variable → Option ℕ) → State → Type 0
 IsCurrent trees ids state = (v : Variable) → state_of trees ids v ≡ state v
 
+-- so has a map of ids of this bank
+pub record IsMapOf (trees : List Term) (ids : Variable → Option ℕ) (state : State) : Type 0 where
+  pub current : IsCurrent trees ids state
+  pub below : AreBelow (length trees) ids
+
 -- at each number below the count there is an id of a bank of so many terms
 abbrev pub IsFull : (terms count : ℕ) → (ℕ → Option ℕ) → Type 0
 IsFull terms count ids = (k : ℕ) → k < count → (id : ℕ) × (ids k ≡ Some id) × (id < terms)

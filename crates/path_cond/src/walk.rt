@@ -99,7 +99,7 @@ fn add_visits(
 }
 
 // A copy of a state.
-fn copied(start: &State) -> Result<State, AllocError>
+pub(crate) fn copied(start: &State) -> Result<State, AllocError>
     ensures { IfOk result (λ m. get same_variable m ≡ get same_variable start.now) }
 {
     start.clone()

@@ -1,7 +1,6 @@
 use Rattle.std.proofs.Common.{◌≡◌, ◌∙◌, ℕ, ◌<◌, ◌∷◌, [], List, length, get_or, map, sym, subst, arith}
 use Rattle.std.proofs.lemmas.List.{length-map, get_or_default}
 use Rattle.std.proofs.Math.ListN.{get_or-map}
-use Rattle.graph_spec.specs.Graph as spec
 use Rattle.graph_core.specs.declared.graph.Node.{Node}
 use Rattle.graph_core.specs.Graphs.{node_of}
 use Rattle.path_cond.specs.Bound.{IsListedNode}

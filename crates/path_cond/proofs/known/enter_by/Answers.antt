@@ -1,9 +1,8 @@
-use Rattle.std.proofs.Common.{◌≡◌, ◌∙◌, List, ℕ, length, map, sym, ap, ap₂, subst}
+use Rattle.std.proofs.Common.{◌∙◌, List, ℕ, length, map, sym, subst}
 use Rattle.term_spec.specs.Term.{Term}
 use Rattle.path_cond.specs.declared.ids.Ids.{Ids}
 use Rattle.path_cond.specs.Known.{AreConditionals}
 use Rattle.path_cond.specs.Merged.{AreIds}
-use Rattle.path_cond.specs.Table.{edge_id}
 use Rattle.path_cond.specs.United.{AreFull}
 use Rattle.path_cond.proofs.Arriving.{source_of, arriving_ids, arriving_full, edges_conditionals}
 use Rattle.path_cond.proofs.known.enter_by.Goals as goal

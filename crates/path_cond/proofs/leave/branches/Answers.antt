@@ -4,7 +4,7 @@ use Rattle.term_spec.specs.Same.{same_variable}
 use Rattle.term_spec.specs.Substitution.{State, substituted}
 use Rattle.term_spec.specs.Term.{Term, not_term}
 use Rattle.term_core.specs.Trees.{term_of}
-use Rattle.term_bank.specs.Nodes.{tree_at, Holds, Extends}
+use Rattle.term_bank.specs.Nodes.{Holds}
 use Rattle.term_bank.proofs.Substitution.{kept}
 use Rattle.term_substitution.specs.States.{state_of}
 use Rattle.path_cond.proofs.Banks.{extends_then, tree_is}

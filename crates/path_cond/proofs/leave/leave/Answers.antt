@@ -1,9 +1,8 @@
-use Rattle.std.proofs.Common.{◌≡◌, Some, None, sym, subst}
+use Rattle.std.proofs.Common.{sym, subst}
 use Rattle.std.proofs.lemmas.Result.{IfOk-weaker}
 use Rattle.std.specs.Prelude.{Option}
 use Rattle.graph_spec.specs.Graph.{Node}
 use Rattle.graph_core.specs.Graphs.{graph_of, node_of}
-use Rattle.condition_spec.specs.Conditions.{node_of_place}
 use Rattle.path_cond.specs.Branches.{IsLeft}
 use Rattle.path_cond.proofs.Left.{listed_place}
 use Rattle.path_cond.proofs.leave.leave.Goals as goal

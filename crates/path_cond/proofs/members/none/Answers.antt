@@ -1,4 +1,4 @@
-use Rattle.std.proofs.Common.{List, refl}
+use Rattle.std.proofs.Common.{List}
 use Rattle.term_spec.specs.Term.{Term}
 use Rattle.path_cond.specs.Ids.{id_at}
 use Rattle.path_cond.proofs.Changed.{state_later, state_same}

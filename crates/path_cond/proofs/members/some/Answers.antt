@@ -1,9 +1,6 @@
 use Rattle.std.proofs.Common.{◌≡◌, ◌∙◌, List, ℕ, ◌<◌, length, map, sym, ap, subst}
 use Rattle.std.specs.List.{All}
 use Rattle.term_spec.specs.Term.{Term}
-use Rattle.term_spec.specs.Substitution.{State}
-use Rattle.graph_spec.specs.Graph.{Graph}
-use Rattle.condition_spec.specs.Junctions.{Junction}
 use Rattle.condition_spec.specs.Conditions.{conditional_at, conditionals}
 use Rattle.path_cond.specs.declared.ids.Ids.{Ids}
 use Rattle.path_cond.specs.Known.{AreConditionals}

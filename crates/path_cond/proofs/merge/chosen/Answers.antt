@@ -1,6 +1,6 @@
-use Rattle.std.proofs.Common.{◌≡◌, ◌∙◌, ℕ, ◌+◌, ◌-◌, ◌<◌, length, get_or, map, drop, Some, sym, ap, ap₂, refl, subst, arith}
-use Rattle.term_spec.specs.Term.{Term, choose}
-use Rattle.term_bank.specs.Nodes.{tree_at, Holds}
+use Rattle.std.proofs.Common.{◌≡◌, ◌∙◌, ℕ, ◌+◌, ◌-◌, ◌<◌, length, get_or, map, drop, Some, sym, ap, refl, arith}
+use Rattle.term_spec.specs.Term.{choose}
+use Rattle.term_bank.specs.Nodes.{tree_at}
 use Rattle.term_bank.proofs.Growth.{held}
 use Rattle.path_cond.specs.Merged.{chosen_term}
 use Rattle.path_cond.proofs.Banks.{extends_itself, extends_then, within_longer, within, tree_is, kept_tree}

@@ -1,4 +1,4 @@
-use Rattle.std.proofs.Common.{◌≡◌, ◌∙◌, ℕ, ◌==◌, true, false, if◌then◌else◌, get_or, map, Some, sym, ap, subst}
+use Rattle.std.proofs.Common.{◌≡◌, ◌∙◌, ℕ, ◌==◌, true, false, get_or, map, Some, sym, ap, subst}
 use Rattle.std.specs.List.{list_all}
 use Rattle.term_spec.specs.Term.{Term}
 use Rattle.term_bank.specs.Nodes.{tree_at}

@@ -1,11 +1,9 @@
-use Rattle.std.proofs.Common.{◌≡◌, ◌∙◌, ℕ, ◌<◌, List, length, map, Some, ap, ap₂, sym, arith}
-use Rattle.std.specs.Prelude.{slice_get}
+use Rattle.std.proofs.Common.{◌≡◌, ◌∙◌, ℕ, ◌<◌, List, length, Some, ap, ap₂, sym, arith}
 use Rattle.std.proofs.lemmas.List.{length-map}
 use Rattle.std.proofs.lemmas.Option.{slice_get_within}
 use Rattle.term_spec.specs.Term.{Term}
 use Rattle.term_bank.specs.Nodes.{tree_at}
 use Rattle.term_bank.proofs.Substitution.{kept}
-use Rattle.condition_spec.specs.Conditions.{Conditional}
 use Rattle.path_cond.specs.Ids.{id_at}
 use Rattle.path_cond.specs.Merged.{any_term, merged_term}
 use Rattle.path_cond.proofs.Conditionals.{condition_of, any_is, merged_is_state, merged_outside}

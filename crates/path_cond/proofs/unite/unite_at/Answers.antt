@@ -1,4 +1,4 @@
-use Rattle.std.proofs.Common.{◌≡◌, ◌∙◌, List, ℕ, length, sym, ap, subst}
+use Rattle.std.proofs.Common.{◌≡◌, ◌∙◌, length, sym, ap, subst}
 use Rattle.path_cond.specs.Merged.{AreIds}
 use Rattle.path_cond.specs.United.{ids_of}
 use Rattle.path_cond.proofs.Uniting.{found_ids}

@@ -1,11 +1,11 @@
-use Rattle.std.proofs.Common.{◌≡◌, ◌∙◌, ◌⊎◌, ℕ, ◌+◌, ◌<◌, List, length, get_or, Option, Some, refl, sym, ap, subst, inl, inr, arith}
+use Rattle.std.proofs.Common.{◌≡◌, ◌∙◌, ℕ, List, length, get_or, Option, Some, refl, sym, ap, subst, inl, inr, arith}
 use Rattle.std.specs.Prelude.{slice_get, option_and_then}
 use Rattle.std.proofs.lemmas.Bool.{cases_lt}
 use Rattle.std.proofs.lemmas.Option.{slice_get_within, slice_get_read}
 use Rattle.term_spec.specs.Term.{Term}
 use Rattle.path_cond.specs.declared.ids.Ids.{Ids}
 use Rattle.path_cond.specs.Ids.{id_at}
-use Rattle.path_cond.specs.United.{IsUnitedAt, id_of}
+use Rattle.path_cond.specs.United.{IsUnitedAt}
 use Rattle.path_cond.proofs.Banks.{extends_itself, extends_then, within_longer}
 use Rattle.path_cond.proofs.Uniting.{full_at, united_earlier, united_later}
 use Rattle.path_cond.proofs.unite.unite_from.Goals as goal

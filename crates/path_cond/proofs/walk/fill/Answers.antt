@@ -1,8 +1,5 @@
-use Rattle.std.proofs.Common.{◌≡◌, ◌∙◌, List, length, ap, sym, subst, arith}
 use Rattle.std.specs.HashMap.{get}
-use Rattle.term_spec.specs.declared.Variable.{Variable}
 use Rattle.term_spec.specs.Same.{same_variable}
-use Rattle.term_spec.specs.Term.{Term}
 use Rattle.term_spec.specs.Substitution.{State}
 use Rattle.term_substitution.specs.States.{state_of}
 use Rattle.path_cond.specs.Ids.{id_at}

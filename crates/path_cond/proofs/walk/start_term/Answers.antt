@@ -1,10 +1,9 @@
-use Rattle.std.proofs.Common.{◌≡◌, ◌∙◌, Option, Some, sym, ap, arith, rules}
+use Rattle.std.proofs.Common.{◌≡◌, ◌∙◌, Some, sym, ap, rules}
 use Rattle.std.specs.HashMap.{get}
 use Rattle.term_spec.specs.Same.{same_variable}
 use Rattle.term_spec.specs.Term.{open_term}
 use Rattle.term_bank.proofs.Growth.{held}
-use Rattle.term_bank.specs.Nodes.{Holds}
-use Rattle.term_substitution.specs.States.{tree_or, state_of}
+use Rattle.term_substitution.specs.States.{tree_or}
 use Rattle.path_cond.proofs.walk.start_term.Goals as goal
 
 pub returns-in-Some-clause-tree : goal.returns-in-Some-clause-tree
