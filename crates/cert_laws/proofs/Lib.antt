@@ -1,0 +1,14 @@
+pub mod Bytes
+pub mod Words
+pub mod Decimals
+pub mod Addresses
+pub mod Items
+pub mod Loops
+pub mod Names
+pub mod Ends
+pub mod Points
+pub mod Steps
+pub mod Symbols
+pub mod Lines
+pub mod Certificates
+pub mod Worked
