@@ -1,6 +1,7 @@
 /* Checks steps of a log, as the crate clause_check does: the checker in C that scripts/measure_log.py compares it with.
 
-   log_checker STEPS HINTS MORE ROUNDS
+   log_checker STEPS HINTS MORE ROUNDS      a chain of clauses
+   log_checker FILE ROUNDS                  the log of a file: variables, and lines of literals, 0, hints, 0; a clause has no hints
 
    A literal is twice its variable, and one more for the negation. All clauses are in one array, with the offsets at
    which they end. A literal is false where its stamp is the step's number. */
@@ -137,9 +138,83 @@ static enum fault checked(size_t steps, size_t hints, size_t more)
     return fault;
 }
 
+struct lines {
+    size_t variables, count, numbers;
+    size_t line_room, number_room;
+    size_t *starts, *middles; /* where the literals of a line begin, and its hints */
+    size_t *all;
+};
+
+/* the numbers of a file: literals by their codes */
+static int read_lines(struct lines *lines, const char *name)
+{
+    FILE *file = fopen(name, "r");
+    long number;
+    int in_hints = 0;
+    if (!file || fscanf(file, "%zu", &lines->variables) != 1)
+        return 0;
+    lines->starts = malloc(sizeof *lines->starts), lines->middles = malloc(sizeof *lines->middles);
+    lines->line_room = 1;
+    size_t middle_room = 1;
+    while (fscanf(file, "%ld", &number) == 1) {
+        if (!grow((void **)&lines->all, &lines->number_room, lines->numbers + 1, sizeof *lines->all))
+            return 0;
+        if (!in_hints && number) {
+            lines->all[lines->numbers++] = number < 0 ? -2 * number + 1 : 2 * number;
+        } else if (number) {
+            lines->all[lines->numbers++] = number;
+        } else if (!in_hints) {
+            if (!grow((void **)&lines->middles, &middle_room, lines->count + 1, sizeof *lines->middles))
+                return 0;
+            lines->middles[lines->count] = lines->numbers, in_hints = 1;
+        } else {
+            if (!grow((void **)&lines->starts, &lines->line_room, lines->count + 2, sizeof *lines->starts))
+                return 0;
+            lines->starts[++lines->count] = lines->numbers, in_hints = 0;
+        }
+    }
+    fclose(file);
+    return 1;
+}
+
+static enum fault check_lines(const struct lines *lines)
+{
+    struct log log = { .variables = lines->variables };
+    enum fault fault = NONE;
+    uint32_t *literals = malloc((lines->numbers + 1) * sizeof *literals);
+    log.stamps = calloc(2 * log.variables + 2, sizeof *log.stamps);
+    if (!log.stamps || !literals)
+        fault = MEMORY;
+    for (size_t i = 0; !fault && i < lines->numbers; i++)
+        literals[i] = lines->all[i];
+    for (size_t i = 0; !fault && i < lines->count; i++) {
+        size_t start = i ? lines->starts[i] : 0, middle = lines->middles[i], end = lines->starts[i + 1];
+        if (middle == end)
+            fault = push(&log, literals + start, middle - start) ? NONE : MEMORY;
+        else
+            fault = step(&log, literals + start, middle - start, lines->all + middle, end - middle);
+    }
+    free(log.ends), free(log.literals), free(log.stamps), free(literals);
+    return fault;
+}
+
+static int check_file(const char *name, long rounds)
+{
+    struct lines lines = { 0 };
+    enum fault fault = NONE;
+    if (!read_lines(&lines, name))
+        return 2;
+    for (; !fault && rounds > 0; rounds--)
+        fault = check_lines(&lines);
+    puts(fault ? "false" : "true");
+    return 0;
+}
+
 int main(int count, char **words)
 {
     enum fault fault = NONE;
+    if (count == 3)
+        return check_file(words[1], atol(words[2]));
     if (count != 5)
         return 2;
     for (long i = atol(words[4]); !fault && i > 0; i--)

@@ -1,22 +1,27 @@
 #!/usr/bin/env python3
 """Measures how fast logs of steps are checked, beside a checker in C, and the memory that their literals take.
 
-    scripts/measure_log.py
+    scripts/measure_log.py                 chains of clauses
+    scripts/measure_log.py own [PROGRAM]   the logs of the search on goals of words (`compare_search.py`)
 
 It is run outside the gate and needs `rt`, gcc and GNU `time` (Debian: time) on the path. It proves the checker and a
 small program in a scratch repository and runs it as it is compiled; the checker in C (`log_checker.c` beside this
 script) is compiled by gcc -O2. Both programs add one step again and again over a chain of clauses, each of which is a
 hint, and begin anew as often as the last argument says, so that a run takes long enough to be timed. Runs of the two
 alternate, and of each the one with the least processor time counts. Each row is a chain: steps, hints a step, literals
-a hint's clause, millions of hints a second here and in C, their quotient, and the peak of memory of one round.
+a hint's clause, millions of hints a second here and in C, their quotient, and the peak of memory of one round. The
+logs of the search are those that `sat_rows` prints, as `rt run` builds it in its folder; reading a log counts in no run.
 """
 
 import resource
 import subprocess
+import sys
 import tempfile
 from pathlib import Path
 
+from compare_search import LIMIT, asked, goals, question
 from probe import ROOT, built, timed
+from terms import clauses
 
 CRATES = ["clause_spec", "cnf_core", "clause_check"]
 
@@ -115,6 +120,131 @@ fn main(rt: HostRuntime) -> anyhow::Result<()> {
 }
 """
 
+LOGS = r"""//! Checks a log again and again. Its argument is how often; its input has the number of variables, and lines of
+//! literals, 0, hints, 0, in which a given clause has no hints.
+#![tactic(auto)]
+
+ghost use Rattle.std.specs.Prelude.{◌≡◌, true};
+ghost use Rattle.std.specs.List.{list_all};
+ghost use Rattle.clause_spec.specs.Clause.{is_of};
+
+mod numbers;
+
+use clause_check::{Log, StepError};
+use cnf_core::{Cnf, Literal};
+use numbers::{argument, decimal};
+use std::alloc::{AllocError, Global};
+use std::env;
+use std::io::{BufRead, BufReader};
+
+#[derive(Drop)]
+struct Line {
+    literals: Vec<Literal>,
+    hints: Vec<usize>,
+}
+
+fn literal(word: &str) -> Literal {
+    let (digits, is_negated) = match word.strip_prefix('-') {
+        Some(rest) => (rest, true),
+        None => (word, false),
+    };
+    match Literal::try_new(decimal(digits), is_negated) {
+        Some(literal) => literal,
+        None => Literal::from_code(0),
+    }
+}
+
+fn literals_of(alloc: Global, text: &str) -> Result<Vec<Literal>, AllocError> {
+    let mut literals = Vec::new(alloc);
+    for word in text.split(' ') {
+        if !word.is_empty() {
+            literals.push(literal(word))?;
+        }
+    }
+    Ok(literals)
+}
+
+fn hints_of(alloc: Global, text: &str) -> Result<Vec<usize>, AllocError> {
+    let mut hints = Vec::new(alloc);
+    for word in text.split(' ') {
+        if !word.is_empty() {
+            hints.push(decimal(word))?;
+        }
+    }
+    Ok(hints)
+}
+
+fn line_of(alloc: Global, text: &str) -> Result<Line, AllocError> {
+    let (literals, hints) = text.split_once(';').unwrap_or((text, ""));
+    Ok(Line {
+        literals: literals_of(alloc, literals)?,
+        hints: hints_of(alloc, hints)?,
+    })
+}
+
+fn is_fit(literals: &[Literal], variables: usize) -> bool
+    ensures { result ≡ list_all (is_of variables) literals.now }
+{
+    literals.iter().all(|literal| literal.is_of(variables))
+}
+
+fn push(cnf: &mut Cnf, clause: &[Literal]) -> Result<(), AllocError> {
+    if is_fit(clause, cnf.variables()) {
+        cnf.push(clause)?;
+    }
+    Ok(())
+}
+
+fn given(alloc: Global, variables: usize, lines: &[Line]) -> Result<Cnf, AllocError> {
+    let mut cnf = Cnf::new(alloc, variables);
+    for line in lines {
+        if line.hints.is_empty() {
+            push(&mut cnf, line.literals.as_slice())?;
+        }
+    }
+    Ok(cnf)
+}
+
+fn add_steps(log: &mut Log, lines: &[Line]) -> Result<(), StepError> {
+    for line in lines {
+        if !line.hints.is_empty() {
+            log.step(line.literals.as_slice(), line.hints.as_slice())?;
+        }
+    }
+    Ok(())
+}
+
+fn checked(alloc: Global, variables: usize, lines: &[Line]) -> Result<(), StepError> {
+    let cnf = given(alloc, variables, lines)?;
+    let mut log = Log::new(alloc, cnf)?;
+    add_steps(&mut log, lines)
+}
+
+fn all_checked(alloc: Global, rounds: usize, variables: usize, lines: &[Line]) -> Result<(), StepError> {
+    for _ in 0..rounds {
+        checked(alloc, variables, lines)?;
+    }
+    Ok(())
+}
+
+fn main(rt: HostRuntime) -> anyhow::Result<()> {
+    let words: Vec<String> = env::args(&rt)?.collect(rt.alloc())?;
+    let mut variables = 0;
+    let mut lines = Vec::new(rt.alloc());
+    for (index, line) in BufReader::new(rt.alloc(), rt.reader())?.lines(rt.alloc()).enumerate() {
+        let line = line?;
+        if index == 0 {
+            variables = decimal(line.as_str());
+        } else {
+            lines.push(line_of(rt.alloc(), line.as_str())?)?;
+        }
+    }
+    let ended = all_checked(rt.alloc(), argument(words.as_slice(), 1), variables, lines.as_slice()).is_ok();
+    println!(rt; "{ended}")?;
+    Ok(())
+}
+"""
+
 # steps, hints a step, further literals a clause, rounds
 CHAINS = [(1000, 1000, 0, 100), (1000, 1000, 8, 50), (100000, 10, 0, 100), (100000, 10, 8, 50)]
 
@@ -122,31 +252,81 @@ CHAINS = [(1000, 1000, 0, 100), (1000, 1000, 8, 50), (100000, 10, 0, 100), (1000
 RUNS = 9
 
 
-def processor_seconds(program, words):
-    """The processor time of a run with these arguments."""
+def processor_seconds(program, words, text=""):
+    """The processor time of a run with these arguments and this input."""
     before = resource.getrusage(resource.RUSAGE_CHILDREN)
-    ran = subprocess.run([str(program)] + [str(word) for word in words], capture_output=True, text=True, check=True)
+    ran = subprocess.run([str(program)] + [str(word) for word in words], input=text, capture_output=True, text=True, check=True)
     after = resource.getrusage(resource.RUSAGE_CHILDREN)
     assert ran.stdout == "true\n", ran.stdout
     return after.ru_utime + after.ru_stime - before.ru_utime - before.ru_stime
+
+
+def chains(folder, in_c):
+    program = built(folder, PROBE, CRATES)
+    print("| Steps | Hints a step | Literals a hint | Million hints a second | In C | Quotient | Peak MiB |")
+    print("|---|---|---|---|---|---|---|")
+    for steps, hints, more, rounds in CHAINS:
+        best = {program: 1e9, in_c: 1e9}
+        for _ in range(RUNS):
+            for each in best:
+                best[each] = min(best[each], processor_seconds(each, (steps, hints, more, rounds)))
+        _, _, peak = timed(program, (steps, hints, more, 1))
+        ours, c = (steps * hints * rounds / best[each] / 1e6 for each in (program, in_c))
+        cells = (steps, hints, more + 2, f"{ours:.0f}", f"{c:.0f}", f"{ours / c:.2f}", f"{peak:.1f}")
+        print("| " + " | ".join(str(cell) for cell in cells) + " |", flush=True)
+
+
+# ---- logs of the search
+
+
+def log_of(search, count, rows):
+    """The steps of the log that closes clauses, each as its literals and its hints."""
+    (found,), _ = asked(search, [question("log ", LIMIT, count, rows)])
+    steps, part = [], []
+    for number in map(int, found.split()):
+        if number:
+            part.append(number)
+            continue
+        steps.append(part)
+        part = []
+    return list(zip(steps[::2], steps[1::2]))
+
+
+def words_of(numbers):
+    return " ".join(map(str, numbers))
+
+
+def own(folder, in_c, search):
+    program = built(folder, LOGS, CRATES)
+    print("| Goal | Steps | Hints | Seconds a check | In C | Quotient |")
+    print("|---|---|---|---|---|---|")
+    for name, goal in goals():
+        count, rows = clauses(goal)
+        steps = log_of(search, count, rows)
+        hints = sum(len(hints) for _, hints in steps)
+        if not steps:
+            continue
+        ours = "".join([f"{count}\n", *[f"{words_of(row)};\n" for row in rows], *[f"{words_of(a)};{words_of(b)}\n" for a, b in steps]])
+        path = folder / "log"
+        path.write_text(f"{count}\n" + "".join(f"{words_of(a)} 0 {words_of(b)} 0\n" for a, b in [*[(row, []) for row in rows], *steps]))
+        rounds = max(1, 30_000_000 // (hints + sum(map(len, rows)) + 1))
+        best = [[1e9, 1e9], [1e9, 1e9]]
+        for _ in range(RUNS):
+            for i, turns in enumerate((0, rounds)):
+                best[0][i] = min(best[0][i], processor_seconds(program, [turns], ours))
+                best[1][i] = min(best[1][i], processor_seconds(in_c, [path, turns]))
+        here, c = ((many - none) / rounds for none, many in best)
+        print(f"| {name} | {len(steps)} | {hints} | {here:.6f} | {c:.6f} | {here / c:.2f} |", flush=True)
 
 
 def main():
     with tempfile.TemporaryDirectory() as folder:
         in_c = Path(folder, "log_checker")
         subprocess.run(["gcc", "-O2", "-o", str(in_c), str(ROOT / "scripts/log_checker.c")], check=True)
-        program = built(Path(folder), PROBE, CRATES)
-        print("| Steps | Hints a step | Literals a hint | Million hints a second | In C | Quotient | Peak MiB |")
-        print("|---|---|---|---|---|---|---|")
-        for steps, hints, more, rounds in CHAINS:
-            best = {program: 1e9, in_c: 1e9}
-            for _ in range(RUNS):
-                for each in best:
-                    best[each] = min(best[each], processor_seconds(each, (steps, hints, more, rounds)))
-            _, _, peak = timed(program, (steps, hints, more, 1))
-            ours, c = (steps * hints * rounds / best[each] / 1e6 for each in (program, in_c))
-            cells = (steps, hints, more + 2, f"{ours:.0f}", f"{c:.0f}", f"{ours / c:.2f}", f"{peak:.1f}")
-            print("| " + " | ".join(str(cell) for cell in cells) + " |", flush=True)
+        if sys.argv[1:2] == ["own"]:
+            own(Path(folder), in_c, Path(sys.argv[2]) if len(sys.argv) > 2 else ROOT / "crates/sat_rows/out/sat_rows")
+        else:
+            chains(Path(folder), in_c)
 
 
 if __name__ == "__main__":

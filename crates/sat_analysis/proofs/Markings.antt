@@ -41,14 +41,6 @@ set_marked marks i j marked =
       | inr other ↦ inl (sym (get_or-set_other marks j i true false other) ∙ marked)
     ]
 
-pub nothing_marking : (trail : List Entry) (excepted : Literal) (marks : List Bool) → IsMarking trail [] excepted marks marks
-nothing_marking trail excepted marks = record {
-  count = refl;
-  kept = λ i h. h;
-  all = λ l h. absurd (has_nothing l h);
-  only = λ i h. inl h;
-}
-
 false_at_more : (trail : List Entry) (clause : Clause) (l : Literal) (i : ℕ) → IsFalseAt trail clause i → IsFalseAt trail (clause ++ l ∷ []) i
 false_at_more trail clause l i at = record { entry = at.entry; there = at.there; has = has_left clause (l ∷ []) (negation at.entry.literal) at.has }
 
@@ -115,9 +107,6 @@ marking_more trail clause excepted l first marks place count at marking = record
             })
       ];
 }
-
-pub not_absent : (trail : List Entry) (end : ℕ) (l : Literal) → IsAbsent trail l → IsTrueBefore trail end l → ⊥
-not_absent trail end l absent before = absent before.place before.entry before.there before.same
 
 -- ---- literals of clauses
 

@@ -51,18 +51,6 @@ resolved clauses trail place entry clause old marks learnt hints sound here posi
     (explains_resolve trail.variables clauses trail.entries old marks learnt (reverse hints) place entry sound.is_trail here marked forced.0
     (subst (λ c. IsMarking trail.entries c entry.literal old marks) (sym forced.1) marking) explains)
 
--- entries of level 0 are forced, and so are all but the first of a level
-pub level_0_forced : (clauses : List Clause) (trail : Trailed) (place : ℕ) (entry : Entry) → IsSound clauses trail → slice_get trail.entries place ≡ Some entry
-    → entry.level ≡ 0 → 0 < entry.reason
-level_0_forced clauses trail place entry sound here e =
-    elim (zero_or (entry.reason)) [
-      | inl none ↦ let decided = sound.is_trail.decided place entry here none in let positive = decided.positive in absurd (omega (arith, positive, e))
-      | inr some ↦ some
-    ]
-  where
-    zero_or : (n : ℕ) → (n ≡ 0) ⊎ (0 < n)
-    zero_or n = grind arith
-
 pub later_forced : (clauses : List Clause) (trail : Trailed) (start i : ℕ) (entry : Entry) → IsSound clauses trail → 0 < trail.level
     → IsCut trail.entries (trail.level - 1) start → start < i → slice_get trail.entries i ≡ Some entry → 0 < entry.reason
 later_forced clauses trail start i entry sound decided cut lt here =
@@ -131,9 +119,6 @@ pub kept : (clauses : List Clause) (trail : Trailed) (marks : List Bool) (learnt
     → ExplainsBack clauses trail marks (learnt ++ negation entry.literal ∷ []) hints place
 kept clauses trail marks learnt hints place entry sound here explains =
     explains_keep trail.variables clauses trail.entries marks learnt (reverse hints) place entry sound.is_trail here explains
-
-pub learnt_nothing : (trail : Trailed) (end : ℕ) (learnt : List Literal) → AreLearntBelow trail end learnt learnt
-learnt_nothing trail end learnt = record { more = []; same = sym (append-nil learnt); earlier = λ l h. absurd (has_nothing l h) }
 
 pub learnt_more : (trail : Trailed) (end : ℕ) (before learnt : List Literal) (place : ℕ) (entry : Entry) → slice_get trail.entries place ≡ Some entry → 0 < entry.level → place < end
     → AreLearntBelow trail end before learnt → AreLearntBelow trail end before (learnt ++ negation entry.literal ∷ [])

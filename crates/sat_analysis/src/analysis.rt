@@ -2,9 +2,11 @@ ghost use Rattle.std.specs.Prelude.{◌≡◌, ℕ, ◌+◌, ◌-◌, ◌<◌, �
 ghost use Rattle.std.specs.Prelude.{IfOk};
 ghost use Rattle.sat_spec.specs.Clauses.{AreLive};
 ghost use Rattle.sat_spec.specs.Trail.{IsSound, IsConflict, IsCut, truths};
-ghost use Rattle.sat_analysis.specs.Explained.{ExplainsBack, IsAnalysed, IsEmptyLearnt, IsConflictMarked};
+ghost use Rattle.sat_analysis.specs.Explained.{ExplainsBack, IsAnalysed, IsEmptyLearnt};
+ghost use Rattle.sat_analysis.specs.Explained.{IsConflictMarked};
 
 use crate::marks::{last_marked, mark_clause};
+use crate::minimisation::Note;
 use crate::resolution::{explain_below, find_uip};
 use cnf_core::{ClauseList, Literal, negation};
 use sat_log::Step;
@@ -20,7 +22,8 @@ fn conflict_marks(
 ) -> Result<Vec<bool>, AllocError>
     requires sound { IsSound clauses.now.clauses trail.now }
     requires conflict { IsConflict clauses.now.clauses trail.now.entries conflict }
-    ensures { IfOk result (λ marks. IsConflictMarked clauses.now.clauses trail.now conflict marks.items) }
+    ensures { IfOk result (λ marks. IsConflictMarked clauses.now.clauses trail.now conflict
+        marks.items) }
 {
     let mut marks = vec![in alloc; false; trail.len()]?;
     let foreign = Literal::new(0, false);
@@ -64,12 +67,14 @@ pub fn analyse(
         &mut hints,
     )?;
     let mut learnt = vec![in alloc; negation(trail.entry(uip).literal)]?;
+    let mut notes = vec![in alloc; Note::Unknown; start]?;
     explain_below(
         clauses,
         trail,
         start,
         &mut learnt,
         marks.as_mut_slice(),
+        notes.as_mut_slice(),
         &mut hints,
     )?;
     hints.reverse();
@@ -91,12 +96,14 @@ pub fn close(
     let mut marks = conflict_marks(alloc, clauses, trail, conflict)?;
     let mut hints = vec![in alloc; conflict]?;
     let mut learnt = Vec::new(alloc);
+    let mut notes = Vec::new(alloc);
     explain_below(
         clauses,
         trail,
         trail.len(),
         &mut learnt,
         marks.as_mut_slice(),
+        notes.as_mut_slice(),
         &mut hints,
     )?;
     hints.reverse();

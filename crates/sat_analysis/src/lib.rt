@@ -8,6 +8,7 @@
 
 mod analysis;
 mod marks;
+mod minimisation;
 mod resolution;
 
 pub use analysis::{analyse, close};

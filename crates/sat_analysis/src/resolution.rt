@@ -1,7 +1,6 @@
 ghost use Rattle.std.specs.Prelude.{◌≡◌, ◌⊎◌, ℕ, ◌+◌, ◌-◌, ◌<◌, ◌≤◌, ◌++◌, ◌∷◌, [], List, length};
 ghost use Rattle.std.specs.Prelude.{slice_get, Some, true, IfOk, OnOk};
 ghost use Rattle.clause_spec.specs.declared.Literal.{Literal as Lit};
-ghost use Rattle.clause_spec.specs.Clause.{is_of};
 ghost use Rattle.sat_spec.specs.declared.Entry.{Entry as Item};
 ghost use Rattle.sat_spec.specs.Trail.{IsSound};
 ghost use Rattle.sat_spec.specs.Analysis.{IsMarked};
@@ -9,8 +8,8 @@ ghost use Rattle.sat_analysis.specs.Marks.{IsLastMarked};
 ghost use Rattle.sat_analysis.specs.Explained.{ExplainsBack, IsUip, IsDone, AreLearntBelow};
 
 use crate::marks::{last_marked, last_marked_from, mark_clause};
+use crate::minimisation::{MAX_DEPTH, Note, is_implied};
 use cnf_core::{ClauseList, Literal, negation};
-use sat_spec::is_same;
 use sat_trail::Trail;
 use std::alloc::AllocError;
 
@@ -56,9 +55,11 @@ pub fn find_uip(
     requires sound { IsSound clauses.now.clauses trail.now }
     requires count { length marks.old ≡ length trail.now.entries }
     requires last { IsLastMarked marks.old start (length trail.now.entries) last }
-    requires forced { (i : ℕ) (entry : Item) → start < i → slice_get trail.now.entries i ≡ Some entry
+    requires forced { (i : ℕ) (entry : Item) → start < i
+        → slice_get trail.now.entries i ≡ Some entry
         → 0 < entry.reason }
-    requires explains { ExplainsBack clauses.now.clauses trail.now marks.old [] hints.old.items (last + 1) }
+    requires explains { ExplainsBack clauses.now.clauses trail.now marks.old [] hints.old.items
+        (last + 1) }
     ensures count { length marks.new ≡ length marks.old }
     ensures uip { IfOk result (λ place. IsUip clauses.now.clauses trail.now start marks.new
         hints.new.items place) }
@@ -71,39 +72,6 @@ pub fn find_uip(
     Ok(place)
 }
 
-/// Whether all other literals of the reason of an entry are false by marked entries, or before every
-/// decision: then the negation of the entry need not be learnt.
-fn is_implied(clauses: &ClauseList, trail: &Trail, place: usize, marks: &[bool]) -> bool
-    requires sound { IsSound clauses.now.clauses trail.now }
-    requires count { length marks.now ≡ length trail.now.entries }
-    requires within { place < length trail.now.entries }
-    requires forced { (entry : Item) → slice_get trail.now.entries place ≡ Some entry
-        → 0 < entry.reason }
-{
-    let entry = trail.entry(place);
-    let forced = entry.literal;
-    for literal in clauses.clause(entry.reason - 1) {
-        if !is_covered(*literal, forced, trail, marks) {
-            return false;
-        }
-    }
-    true
-}
-
-/// Whether the literal is the forced one, or false by a marked entry, or before every decision.
-fn is_covered(literal: Literal, forced: Literal, trail: &Trail, marks: &[bool]) -> bool
-    requires of_variables { is_of trail.now.variables literal ≡ true }
-    requires count { length marks.now ≡ length trail.now.entries }
-{
-    if is_same(literal, forced) {
-        return true;
-    }
-    match trail.place(negation(literal)) {
-        Some(place) => marks[place] || trail.entry(place).level == 0,
-        None => false,
-    }
-}
-
 /// Learns the negation of a marked entry, or resolves it.
 fn explain_entry(
     clauses: &ClauseList,
@@ -111,6 +79,7 @@ fn explain_entry(
     place: usize,
     learnt: &mut Vec<Literal>,
     marks: &mut [bool],
+    notes: &mut [Note],
     hints: &mut Vec<usize>,
 ) -> Result<(), AllocError>
     requires sound { IsSound clauses.now.clauses trail.now }
@@ -118,14 +87,18 @@ fn explain_entry(
     requires within { place < length trail.now.entries }
     ensures count { length marks.new ≡ length marks.old }
     ensures explains { OnOk result (IsMarked marks.old place
-        → ExplainsBack clauses.now.clauses trail.now marks.old learnt.old.items hints.old.items (place + 1)
-        → ExplainsBack clauses.now.clauses trail.now marks.new learnt.new.items hints.new.items place) }
+        → ExplainsBack clauses.now.clauses trail.now marks.old learnt.old.items hints.old.items
+        (place + 1)
+        → ExplainsBack clauses.now.clauses trail.now marks.new learnt.new.items hints.new.items
+        place) }
     ensures learnt { OnOk result ((end : ℕ) (before : List Lit) → place < end
         → AreLearntBelow trail.now end before learnt.old.items
         → AreLearntBelow trail.now end before learnt.new.items) }
 {
     let entry = trail.entry(place);
-    if entry.level == 0 || entry.reason != 0 && is_implied(clauses, trail, place, marks) {
+    if entry.level == 0
+        || entry.reason != 0 && is_implied(clauses, trail, place, marks, notes, MAX_DEPTH)
+    {
         return resolve(clauses, trail, place, marks, hints);
     }
     learnt.push(negation(entry.literal))?;
@@ -139,18 +112,21 @@ pub fn explain_below(
     end: usize,
     learnt: &mut Vec<Literal>,
     marks: &mut [bool],
+    notes: &mut [Note],
     hints: &mut Vec<usize>,
 ) -> Result<(), AllocError>
     requires sound { IsSound clauses.now.clauses trail.now }
     requires count { length marks.old ≡ length trail.now.entries }
     requires within { end ≤ length trail.now.entries }
-    requires explains { ExplainsBack clauses.now.clauses trail.now marks.old learnt.old.items hints.old.items end }
-    ensures { OnOk result (IsDone clauses.now.clauses trail.now end learnt.old.items learnt.new.items
+    requires explains { ExplainsBack clauses.now.clauses trail.now marks.old learnt.old.items
+        hints.old.items end }
+    ensures { OnOk result (IsDone clauses.now.clauses trail.now end learnt.old.items
+        learnt.new.items
         hints.new.items) }
 {
     let mut place = end;
     while let Some(marked) = last_marked(marks, 0, place) {
-        explain_entry(clauses, trail, marked, learnt, marks, hints)?;
+        explain_entry(clauses, trail, marked, learnt, marks, notes, hints)?;
         place = marked;
     }
     Ok(())

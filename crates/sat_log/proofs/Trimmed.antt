@@ -19,9 +19,6 @@ lt_or_le a b = grind arith
 
 -- ---- places
 
-pub low_nothing : AreLow []
-low_nothing k = omega arith
-
 pub low_more : (places : List ℕ) (place : ℕ) → AreLow places → place ≤ length places → AreLow (places ++ place ∷ [])
 low_more places place low h k =
     elim (lt_or_le k (length places)) [
@@ -64,15 +61,6 @@ step_kept : (given : ℕ) (places : List ℕ) (place : ℕ) (step : Step) → ((
 step_kept given places place step low = ap (λ h. let s : Step = record { literals = step.literals; hints = h } in s) (hints_kept given places place step.hints low)
 
 -- ---- one step more
-
-pub trimming_none : (given : ℕ) (log : List Step) (needed : List Bool) → IsTrimming given log needed 0 [] []
-trimming_none given log needed = record {
-  count = refl;
-  short = omega arith;
-  forth = λ i step below. absurd (omega (arith, below));
-  back = λ j step here. cc;
-  rising = λ i k lt below. absurd (omega (arith, below));
-}
 
 from_more : (given : ℕ) (log : List Step) (needed : List Bool) (done : ℕ) (places : List ℕ) (more place : ℕ) (trimmed : Step) → length places ≡ done → IsBackward given log
     → IsFrom given log needed done places place trimmed → IsFrom given log needed (done + 1) (places ++ more ∷ []) place trimmed

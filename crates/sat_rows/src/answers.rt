@@ -75,3 +75,68 @@ pub(crate) fn answer(
         Found::Limit(steps) => add_limit(alloc, out, cnf, &steps),
     }
 }
+
+/// Adds how many steps, literals and hints a log has.
+fn add_counts(out: &mut String, steps: &[Step]) -> Result<(), AllocError> {
+    let mut literals: usize = 0;
+    let mut hints: usize = 0;
+    for step in steps {
+        literals = literals.wrapping_add(step.literals().len());
+        hints = hints.wrapping_add(step.hints().len());
+    }
+    write!(out, "{} {literals} {hints}", steps.len())
+}
+
+/// Adds a step: its literals and its hints, with a 0 after each.
+fn add_step(out: &mut String, step: &Step) -> Result<(), AllocError> {
+    for literal in step.literals() {
+        let sign = if literal.is_negated() { "-" } else { "" };
+        write!(out, " {sign}{}", literal.variable())?;
+    }
+    out.push_str(" 0")?;
+    for number in step.hints() {
+        write!(out, " {number}")?;
+    }
+    out.push_str(" 0")
+}
+
+/// Adds the answer with the size of its log, which isn't checked.
+pub(crate) fn count(
+    alloc: Global,
+    out: &mut String,
+    cnf: &Cnf,
+    limit: usize,
+) -> Result<(), AllocError> {
+    if cnf.variables() > MAX_VARIABLE {
+        return out.push_str("too many variables");
+    }
+    match solve(alloc, cnf, limit)? {
+        Found::Closed(steps) => {
+            out.push_str("closed ")?;
+            add_counts(out, &steps)
+        }
+        Found::Model(_bits) => out.push_str("model"),
+        Found::Limit(steps) => {
+            out.push_str("limit ")?;
+            add_counts(out, &steps)
+        }
+    }
+}
+
+/// Adds the log that closes the clauses, if there is one.
+pub(crate) fn log(
+    alloc: Global,
+    out: &mut String,
+    cnf: &Cnf,
+    limit: usize,
+) -> Result<(), AllocError> {
+    if cnf.variables() > MAX_VARIABLE {
+        return out.push_str("too many variables");
+    }
+    if let Found::Closed(steps) = solve(alloc, cnf, limit)? {
+        for step in &steps {
+            add_step(out, step)?;
+        }
+    }
+    Ok(())
+}

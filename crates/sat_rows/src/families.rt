@@ -1,4 +1,5 @@
-// Clause sets: listed ones, pigeons in holes, graphs of one cycle in two colours, chains of parities.
+// Clause sets: listed ones, pigeons in holes, graphs of one cycle in two colours, chains of
+// parities.
 
 ghost use Rattle.std.specs.Prelude.{◌≡◌};
 ghost use Rattle.std.specs.List.{list_all};

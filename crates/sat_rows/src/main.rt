@@ -1,9 +1,10 @@
 //! Rows of clauses, each with the answer that is expected of the search for a model.
 //!
-//! A row is `NAME WORDS = ANSWER`; each is printed with `ok`, or with what was found in place of the
-//! answer. The answer is `closed` where the log was checked step by step and is closed, `model`
-//! where the bits satisfy the clauses, and `limit N` after N steps that follow. A row without ` = `
-//! is a title.
+//! A row is `NAME WORDS = ANSWER`; each is printed with `ok`, or with what was found in place of
+//! the answer. The answer is `closed` where the log was checked step by step and is closed, `model`
+//! where the bits satisfy the clauses, and `limit N` after N steps that follow. After the word
+//! `count` the answer has the steps, literals and hints of the log, and the log isn't checked;
+//! after `log` it is the log. A row without ` = ` is a title.
 #![tactic(auto)]
 
 mod answers;
@@ -28,10 +29,18 @@ fn clauses_of(alloc: Global, name: &str, words: &str) -> Result<Cnf, AllocError>
 
 /// Adds what is found for a row.
 fn add_found(alloc: Global, out: &mut String, row: &str) -> Result<(), AllocError> {
+    let (kind, row) = match row.split_once(' ') {
+        Some((first, rest)) if first == "count" || first == "log" => (first, rest),
+        _ => ("", row),
+    };
     let (first, words) = row.split_once(' ').unwrap_or((row, ""));
     let (name, limit) = first.split_once(':').unwrap_or((first, "65536"));
     let cnf = clauses_of(alloc, name, words)?;
-    answers::answer(alloc, out, &cnf, families::number(limit))
+    match kind {
+        "count" => answers::count(alloc, out, &cnf, families::number(limit)),
+        "log" => answers::log(alloc, out, &cnf, families::number(limit)),
+        _ => answers::answer(alloc, out, &cnf, families::number(limit)),
+    }
 }
 
 /// Prints a row with its outcome.

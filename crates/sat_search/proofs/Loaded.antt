@@ -212,15 +212,6 @@ empty_false clauses all trail clause number sound e empty f =
       },
     )
 
--- ---- clauses that are alike
-
-pub same_more : (clause : Clause) (first l : Literal) → AreSame clause first → l ≡ first → AreSame (clause ++ l ∷ []) first
-same_more clause first l all one m h =
-    elim (has_push clause l m h) [
-      | inl there ↦ all m there
-      | inr e ↦ e ∙ one
-    ]
-
 -- ---- the empty clause, learnt from the first clauses
 
 numbered_left : (clauses more : List Clause) (number : ℕ) (clause : Clause) → Numbered clauses number clause → Numbered (clauses ++ more) number clause

@@ -21,54 +21,12 @@ use Rattle.sat_search.specs.Search.{HasValue, AllHaveValue, positive_literal, Is
 below_or_at : (i n : ℕ) → i ≤ n + 1 → (i ≡ n + 1) ⊎ (i ≤ n)
 below_or_at i n h = grind arith
 
-pub no_values : (trail : Trailed) → AllHaveValue trail 0
-no_values trail variable positive within = absurd (omega (arith, positive, within))
-
 pub one_value_more : (trail : Trailed) (last : ℕ) → AllHaveValue trail last → HasValue trail (last + 1) → AllHaveValue trail (last + 1)
 one_value_more trail last all one variable positive within =
     elim (below_or_at variable last within) [
       | inl e ↦ subst (λ v. HasValue trail v) (sym e) one
       | inr below ↦ all variable positive below
     ]
-
-pub value_of_entry : (trail : Trailed) (variable place : ℕ) (entry : Entry) (l : Literal) → slice_get trail.entries place ≡ Some entry → entry.literal ≡ l → l.variable ≡ variable
-    → HasValue trail variable
-value_of_entry trail variable place entry l here e f = record { place = place; entry = entry; there = here; same = ap (λ (m : Literal). m.variable) e ∙ f }
-
--- ---- bits
-
-pub no_bits : (trail : Trailed) → IsReadOff trail 0 []
-no_bits trail = record {
-  count = refl;
-  positive = λ variable positive within. absurd (omega (arith, positive, within));
-  negative = λ variable positive within. absurd (omega (arith, positive, within));
-}
-
-pub one_bit_more : (trail : Trailed) (last : ℕ) (bits : List Bool) (bit : Bool) → IsReadOff trail last bits
-    → (bit ≡ true → IsTrueBefore trail.entries (length trail.entries) (positive_literal (last + 1)))
-    → (bit ≡ false → IsAbsent trail.entries (positive_literal (last + 1))) → IsReadOff trail (last + 1) (bits ++ bit ∷ [])
-one_bit_more trail last bits bit read when_true when_false =
-    let count = read.count in record {
-      count = length_push bits bit ∙ ap (λ n. n + 1) count;
-      positive = λ variable positive within e.
-          elim (below_or_at variable last within) [
-            | inl same ↦
-                subst (λ v. IsTrueBefore trail.entries (length trail.entries) (positive_literal v)) (sym same)
-                (when_true (sym (get_or_push bits bit false (variable - 1) (omega (arith, same, count))) ∙ e))
-            | inr below ↦
-                read.positive variable positive below
-                (sym (get_or_append_left bits (bit ∷ []) false (variable - 1) (omega (arith, positive, below, count))) ∙ e)
-          ];
-      negative = λ variable positive within e.
-          elim (below_or_at variable last within) [
-            | inl same ↦
-                subst (λ v. IsAbsent trail.entries (positive_literal v)) (sym same)
-                (when_false (sym (get_or_push bits bit false (variable - 1) (omega (arith, same, count))) ∙ e))
-            | inr below ↦
-                read.negative variable positive below
-                (sym (get_or_append_left bits (bit ∷ []) false (variable - 1) (omega (arith, positive, below, count))) ∙ e)
-          ];
-    }
 
 -- ---- the model
 

@@ -20,21 +20,19 @@ fn open_literal(trail: &Trail, variable: usize, is_negated: bool) -> Option<Lite
     Some(literal)
 }
 
-/// A literal without value, by the queue; none where the queue names none.
-fn queued(order: &mut Order, trail: &Trail) -> Option<Literal>
+/// A literal without value, by the order; none where that has no more variables.
+fn first_open(order: &mut Order, trail: &Trail) -> Option<Literal>
     requires { trail.now.variables ≤ MAX_VARIABLE }
     ensures { IfSome result (λ l. IsUndecided trail.now l) }
 {
-    let mut variable = order.cursor();
     for _count in 0..trail.variables() {
+        let variable = order.pop()?;
         if variable == 0 || variable > trail.variables() {
             return None;
         }
         if let Some(literal) = open_literal(trail, variable, order.is_negated(variable)) {
-            order.set_cursor(variable);
             return Some(literal);
         }
-        variable = order.before(variable);
     }
     None
 }
@@ -59,7 +57,7 @@ pub fn pick(order: &mut Order, trail: &Trail) -> Option<Literal>
     ensures found { IfSome result (λ l. IsUndecided trail.now l) }
     ensures nowhere { IfNone result (AllHaveValue trail.now trail.now.variables) }
 {
-    match queued(order, trail) {
+    match first_open(order, trail) {
         Some(literal) => Some(literal),
         None => scanned(trail),
     }

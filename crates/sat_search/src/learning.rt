@@ -8,7 +8,7 @@ ghost use Rattle.clause_spec.specs.declared.Literal.{Literal as Lit};
 
 use crate::order::Order;
 use crate::search::Search;
-use cnf_core::{Cnf, Literal, negation};
+use cnf_core::{ClauseList, Cnf, Literal, negation};
 use sat_log::Step;
 use sat_spec::Watch;
 use sat_trail::Trail;
@@ -24,7 +24,7 @@ struct Leveled {
 
 /// The literal of the highest level among false ones; the asserting literal where none is above
 /// level 0.
-fn highest(trail: &Trail, asserting: Literal, others: &[Literal]) -> Leveled
+fn highest(trail: &Trail, asserting: Literal, others: &[Literal], order: &mut Order) -> Leveled
     requires of_variables { list_all (is_of trail.now.variables) others.now ≡ true }
     requires once { AreOnce trail.now.entries }
     ensures { IsHighest trail.now asserting others.now result.literal result.level }
@@ -34,13 +34,13 @@ fn highest(trail: &Trail, asserting: Literal, others: &[Literal]) -> Leveled
         level: 0,
     };
     for literal in others {
-        best = higher(trail, best, *literal);
+        best = higher(trail, best, *literal, order);
     }
     best
 }
 
 /// The one of the higher level.
-fn higher(trail: &Trail, best: Leveled, literal: Literal) -> Leveled
+fn higher(trail: &Trail, best: Leveled, literal: Literal, order: &mut Order) -> Leveled
     requires of_variables { is_of trail.now.variables literal ≡ true }
     requires once { AreOnce trail.now.entries }
     ensures { (asserting : Lit) (others : List Lit)
@@ -50,6 +50,7 @@ fn higher(trail: &Trail, best: Leveled, literal: Literal) -> Leveled
     match trail.place(negation(literal)) {
         Some(place) => {
             let level = trail.entry(place).level;
+            order.see_level(level);
             if level > best.level {
                 return Leveled { literal, level };
             }
@@ -78,11 +79,21 @@ pub fn rewind(trail: &mut Trail, watches: &mut Watches, order: &mut Order, level
     watches.set_head(place);
 }
 
-/// The variables of a learnt clause are decided first.
-fn bump(literals: &[Literal], order: &mut Order) {
-    for literal in literals {
+/// The variables of a clause become more active.
+fn bump_clause(clause: &[Literal], order: &mut Order) {
+    for literal in clause {
         order.bump(literal.variable());
     }
+}
+
+/// The variables of the clauses that a learnt one follows from become more active.
+fn bump(clauses: &ClauseList, hints: &[usize], order: &mut Order) {
+    for number in hints {
+        if let Some(clause) = clauses.get(number.wrapping_sub(1)) {
+            bump_clause(clause, order);
+        }
+    }
+    order.end_conflict();
 }
 
 /// Adds a learnt clause, back at the level at which its first literal is forced.
@@ -96,8 +107,13 @@ pub fn learn(cnf: &Cnf, search: &mut Search, step: Step) -> Result<(), AllocErro
     ensures count { OnOk result (length search.new.log.items ≡ length search.old.log.items + 1) }
 {
     let asserting = step.literals()[0];
-    let best = highest(&search.trail, asserting, &step.literals()[1..]);
-    bump(step.literals(), &mut search.order);
+    let best = highest(
+        &search.trail,
+        asserting,
+        &step.literals()[1..],
+        &mut search.order,
+    );
+    bump(&search.clauses, step.hints(), &mut search.order);
     rewind(
         &mut search.trail,
         &mut search.watches,

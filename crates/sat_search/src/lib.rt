@@ -1,9 +1,10 @@
 //! A search for a model of clauses, by learning clauses from conflicts (CDCL).
 //!
 //! [`solve`] answers with a model, with a trimmed log that closes the clauses (`Lean`), or with the
-//! log of as many learnt clauses as it was allowed (`Spent`); `sat_spec` (`specs/Logs.antt`) defines
-//! both. What holds between two conflicts is `IsSearching` (`specs/Search.antt`). Which variable is
-//! decided, and when the search restarts, is chosen by [`Order`](order) and rests on no contract.
+//! log of as many learnt clauses as it was allowed (`Spent`); `sat_spec` (`specs/Logs.antt`)
+//! defines both. What holds between two conflicts is `IsSearching` (`specs/Search.antt`). Which
+//! variable is decided, and when the search restarts, is chosen by [`Order`](order) and rests on no
+//! contract.
 #![tactic(auto)]
 
 mod choice;

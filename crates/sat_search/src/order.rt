@@ -2,151 +2,304 @@ use std::alloc::{AllocError, Global};
 
 /// In which order variables are decided, and when the search restarts. No contract rests on it.
 ///
-/// Variables are in a queue: those of a learnt clause move to its end, and the last one without
-/// value is decided (VMTF), with the sign that it had last. Restarts follow the Luby sequence.
+/// The most active variable without value is decided (VSIDS), with the sign that it had last. A
+/// heap has those variables that may have no value. The glue of a learnt clause is the number of
+/// levels among its literals; the search restarts where the glue of the last clauses is above the
+/// average of many.
 #[derive(Drop)]
 pub struct Order {
-    links: Vec<Link>,
-    cursor: usize,
+    /// By variable.
+    activities: Vec<u64>,
+    /// By variable: its place in the heap, or [`ABSENT`].
+    places: Vec<usize>,
+    /// By variable: the conflict at which it was bumped last.
+    bumped: Vec<u64>,
+    /// By variable: the sign that it had last.
+    signs: Vec<bool>,
+    heap: Vec<usize>,
+    count: usize,
+    /// What a bump adds.
+    step: u64,
+    /// The number of the conflict.
     clock: u64,
-    conflicts: u64,
-    pause: u64,
-    row_end: u64,
-    row_step: u64,
+    /// By level: the conflict in whose learnt clause it was seen last.
+    levels: Vec<u64>,
+    /// That of the learnt clause so far: its asserting literal has a level of its own.
+    glue: u64,
+    /// The glue of the last clauses: their average times [`RECENT`] and [`SCALE`].
+    recent: u64,
+    /// The sum of the glue of so many clauses.
+    total: u64,
+    counted: u64,
+    /// Conflicts since the last restart.
+    waited: u64,
 }
 
-/// The place of a variable in the queue. Its ends meet at 0, which is no variable.
-#[derive(Clone, Copy)]
-struct Link {
-    before: usize,
-    after: usize,
-    moved: u64,
-    is_negated: bool,
-}
+/// The place of a variable that isn't in the heap.
+const ABSENT: usize = usize::MAX;
 
-/// How many conflicts are between restarts at first.
-const PAUSE: u64 = 32;
+/// What a bump adds at first.
+const STEP: u64 = 1 << 20;
+
+/// Activities above it are made smaller, all by so many bits.
+const MAX_ACTIVITY: u64 = 1 << 60;
+
+const SHIFT: u32 = 40;
+
+/// A bump adds more by this part after each conflict.
+const DECAY: u64 = 9;
+
+/// About how many clauses count as the last ones, and at most how many as many.
+const RECENT: u64 = 32;
+
+const MANY: u64 = 8192;
+
+const SCALE: u64 = 1024;
+
+/// How many conflicts are between restarts at least.
+const PAUSE: u64 = 10;
 
 impl Order {
     /// The variables in the order of their numbers.
     pub fn new(alloc: Global, variables: usize) -> Result<Order, AllocError> {
-        let mut links = Vec::new(alloc);
-        links.push(Link {
-            before: variables,
-            after: 1,
-            moved: 0,
-            is_negated: true,
-        })?;
+        let mut order = Order {
+            activities: Vec::new(alloc),
+            places: Vec::new(alloc),
+            bumped: Vec::new(alloc),
+            signs: Vec::new(alloc),
+            heap: Vec::new(alloc),
+            count: variables,
+            step: STEP,
+            clock: 1,
+            levels: Vec::new(alloc),
+            glue: 1,
+            recent: 0,
+            total: 0,
+            counted: 0,
+            waited: 0,
+        };
+        order.add(ABSENT)?;
         for index in 0..variables {
-            links.push(Link {
-                before: index,
-                after: if index + 1 < variables { index + 2 } else { 0 },
-                moved: index as u64,
-                is_negated: true,
-            })?;
+            order.add(index)?;
+            order.heap.push(index + 1)?;
         }
-        Ok(Order {
-            links,
-            cursor: variables,
-            clock: variables as u64,
-            conflicts: 0,
-            pause: PAUSE,
-            row_end: 1,
-            row_step: 1,
-        })
+        Ok(order)
     }
 
-    /// The variable at which the queue is looked at next.
-    pub fn cursor(&self) -> usize {
-        self.cursor
+    /// Adds a variable that has this place in the heap.
+    fn add(&mut self, place: usize) -> Result<(), AllocError> {
+        self.activities.push(0)?;
+        self.places.push(place)?;
+        self.bumped.push(0)?;
+        self.signs.push(true)?;
+        self.levels.push(0)?;
+        Ok(())
     }
 
-    /// All variables after this one in the queue have a value.
-    pub fn set_cursor(&mut self, variable: usize) {
-        self.cursor = variable;
-    }
-
-    /// The variable before one in the queue.
-    pub fn before(&self, variable: usize) -> usize {
-        match self.links.get(variable) {
-            Some(link) => link.before,
+    fn activity(&self, variable: usize) -> u64 {
+        match self.activities.get(variable) {
+            Some(activity) => *activity,
             None => 0,
         }
     }
 
-    /// The variable after one in the queue.
-    fn after(&self, variable: usize) -> usize {
-        match self.links.get(variable) {
-            Some(link) => link.after,
-            None => 0,
+    fn place(&self, variable: usize) -> usize {
+        match self.places.get(variable) {
+            Some(place) => *place,
+            None => ABSENT,
         }
     }
 
     /// The sign that a variable had last.
     pub fn is_negated(&self, variable: usize) -> bool {
-        match self.links.get(variable) {
-            Some(link) => link.is_negated,
+        match self.signs.get(variable) {
+            Some(sign) => *sign,
             None => true,
         }
     }
 
-    /// When a variable was moved to the end.
-    fn moved(&self, variable: usize) -> u64 {
-        match self.links.get(variable) {
-            Some(link) => link.moved,
+    /// The variable of a place of the heap.
+    fn variable_at(&self, place: usize) -> usize {
+        match self.heap.get(place) {
+            Some(variable) => *variable,
             None => 0,
         }
     }
 
-    /// Makes two variables neighbours.
-    fn join(&mut self, before: usize, after: usize) {
-        if let Some(link) = self.links.get_mut(before) {
-            link.after = after;
-        }
-        if let Some(link) = self.links.get_mut(after) {
-            link.before = before;
+    fn set_place(&mut self, variable: usize, place: usize) {
+        if let Some(slot) = self.places.get_mut(variable) {
+            *slot = place;
         }
     }
 
-    /// Moves a variable to the end of the queue.
-    pub fn bump(&mut self, variable: usize) {
-        let before = self.before(variable);
-        let after = self.after(variable);
-        self.join(before, after);
-        let last = self.before(0);
-        self.join(last, variable);
-        self.join(variable, 0);
-        self.clock = self.clock.saturating_add(1);
-        let clock = self.clock;
-        if let Some(link) = self.links.get_mut(variable) {
-            link.moved = clock;
+    /// Puts a variable at a place of the heap.
+    fn put(&mut self, place: usize, variable: usize) {
+        if let Some(slot) = self.heap.get_mut(place) {
+            *slot = variable;
         }
+        self.set_place(variable, place);
+    }
+
+    /// Whether a variable is decided before another.
+    fn is_before(&self, variable: usize, other: usize) -> bool {
+        let activity = self.activity(variable);
+        let other_activity = self.activity(other);
+        activity > other_activity || activity == other_activity && variable > other
+    }
+
+    /// Moves the variable of a place up in the heap.
+    fn raise(&mut self, start: usize) {
+        let variable = self.variable_at(start);
+        let mut place = start;
+        while place > 0 {
+            let above = (place - 1) / 2;
+            let parent = self.variable_at(above);
+            if !self.is_before(variable, parent) {
+                break;
+            }
+            self.put(place, parent);
+            place = above;
+        }
+        self.put(place, variable);
+    }
+
+    /// The place below one that has the more active variable.
+    fn child(&self, place: usize) -> usize {
+        let left = place.saturating_mul(2).saturating_add(1);
+        let right = left.saturating_add(1);
+        if right < self.count && self.is_before(self.variable_at(right), self.variable_at(left)) {
+            right
+        } else {
+            left
+        }
+    }
+
+    /// Moves the variable of a place down in the heap.
+    fn sink(&mut self, start: usize) {
+        let variable = self.variable_at(start);
+        let mut place = start;
+        for _depth in 0..usize::BITS {
+            let below = self.child(place);
+            let child = self.variable_at(below);
+            if below >= self.count || !self.is_before(child, variable) {
+                break;
+            }
+            self.put(place, child);
+            place = below;
+        }
+        self.put(place, variable);
+    }
+
+    /// Takes the most active variable out of the heap.
+    pub fn pop(&mut self) -> Option<usize> {
+        if self.count == 0 {
+            return None;
+        }
+        let first = self.variable_at(0);
+        self.count -= 1;
+        let last = self.variable_at(self.count);
+        self.put(0, last);
+        self.sink(0);
+        self.set_place(first, ABSENT);
+        Some(first)
     }
 
     /// The variable loses its value, which had this sign.
     pub fn release(&mut self, variable: usize, is_negated: bool) {
-        if self.moved(variable) > self.moved(self.cursor) {
-            self.cursor = variable;
+        if let Some(sign) = self.signs.get_mut(variable) {
+            *sign = is_negated;
         }
-        if let Some(link) = self.links.get_mut(variable) {
-            link.is_negated = is_negated;
+        if self.place(variable) == ABSENT && self.count < self.heap.len() {
+            let place = self.count;
+            self.put(place, variable);
+            self.count = place + 1;
+            self.raise(place);
         }
+    }
+
+    /// Makes all activities smaller.
+    fn rescale(&mut self) {
+        for activity in &mut self.activities {
+            *activity >>= SHIFT;
+        }
+        self.step >>= SHIFT;
+    }
+
+    /// Whether a variable was bumped at this conflict.
+    fn was_bumped(&self, variable: usize) -> bool {
+        match self.bumped.get(variable) {
+            Some(last) => *last == self.clock,
+            None => true,
+        }
+    }
+
+    /// Makes a variable more active, once a conflict.
+    pub fn bump(&mut self, variable: usize) {
+        if self.was_bumped(variable) {
+            return;
+        }
+        let clock = self.clock;
+        if let Some(last) = self.bumped.get_mut(variable) {
+            *last = clock;
+        }
+        let activity = self.activity(variable).saturating_add(self.step);
+        if let Some(slot) = self.activities.get_mut(variable) {
+            *slot = activity;
+        }
+        if activity > MAX_ACTIVITY {
+            self.rescale();
+        }
+        let place = self.place(variable);
+        if place != ABSENT {
+            self.raise(place);
+        }
+    }
+
+    /// Whether a level was seen at this conflict.
+    fn was_seen(&self, level: usize) -> bool {
+        match self.levels.get(level) {
+            Some(last) => *last == self.clock,
+            None => true,
+        }
+    }
+
+    /// Counts the level of a literal that is learnt.
+    pub fn see_level(&mut self, level: usize) {
+        if self.was_seen(level) {
+            return;
+        }
+        let clock = self.clock;
+        if let Some(last) = self.levels.get_mut(level) {
+            *last = clock;
+        }
+        self.glue = self.glue.saturating_add(1);
+    }
+
+    /// Ends what is counted of a conflict.
+    pub fn end_conflict(&mut self) {
+        let glue = self.glue;
+        self.recent = self.recent.saturating_sub(self.recent / RECENT);
+        self.recent = self.recent.saturating_add(glue.saturating_mul(SCALE));
+        self.total = self.total.saturating_add(glue);
+        self.counted = self.counted.saturating_add(1);
+        if self.counted >= MANY {
+            self.counted /= 2;
+            self.total /= 2;
+        }
+        self.glue = 1;
+        self.clock = self.clock.saturating_add(1);
+        self.step = self.step.saturating_add(self.step / DECAY);
     }
 
     /// Counts a conflict; whether the search restarts now.
     pub fn is_restart(&mut self) -> bool {
-        self.conflicts = self.conflicts.saturating_add(1);
-        if self.conflicts < self.pause {
+        self.waited = self.waited.saturating_add(1);
+        let recent = self.recent.saturating_mul(self.counted).saturating_mul(20);
+        let many = self.total.saturating_mul(RECENT * SCALE).saturating_mul(23);
+        if self.waited < PAUSE || recent <= many {
             return false;
         }
-        self.conflicts = 0;
-        if self.row_end & self.row_end.wrapping_neg() == self.row_step {
-            self.row_end = self.row_end.saturating_add(1);
-            self.row_step = 1;
-        } else {
-            self.row_step = self.row_step.saturating_mul(2);
-        }
-        self.pause = self.row_step.saturating_mul(PAUSE);
+        self.waited = 0;
         true
     }
 }

@@ -55,7 +55,8 @@ fn settle(
     requires searching { IsSearching cnf.now search.old.clauses.clauses search.old.trail
         search.old.watches search.old.log.items }
     requires conflict { IsConflict search.old.clauses.clauses search.old.trail.entries conflict }
-    ensures { IfOk result (λ progress. IsProgress cnf.now search.new.clauses.clauses search.new.trail
+    ensures { IfOk result (λ progress. IsProgress cnf.now search.new.clauses.clauses
+        search.new.trail
         search.new.watches search.new.log.items (length search.old.log.items) progress) }
 {
     if search.trail.level() == 0 {
@@ -73,7 +74,8 @@ pub fn run(alloc: Global, cnf: &Cnf, search: &mut Search) -> Result<Progress, Al
     requires searching { IsSearching cnf.now search.old.clauses.clauses search.old.trail
         search.old.watches search.old.log.items }
     requires small { cnf.now.variables ≤ MAX_VARIABLE }
-    ensures { IfOk result (λ progress. IsProgress cnf.now search.new.clauses.clauses search.new.trail
+    ensures { IfOk result (λ progress. IsProgress cnf.now search.new.clauses.clauses
+        search.new.trail
         search.new.watches search.new.log.items (length search.old.log.items) progress) }
 {
     'deciding: loop {

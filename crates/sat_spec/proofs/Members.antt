@@ -61,9 +61,6 @@ not_not false = refl
 pub negation_twice : (l : Literal) → negation (negation l) ≡ l
 negation_twice l = ap (λ b. let m : Literal = record { variable = l.variable; is_negated = b } in m) (not_not l.is_negated)
 
-pub same_variable : (a b : Literal) → a ≡ negation b → a.variable ≡ b.variable
-same_variable a b e = ap (λ l. l.variable) e
-
 not_own : (b : Bool) → not b ≡ b → ⊥
 not_own true e = cc
 not_own false e = cc

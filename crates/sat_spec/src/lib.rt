@@ -1,7 +1,8 @@
 //! What a search for a model of clauses keeps, and what it answers with. Of the crate only
-//! [`Entry`], [`Watch`], [`Watcher`] and [`is_same`] run. The trail of true literals is defined in `specs/Trail.antt`, two
-//! watched literals for each clause in `specs/Watches.antt`, conflict analysis in
-//! `specs/Analysis.antt`, and the logs that are handed out (`Spent`, `Lean`) in `specs/Logs.antt`.
+//! [`Entry`], [`Watch`], [`Watcher`] and [`is_same`] run. The trail of true literals is defined in
+//! `specs/Trail.antt`, two watched literals for each clause in `specs/Watches.antt`, conflict
+//! analysis in `specs/Analysis.antt`, and the logs that are handed out (`Spent`, `Lean`) in
+//! `specs/Logs.antt`.
 #![tactic(auto)]
 
 ghost use Rattle.std.specs.Prelude.{◌≡◌};
@@ -40,7 +41,7 @@ pub struct Watch {
 #[derive(Clone, Copy)]
 pub struct Watcher {
     /// The index of the clause, counted from 0.
-    pub clause: usize,
+    pub clause: u32,
     /// A literal of the clause: where it is true, the clause needs no look.
     pub blocker: Literal,
 }

@@ -1,25 +1,40 @@
-ghost use Rattle.std.specs.Prelude.{◌≡◌, ◌+◌, ◌<◌, ◌≤◌, ◌++◌, ◌∷◌, [], length, take, true, false};
+ghost use Rattle.std.specs.Prelude.{◌≡◌, ◌+◌, ◌-◌, ◌*◌, ◌<◌, ◌≤◌, ◌++◌, ◌∷◌, [], length, take};
+ghost use Rattle.std.specs.Prelude.{true, false};
 ghost use Rattle.std.specs.Prelude.{◌↔◌, slice_get, Some, IfSome, IfNone, IfOk, OnOk, IsTrue};
 ghost use Rattle.clause_spec.specs.Clause.{is_of, negation as negated};
 ghost use Rattle.sat_spec.specs.Trail.{IsAt, IsAbsent, IsRising, IsCut};
 
 use cnf_core::{Literal, negation};
-use sat_spec::{Entry, is_same};
+use sat_spec::Entry;
 use std::alloc::{AllocError, Global};
 use std::marker::Model;
+
+/// How many codes the literals of so many variables take.
+fn codes_of(variables: usize) -> Result<usize, AllocError>
+    ensures { IfOk result (λ codes. codes ≡ 2 * variables + 2) }
+{
+    if variables < usize::MAX / 2 {
+        Ok(2 * variables + 2)
+    } else {
+        Err(AllocError)
+    }
+}
 
 /// The literals that are true, in the order in which they became true.
 #[derive(Drop)]
 pub struct Trail {
     entries: Vec<Entry>,
+    /// By variable, that of variable 1 first: the place of its entry.
     places: Vec<usize>,
+    /// By the code of a literal: whether it is true.
+    truths: Vec<bool>,
     level: usize,
 }
 
 impl Model for Trail {
     ghost use Rattle.std.specs.Prelude.{length};
     ghost use Rattle.sat_spec.specs.Trail.{Trailed};
-    ghost use Rattle.sat_trail.specs.Placed.{IsPlaced};
+    ghost use Rattle.sat_trail.specs.Placed.{IsKept};
 
     ghost Value = { Trailed };
 
@@ -29,7 +44,7 @@ impl Model for Trail {
       level = t.level;
     } };
 
-    ghost invariant = { λ t. IsPlaced t.entries.items t.places.items };
+    ghost invariant = { λ t. IsKept t.entries.items t.places.items t.truths.items };
 }
 
 impl Trail {
@@ -39,10 +54,13 @@ impl Trail {
             ≡ record { variables = variables; entries = []; level = 0 }) }
     {
         let first: usize = 0;
+        let codes = codes_of(variables)?;
         let places = vec![in alloc; first; variables]?;
+        let truths = vec![in alloc; false; codes]?;
         Ok(Trail {
             entries: Vec::new(alloc),
             places,
+            truths,
             level: 0,
         })
     }
@@ -89,9 +107,8 @@ impl Trail {
         ensures there { IfSome result (λ place. IsAt self.now.entries place literal) }
         ensures nowhere { IfNone result (IsAbsent self.now.entries literal) }
     {
-        let place = self.places[literal.variable() - 1];
-        if place < self.entries.len() && is_same(self.entries[place].literal, literal) {
-            Some(place)
+        if self.truths[literal.code()] {
+            Some(self.places[literal.variable() - 1])
         } else {
             None
         }
@@ -115,6 +132,7 @@ impl Trail {
             level: self.level,
         })?;
         self.places[literal.variable() - 1] = place;
+        self.truths[literal.code()] = true;
         Ok(())
     }
 
@@ -143,6 +161,19 @@ impl Trail {
         place
     }
 
+    /// The last entry goes.
+    fn pop(&mut self)
+        requires { 0 < length self.old.entries }
+        ensures { self.new ≡ record self.old {
+          entries = take (length self.old.entries - 1) self.old.entries;
+        } }
+    {
+        let last = self.entries.len() - 1;
+        let literal = self.entries[last].literal;
+        self.truths[literal.code()] = false;
+        self.entries.truncate(last);
+    }
+
     /// Only the entries before a place stay, at this level.
     pub fn shorten(&mut self, place: usize, level: usize)
         ensures { self.new ≡ record {
@@ -151,7 +182,9 @@ impl Trail {
           level = level;
         } }
     {
-        self.entries.truncate(place);
+        while self.len() > place {
+            self.pop();
+        }
         self.level = level;
     }
 }

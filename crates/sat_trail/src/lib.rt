@@ -2,8 +2,7 @@
 //! with its reason and its level.
 //!
 //! The main type is [`Trail`], which contracts see as the list of its entries (`Trailed` in
-//! `sat_spec`, `specs/Trail.antt`). A look-up reads the place of the variable and the entry there,
-//! so that going back to an earlier level only shortens the list.
+//! `sat_spec`, `specs/Trail.antt`). Whether a literal is true is one byte, by the literal's code.
 #![tactic(auto)]
 
 mod entries;

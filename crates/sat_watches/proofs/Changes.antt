@@ -95,59 +95,6 @@ blocker_more clauses clause watcher one = record { clause = one.clause; there = 
 
 -- ---- a watcher less
 
-pub removed_from : (old new : List Watcher) (place : ℕ) (taken : Watcher) → place < length old → new ≡ swap_remove old place taken → IsRemovedFrom old new place
-removed_from old new place taken below e = record {
-  stays = λ k watcher there apart.
-      let within = slice_get_within old k watcher there in
-      elim (equal_or_other k (length old - 1)) [
-        | inl is_last ↦
-            record {
-              now = place;
-              there =
-                  ap (λ xs. slice_get xs place) e
-                  ∙ taken_get (length old - 1) (set old place last) place watcher (omega (arith, within, is_last, apart, below))
-                  (slice_get-get_or (set old place last) place taken (let n = length-set old place last in omega (arith, n, below))
-                  ∙ ap Some (get_or-set_same old place last taken below
-                  ∙ get_or_from_slice_get old (length old - 1) watcher taken (ap (slice_get old) (sym is_last) ∙ there)));
-              later = λ h. omega arith;
-            }
-        | inr before ↦
-            record {
-              now = k;
-              there =
-                  ap (λ xs. slice_get xs k) e
-                  ∙ taken_get (length old - 1) (set old place last) k watcher (omega (arith, within, before))
-                  (slice_get-get_or (set old place last) k taken (let n = length-set old place last in omega (arith, n, within))
-                  ∙ ap Some (get_or-set_other old place k last taken apart ∙ get_or_from_slice_get old k watcher taken there));
-              later = λ h. h;
-            }
-      ];
-  back = λ k watcher there.
-      let inside = get_taken (length old - 1) (set old place last) k watcher (ap (λ xs. slice_get xs k) (sym e) ∙ there) in
-      let within = slice_get_within (set old place last) k watcher inside.1 in
-      let n = length-set old place last in
-      elim (equal_or_other k place) [
-        | inl same ↦
-            let is_last : watcher ≡ last = sym (get_or_from_slice_get (set old place last) k watcher taken inside.1)
-            ∙ ap (λ i. get_or (set old place last) i taken) same ∙ get_or-set_same old place last taken below
-            in
-            record {
-              place = length old - 1;
-              there = slice_get-get_or old (length old - 1) taken (omega (arith, below)) ∙ ap Some (sym is_last);
-            }
-        | inr apart ↦
-            record {
-              place = k;
-              there =
-                  slice_get-get_or old k taken (omega (arith, within, n))
-                  ∙ ap Some (sym (get_or-set_other old place k last taken apart) ∙ get_or_from_slice_get (set old place last) k watcher taken inside.1);
-            }
-      ];
-}
-  where
-    last : Watcher
-    last = get_or old (length old - 1) taken
-
 pub removed : (old new : List (List Watcher)) (l : Literal) (place : ℕ) (was list : List Watcher) → code_of l < length old → new ≡ set old (code_of l) list
     → was ≡ list_of old l → IsRemovedFrom was list place → length list < length was → IsRemoved old new l place
 removed old new l place was list below e same from shorter =

@@ -575,9 +575,6 @@ false_more clause trail other l all_false one m h =
       | inr e ↦ subst (λ x. (x ≡ other) ⊎ IsTrueBefore trail.entries (length trail.entries) (negation x)) (sym e) one
     ]
 
-pub before_all : (trail : Trailed) (place : ℕ) (l : Literal) → IsAt trail.entries place l → IsTrueBefore trail.entries (length trail.entries) l
-before_all trail place l at = record { place = place; entry = at.entry; earlier = slice_get_within trail.entries place at.entry at.there; there = at.there; same = at.same }
-
 -- ---- indices and codes
 
 pub clause_below : (clauses : List Clause) (trail : Trailed) (watched : Watched) (falsified : Literal) (next : ℕ) (watcher : Watcher) → IsTurning clauses trail watched falsified next

@@ -51,7 +51,8 @@ fn remove_from(list: &mut Vec<Watcher>, place: usize)
 pub fn remove_watcher(lists: &mut [Vec<Watcher>], literal: Literal, place: usize)
     requires code { code_of literal < length lists.old }
     requires place { place < length (list_of (map (λ v. v.items) lists.old) literal) }
-    ensures { IsRemoved (map (λ v. v.items) lists.old) (map (λ v. v.items) lists.new) literal place }
+    ensures { IsRemoved (map (λ v. v.items) lists.old)
+        (map (λ v. v.items) lists.new) literal place }
 {
     remove_from(&mut lists[literal.code()], place);
 }

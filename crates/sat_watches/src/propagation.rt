@@ -1,4 +1,5 @@
-ghost use Rattle.std.specs.Prelude.{◌≡◌, ℕ, ◌+◌, ◌<◌, length, slice_get, Some, IfSome, IfNone, IfOk, OnOk, true};
+ghost use Rattle.std.specs.Prelude.{◌≡◌, ℕ, ◌+◌, ◌<◌, length, slice_get, Some, IfSome, IfNone};
+ghost use Rattle.std.specs.Prelude.{IfOk, OnOk, true};
 ghost use Rattle.std.specs.List.{list_all};
 ghost use Rattle.clause_spec.specs.Clause.{is_of};
 ghost use Rattle.sat_spec.specs.Watches.{list_of, IsRunning, IsTurning};
@@ -74,16 +75,18 @@ fn move_watch(
     first: Literal,
     second: Literal,
 ) -> Result<(), AllocError>
-    requires looking { IsLooking clauses.now.clauses trail.now watches.old falsified next watcher.now
+    requires looking { IsLooking clauses.now.clauses trail.now watches.old falsified next
+        watcher.now
         second }
     requires not_false { (clause : Clause) → slice_get clauses.now.clauses watcher.now.clause
         ≡ Some clause → IsOpen clause trail.now second first }
-    ensures visited { OnOk result (IsVisited clauses.now.clauses trail.now watches.new falsified next
+    ensures visited { OnOk result (IsVisited clauses.now.clauses trail.now watches.new falsified
+        next
         watcher.now Visit.Leaves) }
     ensures kept { OnOk result (IsKeptBy trail.now trail.now watches.old watches.new falsified) }
 {
     let clause = watcher.clause;
-    watches.set_watch(clause, Watch { first, second });
+    watches.set_watch(clause as usize, Watch { first, second });
     let moved = Watcher {
         clause,
         blocker: second,
@@ -102,7 +105,8 @@ fn force_other(
     watcher: &Watcher,
     other: Literal,
 ) -> Result<Visit, AllocError>
-    requires looking { IsLooking clauses.now.clauses trail.old watches.now falsified next watcher.now
+    requires looking { IsLooking clauses.now.clauses trail.old watches.now falsified next
+        watcher.now
         other }
     requires all_false { (clause : Clause) → slice_get clauses.now.clauses watcher.now.clause
         ≡ Some clause → AreFalse clause trail.old other }
@@ -113,14 +117,14 @@ fn force_other(
     match trail.place(negation(other)) {
         Some(_place) => Ok(Visit::Fails),
         None => {
-            trail.push(other, number_of(clauses, watcher.clause))?;
+            trail.push(other, number_of(clauses, watcher.clause as usize))?;
             Ok(Visit::Stays)
         }
     }
 }
 
-/// Looks at a clause whose watch became false, the other watch not being true: the watch moves to an
-/// open literal, or the other one is forced, or the clause is false.
+/// Looks at a clause whose watch became false, the other watch not being true: the watch moves to
+/// an open literal, or the other one is forced, or the clause is false.
 fn visit_clause(
     clauses: &ClauseList,
     trail: &mut Trail,
@@ -135,7 +139,7 @@ fn visit_clause(
         falsified next watcher.now visit) }
     ensures kept { OnOk result (IsKeptBy trail.old trail.new watches.old watches.new falsified) }
 {
-    match find_open(clauses.clause(watcher.clause), trail, other) {
+    match find_open(clauses.clause(watcher.clause as usize), trail, other) {
         Some(literal) => {
             move_watch(
                 clauses, trail, watches, falsified, next, watcher, literal, other,
@@ -185,7 +189,7 @@ fn visit_watch(
         falsified next watcher.now visit) }
     ensures kept { OnOk result (IsKeptBy trail.old trail.new watches.old watches.new falsified) }
 {
-    let watch = watches.watch(watcher.clause);
+    let watch = watches.watch(watcher.clause as usize);
     let first = watch.first;
     let second = watch.second;
     if is_same(first, falsified) {
@@ -233,7 +237,7 @@ fn turn(
     let mut next = 0;
     while next < watches.count(falsified) {
         let watcher = watches.watcher(falsified, next);
-        let number = number_of(clauses, watcher.clause);
+        let number = number_of(clauses, watcher.clause as usize);
         match visit_watcher(clauses, trail, watches, falsified, next, &watcher)? {
             Visit::Stays => next += 1,
             Visit::Leaves => watches.remove(falsified, next),

@@ -1,4 +1,5 @@
-ghost use Rattle.std.specs.Prelude.{◌≡◌, ◌+◌, ◌*◌, ◌<◌, ◌≤◌, ◌++◌, ◌∷◌, [], length, slice_get, slice_set};
+ghost use Rattle.std.specs.Prelude.{◌≡◌, ◌+◌, ◌*◌, ◌<◌, ◌≤◌, ◌++◌, ◌∷◌, [], length, slice_get};
+ghost use Rattle.std.specs.Prelude.{slice_set};
 ghost use Rattle.std.specs.Prelude.{Some, IfOk, OnOk};
 ghost use Rattle.cnf_core.specs.Codes.{code_of};
 ghost use Rattle.sat_spec.specs.Watches.{list_of};
@@ -9,6 +10,17 @@ use cnf_core::{Literal, MAX_VARIABLE};
 use sat_spec::{Watch, Watcher, is_same};
 use std::alloc::{AllocError, Global};
 use std::marker::Model;
+
+/// The index of a clause in 32 bits.
+fn narrow(index: usize) -> Result<u32, AllocError>
+    ensures { IfOk result (λ n. n ≡ index) }
+{
+    if index <= u32::MAX as usize {
+        Ok(index as u32)
+    } else {
+        Err(AllocError)
+    }
+}
 
 /// The watched literals of clauses, and for each literal the clauses that may watch it.
 #[derive(Drop)]
@@ -135,7 +147,7 @@ impl Watches {
             self.push_watch(watch)?;
             return Ok(());
         }
-        let clause = self.watches.len();
+        let clause = narrow(self.watches.len())?;
         let first = Watcher {
             clause,
             blocker: watch.second,

@@ -59,7 +59,7 @@ returns-clause-searching c =
     (subst (λ o. IsHighest c.args.search.now.trail asserting o c.highest-best.result.literal c.highest-best.result.level) (take_rest c.literals-2.result.now 1) c.highest-best.ensures)
     in
     let clauses : c.push.new.self.clauses ≡ c.args.search.now.clauses.clauses ++ c.args.step.literals ∷ [] =
-    c.in_ok-push.ensures.added ∙ ap (λ l. c.args.search.now.clauses.clauses ++ l ∷ []) c.literals-4.ensures
+    c.in_ok-push.ensures.added ∙ ap (λ l. c.args.search.now.clauses.clauses ++ l ∷ []) c.literals-3.ensures
     in
     let log : c.push-3.new.self.items ≡ c.args.search.now.log.items ++ c.args.step ∷ [] = search rules in
     learnt_searching c.args.cnf.now c.args.search.now.clauses.clauses c.push.new.self.clauses c.args.search.now.trail c.rewind.new.trail c.push-2.new.self

@@ -13,9 +13,9 @@ returns-then-is_same c =
 
 pub returns : goal.returns
 returns c =
-    let clause : c.len-clause.result ≡ length c.args.self.now.watches = search rules in
-    let first : Watcher = record { clause = c.len-clause.result; blocker = c.args.watch.second } in
-    let second : Watcher = record { clause = c.len-clause.result; blocker = c.args.watch.first } in
+    let clause : c.in_ok-clause.clause ≡ length c.args.self.now.watches = search rules in
+    let first : Watcher = record { clause = c.in_ok-clause.clause; blocker = c.args.watch.second } in
+    let second : Watcher = record { clause = c.in_ok-clause.clause; blocker = c.args.watch.first } in
     let pushed = c.in_ok-push_watch-2.ensures in
     attached_two c.args.self.now c.push_watch-2.new.self c.args.watch c.listen.new.self.lists first second
     (ap (λ w. w.watches) pushed ∙ ap (λ (w : Watched). w.watches ++ c.args.watch ∷ []) (let e : c.listen-2.new.self ≡ record c.args.self.now { lists = c.listen-2.new.self.lists } = c.listen-2.ensures.same ∙ ap (λ (w : Watched). let v : Watched = record w { lists = c.listen-2.new.self.lists } in v) c.listen.ensures.same in e))
