@@ -4,66 +4,85 @@
 //! the outcome is the kind and the offset of the first.
 //!
 //! In a text, what is between two backquotes is bytes in hexadecimal, or with a star a piece
-//! that is repeated so often: `3*-` is three times a minus sign. A line that begins with `#` says
-//! where the outcomes of the rows after it come from.
+//! that is repeated: `3*-` is three times a minus sign. A line that begins with `#` says where the
+//! outcomes of the rows after it come from.
 #![tactic(auto)]
 
 mod expressions;
-mod out;
 mod statements;
 mod texts;
 mod tokens;
 mod units;
 
-use crate::out::Out;
 use c_parse::{ParseError, parse};
 use c_token::{Token, TokenError};
-use std::alloc::{AllocError, Global};
-use std::io::{BufRead, BufReader};
+use row_io::{Out, input, output, split, split_at};
+use std::alloc::Global;
+use std::fmt::Debug;
+use std::io;
 
-fn put_fault<K: std::fmt::Debug>(kind: &K, offset: usize, out: &mut Out) {
+fn put_fault<K: Debug>(kind: &K, offset: usize, out: &mut Out) {
     out.show(kind);
     out.put(" at ");
     out.show(&offset);
 }
 
-/// What is asked of tokens, or their first fault; the text has so many bytes.
-fn put_parsed(alloc: Global, asked: &str, tokens: &[Token<'_>], end: usize, out: &mut Out) {
+/// The tree of tokens, where it is asked for, or their first fault; the text has so many bytes.
+fn put_parsed(alloc: Global, is_tree: bool, tokens: &[Token<'_>], end: usize, out: &mut Out) {
     match parse(alloc, tokens) {
-        Ok(unit) if asked == "tree" => units::put_unit(&unit, out),
-        Ok(_) => out.put("no fault"),
+        Ok(unit) => units::put_unit(is_tree, &unit, out),
         Err(ParseError::Fault(fault)) => put_fault(&fault.kind, fault.offset(tokens, end), out),
-        Err(ParseError::NoMemory) => out.put("no memory"),
+        Err(ParseError::NoMemory) => out.fail(),
+    }
+}
+
+/// What is asked of tokens.
+fn put_tokens(alloc: Global, asked: &str, all: &[Token<'_>], end: usize, out: &mut Out) {
+    if asked == "tokens" {
+        tokens::put_tokens(all, out);
+    } else {
+        put_parsed(alloc, asked == "tree", all, end, out);
+    }
+}
+
+/// What is asked of a text.
+fn put_text(alloc: Global, asked: &str, text: &[u8], out: &mut Out) {
+    match c_token::tokens(alloc, text) {
+        Ok(all) => put_tokens(alloc, asked, all.as_slice(), text.len(), out),
+        Err(TokenError::Fault(fault)) => put_fault(&fault.kind, fault.offset, out),
+        Err(TokenError::NoMemory) => out.fail(),
     }
 }
 
 /// The outcome of a row.
-fn put_outcome(alloc: Global, row: &str, out: &mut Out) -> Result<(), AllocError> {
-    let (asked, row) = row.split_once(' ').unwrap_or((row, ""));
+fn put_outcome(alloc: Global, row: &str, out: &mut Out) {
+    let (asked, pieces) = split(row, ' ');
     let mut text = Vec::new(alloc);
-    texts::put_text(alloc, row, &mut text)?;
-    match c_token::tokens(alloc, text.as_slice()) {
-        Ok(all) if asked == "tokens" => tokens::put_tokens(all.as_slice(), out),
-        Ok(all) => put_parsed(alloc, asked, all.as_slice(), text.len(), out),
-        Err(TokenError::Fault(fault)) => put_fault(&fault.kind, fault.offset, out),
-        Err(TokenError::NoMemory) => out.put("no memory"),
+    if texts::read(alloc, pieces, &mut text).is_err() {
+        out.fail();
     }
-    Ok(())
+    put_text(alloc, asked, text.as_slice(), out);
 }
 
-fn main(rt: HostRuntime) -> anyhow::Result<()> {
-    for line in BufReader::new(rt.alloc(), rt.reader())?.lines(rt.alloc()) {
-        let line = line?;
-        if line.as_str().starts_with('#') {
-            continue;
-        }
-        let (name, row) = line
-            .as_str()
-            .split_once(": ")
-            .unwrap_or((line.as_str(), ""));
-        let mut out = Out::new(rt.alloc());
-        put_outcome(rt.alloc(), row, &mut out)?;
-        println!(rt; "{name}: {}", out.text()?.trim())?;
+fn put_row(alloc: Global, line: &str, out: &mut Out) {
+    if line.starts_with('#') {
+        return;
     }
-    Ok(())
+    let (name, row) = split_at(line, ": ");
+    let mut outcome = Out::new(alloc);
+    put_outcome(alloc, row, &mut outcome);
+    out.row(name, &outcome);
+}
+
+fn put_rows(alloc: Global, rows: &str, out: &mut Out) {
+    for line in rows.lines() {
+        put_row(alloc, line, out);
+    }
+}
+
+fn main(rt: HostRuntime) -> io::Result<()> {
+    let rows = input(rt)?;
+    let mut out = Out::new(rt.alloc());
+    put_rows(rt.alloc(), rows.as_str(), &mut out);
+    output(rt, &out)
 }

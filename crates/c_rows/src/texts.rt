@@ -1,31 +1,43 @@
 //! The texts of rows.
 
+use row_io::{decimal, split};
 use std::alloc::{AllocError, Global};
 
-/// A piece between backquotes: bytes in hexadecimal, or a piece that is repeated.
-fn put_piece(alloc: Global, piece: &str, text: &mut Vec<u8>) -> Result<(), AllocError> {
-    match piece.split_once('*') {
-        Some((count, repeated)) => {
-            for _ in 0..count.parse::<u16>().unwrap_or(0) {
-                text.extend_from_slice(repeated.as_bytes())?;
-            }
-            Ok(())
-        }
-        None => match hex::decode(alloc, piece) {
-            Ok(bytes) => text.extend_from_slice(bytes.as_slice()),
-            Err(_) => Ok(()),
-        },
+/// Bytes in hexadecimal; none where they are not.
+fn read_bytes(alloc: Global, digits: &str, text: &mut Vec<u8>) -> Result<(), AllocError> {
+    match hex::decode(alloc, digits) {
+        Ok(bytes) => text.extend_from_slice(bytes.as_slice()),
+        Err(_) => Ok(()),
     }
 }
 
+/// A piece so many times.
+fn repeat(count: u64, piece: &str, text: &mut Vec<u8>) -> Result<(), AllocError> {
+    for _ in 0..count {
+        text.extend_from_slice(piece.as_bytes())?;
+    }
+    Ok(())
+}
+
+/// A piece between backquotes: bytes in hexadecimal, or a piece that is repeated.
+fn read_piece(alloc: Global, piece: &str, text: &mut Vec<u8>) -> Result<(), AllocError> {
+    if piece.contains('*') {
+        let (count, repeated) = split(piece, '*');
+        return repeat(decimal(count), repeated, text);
+    }
+    read_bytes(alloc, piece, text)
+}
+
 /// The text of a row.
-pub(crate) fn put_text(alloc: Global, row: &str, text: &mut Vec<u8>) -> Result<(), AllocError> {
-    for (number, piece) in row.split('`').enumerate() {
-        if number % 2 == 0 {
-            text.extend_from_slice(piece.as_bytes())?;
+pub(crate) fn read(alloc: Global, row: &str, text: &mut Vec<u8>) -> Result<(), AllocError> {
+    let mut is_plain = true;
+    for piece in row.split('`') {
+        if is_plain {
+            repeat(1, piece, text)?;
         } else {
-            put_piece(alloc, piece, text)?;
+            read_piece(alloc, piece, text)?;
         }
+        is_plain = !is_plain;
     }
     Ok(())
 }

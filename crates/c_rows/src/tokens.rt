@@ -1,8 +1,8 @@
 //! Tokens as text: what each is, with its offset.
 
-use crate::out::Out;
 use c_spec::token::NumberType;
 use c_token::{Kind, Token};
+use row_io::Out;
 
 /// A number: its value, and `u`, `ll` or `ull` where its type is not `int`.
 pub(crate) fn put_number(value: u64, number_type: NumberType, out: &mut Out) {
@@ -34,7 +34,7 @@ pub(crate) fn put_tokens(tokens: &[Token<'_>], out: &mut Out) {
     }
     for token in tokens {
         put_kind(token.kind, out);
-        out.offset(token.offset);
+        out.put_at("", token.offset);
         out.put(" ");
     }
 }

@@ -10,30 +10,36 @@
 
 ghost use Rattle.std.specs.Prelude.{◌<◌, length};
 
-use crate::terms::{Question, add_value};
-use crate::words::number;
+use crate::{Question, Row};
 use bit_blast::{BlastError, Blasted, blast, read_back};
 use cnf_core::{Cnf, Literal, eval};
+use row_io::{Out, decimal};
 use std::alloc::{AllocError, Global};
 use term_bank::{Bank, TermId};
 use term_core::Assignment;
 
-fn add_clause(out: &mut String, clause: &[Literal]) -> Result<(), AllocError> {
-    for literal in clause {
-        let sign = if literal.is_negated() { "-" } else { "" };
-        write!(out, " {sign}{}", literal.variable())?;
-    }
-    out.push_str(" 0")
+/// How many variables and clauses there are.
+fn put_size(cnf: &Cnf, out: &mut Out) {
+    out.show(&cnf.variables());
+    out.put(" ");
+    out.show(&cnf.len());
 }
 
-fn clauses(out: &mut String, cnf: &Cnf, from: u64) -> Result<(), AllocError> {
-    write!(out, "{} {}:", cnf.variables(), cnf.len())?;
+fn put_clause(clause: &[Literal], out: &mut Out) {
+    for literal in clause {
+        out.put(if literal.is_negated() { " -" } else { " " });
+        out.show(&literal.variable());
+    }
+    out.put(" 0");
+}
+
+fn put_clauses(cnf: &Cnf, from: u64, out: &mut Out) {
+    out.put(":");
     for index in from as usize..cnf.len() {
         if let Some(clause) = cnf.clause(index) {
-            add_clause(out, clause)?;
+            put_clause(clause, out);
         }
     }
-    Ok(())
 }
 
 /// The next digest, by the rule of FNV-1a on 64 bits at a time.
@@ -49,14 +55,15 @@ fn with_clause(digest: u64, clause: &[Literal]) -> u64 {
     with_literal(digest, 0)
 }
 
-fn digest(out: &mut String, cnf: &Cnf) -> Result<(), AllocError> {
+fn put_digest(cnf: &Cnf, out: &mut Out) {
     let mut digest: u64 = 0xcbf2_9ce4_8422_2325;
     for index in 0..cnf.len() {
         if let Some(clause) = cnf.clause(index) {
             digest = with_clause(digest, clause);
         }
     }
-    write!(out, "{} {} {digest:x}", cnf.variables(), cnf.len())
+    out.put(" ");
+    out.hexadecimal(digest);
 }
 
 fn bits(alloc: Global, text: &str) -> Result<Vec<bool>, AllocError> {
@@ -67,75 +74,69 @@ fn bits(alloc: Global, text: &str) -> Result<Vec<bool>, AllocError> {
     Ok(bits)
 }
 
-fn reconstruct(
+fn put_model(
     alloc: Global,
-    out: &mut String,
-    values: &mut Assignment,
-    blasted: &Blasted,
-    bits: &[bool],
-) -> Result<(), AllocError> {
-    let is_model = bits.len() == blasted.cnf.variables() && eval(&blasted.cnf, bits);
-    *values = read_back(alloc, blasted, bits)?;
-    write!(out, "{is_model} ")
-}
-
-fn model(
-    alloc: Global,
-    out: &mut String,
     values: &mut Assignment,
     blasted: &Blasted,
     text: &str,
+    out: &mut Out,
 ) -> Result<(), AllocError> {
     let bits = bits(alloc, text)?;
-    reconstruct(alloc, out, values, blasted, &bits)
+    *values = read_back(alloc, blasted, &bits)?;
+    out.show(&(bits.len() == blasted.cnf.variables() && eval(&blasted.cnf, &bits)));
+    out.put(" ");
+    Ok(())
 }
 
-fn ask(
+fn put_blasted(
     alloc: Global,
-    out: &mut String,
     values: &mut Assignment,
     blasted: &Blasted,
-    question: Question<'_>,
+    row: Row<'_>,
+    out: &mut Out,
 ) -> Result<(), AllocError> {
-    match question.name {
-        "clauses" => clauses(out, &blasted.cnf, number(question.detail)),
-        "digest" => digest(out, &blasted.cnf),
-        "within" => write!(out, "{} {}", blasted.cnf.variables(), blasted.cnf.len()),
-        _ => model(alloc, out, values, blasted, question.detail),
+    if matches!(row.question, Question::Model) {
+        return put_model(alloc, values, blasted, row.detail, out);
     }
+    put_size(&blasted.cnf, out);
+    match row.question {
+        Question::Clauses => put_clauses(&blasted.cnf, decimal(row.detail), out),
+        Question::Digest => put_digest(&blasted.cnf, out),
+        _ => {}
+    }
+    Ok(())
 }
 
-/// The most variables that the clauses of a question's goal may have.
-fn maximum(question: Question<'_>) -> usize {
-    match question.name {
-        "within" => number(question.detail) as usize,
-        _ => usize::MAX,
-    }
-}
-
-/// Adds why there are no clauses; the number that is reported is to be above the maximum.
-fn add_error(out: &mut String, error: BlastError, maximum: usize) -> Result<(), AllocError> {
+/// Why there are no clauses; the number that is reported is to be above the maximum.
+fn put_error(error: BlastError, maximum: usize, out: &mut Out) -> Result<(), AllocError> {
     match error {
-        BlastError::Large(count) if count > maximum => out.push_str("large"),
-        BlastError::Large(count) => write!(out, "large {count}"),
-        BlastError::NoMemory => Err(AllocError),
+        BlastError::Large(count) if count > maximum => out.put("large"),
+        BlastError::Large(count) => {
+            out.put("large ");
+            out.show(&count);
+        }
+        BlastError::NoMemory => return Err(AllocError),
     }
+    Ok(())
 }
 
 /// Answers a question on a goal.
 pub(crate) fn answer(
     alloc: Global,
-    out: &mut String,
     values: &mut Assignment,
     bank: &Bank,
     id: TermId,
-    question: Question<'_>,
+    row: Row<'_>,
+    out: &mut Out,
 ) -> Result<(), AllocError>
     requires { id < length bank.now }
 {
-    let maximum = maximum(question);
+    let maximum = match row.question {
+        Question::Within => decimal(row.detail) as usize,
+        _ => usize::MAX,
+    };
     match blast(alloc, bank, id, maximum) {
-        Ok(blasted) => ask(alloc, out, values, &blasted, question),
-        Err(error) => add_error(out, error, maximum),
+        Ok(blasted) => put_blasted(alloc, values, &blasted, row, out),
+        Err(error) => put_error(error, maximum, out),
     }
 }

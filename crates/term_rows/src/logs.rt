@@ -5,9 +5,9 @@ ghost use Rattle.std.specs.Prelude.{◌≡◌};
 ghost use Rattle.std.specs.List.{list_all};
 ghost use Rattle.clause_spec.specs.Clause.{is_of};
 
-use crate::words::number;
 use clause_check::{Literal, Log, StepError};
 use cnf_core::Cnf;
+use row_io::{Out, decimal, split};
 use std::alloc::{AllocError, Global};
 
 /// The literal of a variable. Where its number is too large for one it is 0, which no clauses have
@@ -21,8 +21,8 @@ fn literal_of(variable: u64, is_negated: bool) -> Literal {
 
 fn literal(word: &str) -> Literal {
     match word.strip_prefix('-') {
-        Some(rest) => literal_of(number(rest), true),
-        None => literal_of(number(word), false),
+        Some(rest) => literal_of(decimal(rest), true),
+        None => literal_of(decimal(word), false),
     }
 }
 
@@ -40,7 +40,7 @@ fn hints(alloc: Global, text: &str) -> Result<Vec<usize>, AllocError> {
     let mut hints = Vec::new(alloc);
     for word in text.split(' ') {
         if !word.is_empty() {
-            hints.push(number(word) as usize)?;
+            hints.push(decimal(word) as usize)?;
         }
     }
     Ok(hints)
@@ -68,48 +68,44 @@ fn clauses(alloc: Global, cnf: &mut Cnf, text: &str) -> Result<(), AllocError> {
     Ok(())
 }
 
-fn add_step(
-    out: &mut String,
-    log: &mut Log,
-    literals: &[Literal],
-    hints: &[usize],
-) -> Result<(), AllocError> {
+fn put_step(log: &mut Log, literals: &[Literal], hints: &[usize], out: &mut Out) {
     match log.step(literals, hints) {
-        Ok(()) => out.push_str("ok, "),
-        Err(StepError::Fault(fault)) => write!(out, "{fault}, "),
-        Err(StepError::NoMemory) => Err(AllocError),
+        Ok(()) => out.put("ok, "),
+        Err(StepError::Fault(fault)) => {
+            out.display(&fault);
+            out.put(", ");
+        }
+        Err(StepError::NoMemory) => out.fail(),
     }
 }
 
-fn one_step(alloc: Global, out: &mut String, log: &mut Log, text: &str) -> Result<(), AllocError> {
+fn step(alloc: Global, log: &mut Log, text: &str, out: &mut Out) -> Result<(), AllocError> {
     let (names, numbers) = text.split_once("by").unwrap_or((text, ""));
     let literals = literals(alloc, names)?;
     let hints = hints(alloc, numbers)?;
-    add_step(out, log, &literals, &hints)
+    put_step(log, &literals, &hints, out);
+    Ok(())
 }
 
-fn steps(alloc: Global, out: &mut String, log: &mut Log, text: &str) -> Result<(), AllocError> {
+fn steps(alloc: Global, log: &mut Log, text: &str, out: &mut Out) -> Result<(), AllocError> {
     log.reserve(8)?;
     for part in text.split(';') {
-        one_step(alloc, out, log, part)?;
+        step(alloc, log, part, out)?;
     }
-    out.push_str(if log.is_closed() { "closed" } else { "open" })
-}
-
-fn over(alloc: Global, out: &mut String, cnf: Cnf, text: &str) -> Result<(), AllocError> {
-    let mut log = Log::new(alloc, cnf)?;
-    steps(alloc, out, &mut log, text)
+    out.put(if log.is_closed() { "closed" } else { "open" });
+    Ok(())
 }
 
 /// Answers the question on a log.
 pub(crate) fn answer(
     alloc: Global,
-    out: &mut String,
     variables: u64,
     text: &str,
+    out: &mut Out,
 ) -> Result<(), AllocError> {
-    let (given, added) = text.split_once(';').unwrap_or((text, ""));
+    let (given, added) = split(text, ';');
     let mut cnf = Cnf::new(alloc, variables as usize);
     clauses(alloc, &mut cnf, given)?;
-    over(alloc, out, cnf, added)
+    let mut log = Log::new(alloc, cnf)?;
+    steps(alloc, &mut log, added, out)
 }

@@ -11,114 +11,155 @@ mod terms;
 mod trees;
 mod words;
 
+use row_io::{Out, decimal, input, output, split, split_at};
 use std::alloc::{AllocError, Global};
 use std::io;
-use std::io::{BufRead, BufReader};
 use term_bank::{Bank, TermId};
 use term_core::Assignment;
-use terms::Question;
 
-/// Answers a question on a goal, and adds the goal's value where the question leaves a model.
-fn ask_goal(
-    alloc: Global,
-    out: &mut String,
-    values: &mut Assignment,
-    bank: &mut Bank,
-    read: &mut Vec<TermId>,
-    text: &str,
-    question: Question<'_>,
-) -> Result<(), AllocError> {
-    let id = words::term(bank, read, text)?;
-    goals::answer(alloc, out, values, bank, id, question)?;
-    if question.name == "model" {
-        terms::add_value(alloc, out, values, bank, id)?;
+/// What is asked of a term.
+#[derive(Clone, Copy)]
+pub(crate) enum Question {
+    Value,
+    Tree,
+    Set,
+    Normal,
+    Flat,
+    Indices,
+    Rebuild,
+    Subterms,
+    Substitute,
+    Rename,
+    Clauses,
+    Digest,
+    Within,
+    Model,
+}
+
+const QUESTIONS: [(&str, Question); 14] = [
+    ("value", Question::Value),
+    ("tree", Question::Tree),
+    ("set", Question::Set),
+    ("normal", Question::Normal),
+    ("flat", Question::Flat),
+    ("indices", Question::Indices),
+    ("rebuild", Question::Rebuild),
+    ("subterms", Question::Subterms),
+    ("substitute", Question::Substitute),
+    ("rename", Question::Rename),
+    ("clauses", Question::Clauses),
+    ("digest", Question::Digest),
+    ("within", Question::Within),
+    ("model", Question::Model),
+];
+
+/// A row's question, what follows its colon, and the expected answer.
+#[derive(Clone, Copy)]
+pub(crate) struct Row<'a> {
+    question: Question,
+    detail: &'a str,
+    form: &'a str,
+}
+
+/// The question of a name; any other name asks for a value.
+fn asked(name: &str) -> Question {
+    for (of, question) in &QUESTIONS {
+        if *of == name {
+            return *question;
+        }
     }
-    Ok(())
+    Question::Value
 }
 
-/// Answers a question on the tree of a term.
-fn ask_tree(
-    alloc: Global,
-    out: &mut String,
-    bank: &mut Bank,
-    read: &mut Vec<TermId>,
-    text: &str,
-    question: Question<'_>,
-) -> Result<(), AllocError> {
-    let id = words::term(bank, read, text)?;
-    trees::answer(alloc, out, bank, read, id, question)
-}
-
-/// Answers a question on a term.
-fn ask_term(
-    alloc: Global,
-    out: &mut String,
-    values: &mut Assignment,
-    bank: &mut Bank,
-    read: &mut Vec<TermId>,
-    text: &str,
-    question: Question<'_>,
-) -> Result<(), AllocError> {
-    let id = words::term(bank, read, text)?;
-    terms::answer(alloc, out, values, bank, read, id, question)
-}
-
-/// Answers a question over a bank.
+/// Answers a question on a term, over the bank that it was read into.
 fn ask(
     alloc: Global,
-    out: &mut String,
     values: &mut Assignment,
     bank: &mut Bank,
     read: &mut Vec<TermId>,
     text: &str,
-    question: Question<'_>,
+    row: Row<'_>,
+    out: &mut Out,
 ) -> Result<(), AllocError> {
-    match question.name {
-        "clauses" | "digest" | "model" | "within" => ask_goal(
-            alloc, out, values, bank, read, text, question,
-        ),
-        "subterms" | "substitute" | "rename" => ask_tree(alloc, out, bank, read, text, question),
-        _ => ask_term(alloc, out, values, bank, read, text, question),
+    let id = words::term(bank, read, text)?;
+    match row.question {
+        Question::Value => terms::put_value(alloc, values, bank, id, out),
+        Question::Tree => terms::put_tree(alloc, values, bank, id, out),
+        Question::Set => terms::set(alloc, values, bank, id, row.detail, out),
+        Question::Normal => terms::put_normal(alloc, bank, read, id, row.form, out),
+        Question::Flat => terms::put_flat(alloc, bank, read, id, row.form, out),
+        Question::Indices => terms::put_indices(alloc, bank, id, out),
+        Question::Rebuild => terms::put_rebuilt(alloc, values, bank, id, out),
+        Question::Subterms => trees::put_subterms(alloc, bank, id, row.detail, out),
+        Question::Substitute => trees::put_substituted(alloc, bank, read, id, row, out),
+        Question::Rename => trees::put_renamed(alloc, bank, read, id, row, out),
+        Question::Model => {
+            goals::answer(alloc, values, bank, id, row, out)?;
+            terms::put_value(alloc, values, bank, id, out)
+        }
+        _ => goals::answer(alloc, values, bank, id, row, out),
     }
 }
 
-/// Adds what is found for a row.
-fn add_found(
+/// Answers a row.
+fn answer(
     alloc: Global,
-    out: &mut String,
     values: &mut Assignment,
     row: &str,
     form: &str,
+    out: &mut Out,
 ) -> Result<(), AllocError> {
-    let (first, text) = row.split_once(' ').unwrap_or((row, ""));
-    let (name, detail) = first.split_once(':').unwrap_or((first, ""));
+    let (first, text) = split(row, ' ');
+    let (name, detail) = split(first, ':');
     if name == "log" {
-        return logs::answer(alloc, out, words::number(detail), text);
+        return logs::answer(alloc, decimal(detail), text, out);
     }
+    let row = Row {
+        question: asked(name),
+        detail,
+        form,
+    };
     let mut bank = Bank::new(alloc);
     let mut read = Vec::new(alloc);
-    let question = Question { name, detail, form };
-    ask(alloc, out, values, &mut bank, &mut read, text, question)
+    ask(alloc, values, &mut bank, &mut read, text, row, out)
 }
 
-/// Prints a row with its outcome.
-fn print_row(rt: &HostRuntime, values: &mut Assignment, row: &str) -> io::Result<()> {
-    let Some((question, form)) = row.split_once(" = ") else {
-        return println!(rt; "{row}");
-    };
-    let mut found = String::new(rt.alloc());
-    add_found(rt.alloc(), &mut found, values, question, form)?;
-    if found.as_str() == form {
-        println!(rt; "{row}: ok")
-    } else {
-        println!(rt; "{row}: found {found}")
+/// Writes what is found for a row.
+fn put_found(alloc: Global, values: &mut Assignment, row: &str, form: &str, out: &mut Out) {
+    let mut found = Out::new(alloc);
+    if answer(alloc, values, row, form, &mut found).is_err() {
+        out.fail();
+    }
+    match found.text() {
+        Ok(text) if text == form => out.put(": ok"),
+        Ok(text) => {
+            out.put(": found ");
+            out.put(text);
+        }
+        Err(_) => out.fail(),
+    }
+}
+
+/// Writes a row with its outcome.
+fn put_row(alloc: Global, values: &mut Assignment, row: &str, out: &mut Out) {
+    let (question, form) = split_at(row, " = ");
+    out.put(row);
+    if !form.is_empty() {
+        put_found(alloc, values, question, form, out);
+    }
+    out.put("\n");
+}
+
+fn put_rows(alloc: Global, rows: &str, out: &mut Out) {
+    let mut values = Assignment::new(alloc);
+    for row in rows.lines() {
+        put_row(alloc, &mut values, row, out);
     }
 }
 
 fn main(rt: HostRuntime) -> io::Result<()> {
-    let mut values = Assignment::new(rt.alloc());
-    for line in BufReader::new(rt.alloc(), rt.reader())?.lines(rt.alloc()) {
-        print_row(&rt, &mut values, line?.as_str())?;
-    }
-    Ok(())
+    let rows = input(rt)?;
+    let mut out = Out::new(rt.alloc());
+    put_rows(rt.alloc(), rows.as_str(), &mut out);
+    output(rt, &out)
 }

@@ -3,7 +3,7 @@
 // - `value TERM`: its value in a bank; `tree TERM`: the sort and the value of its tree, or `None`
 //   if it has no sort
 // - `set:VARIABLE TERM`: the same value, which the variable has from here on
-// - `normal TERM`: its normal form, where memories of the source hold the bytes of `runs`
+// - `normal TERM`: its normal form, where memories of the source hold the bytes of `RUNS`
 // - `flat TERM`: its flat term; `indices TERM`: the indices of this and of its loads in the bank
 // - `rebuild TERM`: its value after memories are rebuilt from a model of its flat term, which the
 //   variables keep
@@ -13,6 +13,7 @@ ghost use Rattle.std.specs.Prelude.{◌<◌, length};
 use crate::words::{atom, term};
 use mem_terms::{flat, rebuild};
 use memory_spec::Run;
+use row_io::Out;
 use std::alloc::{AllocError, Global};
 use std::mem;
 use term_bank::{Bank, TermId, TermNode};
@@ -21,18 +22,23 @@ use term_norm::normal;
 use term_spec::Atom;
 
 /// The bytes that the memories of the source hold.
+const RUNS: [(u32, &[u8]); 4] = [
+    (16, &[80, 117, 154, 191, 228, 9, 46, 83]),
+    (100, &[7, 8]),
+    (200, &[9]),
+    (101, &[1, 2]),
+];
+
 fn runs(alloc: Global) -> Result<Vec<Run>, AllocError> {
     let mut runs = Vec::new(alloc);
-    runs.push(run(alloc, 16, &[80, 117, 154, 191, 228, 9, 46, 83])?)?;
-    runs.push(run(alloc, 100, &[7, 8])?)?;
-    runs.push(run(alloc, 200, &[9])?)?;
-    runs.push(run(alloc, 101, &[1, 2])?)?;
+    for (start, bytes) in &RUNS {
+        let bytes = bytes.to_vec(alloc)?;
+        runs.push(Run {
+            start: *start,
+            bytes,
+        })?;
+    }
     Ok(runs)
-}
-
-fn run(alloc: Global, start: u32, bytes: &[u8]) -> Result<Run, AllocError> {
-    let bytes = bytes.to_vec(alloc)?;
-    Ok(Run { start, bytes })
 }
 
 /// Both, where both were made.
@@ -84,22 +90,25 @@ pub(crate) fn tree(alloc: Global, bank: &Bank, id: TermId) -> Result<Box<Term>, 
     }
 }
 
-fn of_tree(
+/// The sort and the value of the tree of a term.
+pub(crate) fn put_tree(
     alloc: Global,
-    out: &mut String,
     values: &Assignment,
     bank: &Bank,
     id: TermId,
+    out: &mut Out,
 ) -> Result<(), AllocError>
     requires { id < length bank.now }
 {
     let tree = tree(alloc, bank, id)?;
     let sort = sort(&tree);
-    if sort.is_none() {
-        return out.push_str("None");
+    out.show(&sort);
+    if sort.is_some() {
+        let value = eval(alloc, &tree, values)?;
+        out.put(" ");
+        out.show(&value);
     }
-    let value = eval(alloc, &tree, values)?;
-    write!(out, "{sort:?} {value:?}")
+    Ok(())
 }
 
 /// The value of a term in a bank.
@@ -112,131 +121,106 @@ fn value(alloc: Global, values: &Assignment, bank: &Bank, id: TermId) -> Result<
     }
 }
 
-/// Adds the value of a term to the text.
-pub(crate) fn add_value(
+/// Writes the value of a term.
+pub(crate) fn put_value(
     alloc: Global,
-    out: &mut String,
     values: &Assignment,
     bank: &Bank,
     id: TermId,
+    out: &mut Out,
 ) -> Result<(), AllocError> {
-    let value = value(alloc, values, bank, id)?;
-    write!(out, "{value:?}")
+    out.show(&value(alloc, values, bank, id)?);
+    Ok(())
 }
 
-fn set(
+/// Writes the value of a term, which a variable has from here on.
+pub(crate) fn set(
     alloc: Global,
-    out: &mut String,
     values: &mut Assignment,
     bank: &Bank,
     id: TermId,
     name: &str,
+    out: &mut Out,
 ) -> Result<(), AllocError> {
     let value = value(alloc, values, bank, id)?;
-    write!(out, "{value:?}")?;
-    let (name, rest) = name.split_once(':').unwrap_or((name, ""));
-    match atom(name, rest) {
+    out.show(&value);
+    match atom(name) {
         Atom::Open(variable) => values.set(variable, value),
         _ => Ok(()),
     }
 }
 
-/// Adds the expected answer where the term is the one that it names; else the term's node.
+/// Writes the expected answer where the term is the one that it names; else the term's node.
 pub(crate) fn compare(
-    out: &mut String,
     bank: &mut Bank,
     read: &mut Vec<TermId>,
     id: TermId,
     form: &str,
+    out: &mut Out,
 ) -> Result<(), AllocError> {
-    let expected = term(bank, read, form)?;
-    if id == expected {
-        out.push_str(form)
+    if id == term(bank, read, form)? {
+        out.put(form);
     } else if id < bank.len() {
-        write!(out, "{:?}", bank.node(id))
-    } else {
-        Ok(())
+        out.show(&bank.node(id));
     }
+    Ok(())
 }
 
-fn normal_form(
+/// Writes the normal form of a term.
+pub(crate) fn put_normal(
     alloc: Global,
-    out: &mut String,
     bank: &mut Bank,
     read: &mut Vec<TermId>,
     id: TermId,
     form: &str,
+    out: &mut Out,
 ) -> Result<(), AllocError>
     requires { id < length bank.old }
 {
     let made = normal(alloc, bank, id, &runs(alloc)?)?;
-    compare(out, bank, read, made, form)
+    compare(bank, read, made, form, out)
 }
 
-fn flat_form(
+/// Writes the flat term of a term.
+pub(crate) fn put_flat(
     alloc: Global,
-    out: &mut String,
     bank: &mut Bank,
     read: &mut Vec<TermId>,
     id: TermId,
     form: &str,
+    out: &mut Out,
 ) -> Result<(), AllocError>
     requires { id < length bank.old }
 {
     let flat = flat(alloc, bank, id)?;
-    compare(out, bank, read, flat.term, form)
+    compare(bank, read, flat.term, form, out)
 }
 
-fn indices(alloc: Global, out: &mut String, bank: &mut Bank, id: TermId) -> Result<(), AllocError>
+/// Writes the indices of the flat term and of its loads.
+pub(crate) fn put_indices(
+    alloc: Global,
+    bank: &mut Bank,
+    id: TermId,
+    out: &mut Out,
+) -> Result<(), AllocError>
     requires { id < length bank.old }
 {
-    let flat = flat(alloc, bank, id)?;
-    write!(out, "{flat:?}")
+    out.show(&flat(alloc, bank, id)?);
+    Ok(())
 }
 
-fn rebuilt(
+/// Writes the value of a term after its memories are rebuilt.
+pub(crate) fn put_rebuilt(
     alloc: Global,
-    out: &mut String,
     values: &mut Assignment,
     bank: &mut Bank,
     id: TermId,
+    out: &mut Out,
 ) -> Result<(), AllocError>
     requires { id < length bank.old }
 {
     let flat = flat(alloc, bank, id)?;
     let old = mem::replace(values, Assignment::new(alloc));
     *values = rebuild(alloc, &flat, bank, old)?;
-    add_value(alloc, out, values, bank, id)
-}
-
-/// A row's question: its name, what follows its colon, and the expected answer.
-#[derive(Clone, Copy)]
-pub(crate) struct Question<'a> {
-    pub(crate) name: &'a str,
-    pub(crate) detail: &'a str,
-    pub(crate) form: &'a str,
-}
-
-/// Answers a question on a term.
-pub(crate) fn answer(
-    alloc: Global,
-    out: &mut String,
-    values: &mut Assignment,
-    bank: &mut Bank,
-    read: &mut Vec<TermId>,
-    id: TermId,
-    question: Question<'_>,
-) -> Result<(), AllocError>
-    requires { id < length bank.old }
-{
-    match question.name {
-        "value" => add_value(alloc, out, values, bank, id),
-        "tree" => of_tree(alloc, out, values, bank, id),
-        "set" => set(alloc, out, values, bank, id, question.detail),
-        "normal" => normal_form(alloc, out, bank, read, id, question.form),
-        "flat" => flat_form(alloc, out, bank, read, id, question.form),
-        "indices" => indices(alloc, out, bank, id),
-        "rebuild" => rebuilt(alloc, out, values, bank, id),
-        _ => Ok(()),
-    }
+    put_value(alloc, values, bank, id, out)
 }

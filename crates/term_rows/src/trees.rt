@@ -10,27 +10,31 @@ ghost use Rattle.std.specs.HashMap.{get};
 ghost use Rattle.term_spec.specs.Same.{same_variable};
 ghost use Rattle.term_substitution.specs.States.{AreBelow};
 
-use crate::terms::{Question, compare, tree};
-use crate::words::{atom, next, number};
+use crate::Row;
+use crate::terms::{compare, tree};
+use crate::words::{atom, next};
+use row_io::{Out, decimal};
 use std::alloc::{AllocError, Global};
 use std::collections::HashMap;
 use term_bank::{Bank, TermId};
 use term_spec::{Atom, Family, Variable};
 use term_substitution::{rename, substitute};
 
-fn subterms(
+/// Writes how many distinct subterms a term has.
+pub(crate) fn put_subterms(
     alloc: Global,
-    out: &mut String,
     bank: &Bank,
     id: TermId,
     maximum: &str,
+    out: &mut Out,
 ) -> Result<(), AllocError>
     requires { id < length bank.now }
 {
-    match bank.count_subterms(alloc, id, number(maximum) as usize)? {
-        Some(count) => write!(out, "{count}"),
-        None => out.push_str("above"),
+    match bank.count_subterms(alloc, id, decimal(maximum) as usize)? {
+        Some(count) => out.show(&count),
+        None => out.put("above"),
     }
+    Ok(())
 }
 
 fn put(
@@ -43,8 +47,7 @@ fn put(
     requires id { id < size }
     ensures { AreBelow size (get same_variable state.new) }
 {
-    let (name, rest) = name.split_once(':').unwrap_or((name, ""));
-    if let Atom::Open(variable) = atom(name, rest) {
+    if let Atom::Open(variable) = atom(name) {
         state.insert(variable, id)?;
     }
     Ok(())
@@ -67,53 +70,37 @@ fn state(
     Ok(state)
 }
 
-fn substituted(
+/// Writes the term that terms are substituted into.
+pub(crate) fn put_substituted(
     alloc: Global,
-    out: &mut String,
     bank: &mut Bank,
     read: &mut Vec<TermId>,
     id: TermId,
-    question: Question<'_>,
+    row: Row<'_>,
+    out: &mut Out,
 ) -> Result<(), AllocError>
     requires { id < length bank.old }
 {
     let tree = tree(alloc, bank, id)?;
-    let state = state(alloc, bank, read, question.detail)?;
+    let state = state(alloc, bank, read, row.detail)?;
     let made = substitute(bank, &tree, &state)?;
-    compare(out, bank, read, made, question.form)
+    compare(bank, read, made, row.form, out)
 }
 
-fn renamed(
+/// Writes the renamed term.
+pub(crate) fn put_renamed(
     alloc: Global,
-    out: &mut String,
     bank: &mut Bank,
     read: &mut Vec<TermId>,
     id: TermId,
-    question: Question<'_>,
+    row: Row<'_>,
+    out: &mut Out,
 ) -> Result<(), AllocError>
     requires { id < length bank.old }
 {
     let own = [Family::Register, Family::IsSet];
     let tree = tree(alloc, bank, id)?;
-    let renamed = rename(alloc, &tree, &own, number(question.detail) as usize)?;
+    let renamed = rename(alloc, &tree, &own, decimal(row.detail) as usize)?;
     let made = substitute(bank, &renamed, &HashMap::new(alloc))?;
-    compare(out, bank, read, made, question.form)
-}
-
-/// Answers a question on the tree of a term.
-pub(crate) fn answer(
-    alloc: Global,
-    out: &mut String,
-    bank: &mut Bank,
-    read: &mut Vec<TermId>,
-    id: TermId,
-    question: Question<'_>,
-) -> Result<(), AllocError>
-    requires { id < length bank.old }
-{
-    match question.name {
-        "subterms" => subterms(alloc, out, bank, id, question.detail),
-        "substitute" => substituted(alloc, out, bank, read, id, question),
-        _ => renamed(alloc, out, bank, read, id, question),
-    }
+    compare(bank, read, made, row.form, out)
 }

@@ -1,11 +1,13 @@
 // Terms as words: an operator precedes its arguments, in brackets or not. `join2`, `join4` and
 // `join8` have two, four and eight bytes; `zext`, `sext`, `low` and `byte` have their number after
 // a colon, as in `low:8`; `twice:N` is the last of N sums, each of the one before with itself. A
-// variable of an instance has its number and a slash before its name, as in `3/a:32`.
+// variable of an instance has its number and a slash before its name, as in `3/a:32`; `v:N` is a
+// loaded byte, and a constant is `WIDTH:NUMBER`.
 
-ghost use Rattle.std.specs.Prelude.{◌≡◌, ◌<◌, length, IfOk, IfSome};
+ghost use Rattle.std.specs.Prelude.{◌≡◌, ◌<◌, length, IfOk};
 ghost use Rattle.term_bank.specs.Nodes.{IsNode};
 
+use row_io::{decimal, split};
 use std::alloc::AllocError;
 use term_bank::{Bank, TermId, TermNode};
 use term_spec::{
@@ -13,117 +15,214 @@ use term_spec::{
     Variable, Width, WordOperator,
 };
 
-fn width(text: &str) -> Width {
-    match text {
-        "8" => Width::W8,
-        "16" => Width::W16,
-        "32" => Width::W32,
+/// What a word names.
+#[derive(Clone, Copy)]
+enum Name {
+    Truth(bool),
+    Constant(Width, u64),
+    Variable(Family, usize, Sort),
+    Unary(UnaryOperator),
+    Binary(BinaryOperator),
+    Ternary(TernaryOperator),
+    Quaternary(QuaternaryOperator),
+    Octonary,
+}
+
+const NAMES: [(&str, Name); 65] = [
+    ("true", Name::Truth(true)),
+    ("false", Name::Truth(false)),
+    ("m0", Name::Variable(Family::SourceMemory, 0, Sort::Memory)),
+    ("m1", Name::Variable(Family::SourceMemory, 1, Sort::Memory)),
+    ("z0", Name::Variable(Family::BinaryMemory, 0, Sort::Memory)),
+    ("z1", Name::Variable(Family::ZoneMemory, 0, Sort::Memory)),
+    ("p", Name::Variable(Family::IsSet, 0, Sort::Truth)),
+    ("q", Name::Variable(Family::IsSet, 1, Sort::Truth)),
+    ("r", Name::Variable(Family::IsSet, 2, Sort::Truth)),
+    (
+        "a:8",
+        Name::Variable(Family::Register, 0, Sort::Word(Width::W8)),
+    ),
+    (
+        "a:16",
+        Name::Variable(Family::Register, 0, Sort::Word(Width::W16)),
+    ),
+    (
+        "a:32",
+        Name::Variable(Family::Register, 0, Sort::Word(Width::W32)),
+    ),
+    (
+        "a:64",
+        Name::Variable(Family::Register, 0, Sort::Word(Width::W64)),
+    ),
+    (
+        "b:8",
+        Name::Variable(Family::Register, 1, Sort::Word(Width::W8)),
+    ),
+    (
+        "b:16",
+        Name::Variable(Family::Register, 1, Sort::Word(Width::W16)),
+    ),
+    (
+        "b:32",
+        Name::Variable(Family::Register, 1, Sort::Word(Width::W32)),
+    ),
+    (
+        "b:64",
+        Name::Variable(Family::Register, 1, Sort::Word(Width::W64)),
+    ),
+    (
+        "c:8",
+        Name::Variable(Family::Register, 2, Sort::Word(Width::W8)),
+    ),
+    (
+        "c:16",
+        Name::Variable(Family::Register, 2, Sort::Word(Width::W16)),
+    ),
+    (
+        "c:32",
+        Name::Variable(Family::Register, 2, Sort::Word(Width::W32)),
+    ),
+    (
+        "c:64",
+        Name::Variable(Family::Register, 2, Sort::Word(Width::W64)),
+    ),
+    ("not", Name::Unary(UnaryOperator::Not)),
+    ("bnot", Name::Unary(UnaryOperator::Complement)),
+    ("zext:8", Name::Unary(UnaryOperator::ZeroExtend(Width::W8))),
+    (
+        "zext:16",
+        Name::Unary(UnaryOperator::ZeroExtend(Width::W16)),
+    ),
+    (
+        "zext:32",
+        Name::Unary(UnaryOperator::ZeroExtend(Width::W32)),
+    ),
+    (
+        "zext:64",
+        Name::Unary(UnaryOperator::ZeroExtend(Width::W64)),
+    ),
+    ("sext:8", Name::Unary(UnaryOperator::SignExtend(Width::W8))),
+    (
+        "sext:16",
+        Name::Unary(UnaryOperator::SignExtend(Width::W16)),
+    ),
+    (
+        "sext:32",
+        Name::Unary(UnaryOperator::SignExtend(Width::W32)),
+    ),
+    (
+        "sext:64",
+        Name::Unary(UnaryOperator::SignExtend(Width::W64)),
+    ),
+    ("low:8", Name::Unary(UnaryOperator::Low(Width::W8))),
+    ("low:16", Name::Unary(UnaryOperator::Low(Width::W16))),
+    ("low:32", Name::Unary(UnaryOperator::Low(Width::W32))),
+    ("low:64", Name::Unary(UnaryOperator::Low(Width::W64))),
+    ("byte:0", Name::Unary(UnaryOperator::Byte(0))),
+    ("byte:1", Name::Unary(UnaryOperator::Byte(1))),
+    ("byte:2", Name::Unary(UnaryOperator::Byte(2))),
+    ("byte:3", Name::Unary(UnaryOperator::Byte(3))),
+    ("byte:4", Name::Unary(UnaryOperator::Byte(4))),
+    ("byte:5", Name::Unary(UnaryOperator::Byte(5))),
+    ("byte:6", Name::Unary(UnaryOperator::Byte(6))),
+    ("byte:7", Name::Unary(UnaryOperator::Byte(7))),
+    ("and", Name::Binary(BinaryOperator::And)),
+    ("or", Name::Binary(BinaryOperator::Or)),
+    ("eq", Name::Binary(BinaryOperator::Equal)),
+    ("ult", Name::Binary(BinaryOperator::Less)),
+    ("load8", Name::Binary(BinaryOperator::Load)),
+    ("join2", Name::Binary(BinaryOperator::Join)),
+    ("add", Name::Binary(BinaryOperator::Word(WordOperator::Add))),
+    (
+        "sub",
+        Name::Binary(BinaryOperator::Word(WordOperator::Subtract)),
+    ),
+    (
+        "mul",
+        Name::Binary(BinaryOperator::Word(WordOperator::Multiply)),
+    ),
+    (
+        "band",
+        Name::Binary(BinaryOperator::Word(WordOperator::And)),
+    ),
+    ("bor", Name::Binary(BinaryOperator::Word(WordOperator::Or))),
+    (
+        "bxor",
+        Name::Binary(BinaryOperator::Word(WordOperator::Xor)),
+    ),
+    (
+        "shl",
+        Name::Binary(BinaryOperator::Word(WordOperator::ShiftLeft)),
+    ),
+    (
+        "shr",
+        Name::Binary(BinaryOperator::Word(WordOperator::ShiftRight)),
+    ),
+    (
+        "sar",
+        Name::Binary(BinaryOperator::Word(WordOperator::ShiftRightSigned)),
+    ),
+    (
+        "udiv",
+        Name::Binary(BinaryOperator::Word(WordOperator::Divide)),
+    ),
+    (
+        "urem",
+        Name::Binary(BinaryOperator::Word(WordOperator::Remainder)),
+    ),
+    ("ite", Name::Ternary(TernaryOperator::Choose)),
+    ("store8", Name::Ternary(TernaryOperator::Store)),
+    ("over", Name::Quaternary(QuaternaryOperator::Over)),
+    ("join4", Name::Quaternary(QuaternaryOperator::Join)),
+    ("join8", Name::Octonary),
+];
+
+/// What a word names: what the table says, or a loaded byte or a constant.
+fn named(word: &str) -> Name {
+    for (of, name) in &NAMES {
+        if *of == word {
+            return *name;
+        }
+    }
+    let (kind, number) = split(word, ':');
+    if kind == "v" {
+        return Name::Variable(
+            Family::LoadedByte,
+            decimal(number) as usize,
+            Sort::Word(Width::W8),
+        );
+    }
+    Name::Constant(width(decimal(kind)), decimal(number))
+}
+
+fn width(bits: u64) -> Width {
+    match bits {
+        8 => Width::W8,
+        16 => Width::W16,
+        32 => Width::W32,
         _ => Width::W64,
     }
 }
 
-/// The number of a decimal numeral.
-pub(crate) fn number(text: &str) -> u64 {
-    let mut n: u64 = 0;
-    for b in text.bytes() {
-        n = n
-            .wrapping_mul(10)
-            .wrapping_add(u64::from(b.wrapping_sub(b'0')));
-    }
-    n
-}
-
-fn open(family: Family, index: usize, sort: Sort) -> Atom {
-    Atom::Open(Variable {
-        family,
-        index,
-        instance: 0,
-        sort,
-    })
-}
-
-/// The atom, of an instance if it is a variable.
-fn of_instance(atom: Atom, instance: usize) -> Atom {
-    match atom {
-        Atom::Open(variable) => Atom::Open(Variable {
-            family: variable.family,
-            index: variable.index,
+fn atom_of(name: Name, instance: usize) -> Atom {
+    match name {
+        Name::Variable(family, index, sort) => Atom::Open(Variable {
+            family,
+            index,
             instance,
-            sort: variable.sort,
+            sort,
         }),
-        _ => atom,
+        Name::Constant(width, number) => Atom::Constant(width, number),
+        Name::Truth(truth) => Atom::Truth(truth),
+        _ => Atom::Truth(false),
     }
 }
 
-/// A truth value, a variable, or a constant as `WIDTH:NUMBER`.
-pub(crate) fn atom(name: &str, rest: &str) -> Atom {
-    match name.split_once('/') {
-        Some((instance, name)) => of_instance(plain_atom(name, rest), number(instance) as usize),
-        None => plain_atom(name, rest),
-    }
-}
-
-fn plain_atom(name: &str, rest: &str) -> Atom {
-    match name {
-        "true" => Atom::Truth(true),
-        "false" => Atom::Truth(false),
-        "m0" => open(Family::SourceMemory, 0, Sort::Memory),
-        "m1" => open(Family::SourceMemory, 1, Sort::Memory),
-        "z0" => open(Family::BinaryMemory, 0, Sort::Memory),
-        "z1" => open(Family::ZoneMemory, 0, Sort::Memory),
-        "p" => open(Family::IsSet, 0, Sort::Truth),
-        "q" => open(Family::IsSet, 1, Sort::Truth),
-        "r" => open(Family::IsSet, 2, Sort::Truth),
-        "a" => open(Family::Register, 0, Sort::Word(width(rest))),
-        "b" => open(Family::Register, 1, Sort::Word(width(rest))),
-        "c" => open(Family::Register, 2, Sort::Word(width(rest))),
-        "v" => open(
-            Family::LoadedByte,
-            number(rest) as usize,
-            Sort::Word(Width::W8),
-        ),
-        _ => Atom::Constant(width(name), number(rest)),
-    }
-}
-
-fn unary(name: &str, rest: &str) -> Option<UnaryOperator> {
-    match name {
-        "not" => Some(UnaryOperator::Not),
-        "bnot" => Some(UnaryOperator::Complement),
-        "zext" => Some(UnaryOperator::ZeroExtend(width(rest))),
-        "sext" => Some(UnaryOperator::SignExtend(width(rest))),
-        "low" => Some(UnaryOperator::Low(width(rest))),
-        "byte" => Some(UnaryOperator::Byte((number(rest) % 8) as u8)),
-        _ => None,
-    }
-}
-
-fn on_words(name: &str) -> Option<WordOperator> {
-    match name {
-        "add" => Some(WordOperator::Add),
-        "sub" => Some(WordOperator::Subtract),
-        "mul" => Some(WordOperator::Multiply),
-        "band" => Some(WordOperator::And),
-        "bor" => Some(WordOperator::Or),
-        "bxor" => Some(WordOperator::Xor),
-        "shl" => Some(WordOperator::ShiftLeft),
-        "shr" => Some(WordOperator::ShiftRight),
-        "sar" => Some(WordOperator::ShiftRightSigned),
-        "udiv" => Some(WordOperator::Divide),
-        "urem" => Some(WordOperator::Remainder),
-        _ => None,
-    }
-}
-
-fn binary(name: &str) -> Option<BinaryOperator> {
-    match name {
-        "and" => Some(BinaryOperator::And),
-        "or" => Some(BinaryOperator::Or),
-        "eq" => Some(BinaryOperator::Equal),
-        "ult" => Some(BinaryOperator::Less),
-        "load8" => Some(BinaryOperator::Load),
-        "join2" => Some(BinaryOperator::Join),
-        _ => on_words(name).map(BinaryOperator::Word),
+/// A truth value, a variable or a constant.
+pub(crate) fn atom(word: &str) -> Atom {
+    match word.split_once('/') {
+        Some((instance, word)) => atom_of(named(word), decimal(instance) as usize),
+        None => atom_of(named(word), 0),
     }
 }
 
@@ -138,48 +237,45 @@ pub(crate) fn next(read: &mut Vec<TermId>, count: usize) -> TermId
     }
 }
 
-/// A node with three arguments or more, or none.
-fn wide(read: &mut Vec<TermId>, count: usize, name: &str) -> Option<TermNode>
-    requires { 0 < count }
-    ensures { IfSome result (λ node. IsNode count node) }
-{
-    if !matches!(name, "ite" | "store8" | "over" | "join4" | "join8") {
-        return None;
-    }
-    let (a, b, c) = (next(read, count), next(read, count), next(read, count));
-    match name {
-        "ite" => return Some(TermNode::Ternary(TernaryOperator::Choose, a, b, c)),
-        "store8" => return Some(TermNode::Ternary(TernaryOperator::Store, a, b, c)),
-        _ => {}
-    }
-    let d = next(read, count);
-    match name {
-        "over" => return Some(TermNode::Quaternary(QuaternaryOperator::Over, a, b, c, d)),
-        "join4" => return Some(TermNode::Quaternary(QuaternaryOperator::Join, a, b, c, d)),
-        _ => {}
-    }
-    let (e, f) = (next(read, count), next(read, count));
-    let (g, h) = (next(read, count), next(read, count));
-    Some(TermNode::Octonary(a, b, c, d, e, f, g, h))
-}
-
-/// The node of a word over indices that were read, that of the first argument last.
+/// The node of a word over indices that were read, that of the first argument last. They are taken
+/// one after the other, until the word has all its arguments.
 fn node(read: &mut Vec<TermId>, count: usize, word: &str) -> TermNode
     requires { 0 < count }
     ensures { IsNode count result }
 {
-    let (name, rest) = word.split_once(':').unwrap_or((word, ""));
-    if let Some(operator) = unary(name, rest) {
-        return TermNode::Unary(operator, next(read, count));
+    match named(word) {
+        Name::Unary(operator) => TermNode::Unary(operator, next(read, count)),
+        Name::Binary(operator) => {
+            let (a, b) = (next(read, count), next(read, count));
+            TermNode::Binary(operator, a, b)
+        }
+        Name::Ternary(operator) => {
+            let (a, b, c) = (next(read, count), next(read, count), next(read, count));
+            TermNode::Ternary(operator, a, b, c)
+        }
+        Name::Quaternary(operator) => {
+            let (a, b) = (next(read, count), next(read, count));
+            let (c, d) = (next(read, count), next(read, count));
+            TermNode::Quaternary(operator, a, b, c, d)
+        }
+        Name::Octonary => octonary(read, count),
+        _ => TermNode::Leaf(atom(word)),
     }
-    if let Some(operator) = binary(name) {
-        let (a, b) = (next(read, count), next(read, count));
-        return TermNode::Binary(operator, a, b);
-    }
-    match wide(read, count, name) {
-        Some(node) => node,
-        None => TermNode::Leaf(atom(name, rest)),
-    }
+}
+
+fn octonary(read: &mut Vec<TermId>, count: usize) -> TermNode
+    requires { 0 < count }
+    ensures { IsNode count result }
+{
+    let a = next(read, count);
+    let b = next(read, count);
+    let c = next(read, count);
+    let d = next(read, count);
+    let e = next(read, count);
+    let f = next(read, count);
+    let g = next(read, count);
+    let h = next(read, count);
+    TermNode::Octonary(a, b, c, d, e, f, g, h)
 }
 
 /// The last of so many sums, each of the one before with itself.
@@ -205,10 +301,18 @@ fn count(bank: &mut Bank) -> Result<usize, AllocError>
 fn read_word(bank: &mut Bank, read: &mut Vec<TermId>, word: &str) -> Result<(), AllocError> {
     let count = count(bank)?;
     let id = match word.strip_prefix("twice:") {
-        Some(times) => doubled(bank, next(read, count), number(times))?,
+        Some(times) => doubled(bank, next(read, count), decimal(times))?,
         None => bank.add(node(read, count, word))?,
     };
     read.push(id)?;
+    Ok(())
+}
+
+fn read_words(bank: &mut Bank, read: &mut Vec<TermId>, text: &str) -> Result<(), AllocError> {
+    for word in text.rsplit(' ') {
+        let word = word.trim_start_matches('(').trim_end_matches(')');
+        read_word(bank, read, word)?;
+    }
     Ok(())
 }
 
@@ -220,10 +324,7 @@ pub(crate) fn term(
 ) -> Result<TermId, AllocError>
     ensures { IfOk result (λ i. i < length bank.new) }
 {
-    for word in text.rsplit(' ') {
-        let word = word.trim_start_matches('(').trim_end_matches(')');
-        read_word(bank, read, word)?;
-    }
+    read_words(bank, read, text)?;
     let count = count(bank)?;
     Ok(next(read, count))
 }

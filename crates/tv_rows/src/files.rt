@@ -1,7 +1,7 @@
 //! The objects over the operating system: a file is written and read, and a line goes to standard
 //! output.
 
-use crate::out::Out;
+use row_io::Out;
 use std::alloc::Global;
 use tv_base::{Desk, Sink, Store, read_up_to, write_all};
 use tv_outside::{FileDesk, FileStore, OutSink};

@@ -19,23 +19,33 @@
 
 mod files;
 mod judgements;
-mod out;
 mod runs;
 mod words;
 
-use crate::out::Out;
 use crate::runs::Pair;
+use row_io::{Out, input, output, split, split_at};
 use std::alloc::{AllocError, Global};
-use std::io::{BufRead, BufReader};
+use std::io;
+
+/// The pair of a row; whether the row is one of those that give it.
+fn read_pair(alloc: Global, asked: &str, rest: &str, pair: &mut Pair) -> Result<bool, AllocError> {
+    match asked {
+        "elf" => runs::read_elf(alloc, rest, pair)?,
+        "zeros" => runs::read_zeros(rest, pair)?,
+        "c" => runs::read_source(rest, pair)?,
+        "pad" => runs::pad_source(rest, pair)?,
+        _ => return Ok(false),
+    }
+    Ok(true)
+}
 
 /// The outcome of a row; a row of the pair has none.
 fn put_outcome(alloc: Global, row: &str, pair: &mut Pair, out: &mut Out) -> Result<(), AllocError> {
-    let (asked, rest) = row.split_once(' ').unwrap_or((row, ""));
+    let (asked, rest) = split(row, ' ');
+    if read_pair(alloc, asked, rest, pair)? {
+        return Ok(());
+    }
     match asked {
-        "elf" => runs::put_elf(alloc, rest, pair),
-        "zeros" => runs::put_zeros(rest, pair),
-        "c" => runs::put_source(rest, pair),
-        "pad" => runs::pad_source(rest, pair),
         "run" => runs::put_whole(alloc, rest, pair, out),
         "fail" => runs::put_failing(alloc, rest, pair, out),
         "steady" => runs::put_steady(alloc, rest, pair, out),
@@ -44,32 +54,34 @@ fn put_outcome(alloc: Global, row: &str, pair: &mut Pair, out: &mut Out) -> Resu
     }
 }
 
-/// Prints the outcome of a row, where it has one.
-fn print_row(rt: HostRuntime, line: &str, pair: &mut Pair) -> anyhow::Result<()> {
-    let (name, row) = line.split_once(": ").unwrap_or((line, ""));
-    let mut out = Out::new(rt.alloc());
+/// Writes the outcome of a row, where it has one.
+fn print_row(rt: HostRuntime, line: &str, pair: &mut Pair) -> io::Result<()> {
+    let mut outcome = Out::new(rt.alloc());
+    let (name, row) = split_at(line, ": ");
     if row == "files" {
-        files::put_files(rt, &mut out);
+        files::put_files(rt, &mut outcome);
     } else {
-        put_outcome(rt.alloc(), row, pair, &mut out)?;
+        put_outcome(rt.alloc(), row, pair, &mut outcome)?;
     }
-    let text = out.text()?.trim();
-    if !text.is_empty() {
-        println!(rt; "{name}: {text}")?;
+    let mut out = Out::new(rt.alloc());
+    out.row(name, &outcome);
+    output(rt, &out)
+}
+
+fn print_rows(rt: HostRuntime, rows: &str, pair: &mut Pair) -> io::Result<()> {
+    for line in rows.lines() {
+        if !line.starts_with('#') {
+            print_row(rt, line, pair)?;
+        }
     }
     Ok(())
 }
 
-fn main(rt: HostRuntime) -> anyhow::Result<()> {
+fn main(rt: HostRuntime) -> io::Result<()> {
+    let rows = input(rt)?;
     let mut pair = Pair {
         elf: Vec::new(rt.alloc()),
         source: Vec::new(rt.alloc()),
     };
-    for line in BufReader::new(rt.alloc(), rt.reader())?.lines(rt.alloc()) {
-        let line = line?;
-        if !line.as_str().starts_with('#') {
-            print_row(rt, line.as_str(), &mut pair)?;
-        }
-    }
-    Ok(())
+    print_rows(rt, rows.as_str(), &mut pair)
 }

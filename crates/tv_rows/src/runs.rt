@@ -2,8 +2,8 @@
 
 ghost use Rattle.std.specs.Prelude.{◌≢◌};
 
-use crate::out::Out;
-use crate::words::{decimal, put_words};
+use crate::words::read_words;
+use row_io::{Out, decimal, split};
 use std::alloc::{AllocError, Global};
 use tv_core::run;
 use tv_outside::{GivenFile, MemDesk, MemSink, MemStore, SteadyDesk, SteadySink, SteadyStore};
@@ -33,7 +33,7 @@ impl Pair {
     }
 }
 
-pub(crate) fn put_elf(alloc: Global, text: &str, pair: &mut Pair) -> Result<(), AllocError> {
+pub(crate) fn read_elf(alloc: Global, text: &str, pair: &mut Pair) -> Result<(), AllocError> {
     pair.elf.clear();
     match hex::decode(alloc, text) {
         Ok(bytes) => pair.elf.extend_from_slice(bytes.as_slice()),
@@ -41,15 +41,15 @@ pub(crate) fn put_elf(alloc: Global, text: &str, pair: &mut Pair) -> Result<(), 
     }
 }
 
-pub(crate) fn put_zeros(text: &str, pair: &mut Pair) -> Result<(), AllocError> {
+pub(crate) fn read_zeros(text: &str, pair: &mut Pair) -> Result<(), AllocError> {
     pair.elf.clear();
-    pair.elf.resize(decimal(text), 0)
+    pair.elf.resize(decimal(text) as usize, 0)
 }
 
-pub(crate) fn put_source(text: &str, pair: &mut Pair) -> Result<(), AllocError> {
+pub(crate) fn read_source(text: &str, pair: &mut Pair) -> Result<(), AllocError> {
     pair.source.clear();
-    for (number, part) in text.split("\\n").enumerate() {
-        if number > 0 {
+    for part in text.split("\\n") {
+        if !pair.source.is_empty() {
             pair.source.push(b'\n')?;
         }
         pair.source.extend_from_slice(part.as_bytes())?;
@@ -58,7 +58,7 @@ pub(crate) fn put_source(text: &str, pair: &mut Pair) -> Result<(), AllocError> 
 }
 
 pub(crate) fn pad_source(text: &str, pair: &mut Pair) -> Result<(), AllocError> {
-    pair.source.resize(decimal(text), b' ')
+    pair.source.resize(decimal(text) as usize, b' ')
 }
 
 /// Which calls fail on each object, and the most bytes that a call takes.
@@ -70,8 +70,21 @@ struct Mishaps<'a> {
     most: usize,
 }
 
-/// The outcome of a run.
+/// The outcome of a run on these words.
 fn put_run(
+    alloc: Global,
+    row: &str,
+    pair: &Pair,
+    mishaps: Mishaps<'_>,
+    out: &mut Out,
+) -> Result<(), AllocError> {
+    let mut words = Vec::new(alloc);
+    read_words(alloc, row, &mut words)?;
+    put_outcome(alloc, words.as_slice(), &pair.files(), mishaps, out);
+    Ok(())
+}
+
+fn put_outcome(
     alloc: Global,
     words: &[String],
     files: &[GivenFile<'_>],
@@ -99,16 +112,13 @@ pub(crate) fn put_whole(
     pair: &Pair,
     out: &mut Out,
 ) -> Result<(), AllocError> {
-    let mut words = Vec::new(alloc);
-    put_words(alloc, row, &mut words)?;
     let none = Mishaps {
         desk: &[],
         report: &[],
         store: &[],
         most: ALL,
     };
-    put_run(alloc, words.as_slice(), &pair.files(), none, out);
-    Ok(())
+    put_run(alloc, row, pair, none, out)
 }
 
 /// The outcome of a row `fail`.
@@ -118,25 +128,17 @@ pub(crate) fn put_failing(
     pair: &Pair,
     out: &mut Out,
 ) -> Result<(), AllocError> {
-    let (object, row) = row.split_once(' ').unwrap_or((row, ""));
-    let (call, row) = row.split_once(' ').unwrap_or((row, ""));
-    let (most, row) = row.split_once(' ').unwrap_or((row, ""));
-    let mut words = Vec::new(alloc);
-    put_words(alloc, row, &mut words)?;
-    let failing = [decimal(call) as u64];
-    let mut mishaps = Mishaps {
-        desk: &[],
-        report: &[],
-        store: &[],
-        most: decimal(most),
+    let (object, row) = split(row, ' ');
+    let (call, row) = split(row, ' ');
+    let (most, row) = split(row, ' ');
+    let failing: &[u64] = &[decimal(call)];
+    let mishaps = Mishaps {
+        desk: if object == "desk" { failing } else { &[] },
+        report: if object == "report" { failing } else { &[] },
+        store: if object == "store" { failing } else { &[] },
+        most: decimal(most) as usize,
     };
-    match object {
-        "desk" => mishaps.desk = &failing,
-        "report" => mishaps.report = &failing,
-        _ => mishaps.store = &failing,
-    }
-    put_run(alloc, words.as_slice(), &pair.files(), mishaps, out);
-    Ok(())
+    put_run(alloc, row, pair, mishaps, out)
 }
 
 /// No run over steady objects meets a fault.
@@ -160,7 +162,7 @@ pub(crate) fn put_steady(
     out: &mut Out,
 ) -> Result<(), AllocError> {
     let mut words = Vec::new(alloc);
-    put_words(alloc, row, &mut words)?;
+    read_words(alloc, row, &mut words)?;
     let files = pair.files();
     let mut desk = SteadyDesk::new(&files);
     let mut report = SteadySink::new(alloc);

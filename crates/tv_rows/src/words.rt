@@ -1,16 +1,11 @@
 //! The words of rows.
 
-use crate::out::Out;
+use row_io::{Out, decimal};
 use std::alloc::{AllocError, Global};
 use tv_words::{Job, Proving, WordsError, command};
 
-/// What decimal digits say.
-pub(crate) fn decimal(text: &str) -> usize {
-    text.parse::<usize>().unwrap_or(0)
-}
-
 /// So many names, parted by commas.
-fn put_names(count: usize, names: &mut String) -> Result<(), AllocError> {
+fn put_names(count: u64, names: &mut String) -> Result<(), AllocError> {
     names.push_str("f")?;
     for number in 1..count {
         write!(names, ",f{number}")?;
@@ -18,8 +13,15 @@ fn put_names(count: usize, names: &mut String) -> Result<(), AllocError> {
     Ok(())
 }
 
+fn put_word(part: &str, word: &mut String) -> Result<(), AllocError> {
+    match part.strip_prefix("names=") {
+        Some(count) => put_names(decimal(count), word),
+        None => word.push_str(part),
+    }
+}
+
 /// The words of a row as a program gets them; an empty row has none.
-pub(crate) fn put_words(
+pub(crate) fn read_words(
     alloc: Global,
     row: &str,
     words: &mut Vec<String>,
@@ -29,10 +31,7 @@ pub(crate) fn put_words(
     }
     for part in row.split('/') {
         let mut word = String::new(alloc);
-        match part.strip_prefix("names=") {
-            Some(count) => put_names(decimal(count), &mut word)?,
-            None => word.push_str(part)?,
-        }
+        put_word(part, &mut word)?;
         words.push(word)?;
     }
     Ok(())
@@ -57,11 +56,11 @@ fn put_job(job: &Proving<'_>, out: &mut Out) {
 /// The outcome of a row.
 pub(crate) fn put_command(alloc: Global, row: &str, out: &mut Out) -> Result<(), AllocError> {
     let mut words = Vec::new(alloc);
-    put_words(alloc, row, &mut words)?;
+    read_words(alloc, row, &mut words)?;
     match command(alloc, words.as_slice()) {
         Ok(Job::Prove(job)) => put_job(&job, out),
         Err(WordsError::Words) => out.put("no command"),
-        Err(WordsError::NoMemory) => out.put("no memory"),
+        Err(WordsError::NoMemory) => out.fail(),
     }
     Ok(())
 }
