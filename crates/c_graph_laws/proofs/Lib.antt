@@ -1,8 +1,8 @@
-mod Extents
+pub mod Extents
 mod Stands
 mod Laid
 mod Steps
-mod Bits
+pub mod Bits
 mod Changes
 mod Means
 mod Flows
@@ -14,7 +14,7 @@ mod Products
 mod Sorted
 mod Evaluates
 mod Operators
-mod Divisions
+pub mod Divisions
 mod Moves
 mod Accesses
 mod Objects
@@ -25,6 +25,6 @@ mod Acting
 mod Entering
 mod Calling
 mod Serving
-mod Together
-mod ValidGraphs
+pub mod Together
+pub mod ValidGraphs
 mod Starts
