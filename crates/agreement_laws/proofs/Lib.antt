@@ -1,0 +1,11 @@
+pub mod Ends
+pub mod Agreed
+pub mod Entry
+pub mod ReadBack
+pub mod Assigned
+pub mod Premises
+pub mod Fine
+pub mod Facts
+pub mod Entries
+pub mod Opening
+pub mod Agreement

@@ -1,0 +1,4 @@
+pub mod Agreement
+pub mod EntryFrame
+pub mod Inner
+pub mod Statements

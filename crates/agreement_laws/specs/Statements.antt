@@ -1,0 +1,89 @@
+-- What the laws of agreement say.
+use Rattle.std.specs.Prelude.{◌≡◌, ◌≢◌, ℕ, ℤ, true, List, [], All, Some, IsSome}
+use Rattle.memory_spec.specs.Zones.{Zone}
+use Rattle.elf_spec.specs.Image.{size_at, fixed_byte}
+use Rattle.code_spec.specs.Faults.{ReachesNoFault}
+use Rattle.rv_spec.specs.Machine.{Machine, read_register}
+use Rattle.code_graph_spec.specs.Blocks.{Entrance}
+use Rattle.code_graph_spec.specs.State.{entry_register}
+use Rattle.code_graph_laws.specs.Together.{AreCodeGraphs, StartAlike}
+use Rattle.term_spec.specs.declared.Width.TheVariants.{W32}
+use Rattle.term_spec.specs.Value.{Number, Assignment, IsAssignment}
+use Rattle.walk_spec.specs.Simulation.{IsRelated}
+use Rattle.graph_spec.specs.Graph.{Binding, Node, IsValid, node_at}
+use Rattle.graph_spec.specs.Variables.{own_bindings}
+use Rattle.graph_spec.specs.Run.{State, Running}
+use Rattle.graph_spec.specs.Fixed.{has_byte, AlwaysHoldsFixed}
+use Rattle.c_type_spec.specs.HasType.{IsTypedUnit}
+use Rattle.c_meaning_spec.specs.Calls.{body_named, locals_at_entry}
+use Rattle.pair_spec.specs.SourceReach.{Reaches}
+use Rattle.c_graph_spec.specs.Sizes.{UnitSizes}
+use Rattle.c_graph_spec.specs.State.{zone_low, zone_high}
+use Rattle.c_graph_spec.specs.SourceGraph.{body_number, graphs_of}
+use Rattle.c_graph_laws.specs.Together.{IsPlace, Alike}
+use Rattle.proof_spec.specs.Cuts.{both}
+use Rattle.rule_spec.specs.Points.{bounded, source_memory, all_hold}
+use Rattle.rule_spec.specs.Systems.{IsSimulated, IsBinaryFine, IsSourceFine}
+use Rattle.claim_spec.specs.Convention.{dead_stack, Meets}
+use Rattle.agreement_laws.specs.Agreement.{AgreesWith, AgreesFrom, BreaksNoGuard, argument_words, run_from}
+use Rattle.agreement_laws.specs.EntryFrame.{Pair, place_of, convention_of, entry_frame, entry_opening, entry_premises}
+
+-- a function of a file without faults of code in what it reaches, and its graphs; a body of a typed unit, whose sizes are
+-- below the limit and which has the bodies that it reaches; and valid graphs of code
+pub record IsPair (p : Pair) : Type 0 where
+  pub is_function : IsSome (size_at p.image p.entry)
+  pub no_fault : ReachesNoFault p.image p.entry
+  pub whole : AreCodeGraphs p.image p.entry p.numbering p.graphs
+  pub binary_valid : All IsValid p.graphs
+  pub typed : IsTypedUnit p.unit
+  pub sizes : UnitSizes p.unit
+  pub placed : IsPlace (place_of p)
+  pub body_is : body_named p.unit.bodies p.body.name ≡ Some p.body
+  pub bodies : (other : List ℕ) → Reaches p.unit p.body.name other → IsSome (body_named p.unit.bodies other)
+
+-- from the entry of the function on, runs of the graphs of C keep fixed bytes
+abbrev pub KeepsFixed : Pair → Type 0
+KeepsFixed p = (values : Assignment) → IsAssignment values
+    → ((at : ℕ) → has_byte (values source_memory) at (bounded (fixed_byte p.image) at) ≡ true)
+    → AlwaysHoldsFixed (graphs_of p.unit (place_of p)) (body_number p.body.name p.unit.bodies) (bounded (fixed_byte p.image)) source_memory
+    (Running (body_number p.body.name p.unit.bodies) 0 values [])
+
+-- no node of the function's C graph binds, in its own frame, the words that are the zone's ends
+abbrev pub KeepsZone : Pair → Type 0
+KeepsZone p = (n : ℕ) (node : Node) → node_at (graphs_of p.unit (place_of p)) (body_number p.body.name p.unit.bodies) n ≡ Some node
+    → All (λ (b : Binding). (b.variable ≢ zone_low) × (b.variable ≢ zone_high)) (own_bindings node)
+
+-- the simulation of the frame at the entry, wherever the dead stack is
+abbrev pub IsSimulatedAtEntry : Pair → Type 0
+IsSimulatedAtEntry p = (zone : Zone) → IsSimulated (convention_of p zone) (entry_opening p zone).known (entry_frame p)
+
+-- where the frame at the entry is simulated, the code does what the source says
+abbrev pub SimulationAgrees : Type 0
+SimulationAgrees = (p : Pair) → IsPair p → KeepsFixed p → KeepsZone p → IsSimulatedAtEntry p
+    → AgreesWith p.image p.unit p.body.name p.body.signature p.entry p.stack
+
+-- ---- starts
+
+abbrev pub binary_entry : Pair → Assignment → State
+binary_entry p a = Running (p.numbering.graph_number p.entry) (p.numbering.node_number p.entry Entrance) a []
+
+abbrev pub source_entry : Pair → Assignment → State
+source_entry p b = Running (body_number p.body.name p.unit.bodies) 0 b []
+
+-- where both graphs' runs begin, with a machine and a call with these values: their variables are alike, and the frame
+-- speaks of these states
+pub record IsEntry (p : Pair) (m : Machine) (arguments : List ℤ) (a b : Assignment) : Type 0 where
+  pub machine : StartAlike p.image p.entry m a
+  pub entries : (r : ℕ) → a (entry_register r) ≡ Number W32 (read_register m r)
+  pub source : Alike p.body.locals (locals_at_entry p.body.locals arguments) m.memory (dead_stack m p.stack) b
+  pub premise : IsRelated (both (entry_opening p (dead_stack m p.stack)).known (all_hold (entry_premises p))) (binary_entry p a) (source_entry p b)
+  pub binary_fine : IsBinaryFine (convention_of p (dead_stack m p.stack)) (entry_frame p) (binary_entry p a)
+  pub source_fine : IsSourceFine (convention_of p (dead_stack m p.stack)) (entry_frame p) (source_entry p b)
+
+-- from each such start, where the convention is met and the C run breaks no guard
+abbrev pub EntriesAgree : Type 0
+EntriesAgree = (p : Pair) → IsPair p → IsSimulatedAtEntry p → (m : Machine) (arguments : List ℤ) (a b : Assignment)
+    → Meets p.image p.entry p.stack m (argument_words arguments)
+    → BreaksNoGuard (run_from p.image p.unit p.body.name (dead_stack m p.stack) m arguments)
+    → IsEntry p m arguments a b
+    → AgreesFrom p.image p.body.signature.result (dead_stack m p.stack) m (run_from p.image p.unit p.body.name (dead_stack m p.stack) m arguments)
