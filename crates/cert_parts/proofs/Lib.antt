@@ -1,0 +1,3 @@
+pub mod Bounds
+pub mod Paths
+pub mod Goings
