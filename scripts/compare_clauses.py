@@ -18,7 +18,7 @@ import sys
 import tempfile
 from pathlib import Path
 
-from compare_terms import FIXED, RUNS, WIDTHS, Maker, subterms
+from compare_terms import FIXED, WIDTHS, Maker, runs_text, subterms
 from probe import ask_each
 from probe_terms import READER, backwards
 from terms import Clauses, clauses, normal, sort, text, value
@@ -139,8 +139,7 @@ def answers(lines, lengths):
             size = 0
         texts[-1].append(line)
         size += length
-    runs = "".join(f"Run {{ start: {start}, bytes: &{bytes} }}, " for start, bytes in RUNS)
-    program = HEAD + READER + MAIN.replace("RUNS", runs)
+    program = HEAD + READER + MAIN.replace("RUNS", runs_text("alloc"))
     found = [line for line in ask_each(program, CRATES, ["\n".join(text) + "\n" for text in texts]) if line.startswith(("clauses", "values"))]
     if len(found) != len(lines):
         sys.exit(f"{len(lines)} lines and {len(found)} answers")

@@ -167,6 +167,13 @@ fn main(rt: HostRuntime) -> anyhow::Result<()> {
 # the fixed bytes; the last run is after the first
 RUNS = [(16, [FIXED[address] for address in range(16, 24)]), (100, [7, 8]), (200, [9]), (101, [1, 2])]
 
+
+
+def runs_text(alloc):
+    """The runs as the program writes them."""
+    return "".join(f"Run {{ start: {start}, bytes: {bytes}.as_slice().to_vec({alloc})? }}, " for start, bytes in RUNS)
+
+
 # what the names of `forms.txt` are in the program
 NAMES = {"x": "a:32", "y": "b:32", "w": "a:64", "a": "a:8", "b": "b:8", "m": "m0", "n": "z0", "z": "z1"}
 
@@ -197,11 +204,10 @@ def compare_normal(terms=20000, chains=2000):
     made = [maker.term(maker.random.choice(["bool", "memory", 8, 16, 32, 64]), maker.random.randrange(1, 6)) for _ in range(terms)]
     made += [chain(maker, maker.random.randrange(1, 30)) for _ in range(chains)]
     forms = [normal(term, FIXED) for term in made]
-    runs = "".join(f"Run {{ start: {start}, bytes: &{bytes} }}, " for start, bytes in RUNS)
     worked = [row.split(" = ") for row in Path(__file__).with_name("forms.txt").read_text().splitlines()]
     texts = [" ".join(backwards(term)) + "|" + " ".join(backwards(form)) for term, form in zip(made, forms)]
     lines = [by_hand(term) + "|" + by_hand(form) for term, form in worked] + texts
-    program = HEAD + READER + MAIN.replace("RUNS", runs)
+    program = HEAD + READER + MAIN.replace("RUNS", runs_text("rt.alloc()"))
     answers = [line for line in ask(program, NORMAL_CRATES, "\n".join(lines) + "\n") if line.startswith("=")]
     if len(answers) != len(lines):
         sys.exit(f"{len(lines)} terms and {len(answers)} answers")
