@@ -16,4 +16,8 @@ pub mod Wait
 pub mod Kept
 pub mod CutFrames
 pub mod Calling
+pub mod Calls
+pub mod Returned
+pub mod Crossing
+pub mod Called
 pub mod AnyZone

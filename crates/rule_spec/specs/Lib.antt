@@ -5,4 +5,6 @@ pub mod Rules
 pub mod Obligations
 pub mod Proper
 pub mod Calling
+pub mod Calls
+pub mod Crossing
 pub mod Samples

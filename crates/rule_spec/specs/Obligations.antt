@@ -1,5 +1,5 @@
 -- The obligations of each rule, and why a rule has none.
-use Rattle.std.specs.Prelude.{◌≡◌, ◌⊎◌, ◌<◌, ℕ, List, [], ◌∷◌, slice_get, Some}
+use Rattle.std.specs.Prelude.{◌≡◌, ◌⊎◌, ◌<◌, ℕ, List, [], ◌∷◌, ◌++◌, slice_get, Some}
 use Rattle.term_spec.specs.Term.{Term}
 use Rattle.walk_spec.specs.TransitionSystem.{Mark}
 use Rattle.visit_spec.specs.Shape.{Shape}
@@ -9,15 +9,18 @@ use Rattle.proof_spec.specs.Frames.{Side, Hold, Frame}
 use Rattle.proof_spec.specs.Scope.{Setting, IsLine}
 use Rattle.rule_spec.specs.Points.{Convention}
 use Rattle.rule_spec.specs.Sides.{binary_way, source_way, IsCutTo}
+use Rattle.rule_spec.specs.Calls.{CallPair, Callee, AreOfCall}
 use Rattle.rule_spec.specs.Rules.{Opening, restricted, waiting_way, AreOfLeaf, AreOfBinaryRestrict, AreOfSourceRestrict, AreOfWait}
 
--- a rule of a proof, at nodes in place of points: a cut is that of Split or Hold, in a source body of this path
+-- a rule of a proof, at nodes in place of points: a cut is that of Split or Hold, in a source body of this path; a
+-- call has lines before it and lines where both sides are back, in the body of one path
 pub data Rule : Type 0 where
   Leaf : Rule
   Case : (test : Term) → Rule
   RestrictBinary : (bound : Mark) → Rule
   RestrictSource : (bound : Mark) → Rule
   Cut : (path : List ℕ) → (lines : List Term) → Rule
+  Call : (calls : CallPair) → (callee : Callee) → (path : List ℕ) → (before later : List Term) → Rule
   Wait : (hold : Hold) → Rule
 
 abbrev pub AreObligations : Convention → Opening → Frame → Rule → List Term → Type 0
@@ -26,6 +29,7 @@ AreObligations c o f (Case test) terms = terms ≡ []
 AreObligations c o f (RestrictBinary bound) terms = AreOfBinaryRestrict o f bound terms
 AreObligations c o f (RestrictSource bound) terms = AreOfSourceRestrict o f bound terms
 AreObligations c o f (Cut path lines) terms = terms ≡ []
+AreObligations c o f (Call calls callee path before later) terms = AreOfCall c f calls callee before later terms
 AreObligations c o f (Wait hold) terms = AreOfWait c o f hold terms
 
 -- ---- lines
@@ -43,6 +47,7 @@ HasNoLine f (Case test) index = IsNoLine f.setting f.start.path (test ∷ []) in
 HasNoLine f (RestrictBinary bound) index = ⊥
 HasNoLine f (RestrictSource bound) index = ⊥
 HasNoLine f (Cut path lines) index = IsNoLine f.setting path lines index
+HasNoLine f (Call calls callee path before later) index = IsNoLine f.setting path (before ++ later) index
 HasNoLine f (Wait hold) index = ⊥
 
 -- ---- walks
@@ -68,6 +73,7 @@ IsCyclicRule o f (Case test) n = ⊥
 IsCyclicRule o f (RestrictBinary bound) n = (w : Walk) × IsOfBinary o f bound w × IsCyclicAt w n
 IsCyclicRule o f (RestrictSource bound) n = (w : Walk) × IsOfSource o f bound w × IsCyclicAt w n
 IsCyclicRule o f (Cut path lines) n = ⊥
+IsCyclicRule o f (Call calls callee path before later) n = ⊥
 IsCyclicRule o f (Wait hold) n = IsCyclicAt (waiting_way f o.binary hold.nodes.binary).walk n
 
 -- no walk that has to be acyclic is cyclic, and one of the two walks has more visits than the maximum
@@ -81,6 +87,7 @@ IsLargeRule o f maximum (RestrictBinary bound) n =
 IsLargeRule o f maximum (RestrictSource bound) n =
     (w : Walk) × IsOfSource o f bound w × IsAcyclic w × (AreTooMany (binary_way f o.binary).walk maximum n ⊎ AreTooMany w maximum n)
 IsLargeRule o f maximum (Cut path lines) n = ⊥
+IsLargeRule o f maximum (Call calls callee path before later) n = ⊥
 IsLargeRule o f maximum (Wait hold) n =
     let w = (waiting_way f o.binary hold.nodes.binary).walk in
     IsAcyclic w × (AreTooMany w maximum n ⊎ AreTooMany (source_way f o.source).walk maximum n)

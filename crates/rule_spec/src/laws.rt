@@ -1,26 +1,31 @@
 //! The laws of the rules: each function's clause is one law, and its body is empty.
 
-ghost use Rattle.std.specs.Prelude.{◌≡◌, ◌<◌, ◌≤◌, ◌^◌, ◌++◌, ℕ, List};
+ghost use Rattle.std.specs.Prelude.{◌≡◌, ◌<◌, ◌≤◌, ◌^◌, ◌++◌, [], ℕ, List};
 ghost use Rattle.std.specs.Prelude.{None, Option, true};
 ghost use Rattle.std.specs.List.{All, Contains};
 ghost use Rattle.term_spec.specs.Term.{Term, not_term};
-ghost use Rattle.graph_spec.specs.Run.{Failed};
 ghost use Rattle.proof_spec.specs.Frames.{Frame, with_binary_bound, with_premise};
 ghost use Rattle.proof_spec.specs.Frames.{Hold, from_cut, goal_at, with_goal, with_source_bound};
 ghost use Rattle.proof_spec.specs.Cuts.{IsKept, Waits};
 ghost use Rattle.proof_spec.specs.Cuts as cuts;
+ghost use Rattle.proof_spec.specs.Cuts.{both};
 ghost use Rattle.proof_spec.specs.declared.Counts.{Counts};
-ghost use Rattle.walk_spec.specs.Simulation.{Simulates};
+ghost use Rattle.graph_spec.specs.Run.{Failed, Running, resumed};
+ghost use Rattle.term_spec.specs.Value.{Assignment, IsAssignment};
+ghost use Rattle.walk_spec.specs.Simulation.{IsRelated, Simulates};
 ghost use Rattle.walk_spec.specs.TransitionSystem.{Mark};
 ghost use Rattle.proof_spec.specs.Scope.{IsLine};
 ghost use Rattle.rule_spec.specs.Calling as calling;
-ghost use Rattle.rule_spec.specs.Points.{Convention};
+ghost use Rattle.rule_spec.specs.Calls.{AreOfCall, BeginsWell, CallPair, Callee, IsCallPair};
+ghost use Rattle.rule_spec.specs.Calls.{IsGivenBack, IsReturnOf};
+ghost use Rattle.rule_spec.specs.Crossing.{AreCallsAt, IsRightCallee, pair_of};
+ghost use Rattle.rule_spec.specs.Points.{Convention, all_hold};
 ghost use Rattle.rule_spec.specs.Proper.{IsConvention, IsEntryLine, IsProper, Opens};
 ghost use Rattle.rule_spec.specs.Rules.{AreOfBinaryRestrict, AreOfLeaf, AreOfSourceRestrict};
 ghost use Rattle.rule_spec.specs.Rules.{AreOfWait};
 ghost use Rattle.rule_spec.specs.Rules.{AreTrueWith, Opening, at_cut};
 ghost use Rattle.rule_spec.specs.Systems.{IsBinaryFine, IsSimulated, IsSourceFine, Relation};
-ghost use Rattle.rule_spec.specs.Systems.{entry_holds, frame_over, hold_over};
+ghost use Rattle.rule_spec.specs.Systems.{entry_holds, frame_over, hold_over, relation};
 ghost use Rattle.rule_spec.specs.Systems.{binary_always, source_always};
 
 /// Leaf: where its obligations are true wherever the source's memory holds the fixed bytes, the
@@ -71,6 +76,50 @@ pub fn wait_law()
         → hold.nodes.source ≡ f.start.nodes.source → AreOfWait c o f hold terms
         → AreTrueWith c terms → Waits (frame_over c o.known f) (IsBinaryFine c f) (IsSourceFine c f)
         (hold_over c hold) }
+{}
+
+/// Call: where its obligations are true, and what holds at entry and the relation before hold at the
+/// calls, the callee's entry relation holds where it begins.
+pub fn call_entry_law()
+    ensures { (c : Convention) (f : Frame) (calls : CallPair) (callee : Callee)
+        (before later terms : List Term) (g m k n : ℕ) (x y : Assignment) → IsConvention c
+        → IsCallPair calls → AreOfCall c f calls callee before later terms → AreTrueWith c terms
+        → IsRelated (both (all_hold f.entry) (relation c before))
+        (Running g m x []) (Running k n y [])
+        → IsBinaryFine c f (Running g m x []) → IsSourceFine c f (Running k n y [])
+        → BeginsWell c calls callee x y }
+{}
+
+/// Call: where they are true, and the callee has given back what it owes, the relation after the
+/// calls holds where both are back.
+pub fn call_return_law()
+    ensures { (c : Convention) (f : Frame) (calls : CallPair) (callee : Callee)
+        (before later terms : List Term) (g m l k n e : ℕ) (x y r s : Assignment)
+        → IsConvention c → IsReturnOf c f calls callee before later
+        → AreOfCall c f calls callee before later terms → AreTrueWith c terms
+        → IsRelated (both (all_hold f.entry) (relation c before))
+        (Running g m x []) (Running k n y [])
+        → IsBinaryFine c f (Running g m x []) → IsSourceFine c f (Running k n y [])
+        → IsAssignment r → IsAssignment s → IsGivenBack c callee x r s
+        → IsRelated (relation c later) (Running g l (resumed [] r x) [])
+        (Running k e (resumed calls.source_outputs s y) []) }
+{}
+
+/// Call: where its obligations are true, and the callee is right, the frame from the calls to the
+/// landing nodes is simulated, as the rule asks. In code a call binds nothing where it is back.
+pub fn call_law()
+    ensures { (c : Convention) (known : Relation) (f : Frame) (callee : Callee)
+        (call landing : Hold) (terms : List Term)
+        (calls : AreCallsAt f (hold_over c call) (hold_over c landing)) → IsConvention c
+        → calls.binary_outputs ≡ []
+        → IsCallPair (pair_of f (hold_over c call) (hold_over c landing) calls)
+        → IsReturnOf c f (pair_of f (hold_over c call) (hold_over c landing) calls) callee
+        call.relation landing.relation
+        → AreOfCall c f (pair_of f (hold_over c call) (hold_over c landing) calls) callee
+        call.relation landing.relation terms
+        → AreTrueWith c terms → IsRightCallee c known f callee call landing calls
+        → Simulates (cuts.across (frame_over c known f) (entry_holds f) (hold_over c call)
+        (hold_over c landing)) (IsBinaryFine c f) (IsSourceFine c f) }
 {}
 
 /// What holds at entry is kept by steps of either side.

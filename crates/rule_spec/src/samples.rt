@@ -2,6 +2,7 @@
 //! is empty.
 
 ghost use Rattle.std.specs.Prelude.{◌≡◌, [], ◌∷◌};
+ghost use Rattle.rule_spec.specs.Samples.{call_obligations, callee_begins, callee_returns};
 ghost use Rattle.rule_spec.specs.Samples.{goal, goal_alike, goal_too, no_failure, obligations};
 ghost use Rattle.rule_spec.specs.Samples.{return_alike, return_too};
 
@@ -15,4 +16,9 @@ pub fn a_leaf_has_these_obligations()
 pub fn stops_are_in_this_order()
     ensures { obligations (goal ∷ []) (0 ∷ [])
         ≡ no_failure ∷ return_too ∷ goal_too ∷ return_alike ∷ goal_alike ∷ [] }
+{}
+
+/// A call: what holds where the callee begins, and what holds where it is back.
+pub fn a_call_has_these_obligations()
+    ensures { call_obligations ≡ callee_begins ∷ callee_returns ∷ [] }
 {}
