@@ -25,6 +25,22 @@ from terms import clauses
 
 CRATES = ["clause_spec", "cnf_core", "clause_check"]
 
+# what both programs end with: a clause of the variables that there are is added
+PUSH = r"""
+fn is_fit(literals: &[Literal], variables: usize) -> bool
+    ensures { result ≡ list_all (is_of variables) literals.now }
+{
+    literals.iter().all(|literal| literal.is_of(variables))
+}
+
+fn push(cnf: &mut Cnf, clause: &[Literal]) -> Result<(), AllocError> {
+    if is_fit(clause, cnf.variables()) {
+        cnf.push(clause)?;
+    }
+    Ok(())
+}
+"""
+
 PROBE = r"""//! Checks logs: its arguments are steps, hints a step, further literals a clause, rounds.
 #![tactic(auto)]
 
@@ -56,19 +72,6 @@ fn clause(alloc: Global, from: usize, to: usize, chain: usize, wide: usize) -> R
         literals.push(literal(chain.wrapping_add(1).wrapping_add(i), false))?;
     }
     Ok(literals)
-}
-
-fn is_fit(literals: &[Literal], variables: usize) -> bool
-    ensures { result ≡ list_all (is_of variables) literals.now }
-{
-    literals.iter().all(|literal| literal.is_of(variables))
-}
-
-fn push(cnf: &mut Cnf, clause: &[Literal]) -> Result<(), AllocError> {
-    if is_fit(clause, cnf.variables()) {
-        cnf.push(clause)?;
-    }
-    Ok(())
 }
 
 fn chain_of(alloc: Global, hints: usize, wide: usize) -> Result<Cnf, AllocError> {
@@ -182,19 +185,6 @@ fn line_of(alloc: Global, text: &str) -> Result<Line, AllocError> {
     })
 }
 
-fn is_fit(literals: &[Literal], variables: usize) -> bool
-    ensures { result ≡ list_all (is_of variables) literals.now }
-{
-    literals.iter().all(|literal| literal.is_of(variables))
-}
-
-fn push(cnf: &mut Cnf, clause: &[Literal]) -> Result<(), AllocError> {
-    if is_fit(clause, cnf.variables()) {
-        cnf.push(clause)?;
-    }
-    Ok(())
-}
-
 fn given(alloc: Global, variables: usize, lines: &[Line]) -> Result<Cnf, AllocError> {
     let mut cnf = Cnf::new(alloc, variables);
     for line in lines {
@@ -262,7 +252,7 @@ def processor_seconds(program, words, text=""):
 
 
 def chains(folder, in_c):
-    program = built(folder, PROBE, CRATES)
+    program = built(folder, PROBE + PUSH, CRATES)
     print("| Steps | Hints a step | Literals a hint | Million hints a second | In C | Quotient | Peak MiB |")
     print("|---|---|---|---|---|---|---|")
     for steps, hints, more, rounds in CHAINS:
@@ -297,7 +287,7 @@ def words_of(numbers):
 
 
 def own(folder, in_c, search):
-    program = built(folder, LOGS, CRATES)
+    program = built(folder, LOGS + PUSH, CRATES)
     print("| Goal | Steps | Hints | Seconds a check | In C | Quotient |")
     print("|---|---|---|---|---|---|")
     for name, goal in goals():
