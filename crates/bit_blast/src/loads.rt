@@ -9,6 +9,7 @@ ghost use Rattle.bit_blast.specs.Loads as spec;
 ghost use Rattle.bit_blast.specs.Within.{BuiltWithin};
 
 use crate::table::TermTable;
+use attempt::attempt;
 use cnf_core::{Literal, negation};
 use std::alloc::{AllocError, Global};
 use term_bank::TermNode;
@@ -72,9 +73,9 @@ fn claim_equal(
 {
     match (x.split_first(), y.split_first()) {
         (Some((a, xs)), Some((b, ys))) => {
-            gates.claim(&[negation(same), negation(*a), *b])?;
-            gates.claim(&[negation(same), *a, negation(*b)])?;
-            claim_equal(gates, same, xs, ys)?;
+            attempt!(gates.claim(&[negation(same), negation(*a), *b]));
+            attempt!(gates.claim(&[negation(same), *a, negation(*b)]));
+            attempt!(claim_equal(gates, same, xs, ys));
             Ok(())
         }
         _ => Ok(()),
@@ -165,7 +166,7 @@ fn memories_of(alloc: Global, loads: &[LoadIndices]) -> Result<Vec<usize>, Alloc
     let mut index = loads.len();
     'backwards: while index > 0 {
         index -= 1;
-        memories = with_memory(alloc, loads[index].memory, &memories)?;
+        memories = attempt!(with_memory(alloc, loads[index].memory, &memories));
     }
     Ok(memories)
 }

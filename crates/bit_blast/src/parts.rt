@@ -3,6 +3,7 @@
 ghost use Rattle.std.specs.Prelude.{◌≡◌, ◌++◌, take, drop, IfOk};
 ghost use Rattle.blast_spec.specs.Goal as spec;
 
+use attempt::attempt;
 use cnf_core::Literal;
 use std::alloc::{AllocError, Global};
 
@@ -36,8 +37,8 @@ pub fn part(
 pub fn joined(alloc: Global, x: &[Literal], y: &[Literal]) -> Result<Vec<Literal>, AllocError>
     ensures { IfOk result (λ out. out.items ≡ x.now ++ y.now) }
 {
-    let mut out = x.to_vec(alloc)?;
-    out.extend_from_slice(y)?;
+    let mut out = attempt!(x.to_vec(alloc));
+    attempt!(out.extend_from_slice(y));
     Ok(out)
 }
 
@@ -51,9 +52,9 @@ pub fn with_four(
 ) -> Result<Vec<Literal>, AllocError>
     ensures { IfOk result (λ out. out.items ≡ low.items ++ a.now ++ b.now ++ c.now ++ d.now) }
 {
-    low.extend_from_slice(a)?;
-    low.extend_from_slice(b)?;
-    low.extend_from_slice(c)?;
-    low.extend_from_slice(d)?;
+    attempt!(low.extend_from_slice(a));
+    attempt!(low.extend_from_slice(b));
+    attempt!(low.extend_from_slice(c));
+    attempt!(low.extend_from_slice(d));
     Ok(low)
 }

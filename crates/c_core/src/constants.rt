@@ -8,6 +8,7 @@ ghost use Rattle.c_core.specs.Widths.{HasWidth};
 
 use crate::expression::Core;
 use crate::values::{TooWide, arithmetic_value, comparison_value, convert};
+use attempt::attempt;
 use c_type_spec::{Arithmetic, Comparison, INT_WIDTH, POINTER_WIDTH, Scalar};
 
 /// `int`
@@ -104,21 +105,21 @@ pub fn constant_value(x: &Core<'_>) -> Result<Option<i128>, TooWide>
 {
     match x {
         Core::Constant(_, value) => Ok(Some(*value)),
-        Core::Convert(of, operand) => converted(*of, constant_value(operand)?),
+        Core::Convert(of, operand) => converted(*of, attempt!(constant_value(operand))),
         Core::Operate(operator, of, left, right, _) => {
-            let a = constant_value(left)?;
-            let b = constant_value(right)?;
+            let a = attempt!(constant_value(left));
+            let b = attempt!(constant_value(right));
             operated(*operator, *of, a, b)
         }
         Core::Compare(operator, left, right) => {
-            let a = constant_value(left)?;
-            let b = constant_value(right)?;
+            let a = attempt!(constant_value(left));
+            let b = attempt!(constant_value(right));
             Ok(compared(*operator, a, b))
         }
         Core::Choose(_, test, first, second) => {
-            let c = constant_value(test)?;
-            let a = constant_value(first)?;
-            let b = constant_value(second)?;
+            let c = attempt!(constant_value(test));
+            let a = attempt!(constant_value(first));
+            let b = attempt!(constant_value(second));
             Ok(chosen(c, a, b))
         }
         Core::ReadLocal(_, _, _) | Core::GlobalAddress(_) | Core::Load(_, _, _, _) => Ok(None),

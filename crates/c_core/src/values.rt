@@ -5,6 +5,7 @@ ghost use Rattle.c_type_spec.specs.Values as rule;
 ghost use Rattle.c_type_spec.specs.declared.Arithmetic.TheVariants as arithmetic;
 ghost use Rattle.c_core.specs.Widths.{HasWidth};
 
+use attempt::attempt;
 use c_type_spec::{Arithmetic, Comparison, Scalar};
 
 /// A value or a type is wider than the program computes with; those of a typed core are not.
@@ -121,7 +122,7 @@ fn quotient(of: Scalar, left: i128, right: i128) -> Result<Option<i128>, TooWide
     requires { HasWidth of }
     ensures { IfOk result (λ r. r ≡ rule.arithmetic_value arithmetic.Divide of left right) }
 {
-    if can_divide(of, left, right)? {
+    if attempt!(can_divide(of, left, right)) {
         match left.checked_div(right) {
             Some(value) => Ok(Some(value)),
             None => Err(TooWide),
@@ -136,7 +137,7 @@ fn remainder(of: Scalar, left: i128, right: i128) -> Result<Option<i128>, TooWid
     requires { HasWidth of }
     ensures { IfOk result (λ r. r ≡ rule.arithmetic_value arithmetic.Remainder of left right) }
 {
-    if can_divide(of, left, right)? {
+    if attempt!(can_divide(of, left, right)) {
         match left.checked_rem(right) {
             Some(value) => Ok(Some(value)),
             None => Err(TooWide),

@@ -1,5 +1,4 @@
-//! Classes of tokens in an initial value, and the typedef names that an external declaration brings
-//! into scope.
+//! Classes of tokens in an initial value, and the typedef names that come into scope.
 
 ghost use Rattle.std.specs.Prelude.{◌≡◌, IfOk, false};
 ghost use Rattle.c_grammar_spec.specs.Expressions.{is_typedef_name};
@@ -13,7 +12,7 @@ ghost use Rattle.c_parse_token.specs.Lists.{list_of, names_of};
 ghost use Rattle.c_token.specs.Pieces.{token_of};
 
 use c_parse_token::class::is_mark;
-use c_parse_token::{Tokens, TypedefNames};
+use c_parse_token::{Tokens, TypedefNames, attempt};
 use c_spec::token::{Keyword, Punctuator};
 use c_syntax::expression::Specifiers;
 use c_syntax::unit::Global;
@@ -87,8 +86,7 @@ fn declared_name<'a>(global: &Global<'a>) -> &'a [u8]
     }
 }
 
-/// Brings the name of a global, no typedef name yet, into scope as one, where it is declared with
-/// `typedef`.
+/// Brings the name of a global, if declared with `typedef`, into scope as a typedef name.
 pub fn declare<'a>(
     names: &mut TypedefNames<'a>,
     is_typedef: bool,
@@ -100,7 +98,7 @@ pub fn declare<'a>(
         (names_of names.old)) }
 {
     if is_typedef {
-        names.add(declared_name(global))?;
+        attempt!(names.add(declared_name(global)));
     }
     Ok(())
 }

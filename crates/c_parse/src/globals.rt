@@ -14,7 +14,7 @@ use crate::class::{declare, is_typedef};
 use crate::initial::initial;
 use c_grammar_spec::{Role, STATEMENT_FUEL};
 use c_parse_declaration::{Scope, global};
-use c_parse_token::{Stopped, Tokens, TypedefNames};
+use c_parse_token::{Stopped, Tokens, TypedefNames, allocated, attempt};
 use c_spec::token::Punctuator;
 use c_syntax::expression::{Specifiers, boxed};
 use c_syntax::unit::{ExternalDeclaration, Global as GlobalDeclarator};
@@ -33,13 +33,13 @@ fn value<'t>(
     if !tokens.next_is(Punctuator::Assign) {
         return Ok(Role::Nothing);
     }
-    tokens.mark(Punctuator::Assign, Role::Nothing)?;
+    attempt!(tokens.mark(Punctuator::Assign, Role::Nothing));
     let scope = Scope {
         alloc,
         names,
         depth: 0,
     };
-    Ok(initial(scope, tokens, STATEMENT_FUEL)?)
+    Ok(attempt!(initial(scope, tokens, STATEMENT_FUEL)))
 }
 
 // A global, pushed after those before it, and what is expected after it. Its name is in scope after
@@ -62,8 +62,8 @@ fn declared<'t>(
         [])) }
     ensures shorter { IfOk result (λ _. IsNoLonger tokens.new tokens.old) }
 {
-    declare(names, is_typedef, &first)?;
-    let end = value(alloc, tokens, names)?;
+    allocated!(declare(names, is_typedef, &first));
+    let end = attempt!(value(alloc, tokens, names));
     all.push(first)?;
     Ok(end)
 }
@@ -94,8 +94,7 @@ fn more_globals<'t>(
     Ok(())
 }
 
-/// The globals of an external declaration after its specifiers and the first declarator, with the
-/// `;`.
+/// The globals of an external declaration after its first declarator, with the `;`.
 pub fn globals<'t>(
     alloc: Global,
     tokens: &mut Tokens<'t>,

@@ -12,7 +12,7 @@ use crate::class::{starts_designator, starts_initial};
 use c_grammar_spec::Role;
 use c_parse_declaration::Scope;
 use c_parse_expression::whole;
-use c_parse_token::{Fault, Stopped, Tokens};
+use c_parse_token::{Fault, Stopped, Tokens, attempt};
 use c_spec::token::Punctuator;
 
 // `.` and a member, or an index in brackets.
@@ -55,8 +55,8 @@ fn designation<'t>(scope: Scope<'_, 't>, tokens: &mut Tokens<'t>) -> Result<(), 
         {0}) tokens.old tokens.new result }
     ensures shorter { IfOk result (λ _. IsShorter tokens.new tokens.old) }
 {
-    designators(scope, tokens)?;
-    tokens.mark(Punctuator::Assign, Role::Nothing)?;
+    attempt!(designators(scope, tokens));
+    attempt!(tokens.mark(Punctuator::Assign, Role::Nothing));
     Ok(())
 }
 
@@ -74,9 +74,9 @@ fn designated<'t>(
     ensures shorter { IfOk result (λ _. IsShorter tokens.new tokens.old) }
 {
     if starts_designator(tokens) {
-        designation(scope, tokens)?;
+        attempt!(designation(scope, tokens));
     }
-    Ok(initial(scope, tokens, fuel)?)
+    Ok(attempt!(initial(scope, tokens, fuel)))
 }
 
 // The initial values after a `{`, with its `}`.

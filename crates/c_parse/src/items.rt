@@ -15,7 +15,7 @@ use crate::globals::globals;
 use c_grammar_spec::Role;
 use c_parse_declaration::{Scope, external_specifiers, global};
 use c_parse_statement::parts;
-use c_parse_token::{Stopped, Tokens, TypedefNames};
+use c_parse_token::{Stopped, Tokens, TypedefNames, allocated, attempt};
 use c_spec::token::Punctuator;
 use c_syntax::expression::{Specifiers, boxed};
 use c_syntax::statement::Part;
@@ -34,14 +34,14 @@ fn body<'t>(
         tokens.new result }
     ensures shorter { IfOk result (λ _. IsShorter tokens.new tokens.old) }
 {
-    tokens.opening(Punctuator::LeftBrace, 0)?;
+    attempt!(tokens.opening(Punctuator::LeftBrace, 0));
     let scope = Scope {
         alloc,
         names,
         depth: 1,
     };
-    let parts = parts(scope, tokens)?;
-    let close = tokens.mark(Punctuator::RightBrace, Role::Nothing)?;
+    let parts = attempt!(parts(scope, tokens));
+    let close = attempt!(tokens.mark(Punctuator::RightBrace, Role::Nothing));
     Ok((parts, close))
 }
 
@@ -86,7 +86,7 @@ fn after_global<'t>(
             definition(alloc, tokens, names, specifiers, declarator)
         }
         GlobalDeclarator::Object(declarator) => {
-            let first = boxed(alloc, GlobalDeclarator::Object(declarator))?;
+            let first = allocated!(boxed(alloc, GlobalDeclarator::Object(declarator)));
             globals(alloc, tokens, names, specifiers, first)
         }
     }
@@ -105,11 +105,11 @@ fn after_specifiers<'t>(
     ensures shorter { IfOk result (λ _. IsShorter tokens.new tokens.old) }
 {
     if tokens.next_is(Punctuator::Semicolon) {
-        tokens.mark(Punctuator::Semicolon, Role::Nothing)?;
+        attempt!(tokens.mark(Punctuator::Semicolon, Role::Nothing));
         let made = ExternalDeclaration::Declaration(specifiers, Vec::new(alloc));
-        return Ok(boxed(alloc, made)?);
+        return Ok(allocated!(boxed(alloc, made)));
     }
-    let first = global(alloc, tokens, names, is_typedef(&specifiers))?;
+    let first = attempt!(global(alloc, tokens, names, is_typedef(&specifiers)));
     after_global(alloc, tokens, names, specifiers, first)
 }
 
@@ -124,10 +124,10 @@ fn item<'t>(
     ensures shorter { IfOk result (λ _. IsShorter tokens.new tokens.old) }
 {
     if tokens.next_is(Punctuator::Semicolon) {
-        tokens.mark(Punctuator::Semicolon, Role::Nothing)?;
-        return Ok(boxed(alloc, ExternalDeclaration::Empty)?);
+        attempt!(tokens.mark(Punctuator::Semicolon, Role::Nothing));
+        return Ok(allocated!(boxed(alloc, ExternalDeclaration::Empty)));
     }
-    let specifiers = external_specifiers(alloc, tokens, names)?;
+    let specifiers = attempt!(external_specifiers(alloc, tokens, names));
     after_specifiers(alloc, tokens, names, specifiers)
 }
 
@@ -158,6 +158,6 @@ pub fn unit<'t>(alloc: Global, tokens: &mut Tokens<'t>) -> Result<TranslationUni
 {
     let mut names = TypedefNames::new(alloc);
     let mut all = Vec::new(alloc);
-    items(alloc, tokens, &mut names, &mut all)?;
+    attempt!(items(alloc, tokens, &mut names, &mut all));
     Ok(TranslationUnit { items: all })
 }

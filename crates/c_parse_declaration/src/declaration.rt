@@ -29,7 +29,9 @@ use crate::{Parsed, Scope};
 use c_grammar_spec::Role;
 use c_parse_expression::{base, dimensions};
 use c_parse_token::class::begins_type;
-use c_parse_token::{Fault, Stopped, Tokens, TypedefNames, pointer, type_specifier_head};
+use c_parse_token::{
+    Fault, Stopped, Tokens, TypedefNames, allocated, attempt, pointer, type_specifier_head,
+};
 use c_spec::token::{Keyword, Punctuator};
 use c_syntax::expression::{Declarator, Name, Specifiers, Storage, boxed};
 use c_syntax::simple::Value;
@@ -115,11 +117,11 @@ fn specifiers<'t>(
     ensures shorter { IfOk result (λ _. IsShorter tokens.new tokens.old) }
 {
     let (before, first) = words(tokens, of_item);
-    let (head, offset) = type_specifier_head(tokens, scope.names)?;
-    let base = base(scope.alloc, tokens, scope.names, scope.depth, head)?;
+    let (head, offset) = attempt!(type_specifier_head(tokens, scope.names));
+    let base = attempt!(base(scope.alloc, tokens, scope.names, scope.depth, head));
     let (following, _) = words(tokens, of_item);
     let storage = both(before, following);
-    Ok(Specifiers::new(scope.alloc, storage, base, first.unwrap_or(offset))?)
+    Ok(allocated!(Specifiers::new(scope.alloc, storage, base, first.unwrap_or(offset))))
 }
 
 /// The specifiers of an external declaration (6.7).
@@ -184,9 +186,9 @@ fn declarator<'t>(scope: Scope<'_, 't>, tokens: &mut Tokens<'t>) -> Parsed<Decla
     ensures shorter { IfOk result (λ _. IsShorter tokens.new tokens.old) }
 {
     let pointers = pointer(tokens);
-    let name = declared_name(tokens, scope.names)?;
-    let dimensions = dimensions(scope.alloc, tokens, scope.names, scope.depth)?;
-    Ok(Declarator::new(scope.alloc, pointers, name, dimensions)?)
+    let name = attempt!(declared_name(tokens, scope.names));
+    let dimensions = attempt!(dimensions(scope.alloc, tokens, scope.names, scope.depth));
+    Ok(allocated!(Declarator::new(scope.alloc, pointers, name, dimensions)))
 }
 
 // A local, and its initial value, which is a whole expression.
@@ -196,15 +198,15 @@ fn local<'t>(scope: Scope<'_, 't>, tokens: &mut Tokens<'t>) -> Parsed<Local<'t>>
         scope.entry.depth) (λ x. local_of x.value) tokens.old tokens.new result }
     ensures shorter { IfOk result (λ _. IsShorter tokens.new tokens.old) }
 {
-    let declarator = declarator(scope, tokens)?;
+    let declarator = attempt!(declarator(scope, tokens));
     if !tokens.next_is(Punctuator::Assign) {
         let value = None;
-        return Ok(boxed(scope.alloc, Local { declarator, value })?);
+        return Ok(allocated!(boxed(scope.alloc, Local { declarator, value })));
     }
-    tokens.mark(Punctuator::Assign, Role::Nothing)?;
+    attempt!(tokens.mark(Punctuator::Assign, Role::Nothing));
     tokens.count = 0;
-    let value = Some(value(scope, tokens)?);
-    Ok(boxed(scope.alloc, Local { declarator, value })?)
+    let value = Some(attempt!(value(scope, tokens)));
+    Ok(allocated!(boxed(scope.alloc, Local { declarator, value })))
 }
 
 /// What is expected after a value.
@@ -261,9 +263,9 @@ pub fn locals<'t>(scope: Scope<'_, 't>, tokens: &mut Tokens<'t>) -> Parsed<Local
         scope.entry.depth) (λ x. locals_of x.value) tokens.old tokens.new result }
     ensures shorter { IfOk result (λ _. IsShorter tokens.new tokens.old) }
 {
-    let specifiers = specifiers(scope, tokens, false)?;
-    let first = local(scope, tokens)?;
+    let specifiers = attempt!(specifiers(scope, tokens, false));
+    let first = attempt!(local(scope, tokens));
     let mut locals = Vec::new(scope.alloc);
-    more_locals(scope, tokens, first, &mut locals)?;
-    Ok(boxed(scope.alloc, Locals { specifiers, locals })?)
+    attempt!(more_locals(scope, tokens, first, &mut locals));
+    Ok(allocated!(boxed(scope.alloc, Locals { specifiers, locals })))
 }

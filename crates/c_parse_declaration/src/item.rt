@@ -25,7 +25,7 @@ use crate::declaration::{declared_name, stored};
 use crate::{Parsed, Scope};
 use c_grammar_spec::Role;
 use c_parse_expression::{dimensions, specifiers};
-use c_parse_token::{Stopped, Tokens, TypedefNames, consts, pointer};
+use c_parse_token::{Stopped, Tokens, TypedefNames, allocated, attempt, consts, pointer};
 use c_spec::token::{Keyword, Punctuator};
 use c_syntax::expression::{Declarator, Dimensions, Name, Specifiers, TypeSpecifier, boxed};
 use c_syntax::unit::{FunctionDeclarator, Global as GlobalDeclarator, Parameter};
@@ -63,7 +63,7 @@ fn optional_name<'t>(
     if !tokens.starts_plain_name(names) {
         return Ok(None);
     }
-    Ok(Some(declared_name(tokens, names)?))
+    Ok(Some(attempt!(declared_name(tokens, names))))
 }
 
 // What follows the specifiers of a parameter, with them.
@@ -79,17 +79,17 @@ fn parameter_after<'t>(
     ensures shorter { IfOk result (λ _. IsNoLonger tokens.new tokens.old) }
 {
     let pointers = pointer(tokens);
-    let name = optional_name(tokens, scope.names)?;
-    let dimensions = dimensions(scope.alloc, tokens, scope.names, scope.depth)?;
-    Ok(boxed(
+    let name = attempt!(optional_name(tokens, scope.names));
+    let dimensions = attempt!(dimensions(scope.alloc, tokens, scope.names, scope.depth));
+    Ok(allocated!(boxed(
         scope.alloc,
         Parameter {
             specifiers,
             pointers,
             name,
             dimensions,
-        },
-    )?)
+        }
+    )))
 }
 
 // A parameter.
@@ -99,7 +99,7 @@ fn parameter<'t>(scope: Scope<'_, 't>, tokens: &mut Tokens<'t>) -> Parsed<Parame
         scope.entry) scope.entry.depth) (λ x. parameter_of x.value) tokens.old tokens.new result }
     ensures shorter { IfOk result (λ _. IsNoLonger tokens.new tokens.old) }
 {
-    let specifiers = specifiers(scope.alloc, tokens, scope.names, scope.depth)?;
+    let specifiers = attempt!(specifiers(scope.alloc, tokens, scope.names, scope.depth));
     parameter_after(scope, tokens, specifiers)
 }
 
@@ -116,8 +116,8 @@ fn void_parameter<'t>(
     ensures shorter { IfOk result (λ _. IsNoLonger tokens.new tokens.old) }
 {
     consts(tokens);
-    let base = TypeSpecifier::void(scope.alloc)?;
-    let specifiers = Specifiers::new(scope.alloc, stored(false, false), base, offset)?;
+    let base = allocated!(TypeSpecifier::void(scope.alloc));
+    let specifiers = allocated!(Specifiers::new(scope.alloc, stored(false, false), base, offset));
     parameter_after(scope, tokens, specifiers)
 }
 
@@ -181,18 +181,18 @@ fn parameters<'t>(
     ensures shorter { IfOk result (λ _. IsShorter tokens.new tokens.old) }
 {
     if tokens.next_is(Punctuator::RightParenthesis) {
-        tokens.mark(Punctuator::RightParenthesis, Role::Nothing)?;
+        attempt!(tokens.mark(Punctuator::RightParenthesis, Role::Nothing));
         return Ok(());
     }
     let Some(offset) = take_void(tokens) else {
-        let first = parameter(scope, tokens)?;
+        let first = attempt!(parameter(scope, tokens));
         return more_parameters(scope, tokens, first, list);
     };
     if tokens.next_is(Punctuator::RightParenthesis) {
-        tokens.mark(Punctuator::RightParenthesis, Role::DeclaredName)?;
+        attempt!(tokens.mark(Punctuator::RightParenthesis, Role::DeclaredName));
         return Ok(());
     }
-    let first = void_parameter(scope, tokens, offset)?;
+    let first = attempt!(void_parameter(scope, tokens, offset));
     more_parameters(scope, tokens, first, list)
 }
 
@@ -210,27 +210,26 @@ fn function<'t>(
     ensures named { IfOk result (λ x. name_of_global (global_of x.value) ≡
         name.entry.spelling.now) }
 {
-    tokens.opening(Punctuator::LeftParenthesis, 0)?;
+    attempt!(tokens.opening(Punctuator::LeftParenthesis, 0));
     let mut list = Vec::new(alloc);
     let scope = Scope {
         alloc,
         names,
         depth: 1,
     };
-    parameters(scope, tokens, &mut list)?;
-    let declarator = boxed(
+    attempt!(parameters(scope, tokens, &mut list));
+    let declarator = allocated!(boxed(
         alloc,
         FunctionDeclarator {
             pointers,
             name,
             parameters: list,
         },
-    )?;
-    Ok(boxed(alloc, GlobalDeclarator::Function(declarator))?)
+    ));
+    Ok(allocated!(boxed(alloc, GlobalDeclarator::Function(declarator))))
 }
 
-/// A declarator in an external declaration, with `typedef` (then it is of no function) or without.
-/// Its name is no typedef name in scope.
+/// A declarator of a global, with `typedef` (then no function) or without. Its name is new.
 pub fn global<'t>(
     alloc: Global,
     tokens: &mut Tokens<'t>,
@@ -244,11 +243,11 @@ pub fn global<'t>(
         (name_of_global (global_of x.value)) ≡ false) }
 {
     let pointers = pointer(tokens);
-    let name = declared_name(tokens, names)?;
+    let name = attempt!(declared_name(tokens, names));
     if !is_typedef && tokens.next_is(Punctuator::LeftParenthesis) {
-        return Ok(function(alloc, tokens, names, pointers, name)?);
+        return Ok(attempt!(function(alloc, tokens, names, pointers, name)));
     }
-    let dimensions = dimensions(alloc, tokens, names, 0)?;
-    let declarator = Declarator::new(alloc, pointers, name, dimensions)?;
-    Ok(boxed(alloc, GlobalDeclarator::Object(declarator))?)
+    let dimensions = attempt!(dimensions(alloc, tokens, names, 0));
+    let declarator = allocated!(Declarator::new(alloc, pointers, name, dimensions));
+    Ok(allocated!(boxed(alloc, GlobalDeclarator::Object(declarator))))
 }

@@ -19,7 +19,7 @@ ghost use Rattle.c_grammar_spec.specs.Limits.{nesting_limit, operator_limit};
 use crate::{Parsed, Scope};
 use c_grammar_spec::{OPERATOR_LIMIT, Role};
 use c_parse_expression::{any_unary, conditional, whole};
-use c_parse_token::{Fault, Stopped, Tokens};
+use c_parse_token::{Fault, Stopped, Tokens, allocated, attempt};
 use c_spec::token::Punctuator;
 use c_syntax::expression::{Expression, Name, boxed};
 use c_syntax::simple::{Call, Simple, Value};
@@ -210,19 +210,19 @@ fn call<'t>(scope: Scope<'_, 't>, tokens: &mut Tokens<'t>, callee: Name<'t>) -> 
         result }
     ensures shorter { IfOk result (λ _. IsNoLonger tokens.new tokens.old) }
 {
-    tokens.bracket(Punctuator::LeftParenthesis, scope.depth)?;
+    attempt!(tokens.bracket(Punctuator::LeftParenthesis, scope.depth));
     let mut arguments = Vec::new(scope.alloc);
     if tokens.next_is(Punctuator::RightParenthesis) {
-        tokens.mark(Punctuator::RightParenthesis, Role::Nothing)?;
-        return Ok(boxed(scope.alloc, Call { callee, arguments })?);
+        attempt!(tokens.mark(Punctuator::RightParenthesis, Role::Nothing));
+        return Ok(allocated!(boxed(scope.alloc, Call { callee, arguments })));
     }
-    let first = conditional(scope.alloc, tokens, scope.names, scope.depth + 1)?;
+    let first = attempt!(conditional(scope.alloc, tokens, scope.names, scope.depth + 1));
     let deeper = Scope {
         depth: scope.depth + 1,
         ..scope
     };
-    more_arguments(deeper, tokens, first, &mut arguments)?;
-    Ok(boxed(scope.alloc, Call { callee, arguments })?)
+    attempt!(more_arguments(deeper, tokens, first, &mut arguments));
+    Ok(allocated!(boxed(scope.alloc, Call { callee, arguments })))
 }
 
 // A value whose first part was read: a call, where that is a name with `(` after it.
@@ -239,13 +239,13 @@ fn called<'t>(
     ensures shorter { IfOk result (λ _. IsNoLonger tokens.new tokens.old) }
 {
     let Some(callee) = name_alone(&first) else {
-        return Ok(boxed(scope.alloc, Value::Computed(first))?);
+        return Ok(allocated!(boxed(scope.alloc, Value::Computed(first))));
     };
     if !tokens.next_is(Punctuator::LeftParenthesis) {
-        return Ok(boxed(scope.alloc, Value::Computed(first))?);
+        return Ok(allocated!(boxed(scope.alloc, Value::Computed(first))));
     }
-    let call = call(scope, tokens, callee)?;
-    Ok(boxed(scope.alloc, Value::Called(call))?)
+    let call = attempt!(call(scope, tokens, callee));
+    Ok(allocated!(boxed(scope.alloc, Value::Called(call))))
 }
 
 /// A call, or a conditional expression: what is assigned, given to a local or returned.
@@ -256,7 +256,7 @@ pub fn value<'t>(scope: Scope<'_, 't>, tokens: &mut Tokens<'t>) -> Parsed<Value<
         tokens.old.count) (λ x. value_of x.value) tokens.old tokens.new result }
     ensures shorter { IfOk result (λ _. IsNoLonger tokens.new tokens.old) }
 {
-    let first = conditional(scope.alloc, tokens, scope.names, scope.depth)?;
+    let first = attempt!(conditional(scope.alloc, tokens, scope.names, scope.depth));
     called(scope, tokens, first)
 }
 
@@ -268,9 +268,9 @@ fn step_before<'t>(scope: Scope<'_, 't>, tokens: &mut Tokens<'t>) -> Parsed<Simp
     ensures shorter { IfOk result (λ _. IsNoLonger tokens.new tokens.old) }
 {
     tokens.count = 0;
-    let (operator, offset) = step(tokens)?;
-    let target = any_unary(scope.alloc, tokens, scope.names, scope.depth)?;
-    Ok(boxed(scope.alloc, Simple::StepBefore(operator, target, offset))?)
+    let (operator, offset) = attempt!(step(tokens));
+    let target = attempt!(any_unary(scope.alloc, tokens, scope.names, scope.depth));
+    Ok(allocated!(boxed(scope.alloc, Simple::StepBefore(operator, target, offset))))
 }
 
 // `=` and a value after a target.
@@ -285,9 +285,9 @@ fn assign<'t>(
         (expression_of target.entry.value)) (λ x. simple_of x.value) tokens.old tokens.new result }
     ensures shorter { IfOk result (λ _. IsNoLonger tokens.new tokens.old) }
 {
-    let offset = tokens.operator(Punctuator::Assign)?;
-    let value = value(scope, tokens)?;
-    Ok(boxed(scope.alloc, Simple::Assign(target, value, offset))?)
+    let offset = attempt!(tokens.operator(Punctuator::Assign));
+    let value = attempt!(value(scope, tokens));
+    Ok(allocated!(boxed(scope.alloc, Simple::Assign(target, value, offset))))
 }
 
 // An operator with `=`, and its operand, after a target.
@@ -302,10 +302,10 @@ fn assign_by<'t>(
         (expression_of target.entry.value)) (λ x. simple_of x.value) tokens.old tokens.new result }
     ensures shorter { IfOk result (λ _. IsNoLonger tokens.new tokens.old) }
 {
-    let (operator, offset) = assignment(tokens)?;
-    let operand = conditional(scope.alloc, tokens, scope.names, scope.depth)?;
+    let (operator, offset) = attempt!(assignment(tokens));
+    let operand = attempt!(conditional(scope.alloc, tokens, scope.names, scope.depth));
     let made = Simple::AssignBy(operator, target, operand, offset);
-    Ok(boxed(scope.alloc, made)?)
+    Ok(allocated!(boxed(scope.alloc, made)))
 }
 
 // `++` or `--` after a target.
@@ -319,8 +319,8 @@ fn step_after<'t>(
         (λ x. simple_of x.value) tokens.old tokens.new result }
     ensures shorter { IfOk result (λ _. IsNoLonger tokens.new tokens.old) }
 {
-    let (operator, offset) = step(tokens)?;
-    Ok(boxed(alloc, Simple::StepAfter(operator, target, offset))?)
+    let (operator, offset) = attempt!(step(tokens));
+    Ok(allocated!(boxed(alloc, Simple::StepAfter(operator, target, offset))))
 }
 
 // What follows an expression that begins an expression statement, with it.
@@ -345,12 +345,11 @@ fn simple_after<'t>(
     if is_postfix(&first) && starts_step(tokens) {
         return step_after(scope.alloc, tokens, first);
     }
-    let value = called(scope, tokens, first)?;
-    Ok(boxed(scope.alloc, Simple::Evaluate(value))?)
+    let value = attempt!(called(scope, tokens, first));
+    Ok(allocated!(boxed(scope.alloc, Simple::Evaluate(value))))
 }
 
-/// An expression statement without its `;`, or a piece of a `for` (6.8.3, 6.8.5.3). It begins a
-/// whole expression.
+/// An expression statement without `;`, or a piece of a `for` (6.8.3, 6.8.5.3), as a whole.
 pub fn simple<'t>(scope: Scope<'_, 't>, tokens: &mut Tokens<'t>) -> Parsed<Simple<'t>>
     requires depth { scope.depth ≤ nesting_limit }
     ensures gives { Parses (values.read_simple (parsers_in scope.entry) scope.entry.depth)
@@ -360,6 +359,6 @@ pub fn simple<'t>(scope: Scope<'_, 't>, tokens: &mut Tokens<'t>) -> Parsed<Simpl
     if starts_step(tokens) {
         return step_before(scope, tokens);
     }
-    let first = whole(scope.alloc, tokens, scope.names, scope.depth)?;
+    let first = attempt!(whole(scope.alloc, tokens, scope.names, scope.depth));
     simple_after(scope, tokens, first)
 }

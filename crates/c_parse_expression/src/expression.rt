@@ -14,7 +14,7 @@ ghost use Rattle.c_grammar_spec.specs.Limits.{nesting_limit, operator_limit};
 use crate::operand::{atom, member as member_access};
 use crate::specifier::type_name;
 use c_grammar_spec::Role;
-use c_parse_token::{Fault, Stopped, Tokens, TypedefNames};
+use c_parse_token::{Fault, Stopped, Tokens, TypedefNames, allocated, attempt};
 use c_spec::token::Punctuator;
 use c_syntax::expression::{Expression, TypeName};
 use std::alloc::Global;
@@ -30,8 +30,7 @@ pub struct Scope<'n, 't> {
     pub depth: usize,
     /// How many further functions of the cycle may be called, one by the other.
     pub fuel: usize,
-    /// A type in it is in no expression: each of its lengths and enumeration values is a whole
-    /// expression.
+    /// A type in no expression: each of its lengths and enumeration values is a whole expression.
     pub is_alone: bool,
 }
 
@@ -62,11 +61,11 @@ fn choice<'t>(scope: Scope<'_, 't>, tokens: &mut Tokens<'t>) -> Parsed<Expressio
     ensures { ReadsExpression (expression_in parsers.read_conditional scope.entry tokens.old)
         tokens.old.count tokens.old tokens.new result }
 {
-    let test = binary(scope, tokens, 10)?;
+    let test = attempt!(binary(scope, tokens, 10));
     if !tokens.next_is(Punctuator::Question) {
         return Ok(test);
     }
-    Ok(chosen(scope, tokens, test)?)
+    Ok(attempt!(chosen(scope, tokens, test)))
 }
 
 // After a condition `?` and two values.
@@ -81,10 +80,10 @@ fn chosen<'t>(
         tokens.old.count (tree_of test.entry)) (tree_of test.entry) IsNoLonger tokens.old tokens.new
         result }
 {
-    let offset = tokens.operator(Punctuator::Question)?;
-    let first = ended(scope, tokens, Punctuator::Colon)?;
-    let second = conditional(scope, tokens)?;
-    Ok(Expression::conditional(scope.alloc, test, first, second, offset)?)
+    let offset = attempt!(tokens.operator(Punctuator::Question));
+    let first = attempt!(ended(scope, tokens, Punctuator::Colon));
+    let second = attempt!(conditional(scope, tokens));
+    Ok(allocated!(Expression::conditional(scope.alloc, test, first, second, offset)))
 }
 
 // An expression and the punctuator that ends it.
@@ -98,8 +97,8 @@ pub fn ended<'t>(
     ensures { ReadsExpression (read_ended (around scope.entry) scope.entry.depth tokens.old.count
         end) tokens.old.count tokens.old tokens.new result }
 {
-    let x = conditional(scope, tokens)?;
-    tokens.mark(end, Role::OperandEnd)?;
+    let x = attempt!(conditional(scope, tokens));
+    attempt!(tokens.mark(end, Role::OperandEnd));
     Ok(x)
 }
 
@@ -157,9 +156,9 @@ fn operation<'t>(
         tokens.old.count (tree_of left.entry)) (tree_of left.entry) IsShorter tokens.old tokens.new
         result }
 {
-    let (operator, offset) = tokens.infix(level + 1)?;
-    let right = binary(scope, tokens, level)?;
-    Ok(Expression::binary(scope.alloc, operator, left, right, offset)?)
+    let (operator, offset) = attempt!(tokens.infix(level + 1));
+    let right = attempt!(binary(scope, tokens, level));
+    Ok(allocated!(Expression::binary(scope.alloc, operator, left, right, offset)))
 }
 
 // A cast (6.5.4).
@@ -190,11 +189,11 @@ fn operand<'t>(scope: Scope<'_, 't>, tokens: &mut Tokens<'t>) -> Parsed<Expressi
         return unary(scope, tokens);
     }
     let before = tokens.count;
-    let offset = tokens.bracket(Punctuator::LeftParenthesis, scope.depth)?;
+    let offset = attempt!(tokens.bracket(Punctuator::LeftParenthesis, scope.depth));
     if tokens.starts_type(scope.names) {
-        return Ok(converted(scope, tokens, before, offset)?);
+        return Ok(attempt!(converted(scope, tokens, before, offset)));
     }
-    Ok(bracketed(scope, tokens, before, offset)?)
+    Ok(attempt!(bracketed(scope, tokens, before, offset)))
 }
 
 // After `(` a type, its bracket and an operand.
@@ -211,9 +210,9 @@ fn converted<'t>(
     ensures { ReadsExpression (parsers.read_converted (around scope.entry) scope.entry.depth before
         offset) before tokens.old tokens.new result }
 {
-    let to = bracketed_type(scope, tokens)?;
-    let operand = cast(scope, tokens)?;
-    Ok(Expression::cast(scope.alloc, to, operand, offset)?)
+    let to = attempt!(bracketed_type(scope, tokens));
+    let operand = attempt!(cast(scope, tokens));
+    Ok(allocated!(Expression::cast(scope.alloc, to, operand, offset)))
 }
 
 // A type after `(`, and its bracket.
@@ -229,8 +228,8 @@ fn bracketed_type<'t>(scope: Scope<'_, 't>, tokens: &mut Tokens<'t>) -> Parsed<T
         is_alone: false,
         ..scope
     };
-    let of = type_name(deeper, tokens)?;
-    tokens.mark(Punctuator::RightParenthesis, Role::Nothing)?;
+    let of = attempt!(type_name(deeper, tokens));
+    attempt!(tokens.mark(Punctuator::RightParenthesis, Role::Nothing));
     Ok(of)
 }
 
@@ -252,9 +251,9 @@ pub fn bracketed<'t>(
         depth: scope.depth + 1,
         ..scope
     };
-    let inner = ended(deeper, tokens, Punctuator::RightParenthesis)?;
-    let first = Expression::bracketed(scope.alloc, inner, offset)?;
-    Ok(suffixes(scope, tokens, before, first)?)
+    let inner = attempt!(ended(deeper, tokens, Punctuator::RightParenthesis));
+    let first = allocated!(Expression::bracketed(scope.alloc, inner, offset));
+    Ok(attempt!(suffixes(scope, tokens, before, first)))
 }
 
 // `[`, `.` and `->` after a first part (6.5.2).
@@ -306,13 +305,13 @@ fn index<'t>(
     ensures { ReadsAfter (read_index_after (around scope.entry) scope.entry.depth tokens.old.count
         (tree_of base.entry)) (tree_of base.entry) IsShorter tokens.old tokens.new result }
 {
-    let offset = tokens.bracket(Punctuator::LeftBracket, scope.depth)?;
+    let offset = attempt!(tokens.bracket(Punctuator::LeftBracket, scope.depth));
     let deeper = Scope {
         depth: scope.depth + 1,
         ..scope
     };
-    let index = ended(deeper, tokens, Punctuator::RightBracket)?;
-    Ok(Expression::index(scope.alloc, base, index, offset)?)
+    let index = attempt!(ended(deeper, tokens, Punctuator::RightBracket));
+    Ok(allocated!(Expression::index(scope.alloc, base, index, offset)))
 }
 
 // A unary expression (6.5.3) that begins with no bracket.
@@ -346,8 +345,8 @@ fn prefix_or_postfix<'t>(scope: Scope<'_, 't>, tokens: &mut Tokens<'t>) -> Parse
         return size(scope, tokens);
     }
     let before = tokens.count;
-    let first = atom(scope.alloc, tokens, scope.names)?;
-    Ok(suffixes(scope, tokens, before, first)?)
+    let first = attempt!(atom(scope.alloc, tokens, scope.names));
+    Ok(attempt!(suffixes(scope, tokens, before, first)))
 }
 
 // An operator before its operand.
@@ -357,9 +356,9 @@ fn prefixed<'t>(scope: Scope<'_, 't>, tokens: &mut Tokens<'t>) -> Parsed<Express
     ensures { ReadsExpression (expression_in parsers.read_prefixed scope.entry tokens.old)
         tokens.old.count tokens.old tokens.new result }
 {
-    let (operator, offset) = tokens.prefix()?;
-    let operand = cast(scope, tokens)?;
-    Ok(Expression::unary(scope.alloc, operator, operand, offset)?)
+    let (operator, offset) = attempt!(tokens.prefix());
+    let operand = attempt!(cast(scope, tokens));
+    Ok(allocated!(Expression::unary(scope.alloc, operator, operand, offset)))
 }
 
 // `sizeof` and its operand.
@@ -369,12 +368,12 @@ fn size<'t>(scope: Scope<'_, 't>, tokens: &mut Tokens<'t>) -> Parsed<Expression<
     ensures { ReadsExpression (expression_in (parsers.read_sizeof (names_in scope.entry))
         scope.entry tokens.old) tokens.old.count tokens.old tokens.new result }
 {
-    let offset = tokens.sizeof_word()?;
+    let offset = attempt!(tokens.sizeof_word());
     if !tokens.next_is(Punctuator::LeftParenthesis) {
-        let operand = unary(scope, tokens)?;
-        return Ok(Expression::sizeof(scope.alloc, operand, offset)?);
+        let operand = attempt!(unary(scope, tokens));
+        return Ok(allocated!(Expression::sizeof(scope.alloc, operand, offset)));
     }
-    Ok(size_in_brackets(scope, tokens, offset)?)
+    Ok(attempt!(size_in_brackets(scope, tokens, offset)))
 }
 
 // What is after `sizeof` where it begins with `(`: nothing is after a type in brackets.
@@ -390,11 +389,11 @@ fn size_in_brackets<'t>(
         + operators x) × (after ≤ operator_limit)) IsNoLonger tokens.old tokens.new result }
 {
     let before = tokens.count;
-    let opened = tokens.bracket(Punctuator::LeftParenthesis, scope.depth)?;
+    let opened = attempt!(tokens.bracket(Punctuator::LeftParenthesis, scope.depth));
     if tokens.starts_type(scope.names) {
-        let of = bracketed_type(scope, tokens)?;
-        return Ok(Expression::sizeof_type(scope.alloc, of, offset)?);
+        let of = attempt!(bracketed_type(scope, tokens));
+        return Ok(allocated!(Expression::sizeof_type(scope.alloc, of, offset)));
     }
-    let operand = bracketed(scope, tokens, before, opened)?;
-    Ok(Expression::sizeof(scope.alloc, operand, offset)?)
+    let operand = attempt!(bracketed(scope, tokens, before, opened));
+    Ok(allocated!(Expression::sizeof(scope.alloc, operand, offset)))
 }

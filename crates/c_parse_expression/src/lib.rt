@@ -22,7 +22,7 @@ ghost use Rattle.c_grammar_spec.specs.Limits.{nesting_limit, operator_limit, exp
 
 use crate::expression::Scope;
 use c_grammar_spec::EXPRESSION_FUEL;
-use c_parse_token::{Head, Stopped, Tokens, TypedefNames};
+use c_parse_token::{Head, Stopped, Tokens, TypedefNames, attempt};
 use c_spec::token::Punctuator;
 use c_syntax::expression::{Dimensions, Expression, Specifiers, TypeSpecifier};
 use std::alloc::Global;
@@ -75,7 +75,7 @@ pub fn whole<'t>(
     ensures shorter { IfOk result (λ _. IsNoLonger tokens.new tokens.old) }
 {
     tokens.count = 0;
-    Ok(expression::conditional(scope(alloc, names, depth), tokens)?)
+    Ok(attempt!(expression::conditional(scope(alloc, names, depth), tokens)))
 }
 
 /// A unary expression (6.5.3).
@@ -94,11 +94,11 @@ pub fn any_unary<'t>(
     ensures shorter { IfOk result (λ _. IsNoLonger tokens.new tokens.old) }
 {
     if !tokens.next_is(Punctuator::LeftParenthesis) {
-        return Ok(expression::unary(scope(alloc, names, depth), tokens)?);
+        return Ok(attempt!(expression::unary(scope(alloc, names, depth), tokens)));
     }
     let before = tokens.count;
-    let offset = tokens.bracket(Punctuator::LeftParenthesis, depth)?;
-    Ok(expression::bracketed(scope(alloc, names, depth), tokens, before, offset)?)
+    let offset = attempt!(tokens.bracket(Punctuator::LeftParenthesis, depth));
+    Ok(attempt!(expression::bracketed(scope(alloc, names, depth), tokens, before, offset)))
 }
 
 /// Specifiers (6.7) without storage-class words, as in a type name, a member or a parameter.
@@ -140,7 +140,7 @@ pub fn base<'t>(
         is_alone: true,
         ..scope(alloc, names, depth)
     };
-    Ok(specifier::base(alone, tokens, head)?)
+    Ok(attempt!(specifier::base(alone, tokens, head)))
 }
 
 /// The lengths of an array, and whether the first is left out (6.7.6.2).
@@ -160,5 +160,5 @@ pub fn dimensions<'t>(
         is_alone: true,
         ..scope(alloc, names, depth)
     };
-    Ok(specifier::dimensions(alone, tokens)?)
+    Ok(attempt!(specifier::dimensions(alone, tokens)))
 }

@@ -12,7 +12,7 @@ ghost use Rattle.c_parse_expression.specs.Steps.{ReadsAfter};
 ghost use Rattle.c_grammar_spec.specs.Limits.{operator_limit};
 
 use c_grammar_spec::Role;
-use c_parse_token::{Fault, Stopped, Tokens, TypedefNames};
+use c_parse_token::{Fault, Stopped, Tokens, TypedefNames, allocated, attempt};
 use c_syntax::expression::{Expression, Name};
 use c_token::Kind;
 use std::alloc::Global;
@@ -35,10 +35,10 @@ pub fn atom<'t>(
     let offset = first.offset;
     let x = match first.kind {
         Kind::Name(spelling) if !names.contains(spelling) => {
-            Expression::named(alloc, Name { spelling, offset })?
+            allocated!(Expression::named(alloc, Name { spelling, offset }))
         }
-        Kind::Number(value, of) => Expression::number(alloc, value, of, offset)?,
-        Kind::Character(value) => Expression::character(alloc, value, offset)?,
+        Kind::Number(value, of) => allocated!(Expression::number(alloc, value, of, offset)),
+        Kind::Character(value) => allocated!(Expression::character(alloc, value, offset)),
         _ => return Err(Stopped::At(Fault::Wrong(Role::Nothing))),
     };
     tokens.rest = rest;
@@ -55,13 +55,12 @@ pub fn member<'t>(
     ensures { ReadsAfter (read_member_after tokens.old.count (tree_of base.entry)) (tree_of
         base.entry) IsShorter tokens.old tokens.new result }
 {
-    let (access, offset) = tokens.access()?;
-    let name = tokens.name(Role::Nothing)?;
-    Ok(Expression::member(alloc, base, access, name, offset)?)
+    let (access, offset) = attempt!(tokens.access());
+    let name = attempt!(tokens.name(Role::Nothing));
+    Ok(allocated!(Expression::member(alloc, base, access, name, offset)))
 }
 
-/// Goes to where a length or an enumeration value begins, which is a whole expression in a type
-/// that is in no expression.
+/// Begins a length or an enumeration value: a whole expression, in a type that is in no other.
 pub fn begin_whole(tokens: &mut Tokens<'_>, is_alone: bool)
     ensures rest { tokens.new.rest ≡ tokens.old.rest }
     ensures count { tokens.new.count ≡ count_at (counting_of is_alone tokens.old.count) }

@@ -25,7 +25,8 @@ use crate::expression::{Parsed, Scope, conditional, ended};
 use crate::operand::begin_whole;
 use c_grammar_spec::Role;
 use c_parse_token::{
-    Fault, Head, Stopped, Tokens, consts, integer_type, pointer, type_specifier_head,
+    Fault, Head, Stopped, Tokens, allocated, attempt, consts, integer_type, pointer,
+    type_specifier_head,
 };
 use c_spec::token::Punctuator;
 use c_syntax::expression::{
@@ -65,9 +66,9 @@ fn pointed<'t>(scope: Scope<'_, 't>, tokens: &mut Tokens<'t>) -> Parsed<TypeName
     ensures { ReadsPart (types.read_type_name (names_in scope.entry)) type_of
         grammar.operators_of_type IsNoLonger scope.entry tokens.old tokens.new result }
 {
-    let specifiers = specified(scope, tokens)?;
+    let specifiers = attempt!(specified(scope, tokens));
     let pointers = pointer(tokens);
-    Ok(TypeName::new(scope.alloc, specifiers, pointers)?)
+    Ok(allocated!(TypeName::new(scope.alloc, specifiers, pointers)))
 }
 
 // Specifiers (6.7) without storage-class words.
@@ -95,10 +96,10 @@ fn specified<'t>(scope: Scope<'_, 't>, tokens: &mut Tokens<'t>) -> Parsed<Specif
         grammar.operators_of_specifiers IsNoLonger scope.entry tokens.old tokens.new result }
 {
     let first = consts(tokens);
-    let (head, offset) = type_specifier_head(tokens, scope.names)?;
-    let base = base(scope, tokens, head)?;
+    let (head, offset) = attempt!(type_specifier_head(tokens, scope.names));
+    let base = attempt!(base(scope, tokens, head));
     consts(tokens);
-    Ok(Specifiers::new(scope.alloc, NO_STORAGE, base, first.unwrap_or(offset))?)
+    Ok(allocated!(Specifiers::new(scope.alloc, NO_STORAGE, base, first.unwrap_or(offset))))
 }
 
 // What is after the first token of a type specifier (6.7.2).
@@ -114,12 +115,12 @@ pub fn base<'t>(
         grammar.operators_of_type_specifier IsNoLonger scope.entry tokens.old tokens.new result }
 {
     match head {
-        Head::Void => Ok(TypeSpecifier::void(scope.alloc)?),
+        Head::Void => Ok(allocated!(TypeSpecifier::void(scope.alloc))),
         Head::Integer(first) => {
-            let named = integer_type(scope.alloc, tokens, first)?;
-            Ok(TypeSpecifier::integer(scope.alloc, named)?)
+            let named = allocated!(integer_type(scope.alloc, tokens, first));
+            Ok(allocated!(TypeSpecifier::integer(scope.alloc, named)))
         }
-        Head::Named(name) => Ok(TypeSpecifier::typedef_name(scope.alloc, name)?),
+        Head::Named(name) => Ok(allocated!(TypeSpecifier::typedef_name(scope.alloc, name))),
         Head::Struct => structure(scope, tokens),
         Head::Enum => enumeration(scope, tokens),
     }
@@ -133,15 +134,15 @@ fn structure<'t>(scope: Scope<'_, 't>, tokens: &mut Tokens<'t>) -> Parsed<TypeSp
         grammar.operators_of_type_specifier IsNoLonger scope.entry tokens.old tokens.new result }
 {
     if !tokens.starts_plain_name(scope.names) {
-        let rows = members(scope, tokens)?;
-        return Ok(TypeSpecifier::structure(scope.alloc, None, rows)?);
+        let rows = attempt!(members(scope, tokens));
+        return Ok(allocated!(TypeSpecifier::structure(scope.alloc, None, rows)));
     }
-    let tag = tokens.plain_name(scope.names)?;
+    let tag = attempt!(tokens.plain_name(scope.names));
     if !tokens.next_is(Punctuator::LeftBrace) {
-        return Ok(TypeSpecifier::struct_tag(scope.alloc, tag)?);
+        return Ok(allocated!(TypeSpecifier::struct_tag(scope.alloc, tag)));
     }
-    let rows = members(scope, tokens)?;
-    Ok(TypeSpecifier::structure(scope.alloc, Some(tag), rows)?)
+    let rows = attempt!(members(scope, tokens));
+    Ok(allocated!(TypeSpecifier::structure(scope.alloc, Some(tag), rows)))
 }
 
 // What is after `enum`.
@@ -152,15 +153,15 @@ fn enumeration<'t>(scope: Scope<'_, 't>, tokens: &mut Tokens<'t>) -> Parsed<Type
         grammar.operators_of_type_specifier IsNoLonger scope.entry tokens.old tokens.new result }
 {
     if !tokens.starts_plain_name(scope.names) {
-        let rows = constants(scope, tokens)?;
-        return Ok(TypeSpecifier::enumeration(scope.alloc, None, rows)?);
+        let rows = attempt!(constants(scope, tokens));
+        return Ok(allocated!(TypeSpecifier::enumeration(scope.alloc, None, rows)));
     }
-    let tag = tokens.plain_name(scope.names)?;
+    let tag = attempt!(tokens.plain_name(scope.names));
     if !tokens.next_is(Punctuator::LeftBrace) {
-        return Ok(TypeSpecifier::enum_tag(scope.alloc, tag)?);
+        return Ok(allocated!(TypeSpecifier::enum_tag(scope.alloc, tag)));
     }
-    let rows = constants(scope, tokens)?;
-    Ok(TypeSpecifier::enumeration(scope.alloc, Some(tag), rows)?)
+    let rows = attempt!(constants(scope, tokens));
+    Ok(allocated!(TypeSpecifier::enumeration(scope.alloc, Some(tag), rows)))
 }
 
 // Declarations of members in braces (6.7.2.1).
@@ -202,9 +203,9 @@ fn member<'t>(scope: Scope<'_, 't>, tokens: &mut Tokens<'t>) -> Parsed<Member<'t
     ensures { ReadsPart read_member_row member_row types.operators_of_member IsShorter scope.entry
         tokens.old tokens.new result }
 {
-    let specifiers = specifiers(scope, tokens)?;
-    let declarators = member_list(scope, tokens)?;
-    Ok(Member::new(scope.alloc, specifiers, declarators)?)
+    let specifiers = attempt!(specifiers(scope, tokens));
+    let declarators = attempt!(member_list(scope, tokens));
+    Ok(allocated!(Member::new(scope.alloc, specifiers, declarators)))
 }
 
 // Declarators of members, and the `;` after them.
@@ -255,8 +256,8 @@ fn next_declarator<'t>(scope: Scope<'_, 't>, tokens: &mut Tokens<'t>) -> Parsed<
     ensures { ReadsPart read_next_declarator declarator_row grammar.operators_of_declarator
         IsShorter scope.entry tokens.old tokens.new result }
 {
-    tokens.mark(Punctuator::Comma, Role::Nothing)?;
-    Ok(declarator(scope, tokens)?)
+    attempt!(tokens.mark(Punctuator::Comma, Role::Nothing));
+    Ok(attempt!(declarator(scope, tokens)))
 }
 
 // A declarator of a member (6.7.6).
@@ -267,9 +268,9 @@ fn declarator<'t>(scope: Scope<'_, 't>, tokens: &mut Tokens<'t>) -> Parsed<Decla
         grammar.operators_of_declarator IsShorter scope.entry tokens.old tokens.new result }
 {
     let pointers = pointer(tokens);
-    let name = tokens.name(Role::DeclaredName)?;
-    let dimensions = dimensions(scope, tokens)?;
-    Ok(Declarator::new(scope.alloc, pointers, name, dimensions)?)
+    let name = attempt!(tokens.name(Role::DeclaredName));
+    let dimensions = attempt!(dimensions(scope, tokens));
+    Ok(allocated!(Declarator::new(scope.alloc, pointers, name, dimensions)))
 }
 
 // The lengths of an array, and whether the first is left out (6.7.6.2).
@@ -280,13 +281,13 @@ pub fn dimensions<'t>(scope: Scope<'_, 't>, tokens: &mut Tokens<'t>) -> Parsed<D
         tokens.old tokens.new result }
 {
     if !tokens.next_is(Punctuator::LeftBracket) {
-        return Ok(Dimensions::new(scope.alloc, false, Vec::new(scope.alloc))?);
+        return Ok(allocated!(Dimensions::new(scope.alloc, false, Vec::new(scope.alloc))));
     }
-    tokens.opening(Punctuator::LeftBracket, scope.depth)?;
+    attempt!(tokens.opening(Punctuator::LeftBracket, scope.depth));
     if tokens.next_is(Punctuator::RightBracket) {
-        return Ok(open_array(scope, tokens)?);
+        return Ok(attempt!(open_array(scope, tokens)));
     }
-    Ok(given_array(scope, tokens)?)
+    Ok(attempt!(given_array(scope, tokens)))
 }
 
 // After `[` an array whose first length is left out.
@@ -356,13 +357,13 @@ fn length<'t>(scope: Scope<'_, 't>, tokens: &mut Tokens<'t>) -> Parsed<Expressio
     ensures { ReadsPart types.read_length tree_of grammar.operators IsShorter scope.entry tokens.old
         tokens.new result }
 {
-    tokens.opening(Punctuator::LeftBracket, scope.depth)?;
+    attempt!(tokens.opening(Punctuator::LeftBracket, scope.depth));
     begin_whole(tokens, scope.is_alone);
     let deeper = Scope {
         depth: scope.depth + 1,
         ..scope
     };
-    Ok(ended(deeper, tokens, Punctuator::RightBracket)?)
+    Ok(attempt!(ended(deeper, tokens, Punctuator::RightBracket)))
 }
 
 // Constants in braces (6.7.2.2).
@@ -426,12 +427,12 @@ fn constant<'t>(scope: Scope<'_, 't>, tokens: &mut Tokens<'t>) -> Parsed<Constan
     ensures { ReadsPart (types.read_constant (names_in scope.entry)) constant_row
         types.operators_of_constant IsShorter scope.entry tokens.old tokens.new result }
 {
-    let name = tokens.plain_name(scope.names)?;
+    let name = attempt!(tokens.plain_name(scope.names));
     if !tokens.next_is(Punctuator::Assign) {
-        return Ok(Constant::new(scope.alloc, name, None)?);
+        return Ok(allocated!(Constant::new(scope.alloc, name, None)));
     }
-    tokens.mark(Punctuator::Assign, Role::Nothing)?;
+    attempt!(tokens.mark(Punctuator::Assign, Role::Nothing));
     begin_whole(tokens, scope.is_alone);
-    let value = conditional(scope, tokens)?;
-    Ok(Constant::new(scope.alloc, name, Some(value))?)
+    let value = attempt!(conditional(scope, tokens));
+    Ok(allocated!(Constant::new(scope.alloc, name, Some(value))))
 }

@@ -1,5 +1,4 @@
-//! Tests, the parts of a `for`, labels, and statements that contain no other (6.8.1, 6.8.3 to
-//! 6.8.6).
+//! Tests, parts of a `for`, labels, and statements that contain no other (6.8.1, 6.8.3 to 6.8.6).
 
 ghost use Rattle.std.specs.Prelude.{◌≡◌, ◌≤◌, IfOk};
 ghost use Rattle.std.specs.Option.{option_map};
@@ -24,7 +23,7 @@ use crate::ends::{simple_end, statement_end};
 use c_grammar_spec::Role;
 use c_parse_declaration::{Parsed, Scope, locals, simple, starts_locals, value, value_end};
 use c_parse_expression::whole;
-use c_parse_token::{Stopped, Tokens};
+use c_parse_token::{Stopped, Tokens, allocated, attempt};
 use c_spec::token::{Keyword, Punctuator};
 use c_syntax::expression::{Expression, boxed};
 use c_syntax::simple::Simple;
@@ -38,9 +37,9 @@ pub fn test<'t>(scope: Scope<'_, 't>, tokens: &mut Tokens<'t>) -> Parsed<Express
         (λ x. expression_of x.value) tokens.old tokens.new result }
     ensures shorter { IfOk result (λ _. IsShorter tokens.new tokens.old) }
 {
-    tokens.opening(Punctuator::LeftParenthesis, scope.depth)?;
-    let test = whole(scope.alloc, tokens, scope.names, scope.depth + 1)?;
-    tokens.mark(Punctuator::RightParenthesis, Role::OperandEnd)?;
+    attempt!(tokens.opening(Punctuator::LeftParenthesis, scope.depth));
+    let test = attempt!(whole(scope.alloc, tokens, scope.names, scope.depth + 1));
+    attempt!(tokens.mark(Punctuator::RightParenthesis, Role::OperandEnd));
     Ok(test)
 }
 
@@ -51,10 +50,10 @@ fn simple_start<'t>(scope: Scope<'_, 't>, tokens: &mut Tokens<'t>) -> Parsed<For
         start_of x.value) tokens.old tokens.new result }
     ensures shorter { IfOk result (λ _. IsShorter tokens.new tokens.old) }
 {
-    let start = simple(scope, tokens)?;
+    let start = attempt!(simple(scope, tokens));
     let end = simple_end(&start);
-    tokens.mark(Punctuator::Semicolon, end)?;
-    Ok(boxed(scope.alloc, ForStart::Simple(start))?)
+    attempt!(tokens.mark(Punctuator::Semicolon, end));
+    Ok(allocated!(boxed(scope.alloc, ForStart::Simple(start))))
 }
 
 /// How a `for` begins, with its first `;`.
@@ -65,12 +64,12 @@ pub fn for_start<'t>(scope: Scope<'_, 't>, tokens: &mut Tokens<'t>) -> Parsed<Fo
     ensures shorter { IfOk result (λ _. IsShorter tokens.new tokens.old) }
 {
     if tokens.next_is(Punctuator::Semicolon) {
-        tokens.mark(Punctuator::Semicolon, Role::Nothing)?;
-        return Ok(boxed(scope.alloc, ForStart::Empty)?);
+        attempt!(tokens.mark(Punctuator::Semicolon, Role::Nothing));
+        return Ok(allocated!(boxed(scope.alloc, ForStart::Empty)));
     }
     if starts_locals(tokens, scope.names) {
-        let locals = locals(scope, tokens)?;
-        return Ok(boxed(scope.alloc, ForStart::Locals(locals))?);
+        let locals = attempt!(locals(scope, tokens));
+        return Ok(allocated!(boxed(scope.alloc, ForStart::Locals(locals))));
     }
     simple_start(scope, tokens)
 }
@@ -86,11 +85,11 @@ pub fn for_test<'t>(
     ensures shorter { IfOk result (λ _. IsShorter tokens.new tokens.old) }
 {
     if tokens.next_is(Punctuator::Semicolon) {
-        tokens.mark(Punctuator::Semicolon, Role::Nothing)?;
+        attempt!(tokens.mark(Punctuator::Semicolon, Role::Nothing));
         return Ok(None);
     }
-    let test = whole(scope.alloc, tokens, scope.names, scope.depth)?;
-    tokens.mark(Punctuator::Semicolon, Role::OperandEnd)?;
+    let test = attempt!(whole(scope.alloc, tokens, scope.names, scope.depth));
+    attempt!(tokens.mark(Punctuator::Semicolon, Role::OperandEnd));
     Ok(Some(test))
 }
 
@@ -105,12 +104,12 @@ pub fn for_step<'t>(
     ensures shorter { IfOk result (λ _. IsShorter tokens.new tokens.old) }
 {
     if tokens.next_is(Punctuator::RightParenthesis) {
-        tokens.mark(Punctuator::RightParenthesis, Role::Nothing)?;
+        attempt!(tokens.mark(Punctuator::RightParenthesis, Role::Nothing));
         return Ok(None);
     }
-    let simple = simple(scope, tokens)?;
+    let simple = attempt!(simple(scope, tokens));
     let end = simple_end(&simple);
-    tokens.mark(Punctuator::RightParenthesis, end)?;
+    attempt!(tokens.mark(Punctuator::RightParenthesis, end));
     Ok(Some(simple))
 }
 
@@ -122,13 +121,13 @@ fn label<'t>(scope: Scope<'_, 't>, tokens: &mut Tokens<'t>) -> Result<Label<'t>,
     ensures shorter { IfOk result (λ _. IsShorter tokens.new tokens.old) }
 {
     if !next_keyword(tokens, Keyword::Case) {
-        let offset = keyword(tokens, Keyword::Default)?;
-        tokens.mark(Punctuator::Colon, Role::Nothing)?;
+        let offset = attempt!(keyword(tokens, Keyword::Default));
+        attempt!(tokens.mark(Punctuator::Colon, Role::Nothing));
         return Ok(Label::Default(offset));
     }
-    let offset = keyword(tokens, Keyword::Case)?;
-    let value = whole(scope.alloc, tokens, scope.names, scope.depth)?;
-    tokens.mark(Punctuator::Colon, Role::OperandEnd)?;
+    let offset = attempt!(keyword(tokens, Keyword::Case));
+    let value = attempt!(whole(scope.alloc, tokens, scope.names, scope.depth));
+    attempt!(tokens.mark(Punctuator::Colon, Role::OperandEnd));
     Ok(Label::Case(value, offset))
 }
 
@@ -162,8 +161,8 @@ fn jump(tokens: &mut Tokens<'_>, word: Keyword) -> Result<usize, Stopped>
         Nothing plain (mark_offset punctuator.Semicolon))) (λ x. x) tokens.old tokens.new result }
     ensures shorter { IfOk result (λ _. IsShorter tokens.new tokens.old) }
 {
-    let offset = keyword(tokens, word)?;
-    tokens.mark(Punctuator::Semicolon, Role::Nothing)?;
+    let offset = attempt!(keyword(tokens, word));
+    attempt!(tokens.mark(Punctuator::Semicolon, Role::Nothing));
     Ok(offset)
 }
 

@@ -16,7 +16,7 @@ use crate::ends::takes_else;
 use crate::pieces::{for_start, for_step, for_test, labels, or_no_memory, plain_statement, test};
 use c_grammar_spec::{Role, STATEMENT_FUEL};
 use c_parse_declaration::{Parsed, Scope, locals, starts_locals};
-use c_parse_token::{Fault, Stopped, Tokens};
+use c_parse_token::{Fault, Stopped, Tokens, allocated, attempt};
 use c_spec::token::{Keyword, Punctuator};
 use c_syntax::expression::Expression;
 use c_syntax::statement::{Group, Part, Statement};
@@ -97,15 +97,15 @@ fn else_part<'t>(
     ensures shorter { IfOk result (λ _. IsNoLonger tokens.new tokens.old) }
 {
     if takes_else(&body) || !next_keyword(tokens, Keyword::Else) {
-        return Ok(Statement::if_only(scope.alloc, test, body, offset)?);
+        return Ok(allocated!(Statement::if_only(scope.alloc, test, body, offset)));
     }
-    opening(tokens, Keyword::Else, scope.depth + 1)?;
+    attempt!(opening(tokens, Keyword::Else, scope.depth + 1));
     let deeper = Scope {
         depth: scope.depth + 2,
         ..scope
     };
-    let otherwise = statement(deeper, tokens, fuel)?;
-    Ok(Statement::if_else(scope.alloc, test, body, otherwise, offset)?)
+    let otherwise = attempt!(statement(deeper, tokens, fuel));
+    Ok(allocated!(Statement::if_else(scope.alloc, test, body, otherwise, offset)))
 }
 
 // `if`

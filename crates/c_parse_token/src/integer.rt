@@ -151,8 +151,7 @@ fn type_of(words: &[Keyword]) -> Option<IntegerType>
     type_in(&COMBINATIONS, words)
 }
 
-// Takes the next keyword, where with the words before it names a type: that type. It is the
-// last of the words then.
+// The type that the next keyword names with the words before it: takes it, as the last of them.
 fn take_word(
     tokens: &mut Tokens<'_>,
     words: &mut Vec<Keyword>,
@@ -181,8 +180,7 @@ fn take_word(
     Ok(Some(named))
 }
 
-/// The integer type whose first word was read; further words are taken as long as they name one
-/// with those before.
+/// The integer type whose first word was read, with all further words that go on naming one.
 pub fn integer_type(
     alloc: Global,
     tokens: &mut Tokens<'_>,

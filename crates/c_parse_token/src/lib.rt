@@ -16,6 +16,7 @@ mod names;
 mod outcome;
 mod tokens;
 
+pub use attempt::attempt;
 pub use head::{Head, type_specifier_head};
 pub use integer::integer_type;
 pub use mark::{consts, pointer};

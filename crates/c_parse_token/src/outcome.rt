@@ -42,3 +42,14 @@ impl<X: Drop> From<AllocFailed<X>> for Stopped {
         Stopped::NoMemory
     }
 }
+
+/// The value of a result, where an error is out of memory: it ends the parser around.
+#[macro_export]
+macro_rules! allocated {
+    ($result:expr) => {
+        match $result {
+            Ok(value) => value,
+            Err(_) => return Err($crate::Stopped::NoMemory),
+        }
+    };
+}

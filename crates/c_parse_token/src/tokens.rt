@@ -41,15 +41,11 @@ fn is_sizeof(kind: Kind<'_>) -> bool
 fn of_level(kind: Kind<'_>, level: u8) -> Option<BinaryOperator>
     ensures { result ≡ classes.of_level level (token_of kind.entry) }
 {
-    match binary_operator(kind) {
-        Some(operator) => {
-            if level_of(operator) == level {
-                Some(operator)
-            } else {
-                None
-            }
-        }
-        None => None,
+    let operator = binary_operator(kind)?;
+    if level_of(operator) == level {
+        Some(operator)
+    } else {
+        None
     }
 }
 
@@ -67,10 +63,7 @@ impl<'t> Tokens<'t> {
     pub fn next_is(&self, wanted: Punctuator) -> bool
         ensures { result ≡ parsers.next_is (classes.is_mark wanted) (list_of self.now.rest.now) }
     {
-        match self.rest {
-            [first, ..] => is_mark(first.kind, wanted),
-            [] => false,
-        }
+        matches!(self.rest, [first, ..] if is_mark(first.kind, wanted))
     }
 
     /// The next token begins a type.
@@ -78,10 +71,7 @@ impl<'t> Tokens<'t> {
         ensures { result ≡ parsers.next_is (classes.begins_type (names_of names.now))
             (list_of self.now.rest.now) }
     {
-        match self.rest {
-            [first, ..] => begins_type(first.kind, names),
-            [] => false,
-        }
+        matches!(self.rest, [first, ..] if begins_type(first.kind, names))
     }
 
     /// The next token is an operator between operands of this level.
@@ -89,10 +79,7 @@ impl<'t> Tokens<'t> {
         ensures { result ≡ parsers.next_is (λ next. is_some (classes.of_level level next))
             (list_of self.now.rest.now) }
     {
-        match self.rest {
-            [first, ..] => of_level(first.kind, level).is_some(),
-            [] => false,
-        }
+        matches!(self.rest, [first, ..] if of_level(first.kind, level).is_some())
     }
 
     /// The next token is `[`, `.` or `->`.
@@ -113,20 +100,14 @@ impl<'t> Tokens<'t> {
         ensures { result ≡ parsers.next_is (λ next. is_some (classes.unary_operator next))
             (list_of self.now.rest.now) }
     {
-        match self.rest {
-            [first, ..] => unary_operator(first.kind).is_some(),
-            [] => false,
-        }
+        matches!(self.rest, [first, ..] if unary_operator(first.kind).is_some())
     }
 
     /// The next token is `sizeof`.
     pub fn starts_sizeof(&self) -> bool
         ensures { result ≡ parsers.next_is classes.is_sizeof (list_of self.now.rest.now) }
     {
-        match self.rest {
-            [first, ..] => is_sizeof(first.kind),
-            [] => false,
-        }
+        matches!(self.rest, [first, ..] if is_sizeof(first.kind))
     }
 
     /// The next token is a name, and no typedef name.

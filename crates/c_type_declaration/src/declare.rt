@@ -17,6 +17,7 @@ use crate::sizes::{
     adjusted, is_array, is_incomplete, is_struct, is_void, lacks_element, too_large,
 };
 use crate::tags::is_declared;
+use attempt::attempt;
 use c_syntax::expression::Name;
 use c_type_layout::types::{CType, Outer, same_type};
 use c_type_operator::operand::{TypeFault, type_or_memory};
@@ -38,11 +39,11 @@ fn local_declared<'a>(
     ensures { Runs (λ n. n) result state.new (rule.local_declared (option_map name_of name.entry)
         (type_of of.now) (state_of state.old)) }
 {
-    let copy = type_or_memory(of.copy(alloc))?;
-    let number = state.new_local(copy)?;
+    let copy = attempt!(type_or_memory(of.copy(alloc)));
+    let number = attempt!(state.new_local(copy));
     if let Some(name) = name {
-        let again = type_or_memory(of.copy(alloc))?;
-        state.declare(name.spelling, Meaning::Local(number, again))?;
+        let again = attempt!(type_or_memory(of.copy(alloc)));
+        attempt!(state.declare(name.spelling, Meaning::Local(number, again)));
     }
     Ok(number)
 }
@@ -58,7 +59,7 @@ fn local_faults(
     ensures { Gives nothing result (names.faults_at name.entry.offset (rule.local_faults (name_of
         name.entry) (type_of of.now) is_static (state_of state.now))) }
 {
-    let is_large = too_large(alloc, state.structs(), of)?;
+    let is_large = attempt!(too_large(alloc, state.structs(), of));
     first_fault(
         &[
             (is_declared(state, name), TypeFaultKind::Twice),
@@ -88,7 +89,7 @@ pub fn local<'a>(
     ensures { Runs (λ n. n) result state.new (rule.local (name_of name.entry) (type_of of.now)
         is_static (state_of state.old)) }
 {
-    local_faults(alloc, name, of, is_static, state)?;
+    attempt!(local_faults(alloc, name, of, is_static, state));
     local_declared(alloc, Some(name), of, state)
 }
 
@@ -126,8 +127,8 @@ fn parameter_faults(
         name.entry) offset) (rule.parameter_faults (option_map name_of name.entry) (type_of of.now)
         has_body (state_of state.now))) }
 {
-    let is_large = too_large(alloc, state.structs(), of)?;
-    let lacks = lacks_element(alloc, state.structs(), of)?;
+    let is_large = attempt!(too_large(alloc, state.structs(), of));
+    let lacks = attempt!(lacks_element(alloc, state.structs(), of));
     first_fault(
         &[
             (is_declared_parameter(state, name), TypeFaultKind::Twice),
@@ -156,9 +157,9 @@ pub fn parameter<'a>(
     ensures { Runs type_of result state.new (rule.parameter (option_map name_of name.entry) (type_of
         of) has_body offset (state_of state.old)) }
 {
-    parameter_faults(alloc, name, &of, has_body, offset, state)?;
-    let of = adjusted(of)?;
-    local_declared(alloc, name, &of, state)?;
+    attempt!(parameter_faults(alloc, name, &of, has_body, offset, state));
+    let of = attempt!(adjusted(of));
+    attempt!(local_declared(alloc, name, &of, state));
     Ok(of)
 }
 
@@ -186,8 +187,8 @@ fn typedef_faults(
         name.entry) (type_of of.now) (state_of state.now))) }
 {
     let is_there = state.meaning_in_file(name.spelling).is_some();
-    let is_large = too_large(alloc, state.structs(), of)?;
-    let lacks = lacks_element(alloc, state.structs(), of)?;
+    let is_large = attempt!(too_large(alloc, state.structs(), of));
+    let lacks = attempt!(lacks_element(alloc, state.structs(), of));
     first_fault(
         &[
             (is_there, TypeFaultKind::Twice),
@@ -209,7 +210,7 @@ pub fn typedef<'a>(
     ensures { Runs nothing result state.new (rule.typedef (name_of name.entry) (type_of of)
         (state_of state.old)) }
 {
-    typedef_faults(alloc, name, &of, state)?;
+    attempt!(typedef_faults(alloc, name, &of, state));
     state.declare_in_file(name.spelling, Meaning::Typedef(of))
 }
 
@@ -223,12 +224,12 @@ fn with_length(
     ensures { Gives (λ t. option_map type_of t) result (Ok (specs.with_length length (type_of
         old.now) (type_of of.now))) }
 {
-    let old = type_or_memory(old.copy(alloc))?;
-    let of = type_or_memory(of.copy(alloc))?;
+    let old = attempt!(type_or_memory(old.copy(alloc)));
+    let of = attempt!(type_or_memory(of.copy(alloc)));
     match (old.element(), of.element()) {
         (Some(a), Some(b)) => {
             if same_type(&a, &b) {
-                Ok(Some(type_or_memory(a.array(length))?))
+                Ok(Some(attempt!(type_or_memory(a.array(length)))))
             } else {
                 Ok(None)
             }
@@ -250,7 +251,7 @@ fn composite(alloc: Global, old: &CType, of: &CType) -> Result<Option<CType>, Ty
         }
         _ => {
             if same_type(old, of) {
-                Ok(Some(type_or_memory(old.copy(alloc))?))
+                Ok(Some(attempt!(type_or_memory(old.copy(alloc)))))
             } else {
                 Ok(None)
             }
@@ -268,7 +269,7 @@ fn object_type(
         meaning.entry) (type_of of.now))) }
 {
     match meaning {
-        None => Ok(Some(type_or_memory(of.copy(alloc))?)),
+        None => Ok(Some(attempt!(type_or_memory(of.copy(alloc))))),
         Some(Some(Meaning::Object(old))) => composite(alloc, old, of),
         _ => Ok(None),
     }
@@ -286,8 +287,8 @@ fn object_faults(
         name.entry) (type_of of.now) differs (state_of state.now))) }
 {
     let once = is_once(state.meaning_in_file(name.spelling));
-    let is_large = too_large(alloc, state.structs(), of)?;
-    let lacks = lacks_element(alloc, state.structs(), of)?;
+    let is_large = attempt!(too_large(alloc, state.structs(), of));
+    let lacks = attempt!(lacks_element(alloc, state.structs(), of));
     first_fault(
         &[
             (once, TypeFaultKind::Twice),
@@ -310,8 +311,8 @@ pub fn object<'a>(
     ensures { Runs nothing result state.new (rule.object (name_of name.entry) (type_of of)
         (state_of state.old)) }
 {
-    let made = object_type(alloc, state.meaning_in_file(name.spelling), &of)?;
-    object_faults(alloc, name, &of, made.is_none(), state)?;
+    let made = attempt!(object_type(alloc, state.meaning_in_file(name.spelling), &of));
+    attempt!(object_faults(alloc, name, &of, made.is_none(), state));
     let of = made.unwrap_or(of);
     state.declare_in_file(name.spelling, Meaning::Object(of))
 }
@@ -402,7 +403,7 @@ fn function_faults(
     let meaning = state.meaning_in_file(name.spelling);
     let again = is_once(meaning) || (has_body && had_body(meaning));
     let other = differs(meaning, signature) || is_array(&signature.returned);
-    let words = words_of(signature.parameters.as_slice())?;
+    let words = attempt!(words_of(signature.parameters.as_slice()));
     first_fault(
         &[
             (again, TypeFaultKind::Twice),
@@ -432,7 +433,7 @@ pub fn function<'a>(
     ensures { Runs nothing result state.new (rule.function (name_of name.entry) (signature_of
         signature.value) has_body (state_of state.old)) }
 {
-    function_faults(name, &signature, has_body, state)?;
+    attempt!(function_faults(name, &signature, has_body, state));
     let had = had_body(state.meaning_in_file(name.spelling));
     state.declare_in_file(name.spelling, Meaning::Function(signature, has_body || had))
 }

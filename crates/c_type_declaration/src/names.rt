@@ -14,6 +14,7 @@ ghost use Rattle.c_type_spec.specs.Operands as operands;
 ghost use Rattle.c_type_spec.specs.Types as types;
 ghost use Rattle.c_type_spec.specs.declared.Standing.TheVariants as standing;
 
+use attempt::attempt;
 use c_core::constants::INT;
 use c_core::expression::Core;
 use c_spec::token::NumberType;
@@ -43,7 +44,7 @@ fn local_operand<'a>(
     ensures { Gives operand_of result (Ok (operands.operand (operands.InLocal number) (type_of
         of.now) standing.Computed offset)) }
 {
-    let of = type_or_memory(of.copy(alloc))?;
+    let of = attempt!(type_or_memory(of.copy(alloc)));
     Ok(Operand {
         category: Category::InLocal(number),
         of,
@@ -58,8 +59,8 @@ fn object_operand<'a>(alloc: Global, name: Name<'a>, of: &CType) -> Result<Opera
     ensures { Gives operand_of result (Ok (operands.operand (operands.InMemory (core.GlobalAddress
         name.entry.spelling.now) 0) (type_of of.now) standing.Computed name.entry.offset)) }
 {
-    let of = type_or_memory(of.copy(alloc))?;
-    let address = core_or_memory(Core::global_address(alloc, name.spelling))?;
+    let of = attempt!(type_or_memory(of.copy(alloc)));
+    let address = attempt!(core_or_memory(Core::global_address(alloc, name.spelling)));
     Ok(Operand {
         category: Category::InMemory(address, 0),
         of,

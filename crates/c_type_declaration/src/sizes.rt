@@ -12,6 +12,7 @@ ghost use Rattle.c_type_operator.specs.Gives.{Gives};
 ghost use Rattle.c_type_declaration.specs.Sizes as specs;
 
 use crate::faults::first_fault;
+use attempt::attempt;
 use c_syntax::expression::Name;
 use c_type_layout::structs::{Definition, Layout, Placed, alignment, member_named, size};
 use c_type_layout::types::{CType, Outer};
@@ -39,7 +40,7 @@ fn element_size(
     ensures { Gives (λ n. n) result (Ok (capped (specs.element_size (structs_of structs.now) (type_of
         of.now)))) }
 {
-    let copy = type_or_memory(of.copy(alloc))?;
+    let copy = attempt!(type_or_memory(of.copy(alloc)));
     match copy.element() {
         Some(element) => Ok(size(structs, &element)),
         None => Ok(None),
@@ -54,7 +55,7 @@ pub fn too_large(alloc: Global, structs: &[Definition<'_>], of: &CType) -> Resul
 {
     match of.outer() {
         Outer::Array(None) => {
-            let size = element_size(alloc, structs, of)?;
+            let size = attempt!(element_size(alloc, structs, of));
             Ok(is_large(size))
         }
         Outer::Array(Some(_))
@@ -77,7 +78,7 @@ pub fn lacks_element(
 {
     match of.outer() {
         Outer::Array(_) => {
-            let size = element_size(alloc, structs, of)?;
+            let size = attempt!(element_size(alloc, structs, of));
             Ok(size.is_none())
         }
         Outer::Void | Outer::Integer(_) | Outer::Pointer | Outer::Struct(_) => Ok(false),
@@ -142,7 +143,7 @@ fn member_faults(
         (structs_of structs.now) (layout_of layout.now) (name_of name.entry) (type_of of.now))) }
 {
     let is_there = has_member(layout, name.spelling);
-    let is_large = too_large(alloc, structs, of)?;
+    let is_large = attempt!(too_large(alloc, structs, of));
     first_fault(
         &[
             (is_there, TypeFaultKind::Twice),
@@ -226,8 +227,8 @@ fn with_member<'a>(
     ensures { Gives (λ _. layout_of layout.new) result (Ok (types.with_member (layout_of layout.old)
         name.now (type_of of) size alignment)) }
 {
-    let distance = rounded_up(alignment, layout.filled)?;
-    push_member(layout, name, of, distance)?;
+    let distance = attempt!(rounded_up(alignment, layout.filled));
+    attempt!(push_member(layout, name, of, distance));
     match distance.checked_add(size) {
         Some(filled) => {
             layout.filled = filled;
@@ -244,7 +245,7 @@ fn layout_fits(layout: &Layout<'_>, offset: usize) -> Result<(), TypeFault>
     ensures { Gives (λ _. layout_of layout.now) result (rule.layout_fits (layout_of layout.now)
         offset) }
 {
-    let padded = rounded_up(layout.alignment, layout.filled)?;
+    let padded = attempt!(rounded_up(layout.alignment, layout.filled));
     if padded >= SIZE_LIMIT {
         Err(TypeFault::At(TypeFaultKind::Mismatch, offset))
     } else {
@@ -264,10 +265,10 @@ pub fn member<'a>(
     ensures { Gives (λ _. layout_of layout.new) result (rule.member (structs_of structs.now)
         (layout_of layout.old) (name_of name.entry) (type_of of)) }
 {
-    member_faults(alloc, structs, layout, name, &of)?;
-    let size = known_size(structs, &of, name.offset)?;
+    attempt!(member_faults(alloc, structs, layout, name, &of));
+    let size = attempt!(known_size(structs, &of, name.offset));
     let alignment = alignment(structs, &of);
-    with_member(layout, name.spelling, of, size, alignment)?;
+    attempt!(with_member(layout, name.spelling, of, size, alignment));
     layout_fits(layout, name.offset)
 }
 

@@ -14,6 +14,7 @@ ghost use Rattle.c_type_scope.specs.Meanings.{tag_of};
 ghost use Rattle.c_type_scope.specs.States.{state_of, nothing, Runs};
 ghost use Rattle.c_type_declaration.specs.Tags.{new_tagged};
 
+use attempt::attempt;
 use c_core::constants::INT;
 use c_core::values::convert;
 use c_syntax::expression::Name;
@@ -34,8 +35,8 @@ fn tagged_struct<'a>(
     ensures { Runs (λ n. n) result state.new (new_tagged (definition_of definition.entry) (name_of
         tag.entry) (state_of state.old)) }
 {
-    let number = state.new_struct(definition)?;
-    state.declare_tag(tag.spelling, Tag::Struct(number))?;
+    let number = attempt!(state.new_struct(definition));
+    attempt!(state.declare_tag(tag.spelling, Tag::Struct(number)));
     Ok(number)
 }
 
@@ -54,7 +55,7 @@ pub fn struct_named<'a>(
         Some(Some(Tag::Enum(_))) => Err(TypeFault::At(TypeFaultKind::Mismatch, tag.offset)),
         Some(None) => Err(TypeFault::At(TypeFaultKind::Unknown, tag.offset)),
         None => {
-            let number = tagged_struct(tag, Definition::Undefined, state)?;
+            let number = attempt!(tagged_struct(tag, Definition::Undefined, state));
             Ok(CType::plain(alloc, Base::Struct(number)))
         }
     }
@@ -148,10 +149,10 @@ pub fn enum_finished<'a>(
     ensures { Runs type_of result state.new (rule.enum_finished (option_map name_of tag.entry)
         is_negative (state_of state.old)) }
 {
-    new_tag(tag, state)?;
+    attempt!(new_tag(tag, state));
     let scalar = enum_scalar(is_negative);
     if let Some(tag) = tag {
-        state.declare_tag(tag.spelling, Tag::Enum(scalar))?;
+        attempt!(state.declare_tag(tag.spelling, Tag::Enum(scalar)));
     }
     Ok(CType::plain(alloc, Base::Integer(scalar)))
 }

@@ -16,6 +16,7 @@ ghost use Rattle.c_type_expression.specs.Trees as trees;
 use crate::types::{
     array_length, declared_type, integer_constant, integer_scalar, one_more, pointers_to,
 };
+use attempt::attempt;
 use c_core::constants::INT;
 use c_syntax::expression::{
     Constant, Declarator, Expression, Member, Name, Specifiers, TypeName, TypeSpecifier,
@@ -75,7 +76,7 @@ fn member_of<'a>(
             offset,
         ),
         Access::Arrow => {
-            let v = value_of(alloc, x)?;
+            let v = attempt!(value_of(alloc, x));
             arrow(
                 alloc,
                 state.structs(),
@@ -114,7 +115,7 @@ pub fn value<'a>(
     ensures { Runs valued_of result state.new (rule.value (expression_of x.now) (state_of
         state.old)) }
 {
-    let given = expression(alloc, x, Position::Operand, state)?;
+    let given = attempt!(expression(alloc, x, Position::Operand, state));
     value_of(alloc, given)
 }
 
@@ -132,12 +133,12 @@ fn index<'a>(
 {
     match x {
         Expression::Index(base, at, offset) => {
-            let x = expression(alloc, base, Position::Operand, state)?;
-            let first = bound_of(place, &x)?;
-            let a = value_of(alloc, x)?;
-            let y = expression(alloc, at, Position::Operand, state)?;
-            let second = bound_of(place, &y)?;
-            let b = value_of(alloc, y)?;
+            let x = attempt!(expression(alloc, base, Position::Operand, state));
+            let first = attempt!(bound_of(place, &x));
+            let a = attempt!(value_of(alloc, x));
+            let y = attempt!(expression(alloc, at, Position::Operand, state));
+            let second = attempt!(bound_of(place, &y));
+            let b = attempt!(value_of(alloc, y));
             subscript(alloc, state.structs(), (first, second), a, b, *offset)
         }
         Expression::Named(_)
@@ -168,8 +169,8 @@ fn binary<'a>(
 {
     match x {
         Expression::Binary(operator, left, right, offset) => {
-            let a = value(alloc, left, state)?;
-            let b = value(alloc, right, state)?;
+            let a = attempt!(value(alloc, left, state));
+            let b = attempt!(value(alloc, right, state));
             binary_rule(alloc, *operator, state.structs(), a, b, *offset)
         }
         Expression::Named(_)
@@ -200,9 +201,9 @@ fn choice<'a>(
 {
     match x {
         Expression::Conditional(test, first, second, offset) => {
-            let c = value(alloc, test, state)?;
-            let a = value(alloc, first, state)?;
-            let b = value(alloc, second, state)?;
+            let c = attempt!(value(alloc, test, state));
+            let a = attempt!(value(alloc, first, state));
+            let b = attempt!(value(alloc, second, state));
             conditional(alloc, c, a, b, *offset)
         }
         Expression::Named(_)
@@ -240,24 +241,24 @@ pub fn expression<'a>(
         Expression::Bracketed(inner, _) => expression(alloc, inner, place, state),
         Expression::Index(_, _, _) => index(alloc, x, place, state),
         Expression::Member(base, access, name, offset) => {
-            let x = expression(alloc, base, Position::Operand, state)?;
+            let x = attempt!(expression(alloc, base, Position::Operand, state));
             member_of(alloc, *access, x, *name, *offset, state)
         }
         Expression::Unary(operator, inner, offset) => {
-            let x = expression(alloc, inner, under(*operator), state)?;
+            let x = attempt!(expression(alloc, inner, under(*operator), state));
             unary_rule(alloc, *operator, x, *offset)
         }
         Expression::Sizeof(inner, offset) => {
-            let x = expression(alloc, inner, Position::Operand, state)?;
+            let x = attempt!(expression(alloc, inner, Position::Operand, state));
             size_operand(alloc, state.structs(), &x.of, *offset)
         }
         Expression::SizeofType(name, offset) => {
-            let of = type_name(alloc, name, state)?;
+            let of = attempt!(type_name(alloc, name, state));
             size_operand(alloc, state.structs(), &of, *offset)
         }
         Expression::Cast(name, inner, offset) => {
-            let of = type_name(alloc, name, state)?;
-            let v = value(alloc, inner, state)?;
+            let of = attempt!(type_name(alloc, name, state));
+            let v = attempt!(value(alloc, inner, state));
             cast(alloc, place, of, v, *offset)
         }
         Expression::Binary(_, _, _, _) => binary(alloc, x, place, state),
@@ -276,8 +277,8 @@ pub fn type_name<'a>(
     ensures { Runs type_of result state.new (rule.type_name (type_name_of name.now) (state_of
         state.old)) }
 {
-    let of = type_specifier(alloc, &name.specifiers.base, state)?;
-    let made = pointers_to(name.pointers, of)?;
+    let of = attempt!(type_specifier(alloc, &name.specifiers.base, state));
+    let made = attempt!(pointers_to(name.pointers, of));
     not_wide(made, name.specifiers.offset)
 }
 
@@ -317,9 +318,9 @@ fn structure<'a>(
     ensures { Runs type_of result state.new (rule.type_specifier (tree.Struct (option_map name_of
         tag.entry) (trees.members_in list.now)) (state_of state.old)) }
 {
-    let number = struct_begun(tag, state)?;
-    let mut layout = empty_layout(alloc)?;
-    members(alloc, list, &mut *layout, state)?;
+    let number = attempt!(struct_begun(tag, state));
+    let mut layout = attempt!(empty_layout(alloc));
+    attempt!(members(alloc, list, &mut *layout, state));
     Ok(struct_finished(alloc, number, layout, state))
 }
 
@@ -335,8 +336,8 @@ fn enumeration<'a>(
     ensures { Runs type_of result state.new (rule.type_specifier (tree.Enum (option_map name_of
         tag.entry) (trees.constants_in list.now)) (state_of state.old)) }
 {
-    new_tag(tag, state)?;
-    let is_negative = enumerators(alloc, list, state)?;
+    attempt!(new_tag(tag, state));
+    let is_negative = attempt!(enumerators(alloc, list, state));
     enum_finished(alloc, tag, is_negative, state)
 }
 
@@ -373,8 +374,8 @@ fn member_row<'a>(
     ensures { Runs (λ _. layout_of layout.new) result state.new (trees.member_row (member_tree_of
         item.now) (layout_of layout.old) (state_of state.old)) }
 {
-    let of = type_specifier(alloc, &item.specifiers.base, state)?;
-    member_declarators(alloc, item.declarators.as_slice(), &of, layout, state)?;
+    let of = attempt!(type_specifier(alloc, &item.specifiers.base, state));
+    attempt!(member_declarators(alloc, item.declarators.as_slice(), &of, layout, state));
     Ok(())
 }
 
@@ -393,8 +394,8 @@ fn member_declarators<'a>(
         state.old)) }
 {
     for item in list {
-        let made = declarator(alloc, item, of, state)?;
-        member(alloc, state.structs(), layout, item.name, made)?;
+        let made = attempt!(declarator(alloc, item, of, state));
+        attempt!(member(alloc, state.structs(), layout, item.name, made));
     }
     Ok(())
 }
@@ -412,12 +413,12 @@ pub fn declarator<'a>(
         of.now) (state_of state.old)) }
 {
     let mut found = Vec::new(alloc);
-    lengths_into(
+    attempt!(lengths_into(
         alloc,
         declared.dimensions.lengths.as_slice(),
         &mut found,
         state,
-    )?;
+    ));
     declared_type(
         alloc,
         declared.pointers,
@@ -440,9 +441,9 @@ fn lengths_into<'a>(
         list.now) found.old.items (state_of state.old)) }
 {
     for item in list {
-        let v = value(alloc, item, state)?;
-        let length = array_length(&v)?;
-        push(found, length)?;
+        let v = attempt!(value(alloc, item, state));
+        let length = attempt!(array_length(&v));
+        attempt!(push(found, length));
     }
     Ok(())
 }
@@ -463,7 +464,7 @@ fn enumerators<'a>(
         is_negative: false,
     };
     for item in list {
-        enumerator_row(alloc, item, &mut next, state)?;
+        attempt!(enumerator_row(alloc, item, &mut next, state));
     }
     Ok(next.is_negative)
 }
@@ -480,9 +481,9 @@ fn enumerator_row<'a>(
     ensures { Runs (λ _. trees.next_of next.new) result state.new (trees.next_constant (constant_of
         item.now) (trees.next_of next.old) (state_of state.old)) }
 {
-    let given = constant_value(alloc, item, next.value, state)?;
-    enumerator(item.name, given, state)?;
-    next.value = one_more(given)?;
+    let given = attempt!(constant_value(alloc, item, next.value, state));
+    attempt!(enumerator(item.name, given, state));
+    next.value = attempt!(one_more(given));
     next.is_negative = is_negative(next.is_negative, given);
     Ok(())
 }
@@ -501,7 +502,7 @@ fn constant_value<'a>(
 {
     match &constant.value {
         Some(x) => {
-            let v = value(alloc, x, state)?;
+            let v = attempt!(value(alloc, x, state));
             integer_constant(&v)
         }
         None => Ok(next),
@@ -531,6 +532,6 @@ pub fn lengths<'a>(
         (state_of state.old)) }
 {
     let mut found = Vec::new(alloc);
-    lengths_into(alloc, list, &mut found, state)?;
+    attempt!(lengths_into(alloc, list, &mut found, state));
     Ok(found)
 }

@@ -8,6 +8,7 @@ ghost use Rattle.c_type_layout.specs.Types.{type_of};
 ghost use Rattle.c_type_operator.specs.Gives.{Gives};
 ghost use Rattle.c_type_operator.specs.Operands.{core_in, valued_of};
 
+use attempt::attempt;
 use c_core::expression::Core;
 use c_tree_spec::IntegerType;
 use c_type_layout::types::CType;
@@ -42,7 +43,7 @@ pub fn pointers_to(count: usize, of: CType) -> Result<CType, TypeFault>
     let mut left = count;
     while left > 0 {
         left -= 1;
-        made = type_or_memory(made.pointer())?;
+        made = attempt!(type_or_memory(made.pointer()));
     }
     Ok(made)
 }
@@ -51,7 +52,7 @@ pub fn pointers_to(count: usize, of: CType) -> Result<CType, TypeFault>
 pub fn array_of(is_open: bool, lengths: &[u64], of: CType) -> Result<CType, TypeFault>
     ensures { Gives type_of result (Ok (rule.array_of is_open lengths.now (type_of of))) }
 {
-    let made = arrays_of(lengths, of)?;
+    let made = attempt!(arrays_of(lengths, of));
     if is_open {
         type_or_memory(made.array(None))
     } else {
@@ -68,7 +69,7 @@ fn arrays_of(lengths: &[u64], of: CType) -> Result<CType, TypeFault>
     let mut left = lengths.len();
     while left > 0 {
         left -= 1;
-        made = type_or_memory(made.array(Some(lengths[left])))?;
+        made = attempt!(type_or_memory(made.array(Some(lengths[left]))));
     }
     Ok(made)
 }
@@ -91,7 +92,7 @@ fn length_of(value: i128, offset: usize) -> Result<u64, TypeFault>
 pub fn integer_constant(x: &Valued<'_>) -> Result<i128, TypeFault>
     ensures { Gives (λ v. v) result (operands.integer_constant (valued_of x.now)) }
 {
-    match constant_of(x)? {
+    match attempt!(constant_of(x)) {
         Some(value) => Ok(value),
         None => Err(TypeFault::At(TypeFaultKind::Mismatch, x.offset)),
     }
@@ -102,7 +103,7 @@ pub fn integer_constant(x: &Valued<'_>) -> Result<i128, TypeFault>
 pub fn array_length(x: &Valued<'_>) -> Result<u64, TypeFault>
     ensures { Gives (λ n. n) result (rule.array_length (valued_of x.now)) }
 {
-    let value = integer_constant(x)?;
+    let value = attempt!(integer_constant(x));
     length_of(value, x.offset)
 }
 
@@ -128,8 +129,8 @@ pub fn declared_type(
     ensures { Gives type_of result (Ok (rule.array_of is_open lengths.now (rule.pointers_to pointers
         (type_of of.now)))) }
 {
-    let copy = type_or_memory(of.copy(alloc))?;
-    let base = pointers_to(pointers, copy)?;
+    let copy = attempt!(type_or_memory(of.copy(alloc)));
+    let base = attempt!(pointers_to(pointers, copy));
     array_of(is_open, lengths, base)
 }
 

@@ -6,6 +6,7 @@ ghost use Rattle.c_type_spec.specs.Operands as rule;
 ghost use Rattle.c_type_layout.specs.Types as specs;
 ghost use Rattle.c_type_layout.specs.Types.{type_of, base_of, outer_of, target_of, element_of};
 
+use attempt::attempt;
 use c_type_spec::{POINTER_WIDTH, Scalar, WIDE_WIDTH};
 use std::alloc::{AllocError, Global};
 
@@ -76,7 +77,7 @@ impl CType {
     pub fn copy(&self, alloc: Global) -> Result<CType, AllocError>
         ensures { IfOk result (λ t. type_of t ≡ type_of self.now) }
     {
-        let layers = Vec::from_slice(alloc, self.layers.as_slice())?;
+        let layers = attempt!(Vec::from_slice(alloc, self.layers.as_slice()));
         Ok(CType {
             base: self.base,
             layers,

@@ -6,6 +6,7 @@ ghost use Rattle.c_type_operator.specs.Operands.{operand_of, valued_of};
 
 use crate::operand::{Operand, TypeFault, Valued, convert, core_or_memory};
 use crate::scalar::{both, common, integer_operand, promoted};
+use attempt::attempt;
 use c_core::expression::Core;
 use c_type_spec::{Arithmetic, TypeFaultKind};
 use std::alloc::Global;
@@ -26,9 +27,9 @@ pub fn arithmetic<'a>(
         return Err(TypeFault::At(TypeFaultKind::Mismatch, offset));
     };
     let of = common(s, t);
-    let left = convert(alloc, of, a.core)?;
-    let right = convert(alloc, of, b.core)?;
-    let core = core_or_memory(Core::operate(alloc, operator, of, left, right, offset))?;
+    let left = attempt!(convert(alloc, of, a.core));
+    let right = attempt!(convert(alloc, of, b.core));
+    let core = attempt!(core_or_memory(Core::operate(alloc, operator, of, left, right, offset)));
     Ok(integer_operand(alloc, core, of, both(a.standing, b.standing), offset))
 }
 
@@ -48,8 +49,8 @@ pub fn shift<'a>(
         return Err(TypeFault::At(TypeFaultKind::Mismatch, offset));
     };
     let of = promoted(s);
-    let left = convert(alloc, of, a.core)?;
-    let right = convert(alloc, promoted(t), b.core)?;
-    let core = core_or_memory(Core::operate(alloc, operator, of, left, right, offset))?;
+    let left = attempt!(convert(alloc, of, a.core));
+    let right = attempt!(convert(alloc, promoted(t), b.core));
+    let core = attempt!(core_or_memory(Core::operate(alloc, operator, of, left, right, offset)));
     Ok(integer_operand(alloc, core, of, both(a.standing, b.standing), offset))
 }

@@ -11,6 +11,7 @@ ghost use Rattle.c_type_operator.specs.Operands.{operand_of, valued_of};
 use crate::operand::{Operand, TypeFault, Valued, convert};
 use crate::scalar::{kept, value_operand};
 use crate::value::is_zero;
+use attempt::attempt;
 use c_type_layout::types::{Base, CType, Outer, WORD};
 use c_type_spec::{Position, Scalar, Standing, TypeFaultKind};
 use std::alloc::Global;
@@ -31,7 +32,7 @@ fn cast_to<'a>(
     let Some(_) = x.of.scalar() else {
         return Err(TypeFault::At(TypeFaultKind::Mismatch, offset));
     };
-    let core = convert(alloc, scalar, x.core)?;
+    let core = attempt!(convert(alloc, scalar, x.core));
     Ok(value_operand(core, of, standing, offset))
 }
 
@@ -42,7 +43,7 @@ fn pointer_standing(of: &CType, x: &Valued<'_>) -> Result<Standing, TypeFault>
     if !of.points_to_void() {
         return Ok(Standing::Computed);
     }
-    if is_zero(x)? {
+    if attempt!(is_zero(x)) {
         Ok(Standing::NullPointer)
     } else {
         Ok(Standing::Computed)
@@ -91,7 +92,7 @@ pub fn cast<'a>(
             cast_to(alloc, of, scalar, standing, x, offset)
         }
         Outer::Pointer => {
-            let standing = pointer_standing(&of, &x)?;
+            let standing = attempt!(pointer_standing(&of, &x));
             cast_to(alloc, of, WORD, standing, x, offset)
         }
         Outer::Array(_) | Outer::Struct(_) => {

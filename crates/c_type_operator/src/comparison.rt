@@ -13,6 +13,7 @@ use crate::conversion::pointers_agree;
 use crate::operand::{Operand, TypeFault, Valued, convert, core_or_memory};
 use crate::scalar::{both, common, integer_operand};
 use crate::value::is_null;
+use attempt::attempt;
 use c_core::constants::INT;
 use c_core::expression::Core;
 use c_type_layout::types::{Outer, WORD, same_type};
@@ -31,7 +32,7 @@ pub fn compared<'a>(
     ensures { Gives operand_of result (Ok (operators.comparison operator standing offset
         (core_in left.entry) (core_in right.entry))) }
 {
-    let core = core_or_memory(Core::compare(alloc, operator, left, right))?;
+    let core = attempt!(core_or_memory(Core::compare(alloc, operator, left, right)));
     Ok(integer_operand(alloc, core, INT, standing, offset))
 }
 
@@ -49,8 +50,8 @@ fn compared_integers<'a>(
         (valued_of a.entry).standing (valued_of b.entry).standing) offset (rule.convert of
         (valued_of a.entry).core) (rule.convert of (valued_of b.entry).core))) }
 {
-    let left = convert(alloc, of, a.core)?;
-    let right = convert(alloc, of, b.core)?;
+    let left = attempt!(convert(alloc, of, a.core));
+    let right = attempt!(convert(alloc, of, b.core));
     compared(
         alloc,
         operator,
@@ -117,7 +118,7 @@ fn can_be_equal(a: &Valued<'_>, b: &Valued<'_>) -> Result<bool, TypeFault>
     if pointers_agree(&a.of, &b.of) {
         return Ok(true);
     }
-    if is_null(a)? {
+    if attempt!(is_null(a)) {
         return Ok(true);
     }
     is_null(b)
@@ -135,8 +136,8 @@ fn compared_null<'a>(
     ensures { Gives operand_of result (compared_if (rule.is_null (valued_of x.entry)) operator
         (core_in pointer.entry) (rule.convert types.word (valued_of x.entry).core) offset) }
 {
-    let agrees = is_null(&x)?;
-    let right = convert(alloc, WORD, x.core)?;
+    let agrees = attempt!(is_null(&x));
+    let right = attempt!(convert(alloc, WORD, x.core));
     compared_where(alloc, agrees, operator, pointer, right, offset)
 }
 
@@ -152,8 +153,8 @@ fn null_compared<'a>(
     ensures { Gives operand_of result (compared_if (rule.is_null (valued_of x.entry)) operator
         (rule.convert types.word (valued_of x.entry).core) (core_in pointer.entry) offset) }
 {
-    let agrees = is_null(&x)?;
-    let left = convert(alloc, WORD, x.core)?;
+    let agrees = attempt!(is_null(&x));
+    let left = attempt!(convert(alloc, WORD, x.core));
     compared_where(alloc, agrees, operator, left, pointer, offset)
 }
 
@@ -174,7 +175,7 @@ pub fn equality<'a>(
             compared_integers(alloc, operator, a, b, offset, common(s, t))
         }
         (Outer::Pointer, Outer::Pointer) => {
-            let agrees = can_be_equal(&a, &b)?;
+            let agrees = attempt!(can_be_equal(&a, &b));
             compared_where(alloc, agrees, operator, a.core, b.core, offset)
         }
         (Outer::Pointer, Outer::Integer(_)) => compared_null(alloc, operator, a.core, b, offset),

@@ -13,6 +13,7 @@ use crate::conversion::pointers_agree;
 use crate::operand::{Operand, TypeFault, Valued, convert, core_or_memory, type_or_memory};
 use crate::scalar::{both, common, value_operand};
 use crate::value::is_null;
+use attempt::attempt;
 use c_core::expression::Core;
 use c_type_layout::types::{Base, CType, Outer, WORD, same_type};
 use c_type_spec::{Scalar, TypeFaultKind};
@@ -29,8 +30,8 @@ fn integers<'a>(
     ensures { Gives arms_of result (Ok (operators.arms (types.Integer of) of (rule.convert of
         (valued_of a.entry).core) (rule.convert of (valued_of b.entry).core))) }
 {
-    let first = convert(alloc, of, a.core)?;
-    let second = convert(alloc, of, b.core)?;
+    let first = attempt!(convert(alloc, of, a.core));
+    let second = attempt!(convert(alloc, of, b.core));
     Ok(Arms {
         of: CType::plain(alloc, Base::Integer(of)),
         scalar: of,
@@ -50,7 +51,7 @@ fn pointers<'a>(
     ensures { Gives arms_of result (pointers_by (valued_of a.entry) (valued_of b.entry) offset
         (valued_of a.entry).type (valued_of b.entry).type) }
 {
-    if is_null(&a)? {
+    if attempt!(is_null(&a)) {
         return Ok(Arms {
             of: b.of,
             scalar: WORD,
@@ -58,7 +59,7 @@ fn pointers<'a>(
             second: b.core,
         });
     }
-    if is_null(&b)? || same_type(&a.of, &b.of) {
+    if attempt!(is_null(&b)) || same_type(&a.of, &b.of) {
         return Ok(Arms {
             of: a.of,
             scalar: WORD,
@@ -69,7 +70,7 @@ fn pointers<'a>(
     if !pointers_agree(&a.of, &b.of) {
         return Err(TypeFault::At(TypeFaultKind::Mismatch, offset));
     }
-    let of = type_or_memory(CType::plain(alloc, Base::Void).pointer())?;
+    let of = attempt!(type_or_memory(CType::plain(alloc, Base::Void).pointer()));
     Ok(Arms {
         of,
         scalar: WORD,
@@ -88,10 +89,10 @@ fn null_second<'a>(
 ) -> Result<Arms<'a>, TypeFault>
     ensures { Gives arms_of result (null_second_by (valued_of a.entry) (valued_of b.entry) offset) }
 {
-    if !is_null(&b)? {
+    if !attempt!(is_null(&b)) {
         return Err(TypeFault::At(TypeFaultKind::Mismatch, offset));
     }
-    let second = convert(alloc, WORD, b.core)?;
+    let second = attempt!(convert(alloc, WORD, b.core));
     Ok(Arms {
         of: a.of,
         scalar: WORD,
@@ -110,10 +111,10 @@ fn null_first<'a>(
 ) -> Result<Arms<'a>, TypeFault>
     ensures { Gives arms_of result (null_first_by (valued_of a.entry) (valued_of b.entry) offset) }
 {
-    if !is_null(&a)? {
+    if !attempt!(is_null(&a)) {
         return Err(TypeFault::At(TypeFaultKind::Mismatch, offset));
     }
-    let first = convert(alloc, WORD, a.core)?;
+    let first = attempt!(convert(alloc, WORD, a.core));
     Ok(Arms {
         of: b.of,
         scalar: WORD,
@@ -158,13 +159,13 @@ pub fn conditional<'a>(
         return Err(TypeFault::At(TypeFaultKind::Mismatch, offset));
     };
     let standing = both(test.standing, both(a.standing, b.standing));
-    let made = arms(alloc, a, b, offset)?;
-    let core = core_or_memory(Core::choose(
+    let made = attempt!(arms(alloc, a, b, offset));
+    let core = attempt!(core_or_memory(Core::choose(
         alloc,
         made.scalar,
         test.core,
         made.first,
         made.second,
-    ))?;
+    )));
     Ok(value_operand(core, made.of, standing, offset))
 }

@@ -11,6 +11,7 @@ ghost use Rattle.c_type_operator.specs.Operands.{core_in, valued_of};
 
 use crate::operand::{TypeFault, Valued, convert};
 use crate::value::is_null;
+use attempt::attempt;
 use c_core::expression::Core;
 use c_type_layout::types::{CType, Outer, WORD, same_type};
 use c_type_spec::Scalar;
@@ -44,7 +45,7 @@ fn to_integer<'a>(
     ensures { Gives (option_map core_in) result (Ok (rule.to_integer scalar (valued_of x.entry))) }
 {
     match x.of.integer() {
-        Some(_) => Ok(Some(convert(alloc, scalar, x.core)?)),
+        Some(_) => Ok(Some(attempt!(convert(alloc, scalar, x.core)))),
         None => Ok(None),
     }
 }
@@ -55,8 +56,8 @@ fn null_pointer<'a>(alloc: Global, x: Valued<'a>) -> Result<Option<Box<Core<'a>>
     ensures { Gives (option_map core_in) result (Ok (rule.if_true (rule.is_null (valued_of x.entry))
         (rule.convert types.word (valued_of x.entry).core))) }
 {
-    if is_null(&x)? {
-        Ok(Some(convert(alloc, WORD, x.core)?))
+    if attempt!(is_null(&x)) {
+        Ok(Some(attempt!(convert(alloc, WORD, x.core))))
     } else {
         Ok(None)
     }
@@ -72,7 +73,7 @@ fn other_pointer<'a>(target: &CType, x: Valued<'a>) -> Result<Option<Box<Core<'a
     if pointers_agree(target, &x.of) {
         return Ok(Some(x.core));
     }
-    if is_null(&x)? {
+    if attempt!(is_null(&x)) {
         Ok(Some(x.core))
     } else {
         Ok(None)

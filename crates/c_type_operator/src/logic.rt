@@ -9,6 +9,7 @@ ghost use Rattle.c_type_operator.specs.Operands.{core_in, operand_of, valued_of}
 use crate::comparison::compared;
 use crate::operand::{Operand, TypeFault, Valued, convert, core_or_memory};
 use crate::scalar::{both, integer_operand, kept, promoted};
+use attempt::attempt;
 use c_core::constants::{INT, has_width, type_of};
 use c_core::expression::Core;
 use c_core::values::convert as convert_value;
@@ -26,7 +27,7 @@ fn zero_of<'a>(alloc: Global, of: Scalar) -> Result<Box<Core<'a>>, TypeFault>
 fn truth<'a>(alloc: Global, core: Box<Core<'a>>) -> Result<Box<Core<'a>>, TypeFault>
     ensures { Gives core_in result (Ok (operators.truth (core_in core.entry))) }
 {
-    let zero = zero_of(alloc, type_of(&core))?;
+    let zero = attempt!(zero_of(alloc, type_of(&core)));
     core_or_memory(Core::compare(alloc, Comparison::NotEqual, core, zero))
 }
 
@@ -44,9 +45,9 @@ pub fn conjunction<'a>(
     let (Some(_), Some(_)) = (a.of.scalar(), b.of.scalar()) else {
         return Err(TypeFault::At(TypeFaultKind::Mismatch, offset));
     };
-    let second = truth(alloc, b.core)?;
-    let zero = zero_of(alloc, INT)?;
-    let core = core_or_memory(Core::choose(alloc, INT, a.core, second, zero))?;
+    let second = attempt!(truth(alloc, b.core));
+    let zero = attempt!(zero_of(alloc, INT));
+    let core = attempt!(core_or_memory(Core::choose(alloc, INT, a.core, second, zero)));
     Ok(integer_operand(alloc, core, INT, both(a.standing, b.standing), offset))
 }
 
@@ -64,9 +65,9 @@ pub fn disjunction<'a>(
     let (Some(_), Some(_)) = (a.of.scalar(), b.of.scalar()) else {
         return Err(TypeFault::At(TypeFaultKind::Mismatch, offset));
     };
-    let second = truth(alloc, b.core)?;
-    let one = core_or_memory(Core::constant(alloc, INT, 1))?;
-    let core = core_or_memory(Core::choose(alloc, INT, a.core, one, second))?;
+    let second = attempt!(truth(alloc, b.core));
+    let one = attempt!(core_or_memory(Core::constant(alloc, INT, 1)));
+    let core = attempt!(core_or_memory(Core::choose(alloc, INT, a.core, one, second)));
     Ok(integer_operand(alloc, core, INT, both(a.standing, b.standing), offset))
 }
 
@@ -79,7 +80,7 @@ pub fn plus<'a>(alloc: Global, x: Valued<'a>, offset: usize) -> Result<Operand<'
         return Err(TypeFault::At(TypeFaultKind::Mismatch, offset));
     };
     let of = promoted(s);
-    let core = convert(alloc, of, x.core)?;
+    let core = attempt!(convert(alloc, of, x.core));
     Ok(integer_operand(alloc, core, of, kept(x.standing), offset))
 }
 
@@ -92,9 +93,16 @@ pub fn minus<'a>(alloc: Global, x: Valued<'a>, offset: usize) -> Result<Operand<
         return Err(TypeFault::At(TypeFaultKind::Mismatch, offset));
     };
     let of = promoted(s);
-    let right = convert(alloc, of, x.core)?;
-    let left = zero_of(alloc, of)?;
-    let core = core_or_memory(Core::operate(alloc, Arithmetic::Subtract, of, left, right, offset))?;
+    let right = attempt!(convert(alloc, of, x.core));
+    let left = attempt!(zero_of(alloc, of));
+    let core = attempt!(core_or_memory(Core::operate(
+        alloc,
+        Arithmetic::Subtract,
+        of,
+        left,
+        right,
+        offset
+    )));
     Ok(integer_operand(alloc, core, of, kept(x.standing), offset))
 }
 
@@ -117,9 +125,16 @@ pub fn complement<'a>(alloc: Global, x: Valued<'a>, offset: usize) -> Result<Ope
         return Err(TypeFault::At(TypeFaultKind::Mismatch, offset));
     };
     let of = promoted(s);
-    let left = convert(alloc, of, x.core)?;
-    let right = ones_of(alloc, of)?;
-    let core = core_or_memory(Core::operate(alloc, Arithmetic::Xor, of, left, right, offset))?;
+    let left = attempt!(convert(alloc, of, x.core));
+    let right = attempt!(ones_of(alloc, of));
+    let core = attempt!(core_or_memory(Core::operate(
+        alloc,
+        Arithmetic::Xor,
+        of,
+        left,
+        right,
+        offset
+    )));
     Ok(integer_operand(alloc, core, of, kept(x.standing), offset))
 }
 
@@ -131,7 +146,7 @@ pub fn negation<'a>(alloc: Global, x: Valued<'a>, offset: usize) -> Result<Opera
     let Some(_) = x.of.scalar() else {
         return Err(TypeFault::At(TypeFaultKind::Mismatch, offset));
     };
-    let zero = zero_of(alloc, type_of(&x.core))?;
+    let zero = attempt!(zero_of(alloc, type_of(&x.core)));
     compared(
         alloc,
         Comparison::Equal,

@@ -14,6 +14,7 @@ use crate::operand::{Category, Operand, TypeFault, Valued, core_or_memory, type_
 use crate::pointer::{address_of, dereferenced, size_needed};
 use crate::scalar::integer_operand;
 use crate::value::value_of;
+use attempt::attempt;
 use c_core::constants::has_width;
 use c_core::expression::Core;
 use c_core::values::convert as convert_value;
@@ -39,7 +40,7 @@ fn member_at<'a>(
 {
     match member_named(layout, name) {
         Some(placed) => {
-            let of = type_or_memory(placed.of.copy(alloc))?;
+            let of = attempt!(type_or_memory(placed.of.copy(alloc)));
             match displacement.checked_add(placed.distance as usize) {
                 Some(sum) => Ok(Operand {
                     category: Category::InMemory(address, sum),
@@ -145,7 +146,9 @@ fn arrow_in<'a>(
         Outer::Struct(number) => match struct_layout(structs, number) {
             Some(layout) => {
                 let alignment = layout.alignment as usize;
-                let address = core_or_memory(Core::aligned(alloc, alignment, pointer, offset))?;
+                let address = attempt!(core_or_memory(Core::aligned(
+                    alloc, alignment, pointer, offset
+                )));
                 member_at(alloc, address, 0, layout, name, name_offset, offset)
             }
             None => Err(TypeFault::At(TypeFaultKind::Incomplete, offset)),
@@ -187,7 +190,7 @@ pub fn constant_operand<'a>(
     if !has_width(of) {
         return Err(TypeFault::Memory);
     }
-    let core = core_or_memory(Core::constant(alloc, of, convert_value(value, of)))?;
+    let core = attempt!(core_or_memory(Core::constant(alloc, of, convert_value(value, of))));
     Ok(integer_operand(alloc, core, of, Standing::ConstantExpression, offset))
 }
 
@@ -202,7 +205,7 @@ pub fn size_operand<'a>(
     ensures { Gives operand_of result (operators.size_operand (structs_of structs.now) (ctype_of
         of.now) offset) }
 {
-    let size = size_needed(structs, of, offset)?;
+    let size = attempt!(size_needed(structs, of, offset));
     constant_operand(alloc, WORD, size as i128, offset)
 }
 
@@ -219,23 +222,23 @@ pub fn unary_rule<'a>(
     match operator {
         UnaryOperator::AddressOf => address_of(alloc, x, offset),
         UnaryOperator::Dereference => {
-            let v = value_of(alloc, x)?;
+            let v = attempt!(value_of(alloc, x));
             dereferenced(v, offset)
         }
         UnaryOperator::Plus => {
-            let v = value_of(alloc, x)?;
+            let v = attempt!(value_of(alloc, x));
             plus(alloc, v, offset)
         }
         UnaryOperator::Minus => {
-            let v = value_of(alloc, x)?;
+            let v = attempt!(value_of(alloc, x));
             minus(alloc, v, offset)
         }
         UnaryOperator::Complement => {
-            let v = value_of(alloc, x)?;
+            let v = attempt!(value_of(alloc, x));
             complement(alloc, v, offset)
         }
         UnaryOperator::Not => {
-            let v = value_of(alloc, x)?;
+            let v = attempt!(value_of(alloc, x));
             negation(alloc, v, offset)
         }
     }

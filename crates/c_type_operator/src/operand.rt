@@ -7,6 +7,7 @@ ghost use Rattle.c_type_layout.specs.Types.{type_of as ctype_of, element_of};
 ghost use Rattle.c_type_operator.specs.Gives.{Gives};
 ghost use Rattle.c_type_operator.specs.Operands.{core_in, operand_of, valued_of};
 
+use attempt::attempt;
 use c_core::constants::{INT, WORD, type_of};
 use c_core::expression::Core;
 use c_type_layout::types::{CType, Outer, same_scalar};
@@ -111,7 +112,7 @@ pub fn displaced<'a>(
     if displacement == 0 {
         return Ok(address);
     }
-    let one = core_or_memory(Core::constant(alloc, INT, 1))?;
+    let one = attempt!(core_or_memory(Core::constant(alloc, INT, 1)));
     core_or_memory(Core::shift_pointer(
         alloc,
         Direction::Up,

@@ -14,6 +14,7 @@ use crate::operand::{
 };
 use crate::scalar::value_operand;
 use crate::value::value_of;
+use attempt::attempt;
 use c_core::expression::Core;
 use c_type_layout::structs::{Definition, size};
 use c_type_layout::types::{CType, Outer, same_type};
@@ -62,11 +63,11 @@ pub fn moved<'a>(
     let Some(target) = of.target() else {
         return Err(TypeFault::At(TypeFaultKind::Mismatch, offset));
     };
-    let size = size_needed(structs, &target, offset)?;
-    let of = type_or_memory(target.pointer())?;
-    let core = core_or_memory(Core::shift_pointer(
+    let size = attempt!(size_needed(structs, &target, offset));
+    let of = attempt!(type_or_memory(target.pointer()));
+    let core = attempt!(core_or_memory(Core::shift_pointer(
         alloc, direction, order, size, pointer, index, offset,
-    ))?;
+    )));
     Ok(value_operand(core, of, Standing::Computed, offset))
 }
 
@@ -172,7 +173,7 @@ pub fn dereferenced<'a>(x: Valued<'a>, offset: usize) -> Result<Operand<'a>, Typ
 fn element_at<'a>(alloc: Global, x: Operand<'a>) -> Result<Operand<'a>, TypeFault>
     ensures { Gives operand_of result (operators.element_at (operand_of x.entry)) }
 {
-    let v = value_of(alloc, x)?;
+    let v = attempt!(value_of(alloc, x));
     let offset = v.offset;
     dereferenced(v, offset)
 }
@@ -208,8 +209,8 @@ pub fn subscript<'a>(
 {
     match (a.of.outer(), b.of.outer()) {
         (Outer::Pointer, Outer::Integer(_)) => {
-            let index = within(alloc, bounds.0, b.core, offset)?;
-            let x = moved(
+            let index = attempt!(within(alloc, bounds.0, b.core, offset));
+            let x = attempt!(moved(
                 alloc,
                 structs,
                 Direction::Up,
@@ -218,12 +219,12 @@ pub fn subscript<'a>(
                 a.core,
                 index,
                 offset,
-            )?;
+            ));
             element_at(alloc, x)
         }
         (Outer::Integer(_), Outer::Pointer) => {
-            let index = within(alloc, bounds.1, a.core, offset)?;
-            let x = moved(
+            let index = attempt!(within(alloc, bounds.1, a.core, offset));
+            let x = attempt!(moved(
                 alloc,
                 structs,
                 Direction::Up,
@@ -232,7 +233,7 @@ pub fn subscript<'a>(
                 b.core,
                 index,
                 offset,
-            )?;
+            ));
             element_at(alloc, x)
         }
         _ => Err(TypeFault::At(TypeFaultKind::Mismatch, offset)),
@@ -276,8 +277,8 @@ pub fn address_of<'a>(
         Category::Value(_) => Err(TypeFault::At(TypeFaultKind::NotLvalue, offset)),
         Category::InLocal(_) => Err(TypeFault::At(TypeFaultKind::AddressOfLocal, offset)),
         Category::InMemory(address, displacement) => {
-            let core = displaced(alloc, address, displacement, at)?;
-            let pointer = type_or_memory(of.pointer())?;
+            let core = attempt!(displaced(alloc, address, displacement, at));
+            let pointer = attempt!(type_or_memory(of.pointer()));
             Ok(value_operand(core, pointer, Standing::Computed, offset))
         }
     }

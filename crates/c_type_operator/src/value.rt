@@ -12,6 +12,7 @@ ghost use Rattle.c_type_operator.specs.Operands.{core_in, operand_of, valued_of,
 use crate::operand::{
     Category, Operand, TypeFault, Valued, core_or_memory, displaced, type_or_memory,
 };
+use attempt::attempt;
 use c_core::constants::constant_value;
 use c_core::expression::Core;
 use c_type_layout::types::{CType, Outer, WORD};
@@ -31,7 +32,7 @@ fn load<'a>(
     ensures { Gives valued_of result (Ok (rule.valued (core.Load scalar (core_in address.entry)
         displacement offset) (ctype_of of) standing.Computed offset)) }
 {
-    let core = core_or_memory(Core::load(alloc, scalar, address, displacement, offset))?;
+    let core = attempt!(core_or_memory(Core::load(alloc, scalar, address, displacement, offset)));
     Ok(Valued {
         core,
         of,
@@ -55,8 +56,8 @@ fn decay<'a>(
     let Some(element) = of.element() else {
         return Err(TypeFault::At(TypeFaultKind::Mismatch, offset));
     };
-    let pointer = type_or_memory(element.pointer())?;
-    let core = displaced(alloc, address, displacement, offset)?;
+    let pointer = attempt!(type_or_memory(element.pointer()));
+    let core = attempt!(displaced(alloc, address, displacement, offset));
     Ok(Valued {
         core,
         of: pointer,
@@ -98,7 +99,7 @@ pub fn read_local<'a>(
 {
     match of.scalar() {
         Some(scalar) => {
-            let core = core_or_memory(Core::read_local(alloc, scalar, local, offset))?;
+            let core = attempt!(core_or_memory(Core::read_local(alloc, scalar, local, offset)));
             Ok(Valued {
                 core,
                 of,
@@ -153,7 +154,7 @@ pub fn constant_of(x: &Valued<'_>) -> Result<Option<i128>, TypeFault>
 pub(crate) fn is_zero(x: &Valued<'_>) -> Result<bool, TypeFault>
     ensures { Gives (λ v. v) result (Ok (rule.is_zero (rule.constant_of (valued_of x.now)))) }
 {
-    match constant_of(x)? {
+    match attempt!(constant_of(x)) {
         Some(value) => Ok(value == 0),
         None => Ok(false),
     }

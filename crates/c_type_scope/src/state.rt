@@ -10,6 +10,7 @@ ghost use Rattle.c_type_scope.specs.States.{state_of, nothing, Runs};
 
 use crate::meaning::{Meaning, Tag};
 use crate::scopes::Scopes;
+use attempt::attempt;
 use c_type_layout::structs::Definition;
 use c_type_layout::types::CType;
 use c_type_operator::operand::TypeFault;
@@ -194,7 +195,7 @@ impl<'a> State<'a> {
             (state_of self.old)) }
     {
         let number = self.structs.len();
-        push(&mut self.structs, definition)?;
+        attempt!(push(&mut self.structs, definition));
         Ok(number)
     }
 
@@ -213,7 +214,7 @@ impl<'a> State<'a> {
         ensures { Runs (λ n. n) result self.new (rule.new_local (type_of of) (state_of self.old)) }
     {
         let number = self.locals.len();
-        push(&mut self.locals, of)?;
+        attempt!(push(&mut self.locals, of));
         Ok(number)
     }
 
@@ -222,7 +223,7 @@ impl<'a> State<'a> {
         ensures { Runs (λ n. n) result self.new (rule.new_result (type_of of) (state_of self.old)) }
     {
         let number = self.results.len();
-        push(&mut self.results, of)?;
+        attempt!(push(&mut self.results, of));
         Ok(number)
     }
 

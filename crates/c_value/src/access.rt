@@ -10,6 +10,7 @@ ghost use Rattle.c_value.specs.Settings.{setting_of, zone_of};
 ghost use Rattle.c_value.specs.Gives.{Gives, GivesValue, IsSize};
 
 use crate::setting::{Setting, Stop, Zone, is_fixed, is_in_zone};
+use attempt::attempt;
 use c_core::values::convert;
 use c_meaning_spec::Guard;
 use c_type_spec::Scalar;
@@ -206,7 +207,7 @@ pub fn store_object(
     match write_guard(setting, size, address) {
         Some(guard) => Err(Stop::Broke(guard, offset)),
         None => {
-            let bits = bits_of(of, value)?;
+            let bits = attempt!(bits_of(of, value));
             store_bytes(size, memory, address, bits)
         }
     }

@@ -11,6 +11,7 @@ ghost use Rattle.c_value.specs.Gives.{Gives, GivesValue};
 
 use crate::access::object_value;
 use crate::setting::{Setting, Stop, global_address};
+use attempt::attempt;
 use c_core::constants::{WORD, has_width};
 use c_core::expression::Core;
 use c_core::values::{arithmetic_value, comparison_value, convert};
@@ -48,7 +49,7 @@ pub fn address_of(value: i128) -> Result<u64, Stop>
 pub fn address_past(value: i128, displacement: usize) -> Result<u64, Stop>
     ensures { Gives (λ address. address) result (Ok (accesses.address_of value + displacement)) }
 {
-    let address = address_of(value)?;
+    let address = attempt!(address_of(value));
     match address.checked_add(displacement as u64) {
         Some(past) => Ok(past),
         None => Err(Stop::Memory),
@@ -161,7 +162,7 @@ fn moved(
     let Some(distance) = index.checked_mul(size as i128) else {
         return Err(Stop::Memory);
     };
-    let sum = sum_of(direction, pointer, distance)?;
+    let sum = attempt!(sum_of(direction, pointer, distance));
     if is_pointer(sum) {
         Ok(sum)
     } else {
@@ -186,7 +187,7 @@ fn within(bound: usize, index: i128, offset: usize) -> Result<i128, Stop>
 fn aligned(alignment: usize, pointer: i128, offset: usize) -> Result<i128, Stop>
     ensures { GivesValue result (spec.aligned alignment pointer offset) }
 {
-    let address = address_of(pointer)?;
+    let address = attempt!(address_of(pointer));
     if alignment == 0 {
         return Err(Stop::Memory);
     }

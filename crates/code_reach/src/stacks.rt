@@ -20,6 +20,7 @@ use crate::functions::visit;
 use crate::range::range_fault;
 use crate::survey::add_entries;
 use crate::walk::{add, reached};
+use attempt::attempt;
 use elf_read::Image;
 use indexmap::{IndexMap, IndexSet};
 use rv_instr::{ImmediateOperation, Instr, Reg};
@@ -109,7 +110,7 @@ fn calls(alloc: Global, image: &Image<'_>, entry: u32) -> Result<IndexSet<u32>, 
     ensures { IfOk result (λ calls. AreCalls image.now entry calls.keys) }
 {
     let mut calls = IndexSet::new(alloc);
-    visit(alloc, &mut calls, image, entry)?;
+    attempt!(visit(alloc, &mut calls, image, entry));
     Ok(calls)
 }
 

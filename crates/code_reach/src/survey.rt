@@ -10,6 +10,7 @@ ghost use Rattle.code_reach.specs.Found.{IsReach, IsReachError};
 use crate::faults::{CodeError, CodeFault};
 use crate::functions::{earlier, visit};
 use crate::walk::add;
+use attempt::attempt;
 use code_spec::CodeKind;
 use elf_read::Image;
 use indexmap::IndexSet;
@@ -96,7 +97,10 @@ pub fn reach(alloc: Global, image: &Image<'_>, entry: u32) -> Result<Vec<u32>, C
     ensures fault { IfErr result (λ error. IsReachError image.now entry error) }
 {
     let mut entries = IndexSet::new(alloc);
-    add_entries(alloc, &mut entries, image, entry)?;
-    let list = Vec::from_slice(alloc, entries.as_slice())?;
+    attempt!(add_entries(alloc, &mut entries, image, entry));
+    let list = attempt!(
+        Vec::from_slice(alloc, entries.as_slice()),
+        CodeError::NoMemory
+    );
     Ok(list)
 }

@@ -1,8 +1,9 @@
-//! Executables by parts, laid out by hand from the System V ABI: `@ADDRESS:FLAGS` begins a segment,
+//! Executables by parts, laid out by hand from the System V ABI: `ADDRESS:FLAGS` begins a segment,
 //! a word of eight digits lies in it, and `ADDRESS+SIZE` is a function without a name; all in
 //! hexadecimal.
 
-use crate::numbers::hexadecimal;
+use crate::address;
+use row_io::split;
 use std::alloc::{AllocError, Global};
 
 /// Where a segment lies, its flags, and its first word among those of all.
@@ -28,33 +29,42 @@ fn size(words: usize) -> u32 {
 
 /// A part of a row.
 fn take(made: &mut Made, part: &str) -> Result<(), AllocError> {
-    if let Some((entry, size)) = part.split_once('+') {
-        let symbol = [0, hexadecimal(entry), hexadecimal(size), 0x0001_0012];
+    if part.contains('+') {
+        let (entry, size) = split(part, '+');
+        let symbol = [0, address(entry), address(size), 0x0001_0012];
         return made.symbols.extend_from_slice(&symbol);
     }
-    match part.split_once(':') {
-        Some((address, flags)) => begin(made, address, flags),
-        None => Ok(made.words.push(hexadecimal(part))?),
+    if part.contains(':') {
+        return begin(made, part);
     }
+    made.words.push(address(part))?;
+    Ok(())
 }
 
 /// A segment that begins.
-fn begin(made: &mut Made, address: &str, flags: &str) -> Result<(), AllocError> {
-    let span = Span {
-        address: hexadecimal(address),
-        flags: hexadecimal(flags),
+fn begin(made: &mut Made, part: &str) -> Result<(), AllocError> {
+    let (at, flags) = split(part, ':');
+    made.spans.push(Span {
+        address: address(at),
+        flags: address(flags),
         first: made.words.len(),
-    };
-    Ok(made.spans.push(span)?)
+    })?;
+    Ok(())
+}
+
+/// The place after the last word of a segment.
+fn end(made: &Made, segment: usize) -> usize {
+    match made.spans.get(segment.wrapping_add(1)) {
+        Some(next) => next.first,
+        None => made.words.len(),
+    }
 }
 
 /// The program header of each segment, whose bytes begin after the headers.
 fn put_programs(made: &Made, out: &mut Words) {
     let contents = size(made.spans.len()).wrapping_mul(8).wrapping_add(52);
     for (place, span) in made.spans.iter().enumerate() {
-        let next = made.spans.get(place.wrapping_add(1));
-        let end = next.map_or(made.words.len(), |next| next.first);
-        let bytes = size(end.wrapping_sub(span.first));
+        let bytes = size(end(made, place).wrapping_sub(span.first));
         let offset = contents.wrapping_add(size(span.first));
         let (at, flags) = (span.address, span.flags);
         out.put(&[1, offset, at, at, bytes, bytes, flags, 4]);

@@ -7,11 +7,11 @@
 //! - `made one`, `made none`: the bytes that are written of a function `f` of two words, and of
 //!   nothing with the flags 16
 
-use crate::numbers::{decimal, hexadecimal};
-use crate::out::Out;
+use crate::{address, number};
 use elf_make::{Parts, write};
 use elf_read::{ElfError, Image, Run, Segment, Symbol, read};
 use elf_spec::SymbolValues;
+use row_io::{Out, split};
 use std::alloc::{AllocError, Global};
 
 const ONE: Parts<'static> = Parts {
@@ -51,23 +51,25 @@ pub(crate) fn take_file(alloc: Global, row: &str, file: &mut Vec<u8>, out: &mut 
     out.show(&file.len());
 }
 
-fn put_number(number: Option<u32>, out: &mut Out) {
+fn put_number(number: u32, out: &mut Out) {
+    out.put(" ");
+    out.hexadecimal(u64::from(number));
+}
+
+fn put_any(number: Option<u32>, out: &mut Out) {
     match number {
         None => out.put(" none"),
-        Some(number) => {
-            out.put(" ");
-            out.hexadecimal(number);
-        }
+        Some(number) => put_number(number, out),
     }
 }
 
 fn put_named(named: SymbolValues, out: &mut Out) {
     match named {
         SymbolValues::Absent => out.put(" none"),
-        SymbolValues::One(value) => put_number(Some(value), out),
+        SymbolValues::One(value) => put_number(value, out),
         SymbolValues::Two(first, other) => {
-            put_number(Some(first), out);
-            put_number(Some(other), out);
+            put_number(first, out);
+            put_number(other, out);
         }
     }
 }
@@ -76,7 +78,7 @@ fn put_segment(segment: Option<&Segment<'_>>, out: &mut Out) {
     let Some(segment) = segment else {
         return out.put(" none");
     };
-    put_number(Some(segment.vaddr), out);
+    put_number(segment.vaddr, out);
     out.put("+");
     out.show(&segment.memsz);
     out.put(" flags ");
@@ -89,7 +91,7 @@ fn put_symbol(symbol: Option<&Symbol<'_>>, out: &mut Out) {
     let Some(symbol) = symbol else {
         return out.put(" none");
     };
-    put_number(Some(symbol.value), out);
+    put_number(symbol.value, out);
     out.put("+");
     out.show(&symbol.size);
     out.put(" kind ");
@@ -100,10 +102,10 @@ fn put_run(run: Option<&Run>, out: &mut Out) {
     let Some(run) = run else {
         return out.put(" none");
     };
-    put_number(Some(run.start), out);
+    put_number(run.start, out);
     out.put(" bytes");
     for byte in run.bytes.as_slice() {
-        put_number(Some(u32::from(*byte)), out);
+        put_number(u32::from(*byte), out);
     }
 }
 
@@ -115,15 +117,39 @@ fn put_bytes(
     out: &mut Out,
 ) -> Result<(), AllocError> {
     let runs = image.runs(alloc)?;
-    put_run(runs.get(decimal(value)), out);
+    put_run(runs.get(number(value)), out);
     Ok(())
 }
 
 /// The first and the last address of a run.
 fn put_addresses(image: &Image<'_>, index: usize, out: &mut Out) {
-    let run = image.run(index);
-    put_number(run.map(|run| run.first), out);
-    put_number(run.map(|run| run.last), out);
+    match image.run(index) {
+        None => out.put(" none none"),
+        Some(run) => {
+            put_number(run.first, out);
+            put_number(run.last, out);
+        }
+    }
+}
+
+/// The size of the function at an address, and the fixed byte there.
+fn put_at(image: &Image<'_>, address: u32, out: &mut Out) {
+    put_any(image.size_at(address), out);
+    match image.fixed_byte(address) {
+        None => out.put(" none"),
+        Some(byte) => put_number(u32::from(byte), out),
+    }
+}
+
+/// What a query of a name or an address gives.
+fn put_found(image: &Image<'_>, query: &str, value: &str, out: &mut Out) {
+    match query {
+        "at" => put_at(image, address(value), out),
+        "function" => put_named(image.function(value.as_bytes()), out),
+        "object" => put_named(image.object(value.as_bytes()), out),
+        "pointer" => put_any(image.global_pointer(), out),
+        _ => {}
+    }
 }
 
 /// What a query gives.
@@ -135,18 +161,11 @@ fn put_answer(
     out: &mut Out,
 ) -> Result<(), AllocError> {
     match query {
-        "segment" => put_segment(image.segment(decimal(value)), out),
-        "symbol" => put_symbol(image.symbol(decimal(value)), out),
-        "run" => put_addresses(image, decimal(value), out),
+        "segment" => put_segment(image.segment(number(value)), out),
+        "symbol" => put_symbol(image.symbol(number(value)), out),
+        "run" => put_addresses(image, number(value), out),
         "bytes" => return put_bytes(alloc, image, value, out),
-        "at" => {
-            put_number(image.size_at(hexadecimal(value)), out);
-            put_number(image.fixed_byte(hexadecimal(value)).map(u32::from), out);
-        }
-        "function" => put_named(image.function(value.as_bytes()), out),
-        "object" => put_named(image.object(value.as_bytes()), out),
-        "pointer" => put_number(image.global_pointer(), out),
-        _ => {}
+        _ => put_found(image, query, value, out),
     }
     Ok(())
 }
@@ -160,31 +179,38 @@ fn put_answers(
 ) -> Result<(), AllocError> {
     out.put("read");
     for word in row.split_whitespace() {
-        if let Some((query, value)) = word.split_once('=') {
-            put_answer(alloc, image, query, value, out)?;
-        }
+        let (query, value) = split(word, '=');
+        put_answer(alloc, image, query, value, out)?;
     }
     Ok(())
+}
+
+/// Whether a word is an offset, and not a query.
+fn is_offset(word: &str) -> bool {
+    match word.as_bytes() {
+        [first, ..] => *first < b'a',
+        [] => false,
+    }
 }
 
 /// A change of a row, made.
 fn change(bytes: &mut Vec<u8>, offset: &str, value: &str) {
     if offset == "cut" {
-        return bytes.truncate(decimal(value));
+        return bytes.truncate(number(value));
     }
-    if offset.starts_with(|c| c < 'a')
-        && let Some(place) = bytes.as_mut_slice().get_mut(decimal(offset))
-    {
-        *place = (decimal(value) % 256) as u8;
+    if !is_offset(offset) {
+        return;
+    }
+    if let Some(place) = bytes.as_mut_slice().get_mut(number(offset)) {
+        *place = (number(value) % 256) as u8;
     }
 }
 
 /// The changes of a row, made.
 fn make_changes(bytes: &mut Vec<u8>, row: &str) {
     for word in row.split_whitespace() {
-        if let Some((offset, value)) = word.split_once('=') {
-            change(bytes, offset, value);
-        }
+        let (offset, value) = split(word, '=');
+        change(bytes, offset, value);
     }
 }
 
@@ -195,7 +221,7 @@ fn put_error(error: ElfError, out: &mut Out) {
             out.put(" at ");
             out.show(&fault.offset);
         }
-        ElfError::NoMemory => out.put("no memory"),
+        ElfError::NoMemory => out.fail(),
     }
 }
 

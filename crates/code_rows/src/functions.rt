@@ -9,14 +9,14 @@ ghost use Rattle.std.specs.Option.{IsSome};
 ghost use Rattle.elf_spec.specs.Image.{size_at};
 
 use crate::executables::put_executable;
-use crate::numbers::decimal;
-use crate::out::Out;
+use crate::number;
 use crate::texts::{put_graph, put_variable};
 use decompile::{
     CodeError, CodeGraph, GraphError, code, decompile, decompile_within, reach, stack,
 };
 use elf_read::{Image, read};
 use graph_core::{Graph, GraphRun, Walks, callee_runs_as_alone, run_goes_on, validate};
+use row_io::{Out, split};
 use std::alloc::{AllocError, Global};
 
 fn put_error(error: CodeError, out: &mut Out) {
@@ -24,9 +24,9 @@ fn put_error(error: CodeError, out: &mut Out) {
         CodeError::Fault(fault) => {
             out.show(&fault.kind);
             out.put(" at ");
-            out.hexadecimal(fault.address);
+            out.hexadecimal(u64::from(fault.address));
         }
-        CodeError::NoMemory => out.put("no memory"),
+        CodeError::NoMemory => out.fail(),
     }
 }
 
@@ -35,21 +35,21 @@ fn put_graph_error(error: GraphError, out: &mut Out) {
         GraphError::Fault(fault) => put_error(CodeError::Fault(fault), out),
         GraphError::Unlisted { address, callee } => {
             out.put("unlisted ");
-            out.hexadecimal(callee);
+            out.hexadecimal(u64::from(callee));
             out.put(" at ");
-            out.hexadecimal(address);
+            out.hexadecimal(u64::from(address));
         }
         GraphError::Large(count) => {
             out.put("large ");
             out.show(&count);
         }
-        GraphError::NoMemory => out.put("no memory"),
+        GraphError::NoMemory => out.fail(),
     }
 }
 
 fn put_listing(listing: &[(u32, u32)], out: &mut Out) {
     for (address, word) in listing {
-        out.hexadecimal(*address);
+        out.hexadecimal(u64::from(*address));
         out.put(":");
         out.word(*word);
         out.put(" ");
@@ -58,7 +58,7 @@ fn put_listing(listing: &[(u32, u32)], out: &mut Out) {
 
 fn put_entries(entries: &[u32], out: &mut Out) {
     for entry in entries {
-        out.hexadecimal(*entry);
+        out.hexadecimal(u64::from(*entry));
         out.put(" ");
     }
 }
@@ -107,7 +107,7 @@ fn put_code(alloc: Global, image: &Image<'_>, entry: u32, out: &mut Out) {
 fn keep_graph(found: CodeGraph, graphs: &mut Vec<Graph>, out: &mut Out) {
     put_graph(&found, out);
     if graphs.push(found.graph).is_err() {
-        out.put("no memory");
+        out.fail();
     }
 }
 
@@ -132,6 +132,15 @@ fn put_graphs(
     }
 }
 
+fn are_valid(graphs: &[Graph]) -> bool {
+    for graph in graphs {
+        if !validate(graph) {
+            return false;
+        }
+    }
+    true
+}
+
 /// Whether graphs are valid, and how many nodes the first has: a walk.
 fn put_run(graphs: &[Graph], out: &mut Out) {
     let run = GraphRun {
@@ -141,7 +150,7 @@ fn put_run(graphs: &[Graph], out: &mut Out) {
     run_goes_on(&run);
     callee_runs_as_alone(&run);
     out.put("valid ");
-    out.show(&graphs.iter().all(|graph| validate(graph)));
+    out.show(&are_valid(graphs));
     out.put(" nodes ");
     out.show(&run.nodes());
 }
@@ -171,7 +180,7 @@ fn put_extent(alloc: Global, graph: &Graph, out: &mut Out) {
     out.show(&graph.nodes.len());
     out.put("\nvariables");
     match graph.variables(alloc) {
-        Err(_) => out.put(" no memory"),
+        Err(_) => out.fail(),
         Ok(variables) => {
             for variable in &variables {
                 put_variable(*variable, out);
@@ -209,8 +218,16 @@ fn put_reached_within(alloc: Global, image: &Image<'_>, entry: u32, maximum: usi
     }
 }
 
+/// The entry of the first function.
+fn first_entry(image: &Image<'_>) -> u32 {
+    match image.symbol(0) {
+        Some(symbol) => symbol.value,
+        None => 0,
+    }
+}
+
 fn put_answer(alloc: Global, asked: &str, image: &Image<'_>, maximum: usize, out: &mut Out) {
-    let entry = image.symbol(0).map_or(0, |symbol| symbol.value);
+    let entry = first_entry(image);
     match asked {
         "graphs" => put_reached(alloc, image, entry, out),
         "within" => put_reached_within(alloc, image, entry, maximum, out),
@@ -234,11 +251,11 @@ pub(crate) fn put_functions(
     out: &mut Out,
 ) -> Result<(), AllocError> {
     let (maximum, parts) = match asked {
-        "within" | "alone" => row.split_once(' ').unwrap_or((row, "")),
+        "within" | "alone" => split(row, ' '),
         _ => ("", row),
     };
     let mut file = Vec::new(alloc);
     put_executable(alloc, parts, &mut file)?;
-    put_file(alloc, asked, file.as_slice(), decimal(maximum), out);
+    put_file(alloc, asked, file.as_slice(), number(maximum), out);
     Ok(())
 }

@@ -2,8 +2,8 @@
 //! `encode NAME NUMBER..` the word of an instruction, or that there is none; `effect WORD A B` what
 //! an instruction at 00010000 does where its sources are A and B.
 
-use crate::numbers::{hexadecimal, signed};
-use crate::out::Out;
+use crate::address;
+use row_io::{Out, decimal, split};
 use rv_asm::{encode, fits};
 use rv_decode::decode;
 use rv_instr::{
@@ -12,75 +12,126 @@ use rv_instr::{
 };
 use rv_machine::effects::effect;
 
+/// An instruction of each format with an immediate of its own.
+#[derive(Clone, Copy)]
+enum Name {
+    Lui,
+    Auipc,
+    Jal,
+    Jalr,
+    Blt,
+    Lh,
+    Sb,
+    Xori,
+    Slli,
+    Sub,
+    Fence,
+}
+
+const NAMES: [(&str, Name); 11] = [
+    ("lui", Name::Lui),
+    ("auipc", Name::Auipc),
+    ("jal", Name::Jal),
+    ("jalr", Name::Jalr),
+    ("blt", Name::Blt),
+    ("lh", Name::Lh),
+    ("sb", Name::Sb),
+    ("xori", Name::Xori),
+    ("slli", Name::Slli),
+    ("sub", Name::Sub),
+    ("fence", Name::Fence),
+];
+
+/// The instruction of a name, if there is one.
+fn named(name: &str) -> Option<Name> {
+    for (of, named) in &NAMES {
+        if *of == name {
+            return Some(*named);
+        }
+    }
+    None
+}
+
 fn x(number: i32) -> Reg {
     Reg::new((number & 31) as u8)
 }
 
-/// An instruction of each format with an immediate of its own, from its numbers in the order of the
-/// assembler's operands.
-fn upper_or_jump(name: &str, a: i32, b: i32, c: i32) -> Option<Instr> {
-    let rd = x(a);
-    let imm = b.cast_unsigned();
-    Some(match name {
-        "lui" => Instr::Lui { rd, imm },
-        "auipc" => Instr::Auipc { rd, imm },
-        "jal" => Instr::Jal { rd, offset: b },
-        "jalr" => Instr::Jalr {
-            rd,
-            base: x(b),
-            offset: c,
-        },
-        "blt" => Instr::Branch {
-            test: BranchTest::Less,
-            left: rd,
-            right: x(b),
-            offset: c,
-        },
-        _ => return None,
-    })
+/// An immediate, in decimal with its sign.
+fn signed(text: &str) -> i32 {
+    let number = (decimal(text) % 0x1_0000_0000) as u32;
+    if text.starts_with('-') {
+        number.wrapping_neg().cast_signed()
+    } else {
+        number.cast_signed()
+    }
 }
 
-/// The same of loads, stores and operations.
-fn access_or_operation(name: &str, a: i32, b: i32, c: i32) -> Option<Instr> {
-    let (rd, source) = (x(a), x(b));
-    Some(match name {
-        "lh" => Instr::Load {
+/// An instruction from its numbers in the order of the assembler's operands.
+fn instruction(name: Name, rd: Reg, b: i32, c: i32) -> Instr {
+    match name {
+        Name::Lui => Instr::Lui {
+            rd,
+            imm: b.cast_unsigned(),
+        },
+        Name::Auipc => Instr::Auipc {
+            rd,
+            imm: b.cast_unsigned(),
+        },
+        Name::Jal => Instr::Jal { rd, offset: b },
+        Name::Fence => Instr::Fence {
+            rd,
+            source: x(b),
+            bits: (c & 65535) as u16,
+        },
+        Name::Slli => Instr::Shift {
+            operation: ShiftOperation::Left,
+            rd,
+            source: x(b),
+            amount: (c & 255) as u8,
+        },
+        Name::Sub => Instr::Arithmetic {
+            operation: ArithmeticOperation::Subtract,
+            rd,
+            left: x(b),
+            right: x(c),
+        },
+        _ => with_offset(name, rd, x(b), c),
+    }
+}
+
+/// The same of an instruction on two registers and an immediate.
+fn with_offset(name: Name, rd: Reg, source: Reg, imm: i32) -> Instr {
+    match name {
+        Name::Blt => Instr::Branch {
+            test: BranchTest::Less,
+            left: rd,
+            right: source,
+            offset: imm,
+        },
+        Name::Lh => Instr::Load {
             kind: LoadKind::Half,
             rd,
             base: source,
-            offset: c,
+            offset: imm,
         },
-        "sb" => Instr::Store {
+        Name::Sb => Instr::Store {
             kind: StoreKind::Byte,
             source: rd,
             base: source,
-            offset: c,
+            offset: imm,
         },
-        "xori" => Instr::Immediate {
+        Name::Xori => Instr::Immediate {
             operation: ImmediateOperation::Xor,
             rd,
             source,
-            imm: c,
+            imm,
         },
-        "slli" => Instr::Shift {
-            operation: ShiftOperation::Left,
+        _ => Instr::Jalr {
             rd,
-            source,
-            amount: (c & 255) as u8,
+            base: source,
+            offset: imm,
         },
-        "sub" => Instr::Arithmetic {
-            operation: ArithmeticOperation::Subtract,
-            rd,
-            left: source,
-            right: x(c),
-        },
-        "fence" => Instr::Fence {
-            rd,
-            source,
-            bits: (c & 65535) as u16,
-        },
-        _ => return None,
-    })
+    }
 }
 
 /// The word of an instruction.
@@ -93,31 +144,29 @@ fn put_word(instruction: &Instr, out: &mut Out) {
 }
 
 /// The outcome of a row `encode`.
-fn put_encoded(name: &str, a: &str, b: &str, c: &str, out: &mut Out) {
-    let (a, b, c) = (signed(a), signed(b), signed(c));
-    if let Some(instruction) = upper_or_jump(name, a, b, c) {
-        return put_word(&instruction, out);
-    }
-    match access_or_operation(name, a, b, c) {
-        Some(instruction) => put_word(&instruction, out),
+fn put_encoded(name: &str, numbers: &str, out: &mut Out) {
+    let (a, rest) = split(numbers, ' ');
+    let (b, c) = split(rest, ' ');
+    match named(name) {
+        Some(name) => put_word(&instruction(name, x(signed(a)), signed(b), signed(c)), out),
         None => out.put("no instruction"),
     }
 }
 
+fn put_effect(instruction: &Instr, sources: &str, out: &mut Out) {
+    let (a, b) = split(sources, ' ');
+    out.show(&effect(instruction, address(a), address(b), 0x1_0000));
+}
+
 /// The outcome of a row.
 pub(crate) fn put_instruction(asked: &str, row: &str, out: &mut Out) {
-    let mut words = row.split_whitespace();
-    let first = words.next().unwrap_or("");
-    let a = words.next().unwrap_or("0");
-    let b = words.next().unwrap_or("0");
+    let (first, rest) = split(row, ' ');
     if asked == "encode" {
-        return put_encoded(first, a, b, words.next().unwrap_or("0"), out);
+        return put_encoded(first, rest, out);
     }
-    match decode(hexadecimal(first)) {
+    match decode(address(first)) {
         None => out.put("no instruction"),
-        Some(instruction) if asked == "effect" => {
-            out.show(&effect(&instruction, hexadecimal(a), hexadecimal(b), 0x1_0000));
-        }
+        Some(instruction) if asked == "effect" => put_effect(&instruction, rest, out),
         Some(instruction) => {
             out.show(&instruction);
             out.put(" ");

@@ -3,14 +3,14 @@
 //! hexadecimal), `x7` or `pc` (its value), `at=A` (the byte there), or `all`: pc, the registers
 //! from x1 on, and a sum over the 4,096 bytes from 00040000 on.
 
-use crate::numbers::{decimal, hexadecimal};
-use crate::out::Out;
+use crate::{address, number};
+use row_io::{Out, split};
 use rv_instr::Reg;
 use rv_machine::{Machine, Memory, run, step};
 use std::alloc::{AllocError, Global};
 
 fn x(text: &str) -> Reg {
-    Reg::new((decimal(text) & 31) as u8)
+    Reg::new((number(text) & 31) as u8)
 }
 
 fn is_word(text: &str) -> bool {
@@ -29,7 +29,7 @@ fn load(memory: &mut Memory, row: &str) -> Result<(), AllocError> {
     let mut at: u32 = 0x1_0000;
     for word in row.split_whitespace() {
         if is_word(word) {
-            for byte in hexadecimal(word).to_le_bytes() {
+            for byte in address(word).to_le_bytes() {
                 memory.put(at, byte)?;
                 at = at.wrapping_add(1);
             }
@@ -45,8 +45,8 @@ fn put_value(value: u32, out: &mut Out) {
 
 fn put_all(machine: &Machine, out: &mut Out) {
     put_value(machine.pc(), out);
-    for number in 1u8..32 {
-        put_value(machine.register(Reg::new(number % 32)), out);
+    for register in 1u8..32 {
+        put_value(machine.register(Reg::new(register)), out);
     }
     let mut sum: u32 = 0;
     for place in 0u32..4096 {
@@ -58,8 +58,8 @@ fn put_all(machine: &Machine, out: &mut Out) {
 
 /// A run of so many steps at most, up to an address.
 fn put_ran(machine: &mut Machine, value: &str, out: &mut Out) -> Result<(), AllocError> {
-    let (limit, stop) = value.split_once('@').unwrap_or((value, ""));
-    let ran = run(machine, hexadecimal(stop), u64::from(hexadecimal(limit)))?;
+    let (limit, stop) = split(value, '@');
+    let ran = run(machine, address(stop), u64::from(address(limit)))?;
     out.put(" ");
     out.show(&ran);
     Ok(())
@@ -71,9 +71,9 @@ fn set(machine: &mut Machine, name: &str, value: &str, out: &mut Out) -> Result<
         "run" => put_ran(machine, value, out)?,
         "at" => {
             out.put(" ");
-            out.hexadecimal(u32::from(machine.memory().byte(hexadecimal(value))));
+            out.hexadecimal(u64::from(machine.memory().byte(address(value))));
         }
-        _ => machine.set_register(x(name), hexadecimal(value)),
+        _ => machine.set_register(x(name), address(value)),
     }
     Ok(())
 }

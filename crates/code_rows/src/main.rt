@@ -18,14 +18,36 @@ mod functions;
 mod instructions;
 mod machines;
 mod nodes;
-mod numbers;
-mod out;
 mod texts;
 mod walks;
 
-use crate::out::Out;
+use row_io::{Out, decimal, hexadecimal, input, output, split, split_at};
 use std::alloc::{AllocError, Global};
-use std::io::{BufRead, BufReader};
+use std::io;
+
+/// An address or a word, in hexadecimal.
+fn address(text: &str) -> u32 {
+    (hexadecimal(text) % 0x1_0000_0000) as u32
+}
+
+/// A count, an offset or a place, in decimal.
+fn number(text: &str) -> usize {
+    decimal(text) as usize
+}
+
+/// The outcome of a row of instructions, files or graphs.
+fn put_other(alloc: Global, asked: &str, row: &str, out: &mut Out) -> Result<(), AllocError> {
+    match asked {
+        "machine" => machines::put_machine(alloc, row, out),
+        "made" => files::put_made(alloc, row, out),
+        "nodes" => nodes::put_nodes(alloc, row, out),
+        "countdown" => {
+            walks::put_countdown(out);
+            Ok(())
+        }
+        _ => functions::put_functions(alloc, asked, row, out),
+    }
+}
 
 /// The outcome of a row, a line for each part of it; `file` is the bytes that the last row `file`
 /// gave.
@@ -35,38 +57,39 @@ fn put_outcome(
     file: &mut Vec<u8>,
     out: &mut Out,
 ) -> Result<(), AllocError> {
-    let (asked, rest) = row.split_once(' ').unwrap_or((row, ""));
+    let (asked, rest) = split(row, ' ');
     match asked {
         "word" | "encode" | "effect" => instructions::put_instruction(asked, rest, out),
         "file" => files::take_file(alloc, rest, file, out),
-        "countdown" => walks::put_countdown(out),
-        "machine" => return machines::put_machine(alloc, rest, out),
-        "made" => return files::put_made(alloc, rest, out),
         "read" => return files::put_read(alloc, rest, file.as_slice(), out),
-        "nodes" => return nodes::put_nodes(alloc, rest, out),
-        _ => return functions::put_functions(alloc, asked, rest, out),
+        _ => return put_other(alloc, asked, rest, out),
     }
     Ok(())
 }
 
-/// Prints the outcome of a row, each line after its name.
-fn print_row(rt: &HostRuntime, line: &str, file: &mut Vec<u8>) -> anyhow::Result<()> {
-    let (name, row) = line.split_once(": ").unwrap_or((line, ""));
+/// The outcome of a row, each line after its name.
+fn put_row(alloc: Global, line: &str, file: &mut Vec<u8>, out: &mut Out) {
+    if line.starts_with('#') {
+        return;
+    }
+    let (name, row) = split_at(line, ": ");
+    let mut outcome = Out::new(alloc);
+    if put_outcome(alloc, row, file, &mut outcome).is_err() {
+        out.fail();
+    }
+    out.row(name, &outcome);
+}
+
+fn put_rows(alloc: Global, rows: &str, out: &mut Out) {
+    let mut file = Vec::new(alloc);
+    for line in rows.lines() {
+        put_row(alloc, line, &mut file, out);
+    }
+}
+
+fn main(rt: HostRuntime) -> io::Result<()> {
+    let rows = input(rt)?;
     let mut out = Out::new(rt.alloc());
-    put_outcome(rt.alloc(), row, file, &mut out)?;
-    for part in out.text()?.lines() {
-        println!(rt; "{name}: {}", part.trim())?;
-    }
-    Ok(())
-}
-
-fn main(rt: HostRuntime) -> anyhow::Result<()> {
-    let mut file = Vec::new(rt.alloc());
-    for line in BufReader::new(rt.alloc(), rt.reader())?.lines(rt.alloc()) {
-        let line = line?;
-        if !line.as_str().starts_with('#') {
-            print_row(&rt, line.as_str(), &mut file)?;
-        }
-    }
-    Ok(())
+    put_rows(rt.alloc(), rows.as_str(), &mut out);
+    output(rt, &out)
 }

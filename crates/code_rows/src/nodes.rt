@@ -5,9 +5,9 @@
 //! calls graph G with the parameter and continues after its landing node. N is the number of a
 //! node, `ret` or `err`.
 
-use crate::numbers::decimal;
-use crate::out::Out;
+use crate::number;
 use graph_core::{Binding, Graph, Next, Node, validate};
+use row_io::{Out, decimal, split};
 use std::alloc::{AllocError, Global};
 use term_core::Term;
 use term_spec::{Atom, BinaryOperator, Family, Sort, Variable, Width, WordOperator};
@@ -25,7 +25,7 @@ fn next(text: &str) -> Next {
     match text {
         "ret" => Next::Ret,
         "err" => Next::Err,
-        _ => Next::At(decimal(text)),
+        _ => Next::At(number(text)),
     }
 }
 
@@ -44,7 +44,7 @@ fn atom(word: &str) -> Atom {
         "parameter" => Atom::Open(variable(Family::Parameter)),
         "local" => Atom::Open(variable(Family::Local)),
         "truth" => Atom::Truth(true),
-        _ => Atom::Constant(Width::W32, decimal(word) as u64),
+        _ => Atom::Constant(Width::W32, decimal(word)),
     }
 }
 
@@ -88,11 +88,11 @@ fn add_call(
     stack: &mut Vec<Box<Term>>,
     graph: &mut Graph,
 ) -> Result<usize, AllocError> {
-    let (callee, then) = value.split_once(',').unwrap_or((value, ""));
+    let (callee, then) = split(value, ',');
     let inputs = bound(alloc, Family::Parameter, stack)?;
     push_leaf(alloc, "local", stack)?;
     let outputs = bound(alloc, Family::Local, stack)?;
-    graph.add_call(alloc, decimal(callee), inputs, outputs, next(then))
+    graph.add_call(alloc, number(callee), inputs, outputs, next(then))
 }
 
 fn add_test(
@@ -101,7 +101,7 @@ fn add_test(
     stack: &mut Vec<Box<Term>>,
     graph: &mut Graph,
 ) -> Result<usize, AllocError> {
-    let (on_true, on_false) = value.split_once(',').unwrap_or((value, ""));
+    let (on_true, on_false) = split(value, ',');
     graph.add(Node::Cond {
         test: popped(alloc, stack)?,
         on_true: next(on_true),
@@ -166,10 +166,10 @@ fn add_nodes(
 
 /// The outcome of a row.
 pub(crate) fn put_nodes(alloc: Global, row: &str, out: &mut Out) -> Result<(), AllocError> {
-    let (entry, rest) = row.split_once(' ').unwrap_or((row, ""));
+    let (entry, rest) = split(row, ' ');
     let mut stack = Vec::new(alloc);
     let mut graph = Graph::new(alloc);
-    graph.entry = decimal(entry);
+    graph.entry = number(entry);
     add_nodes(alloc, rest, &mut stack, &mut graph)?;
     out.put("valid ");
     out.show(&validate(&graph));

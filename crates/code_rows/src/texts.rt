@@ -1,9 +1,10 @@
 //! Graphs as text: a line for each node, its number, the address if it is the first of an
 //! instruction, and what it does.
 
-use crate::out::Out;
 use decompile::CodeGraph;
 use graph_core::{Binding, Next, Node};
+use row_io::Out;
+use std::fmt::Debug;
 use term_core::Term;
 use term_spec::{Atom, BinaryOperator, Family, Variable};
 
@@ -23,17 +24,23 @@ fn put_atom(atom: Atom, out: &mut Out) {
         Atom::Open(variable) => put_variable(variable, out),
         Atom::Constant(_, number) => {
             out.put(" ");
-            out.hexadecimal((number & 0xffff_ffff) as u32);
+            out.hexadecimal(number & 0xffff_ffff);
         }
         Atom::Truth(truth) => out.put(if truth { " true" } else { " false" }),
     }
 }
 
+/// The name of an operator after a bracket.
+fn put_operator<T: Debug>(operator: &T, out: &mut Out) {
+    out.put(" (");
+    out.show(operator);
+}
+
 /// An operator of two arguments: that of words by its own name.
-fn put_operator(operator: BinaryOperator, out: &mut Out) {
+fn put_binary(operator: BinaryOperator, out: &mut Out) {
     match operator {
-        BinaryOperator::Word(word) => out.show(&word),
-        _ => out.show(&operator),
+        BinaryOperator::Word(word) => put_operator(&word, out),
+        _ => put_operator(&operator, out),
     }
 }
 
@@ -42,26 +49,22 @@ fn put_term(term: &Term, out: &mut Out) {
     match term {
         Term::Leaf(atom) => return put_atom(*atom, out),
         Term::Unary(operator, a) => {
-            out.put(" (");
-            out.show(operator);
+            put_operator(operator, out);
             put_term(a, out);
         }
         Term::Binary(operator, a, b) => {
-            out.put(" (");
-            put_operator(*operator, out);
+            put_binary(*operator, out);
             put_term(a, out);
             put_term(b, out);
         }
         Term::Ternary(operator, a, b, c) => {
-            out.put(" (");
-            out.show(operator);
+            put_operator(operator, out);
             put_term(a, out);
             put_term(b, out);
             put_term(c, out);
         }
         Term::Quaternary(operator, a, b, c, d) => {
-            out.put(" (");
-            out.show(operator);
+            put_operator(operator, out);
             put_term(a, out);
             put_term(b, out);
             put_term(c, out);
@@ -132,7 +135,7 @@ pub(crate) fn put_graph(found: &CodeGraph, out: &mut Out) {
         for (address, first) in &found.firsts {
             if *first == number {
                 out.put(" at ");
-                out.hexadecimal(*address);
+                out.hexadecimal(u64::from(*address));
             }
         }
         out.put(":");

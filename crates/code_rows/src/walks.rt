@@ -4,10 +4,10 @@ ghost use Rattle.std.specs.Prelude.{⊤, ℕ};
 ghost use Rattle.example_laws.specs.Countdown.{countdown, leads_back, no_call};
 ghost use Rattle.example_laws.proofs.GraphCountdown.{countdown_is_system};
 
-use crate::out::Out;
 use graph_core::{
     Walks, arrivals_add_up, ended_run_stays, run_goes_on, run_stops_as_its_rest, run_stops_once,
 };
+use row_io::Out;
 
 #[derive(Drop)]
 struct Countdown;

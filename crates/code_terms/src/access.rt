@@ -12,6 +12,7 @@ ghost use Rattle.code_terms.specs.Built.{Builds};
 
 use crate::basic::{memory, number, on_words, open};
 use crate::products::byte;
+use attempt::attempt;
 use rv_instr::{LoadKind, StoreKind};
 use std::alloc::{AllocError, Global};
 use term_core::Term;
@@ -23,8 +24,8 @@ use term_spec::{
 fn past(alloc: Global, a: &Term, count: u32) -> Result<Box<Term>, AllocError>
     ensures { Builds result (shapes.past (term_of a.now) count) }
 {
-    let copy = a.copy(alloc)?;
-    let count = number(alloc, count)?;
+    let copy = attempt!(a.copy(alloc));
+    let count = attempt!(number(alloc, count));
     on_words(alloc, WordOperator::Add, copy, count)
 }
 
@@ -32,7 +33,7 @@ fn past(alloc: Global, a: &Term, count: u32) -> Result<Box<Term>, AllocError>
 fn load(alloc: Global, a: Box<Term>) -> Result<Box<Term>, AllocError>
     ensures { Builds result (tree.load (tree.open_term state.memory) (term_of a.value)) }
 {
-    let memory = open(alloc, memory())?;
+    let memory = attempt!(open(alloc, memory()));
     Term::binary(alloc, BinaryOperator::Load, memory, a)
 }
 
@@ -40,7 +41,7 @@ fn load(alloc: Global, a: Box<Term>) -> Result<Box<Term>, AllocError>
 fn first_byte(alloc: Global, a: &Term) -> Result<Box<Term>, AllocError>
     ensures { Builds result (tree.load (tree.open_term state.memory) (term_of a.now)) }
 {
-    let copy = a.copy(alloc)?;
+    let copy = attempt!(a.copy(alloc));
     load(alloc, copy)
 }
 
@@ -49,25 +50,25 @@ fn further_byte(alloc: Global, a: &Term, count: u32) -> Result<Box<Term>, AllocE
     ensures { Builds result (tree.load (tree.open_term state.memory) (shapes.past (term_of a.now)
         count)) }
 {
-    let place = past(alloc, a, count)?;
+    let place = attempt!(past(alloc, a, count));
     load(alloc, place)
 }
 
 fn load_half(alloc: Global, a: &Term) -> Result<Box<Term>, AllocError>
     ensures { Builds result (shapes.load_half (tree.open_term state.memory) (term_of a.now)) }
 {
-    let first = first_byte(alloc, a)?;
-    let second = further_byte(alloc, a, 1)?;
+    let first = attempt!(first_byte(alloc, a));
+    let second = attempt!(further_byte(alloc, a, 1));
     Term::binary(alloc, BinaryOperator::Join, first, second)
 }
 
 fn load_word(alloc: Global, a: &Term) -> Result<Box<Term>, AllocError>
     ensures { Builds result (shapes.load_word (tree.open_term state.memory) (term_of a.now)) }
 {
-    let first = first_byte(alloc, a)?;
-    let second = further_byte(alloc, a, 1)?;
-    let third = further_byte(alloc, a, 2)?;
-    let fourth = further_byte(alloc, a, 3)?;
+    let first = attempt!(first_byte(alloc, a));
+    let second = attempt!(further_byte(alloc, a, 1));
+    let third = attempt!(further_byte(alloc, a, 2));
+    let fourth = attempt!(further_byte(alloc, a, 3));
     Term::quaternary(
         alloc,
         QuaternaryOperator::Join,
@@ -85,20 +86,20 @@ pub fn loaded(alloc: Global, kind: LoadKind, a: &Term) -> Result<Box<Term>, Allo
 {
     match kind {
         LoadKind::Byte => {
-            let byte = first_byte(alloc, a)?;
+            let byte = attempt!(first_byte(alloc, a));
             Term::unary(alloc, UnaryOperator::SignExtend(Width::W32), byte)
         }
         LoadKind::Half => {
-            let half = load_half(alloc, a)?;
+            let half = attempt!(load_half(alloc, a));
             Term::unary(alloc, UnaryOperator::SignExtend(Width::W32), half)
         }
         LoadKind::Word => load_word(alloc, a),
         LoadKind::ByteUnsigned => {
-            let byte = first_byte(alloc, a)?;
+            let byte = attempt!(first_byte(alloc, a));
             Term::unary(alloc, UnaryOperator::ZeroExtend(Width::W32), byte)
         }
         LoadKind::HalfUnsigned => {
-            let half = load_half(alloc, a)?;
+            let half = attempt!(load_half(alloc, a));
             Term::unary(alloc, UnaryOperator::ZeroExtend(Width::W32), half)
         }
     }
@@ -115,7 +116,7 @@ fn store(
     ensures { Builds result (tree.store (term_of m.value) (term_of a.value) (tree.byte place
         (term_of x.now))) }
 {
-    let value = byte(alloc, place, x)?;
+    let value = attempt!(byte(alloc, place, x));
     Term::ternary(alloc, TernaryOperator::Store, m, a, value)
 }
 
@@ -123,8 +124,8 @@ fn store_byte(alloc: Global, a: &Term, x: &Term) -> Result<Box<Term>, AllocError
     ensures { Builds result (shapes.store_byte (tree.open_term state.memory) (term_of a.now)
         (term_of x.now)) }
 {
-    let copy = a.copy(alloc)?;
-    let memory = open(alloc, memory())?;
+    let copy = attempt!(a.copy(alloc));
+    let memory = attempt!(open(alloc, memory()));
     store(alloc, memory, copy, 0, x)
 }
 
@@ -132,8 +133,8 @@ fn store_half(alloc: Global, a: &Term, x: &Term) -> Result<Box<Term>, AllocError
     ensures { Builds result (shapes.store_half (tree.open_term state.memory) (term_of a.now)
         (term_of x.now)) }
 {
-    let first = store_byte(alloc, a, x)?;
-    let place = past(alloc, a, 1)?;
+    let first = attempt!(store_byte(alloc, a, x));
+    let place = attempt!(past(alloc, a, 1));
     store(alloc, first, place, 1, x)
 }
 
@@ -141,10 +142,10 @@ fn store_word(alloc: Global, a: &Term, x: &Term) -> Result<Box<Term>, AllocError
     ensures { Builds result (shapes.store_word (tree.open_term state.memory) (term_of a.now)
         (term_of x.now)) }
 {
-    let half = store_half(alloc, a, x)?;
-    let third = past(alloc, a, 2)?;
-    let three = store(alloc, half, third, 2, x)?;
-    let fourth = past(alloc, a, 3)?;
+    let half = attempt!(store_half(alloc, a, x));
+    let third = attempt!(past(alloc, a, 2));
+    let three = attempt!(store(alloc, half, third, 2, x));
+    let fourth = attempt!(past(alloc, a, 3));
     store(alloc, three, fourth, 3, x)
 }
 
@@ -164,10 +165,10 @@ pub fn stored(alloc: Global, kind: StoreKind, a: &Term, x: &Term) -> Result<Box<
 pub fn is_multiple(alloc: Global, mask: u32, a: &Term) -> Result<Box<Term>, AllocError>
     ensures { Builds result (forms.is_multiple mask (term_of a.now)) }
 {
-    let copy = a.copy(alloc)?;
-    let mask = number(alloc, mask)?;
-    let low = on_words(alloc, WordOperator::And, copy, mask)?;
-    let zero = number(alloc, 0)?;
+    let copy = attempt!(a.copy(alloc));
+    let mask = attempt!(number(alloc, mask));
+    let low = attempt!(on_words(alloc, WordOperator::And, copy, mask));
+    let zero = attempt!(number(alloc, 0));
     Term::binary(alloc, BinaryOperator::Equal, low, zero)
 }
 
@@ -186,8 +187,8 @@ pub fn last_written(alloc: Global, kind: StoreKind, a: &Term) -> Result<Box<Term
 fn is_above(alloc: Global, n: u32, a: &Term) -> Result<Box<Term>, AllocError>
     ensures { Builds result (tree.less (forms.number n) (term_of a.now)) }
 {
-    let n = number(alloc, n)?;
-    let copy = a.copy(alloc)?;
+    let n = attempt!(number(alloc, n));
+    let copy = attempt!(a.copy(alloc));
     Term::binary(alloc, BinaryOperator::Less, n, copy)
 }
 
@@ -195,8 +196,8 @@ fn is_above(alloc: Global, n: u32, a: &Term) -> Result<Box<Term>, AllocError>
 fn is_below(alloc: Global, a: &Term, n: u32) -> Result<Box<Term>, AllocError>
     ensures { Builds result (tree.less (term_of a.now) (forms.number n)) }
 {
-    let copy = a.copy(alloc)?;
-    let n = number(alloc, n)?;
+    let copy = attempt!(a.copy(alloc));
+    let n = attempt!(number(alloc, n));
     Term::binary(alloc, BinaryOperator::Less, copy, n)
 }
 
@@ -211,7 +212,7 @@ pub fn avoids(
 ) -> Result<Box<Term>, AllocError>
     ensures { Builds result (avoids_between (term_of a.now) (term_of e.now) first last) }
 {
-    let before = is_above(alloc, last, a)?;
-    let following = is_below(alloc, e, first)?;
+    let before = attempt!(is_above(alloc, last, a));
+    let following = attempt!(is_below(alloc, e, first));
     Term::binary(alloc, BinaryOperator::Or, before, following)
 }

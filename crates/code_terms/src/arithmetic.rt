@@ -11,6 +11,7 @@ ghost use Rattle.code_terms.specs.Built.{Builds};
 use crate::basic::{number, on_words, operand};
 use crate::division::{signed_quotient, signed_remainder};
 use crate::products::{high_product, high_product_signed, high_product_signed_unsigned};
+use attempt::attempt;
 use rv_instr::{ArithmeticOperation, BranchTest, Reg};
 use std::alloc::{AllocError, Global};
 use term_core::Term;
@@ -20,7 +21,7 @@ use term_spec::{BinaryOperator, TernaryOperator, UnaryOperator, WordOperator};
 fn flipped(alloc: Global, x: Box<Term>) -> Result<Box<Term>, AllocError>
     ensures { Builds result (tree.bit_xor (term_of x.value) (shapes.sign_bit W32)) }
 {
-    let sign = number(alloc, 0x8000_0000)?;
+    let sign = attempt!(number(alloc, 0x8000_0000));
     on_words(alloc, WordOperator::Xor, x, sign)
 }
 
@@ -33,8 +34,8 @@ fn less(alloc: Global, x: Box<Term>, y: Box<Term>) -> Result<Box<Term>, AllocErr
 fn signed_less(alloc: Global, x: Box<Term>, y: Box<Term>) -> Result<Box<Term>, AllocError>
     ensures { Builds result (shapes.signed_less W32 (term_of x.value) (term_of y.value)) }
 {
-    let left = flipped(alloc, x)?;
-    let right = flipped(alloc, y)?;
+    let left = attempt!(flipped(alloc, x));
+    let right = attempt!(flipped(alloc, y));
     less(alloc, left, right)
 }
 
@@ -42,8 +43,8 @@ fn signed_less(alloc: Global, x: Box<Term>, y: Box<Term>) -> Result<Box<Term>, A
 fn set_if(alloc: Global, test: Box<Term>) -> Result<Box<Term>, AllocError>
     ensures { Builds result (forms.set_if (term_of test.value)) }
 {
-    let one = number(alloc, 1)?;
-    let zero = number(alloc, 0)?;
+    let one = attempt!(number(alloc, 1));
+    let zero = attempt!(number(alloc, 0));
     Term::ternary(alloc, TernaryOperator::Choose, test, one, zero)
 }
 
@@ -57,8 +58,8 @@ fn shift(
     ensures { Builds result (tree.on_words operator (term_of x.value) (forms.places (term_of
         y.value))) }
 {
-    let mask = number(alloc, 31)?;
-    let places = on_words(alloc, WordOperator::And, y, mask)?;
+    let mask = attempt!(number(alloc, 31));
+    let places = attempt!(on_words(alloc, WordOperator::And, y, mask));
     on_words(alloc, operator, x, places)
 }
 
@@ -66,14 +67,14 @@ fn set_less(alloc: Global, x: Box<Term>, y: Box<Term>) -> Result<Box<Term>, Allo
     ensures { Builds result (forms.set_if (shapes.signed_less W32 (term_of x.value) (term_of
         y.value))) }
 {
-    let test = signed_less(alloc, x, y)?;
+    let test = attempt!(signed_less(alloc, x, y));
     set_if(alloc, test)
 }
 
 fn set_less_unsigned(alloc: Global, x: Box<Term>, y: Box<Term>) -> Result<Box<Term>, AllocError>
     ensures { Builds result (forms.set_if (tree.less (term_of x.value) (term_of y.value))) }
 {
-    let test = less(alloc, x, y)?;
+    let test = attempt!(less(alloc, x, y));
     set_if(alloc, test)
 }
 
@@ -138,17 +139,17 @@ pub fn taken(
     match test {
         BranchTest::Equal => equal(alloc, x, y),
         BranchTest::NotEqual => {
-            let same = equal(alloc, x, y)?;
+            let same = attempt!(equal(alloc, x, y));
             opposite(alloc, same)
         }
         BranchTest::Less => signed_less(alloc, x, y),
         BranchTest::GreaterOrEqual => {
-            let below = signed_less(alloc, x, y)?;
+            let below = attempt!(signed_less(alloc, x, y));
             opposite(alloc, below)
         }
         BranchTest::LessUnsigned => less(alloc, x, y),
         BranchTest::GreaterOrEqualUnsigned => {
-            let below = less(alloc, x, y)?;
+            let below = attempt!(less(alloc, x, y));
             opposite(alloc, below)
         }
     }
@@ -163,7 +164,7 @@ pub fn branch_test(
 ) -> Result<Box<Term>, AllocError>
     ensures { Builds result (forms.taken test (forms.operand left) (forms.operand right)) }
 {
-    let left = operand(alloc, left)?;
-    let right = operand(alloc, right)?;
+    let left = attempt!(operand(alloc, left));
+    let right = attempt!(operand(alloc, right));
     taken(alloc, test, left, right)
 }

@@ -7,6 +7,7 @@ ghost use Rattle.code_graph_spec.specs.State as state;
 ghost use Rattle.code_graph_spec.specs.InstructionTerms as forms;
 ghost use Rattle.code_terms.specs.Built.{Builds};
 
+use attempt::attempt;
 use rv_instr::Reg;
 use std::alloc::{AllocError, Global};
 use term_core::Term;
@@ -89,8 +90,8 @@ pub(crate) fn on_words(
 pub fn address(alloc: Global, base: Reg, offset: i32) -> Result<Box<Term>, AllocError>
     ensures { Builds result (forms.address base offset) }
 {
-    let base = operand(alloc, base)?;
-    let offset = number(alloc, offset.cast_unsigned())?;
+    let base = attempt!(operand(alloc, base));
+    let offset = attempt!(number(alloc, offset.cast_unsigned()));
     on_words(alloc, WordOperator::Add, base, offset)
 }
 
@@ -98,7 +99,7 @@ pub fn address(alloc: Global, base: Reg, offset: i32) -> Result<Box<Term>, Alloc
 pub fn returns_home(alloc: Global) -> Result<Box<Term>, AllocError>
     ensures { Builds result forms.returns_home }
 {
-    let now = open(alloc, register(Reg::new(1)))?;
-    let entry = open(alloc, entry_register(Reg::new(1)))?;
+    let now = attempt!(open(alloc, register(Reg::new(1))));
+    let entry = attempt!(open(alloc, entry_register(Reg::new(1))));
     Term::binary(alloc, BinaryOperator::Equal, now, entry)
 }

@@ -7,6 +7,7 @@ ghost use Rattle.term_spec.specs.Shapes as shapes;
 ghost use Rattle.code_terms.specs.Built.{Builds};
 
 use crate::basic::on_words;
+use attempt::attempt;
 use std::alloc::{AllocError, Global};
 use term_core::Term;
 use term_spec::{QuaternaryOperator, UnaryOperator, Width, WordOperator};
@@ -15,7 +16,7 @@ use term_spec::{QuaternaryOperator, UnaryOperator, Width, WordOperator};
 pub(crate) fn byte(alloc: Global, place: u8, x: &Term) -> Result<Box<Term>, AllocError>
     ensures { Builds result (tree.byte place (term_of x.now)) }
 {
-    let copy = x.copy(alloc)?;
+    let copy = attempt!(x.copy(alloc));
     Term::unary(alloc, UnaryOperator::Byte(place), copy)
 }
 
@@ -23,10 +24,10 @@ pub(crate) fn byte(alloc: Global, place: u8, x: &Term) -> Result<Box<Term>, Allo
 fn high_half(alloc: Global, x: &Term) -> Result<Box<Term>, AllocError>
     ensures { Builds result (shapes.high_half (term_of x.now)) }
 {
-    let a = byte(alloc, 4, x)?;
-    let b = byte(alloc, 5, x)?;
-    let c = byte(alloc, 6, x)?;
-    let d = byte(alloc, 7, x)?;
+    let a = attempt!(byte(alloc, 4, x));
+    let b = attempt!(byte(alloc, 5, x));
+    let c = attempt!(byte(alloc, 6, x));
+    let d = attempt!(byte(alloc, 7, x));
     Term::quaternary(alloc, QuaternaryOperator::Join, a, b, c, d)
 }
 
@@ -41,9 +42,9 @@ fn high_product_of(
     ensures { Builds result (shapes.high_half (tree.multiply (tree.Unary first (term_of x.value))
         (tree.Unary second (term_of y.value)))) }
 {
-    let left = Term::unary(alloc, first, x)?;
-    let right = Term::unary(alloc, second, y)?;
-    let product = on_words(alloc, WordOperator::Multiply, left, right)?;
+    let left = attempt!(Term::unary(alloc, first, x));
+    let right = attempt!(Term::unary(alloc, second, y));
+    let product = attempt!(on_words(alloc, WordOperator::Multiply, left, right));
     high_half(alloc, &product)
 }
 

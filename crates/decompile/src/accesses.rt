@@ -7,6 +7,7 @@ ghost use Rattle.code_graph_spec.specs.InstructionTerms as spec;
 ghost use Rattle.decompile.specs.Settings.{run_of};
 ghost use Rattle.decompile.specs.Built.{BuildsTests};
 
+use attempt::attempt;
 use code_terms::{address, avoids, is_multiple, last_written};
 use elf_read::Extent;
 use rv_instr::{Instr, LoadKind, StoreKind};
@@ -17,7 +18,7 @@ use term_core::Term;
 fn alignment(alloc: Global, mask: u32, a: &Term) -> Result<Vec<Box<Term>>, AllocError>
     ensures { BuildsTests result (spec.is_multiple mask (term_of a.now) ∷ []) }
 {
-    let test = is_multiple(alloc, mask, a)?;
+    let test = attempt!(is_multiple(alloc, mask, a));
     let mut tests = Vec::new(alloc);
     tests.push(test)?;
     Ok(tests)
@@ -75,9 +76,9 @@ fn store_tests(
     requires { All (λ run. run.first ≤ run.last) runs.now }
     ensures { BuildsTests result (spec.store_tests (map run_of runs.now) kind (term_of a.now)) }
 {
-    let mut tests = store_alignment(alloc, kind, a)?;
-    let last = last_written(alloc, kind, a)?;
-    avoid(alloc, &mut tests, runs, a, &last)?;
+    let mut tests = attempt!(store_alignment(alloc, kind, a));
+    let last = attempt!(last_written(alloc, kind, a));
+    attempt!(avoid(alloc, &mut tests, runs, a, &last));
     Ok(tests)
 }
 
@@ -97,7 +98,7 @@ pub(crate) fn access_tests(
             offset,
             ..
         } => {
-            let a = address(alloc, base, offset)?;
+            let a = attempt!(address(alloc, base, offset));
             load_tests(alloc, kind, &a)
         }
         Instr::Store {
@@ -106,7 +107,7 @@ pub(crate) fn access_tests(
             offset,
             ..
         } => {
-            let a = address(alloc, base, offset)?;
+            let a = attempt!(address(alloc, base, offset));
             store_tests(alloc, runs, kind, &a)
         }
         Instr::Lui { .. }

@@ -10,6 +10,7 @@ ghost use Rattle.code_graph_spec.specs.Blocks.{call_inputs as call_inputs_are};
 ghost use Rattle.code_graph_spec.specs.Blocks.{entry_binding as entry_binding_is};
 ghost use Rattle.decompile.specs.Built.{BuildsBindings};
 
+use attempt::attempt;
 use code_terms::{
     address, computed, entry_register, loaded, memory, number, operand, register, stored,
 };
@@ -47,7 +48,7 @@ fn put(alloc: Global, rd: Reg, term: Box<Term>) -> Result<Vec<Binding>, AllocErr
 fn puts(alloc: Global, rd: Reg, n: u32) -> Result<Vec<Binding>, AllocError>
     ensures { BuildsBindings result (spec.put rd (spec.number n)) }
 {
-    let term = number(alloc, n)?;
+    let term = attempt!(number(alloc, n));
     put(alloc, rd, term)
 }
 
@@ -87,7 +88,7 @@ fn computes(
     ensures { BuildsBindings result (spec.put rd (spec.computed operation (boxed_term x)
         (boxed_term y))) }
 {
-    let term = computed(alloc, operation, x, y)?;
+    let term = attempt!(computed(alloc, operation, x, y));
     put(alloc, rd, term)
 }
 
@@ -102,8 +103,8 @@ fn computes_of(
     ensures { BuildsBindings result (spec.put rd (spec.computed operation (spec.operand left)
         (spec.operand right))) }
 {
-    let x = operand(alloc, left)?;
-    let y = operand(alloc, right)?;
+    let x = attempt!(operand(alloc, left));
+    let y = attempt!(operand(alloc, right));
     computes(alloc, operation, rd, x, y)
 }
 
@@ -118,8 +119,8 @@ fn computes_with(
     ensures { BuildsBindings result (spec.put rd (spec.computed operation (spec.operand source)
         (spec.number n))) }
 {
-    let x = operand(alloc, source)?;
-    let y = number(alloc, n)?;
+    let x = attempt!(operand(alloc, source));
+    let y = attempt!(number(alloc, n));
     computes(alloc, operation, rd, x, y)
 }
 
@@ -133,8 +134,8 @@ fn loads(
 ) -> Result<Vec<Binding>, AllocError>
     ensures { BuildsBindings result (spec.put rd (spec.loaded kind (spec.address base offset))) }
 {
-    let a = address(alloc, base, offset)?;
-    let term = loaded(alloc, kind, &a)?;
+    let a = attempt!(address(alloc, base, offset));
+    let term = attempt!(loaded(alloc, kind, &a));
     put(alloc, rd, term)
 }
 
@@ -152,9 +153,9 @@ fn stores(
           (spec.address base offset) (spec.operand source);
     } ∷ []) }
 {
-    let a = address(alloc, base, offset)?;
-    let source = operand(alloc, source)?;
-    let term = stored(alloc, kind, &a, &source)?;
+    let a = attempt!(address(alloc, base, offset));
+    let source = attempt!(operand(alloc, source));
+    let term = attempt!(stored(alloc, kind, &a, &source));
     bind(alloc, memory(), term)
 }
 
@@ -224,7 +225,7 @@ const OTHER_REGISTERS: [u8; 30] = [
 fn entry_binding(alloc: Global, r: Reg) -> Result<Binding, AllocError>
     ensures { IfOk result (λ binding. binding_of binding ≡ entry_binding_is r) }
 {
-    let term = Term::leaf(alloc, Atom::Open(register(r)))?;
+    let term = attempt!(Term::leaf(alloc, Atom::Open(register(r))));
     Ok(Binding {
         variable: entry_register(r),
         term,
@@ -238,7 +239,7 @@ fn enter(alloc: Global, bindings: &mut Vec<Binding>, numbers: &[u8]) -> Result<(
         ≡ bindings_of bindings.old ++ map entry_binding_is numbers.now) }
 {
     for r in numbers {
-        let binding = entry_binding(alloc, Reg::new(*r))?;
+        let binding = attempt!(entry_binding(alloc, Reg::new(*r)));
         bindings.push(binding)?;
     }
     Ok(())
@@ -254,7 +255,7 @@ fn bind_number(
     ensures { OnOk result (bindings_of bindings.new
         ≡ bindings_of bindings.old ++ record { variable = variable; term = spec.number n } ∷ []) }
 {
-    let term = number(alloc, n)?;
+    let term = attempt!(number(alloc, n));
     bindings.push(Binding { variable, term })?;
     Ok(())
 }
@@ -275,6 +276,6 @@ pub(crate) fn call_inputs(alloc: Global, back: u32) -> Result<Vec<Binding>, Allo
     ensures { BuildsBindings result (call_inputs_are back) }
 {
     let mut inputs = Vec::new(alloc);
-    add_inputs(alloc, &mut inputs, back)?;
+    attempt!(add_inputs(alloc, &mut inputs, back));
     Ok(inputs)
 }

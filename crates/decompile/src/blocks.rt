@@ -15,6 +15,7 @@ use crate::bindings::{call_inputs, effects};
 use crate::function::Function;
 use crate::items::Item;
 use crate::numbers::plus;
+use attempt::attempt;
 use code_terms::{branch_test, returns_home};
 use graph_core::{Graph, Node};
 use graph_spec::Next;
@@ -28,7 +29,7 @@ fn add_plain(alloc: Global, graph: &mut Graph, next: Next) -> Result<(), AllocEr
         ≡ with_nodes (graph_of graph.old) (Basic [] next ∷ [])) }
 {
     let bindings = Vec::new(alloc);
-    graph.add(Node::Basic { bindings, next })?;
+    attempt!(graph.add(Node::Basic { bindings, next }));
     Ok(())
 }
 

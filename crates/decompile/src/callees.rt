@@ -7,6 +7,7 @@ ghost use Rattle.decompile.specs.Callees as spec;
 
 use crate::error::GraphError;
 use crate::items::Item;
+use attempt::attempt;
 use rv_instr::Instr;
 
 /// The address, if it is a multiple of 4.
@@ -68,7 +69,7 @@ pub(crate) fn check_callees(items: &[Item], entries: &[u32]) -> Result<(), Graph
     ensures refused { IfErr result (spec.IsFirstUnlisted entries.now items.now) }
 {
     for item in items {
-        check_callee(item, entries)?;
+        attempt!(check_callee(item, entries));
     }
     Ok(())
 }

@@ -15,6 +15,7 @@ use crate::function::Function;
 use crate::items::{Item, instructions};
 use crate::numbers::{count_nodes, first_nodes};
 use crate::runs::runs;
+use attempt::attempt;
 use code_graph_laws::layout::laid_are_code_graphs;
 use code_graph_laws::validity::code_graphs_are_valid;
 use elf_read::Image;
@@ -66,7 +67,7 @@ impl Function<'_> {
             ≡ laid (setting_of self.now) (map item_of items.now)) }
     {
         let mut graph = Graph::new(alloc);
-        self.add_blocks(alloc, &mut graph, items)?;
+        attempt!(self.add_blocks(alloc, &mut graph, items));
         Ok(graph)
     }
 }
@@ -142,6 +143,6 @@ pub fn decompile(
         (graph_of found.graph) found.firsts.entries) }
     ensures error { IfErr result (IsGraphError image.now entry entries.now (2 ^ 64 - 1)) }
 {
-    let found = decompile_within(alloc, image, entry, entries, usize::MAX)?;
+    let found = attempt!(decompile_within(alloc, image, entry, entries, usize::MAX));
     Ok(found)
 }

@@ -8,6 +8,7 @@ ghost use Rattle.decompile.specs.declared.error.GraphError.TheVariants.{Large};
 
 use crate::error::GraphError;
 use crate::items::Item;
+use attempt::attempt;
 use indexmap::IndexMap;
 use rv_instr::{Instr, LoadKind, StoreKind};
 use std::alloc::{AllocError, Global};
@@ -63,8 +64,8 @@ fn after(runs: usize, item: &Item, first: usize) -> Result<usize, AllocError>
     ensures { IfOk result (λ next. next
         ≡ first + (spec.further_nodes runs (item_of item.now) + 1)) }
 {
-    let further = further_nodes(runs, item)?;
-    let own = plus(further, 1)?;
+    let further = attempt!(further_nodes(runs, item));
+    let own = attempt!(plus(further, 1));
     plus(first, own)
 }
 
@@ -126,6 +127,6 @@ pub(crate) fn first_nodes(
         ≡ spec.numbered runs 1 (map item_of items.now)) }
 {
     let mut firsts = IndexMap::new(alloc);
-    number_nodes(&mut firsts, runs, items)?;
+    attempt!(number_nodes(&mut firsts, runs, items));
     Ok(firsts)
 }

@@ -7,6 +7,7 @@ ghost use Rattle.elf_make.specs.Layout as layout;
 ghost use Rattle.elf_make.specs.Parts.{IsSegmentOfWords, IsSymbolOfWords};
 
 use crate::fields::{put_half, put_word};
+use attempt::attempt;
 use elf_read::{Segment, Symbol};
 use elf_spec::fields::{
     EHDR_SIZE, EM_RISCV, ET_EXEC, EV_CURRENT, PHDR_SIZE, PT_LOAD, SHDR_SIZE, SHT_STRTAB,
@@ -23,10 +24,10 @@ pub(crate) fn put_header(
 ) -> Result<(), AllocError>
     ensures { OnOk result (out.new.items ≡ out.old.items ++ layout.header programs sections flags) }
 {
-    put_identity(out)?;
-    put_word(out, EHDR_SIZE as u32)?;
-    put_word(out, sections)?;
-    put_word(out, flags)?;
+    attempt!(put_identity(out));
+    attempt!(put_word(out, EHDR_SIZE as u32));
+    attempt!(put_word(out, sections));
+    attempt!(put_word(out, flags));
     put_header_sizes(out, programs)
 }
 
@@ -37,10 +38,10 @@ fn put_identity(out: &mut Vec<u8>) -> Result<(), AllocError>
         layout.word EV_CURRENT ++
         layout.word 0)) }
 {
-    put_ident(out)?;
-    put_half(out, ET_EXEC)?;
-    put_half(out, EM_RISCV)?;
-    put_word(out, u32::from(EV_CURRENT))?;
+    attempt!(put_ident(out));
+    attempt!(put_half(out, ET_EXEC));
+    attempt!(put_half(out, EM_RISCV));
+    attempt!(put_word(out, u32::from(EV_CURRENT)));
     put_word(out, 0)
 }
 
@@ -57,11 +58,11 @@ fn put_header_sizes(out: &mut Vec<u8>, programs: u16) -> Result<(), AllocError>
         ≡ out.old.items ++ (layout.half EHDR_SIZE ++ layout.half PHDR_SIZE ++ layout.half programs
         ++ layout.half SHDR_SIZE ++ layout.half 3 ++ layout.half 0)) }
 {
-    put_half(out, EHDR_SIZE as u16)?;
-    put_half(out, PHDR_SIZE as u16)?;
-    put_half(out, programs)?;
-    put_half(out, SHDR_SIZE as u16)?;
-    put_half(out, 3)?;
+    attempt!(put_half(out, EHDR_SIZE as u16));
+    attempt!(put_half(out, PHDR_SIZE as u16));
+    attempt!(put_half(out, programs));
+    attempt!(put_half(out, SHDR_SIZE as u16));
+    attempt!(put_half(out, 3));
     put_half(out, 0)
 }
 
@@ -70,7 +71,7 @@ fn put_words(out: &mut Vec<u8>, words: &[u32]) -> Result<(), AllocError>
     ensures { OnOk result (out.new.items ≡ out.old.items ++ flat_map layout.word words.now) }
 {
     for word in words {
-        put_word(out, *word)?;
+        attempt!(put_word(out, *word));
     }
     Ok(())
 }
@@ -124,7 +125,7 @@ pub(crate) fn put_contents(out: &mut Vec<u8>, segments: &[Segment]) -> Result<()
         ≡ out.old.items ++ layout.contents (map segment_of segments.now)) }
 {
     for segment in segments {
-        out.extend_from_slice(segment.bytes)?;
+        attempt!(out.extend_from_slice(segment.bytes));
     }
     Ok(())
 }
@@ -145,9 +146,9 @@ fn put_entry(out: &mut Vec<u8>, place: u32, symbol: &Symbol) -> Result<(), Alloc
         ≡ out.old.items ++ layout.entry place (symbol_of symbol.now)) }
     ensures words { OnOk result (IsSymbolOfWords (symbol_of symbol.now)) }
 {
-    put_word(out, place)?;
-    put_word(out, symbol.value)?;
-    put_word(out, symbol.size)?;
+    attempt!(put_word(out, place));
+    attempt!(put_word(out, symbol.value));
+    attempt!(put_word(out, symbol.size));
     out.push(16 + symbol.kind)?;
     out.push(0)?;
     put_half(out, 1)
@@ -179,7 +180,7 @@ pub(crate) fn put_names(out: &mut Vec<u8>, symbols: &[Symbol]) -> Result<(), All
         ≡ out.old.items ++ layout.names (map symbol_of symbols.now)) }
 {
     for symbol in symbols {
-        out.extend_from_slice(symbol.name)?;
+        attempt!(out.extend_from_slice(symbol.name));
         out.push(0)?;
     }
     Ok(())
@@ -213,8 +214,8 @@ pub(crate) fn put_sections(
     ensures { OnOk result (out.new.items
         ≡ out.old.items ++ layout.section_headers table table_size strings strings_size) }
 {
-    put_no_section(out)?;
-    put_table_section(out, table, table_size)?;
+    attempt!(put_no_section(out));
+    attempt!(put_table_section(out, table, table_size));
     put_strings_section(out, strings, strings_size)
 }
 

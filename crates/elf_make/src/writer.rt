@@ -9,6 +9,7 @@ use crate::Parts;
 use crate::pieces::{
     put_contents, put_entries, put_header, put_names, put_programs, put_sections, put_zeros,
 };
+use attempt::attempt;
 use elf_read::{Segment, Symbol};
 use elf_spec::fields::{EHDR_SIZE, PHDR_SIZE, SYM_SIZE};
 use std::alloc::{AllocError, Global};
@@ -22,7 +23,7 @@ pub fn write(alloc: Global, parts: &Parts) -> Result<Vec<u8>, AllocError>
         (image_of_parts parts.now) parts.now.flags) }
 {
     let mut out = Vec::new(alloc);
-    put_file(&mut out, parts, lay_out(parts))?;
+    attempt!(put_file(&mut out, parts, lay_out(parts)));
     Ok(out)
 }
 

@@ -10,6 +10,7 @@ ghost use Rattle.elf_read.specs.Values.{segment_of};
 
 use crate::Segment;
 use crate::fields::{u16_at, u32_at};
+use attempt::attempt;
 use elf_spec::ElfKind;
 use elf_spec::fields::{
     E_PHNUM, E_PHOFF, EHDR_SIZE, P_FILESZ, P_FLAGS, P_MEMSZ, P_OFFSET, P_VADDR, PHDR_SIZE, PT_LOAD,
@@ -120,7 +121,7 @@ pub(crate) fn segments<'a>(
     ensures { IfOk result (λ segments. map segment_of segments.items
         ≡ map (spec.segment_at bytes.now) loads.now) }
 {
-    let mut segments = Vec::with_capacity(alloc, loads.len())?;
+    let mut segments = attempt!(Vec::with_capacity(alloc, loads.len()));
     for at in loads {
         segments.push(segment_at(bytes, *at))?;
     }

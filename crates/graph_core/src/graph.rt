@@ -9,6 +9,7 @@ ghost use Rattle.graph_spec.specs.Graph as spec;
 ghost use Rattle.graph_core.specs.Graphs.{binding_of, bindings_of, graph_of, node_of};
 ghost use Rattle.graph_spec.specs.Graph.{empty, with_call, with_nodes};
 
+use attempt::attempt;
 use graph_spec::Next;
 use std::alloc::{AllocError, Global};
 use term_core::{Term, sort};
@@ -104,7 +105,7 @@ impl Graph {
         ensures kept { OnErr result (graph_of self.new ≡ graph_of self.old) }
     {
         let number = self.nodes.len();
-        self.nodes.reserve(2)?;
+        attempt!(self.nodes.reserve(2));
         let call = Node::Call {
             callee,
             inputs,

@@ -6,6 +6,7 @@ ghost use Rattle.graph_spec.specs.Variables as spec;
 ghost use Rattle.graph_core.specs.Graphs.{binding_of, graph_of, node_of};
 
 use crate::graph::{Binding, Graph, Node};
+use attempt::attempt;
 use indexmap::IndexSet;
 use std::alloc::{AllocError, Global};
 use term_core::Term;
@@ -32,28 +33,28 @@ fn add_term(variables: &mut IndexSet<Variable>, term: &Term) -> Result<(), Alloc
         Term::Leaf(atom) => add_atom(variables, *atom),
         Term::Unary(_, a) => add_term(variables, a),
         Term::Binary(_, a, b) => {
-            add_term(variables, a)?;
+            attempt!(add_term(variables, a));
             add_term(variables, b)
         }
         Term::Ternary(_, a, b, c) => {
-            add_term(variables, a)?;
-            add_term(variables, b)?;
+            attempt!(add_term(variables, a));
+            attempt!(add_term(variables, b));
             add_term(variables, c)
         }
         Term::Quaternary(_, a, b, c, d) => {
-            add_term(variables, a)?;
-            add_term(variables, b)?;
-            add_term(variables, c)?;
+            attempt!(add_term(variables, a));
+            attempt!(add_term(variables, b));
+            attempt!(add_term(variables, c));
             add_term(variables, d)
         }
         Term::Octonary(a, b, c, d, e, f, g, h) => {
-            add_term(variables, a)?;
-            add_term(variables, b)?;
-            add_term(variables, c)?;
-            add_term(variables, d)?;
-            add_term(variables, e)?;
-            add_term(variables, f)?;
-            add_term(variables, g)?;
+            attempt!(add_term(variables, a));
+            attempt!(add_term(variables, b));
+            attempt!(add_term(variables, c));
+            attempt!(add_term(variables, d));
+            attempt!(add_term(variables, e));
+            attempt!(add_term(variables, f));
+            attempt!(add_term(variables, g));
             add_term(variables, h)
         }
     }
@@ -85,7 +86,7 @@ fn add_node(variables: &mut IndexSet<Variable>, node: &Node) -> Result<(), Alloc
             outputs,
             ..
         } => {
-            add_bindings(variables, inputs.as_slice())?;
+            attempt!(add_bindings(variables, inputs.as_slice()));
             add_bindings(variables, outputs.as_slice())
         }
     }
@@ -110,7 +111,7 @@ impl Graph {
         ensures { IfOk result (λ found. found.keys ≡ spec.variables (graph_of self.now)) }
     {
         let mut variables = IndexSet::new(alloc);
-        add_nodes(&mut variables, self.nodes.as_slice())?;
+        attempt!(add_nodes(&mut variables, self.nodes.as_slice()));
         Ok(variables)
     }
 }

@@ -6,6 +6,7 @@ ghost use Rattle.term_bank.specs.Nodes.{tree_at, Extends, AreDistinct};
 ghost use Rattle.flat_spec.specs.Flat.{byte_variable};
 ghost use Rattle.mem_terms.specs.Ids.{IsTreeAt};
 
+use attempt::attempt;
 use std::alloc::AllocError;
 use term_bank::{Bank, TermId, TermNode};
 use term_spec::{Atom, BinaryOperator, Family, Sort, UnaryOperator, Variable, Width};
@@ -89,6 +90,6 @@ pub fn implied(bank: &mut Bank, x: TermId, y: TermId) -> Result<TermId, AllocErr
         (or_term (not_term (tree_at bank.old x)) (tree_at bank.old y))) }
     ensures extends { Extends bank.old bank.new }
 {
-    let other = not(bank, x)?;
+    let other = attempt!(not(bank, x));
     or(bank, other, y)
 }

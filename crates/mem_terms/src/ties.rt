@@ -11,6 +11,7 @@ ghost use Rattle.mem_terms.specs.Ids.{load_at, is_load_from, IsWithin, AreWithin
 
 use crate::build::{and, equal, implied, truth};
 use crate::ids::LoadIds;
+use attempt::attempt;
 use std::alloc::{AllocError, Global};
 use term_bank::{Bank, TermId};
 use term_spec::Variable;
@@ -42,7 +43,7 @@ fn with_agreement(
         (and_term (tree_at bank.old so_far) (agree (load_at bank.old x) (load_at bank.old y)))) }
     ensures extends { Extends bank.old bank.new }
 {
-    let agreement = agree(bank, x, y)?;
+    let agreement = attempt!(agree(bank, x, y));
     and(bank, so_far, agreement)
 }
 

@@ -11,6 +11,7 @@ ghost use Rattle.mem_terms.specs.Walk.{total_weight, IsEntered, IsReplaced, IsWa
 
 use crate::build::byte;
 use crate::ids::LoadIds;
+use attempt::attempt;
 use std::alloc::{AllocError, Global};
 use term_bank::{Bank, TermId, TermNode};
 use term_spec::{Atom, BinaryOperator, Variable};
@@ -125,7 +126,7 @@ fn push_four(
     ensures { OnOk result (tasks.new.items ≡ tasks.old.items ++ Task.Visit d ∷ Task.Visit c
         ∷ Task.Visit b ∷ Task.Visit a ∷ []) }
 {
-    push_two(tasks, c, d)?;
+    attempt!(push_two(tasks, c, d));
     push_two(tasks, a, b)
 }
 
@@ -146,7 +147,7 @@ fn push_arguments(tasks: &mut Vec<Task>, node: TermNode) -> Result<(), AllocErro
         }
         TermNode::Quaternary(_, a, b, c, d) => push_four(tasks, a, b, c, d),
         TermNode::Octonary(a, b, c, d, e, f, g, h) => {
-            push_four(tasks, e, f, g, h)?;
+            attempt!(push_four(tasks, e, f, g, h));
             push_four(tasks, a, b, c, d)
         }
     }
@@ -239,7 +240,7 @@ impl Walk {
         ensures tasks { self.new.tasks.items ≡ self.old.tasks.items }
         ensures extends { Extends bank.old bank.new }
     {
-        let byte = byte(bank, self.loads.len())?;
+        let byte = attempt!(byte(bank, self.loads.len()));
         let address = flat_id(&self.done, load.address);
         self.loads.push(LoadIds {
             memory: load.memory,
@@ -258,7 +259,7 @@ impl Walk {
         ensures tasks { self.new.tasks.items ≡ self.old.tasks.items }
         ensures extends { Extends bank.old bank.new }
     {
-        let new_id = self.enter(bank, load)?;
+        let new_id = attempt!(self.enter(bank, load));
         self.done[id] = Some(new_id);
         Ok(())
     }
@@ -274,7 +275,7 @@ impl Walk {
         ensures tasks { self.new.tasks.items ≡ self.old.tasks.items }
         ensures extends { Extends bank.old bank.new }
     {
-        let new_id = bank.add(replaced(&self.done, node))?;
+        let new_id = attempt!(bank.add(replaced(&self.done, node)));
         self.done[id] = Some(new_id);
         Ok(())
     }

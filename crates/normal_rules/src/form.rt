@@ -7,6 +7,7 @@ ghost use Rattle.term_bank.specs.Nodes.{tree_at, Holds, Extends};
 ghost use Rattle.normal_rules.specs.Forms.{form_tree, IsForm, AreForms, chosen};
 
 use crate::widths::width_of;
+use attempt::attempt;
 use std::alloc::AllocError;
 use term_bank::{Bank, TermId, TermNode};
 use term_core::all_ones;
@@ -76,7 +77,7 @@ fn place_constant(bank: &mut Bank, width: Width, number: u64) -> Result<TermId, 
     ensures extends { Extends bank.old bank.new }
     ensures longer { length bank.old ≤ length bank.new }
 {
-    let id = bank.add(TermNode::Leaf(Atom::Constant(width, number)))?;
+    let id = attempt!(bank.add(TermNode::Leaf(Atom::Constant(width, number))));
     Ok(id)
 }
 
@@ -89,9 +90,9 @@ fn place_sum(bank: &mut Bank, x: TermId, width: Width, number: u64) -> Result<Te
     ensures extends { Extends bank.old bank.new }
     ensures longer { length bank.old ≤ length bank.new }
 {
-    let constant = place_constant(bank, width, number)?;
+    let constant = attempt!(place_constant(bank, width, number));
     let sum = BinaryOperator::Word(WordOperator::Add);
-    let id = bank.add(TermNode::Binary(sum, x, constant))?;
+    let id = attempt!(bank.add(TermNode::Binary(sum, x, constant)));
     Ok(id)
 }
 
@@ -106,21 +107,21 @@ pub fn place(bank: &mut Bank, form: Form) -> Result<TermId, AllocError>
     match form {
         Form::Same(id) => Ok(id),
         Form::Made(node) => {
-            let id = bank.add(node)?;
+            let id = attempt!(bank.add(node));
             Ok(id)
         }
         Form::Sum(x, width, number) => {
-            let id = place_sum(bank, x, width, number)?;
+            let id = attempt!(place_sum(bank, x, width, number));
             Ok(id)
         }
         Form::Zero(x) => {
             let width = width_of(bank, x);
-            let id = place_constant(bank, width, 0)?;
+            let id = attempt!(place_constant(bank, width, 0));
             Ok(id)
         }
         Form::Full(x) => {
             let width = width_of(bank, x);
-            let id = place_constant(bank, width, all_ones(width))?;
+            let id = attempt!(place_constant(bank, width, all_ones(width)));
             Ok(id)
         }
     }

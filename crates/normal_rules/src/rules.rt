@@ -13,6 +13,7 @@ use crate::choice::choose_form;
 use crate::form::{Form, place};
 use crate::truths::{and_form, equal_form, less_form, not_form, or_form};
 use crate::words::{complement_form, word_form};
+use attempt::attempt;
 use std::alloc::AllocError;
 use term_bank::{Bank, TermId, TermNode};
 use term_spec::{Atom, QuaternaryOperator, TernaryOperator, UnaryOperator, Width, WordOperator};
@@ -51,7 +52,7 @@ pub fn normal_unary(
     ensures longer { length bank.old ≤ length bank.new }
 {
     let form = unary_form(bank, operator, x);
-    let id = place(bank, form)?;
+    let id = attempt!(place(bank, form));
     Ok(id)
 }
 
@@ -64,7 +65,7 @@ pub fn normal_not(bank: &mut Bank, x: TermId) -> Result<TermId, AllocError>
     ensures longer { length bank.old ≤ length bank.new }
 {
     let form = not_form(bank, x);
-    let id = place(bank, form)?;
+    let id = attempt!(place(bank, form));
     Ok(id)
 }
 
@@ -79,7 +80,7 @@ pub fn normal_and(bank: &mut Bank, x: TermId, y: TermId) -> Result<TermId, Alloc
     ensures longer { length bank.old ≤ length bank.new }
 {
     let form = and_form(bank, x, y);
-    let id = place(bank, form)?;
+    let id = attempt!(place(bank, form));
     Ok(id)
 }
 
@@ -94,7 +95,7 @@ pub fn normal_or(bank: &mut Bank, x: TermId, y: TermId) -> Result<TermId, AllocE
     ensures longer { length bank.old ≤ length bank.new }
 {
     let form = or_form(bank, x, y);
-    let id = place(bank, form)?;
+    let id = attempt!(place(bank, form));
     Ok(id)
 }
 
@@ -109,7 +110,7 @@ pub fn normal_equal(bank: &mut Bank, x: TermId, y: TermId) -> Result<TermId, All
     ensures longer { length bank.old ≤ length bank.new }
 {
     let form = equal_form(bank, x, y);
-    let id = place(bank, form)?;
+    let id = attempt!(place(bank, form));
     Ok(id)
 }
 
@@ -124,7 +125,7 @@ pub fn normal_less(bank: &mut Bank, x: TermId, y: TermId) -> Result<TermId, Allo
     ensures longer { length bank.old ≤ length bank.new }
 {
     let form = less_form(bank, x, y);
-    let id = place(bank, form)?;
+    let id = attempt!(place(bank, form));
     Ok(id)
 }
 
@@ -144,7 +145,7 @@ pub fn normal_word(
     ensures longer { length bank.old ≤ length bank.new }
 {
     let form = word_form(bank, operator, x, y);
-    let id = place(bank, form)?;
+    let id = attempt!(place(bank, form));
     Ok(id)
 }
 
@@ -159,7 +160,7 @@ pub fn normal_join_two(bank: &mut Bank, x: TermId, y: TermId) -> Result<TermId, 
     ensures longer { length bank.old ≤ length bank.new }
 {
     let form = join_two_form(bank, x, y);
-    let id = place(bank, form)?;
+    let id = attempt!(place(bank, form));
     Ok(id)
 }
 
@@ -180,7 +181,7 @@ pub fn normal_choose(
     ensures longer { length bank.old ≤ length bank.new }
 {
     let form = choose_form(bank, test, x, y);
-    let id = place(bank, form)?;
+    let id = attempt!(place(bank, form));
     Ok(id)
 }
 
@@ -219,7 +220,7 @@ pub fn normal_ternary(
     ensures longer { length bank.old ≤ length bank.new }
 {
     let form = ternary_form(bank, operator, x, y, z);
-    let id = place(bank, form)?;
+    let id = attempt!(place(bank, form));
     Ok(id)
 }
 
@@ -244,7 +245,7 @@ fn quaternary_form(
             Ok(Form::Made(overlay))
         }
         QuaternaryOperator::Join => {
-            let form = join_four_form(bank, a, b, c, d)?;
+            let form = attempt!(join_four_form(bank, a, b, c, d));
             Ok(form)
         }
     }
@@ -267,8 +268,8 @@ pub fn normal_quaternary(
     ensures extends { Extends bank.old bank.new }
     ensures longer { length bank.old ≤ length bank.new }
 {
-    let form = quaternary_form(bank, operator, a, b, c, d)?;
-    let id = place(bank, form)?;
+    let form = attempt!(quaternary_form(bank, operator, a, b, c, d));
+    let id = attempt!(place(bank, form));
     Ok(id)
 }
 
@@ -294,7 +295,7 @@ pub fn normal_octonary(
     ensures longer { length bank.old ≤ length bank.new }
 {
     let form = join_eight_form(bank, a, b, c, d, e, f, g, h);
-    let id = place(bank, form)?;
+    let id = attempt!(place(bank, form));
     Ok(id)
 }
 
@@ -305,6 +306,6 @@ pub fn constant_byte(bank: &mut Bank, byte: u8) -> Result<TermId, AllocError>
     ensures extends { Extends bank.old bank.new }
     ensures longer { length bank.old ≤ length bank.new }
 {
-    let id = bank.add(TermNode::Leaf(Atom::Constant(Width::W8, u64::from(byte))))?;
+    let id = attempt!(bank.add(TermNode::Leaf(Atom::Constant(Width::W8, u64::from(byte)))));
     Ok(id)
 }

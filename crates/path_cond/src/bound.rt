@@ -4,6 +4,7 @@ ghost use Rattle.std.specs.Prelude.{◌≡◌, ℕ, ◌<◌, map, IfOk, OnOk};
 ghost use Rattle.graph_core.specs.Graphs.{binding_of, graph_of, node_of};
 ghost use Rattle.path_cond.specs.Bound.{AreListed, IsListedNode, KeepsListed, ListsAll};
 
+use attempt::attempt;
 use graph_core::{Binding, Graph, Node};
 use indexmap::IndexSet;
 use std::alloc::{AllocError, Global};
@@ -46,6 +47,6 @@ pub fn bound_variables(alloc: Global, graph: &Graph) -> Result<IndexSet<Variable
     ensures { IfOk result (λ found. ListsAll found.keys (graph_of graph.now).nodes) }
 {
     let mut variables = IndexSet::new(alloc);
-    add_nodes(&mut variables, graph.nodes.as_slice())?;
+    attempt!(add_nodes(&mut variables, graph.nodes.as_slice()));
     Ok(variables)
 }

@@ -3,6 +3,7 @@
 ghost use Rattle.std.specs.Prelude.{◌≡◌, ℕ, ◌==◌, if◌then◌else◌, Some, IfOk};
 ghost use Rattle.path_cond.specs.Ids.{id_at, of_parts};
 
+use attempt::attempt;
 use std::alloc::{AllocError, Global};
 use std::rc::Rc;
 use term_bank::TermId;
@@ -48,8 +49,8 @@ impl Ids {
         match self {
             Ids::Empty => Ok(Ids::Empty),
             Ids::Node(id, odd, even) => {
-                let odd = odd.clone()?;
-                let even = even.clone()?;
+                let odd = attempt!(odd.clone());
+                let even = attempt!(even.clone());
                 Ok(Ids::Node(*id, odd, even))
             }
         }
@@ -64,12 +65,12 @@ impl Ids {
         match self {
             Ids::Empty => {
                 let odd = Rc::new(alloc, Ids::Empty)?;
-                let even = odd.clone()?;
+                let even = attempt!(odd.clone());
                 Ok((None, odd, even))
             }
             Ids::Node(id, odd, even) => {
-                let odd = odd.clone()?;
-                let even = even.clone()?;
+                let odd = attempt!(odd.clone());
+                let even = attempt!(even.clone());
                 Ok((*id, odd, even))
             }
         }

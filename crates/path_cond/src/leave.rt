@@ -22,6 +22,7 @@ ghost use Rattle.path_cond.specs.States.{Stays};
 
 use crate::ids::Ids;
 use crate::states::{State, assign, set_current};
+use attempt::attempt;
 use graph_core::{Binding, Graph, Next, Node};
 use indexmap::IndexSet;
 use std::alloc::{AllocError, Global};
@@ -183,7 +184,7 @@ fn unchanged(condition: TermId, state: &Ids) -> Result<(Leaving, Ids), AllocErro
         → HasState trees variables start (id_at state.now) c.state
         → IfOk result (IsLeft trees variables start None c) }
 {
-    let after = state.share()?;
+    let after = attempt!(state.share());
     Ok((undivided(condition), after))
 }
 

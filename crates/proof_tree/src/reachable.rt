@@ -5,6 +5,7 @@ ghost use Rattle.graph_spec.specs.Run.{GoesTo, IsEdge};
 ghost use Rattle.graph_core.specs.Graphs.{graph_of, graphs_of, node_of};
 ghost use Rattle.proof_tree.specs.Ahead.{Grows, AreAhead};
 
+use attempt::attempt;
 use graph_core::{Graph, GraphRun, Next, Node};
 use indexmap::IndexSet;
 use std::alloc::{AllocError, Global};
@@ -27,7 +28,7 @@ impl Reachable {
             run.now.outermost from found.nodes.keys) }
     {
         let mut nodes = IndexSet::new(alloc);
-        add_ahead(&mut nodes, run, from)?;
+        attempt!(add_ahead(&mut nodes, run, from));
         Ok(Reachable { from, nodes })
     }
 

@@ -10,6 +10,7 @@ ghost use Rattle.proof_tree.specs.Frames.{mark_of, premise_of, start_of, stop_of
 
 use crate::frame::{Frame, Goal, Hold, Premise, Start, Stop};
 use crate::reachable::Reachable;
+use attempt::attempt;
 use graph_core::GraphRun;
 use proof_spec::{Counts, Mark, Nodes};
 use std::alloc::{AllocError, Global};
@@ -126,8 +127,8 @@ impl<'a> Frame<'a> {
         ensures binary { IfOk result (λ g. KnowsPaths self.now.binary g.binary.at) }
         ensures source { IfOk result (λ g. KnowsPaths self.now.source g.source.at) }
     {
-        let binary = stop_at(alloc, &self.binary, nodes.binary, counts.binary)?;
-        let source = stop_at(alloc, &self.source, nodes.source, counts.source)?;
+        let binary = attempt!(stop_at(alloc, &self.binary, nodes.binary, counts.binary));
+        let source = attempt!(stop_at(alloc, &self.source, nodes.source, counts.source));
         Ok(Goal {
             binary,
             source,
@@ -148,9 +149,9 @@ impl<'a> Frame<'a> {
         ensures binary { IfOk result (λ s. KnowsPaths self.now.binary s.binary) }
         ensures source { IfOk result (λ s. KnowsPaths self.now.source s.source) }
     {
-        let binary = Reachable::new(alloc, &self.binary, nodes.binary)?;
-        let source = Reachable::new(alloc, &self.source, nodes.source)?;
-        let premises = premises(alloc, self.entry, lines)?;
+        let binary = attempt!(Reachable::new(alloc, &self.binary, nodes.binary));
+        let source = attempt!(Reachable::new(alloc, &self.source, nodes.source));
+        let premises = attempt!(premises(alloc, self.entry, lines));
         Ok(Start {
             binary,
             source,
@@ -167,7 +168,7 @@ fn stop_at(alloc: Global, run: &GraphRun<'_>, node: usize, count: usize) -> Resu
     ensures stop { IfOk result (λ s. stop_of s ≡ record { node = node; count = count }) }
     ensures paths { IfOk result (λ s. KnowsPaths run.now s.at) }
 {
-    let at = Reachable::new(alloc, run, node)?;
+    let at = attempt!(Reachable::new(alloc, run, node));
     Ok(Stop { at, count })
 }
 
@@ -181,8 +182,8 @@ fn premises<'a>(
         ≡ terms_of entry.now ++ terms_of lines.now) }
 {
     let mut premises = Vec::new(alloc);
-    add_lines(&mut premises, entry)?;
-    add_lines(&mut premises, lines)?;
+    attempt!(add_lines(&mut premises, entry));
+    attempt!(add_lines(&mut premises, lines));
     Ok(premises)
 }
 

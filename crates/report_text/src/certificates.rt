@@ -4,6 +4,7 @@ ghost use Rattle.report_text.specs.Judgements.{judgement_of, judgements_of, part
 
 use crate::Judgement;
 use crate::lines::{digits, push_all};
+use attempt::attempt;
 use itoa::Buffer;
 use std::alloc::{AllocError, Global};
 
@@ -31,7 +32,7 @@ fn push_if_valid(out: &mut Vec<u8>, judgement: &Judgement) -> Result<(), AllocEr
     ensures { OnOk result (out.new.items ≡ out.old.items ++ part_if_valid judgement.now) }
 {
     if judgement.valid {
-        push_part(out, judgement)?;
+        attempt!(push_part(out, judgement));
     }
     Ok(())
 }
@@ -62,6 +63,6 @@ pub fn certificate(alloc: Global, judgements: &[Judgement]) -> Result<Vec<u8>, A
     ensures { IfOk result (λ text. text.items ≡ certificate_of (judgements_of judgements.now)) }
 {
     let mut text = Vec::new(alloc);
-    push_certificate(&mut text, judgements)?;
+    attempt!(push_certificate(&mut text, judgements));
     Ok(text)
 }

@@ -2,6 +2,7 @@ ghost use Rattle.std.specs.Prelude.{◌≡◌, ◌++◌, OnOk, decimal, flat_map
 ghost use Rattle.std.specs.Int.{w32, to_be_bytes};
 ghost use Rattle.hex.specs.Hex.{encode_lower};
 
+use attempt::attempt;
 use itoa::Buffer;
 use std::alloc::{AllocError, Global};
 
@@ -18,7 +19,7 @@ pub(crate) fn push_all(out: &mut Vec<u8>, pieces: &[&[u8]]) -> Result<(), AllocE
         ≡ out.old.items ++ flat_map (λ piece. piece.now) pieces.now) }
 {
     for piece in pieces {
-        out.extend_from_slice(piece)?;
+        attempt!(out.extend_from_slice(piece));
     }
     Ok(())
 }
@@ -29,7 +30,7 @@ pub(crate) fn push_address(alloc: Global, out: &mut Vec<u8>, address: u32) -> Re
         ≡ out.old.items ++ encode_lower (to_be_bytes w32 address)) }
 {
     let bytes = address.to_be_bytes();
-    let digits = hex::encode(alloc, &bytes)?;
-    out.extend_from_slice(digits.as_bytes())?;
+    let digits = attempt!(hex::encode(alloc, &bytes));
+    attempt!(out.extend_from_slice(digits.as_bytes()));
     Ok(())
 }

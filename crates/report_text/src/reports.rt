@@ -7,6 +7,7 @@ ghost use Rattle.report_text.specs.Verdicts.{verdict_of};
 
 use crate::lines::{digits, push_address, push_all};
 use crate::{Judgement, Verdict};
+use attempt::attempt;
 use c_grammar_spec::{LeftOut, ParseFaultKind};
 use c_spec::token::TokenFaultKind;
 use code_spec::CodeKind;
@@ -134,8 +135,8 @@ fn push_refused_c(out: &mut Vec<u8>, kind: SourceKind, offset: usize) -> Result<
     ensures { OnOk result (out.new.items
         ≡ out.old.items ++ texts.report_of (spec.RefusedC kind offset)) }
 {
-    out.extend_from_slice(b"refused c ")?;
-    push_source_word(out, kind)?;
+    attempt!(out.extend_from_slice(b"refused c "));
+    attempt!(push_source_word(out, kind));
     let mut buffer = Buffer::new();
     let number = digits(&mut buffer, offset as u64);
     push_all(out, &[b" at ", number, b"\n"])
@@ -297,6 +298,6 @@ pub fn report(alloc: Global, verdict: &Verdict) -> Result<Vec<u8>, AllocError>
     ensures { IfOk result (λ text. text.items ≡ texts.report_of (verdict_of verdict.now)) }
 {
     let mut text = Vec::new(alloc);
-    push_report(alloc, &mut text, verdict)?;
+    attempt!(push_report(alloc, &mut text, verdict));
     Ok(text)
 }

@@ -7,6 +7,7 @@ ghost use Rattle.sat_spec.specs.Trimming.{trimmed_step};
 ghost use Rattle.sat_log.specs.Passes.{IsBackward, IsMarkedBy, IsTrimmed, AreLow};
 
 use crate::Step;
+use attempt::attempt;
 use std::alloc::{AllocError, Global};
 
 /// Marks the step of a hint.
@@ -81,7 +82,7 @@ fn renumbered_step(
     requires { AreLow places.now }
     ensures { IfOk result (λ t. t ≡ trimmed_step given places.now step.now) }
 {
-    let literals = Vec::from_slice(alloc, step.literals())?;
+    let literals = attempt!(Vec::from_slice(alloc, step.literals()));
     let mut hints = Vec::new(alloc);
     for number in step.hints() {
         hints.push(renumbered(given, places, *number))?;

@@ -7,6 +7,7 @@ ghost use Rattle.sat_search.specs.Found.{IsProgress};
 use crate::choice::pick;
 use crate::learning::{learn, rewind};
 use crate::order::Order;
+use attempt::attempt;
 use cnf_core::{ClauseList, Cnf, Literal, MAX_VARIABLE};
 use sat_analysis::{analyse, close};
 use sat_log::Step;
@@ -41,7 +42,7 @@ fn decide(trail: &mut Trail, literal: Literal) -> Result<(), AllocError>
     requires { IsUndecided trail.old literal }
     ensures { OnOk result (IsDecidedBy trail.old trail.new literal) }
 {
-    trail.open_level()?;
+    attempt!(trail.open_level());
     trail.push(literal, 0)
 }
 

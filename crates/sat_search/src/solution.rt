@@ -7,6 +7,7 @@ use crate::loading::load;
 use crate::models::bits_of;
 use crate::order::Order;
 use crate::search::{Progress, Search, restart, run};
+use attempt::attempt;
 use cnf_core::{ClauseList, Cnf, MAX_VARIABLE};
 use sat_analysis::close;
 use sat_log::{Step, trim};
@@ -34,10 +35,10 @@ fn new_search(alloc: Global, variables: usize) -> Result<Search, AllocError>
 {
     Ok(Search {
         clauses: ClauseList::new(alloc),
-        trail: Trail::new(alloc, variables)?,
-        watches: Watches::new(alloc, variables)?,
+        trail: attempt!(Trail::new(alloc, variables)),
+        watches: attempt!(Watches::new(alloc, variables)),
         log: Vec::new(alloc),
-        order: Order::new(alloc, variables)?,
+        order: attempt!(Order::new(alloc, variables)),
     })
 }
 
@@ -119,12 +120,12 @@ fn solve_with(
     requires small { cnf.now.variables ≤ MAX_VARIABLE }
     ensures { IfOk result (IsFound cnf.now limit) }
 {
-    match load(
+    match attempt!(load(
         cnf,
         &mut search.clauses,
         &mut search.trail,
         &mut search.watches,
-    )? {
+    )) {
         Some(number) => refuted(alloc, cnf, limit, search, number),
         None => search_up_to(alloc, cnf, limit, search),
     }
@@ -138,6 +139,6 @@ pub fn solve(alloc: Global, cnf: &Cnf, limit: usize) -> Result<Found, AllocError
     if limit == 0 {
         return Ok(Found::Limit(Vec::new(alloc)));
     }
-    let mut search = new_search(alloc, cnf.variables())?;
+    let mut search = attempt!(new_search(alloc, cnf.variables()));
     solve_with(alloc, cnf, limit, &mut search)
 }

@@ -4,6 +4,7 @@ ghost use Rattle.std.specs.Prelude.{◌↔◌, slice_get, Some, IfSome, IfNone, 
 ghost use Rattle.clause_spec.specs.Clause.{is_of, negation as negated};
 ghost use Rattle.sat_spec.specs.Trail.{IsAt, IsAbsent, IsRising, IsCut};
 
+use attempt::attempt;
 use cnf_core::{Literal, negation};
 use sat_spec::Entry;
 use std::alloc::{AllocError, Global};
@@ -54,9 +55,9 @@ impl Trail {
             ≡ record { variables = variables; entries = []; level = 0 }) }
     {
         let first: usize = 0;
-        let codes = codes_of(variables)?;
-        let places = vec![in alloc; first; variables]?;
-        let truths = vec![in alloc; false; codes]?;
+        let codes = attempt!(codes_of(variables));
+        let places = attempt!(vec![in alloc; first; variables]);
+        let truths = attempt!(vec![in alloc; false; codes]);
         Ok(Trail {
             entries: Vec::new(alloc),
             places,

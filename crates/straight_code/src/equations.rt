@@ -11,6 +11,7 @@ ghost use Rattle.straight_code.specs.Decision as spec;
 
 use crate::registers::{entry_atom, place_of};
 use crate::state::Registers;
+use attempt::attempt;
 use c_spec::{Operand, Operator};
 use rv_instr::Reg;
 use std::alloc::{AllocError, Global};
@@ -51,8 +52,8 @@ fn result_term(bank: &mut Bank, unit: &Unit) -> Result<TermId, AllocError>
         (spec.result_term unit.now.operator unit.now.left unit.now.right)) }
     ensures extends { Extends bank.old bank.new }
 {
-    let left = bank.add(TermNode::Leaf(operand(unit.left())))?;
-    let right = bank.add(TermNode::Leaf(operand(unit.right())))?;
+    let left = attempt!(bank.add(TermNode::Leaf(operand(unit.left()))));
+    let right = attempt!(bank.add(TermNode::Leaf(operand(unit.right()))));
     let operator = BinaryOperator::Word(operation(unit.operator()));
     bank.add(TermNode::Binary(operator, left, right))
 }
@@ -123,7 +124,7 @@ impl Registers {
     pub(crate) fn are_accepted(&mut self, alloc: Global, unit: &Unit) -> Result<bool, AllocError>
         ensures { IfOk result (λ yes. yes ≡ spec.all_found (spec.tests_of unit.now self.old)) }
     {
-        if !self.has_result(alloc, unit)? {
+        if !attempt!(self.has_result(alloc, unit)) {
             return Ok(false);
         }
         self.are_kept(alloc, &KEPT)

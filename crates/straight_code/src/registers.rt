@@ -8,6 +8,7 @@ ghost use Rattle.code_spec.specs.Code.{instr_at};
 ghost use Rattle.straight_code.specs.Decision as spec;
 
 use crate::state::Registers;
+use attempt::attempt;
 use code_reach::instruction_at;
 use code_terms::entry_register;
 use elf_read::Image;
@@ -109,7 +110,7 @@ impl Registers {
                 left,
                 right,
             } => {
-                self.operate(WordOperator::Add, rd, left, right)?;
+                attempt!(self.operate(WordOperator::Add, rd, left, right));
                 Ok(())
             }
             Instr::Arithmetic {
@@ -118,7 +119,7 @@ impl Registers {
                 left,
                 right,
             } => {
-                self.operate(WordOperator::Subtract, rd, left, right)?;
+                attempt!(self.operate(WordOperator::Subtract, rd, left, right));
                 Ok(())
             }
             Instr::Immediate {
@@ -127,7 +128,7 @@ impl Registers {
                 source,
                 imm,
             } => {
-                self.raise(rd, source, imm.cast_unsigned())?;
+                attempt!(self.raise(rd, source, imm.cast_unsigned()));
                 Ok(())
             }
             _ => Ok(()),

@@ -7,6 +7,7 @@ ghost use Rattle.term_bank.specs.Subterms.{with_ids, arguments_of};
 
 use crate::bank::{Bank, TermId};
 use crate::node::TermNode;
+use attempt::attempt;
 use indexmap::IndexSet;
 use std::alloc::AllocError;
 
@@ -29,7 +30,7 @@ fn add_four(
 ) -> Result<(), AllocError>
     ensures { OnOk result (found.new.keys ≡ with_ids found.old.keys (a ∷ b ∷ c ∷ d ∷ [])) }
 {
-    add_two(found, a, b)?;
+    attempt!(add_two(found, a, b));
     add_two(found, c, d)
 }
 
@@ -45,13 +46,13 @@ fn add_arguments(found: &mut IndexSet<TermId>, node: TermNode) -> Result<(), All
         }
         TermNode::Binary(_, a, b) => add_two(found, a, b),
         TermNode::Ternary(_, a, b, c) => {
-            add_two(found, a, b)?;
+            attempt!(add_two(found, a, b));
             found.insert(c)?;
             Ok(())
         }
         TermNode::Quaternary(_, a, b, c, d) => add_four(found, a, b, c, d),
         TermNode::Octonary(a, b, c, d, e, f, g, h) => {
-            add_four(found, a, b, c, d)?;
+            attempt!(add_four(found, a, b, c, d));
             add_four(found, e, f, g, h)
         }
     }

@@ -4,6 +4,7 @@ ghost use Rattle.std.specs.Prelude.{◌≡◌, ℕ, ◌-◌, ◌^◌, ◌<◌, �
 ghost use Rattle.term_spec.specs.Value.{with_byte, overlaid};
 ghost use Rattle.term_core.specs.Memory.{bytes_of, byte_in, of_halves};
 
+use attempt::attempt;
 use std::alloc::{AllocError, Global};
 use std::fmt;
 use std::fmt::{Debug, Formatter, Write};
@@ -105,8 +106,8 @@ impl Tree {
         match self {
             Tree::All(byte) => Ok(Tree::All(*byte)),
             Tree::Fork(low, high) => {
-                let lower = low.clone()?;
-                let upper = high.clone()?;
+                let lower = attempt!(low.clone());
+                let upper = attempt!(high.clone());
                 Ok(Tree::Fork(lower, upper))
             }
         }
@@ -121,12 +122,12 @@ impl Tree {
         match self {
             Tree::All(byte) => {
                 let half = Rc::new(alloc, Tree::All(*byte))?;
-                let other = half.clone()?;
+                let other = attempt!(half.clone());
                 Ok((half, other))
             }
             Tree::Fork(low, high) => {
-                let lower = low.clone()?;
-                let upper = high.clone()?;
+                let lower = attempt!(low.clone());
+                let upper = attempt!(high.clone());
                 Ok((lower, upper))
             }
         }
@@ -215,7 +216,7 @@ impl Tree {
                 Ok(false)
             }
             Tree::Fork(low, high) => {
-                let first = low.list(f, half / 2, start, first)?;
+                let first = attempt!(low.list(f, half / 2, start, first));
                 high.list(f, half / 2, start.wrapping_add(half), first)
             }
         }
@@ -263,9 +264,7 @@ impl Memory {
         ensures err { OnErr result (bytes_of self.new ≡ bytes_of self.old) }
     {
         let address = u64::from(address);
-        let tree = self
-            .tree
-            .with_byte(self.alloc, ADDRESS_BITS, address, byte)?;
+        let tree = attempt!(self.tree.with_byte(self.alloc, ADDRESS_BITS, address, byte));
         self.tree = tree;
         Ok(())
     }
@@ -275,9 +274,7 @@ impl Memory {
         ensures { IfOk result (λ m. bytes_of m ≡ with_byte (bytes_of self.now) address byte) }
     {
         let address = u64::from(address);
-        let tree = self
-            .tree
-            .with_byte(self.alloc, ADDRESS_BITS, address, byte)?;
+        let tree = attempt!(self.tree.with_byte(self.alloc, ADDRESS_BITS, address, byte));
         Ok(Memory {
             alloc: self.alloc,
             tree,
@@ -290,7 +287,7 @@ impl Memory {
     {
         Ok(Memory {
             alloc: self.alloc,
-            tree: self.tree.share()?,
+            tree: attempt!(self.tree.share()),
         })
     }
 

@@ -14,6 +14,7 @@ use crate::sorts::{
     sort_of_unary,
 };
 use crate::value::{Value, binary, byte_of, octonary, quaternary, ternary, unary};
+use attempt::attempt;
 use std::alloc::{AllocError, Global};
 use term_spec::{
     Atom, BinaryOperator, QuaternaryOperator, Sort, TernaryOperator, UnaryOperator, Width,
@@ -276,8 +277,8 @@ fn two_bytes(
         → IfOk second (λ v. value_of v.value ≡ y)
         → IfOk result (λ p. (p.0 ≡ spec.byte_of x) × (p.1 ≡ spec.byte_of y)) }
 {
-    let first = first?;
-    let second = second?;
+    let first = attempt!(first);
+    let second = attempt!(second);
     Ok((byte_of(&first), byte_of(&second)))
 }
 
@@ -346,6 +347,6 @@ pub fn eval(alloc: Global, term: &Term, assignment: &Assignment) -> Result<Value
     ensures { IfOk result (λ v. value_of v
         ≡ spec.value (assignment_of assignment.now) (term_of term.now)) }
 {
-    let value = evaluate(alloc, term, assignment)?;
+    let value = attempt!(evaluate(alloc, term, assignment));
     Ok(Box::into_inner(value))
 }

@@ -9,6 +9,7 @@ ghost use Rattle.term_core.specs.Values.{value_of, four_more};
 
 use crate::memory::Memory;
 use crate::words::{all_ones, bit_count, byte_at, extended_with_sign, low_bits, operate};
+use attempt::attempt;
 use std::alloc::AllocError;
 use term_spec::{
     BinaryOperator, QuaternaryOperator, TernaryOperator, UnaryOperator, Width, WordOperator,
@@ -33,7 +34,7 @@ impl Value {
         match self {
             Value::Truth(truth) => Ok(Value::Truth(*truth)),
             Value::Number(width, number) => Ok(Value::Number(*width, *number)),
-            Value::Bytes(memory) => Ok(Value::Bytes(memory.copy()?)),
+            Value::Bytes(memory) => Ok(Value::Bytes(attempt!(memory.copy()))),
         }
     }
 }

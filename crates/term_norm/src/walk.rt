@@ -6,6 +6,7 @@ ghost use Rattle.std.specs.Map.{update};
 ghost use Rattle.term_norm.specs.Nodes.{HasForms, HasLoads, IsOver};
 ghost use Rattle.term_norm.specs.Walk.{form_at, IsWalk, Advances, IsStop};
 
+use attempt::attempt;
 use std::alloc::{AllocError, Global};
 use std::collections::HashMap;
 use term_bank::{TermId, TermNode};
@@ -69,7 +70,7 @@ impl Walk {
     fn with_one(&self, operator: UnaryOperator, a: TermId) -> Result<TermNode, Stop>
         ensures { IsOver HasForms (form_at self.now) (TermNode.Unary operator a) result }
     {
-        let x = self.form(a)?;
+        let x = attempt!(self.form(a));
         Ok(TermNode::Unary(operator, x))
     }
 
@@ -77,8 +78,8 @@ impl Walk {
     fn with_two(&self, operator: BinaryOperator, a: TermId, b: TermId) -> Result<TermNode, Stop>
         ensures { IsOver HasForms (form_at self.now) (TermNode.Binary operator a b) result }
     {
-        let x = self.form(a)?;
-        let y = self.form(b)?;
+        let x = attempt!(self.form(a));
+        let y = attempt!(self.form(b));
         Ok(TermNode::Binary(operator, x, y))
     }
 
@@ -92,9 +93,9 @@ impl Walk {
     ) -> Result<TermNode, Stop>
         ensures { IsOver HasForms (form_at self.now) (TermNode.Ternary operator a b c) result }
     {
-        let x = self.form(a)?;
-        let y = self.form(b)?;
-        let z = self.form(c)?;
+        let x = attempt!(self.form(a));
+        let y = attempt!(self.form(b));
+        let z = attempt!(self.form(c));
         Ok(TermNode::Ternary(operator, x, y, z))
     }
 
@@ -112,10 +113,10 @@ impl Walk {
         ensures wanted { IfErr result (λ stop. (bound : ℕ) → (a < bound) × (b < bound)
             × (c < bound) × (d < bound) → IsStop (form_at self.now) bound stop) }
     {
-        let x = self.form(a)?;
-        let y = self.form(b)?;
-        let z = self.form(c)?;
-        let w = self.form(d)?;
+        let x = attempt!(self.form(a));
+        let y = attempt!(self.form(b));
+        let z = attempt!(self.form(c));
+        let w = attempt!(self.form(d));
         Ok((x, y, z, w))
     }
 
@@ -131,7 +132,7 @@ impl Walk {
         ensures { IsOver HasForms (form_at self.now)
             (TermNode.Quaternary operator a b c d) result }
     {
-        let (x, y, z, w) = self.four_forms(a, b, c, d)?;
+        let (x, y, z, w) = attempt!(self.four_forms(a, b, c, d));
         Ok(TermNode::Quaternary(operator, x, y, z, w))
     }
 
@@ -176,7 +177,7 @@ impl Walk {
         ensures { IsOver HasLoads (form_at self.now)
             (TermNode.Ternary TernaryOperator.Store m a b) result }
     {
-        let below = self.form(m)?;
+        let below = attempt!(self.form(m));
         Ok(TermNode::Ternary(TernaryOperator::Store, below, a, b))
     }
 
@@ -185,8 +186,8 @@ impl Walk {
         ensures { IsOver HasLoads (form_at self.now)
             (TermNode.Ternary TernaryOperator.Choose test m n) result }
     {
-        let x = self.form(m)?;
-        let y = self.form(n)?;
+        let x = attempt!(self.form(m));
+        let y = attempt!(self.form(n));
         Ok(TermNode::Ternary(TernaryOperator::Choose, test, x, y))
     }
 
@@ -195,8 +196,8 @@ impl Walk {
         ensures { IsOver HasLoads (form_at self.now)
             (TermNode.Quaternary QuaternaryOperator.Over m n low high) result }
     {
-        let lower = self.form(m)?;
-        let upper = self.form(n)?;
+        let lower = attempt!(self.form(m));
+        let upper = attempt!(self.form(n));
         Ok(TermNode::Quaternary(QuaternaryOperator::Over, lower, upper, low, high))
     }
 
@@ -263,7 +264,7 @@ impl Walk {
         match outcome {
             Ok(form) => self.note(form),
             Err(Stop::Needs(id)) => {
-                self.wait(id)?;
+                attempt!(self.wait(id));
                 Ok(None)
             }
             Err(Stop::NoMemory) => Err(AllocError),

@@ -11,6 +11,7 @@
 ghost use Rattle.std.specs.Prelude.{◌<◌, length};
 
 use crate::{Question, Row};
+use attempt::attempt;
 use bit_blast::{BlastError, Blasted, blast, read_back};
 use cnf_core::{Cnf, Literal, eval};
 use row_io::{Out, decimal};
@@ -81,8 +82,8 @@ fn put_model(
     text: &str,
     out: &mut Out,
 ) -> Result<(), AllocError> {
-    let bits = bits(alloc, text)?;
-    *values = read_back(alloc, blasted, &bits)?;
+    let bits = attempt!(bits(alloc, text));
+    *values = attempt!(read_back(alloc, blasted, &bits));
     out.show(&(bits.len() == blasted.cnf.variables() && eval(&blasted.cnf, &bits)));
     out.put(" ");
     Ok(())

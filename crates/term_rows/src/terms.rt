@@ -11,6 +11,7 @@
 ghost use Rattle.std.specs.Prelude.{◌<◌, length};
 
 use crate::words::{atom, term};
+use attempt::attempt;
 use mem_terms::{flat, rebuild};
 use memory_spec::Run;
 use row_io::Out;
@@ -32,7 +33,7 @@ const RUNS: [(u32, &[u8]); 4] = [
 fn runs(alloc: Global) -> Result<Vec<Run>, AllocError> {
     let mut runs = Vec::new(alloc);
     for (start, bytes) in &RUNS {
-        let bytes = bytes.to_vec(alloc)?;
+        let bytes = attempt!(bytes.to_vec(alloc));
         runs.push(Run {
             start: *start,
             bytes,
@@ -60,22 +61,22 @@ pub(crate) fn tree(alloc: Global, bank: &Bank, id: TermId) -> Result<Box<Term>, 
     match bank.node(id) {
         TermNode::Leaf(atom) => boxed(alloc, Term::Leaf(atom)),
         TermNode::Unary(operator, a) => {
-            let a = tree(alloc, bank, a)?;
+            let a = attempt!(tree(alloc, bank, a));
             boxed(alloc, Term::Unary(operator, a))
         }
         TermNode::Binary(operator, a, b) => {
-            let (a, b) = both(tree(alloc, bank, a), tree(alloc, bank, b))?;
+            let (a, b) = attempt!(both(tree(alloc, bank, a), tree(alloc, bank, b)));
             boxed(alloc, Term::Binary(operator, a, b))
         }
         TermNode::Ternary(operator, a, b, c) => {
             let rest = both(tree(alloc, bank, b), tree(alloc, bank, c));
-            let (a, (b, c)) = both(tree(alloc, bank, a), rest)?;
+            let (a, (b, c)) = attempt!(both(tree(alloc, bank, a), rest));
             boxed(alloc, Term::Ternary(operator, a, b, c))
         }
         TermNode::Quaternary(operator, a, b, c, d) => {
             let first = both(tree(alloc, bank, a), tree(alloc, bank, b));
             let second = both(tree(alloc, bank, c), tree(alloc, bank, d));
-            let ((a, b), (c, d)) = both(first, second)?;
+            let ((a, b), (c, d)) = attempt!(both(first, second));
             boxed(alloc, Term::Quaternary(operator, a, b, c, d))
         }
         TermNode::Octonary(a, b, c, d, e, f, g, h) => {
@@ -83,7 +84,7 @@ pub(crate) fn tree(alloc: Global, bank: &Bank, id: TermId) -> Result<Box<Term>, 
             let second = both(tree(alloc, bank, c), tree(alloc, bank, d));
             let third = both(tree(alloc, bank, e), tree(alloc, bank, f));
             let fourth = both(tree(alloc, bank, g), tree(alloc, bank, h));
-            let (low, high) = both(both(first, second), both(third, fourth))?;
+            let (low, high) = attempt!(both(both(first, second), both(third, fourth)));
             let (((a, b), (c, d)), ((e, f), (g, h))) = (low, high);
             boxed(alloc, Term::Octonary(a, b, c, d, e, f, g, h))
         }
@@ -100,11 +101,11 @@ pub(crate) fn put_tree(
 ) -> Result<(), AllocError>
     requires { id < length bank.now }
 {
-    let tree = tree(alloc, bank, id)?;
+    let tree = attempt!(tree(alloc, bank, id));
     let sort = sort(&tree);
     out.show(&sort);
     if sort.is_some() {
-        let value = eval(alloc, &tree, values)?;
+        let value = attempt!(eval(alloc, &tree, values));
         out.put(" ");
         out.show(&value);
     }
@@ -113,7 +114,7 @@ pub(crate) fn put_tree(
 
 /// The value of a term in a bank.
 fn value(alloc: Global, values: &Assignment, bank: &Bank, id: TermId) -> Result<Value, AllocError> {
-    let mut all = bank.eval_all(alloc, values)?;
+    let mut all = attempt!(bank.eval_all(alloc, values));
     if id < all.len() {
         Ok(all.swap_remove(id))
     } else {
@@ -129,7 +130,7 @@ pub(crate) fn put_value(
     id: TermId,
     out: &mut Out,
 ) -> Result<(), AllocError> {
-    out.show(&value(alloc, values, bank, id)?);
+    out.show(&attempt!(value(alloc, values, bank, id)));
     Ok(())
 }
 
@@ -142,7 +143,7 @@ pub(crate) fn set(
     name: &str,
     out: &mut Out,
 ) -> Result<(), AllocError> {
-    let value = value(alloc, values, bank, id)?;
+    let value = attempt!(value(alloc, values, bank, id));
     out.show(&value);
     match atom(name) {
         Atom::Open(variable) => values.set(variable, value),
@@ -158,7 +159,7 @@ pub(crate) fn compare(
     form: &str,
     out: &mut Out,
 ) -> Result<(), AllocError> {
-    if id == term(bank, read, form)? {
+    if id == attempt!(term(bank, read, form)) {
         out.put(form);
     } else if id < bank.len() {
         out.show(&bank.node(id));
@@ -177,7 +178,7 @@ pub(crate) fn put_normal(
 ) -> Result<(), AllocError>
     requires { id < length bank.old }
 {
-    let made = normal(alloc, bank, id, &runs(alloc)?)?;
+    let made = attempt!(normal(alloc, bank, id, &attempt!(runs(alloc))));
     compare(bank, read, made, form, out)
 }
 
@@ -192,7 +193,7 @@ pub(crate) fn put_flat(
 ) -> Result<(), AllocError>
     requires { id < length bank.old }
 {
-    let flat = flat(alloc, bank, id)?;
+    let flat = attempt!(flat(alloc, bank, id));
     compare(bank, read, flat.term, form, out)
 }
 
@@ -205,7 +206,7 @@ pub(crate) fn put_indices(
 ) -> Result<(), AllocError>
     requires { id < length bank.old }
 {
-    out.show(&flat(alloc, bank, id)?);
+    out.show(&attempt!(flat(alloc, bank, id)));
     Ok(())
 }
 
@@ -219,8 +220,8 @@ pub(crate) fn put_rebuilt(
 ) -> Result<(), AllocError>
     requires { id < length bank.old }
 {
-    let flat = flat(alloc, bank, id)?;
+    let flat = attempt!(flat(alloc, bank, id));
     let old = mem::replace(values, Assignment::new(alloc));
-    *values = rebuild(alloc, &flat, bank, old)?;
+    *values = attempt!(rebuild(alloc, &flat, bank, old));
     put_value(alloc, values, bank, id, out)
 }

@@ -13,6 +13,7 @@ ghost use Rattle.term_substitution.specs.States.{AreBelow};
 use crate::Row;
 use crate::terms::{compare, tree};
 use crate::words::{atom, next};
+use attempt::attempt;
 use row_io::{Out, decimal};
 use std::alloc::{AllocError, Global};
 use std::collections::HashMap;
@@ -30,7 +31,7 @@ pub(crate) fn put_subterms(
 ) -> Result<(), AllocError>
     requires { id < length bank.now }
 {
-    match bank.count_subterms(alloc, id, decimal(maximum) as usize)? {
+    match attempt!(bank.count_subterms(alloc, id, decimal(maximum) as usize)) {
         Some(count) => out.show(&count),
         None => out.put("above"),
     }
@@ -65,7 +66,7 @@ fn state(
 {
     let mut state = HashMap::new(alloc);
     for name in names.split(',') {
-        put(&mut state, name, next(read, bank.len()), bank.len())?;
+        attempt!(put(&mut state, name, next(read, bank.len()), bank.len()));
     }
     Ok(state)
 }
@@ -81,9 +82,9 @@ pub(crate) fn put_substituted(
 ) -> Result<(), AllocError>
     requires { id < length bank.old }
 {
-    let tree = tree(alloc, bank, id)?;
-    let state = state(alloc, bank, read, row.detail)?;
-    let made = substitute(bank, &tree, &state)?;
+    let tree = attempt!(tree(alloc, bank, id));
+    let state = attempt!(state(alloc, bank, read, row.detail));
+    let made = attempt!(substitute(bank, &tree, &state));
     compare(bank, read, made, row.form, out)
 }
 
@@ -99,8 +100,8 @@ pub(crate) fn put_renamed(
     requires { id < length bank.old }
 {
     let own = [Family::Register, Family::IsSet];
-    let tree = tree(alloc, bank, id)?;
-    let renamed = rename(alloc, &tree, &own, decimal(row.detail) as usize)?;
-    let made = substitute(bank, &renamed, &HashMap::new(alloc))?;
+    let tree = attempt!(tree(alloc, bank, id));
+    let renamed = attempt!(rename(alloc, &tree, &own, decimal(row.detail) as usize));
+    let made = attempt!(substitute(bank, &renamed, &HashMap::new(alloc)));
     compare(bank, read, made, row.form, out)
 }

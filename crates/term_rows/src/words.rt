@@ -7,6 +7,7 @@
 ghost use Rattle.std.specs.Prelude.{◌≡◌, ◌<◌, length, IfOk};
 ghost use Rattle.term_bank.specs.Nodes.{IsNode};
 
+use attempt::attempt;
 use row_io::{decimal, split};
 use std::alloc::AllocError;
 use term_bank::{Bank, TermId, TermNode};
@@ -283,7 +284,11 @@ fn doubled(bank: &mut Bank, term: TermId, times: u64) -> Result<TermId, AllocErr
     let mut sum = term;
     for _ in 0..times {
         if sum < bank.len() {
-            sum = bank.add(TermNode::Binary(BinaryOperator::Word(WordOperator::Add), sum, sum))?;
+            sum = attempt!(bank.add(TermNode::Binary(
+                BinaryOperator::Word(WordOperator::Add),
+                sum,
+                sum
+            )));
         }
     }
     Ok(sum)
@@ -294,15 +299,15 @@ fn count(bank: &mut Bank) -> Result<usize, AllocError>
     ensures some { IfOk result (λ count. 0 < count) }
     ensures all { IfOk result (λ count. count ≡ length bank.new) }
 {
-    let _truth = bank.add(TermNode::Leaf(Atom::Truth(true)))?;
+    let _truth = attempt!(bank.add(TermNode::Leaf(Atom::Truth(true))));
     Ok(bank.len())
 }
 
 fn read_word(bank: &mut Bank, read: &mut Vec<TermId>, word: &str) -> Result<(), AllocError> {
-    let count = count(bank)?;
+    let count = attempt!(count(bank));
     let id = match word.strip_prefix("twice:") {
-        Some(times) => doubled(bank, next(read, count), decimal(times))?,
-        None => bank.add(node(read, count, word))?,
+        Some(times) => attempt!(doubled(bank, next(read, count), decimal(times))),
+        None => attempt!(bank.add(node(read, count, word))),
     };
     read.push(id)?;
     Ok(())
@@ -311,7 +316,7 @@ fn read_word(bank: &mut Bank, read: &mut Vec<TermId>, word: &str) -> Result<(), 
 fn read_words(bank: &mut Bank, read: &mut Vec<TermId>, text: &str) -> Result<(), AllocError> {
     for word in text.rsplit(' ') {
         let word = word.trim_start_matches('(').trim_end_matches(')');
-        read_word(bank, read, word)?;
+        attempt!(read_word(bank, read, word));
     }
     Ok(())
 }
@@ -324,7 +329,7 @@ pub(crate) fn term(
 ) -> Result<TermId, AllocError>
     ensures { IfOk result (λ i. i < length bank.new) }
 {
-    read_words(bank, read, text)?;
-    let count = count(bank)?;
+    attempt!(read_words(bank, read, text));
+    let count = attempt!(count(bank));
     Ok(next(read, count))
 }

@@ -7,6 +7,7 @@ ghost use Rattle.report_text.specs.Verdicts.{verdict_of};
 ghost use Rattle.tv_core.specs.Objects.{outputs_of, sink_state};
 ghost use Rattle.tv_core.specs.Ends.{LeavesUnder, LeavesPartly, Stores, Publishes};
 
+use attempt::attempt;
 use report_text::{Judgement, Verdict, certificate, report};
 use std::alloc::Global;
 use tv_base::{OutsideFault, Sink, Store, write_all};
@@ -79,7 +80,7 @@ pub(crate) fn publish<R: Sink, K: Store>(
         result }
 {
     let text = report(alloc, verdict)?;
-    store_verdict(alloc, name, verdict, store)?;
-    write_all(out, text.as_slice())?;
+    attempt!(store_verdict(alloc, name, verdict, store));
+    attempt!(write_all(out, text.as_slice()));
     Ok(())
 }

@@ -11,6 +11,7 @@ ghost use Rattle.tv_outside.specs.Plans.{desk_plan, fresh, called, GoesAs, Takes
 
 use crate::given::{GivenFile, copy_front, find};
 use crate::mishaps::Mishaps;
+use attempt::attempt;
 use std::alloc::{AllocError, Global};
 use tv_base::{Desk, OutsideFault};
 
@@ -57,7 +58,7 @@ fn add_name(alloc: Global, opened: &mut Vec<String>, name: &str) -> Result<(), A
         ≡ with_name (Some (map string_bytes opened.old.items)) name.now) }
     ensures refused { OnErr result (opened.new.items ≡ opened.old.items) }
 {
-    let name = String::from_str(alloc, name)?;
+    let name = attempt!(String::from_str(alloc, name));
     opened.push(name)?;
     Ok(())
 }
@@ -111,7 +112,7 @@ impl<'a> Desk for MemDesk<'a> {
         ensures unfailing { OnOk result (desk_faults self.new ≡ desk_faults self.old) }
         ensures no_memory { IsErrOf result NoMemory → desk_faults self.new ≡ desk_faults self.old }
     {
-        self.mishaps.count_call()?;
+        attempt!(self.mishaps.count_call());
         let count = copy_front(self.left, buf, self.mishaps.most);
         if count == 0 && !self.left.is_empty() {
             return self.mishaps.fail();

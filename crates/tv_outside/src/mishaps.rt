@@ -3,6 +3,7 @@ ghost use Rattle.tv_base.specs.declared.faults.OutsideFault.TheVariants.{Failed}
 ghost use Rattle.tv_base.specs.Faults.{HasCause};
 ghost use Rattle.tv_outside.specs.Plans.{plan_of, fresh, called, GoesAs, TakesAs};
 
+use attempt::attempt;
 use tv_base::OutsideFault;
 
 /// Which calls of an object in memory fail, and how much a call takes.
@@ -68,7 +69,7 @@ impl<'a> Mishaps<'a> {
         ensures planned { TakesAs (plan_of self.old) size result }
         ensures counted { plan_of self.new ≡ called (plan_of self.old) }
     {
-        self.count_call()?;
+        attempt!(self.count_call());
         let count = size.min(self.most);
         if count == 0 && size > 0 {
             return self.fail();

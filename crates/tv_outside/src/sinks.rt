@@ -8,6 +8,7 @@ ghost use Rattle.tv_outside.specs.Shelf.{unnamed};
 ghost use Rattle.tv_outside.specs.Plans.{sink_plan, fresh, called, TakesAs};
 
 use crate::mishaps::Mishaps;
+use attempt::attempt;
 use std::alloc::Global;
 use tv_base::{OutsideFault, Sink};
 
@@ -68,7 +69,7 @@ impl<'a> Sink for MemSink<'a> {
         ensures unfailing { OnOk result (sink_faults self.new ≡ sink_faults self.old) }
         ensures no_memory { IsErrOf result NoMemory → sink_faults self.new ≡ sink_faults self.old }
     {
-        let count = self.mishaps.count_put(bytes.len())?;
+        let count = attempt!(self.mishaps.count_put(bytes.len()));
         self.text.extend_from_slice(&bytes[..count])?;
         Ok(count)
     }

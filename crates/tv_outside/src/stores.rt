@@ -9,6 +9,7 @@ ghost use Rattle.tv_outside.specs.Plans.{store_plan, fresh, called, GoesAs, Take
 
 use crate::mishaps::Mishaps;
 use crate::shelf::Shelf;
+use attempt::attempt;
 use std::alloc::Global;
 use tv_base::{OutsideFault, Sink, Store};
 
@@ -78,7 +79,7 @@ impl<'a> Sink for MemStore<'a> {
         ensures no_memory { IsErrOf result NoMemory → store_faults self.new
             ≡ store_faults self.old }
     {
-        let count = self.mishaps.count_put(bytes.len())?;
+        let count = attempt!(self.mishaps.count_put(bytes.len()));
         self.shelf.add(&bytes[..count])?;
         Ok(count)
     }

@@ -3,6 +3,7 @@
 ghost use Rattle.std.specs.Prelude.{◌≢◌};
 
 use crate::words::read_words;
+use attempt::attempt;
 use row_io::{Out, decimal, split};
 use std::alloc::{AllocError, Global};
 use tv_core::run;
@@ -52,7 +53,7 @@ pub(crate) fn read_source(text: &str, pair: &mut Pair) -> Result<(), AllocError>
         if !pair.source.is_empty() {
             pair.source.push(b'\n')?;
         }
-        pair.source.extend_from_slice(part.as_bytes())?;
+        attempt!(pair.source.extend_from_slice(part.as_bytes()));
     }
     Ok(())
 }
@@ -79,7 +80,7 @@ fn put_run(
     out: &mut Out,
 ) -> Result<(), AllocError> {
     let mut words = Vec::new(alloc);
-    read_words(alloc, row, &mut words)?;
+    attempt!(read_words(alloc, row, &mut words));
     put_outcome(alloc, words.as_slice(), &pair.files(), mishaps, out);
     Ok(())
 }

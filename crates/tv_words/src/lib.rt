@@ -17,6 +17,7 @@ ghost use Rattle.tv_words.specs.Commands as spec;
 ghost use Rattle.tv_words.specs.Jobs.{job_of, names_of, proving_of};
 ghost use Rattle.tv_words.specs.declared.WordsError.TheVariants.{Words, NoMemory};
 
+use attempt::attempt;
 use clap::ArgMatches;
 use clap::error::ErrorKind;
 use list::names_in;
@@ -150,7 +151,7 @@ fn listed<'a>(alloc: Global, text: Option<&'a str>) -> Result<Option<Vec<&'a str
 {
     match text {
         Some(text) => {
-            let names = names_in(alloc, text)?;
+            let names = attempt!(names_in(alloc, text));
             Ok(Some(names))
         }
         None => Ok(None),

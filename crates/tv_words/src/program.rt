@@ -8,6 +8,7 @@ ghost use Rattle.tv_words.specs.declared.WordsError.TheVariants.{NoMemory};
 ghost use Rattle.tv_words.specs.Commands as spec;
 
 use crate::WordsError;
+use attempt::attempt;
 use clap::{Arg, ArgAction, ArgMatches, Command};
 use std::alloc::{AllocError, Global};
 
@@ -47,10 +48,12 @@ fn prove<'a>(alloc: Global) -> Result<Command<'a>, AllocError>
 fn program<'a>(alloc: Global) -> Result<Command<'a>, AllocError>
     ensures { IfOk result (λ program. app_of program ≡ spec.program) }
 {
-    let prove = prove(alloc)?;
-    let command = Command::new(alloc, "tv")
-        .subcommand_required(true)
-        .subcommand(prove)?;
+    let prove = attempt!(prove(alloc));
+    let command = attempt!(
+        Command::new(alloc, "tv")
+            .subcommand_required(true)
+            .subcommand(prove)
+    );
     Ok(command)
 }
 

@@ -8,6 +8,7 @@ ghost use Rattle.visit_spec.specs.DepthFirst.{AreDistinct};
 ghost use Rattle.visit_spec.specs.Visits as spec;
 ghost use Rattle.visit_walk.specs.Tables.{lists_of, vector_at, Extends, Holds};
 
+use attempt::attempt;
 use graph_spec::Next;
 use indexmap::IndexSet;
 use std::alloc::{AllocError, Global};
@@ -116,7 +117,7 @@ fn counted(
     ensures { IfOk result (λ new. new.items ≡ spec.counted node marks.now counts.now) }
 {
     let mut new = Vec::new(alloc);
-    add_counts(&mut new, marks, counts, node)?;
+    attempt!(add_counts(&mut new, marks, counts, node));
     Ok(new)
 }
 
@@ -149,6 +150,6 @@ pub(crate) fn count(
         (lists_of vectors.new.keys)) }
     ensures distinct { OnOk result (AreDistinct (lists_of vectors.new.keys)) }
 {
-    let new = counted(alloc, marks, vectors[counts].as_slice(), node)?;
+    let new = attempt!(counted(alloc, marks, vectors[counts].as_slice(), node));
     intern(vectors, new)
 }

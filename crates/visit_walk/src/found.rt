@@ -13,6 +13,7 @@ use crate::list::Visits;
 use crate::listing::{add_all_edges, add_empty};
 use crate::shape::Shape;
 use crate::table::{Key, Table, explore};
+use attempt::attempt;
 use indexmap::IndexSet;
 use std::alloc::{AllocError, Global};
 use visit_spec::{Incoming, Mark, Successors};
@@ -151,8 +152,8 @@ fn fill(
 fn joined(alloc: Global, stops: &[Mark], bounds: &[Mark]) -> Result<Vec<Mark>, AllocError>
     ensures { IfOk result (λ marks. marks.items ≡ stops.now ++ bounds.now) }
 {
-    let mut marks = Vec::from_slice(alloc, stops)?;
-    marks.extend_from_slice(bounds)?;
+    let mut marks = attempt!(Vec::from_slice(alloc, stops));
+    attempt!(marks.extend_from_slice(bounds));
     Ok(marks)
 }
 
@@ -181,7 +182,7 @@ pub fn visits(
     };
     let mut order = Vec::new(alloc);
     let mut incoming = Vec::new(alloc);
-    fill(
+    attempt!(fill(
         alloc,
         shape.successors.as_slice(),
         marks.as_slice(),
@@ -190,7 +191,7 @@ pub fn visits(
         &mut table,
         &mut order,
         &mut incoming,
-    )?;
+    ));
     Ok(Visits {
         table,
         order,

@@ -5,6 +5,7 @@ ghost use Rattle.visit_walk.specs.Listings.{incoming_lists, with_edge, with_edge
 ghost use Rattle.visit_walk.specs.Listings.{AllTargetsWithin, AreWithin};
 
 use crate::depth_first::{Targets, targets_at};
+use attempt::attempt;
 use std::alloc::{AllocError, Global};
 use visit_spec::{Branch, Incoming};
 
@@ -36,13 +37,13 @@ fn add_edges(
         Targets::Zero => {}
         Targets::One(target) => {
             let branch = Branch::Only;
-            add_edge(incoming, target, Incoming { source, branch })?;
+            attempt!(add_edge(incoming, target, Incoming { source, branch }));
         }
         Targets::Two(first, second) => {
             let branch = Branch::IfTrue;
-            add_edge(incoming, first, Incoming { source, branch })?;
+            attempt!(add_edge(incoming, first, Incoming { source, branch }));
             let branch = Branch::IfFalse;
-            add_edge(incoming, second, Incoming { source, branch })?;
+            attempt!(add_edge(incoming, second, Incoming { source, branch }));
         }
     }
     Ok(())
@@ -59,7 +60,7 @@ pub(crate) fn add_all_edges(
         ≡ with_all_edges (incoming_lists incoming.old.items) 0 order.now targets.now) }
 {
     for source in 0..order.len() {
-        add_edges(incoming, source, targets_at(targets, order[source]))?;
+        attempt!(add_edges(incoming, source, targets_at(targets, order[source])));
     }
     Ok(())
 }

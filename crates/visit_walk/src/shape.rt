@@ -4,6 +4,7 @@ ghost use Rattle.std.specs.Prelude.{◌≡◌, [], map, slice_set, IfOk, OnOk};
 ghost use Rattle.graph_core.specs.Graphs.{graph_of, node_of};
 ghost use Rattle.visit_spec.specs.Shape as spec;
 
+use attempt::attempt;
 use graph_core::{Graph, Node};
 use std::alloc::{AllocError, Global};
 use visit_spec::Successors;
@@ -37,7 +38,7 @@ impl Shape {
             ≡ spec.shape_of (graph_of graph.now)) }
     {
         let mut successors = Vec::new(alloc);
-        add_successors(&mut successors, graph.nodes.as_slice())?;
+        attempt!(add_successors(&mut successors, graph.nodes.as_slice()));
         Ok(Shape { successors })
     }
 

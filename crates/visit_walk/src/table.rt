@@ -11,6 +11,7 @@ ghost use Rattle.visit_spec.specs.DepthFirst.{AreDistinct};
 
 use crate::counts::{count, intern, is_last, zeros};
 use crate::depth_first::Targets;
+use attempt::attempt;
 use graph_spec::Next;
 use indexmap::IndexSet;
 use std::alloc::{AllocError, Global};
@@ -87,7 +88,7 @@ fn key_after(
 {
     match to {
         Next::At(node) => {
-            let counts = count(alloc, marks, vectors, counts, node)?;
+            let counts = attempt!(count(alloc, marks, vectors, counts, node));
             Ok(Key::Node(node, counts))
         }
         Next::Ret => Ok(Key::Return(counts)),

@@ -15,6 +15,7 @@ ghost use Rattle.path_cond.specs.Result.{AreMembers};
 use crate::lists::add_place;
 use crate::words::Words;
 use crate::{graphs, words};
+use attempt::attempt;
 use graph_core::Graph;
 use graph_spec::Next;
 use path_cond::{Conditions, Ids, State, conditions, several};
@@ -61,18 +62,18 @@ fn add_term(out: &mut String, bank: &Bank, id: TermId) -> Result<(), AllocError>
     match bank.node(id) {
         TermNode::Leaf(atom) => add_atom(out, atom),
         TermNode::Unary(operator, a) => {
-            out.push(unary(operator))?;
+            attempt!(out.push(unary(operator)));
             add_term(out, bank, a)
         }
         TermNode::Binary(operator, a, b) => {
-            out.push(binary(operator))?;
-            add_term(out, bank, a)?;
+            attempt!(out.push(binary(operator)));
+            attempt!(add_term(out, bank, a));
             add_term(out, bank, b)
         }
         TermNode::Ternary(TernaryOperator::Choose, a, b, c) => {
-            out.push(':')?;
-            add_term(out, bank, a)?;
-            add_term(out, bank, b)?;
+            attempt!(out.push(':'));
+            attempt!(add_term(out, bank, a));
+            attempt!(add_term(out, bank, b));
             add_term(out, bank, c)
         }
         _ => out.push('#'),
@@ -102,9 +103,9 @@ fn add_value(
     if is_itself(bank, id, variable) {
         return Ok(());
     }
-    out.push(' ')?;
-    out.push(letter(variable))?;
-    out.push('=')?;
+    attempt!(out.push(' '));
+    attempt!(out.push(letter(variable)));
+    attempt!(out.push('='));
     add_known(out, bank, id)
 }
 
@@ -116,9 +117,9 @@ fn add_one(
     condition: TermId,
     state: &Ids,
 ) -> Result<(), AllocError> {
-    add_known(out, bank, condition)?;
+    attempt!(add_known(out, bank, condition));
     for number in 0..found.variables.len() {
-        add_value(out, bank, found.variables[number], state.get(number))?;
+        attempt!(add_value(out, bank, found.variables[number], state.get(number)));
     }
     Ok(())
 }
@@ -144,10 +145,10 @@ fn add_visits(
 ) -> Result<(), AllocError> {
     let mut before = "";
     for position in 0..visits.len() {
-        out.push_str(before)?;
-        add_place(out, visits.place(position))?;
-        out.push(' ')?;
-        add_visit(out, bank, found, position)?;
+        attempt!(out.push_str(before));
+        attempt!(add_place(out, visits.place(position)));
+        attempt!(out.push(' '));
+        attempt!(add_visit(out, bank, found, position));
         before = "; ";
     }
     Ok(())
@@ -192,7 +193,7 @@ fn add_several(
 ) -> Result<(), AllocError>
     requires { AreMembers bank.old found.now members.now }
 {
-    let (condition, state) = several(alloc, bank, found, members)?;
+    let (condition, state) = attempt!(several(alloc, bank, found, members));
     add_one(out, bank, found, condition, &state)
 }
 

@@ -7,6 +7,7 @@
 ghost use Rattle.std.specs.Prelude.{◌<◌, length};
 
 use crate::words::read;
+use attempt::attempt;
 use graph_spec::Next;
 use std::alloc::{AllocError, Global};
 use visit_spec::{Branch, Incoming};
@@ -27,8 +28,8 @@ fn add_number(out: &mut String, number: usize) -> Result<(), AllocError> {
 fn add_counts(out: &mut String, counts: &[usize]) -> Result<(), AllocError> {
     let mut before = "(";
     for count in counts {
-        out.push_str(before)?;
-        add_number(out, *count)?;
+        attempt!(out.push_str(before));
+        attempt!(add_number(out, *count));
         before = ",";
     }
     if counts.is_empty() {
@@ -48,9 +49,9 @@ fn branch(branch: Branch) -> &'static str {
 fn add_edges(out: &mut String, edges: &[Incoming]) -> Result<(), AllocError> {
     let mut before = "<";
     for edge in edges {
-        out.push_str(before)?;
-        add_number(out, edge.source)?;
-        out.push_str(branch(edge.branch))?;
+        attempt!(out.push_str(before));
+        attempt!(add_number(out, edge.source));
+        attempt!(out.push_str(branch(edge.branch)));
         before = ",";
     }
     Ok(())
@@ -60,10 +61,10 @@ fn add_visit(out: &mut String, found: &Visits, position: usize) -> Result<(), Al
     requires { position < length found.now.visits }
 {
     if position > 0 {
-        out.push_str(" ")?;
+        attempt!(out.push_str(" "));
     }
-    add_place(out, found.place(position))?;
-    add_counts(out, found.counts(position))?;
+    attempt!(add_place(out, found.place(position)));
+    attempt!(add_counts(out, found.counts(position)));
     add_edges(out, found.incoming(position))
 }
 

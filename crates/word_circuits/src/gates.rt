@@ -4,6 +4,7 @@ ghost use Rattle.blast_spec.specs.Gates as build;
 ghost use Rattle.blast_spec.specs.Circuits as circuits;
 ghost use Rattle.word_circuits.specs.Built.{no_clauses, MakesBit, MakesClauses};
 
+use attempt::attempt;
 use cnf_core::{ClauseList, Cnf, Literal, MAX_VARIABLE, negation};
 use std::alloc::{AllocError, Global};
 use std::marker::Model;
@@ -83,8 +84,8 @@ impl Gates {
     pub fn truth(&mut self) -> Result<Literal, AllocError>
         ensures { MakesBit result (build.make build.Truth) self.old self.new }
     {
-        let o = self.fresh()?;
-        self.push(&[o])?;
+        let o = attempt!(self.fresh());
+        attempt!(self.push(&[o]));
         Ok(o)
     }
 
@@ -92,10 +93,10 @@ impl Gates {
     pub fn and_gate(&mut self, a: Literal, b: Literal) -> Result<Literal, AllocError>
         ensures { MakesBit result (circuits.and_gate a b) self.old self.new }
     {
-        let o = self.fresh()?;
-        self.push(&[negation(o), a])?;
-        self.push(&[negation(o), b])?;
-        self.push(&[o, negation(a), negation(b)])?;
+        let o = attempt!(self.fresh());
+        attempt!(self.push(&[negation(o), a]));
+        attempt!(self.push(&[negation(o), b]));
+        attempt!(self.push(&[o, negation(a), negation(b)]));
         Ok(o)
     }
 
@@ -103,7 +104,7 @@ impl Gates {
     pub fn or_gate(&mut self, a: Literal, b: Literal) -> Result<Literal, AllocError>
         ensures { MakesBit result (circuits.or_gate a b) self.old self.new }
     {
-        let neither = self.and_gate(negation(a), negation(b))?;
+        let neither = attempt!(self.and_gate(negation(a), negation(b)));
         Ok(negation(neither))
     }
 
@@ -111,11 +112,11 @@ impl Gates {
     pub fn xor_gate(&mut self, a: Literal, b: Literal) -> Result<Literal, AllocError>
         ensures { MakesBit result (circuits.xor_gate a b) self.old self.new }
     {
-        let o = self.fresh()?;
-        self.push(&[negation(o), a, b])?;
-        self.push(&[negation(o), negation(a), negation(b)])?;
-        self.push(&[o, negation(a), b])?;
-        self.push(&[o, a, negation(b)])?;
+        let o = attempt!(self.fresh());
+        attempt!(self.push(&[negation(o), a, b]));
+        attempt!(self.push(&[negation(o), negation(a), negation(b)]));
+        attempt!(self.push(&[o, negation(a), b]));
+        attempt!(self.push(&[o, a, negation(b)]));
         Ok(o)
     }
 
@@ -123,11 +124,11 @@ impl Gates {
     pub fn mux_gate(&mut self, c: Literal, a: Literal, b: Literal) -> Result<Literal, AllocError>
         ensures { MakesBit result (circuits.mux_gate c a b) self.old self.new }
     {
-        let o = self.fresh()?;
-        self.push(&[negation(c), negation(a), o])?;
-        self.push(&[negation(c), a, negation(o)])?;
-        self.push(&[c, negation(b), o])?;
-        self.push(&[c, b, negation(o)])?;
+        let o = attempt!(self.fresh());
+        attempt!(self.push(&[negation(c), negation(a), o]));
+        attempt!(self.push(&[negation(c), a, negation(o)]));
+        attempt!(self.push(&[c, negation(b), o]));
+        attempt!(self.push(&[c, b, negation(o)]));
         Ok(o)
     }
 
@@ -140,13 +141,13 @@ impl Gates {
     ) -> Result<Literal, AllocError>
         ensures { MakesBit result (circuits.majority_gate a b c) self.old self.new }
     {
-        let o = self.fresh()?;
-        self.push(&[negation(a), negation(b), o])?;
-        self.push(&[negation(a), negation(c), o])?;
-        self.push(&[negation(b), negation(c), o])?;
-        self.push(&[a, b, negation(o)])?;
-        self.push(&[a, c, negation(o)])?;
-        self.push(&[b, c, negation(o)])?;
+        let o = attempt!(self.fresh());
+        attempt!(self.push(&[negation(a), negation(b), o]));
+        attempt!(self.push(&[negation(a), negation(c), o]));
+        attempt!(self.push(&[negation(b), negation(c), o]));
+        attempt!(self.push(&[a, b, negation(o)]));
+        attempt!(self.push(&[a, c, negation(o)]));
+        attempt!(self.push(&[b, c, negation(o)]));
         Ok(o)
     }
 }

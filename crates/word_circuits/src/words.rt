@@ -2,6 +2,7 @@ ghost use Rattle.std.specs.Prelude.{◌≡◌, ◌++◌, map, replicate, IfOk};
 ghost use Rattle.clause_spec.specs.Clause as clause;
 ghost use Rattle.blast_spec.specs.Circuits as circuits;
 
+use attempt::attempt;
 use cnf_core::{Literal, negation};
 use std::alloc::{AllocError, Global};
 
@@ -35,7 +36,7 @@ pub fn padded(
 ) -> Result<Vec<Literal>, AllocError>
     ensures { IfOk result (λ out. out.items ≡ xs.now ++ replicate count fill) }
 {
-    let mut out = Vec::from_slice(alloc, xs)?;
+    let mut out = attempt!(Vec::from_slice(alloc, xs));
     for _ in 0..count {
         out.push(fill)?;
     }
@@ -50,8 +51,8 @@ pub(crate) fn after_zeros(
 ) -> Result<Vec<Literal>, AllocError>
     ensures { IfOk result (λ out. out.items ≡ circuits.zeros count ++ xs.now) }
 {
-    let mut out = padded(alloc, &[], none(), count)?;
-    out.extend_from_slice(xs)?;
+    let mut out = attempt!(padded(alloc, &[], none(), count));
+    attempt!(out.extend_from_slice(xs));
     Ok(out)
 }
 
