@@ -8,6 +8,7 @@ ghost use Rattle.clause_spec.specs.Clause.{is_of};
 use clause_check::{Literal, Log, StepError};
 use cnf_core::Cnf;
 use row_io::{Out, decimal, split};
+use sat_log::Step;
 use std::alloc::{AllocError, Global};
 
 /// The literal of a variable. Where its number is too large for one it is 0, which no clauses have
@@ -84,6 +85,25 @@ fn step(alloc: Global, log: &mut Log, text: &str, out: &mut Out) -> Result<(), A
     let literals = literals(alloc, names)?;
     let hints = hints(alloc, numbers)?;
     put_step(log, &literals, &hints, out);
+    Ok(())
+}
+
+/// Adds the step of a text to a log that isn't checked.
+fn add_step(alloc: Global, log: &mut Vec<Step>, text: &str) -> Result<(), AllocError> {
+    let (names, numbers) = text.split_once("by").unwrap_or((text, ""));
+    let literals = literals(alloc, names)?;
+    let hints = hints(alloc, numbers)?;
+    log.push(Step::new(literals, hints))?;
+    Ok(())
+}
+
+/// Adds the steps of a text, each after a `;`, to a log that isn't checked.
+pub(crate) fn add_steps(alloc: Global, log: &mut Vec<Step>, text: &str) -> Result<(), AllocError> {
+    for part in text.split(';') {
+        if !part.is_empty() {
+            add_step(alloc, log, part)?;
+        }
+    }
     Ok(())
 }
 

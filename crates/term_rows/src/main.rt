@@ -1,10 +1,11 @@
 //! Rows of terms, goals and logs, each with the answer that is expected of it.
 //!
 //! A row is `QUESTION WORDS = ANSWER`; each is printed with `ok`, or with what was found in place
-//! of the answer. The modules `terms`, `trees`, `goals` and `logs` have the questions, and `words` has
+//! of the answer. The modules `terms`, `trees`, `goals`, `closing` and `logs` have the questions, and `words` has
 //! how a term is written. A row without ` = ` is a title.
 #![tactic(auto)]
 
+mod closing;
 mod goals;
 mod logs;
 mod terms;
@@ -34,9 +35,11 @@ pub(crate) enum Question {
     Digest,
     Within,
     Model,
+    Close,
+    Seek,
 }
 
-const QUESTIONS: [(&str, Question); 14] = [
+const QUESTIONS: [(&str, Question); 16] = [
     ("value", Question::Value),
     ("tree", Question::Tree),
     ("set", Question::Set),
@@ -51,6 +54,8 @@ const QUESTIONS: [(&str, Question); 14] = [
     ("digest", Question::Digest),
     ("within", Question::Within),
     ("model", Question::Model),
+    ("close", Question::Close),
+    ("seek", Question::Seek),
 ];
 
 /// A row's question, what follows its colon, and the expected answer.
@@ -81,7 +86,8 @@ fn ask(
     row: Row<'_>,
     out: &mut Out,
 ) -> Result<(), AllocError> {
-    let id = words::term(bank, read, text)?;
+    let (term, steps) = split(text, ';');
+    let id = words::term(bank, read, term)?;
     match row.question {
         Question::Value => terms::put_value(alloc, values, bank, id, out),
         Question::Tree => terms::put_tree(alloc, values, bank, id, out),
@@ -97,6 +103,8 @@ fn ask(
             goals::answer(alloc, values, bank, id, row, out)?;
             terms::put_value(alloc, values, bank, id, out)
         }
+        Question::Close => closing::put_close(alloc, bank, id, steps, out),
+        Question::Seek => { closing::put_sought(alloc, values, bank, id, decimal(row.detail), out) }
         _ => goals::answer(alloc, values, bank, id, row, out),
     }
 }

@@ -102,6 +102,7 @@ pub(crate) fn put_renamed(
     let own = [Family::Register, Family::IsSet];
     let tree = attempt!(tree(alloc, bank, id));
     let renamed = attempt!(rename(alloc, &tree, &own, decimal(row.detail) as usize));
-    let made = attempt!(substitute(bank, &renamed, &HashMap::new(alloc)));
+    let nothing: HashMap<Variable, TermId> = HashMap::new(alloc);
+    let made = attempt!(substitute(bank, &renamed, &nothing));
     compare(bank, read, made, row.form, out)
 }

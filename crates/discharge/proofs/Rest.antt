@@ -1,0 +1,226 @@
+-- The steps of a log, one after the other.
+use Rattle.std.proofs.Common.{◌≡◌, ◌∙◌, ℕ, zero, suc, ◌+◌, ◌-◌, ◌<◌, Bool, true, false, List, [], ◌∷◌, ◌++◌, length, length-append, drop, Some, None, Option, refl, sym, ap, subst, arith, get_or}
+use Rattle.std.specs.Prelude.{slice_get}
+use Rattle.std.specs.Option.{option_map}
+use Rattle.std.proofs.lemmas.Option.{slice_get_read}
+use Rattle.std.proofs.Math.Seq.{get_or-append_seam}
+use Rattle.std.proofs.lemmas.Bool.{le-leb}
+use Rattle.std.proofs.lemmas.List.{append_assoc, append-nil}
+use Rattle.std.specs.Prelude.{◌&&◌, ◌≤◌, if◌then◌else◌, Result, Ok, Err}
+use Rattle.std.specs.Prelude.{OnOk, nat_le, ◌<◌}
+use Rattle.memory_spec.specs.Runs.{Run}
+use Rattle.term_spec.specs.Term.{Term}
+use Rattle.term_spec.specs.Subterms.{subterm_count}
+use Rattle.term_spec.specs.Value.{value}
+use Rattle.term_core.specs.Assignment.{assignment_of}
+use Rattle.normal_spec.specs.Normal.{normal}
+use Rattle.tv_base.specs.declared.limits.TheConstants.{MAX_TERMS, MAX_VARIABLES}
+use Rattle.clause_spec.specs.declared.Literal.{Literal}
+use Rattle.clause_spec.specs.declared.StepFaultKind.{StepFaultKind}
+use Rattle.clause_spec.specs.Clause.{Clause, Cnf}
+use Rattle.clause_spec.specs.Step.{Outcome, Follows, Refused, outcome}
+use Rattle.clause_spec.specs.Log.{Step, AllFollow, none, some, Refutes}
+use Rattle.closing_spec.specs.Closing.{Closing, Closes, Unclosed, Fails, is_empty, after, at_end, checked}
+use Rattle.closing_spec.specs.Closing.{IsLarge, has_no_step, is_truth, closing_of_clauses, closing_of_form, closing}
+use Rattle.closing_spec.specs.declared.GoalQuantity.{GoalQuantity}
+use Rattle.closing_spec.specs.declared.GoalQuantity.TheVariants.{Terms, Variables}
+use Rattle.clause_check.specs.Logged.{Logged, clauses_of}
+use Rattle.blast_spec.specs.Goal.{cnf_of}
+use Rattle.sat_spec.specs.Logs.{Lean, Spent}
+use Rattle.discharge.specs.declared.error.CloseError.{CloseError}
+use Rattle.discharge.specs.declared.error.CloseError.TheVariants as close
+use Rattle.discharge.specs.declared.error.SeekError.{SeekError}
+use Rattle.discharge.specs.declared.error.SeekError.TheVariants as seek
+use Rattle.discharge.specs.declared.seeking.Sought.{Sought}
+use Rattle.discharge.specs.declared.seeking.Sought.TheVariants.{Valid, Refuted, Limit}
+use Rattle.discharge.specs.Answers.{Adds, Answers, CountsVariables, IsAbove, SeeksForm, Seeks, is_empty_some, ends_empty}
+
+-- the rest of a log from the step of an index on
+pub rest_from : (variables : ℕ) (clauses : List Clause) (is_closed : Bool) (number : ℕ) (steps : List Step) (i : ℕ) (literals : List Literal) (hints : List ℕ)
+    → option_map (λ s. s.literals) (slice_get steps i) ≡ Some literals → option_map (λ s. s.hints) (slice_get steps i) ≡ Some hints
+    → checked variables clauses is_closed number (drop i steps)
+    ≡ after (outcome variables clauses literals hints) number
+    (checked variables (clauses ++ literals ∷ []) (is_empty literals) (number + 1) (drop (suc i) steps))
+unfolding checked
+rest_from variables clauses is_closed number [] i literals hints e f = cc
+rest_from variables clauses is_closed number (step ∷ steps) zero literals hints e f = rw (sym (some_is step.literals literals e), sym (some_hints step.hints hints f)) refl
+  where
+    some_is : (a b : List Literal) → Some a ≡ Some b → a ≡ b
+    some_is a b e = cc
+
+    some_hints : (a b : List ℕ) → Some a ≡ Some b → a ≡ b
+    some_hints a b e = cc
+rest_from variables clauses is_closed number (step ∷ steps) (suc i) literals hints e f = rest_from variables clauses is_closed number steps i literals hints e f
+
+-- at the end of a log
+pub rest_none : (variables : ℕ) (clauses : List Clause) (is_closed : Bool) (number : ℕ) (steps : List Step) (i : ℕ) → length steps ≡ i
+    → checked variables clauses is_closed number (drop i steps) ≡ at_end is_closed
+unfolding checked
+rest_none variables clauses is_closed number [] zero e = refl
+rest_none variables clauses is_closed number [] (suc i) e = cc
+rest_none variables clauses is_closed number (step ∷ steps) zero e = cc
+rest_none variables clauses is_closed number (step ∷ steps) (suc i) e = rest_none variables clauses is_closed number steps i (omega (arith, e))
+
+pub ends_by_last : (clauses : List Clause) (literals : Clause) → ends_empty (clauses ++ literals ∷ []) ≡ is_empty literals
+ends_by_last clauses literals =
+    ap is_empty_some (slice_get_read (clauses ++ literals ∷ []) (length (clauses ++ literals ∷ [])) (length (clauses ++ literals ∷ []) - 1) literals refl
+    (omega (arith, length-append clauses (literals ∷ [])))
+    (sym (subst (λ n. get_or (clauses ++ literals ∷ []) n literals ≡ literals) (sym last_is) (get_or-append_seam clauses literals [] literals))))
+  where
+    last_is : length (clauses ++ literals ∷ []) - 1 ≡ length clauses
+    last_is = omega (arith, length-append clauses (literals ∷ []))
+
+-- whether the last clause has no literal, by whether it is the empty clause
+pub ends_true : (last : Option Clause) → last ≡ Some [] → is_empty_some last ≡ true
+ends_true None e = cc
+ends_true (Some []) e = refl
+ends_true (Some (literal ∷ others)) e = cc
+
+pub ends_false : (last : Option Clause) → (last ≡ Some [] → ⊥) → is_empty_some last ≡ false
+ends_false None e = refl
+ends_false (Some []) e = absurd (e refl)
+ends_false (Some (literal ∷ others)) e = refl
+
+-- whether the last of some steps has no literal
+ends_by : (is_closed : Bool) → List Step → Bool
+ends_by is_closed [] = is_closed
+ends_by is_closed (step ∷ steps) = ends_by (is_empty step.literals) steps
+
+ends_by-last : (is_closed : Bool) (steps : List Step) (last : Step) → ends_by is_closed (steps ++ last ∷ []) ≡ is_empty last.literals
+unfolding ends_by
+ends_by-last is_closed [] last = refl
+ends_by-last is_closed (step ∷ steps) last = ends_by-last (is_empty step.literals) steps last
+
+all_checked : (variables : ℕ) (clauses : List Clause) (is_closed : Bool) (number : ℕ) (steps : List Step) → AllFollow variables clauses steps
+    → checked variables clauses is_closed number steps ≡ at_end (ends_by is_closed steps)
+unfolding checked ends_by
+all_checked variables clauses is_closed number [] (none _) = refl
+all_checked variables clauses is_closed number (step ∷ steps) (some _ _ _ e more) =
+    ap (λ o. after o number (checked variables (clauses ++ step.literals ∷ []) (is_empty step.literals) (number + 1) steps)) e
+    ∙ all_checked variables (clauses ++ step.literals ∷ []) (is_empty step.literals) (number + 1) steps more
+
+-- what refutes the clauses closes them
+pub refuted_closes : (cnf : Cnf) (steps : List Step) → Refutes cnf steps → checked cnf.variables cnf.clauses false 1 steps ≡ Closes
+refuted_closes cnf steps refutes =
+    all_checked cnf.variables cnf.clauses false 1 steps refutes.follows
+    ∙ ap at_end (ap (ends_by false) refutes.ends ∙ ends_by-last false refutes.prefix refutes.last ∙ ap is_empty refutes.closes)
+
+-- ---- a checker that adds the steps
+
+-- before the first
+pub begins : (old : Logged) (steps : List Step) → old.added ≡ []
+    → checked old.cnf.variables old.cnf.clauses false 1 steps ≡ checked old.cnf.variables (clauses_of old) (ends_empty old.added) (0 + 1) (drop 0 steps)
+begins old steps e = sym (rw (e, append-nil old.cnf.clauses) refl)
+
+-- a step that doesn't follow
+pub failed_at : (variables : ℕ) (clauses : List Clause) (is_closed : Bool) (number : ℕ) (steps : List Step) (i : ℕ) (literals : List Literal) (hints : List ℕ)
+    → option_map (λ s. s.literals) (slice_get steps i) ≡ Some literals → option_map (λ s. s.hints) (slice_get steps i) ≡ Some hints
+    → (hint : ℕ) (kind : StepFaultKind) → outcome variables clauses literals hints ≡ Refused hint kind
+    → checked variables clauses is_closed number (drop i steps) ≡ Fails number
+failed_at variables clauses is_closed number steps i literals hints e f hint kind refused =
+    rest_from variables clauses is_closed number steps i literals hints e f
+    ∙ ap (λ o. after o number (checked variables (clauses ++ literals ∷ []) (is_empty literals) (number + 1) (drop (suc i) steps))) refused
+
+pub error_answers : (A B : Type 0) (verdict : Closing) (old new : Logged) (literals : List Literal) (hints : List ℕ) (number : ℕ) (error : CloseError)
+    → Adds {A = A} old new literals hints number (Err error)
+    → ((hint : ℕ) (kind : StepFaultKind) → outcome old.cnf.variables (clauses_of old) literals hints ≡ Refused hint kind → verdict ≡ Fails number)
+    → Answers {A = B} verdict (Err error)
+error_answers A B verdict old new literals hints number (close.Step n) adds fails = fails adds.1 adds.2 adds.3 ∙ ap Fails (sym adds.0)
+error_answers A B verdict old new literals hints number close.NoMemory adds fails = tt
+error_answers A B verdict old new literals hints number close.Unclosed adds fails = absurd adds
+error_answers A B verdict old new literals hints number (close.Large quantity count) adds fails = absurd adds
+
+-- a step that follows
+pub goes_on : (old new : Logged) (steps : List Step) (i : ℕ) (literals : List Literal) (hints : List ℕ)
+    → option_map (λ s. s.literals) (slice_get steps i) ≡ Some literals → option_map (λ s. s.hints) (slice_get steps i) ≡ Some hints
+    → outcome old.cnf.variables (clauses_of old) literals hints ≡ Follows
+    → new.cnf ≡ old.cnf → new.added ≡ old.added ++ literals ∷ []
+    → (is_closed : Bool) (number : ℕ)
+    → checked old.cnf.variables (clauses_of old) is_closed number (drop i steps)
+    ≡ checked new.cnf.variables (clauses_of new) (ends_empty new.added) (number + 1) (drop (i + 1) steps)
+goes_on old new steps i literals hints e f follows cnf_is added_is is_closed number =
+    rest_from old.cnf.variables (clauses_of old) is_closed number steps i literals hints e f
+    ∙ ap (λ o. after o number (checked old.cnf.variables (clauses_of old ++ literals ∷ []) (is_empty literals) (number + 1) (drop (suc i) steps))) follows
+    ∙ sym (rw (cnf_is, added_is, ends_by_last old.added literals, next_is, append_assoc old.cnf.clauses old.added (literals ∷ [])) refl)
+  where
+    next_is : i + 1 ≡ suc i
+    next_is = omega arith
+
+-- at the end
+pub at_end_closed : (variables : ℕ) (clauses added : List Clause) (number : ℕ) (steps : List Step) (i : ℕ) → length steps ≡ i
+    → slice_get added (length added - 1) ≡ Some []
+    → checked variables clauses (ends_empty added) number (drop i steps) ≡ Closes
+at_end_closed variables clauses added number steps i e last =
+    rest_none variables clauses (ends_empty added) number steps i e ∙ ap at_end (ends_true (slice_get added (length added - 1)) last)
+
+pub at_end_open : (variables : ℕ) (clauses added : List Clause) (number : ℕ) (steps : List Step) (i : ℕ) → length steps ≡ i
+    → (slice_get added (length added - 1) ≡ Some [] → ⊥)
+    → checked variables clauses (ends_empty added) number (drop i steps) ≡ Unclosed
+at_end_open variables clauses added number steps i e last =
+    rest_none variables clauses (ends_empty added) number steps i e ∙ ap at_end (ends_false (slice_get added (length added - 1)) last)
+
+-- ---- a goal in normal form
+
+pub closes_by_log : (form : Term) (log : List Step) → is_truth form ≡ false → (cnf_of form).variables ≤ MAX_VARIABLES → Refutes (cnf_of form) log
+    → closing_of_form form log ≡ Closes
+closes_by_log form log plain small refutes =
+    ap (λ b. if b && has_no_step log then Closes else closing_of_clauses (cnf_of form) log) plain
+    ∙ ap (λ b. if b then checked (cnf_of form).variables (cnf_of form).clauses false 1 log else IsLarge Variables) (le-leb (cnf_of form).variables MAX_VARIABLES small)
+    ∙ refuted_closes (cnf_of form) log refutes
+
+-- a log without steps is lean
+pub lean_none : (cnf : Cnf) (limit : ℕ) → Lean cnf [] limit
+lean_none cnf limit = record {
+  count = omega arith;
+  nonempty = λ i step there more e. cc;
+  is_new = λ i step there e. cc;
+  used = λ i step there more. cc;
+  chained = λ i step there. cc;
+}
+
+pub closes_plain : (form : Term) → is_truth form ≡ true → closing_of_form form [] ≡ Closes
+closes_plain form plain = ap (λ b. if b && true then Closes else closing_of_clauses (cnf_of form) []) plain
+
+-- no log comes to a quantity
+pub never_large : (variables : ℕ) (clauses : List Clause) (is_closed : Bool) (number : ℕ) (steps : List Step) (quantity : GoalQuantity)
+    → checked variables clauses is_closed number steps ≡ IsLarge quantity → ⊥
+unfolding checked
+never_large variables clauses true number [] quantity e = cc
+never_large variables clauses false number [] quantity e = cc
+never_large variables clauses is_closed number (step ∷ steps) quantity e =
+    by_outcome (outcome variables clauses step.literals step.hints)
+    (never_large variables (clauses ++ step.literals ∷ []) (is_empty step.literals) (number + 1) steps quantity) e
+  where
+    by_outcome : (o : Outcome) → (checked variables (clauses ++ step.literals ∷ []) (is_empty step.literals) (number + 1) steps ≡ IsLarge quantity → ⊥)
+        → after o number (checked variables (clauses ++ step.literals ∷ []) (is_empty step.literals) (number + 1) steps) ≡ IsLarge quantity → ⊥
+    by_outcome Follows rest on = rest on
+    by_outcome (Refused hint kind) rest on = cc
+
+pub counts_none : {A : Type 0} (form : Term) (verdict : Closing) (result : Result A CloseError) → ((quantity : GoalQuantity) → verdict ≡ IsLarge quantity → ⊥)
+    → Answers verdict result → CountsVariables form result
+counts_none form verdict (Ok done) never answers = tt
+counts_none form verdict (Err (close.Large quantity count)) never answers = absurd (never quantity answers)
+counts_none form verdict (Err (close.Step number)) never answers = tt
+counts_none form verdict (Err close.Unclosed) never answers = tt
+counts_none form verdict (Err close.NoMemory) never answers = tt
+
+-- ---- answers of the parts, together
+
+pub holds_by : {A : Type 0} (result : Result A CloseError) (verdict : Closing) (P : Type 0) → Answers verdict result → (verdict ≡ Closes → P) → OnOk result P
+holds_by (Ok done) verdict P answers shows = shows answers
+holds_by (Err error) verdict P answers shows = tt
+
+-- a goal that is small comes to what its normal form comes to
+pub of_form : (runs : List Run) (goal : Term) (log : List Step) → nat_le (subterm_count goal) MAX_TERMS ≡ true
+    → closing runs goal log ≡ closing_of_form (normal runs goal) log
+of_form runs goal log small = ap (λ b. if b then closing_of_form (normal runs goal) log else IsLarge Terms) small
+
+pub seeks_by : (runs : List Run) (goal form : Term) (limit : ℕ) (result : Result Sought SeekError) → nat_le (subterm_count goal) MAX_TERMS ≡ true
+    → form ≡ normal runs goal → SeeksForm form limit result → Seeks runs goal limit result
+seeks_by runs goal form limit (Ok (Valid log)) small is sought =
+    (of_form runs goal log.items small ∙ ap (λ f. closing_of_form f log.items) (sym is) ∙ sought.0, subst (λ f. Lean (cnf_of f) log.items limit) is sought.1)
+seeks_by runs goal form limit (Ok (Refuted assignment)) small is sought = ap (value (assignment_of assignment)) (sym is) ∙ sought
+seeks_by runs goal form limit (Ok (Limit log)) small is sought = subst (λ f. Spent (cnf_of f) log.items limit) is sought
+seeks_by runs goal form limit (Err (seek.Large quantity count)) small is sought =
+    subst (λ q. IsAbove runs goal q count) (sym sought.0) (sought.1, subst (λ f. count ≤ (cnf_of f).variables) is sought.2)
+seeks_by runs goal form limit (Err seek.NoMemory) small is sought = tt

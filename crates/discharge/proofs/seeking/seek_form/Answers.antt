@@ -1,0 +1,12 @@
+use Rattle.std.proofs.Common.{◌∙◌, sym}
+use Rattle.std.specs.Prelude.{◌≤◌}
+use Rattle.std.proofs.Common.{subst}
+use Rattle.tv_base.specs.declared.limits.TheConstants.{MAX_VARIABLES}
+use Rattle.clause_spec.specs.Clause.{Cnf}
+use Rattle.term_bank.specs.Nodes.{tree_at}
+use Rattle.discharge.proofs.seeking.seek_form.Goals as goal
+
+pub returns-in-Ok-solve : goal.returns-in-Ok-solve
+returns-in-Ok-solve c = λ sorted loads.
+    c.outcome.ensures (tree_at c.args.bank.now c.args.form) c.args.limit sorted loads c.in-Ok.ensures.terms c.in-Ok.ensures.clauses
+    (subst (λ (x : Cnf). x.variables ≤ MAX_VARIABLES) c.in-Ok.ensures.clauses c.in-Ok.ensures.within) (sym c.is_truth.ensures ∙ c.if-is_truth.false) c.in-Ok-solve.ensures

@@ -1,0 +1,84 @@
+-- What closing and seeking answer.
+use Rattle.std.specs.Prelude.{◌≡◌, ℕ, ◌+◌, ◌-◌, ◌<◌, ◌≤◌, Bool, false, List, [], ◌∷◌, ◌++◌, length, Option, Some, None, slice_get, Result, Ok, Err}
+use Rattle.memory_spec.specs.Runs.{Run}
+use Rattle.term_spec.specs.Term.{Term}
+use Rattle.term_spec.specs.Value.{Truth, value}
+use Rattle.term_core.specs.Assignment.{assignment_of}
+use Rattle.normal_spec.specs.Normal.{normal}
+use Rattle.clause_spec.specs.declared.Literal.{Literal}
+use Rattle.clause_spec.specs.declared.StepFaultKind.{StepFaultKind}
+use Rattle.clause_spec.specs.Clause.{Clause, Cnf}
+use Rattle.clause_spec.specs.Step.{Follows, Refused, outcome}
+use Rattle.clause_check.specs.Logged.{Logged, clauses_of}
+use Rattle.blast_spec.specs.Goal.{cnf_of}
+use Rattle.sat_spec.specs.Logs.{Spent, Lean}
+use Rattle.closing_spec.specs.declared.GoalQuantity.{GoalQuantity}
+use Rattle.closing_spec.specs.declared.GoalQuantity.TheVariants.{Variables}
+use Rattle.tv_base.specs.declared.limits.TheConstants.{MAX_VARIABLES}
+use Rattle.closing_spec.specs.Closing.{Closing, Closes, IsLarge, Fails, Unclosed, is_empty, closing_of_form, closing, measured, maximum}
+use Rattle.discharge.specs.declared.error.CloseError.{CloseError}
+use Rattle.discharge.specs.declared.error.CloseError.TheVariants as close
+use Rattle.discharge.specs.declared.error.SeekError.{SeekError}
+use Rattle.discharge.specs.declared.error.SeekError.TheVariants as seek
+use Rattle.discharge.specs.declared.seeking.Sought.{Sought}
+use Rattle.discharge.specs.declared.seeking.Sought.TheVariants.{Valid, Refuted, Limit}
+
+-- what a log comes to; out of memory is free
+abbrev pub Answers : {A : Type 0} → Closing → Result A CloseError → Type 0
+Answers verdict (Ok done) = verdict ≡ Closes
+Answers verdict (Err (close.Large quantity count)) = verdict ≡ IsLarge quantity
+Answers verdict (Err (close.Step number)) = verdict ≡ Fails number
+Answers verdict (Err close.Unclosed) = verdict ≡ Unclosed
+Answers verdict (Err close.NoMemory) = Unit {0}
+
+-- the count of a quantity that is above its maximum: the quantity is at least that
+abbrev pub IsAbove : List Run → (goal : Term) → GoalQuantity → (count : ℕ) → Type 0
+IsAbove runs goal quantity count = (maximum quantity < count) × (count ≤ measured runs goal quantity)
+
+abbrev pub CountsLarge : {A : Type 0} → List Run → (goal : Term) → Result A CloseError → Type 0
+CountsLarge runs goal (Err (close.Large quantity count)) = IsAbove runs goal quantity count
+CountsLarge runs goal other = Unit {0}
+
+-- for a goal in normal form
+abbrev pub CountsVariables : {A : Type 0} → (form : Term) → Result A CloseError → Type 0
+CountsVariables form (Err (close.Large quantity count)) =
+    (quantity ≡ Variables) × (MAX_VARIABLES < count) × (count ≤ (cnf_of form).variables)
+CountsVariables form other = Unit {0}
+
+-- one step, of a number, added to a log
+abbrev pub Adds : {A : Type 0} → (old new : Logged) → List Literal → List ℕ → (number : ℕ) → Result A CloseError → Type 0
+Adds old new literals hints number (Ok done) =
+    (outcome old.cnf.variables (clauses_of old) literals hints ≡ Follows) × (new.cnf ≡ old.cnf) × (new.added ≡ old.added ++ literals ∷ [])
+Adds old new literals hints number (Err (close.Step n)) =
+    (n ≡ number) × (hint : ℕ) × (kind : StepFaultKind) × (outcome old.cnf.variables (clauses_of old) literals hints ≡ Refused hint kind)
+Adds old new literals hints number (Err close.NoMemory) = Unit {0}
+Adds old new literals hints number (Err close.Unclosed) = ⊥
+Adds old new literals hints number (Err (close.Large quantity count)) = ⊥
+
+-- whether a clause is there and has no literal
+abbrev pub is_empty_some : Option Clause → Bool
+is_empty_some None = false
+is_empty_some (Some clause) = is_empty clause
+
+-- whether clauses were added and the last has no literal
+abbrev pub ends_empty : List Clause → Bool
+ends_empty clauses = is_empty_some (slice_get clauses (length clauses - 1))
+
+-- What the search for a log finds, for a goal in normal form: a log that closes it, an assignment under which it is
+-- false, or the log of as many learnt clauses as were allowed.
+abbrev pub IsSought : (form : Term) → (limit : ℕ) → Sought → Type 0
+IsSought form limit (Valid log) = (closing_of_form form log.items ≡ Closes) × Lean (cnf_of form) log.items limit
+IsSought form limit (Refuted assignment) = value (assignment_of assignment) form ≡ Truth false
+IsSought form limit (Limit log) = Spent (cnf_of form) log.items limit
+
+abbrev pub SeeksForm : (form : Term) → (limit : ℕ) → Result Sought SeekError → Type 0
+SeeksForm form limit (Ok sought) = IsSought form limit sought
+SeeksForm form limit (Err (seek.Large quantity count)) = (quantity ≡ Variables) × (MAX_VARIABLES < count) × (count ≤ (cnf_of form).variables)
+SeeksForm form limit (Err seek.NoMemory) = Unit {0}
+
+-- the same for a goal, before its normal form is made
+abbrev pub Seeks : List Run → (goal : Term) → (limit : ℕ) → Result Sought SeekError → Type 0
+Seeks runs goal limit (Ok (Valid log)) = (closing runs goal log.items ≡ Closes) × Lean (cnf_of (normal runs goal)) log.items limit
+Seeks runs goal limit (Ok other) = IsSought (normal runs goal) limit other
+Seeks runs goal limit (Err (seek.Large quantity count)) = IsAbove runs goal quantity count
+Seeks runs goal limit (Err seek.NoMemory) = Unit {0}

@@ -1,0 +1,131 @@
+//! Whether a log closes a goal.
+
+ghost use Rattle.std.specs.Prelude.{◌≡◌, ◌<◌, ◌≤◌, length, Some, OnOk, [], true, false};
+ghost use Rattle.memory_spec.specs.Viewed.{runs_of};
+ghost use Rattle.term_spec.specs.declared.Sort.TheVariants as sort;
+ghost use Rattle.term_spec.specs.Sort.{sort_of};
+ghost use Rattle.term_spec.specs.Value as term_value;
+ghost use Rattle.normal_spec.specs.Fixed.{HoldsFixed};
+ghost use Rattle.term_bank.specs.Nodes.{tree_at, Extends};
+ghost use Rattle.closing_spec.specs.Closing as spec;
+ghost use Rattle.discharge.specs.Answers.{Adds, Answers, CountsLarge, CountsVariables};
+
+use crate::error::CloseError;
+use crate::limits::is_within;
+use crate::steps::Steps;
+use bit_blast::{BlastError, Blasted, blast};
+use clause_check::{Log, StepError};
+use closing_spec::GoalQuantity;
+use cnf_core::{Cnf, Literal};
+use memory_spec::Run;
+use std::alloc::Global;
+use term_bank::{Bank, TermId, TermNode};
+use term_norm::normal;
+use term_spec::Atom;
+use tv_base::limits::{MAX_TERMS, MAX_VARIABLES};
+
+/// Whether a term is the truth value true.
+pub fn is_truth(bank: &Bank, form: TermId) -> bool
+    requires { form < length bank.now }
+    ensures { result ≡ spec.is_truth (tree_at bank.now form) }
+{
+    match bank.node(form) {
+        TermNode::Leaf(Atom::Truth(truth)) => truth,
+        _ => false,
+    }
+}
+
+/// Adds the step of a number.
+fn add_step(
+    checker: &mut Log,
+    literals: &[Literal],
+    hints: &[usize],
+    number: usize,
+) -> Result<(), CloseError>
+    ensures { Adds checker.old checker.new literals.now hints.now number result }
+{
+    match checker.step(literals, hints) {
+        Ok(()) => Ok(()),
+        Err(StepError::Fault(_)) => Err(CloseError::Step(number)),
+        Err(StepError::NoMemory) => Err(CloseError::NoMemory),
+    }
+}
+
+/// Adds the steps of a log to a checker that has none.
+fn add_steps<L: Steps>(checker: &mut Log, log: &L) -> Result<(), CloseError>
+    requires { checker.old.added ≡ [] }
+    ensures { Answers (spec.checked checker.old.cnf.variables checker.old.cnf.clauses false 1
+        (L.steps log.now)) result }
+{
+    let count = log.count();
+    for index in 0..count {
+        match add_step(checker, log.literals(index), log.hints(index), index + 1) {
+            Ok(()) => {}
+            Err(error) => return Err(error),
+        }
+    }
+    if checker.is_closed() {
+        Ok(())
+    } else {
+        Err(CloseError::Unclosed)
+    }
+}
+
+/// Checks a log over clauses.
+fn close_clauses<L: Steps>(alloc: Global, cnf: Cnf, log: &L) -> Result<(), CloseError>
+    ensures { Answers (spec.checked cnf.variables cnf.clauses false 1 (L.steps log.now)) result }
+{
+    match Log::new(alloc, cnf) {
+        Ok(mut checker) => add_steps(&mut checker, log),
+        Err(_) => Err(CloseError::NoMemory),
+    }
+}
+
+/// Closes a goal in normal form.
+fn close_form<L: Steps>(alloc: Global, bank: &Bank, form: TermId, log: &L) -> Result<(), CloseError>
+    requires { form < length bank.now }
+    ensures answers { Answers (spec.closing_of_form (tree_at bank.now form) (L.steps log.now))
+        result }
+    ensures large { CountsVariables (tree_at bank.now form) result }
+{
+    if is_truth(bank, form) && log.count() == 0 {
+        return Ok(());
+    }
+    match blast(alloc, bank, form, MAX_VARIABLES) {
+        Ok(Blasted { cnf, .. }) => close_clauses(alloc, cnf, log),
+        Err(BlastError::Large(count)) => Err(CloseError::Large(GoalQuantity::Variables, count)),
+        Err(BlastError::NoMemory) => Err(CloseError::NoMemory),
+    }
+}
+
+/// Whether the log closes the goal, whose memories of the source hold the runs. Work is linear in
+/// the log beside what the normal form and its clauses take; the bank grows by the normal form.
+pub fn close<L: Steps>(
+    alloc: Global,
+    bank: &mut Bank,
+    goal: TermId,
+    log: &L,
+    runs: &[Run],
+) -> Result<(), CloseError>
+    requires { goal < length bank.old }
+    ensures answers { Answers (spec.closing (runs_of runs.now) (tree_at bank.old goal)
+        (L.steps log.now)) result }
+    ensures large { CountsLarge (runs_of runs.now) (tree_at bank.old goal) result }
+
+    // A goal that is closed is true wherever the memories of the source hold the runs.
+    ensures holds { OnOk result (sort_of (tree_at bank.old goal) ≡ Some sort.Truth
+        → (a : term_value.Assignment) → term_value.IsAssignment a
+        → HoldsFixed (runs_of runs.now) a
+        → term_value.value a (tree_at bank.old goal) ≡ term_value.Truth true) }
+    ensures extends { Extends bank.old bank.new }
+{
+    match is_within(alloc, bank, goal) {
+        Ok(true) => {}
+        Ok(false) => return Err(CloseError::Large(GoalQuantity::Terms, MAX_TERMS + 1)),
+        Err(_) => return Err(CloseError::NoMemory),
+    }
+    match normal(alloc, bank, goal, runs) {
+        Ok(form) => close_form(alloc, bank, form, log),
+        Err(_) => Err(CloseError::NoMemory),
+    }
+}

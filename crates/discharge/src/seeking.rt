@@ -1,0 +1,103 @@
+//! The search for a log that closes a goal.
+
+ghost use Rattle.std.specs.Prelude.{◌≡◌, ◌<◌, ◌≤◌, ℕ, [], length, Some, false};
+ghost use Rattle.memory_spec.specs.Viewed.{runs_of};
+ghost use Rattle.term_spec.specs.declared.Sort.TheVariants as sort;
+ghost use Rattle.term_spec.specs.Term.{Term};
+ghost use Rattle.term_spec.specs.Sort.{sort_of};
+ghost use Rattle.blast_spec.specs.Goal.{cnf_of, visit};
+ghost use Rattle.bit_blast_laws.specs.Back.{TableLoadsFromVariables};
+ghost use Rattle.term_bank.specs.Nodes.{tree_at, Extends};
+ghost use Rattle.sat_search.specs.Found.{IsFound};
+ghost use Rattle.closing_spec.specs.Closing.{is_truth as is_truth_term};
+ghost use Rattle.discharge.specs.Answers.{Seeks, SeeksForm};
+
+use crate::closing::is_truth;
+use crate::error::SeekError;
+use crate::limits::is_within;
+use crate::runs::hold_runs;
+use bit_blast::{BlastError, Blasted, blast, read_back};
+use closing_spec::GoalQuantity;
+use memory_spec::Run;
+use sat_log::Step;
+use sat_search::{Found, solve};
+use std::alloc::Global;
+use term_bank::{Bank, TermId};
+use term_core::Assignment;
+use term_norm::normal;
+use tv_base::limits::{MAX_TERMS, MAX_VARIABLES};
+
+/// What a search for a log finds.
+#[derive(Drop)]
+pub enum Sought {
+    /// The goal is true: a log that closes it, each of whose steps is used.
+    Valid(Vec<Step>),
+    /// An assignment under which the normal form of the goal is false.
+    Refuted(Assignment),
+    /// The limit was reached: a log of as many learnt clauses, none of which closes the goal.
+    Limit(Vec<Step>),
+}
+
+/// What a search over the clauses of a goal in normal form found.
+fn outcome(alloc: Global, blasted: &Blasted, found: Found) -> Result<Sought, SeekError>
+    ensures { (form : Term) (limit : ℕ) → sort_of form ≡ Some sort.Truth
+        → TableLoadsFromVariables (visit form [] 1).out
+        → blasted.now.table ≡ (visit form [] 1).out → blasted.now.cnf ≡ cnf_of form
+        → (cnf_of form).variables ≤ MAX_VARIABLES → is_truth_term form ≡ false
+        → IsFound blasted.now.cnf limit found → SeeksForm form limit result }
+{
+    match found {
+        Found::Closed(log) => Ok(Sought::Valid(log)),
+        Found::Model(bits) => match read_back(alloc, blasted, bits.as_slice()) {
+            Ok(assignment) => Ok(Sought::Refuted(assignment)),
+            Err(_) => Err(SeekError::NoMemory),
+        },
+        Found::Limit(log) => Ok(Sought::Limit(log)),
+    }
+}
+
+/// Searches for a log that closes a goal in normal form.
+fn seek_form(alloc: Global, bank: &Bank, form: TermId, limit: usize) -> Result<Sought, SeekError>
+    requires { form < length bank.now }
+    ensures { sort_of (tree_at bank.now form) ≡ Some sort.Truth
+        → TableLoadsFromVariables (visit (tree_at bank.now form) [] 1).out
+        → SeeksForm (tree_at bank.now form) limit result }
+{
+    if is_truth(bank, form) {
+        return Ok(Sought::Valid(Vec::new(alloc)));
+    }
+    match blast(alloc, bank, form, MAX_VARIABLES) {
+        Ok(blasted) => match solve(alloc, &blasted.cnf, limit) {
+            Ok(found) => outcome(alloc, &blasted, found),
+            Err(_) => Err(SeekError::NoMemory),
+        },
+        Err(BlastError::Large(count)) => Err(SeekError::Large(GoalQuantity::Variables, count)),
+        Err(BlastError::NoMemory) => Err(SeekError::NoMemory),
+    }
+}
+
+/// Searches for a log that closes the goal, a truth value, whose memories of the source hold the
+/// runs, learning at most so many clauses.
+pub fn seek(
+    alloc: Global,
+    bank: &mut Bank,
+    goal: TermId,
+    limit: usize,
+    runs: &[Run],
+) -> Result<Sought, SeekError>
+    requires { goal < length bank.old }
+    ensures seeks { sort_of (tree_at bank.old goal) ≡ Some sort.Truth
+        → Seeks (runs_of runs.now) (tree_at bank.old goal) limit result }
+    ensures extends { Extends bank.old bank.new }
+{
+    hold_runs(runs);
+    match is_within(alloc, bank, goal) {
+        Ok(true) => {}
+        Ok(false) => return Err(SeekError::Large(GoalQuantity::Terms, MAX_TERMS + 1)),
+        Err(_) => return Err(SeekError::NoMemory),
+    }
+    match normal(alloc, bank, goal, runs) {
+        Ok(form) => seek_form(alloc, bank, form, limit),
+        Err(_) => Err(SeekError::NoMemory),
+    }
+}
