@@ -1,0 +1,4 @@
+pub mod Runs
+pub mod Lists
+pub mod Entries
+pub mod Fields

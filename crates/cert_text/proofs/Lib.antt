@@ -1,0 +1,5 @@
+pub mod Groups
+pub mod Additions
+pub mod Inverses
+pub mod Texts
+pub mod Spellings

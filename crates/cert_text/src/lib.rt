@@ -1,0 +1,22 @@
+//! Certificates as the program keeps them ([`Cert`]). [`read`] gives one exactly where the bytes
+//! are a certificate by `cert_spec` (`specs/Certificates.antt` there), and else the length of the
+//! longest prefix that begins one; [`write`] gives its spelling, of which there is one.
+#![tactic(auto)]
+
+mod certificates;
+mod laws;
+mod lines;
+mod numbers;
+mod points;
+mod reading;
+mod sizes;
+mod stack;
+mod steps;
+mod symbols;
+mod terms;
+mod writing;
+
+pub use certificates::{Cert, ReadError};
+pub use laws::{reads_what_it_writes, writes_what_it_reads};
+pub use reading::read;
+pub use writing::write;

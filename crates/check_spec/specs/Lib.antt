@@ -1,0 +1,3 @@
+pub mod Terms
+pub mod Verdict
+pub mod Samples

@@ -1,0 +1,51 @@
+//! When a certificate is a proof of the listed functions, and else what its first fault is: a rule
+//! that a line breaks, or a limit.
+//!
+//! `specs/Terms.antt` has the terms of certificates as terms over the variables of a proof,
+//! `specs/Verdict.antt` the walk along the lines. Of the rules it has Leaf and Case; at the lines of
+//! the others, and at logs with steps, the fault is [`RuleFault::Later`]. Of the crate only the
+//! types and the limits below run.
+#![tactic(auto)]
+
+pub mod samples;
+
+/// How many visits one side of a frame may have.
+pub const MAX_VISITS: usize = 65_536;
+
+/// How many distinct subterms an obligation may have, before it is put into normal form.
+pub const MAX_TERMS: usize = 4_194_304;
+
+/// How many variables the clauses of an obligation may have.
+pub const MAX_VARIABLES: usize = 16_777_216;
+
+/// What a line of a certificate breaks, in the order in which they are tried at one line.
+#[derive(Clone, Copy)]
+pub enum RuleFault {
+    /// The line needs a rule that is not checked yet.
+    Later,
+    /// The function of a part isn't listed, or has a part already.
+    Stranger,
+    /// Its stack isn't this.
+    Stack,
+    /// A term is none over the variables in scope, or no truth value.
+    Sort,
+    /// A walk that has to end goes round.
+    Cyclic,
+    /// There are not so many obligations.
+    Logs,
+    /// The goal isn't closed.
+    Unclosed,
+    /// A listed function has no part.
+    Missing,
+}
+
+/// What is above its maximum.
+#[derive(Clone, Copy)]
+pub enum Quantity {
+    /// visits of one side
+    Visits,
+    /// distinct subterms of an obligation
+    Terms,
+    /// variables of the clauses of an obligation
+    Variables,
+}
