@@ -1,4 +1,3 @@
 pub mod Steps
 pub mod Bits
 pub mod Lookups
-pub mod Moves

@@ -21,9 +21,9 @@ use memory_core::Memory;
 
 /// What an expression is evaluated in.
 #[derive(Clone, Copy)]
-pub struct Scene<'a> {
+pub struct Scene<'s, 'a> {
     /// What stays as it is for the whole run.
-    pub setting: &'a Setting<'a>,
+    pub setting: &'s Setting<'s>,
     /// The values of the locals.
     pub locals: &'a [Option<i128>],
     /// The memory.
@@ -200,7 +200,7 @@ fn aligned(alignment: usize, pointer: i128, offset: usize) -> Result<i128, Stop>
 
 /// The value of an expression, or the first guard that it breaks.
 #[tactic(auto, using(c_core::proofs::Views::views), unfolding(c_meaning_spec::specs::Evaluation::value))]
-pub fn value(core: &Core<'_>, scene: &Scene<'_>) -> Result<i128, Stop>
+pub fn value(core: &Core<'_>, scene: &Scene<'_, '_>) -> Result<i128, Stop>
     ensures { GivesValue result (spec.value (setting_of scene.now.setting.now) scene.now.locals.now
         scene.now.memory.now scene.now.target (core_of core.now)) }
 {

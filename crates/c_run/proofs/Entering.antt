@@ -1,0 +1,118 @@
+-- The locals of a function where a call of it begins, and those of its caller where it has returned; bodies by name.
+use Rattle.std.proofs.Common.{◌≡◌, ℕ, zero, suc, ◌+◌, ◌<◌, ◌≤◌, true, false, if◌then◌else◌, Option, Some, None, List, [], ◌∷◌, ◌++◌, length, drop, get_or, drop-cons, refl, sym, ap, subst, ◌∙◌, arith}
+use Rattle.std.specs.Prelude.{ℤ, map, slice_get, slice_set, bytes_eq, Vec}
+use Rattle.std.specs.Borrow.{Bor}
+use Rattle.std.specs.declared.alloc.Global.{Global}
+use Rattle.std.proofs.lemmas.List.{drop_all, append-nil, append_assoc}
+use Rattle.c_type_spec.specs.declared.Scalar.{Scalar}
+use Rattle.c_core.specs.declared.action.Action as kept
+use Rattle.c_meaning_spec.specs.Evaluation.{Locals}
+use Rattle.c_meaning_spec.specs.Execution.{as_local, received}
+use Rattle.c_meaning_spec.specs.Calls.{locals_at_entry, body_named}
+use Rattle.c_value.specs.declared.setting.Body.{Body}
+use Rattle.c_value.specs.Settings.{body_of}
+use Rattle.c_run.specs.declared.frame.Frame.{Frame}
+use Rattle.c_run.specs.declared.frame.Task.{Task}
+use Rattle.c_run.specs.declared.frame.Task.TheVariants as task
+use Rattle.c_run.specs.declared.machine.Waiting.{Waiting}
+use Rattle.c_run.specs.declared.machine.Machine.{Machine}
+use Rattle.c_run.specs.Frames.{IsPushed, IsSet}
+use Rattle.c_run.specs.Machines.{IsEntered, IsReceived, IsCalled}
+
+-- ---- the locals at entry
+
+entry_step : (t : Scalar) (ts : List Scalar) (vs : List ℤ) → locals_at_entry (t ∷ ts) vs ≡ slice_get vs 0 ∷ locals_at_entry ts (drop 1 vs)
+entry_step t ts [] = refl
+entry_step t ts (v ∷ vs) = refl
+
+get_dropped : (xs : List ℤ) (i : ℕ) → slice_get (drop i xs) 0 ≡ slice_get xs i
+get_dropped [] zero = refl
+get_dropped [] (suc i) = refl
+get_dropped (x ∷ xs) zero = refl
+get_dropped (x ∷ xs) (suc i) = get_dropped xs i
+
+dropped_more : (xs : List ℤ) (i : ℕ) → drop 1 (drop i xs) ≡ drop (suc i) xs
+dropped_more [] zero = refl
+dropped_more [] (suc i) = refl
+dropped_more (x ∷ xs) zero = refl
+dropped_more (x ∷ xs) (suc i) = dropped_more xs i
+
+some_type : Scalar
+some_type = record { width = 8; is_signed = false }
+
+entry_at : (types : List Scalar) (arguments : List ℤ) (i : ℕ) → i < length types
+    → locals_at_entry (drop i types) (drop i arguments) ≡ slice_get arguments i ∷ locals_at_entry (drop (i + 1) types) (drop (i + 1) arguments)
+entry_at types arguments i within =
+    let next : suc i ≡ i + 1 = omega arith in
+    ap (λ ts. locals_at_entry ts (drop i arguments)) (drop-cons types i some_type within)
+    ∙ entry_step (get_or types i some_type) (drop (suc i) types) (drop i arguments)
+    ∙ ap (λ v. v ∷ locals_at_entry (drop (suc i) types) (drop 1 (drop i arguments))) (get_dropped arguments i)
+    ∙ ap (λ vs. slice_get arguments i ∷ locals_at_entry (drop (suc i) types) vs) (dropped_more arguments i)
+    ∙ ap (λ n. slice_get arguments i ∷ locals_at_entry (drop n types) (drop n arguments)) next
+
+-- the locals before `i` are there
+abbrev pub Begun : (old : Locals) (types : List Scalar) (arguments : List ℤ) (i : ℕ) (now : Locals) → Type 0
+Begun old types arguments i now = now ++ locals_at_entry (drop i types) (drop i arguments) ≡ old ++ locals_at_entry types arguments
+
+module _ (old : Locals) (types : List Scalar) (arguments : List ℤ) where
+  pub begun_more : (i : ℕ) (now new : Locals) (v : Option ℤ) → i < length types → v ≡ slice_get arguments i → new ≡ now ++ v ∷ [] → Begun old types arguments i now → Begun old types arguments (i + 1) new
+  begun_more i now new v within is added begun =
+      ap (λ xs. xs ++ locals_at_entry (drop (i + 1) types) (drop (i + 1) arguments)) (added ∙ ap (λ x. now ++ x ∷ []) is)
+      ∙ append_assoc now (slice_get arguments i ∷ []) (locals_at_entry (drop (i + 1) types) (drop (i + 1) arguments))
+      ∙ ap (λ xs. now ++ xs) (sym (entry_at types arguments i within)) ∙ begun
+
+  pub begun_all : (i : ℕ) (now : Locals) → length types ≤ i → Begun old types arguments i now → now ≡ old ++ locals_at_entry types arguments
+  begun_all i now past begun =
+      sym (append-nil now) ∙ ap (λ ts. now ++ locals_at_entry ts (drop i arguments)) (sym (drop_all i types past)) ∙ begun
+
+pub entered : (body : Body) (arguments : List ℤ) (before : Locals) (first new : Frame) (action : Bor kept.Action) → first.types.now ≡ body.locals.items → before ≡ []
+    → first.locals.items ≡ before ++ locals_at_entry first.types.now arguments → first.tasks.items ≡ [] → IsPushed first new (task.Do action) → action.now ≡ body.action.value → IsEntered body arguments new
+entered body arguments before first new action types none locals tasks pushed is = record {
+  types = ap (λ (ty : Bor (List Scalar)). ty.now) pushed.types ∙ types;
+  locals = ap (λ (ls : Vec (Option ℤ) Global). ls.items) pushed.locals ∙ locals ∙ ap (λ xs. xs ++ locals_at_entry first.types.now arguments) none ∙ ap (λ ts. locals_at_entry ts arguments) types;
+  tasks = (action, pushed.tasks ∙ ap (λ (ts : List Task). ts ++ task.Do action ∷ []) tasks, is);
+}
+
+pub called_now : (body : Body) (local : Option ℕ) (old new : Machine) (callee frame : Frame) (arguments : List ℤ) → IsEntered body arguments callee → arguments ≡ old.frame.arguments.items → frame ≡ old.frame → new.frame ≡ callee
+    → new.waiting.items ≡ old.waiting.items ++ (record { frame = frame; local = local }) ∷ [] → new.left + 1 ≡ old.left → IsCalled body local old new
+called_now body local old new callee frame arguments enters args before after waits left = record {
+  waiting = waits ∙ ap (λ f. old.waiting.items ++ waiting_at f ∷ []) before;
+  entered = subst (λ f. IsEntered body old.frame.arguments.items f) (sym after) (subst (λ vs. IsEntered body vs callee) args enters);
+  left = left;
+} where
+  waiting_at : Frame → Waiting
+  waiting_at f = record { frame = f; local = local }
+
+-- ---- the locals after a call
+
+pub received_none : (old : Frame) (local : Option ℕ) (v : Option ℤ) → local ≡ None → IsReceived old old local v
+received_none old local v is = record { types = refl; locals = sym (ap (λ l. received old.types.now old.locals.items l v) is); tasks = refl }
+
+pub received_some : (old new : Frame) (local : Option ℕ) (v : Option ℤ) (number : ℕ) (put : Option ℤ) → local ≡ Some number → put ≡ as_local old.types.now number v → IsSet old new number put → IsReceived old new local v
+received_some old new local v number put is value_is set = record {
+  types = set.types;
+  locals = set.locals ∙ ap (slice_set old.locals.items number) value_is ∙ sym (ap (λ l. received old.types.now old.locals.items l v) is);
+  tasks = set.tasks;
+}
+
+-- ---- bodies by name
+
+named_step : (b : Body) (rest : List Body) (name : List ℕ) → body_named (map body_of (b ∷ rest)) name ≡ (if bytes_eq b.name.now name then Some (body_of b) else body_named (map body_of rest) name)
+unfolding body_of
+named_step b rest name = refl
+
+named_at : (bodies : List Body) (i : ℕ) (b : Body) (name : List ℕ) → i < length bodies → b ≡ get_or bodies i b
+    → body_named (map body_of (drop i bodies)) name ≡ (if bytes_eq b.name.now name then Some (body_of b) else body_named (map body_of (drop (i + 1) bodies)) name)
+named_at bodies i b name within is =
+    let next : i + 1 ≡ suc i = omega arith in
+    let here : drop i bodies ≡ b ∷ drop (i + 1) bodies = drop-cons bodies i b within ∙ ap (λ r. r ∷ drop (suc i) bodies) (sym is) ∙ ap (λ n. b ∷ drop n bodies) (sym next) in
+    ap (λ bs. body_named (map body_of bs) name) here ∙ named_step b (drop (i + 1) bodies) name
+
+pub named_here : (bodies : List Body) (i : ℕ) (b : Body) (name : List ℕ) → i < length bodies → b ≡ get_or bodies i b → bytes_eq b.name.now name ≡ true → body_named (map body_of (drop i bodies)) name ≡ Some (body_of b)
+named_here bodies i b name within is test = named_at bodies i b name within is ∙ ap (λ t. if t then Some (body_of b) else body_named (map body_of (drop (i + 1) bodies)) name) test
+
+pub named_later : (bodies : List Body) (i : ℕ) (b : Body) (name : List ℕ) → i < length bodies → b ≡ get_or bodies i b → bytes_eq b.name.now name ≡ false → body_named (map body_of (drop i bodies)) name ≡ body_named (map body_of (drop (i + 1) bodies)) name
+named_later bodies i b name within is test = named_at bodies i b name within is ∙ ap (λ t. if t then Some (body_of b) else body_named (map body_of (drop (i + 1) bodies)) name) test
+
+pub named_past : (bodies : List Body) (i : ℕ) (name : List ℕ) → length bodies ≤ i → body_named (map body_of (drop i bodies)) name ≡ None
+named_past bodies i name past = ap (λ bs. body_named (map body_of bs) name) (drop_all i bodies past)

@@ -1,0 +1,9 @@
+pub mod Through
+pub mod Acting
+pub mod Choosing
+pub mod Searching
+pub mod Passing
+pub mod Proceeding
+pub mod Taking
+pub mod Entering
+pub mod Driving

@@ -1,0 +1,5 @@
+pub mod Frames
+pub mod Tasks
+pub mod Groups
+pub mod Machines
+pub mod Outcomes

@@ -1,0 +1,9 @@
+-- The outcome of a run, as the definition has it.
+use Rattle.c_meaning_spec.specs.Calls as spec
+use Rattle.c_run.specs.declared.calls.Outcome.{Outcome}
+use Rattle.c_run.specs.declared.calls.Outcome.TheVariants as outcome
+
+abbrev pub outcome_in : Outcome → spec.Outcome
+outcome_in outcome.More = spec.More
+outcome_in (outcome.Guard guard offset) = spec.Broke guard offset
+outcome_in (outcome.Back v memory) = spec.Back v memory

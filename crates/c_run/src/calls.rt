@@ -1,0 +1,97 @@
+//! The run of a call.
+
+ghost use Rattle.std.specs.Prelude.{◌≡◌, ◌<◌, IfOk};
+ghost use Rattle.c_meaning_spec.specs.Calls as spec;
+ghost use Rattle.c_value.specs.Settings.{setting_of};
+ghost use Rattle.c_run.specs.Machines.{Ends};
+ghost use Rattle.c_run.specs.Outcomes.{outcome_in};
+
+use crate::machine::{Ended, Machine, body_named, drive, enter};
+use attempt::attempt;
+use c_meaning_spec::Guard;
+use c_value::setting::{Setting, Stop};
+use memory_core::Memory;
+use std::alloc::Global;
+
+/// A call of a function, in a memory.
+#[derive(Clone, Copy)]
+pub struct Call<'a> {
+    /// The name of the function.
+    pub function: &'a [u8],
+    /// The values of its arguments, each in the range of its parameter's type.
+    pub arguments: &'a [i128],
+    /// The memory where the run begins.
+    pub memory: &'a Memory,
+}
+
+/// The outcome of a run with a number of turns.
+#[derive(Drop)]
+pub enum Outcome {
+    /// The turns were too few, or a function without a body was called, which never ends.
+    More,
+    /// It broke a guard, at this offset of the source text.
+    Guard(Guard, usize),
+    /// It returned this value, unless the function is `void`, and left this memory.
+    Back(Option<i128>, Memory),
+}
+
+/// Why a run has no outcome.
+#[derive(Clone, Copy)]
+pub enum RunError {
+    /// Out of memory. It is also the answer where a value or type is wider than the program
+    /// computes with, which none of a typed core is.
+    NoMemory,
+}
+
+/// How the call of a function with a body ends, with the turns that are left once it is called.
+fn run_body<'s>(
+    alloc: Global,
+    setting: &'s Setting<'s>,
+    call: &Call<'_>,
+    after: &mut Memory,
+    turns: u64,
+) -> Result<Ended, Stop>
+    requires { 0 < turns }
+    ensures { Ends (spec.runs (setting_of setting.now) turns call.now.function.now
+        call.now.arguments.now after.old turns) after.new result }
+{
+    let Some(body) = body_named(setting.bodies, call.function) else {
+        return Ok(Ended::More);
+    };
+    let mut machine = Machine {
+        frame: attempt!(enter(alloc, body, call.arguments), Stop::Memory),
+        waiting: Vec::new(alloc),
+        left: turns - 1,
+    };
+    drive(alloc, setting, &mut machine, after)
+}
+
+/// The run of a call with a number of turns: each round of a loop takes one, and each call, this
+/// one too. Nothing that is given changes: the run has a copy of the memory. It takes as much
+/// memory again as it writes, and a frame for each function that waits for another; calls and
+/// statements inside one another take no stack. Time is that of the statements performed, at most
+/// 2^64 - 1 between two turns.
+pub fn run<'s>(
+    alloc: Global,
+    setting: &'s Setting<'s>,
+    call: &Call<'_>,
+    turns: u64,
+) -> Result<Outcome, RunError>
+    ensures { IfOk result (λ outcome. outcome_in outcome ≡ spec.c_run (setting_of setting.now)
+        call.now.function.now call.now.arguments.now call.now.memory.now turns) }
+{
+    if turns == 0 {
+        return Ok(Outcome::More);
+    }
+    let mut after = attempt!(call.memory.copy(), RunError::NoMemory);
+    match run_body(alloc, setting, call, &mut after, turns) {
+        Ok(ended) => match ended {
+            Ended::More => Ok(Outcome::More),
+            Ended::Back(value) => Ok(Outcome::Back(value, after)),
+        },
+        Err(stop) => match stop {
+            Stop::Broke(guard, offset) => Ok(Outcome::Guard(guard, offset)),
+            Stop::Memory => Err(RunError::NoMemory),
+        },
+    }
+}

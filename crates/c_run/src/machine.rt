@@ -1,0 +1,229 @@
+//! Functions that run: the innermost one, and those that wait for their callees.
+
+ghost use Rattle.std.specs.Prelude.{◌≡◌, ◌<◌, ◌++◌, IfOk, OnOk, slice_get, map, option_map};
+ghost use Rattle.c_meaning_spec.specs.Calls as spec;
+ghost use Rattle.c_meaning_spec.specs.Execution as flow;
+ghost use Rattle.c_value.specs.Settings.{body_of, setting_of};
+ghost use Rattle.c_run.specs.Machines.{Ends, Turns, Resumes, comes_to, value_of};
+ghost use Rattle.c_run.specs.Machines.{IsCalled, IsEntered, IsReceived};
+
+use crate::frame::{Ending, Frame, Next, Task};
+use crate::running::go;
+use attempt::attempt;
+use c_core::constants::has_width;
+use c_core::values::{TooWide, convert};
+use c_type_spec::Scalar;
+use c_value::setting::{Body, Setting, Stop};
+use memory_core::Memory;
+use std::alloc::{AllocError, Global};
+
+/// A function that waits for its callee.
+#[derive(Drop)]
+pub struct Waiting<'a> {
+    /// Its locals, and what it still has to do.
+    pub frame: Frame<'a>,
+    /// The local that gets the callee's value.
+    pub local: Option<usize>,
+}
+
+/// The functions that run.
+#[derive(Drop)]
+pub struct Machine<'a> {
+    /// The innermost one.
+    pub frame: Frame<'a>,
+    /// Those that wait; the last is the innermost one's caller.
+    pub waiting: Vec<Waiting<'a>>,
+    /// How many turns are left.
+    pub left: u64,
+}
+
+/// How a run ended, unless it broke a guard.
+#[derive(Clone, Copy)]
+pub enum Ended {
+    /// The turns were too few.
+    More,
+    /// The outermost function returned this value, unless it is `void`.
+    Back(Option<i128>),
+}
+
+/// The value that a body gives, by how it ended.
+fn value_of(ending: Ending) -> Option<i128>
+    ensures { result ≡ value_of ending }
+{
+    match ending {
+        Ending::Gave(value) => value,
+        Ending::Went | Ending::Jumped(_) => None,
+    }
+}
+
+/// The first function of a name.
+pub fn body_named<'b, 'a>(bodies: &'b [Body<'a>], name: &[u8]) -> Option<&'b Body<'a>>
+    ensures { option_map (λ b. body_of b.now) result ≡ spec.body_named (map body_of bodies.now)
+        name.now }
+{
+    for body in bodies {
+        if body.name == name {
+            return Some(body);
+        }
+    }
+    None
+}
+
+/// The argument of a number, if there is one.
+fn argument(arguments: &[i128], number: usize) -> Option<i128>
+    ensures { result ≡ slice_get arguments.now number }
+{
+    match arguments.get(number) {
+        Some(value) => Some(*value),
+        None => None,
+    }
+}
+
+/// The values of locals where a call begins: parameters have those of their arguments.
+fn begin_locals(
+    locals: &mut Vec<Option<i128>>,
+    types: &[Scalar],
+    arguments: &[i128],
+) -> Result<(), AllocError>
+    ensures { OnOk result (locals.new.items ≡ locals.old.items ++ spec.locals_at_entry types.now
+        arguments.now) }
+{
+    for number in 0..types.len() {
+        attempt!(locals.push(argument(arguments, number)), AllocError);
+    }
+    Ok(())
+}
+
+/// A function where a call of it begins.
+pub fn enter<'a>(
+    alloc: Global,
+    body: &'a Body<'a>,
+    arguments: &[i128],
+) -> Result<Frame<'a>, AllocError>
+    ensures { IfOk result (λ frame. IsEntered body.now arguments.now frame) }
+{
+    let types = body.locals.as_slice();
+    let mut frame = Frame {
+        types,
+        locals: Vec::new(alloc),
+        tasks: Vec::new(alloc),
+        arguments: Vec::new(alloc),
+    };
+    attempt!(begin_locals(&mut frame.locals, types, arguments));
+    attempt!(frame.push(Task::Do(&*body.action)));
+    Ok(frame)
+}
+
+/// A value in the type of a local.
+fn as_local(types: &[Scalar], local: usize, value: Option<i128>) -> Result<Option<i128>, TooWide>
+    ensures { IfOk result (λ v. v ≡ flow.as_local types.now local value) }
+{
+    let Some(number) = value else {
+        return Ok(None);
+    };
+    let Some(of) = types.get(local) else {
+        return Ok(None);
+    };
+    if !has_width(*of) {
+        return Err(TooWide);
+    }
+    Ok(Some(convert(number, *of)))
+}
+
+/// The value of a call is put into a local.
+fn receive(frame: &mut Frame<'_>, local: Option<usize>, value: Option<i128>) -> Result<(), TooWide>
+    ensures { OnOk result (IsReceived frame.old frame.new local value) }
+{
+    let Some(number) = local else {
+        return Ok(());
+    };
+    let put = attempt!(as_local(frame.types, number, value));
+    frame.set(number, put);
+    Ok(())
+}
+
+/// The innermost function has returned a value. Its caller goes on, if there is one.
+fn resume(machine: &mut Machine<'_>, value: Option<i128>) -> Result<bool, TooWide>
+    ensures { IfOk result (λ goes_on. Resumes value machine.old machine.new goes_on) }
+{
+    let Some(waiting) = machine.waiting.pop() else {
+        return Ok(false);
+    };
+    let local = waiting.local;
+    machine.frame = waiting.frame;
+    attempt!(receive(&mut machine.frame, local, value));
+    Ok(true)
+}
+
+/// A function is called, with a turn, and the one that ran waits for it.
+fn descend<'a>(
+    alloc: Global,
+    machine: &mut Machine<'a>,
+    body: &'a Body<'a>,
+    local: Option<usize>,
+) -> Result<(), AllocError>
+    requires { 0 < machine.old.left }
+    ensures { OnOk result (IsCalled body.now local machine.old machine.new) }
+{
+    let callee = attempt!(enter(alloc, body, machine.frame.arguments.as_slice()));
+    let frame = std::mem::replace(&mut machine.frame, callee);
+    attempt!(machine.waiting.push(Waiting { frame, local }), AllocError);
+    machine.left -= 1;
+    Ok(())
+}
+
+/// The innermost function, until it has returned, a turn is taken, or it has called another: how
+/// the run ended, if it did.
+fn turn<'s>(
+    alloc: Global,
+    setting: &'s Setting<'s>,
+    machine: &mut Machine<'s>,
+    memory: &mut Memory,
+) -> Result<Option<Ended>, Stop>
+    ensures { Turns (setting_of setting.now) machine.old memory.old machine.new memory.new result }
+{
+    match attempt!(go(setting, &mut machine.frame, memory)) {
+        Next::Goes(ending) => {
+            let value = value_of(ending);
+            let goes_on = attempt!(resume(machine, value), Stop::Memory);
+            if goes_on {
+                return Ok(None);
+            }
+            Ok(Some(Ended::Back(value)))
+        }
+        Next::Waits => {
+            if machine.left == 0 {
+                return Ok(Some(Ended::More));
+            }
+            machine.left -= 1;
+            Ok(None)
+        }
+        Next::Calls(function, local) => {
+            if machine.left == 0 {
+                return Ok(Some(Ended::More));
+            }
+            let Some(body) = body_named(setting.bodies, function) else {
+                return Ok(Some(Ended::More));
+            };
+            attempt!(descend(alloc, machine, body, local), Stop::Memory);
+            Ok(None)
+        }
+    }
+}
+
+/// The functions that run, until the outermost one has returned or the turns are at an end.
+pub fn drive<'s>(
+    alloc: Global,
+    setting: &'s Setting<'s>,
+    machine: &mut Machine<'s>,
+    memory: &mut Memory,
+) -> Result<Ended, Stop>
+    ensures { Ends (comes_to (setting_of setting.now) machine.old memory.old) memory.new result }
+{
+    'turns: loop {
+        match attempt!(turn(alloc, setting, machine, memory)) {
+            Some(ended) => return Ok(ended),
+            None => {}
+        }
+    }
+}

@@ -1,0 +1,344 @@
+//! What statements do in a frame.
+
+ghost use Rattle.std.specs.Prelude.{◌≡◌, map, option_map};
+ghost use Rattle.std.specs.List.{list_any};
+ghost use Rattle.c_type_spec.specs.Core as tree;
+ghost use Rattle.c_core.specs.Expressions.{core_of};
+ghost use Rattle.c_core.specs.Actions.{action_of, core_in, group_of};
+ghost use Rattle.c_type_spec.specs.Statements.{groups_in, same_label};
+ghost use Rattle.c_meaning_spec.specs.Evaluation as spec;
+ghost use Rattle.c_value.specs.Settings.{setting_of};
+ghost use Rattle.c_value.specs.Gives.{Gives, GivesValue};
+ghost use Rattle.c_run.specs.Tasks.{Acts, truth};
+ghost use Rattle.c_run.specs.Frames.{IsPassed};
+ghost use Rattle.c_run.specs.Groups.{picked, chosen_action};
+
+use crate::frame::{Cycle, Ending, Frame, Next, Task};
+use attempt::attempt;
+use c_core::action::{Action, Group};
+use c_core::expression::Core;
+use c_meaning_spec::Guard;
+use c_type_spec::Scalar;
+use c_value::access::store_object;
+use c_value::evaluation::{Scene, address_past, value};
+use c_value::setting::{Setting, Stop};
+use memory_core::Memory;
+
+/// The value of an expression in a frame.
+pub fn value_in<'s, 'm>(
+    core: &Core<'_>,
+    setting: &'s Setting<'s>,
+    frame: &'m Frame<'_>,
+    memory: &'m Memory,
+    target: u64,
+) -> Result<i128, Stop>
+    ensures { GivesValue result (spec.value (setting_of setting.now) frame.now.locals.items
+        memory.now target (core_of core.now)) }
+{
+    let scene = Scene {
+        setting,
+        locals: frame.locals.as_slice(),
+        memory,
+        target,
+    };
+    value(core, &scene)
+}
+
+/// A test is not 0.
+pub fn holds<'s, 'm>(
+    test: &Core<'_>,
+    setting: &'s Setting<'s>,
+    frame: &'m Frame<'_>,
+    memory: &'m Memory,
+) -> Result<bool, Stop>
+    ensures { Gives (λ b. b) result (truth (spec.value (setting_of setting.now)
+        frame.now.locals.items memory.now 0 (core_of test.now))) }
+{
+    let value = attempt!(value_in(test, setting, frame, memory, 0));
+    Ok(value != 0)
+}
+
+/// Statements one after the other.
+fn block<'s, 'a>(
+    actions: &'a [Action<'a>],
+    setting: &'s Setting<'s>,
+    frame: &mut Frame<'a>,
+    memory: &mut Memory,
+) -> Result<Next<'a>, Stop>
+    ensures { Acts (setting_of setting.now) (tree.sequence (map action_of actions.now)) frame.old
+        memory.old frame.new memory.new result }
+{
+    attempt!(frame.push(Task::Rest(actions)), Stop::Memory);
+    Ok(Next::Goes(Ending::Went))
+}
+
+/// A value that is dropped.
+fn evaluate<'s, 'a>(
+    core: &Core<'_>,
+    setting: &'s Setting<'s>,
+    frame: &mut Frame<'a>,
+    memory: &mut Memory,
+) -> Result<Next<'a>, Stop>
+    ensures { Acts (setting_of setting.now) (tree.Evaluate (core_of core.now)) frame.old
+        memory.old frame.new memory.new result }
+{
+    let _value = attempt!(value_in(core, setting, frame, memory, 0));
+    Ok(Next::Goes(Ending::Went))
+}
+
+/// A value for a local.
+fn set<'s, 'a>(
+    local: usize,
+    core: &Core<'_>,
+    setting: &'s Setting<'s>,
+    frame: &mut Frame<'a>,
+    memory: &mut Memory,
+) -> Result<Next<'a>, Stop>
+    ensures { Acts (setting_of setting.now) (tree.Set local (core_of core.now)) frame.old
+        memory.old frame.new memory.new result }
+{
+    let value = attempt!(value_in(core, setting, frame, memory, 0));
+    frame.set(local, Some(value));
+    Ok(Next::Goes(Ending::Went))
+}
+
+/// A declaration without initial value.
+fn unset<'s, 'a>(
+    local: usize,
+    setting: &'s Setting<'s>,
+    frame: &mut Frame<'a>,
+    memory: &mut Memory,
+) -> Result<Next<'a>, Stop>
+    ensures { Acts (setting_of setting.now) (tree.Unset local) frame.old
+        memory.old frame.new memory.new result }
+{
+    frame.set(local, None);
+    Ok(Next::Goes(Ending::Went))
+}
+
+/// A value for the object so many bytes past an address.
+fn store<'s, 'a>(
+    of: Scalar,
+    address: &Core<'_>,
+    displacement: usize,
+    core: &Core<'_>,
+    offset: usize,
+    setting: &'s Setting<'s>,
+    frame: &mut Frame<'a>,
+    memory: &mut Memory,
+) -> Result<Next<'a>, Stop>
+    ensures { Acts (setting_of setting.now) (tree.Store of (core_of address.now) displacement
+        (core_of core.now) offset) frame.old memory.old frame.new memory.new result }
+{
+    let pointer = attempt!(value_in(address, setting, frame, memory, 0));
+    let place = attempt!(address_past(pointer, displacement));
+    let value = attempt!(value_in(core, setting, frame, memory, place));
+    attempt!(store_object(setting, memory, of, place, value, offset));
+    Ok(Next::Goes(Ending::Went))
+}
+
+/// The values of arguments, for the call that is next.
+fn pass<'s, 'a>(
+    arguments: &[Box<Core<'a>>],
+    setting: &'s Setting<'s>,
+    frame: &mut Frame<'a>,
+    memory: &Memory,
+) -> Result<(), Stop>
+    ensures values { Gives (λ _. frame.new.arguments.items) result (spec.values (setting_of
+        setting.now) frame.old.locals.items memory.now (map (λ b. core_of b.value) arguments.now)) }
+    ensures same { IsPassed frame.old frame.new }
+{
+    frame.arguments.clear();
+    for argument in arguments {
+        let value = attempt!(value_in(argument, setting, frame, &*memory, 0));
+        attempt!(frame.arguments.push(value), Stop::Memory);
+    }
+    Ok(())
+}
+
+/// A call.
+fn call<'s, 'a>(
+    number: usize,
+    function: &'a [u8],
+    arguments: &'a [Box<Core<'a>>],
+    local: Option<usize>,
+    setting: &'s Setting<'s>,
+    frame: &mut Frame<'a>,
+    memory: &mut Memory,
+) -> Result<Next<'a>, Stop>
+    ensures { Acts (setting_of setting.now) (tree.Call number function.now (map (λ b. core_of
+        b.value) arguments.now) local) frame.old memory.old frame.new memory.new result }
+{
+    attempt!(pass(arguments, setting, frame, memory));
+    Ok(Next::Calls(function, local))
+}
+
+/// One of two, by a test.
+fn choose<'s, 'a>(
+    test: &Core<'_>,
+    first: &'a Action<'a>,
+    second: &'a Action<'a>,
+    setting: &'s Setting<'s>,
+    frame: &mut Frame<'a>,
+    memory: &mut Memory,
+) -> Result<Next<'a>, Stop>
+    ensures { Acts (setting_of setting.now) (tree.If (core_of test.now) (action_of first.now)
+        (action_of second.now)) frame.old memory.old frame.new memory.new result }
+{
+    let is_first = attempt!(holds(test, setting, frame, memory));
+    if is_first {
+        attempt!(frame.push(Task::Do(first)), Stop::Memory);
+        return Ok(Next::Goes(Ending::Went));
+    }
+    attempt!(frame.push(Task::Do(second)), Stop::Memory);
+    Ok(Next::Goes(Ending::Went))
+}
+
+/// A loop.
+fn repeat<'s, 'a>(
+    number: usize,
+    cycle: Cycle<'a>,
+    setting: &'s Setting<'s>,
+    frame: &mut Frame<'a>,
+    memory: &mut Memory,
+) -> Result<Next<'a>, Stop>
+    ensures { Acts (setting_of setting.now) (tree.Loop number cycle.entry.place (core_of
+        cycle.entry.test.now) (action_of cycle.entry.step.now) (action_of cycle.entry.body.now))
+        frame.old memory.old frame.new memory.new result }
+{
+    attempt!(frame.push(Task::Round(cycle)), Stop::Memory);
+    Ok(Next::Waits)
+}
+
+/// The end of the call.
+fn give_back<'s, 'a>(
+    value: &Option<Box<Core<'a>>>,
+    setting: &'s Setting<'s>,
+    frame: &mut Frame<'a>,
+    memory: &mut Memory,
+) -> Result<Next<'a>, Stop>
+    ensures { Acts (setting_of setting.now) (tree.Return (core_in value.now)) frame.old
+        memory.old frame.new memory.new result }
+{
+    match value {
+        Some(core) => {
+            let value = attempt!(value_in(core, setting, frame, memory, 0));
+            Ok(Next::Goes(Ending::Gave(Some(value))))
+        }
+        None => Ok(Next::Goes(Ending::Gave(None))),
+    }
+}
+
+/// Two labels of groups are the same.
+fn is_label(other: Option<i128>, label: Option<i128>) -> bool
+    ensures { result ≡ same_label other label }
+{
+    match (other, label) {
+        (None, None) => true,
+        (Some(a), Some(b)) => a == b,
+        (None, Some(_)) | (Some(_), None) => false,
+    }
+}
+
+/// A label is among those of a group.
+fn has_label(labels: &[Option<i128>], label: Option<i128>) -> bool
+    ensures { result ≡ list_any (λ other. same_label other label) labels.now }
+{
+    for other in labels {
+        if is_label(*other, label) {
+            return true;
+        }
+    }
+    false
+}
+
+/// What the first group with a label does.
+#[tactic(auto, using(c_core::proofs::ActionViews::action_views))]
+fn labelled<'b, 'a>(groups: &'b [Group<'a>], label: Option<i128>) -> Option<&'b Action<'a>>
+    ensures { option_map (λ a. action_of a.now) result ≡ picked label (groups_in (map group_of
+        groups.now)) }
+{
+    for group in groups {
+        if has_label(&group.labels, label) {
+            return Some(&group.body);
+        }
+    }
+    None
+}
+
+/// What the group with a value does, else that with `default`.
+fn chosen<'b, 'a>(groups: &'b [Group<'a>], value: i128) -> Option<&'b Action<'a>>
+    ensures { option_map (λ a. action_of a.now) result ≡ chosen_action value (groups_in (map
+        group_of groups.now)) }
+{
+    match labelled(groups, Some(value)) {
+        Some(action) => Some(action),
+        None => labelled(groups, None),
+    }
+}
+
+/// One of several groups, by a value.
+fn switch<'s, 'a>(
+    test: &Core<'_>,
+    groups: &'a [Group<'a>],
+    setting: &'s Setting<'s>,
+    frame: &mut Frame<'a>,
+    memory: &mut Memory,
+) -> Result<Next<'a>, Stop>
+    ensures { Acts (setting_of setting.now) (tree.Switch (core_of test.now) (groups_in (map
+        group_of groups.now))) frame.old memory.old frame.new memory.new result }
+{
+    let value = attempt!(value_in(test, setting, frame, memory, 0));
+    let Some(action) = chosen(groups, value) else {
+        return Ok(Next::Goes(Ending::Went));
+    };
+    attempt!(frame.push(Task::Switch), Stop::Memory);
+    attempt!(frame.push(Task::Do(action)), Stop::Memory);
+    Ok(Next::Goes(Ending::Went))
+}
+
+/// What a statement does.
+#[tactic(auto, using(c_core::proofs::ActionViews::action_views))]
+pub fn act<'s, 'a>(
+    action: &'a Action<'a>,
+    setting: &'s Setting<'s>,
+    frame: &mut Frame<'a>,
+    memory: &mut Memory,
+) -> Result<Next<'a>, Stop>
+    ensures { Acts (setting_of setting.now) (action_of action.now) frame.old memory.old
+        frame.new memory.new result }
+{
+    match action {
+        Action::Block(actions) => block(actions, setting, frame, memory),
+        Action::Evaluate(core) => evaluate(core, setting, frame, memory),
+        Action::Set(local, core) => set(*local, core, setting, frame, memory),
+        Action::Unset(local) => unset(*local, setting, frame, memory),
+        Action::Store(of, address, displacement, core, offset) => store(
+            *of,
+            address,
+            *displacement,
+            core,
+            *offset,
+            setting,
+            frame,
+            memory,
+        ),
+        Action::Call(number, function, arguments, local) => call(
+            *number, function, arguments, *local, setting, frame, memory,
+        ),
+        Action::If(test, first, second) => { choose(test, first, second, setting, frame, memory) }
+        Action::Loop(number, place, test, step, body) => {
+            let cycle = Cycle {
+                place: *place,
+                test,
+                step,
+                body,
+            };
+            repeat(*number, cycle, setting, frame, memory)
+        }
+        Action::Leave(jump) => Ok(Next::Goes(Ending::Jumped(*jump))),
+        Action::Switch(test, groups) => switch(test, groups, setting, frame, memory),
+        Action::Return(value) => give_back(value, setting, frame, memory),
+        Action::MissingReturn(offset) => Err(Stop::Broke(Guard::MissingReturn, *offset)),
+    }
+}
