@@ -177,7 +177,7 @@ fn put_reached(alloc: Global, image: &Image<'_>, entry: u32, out: &mut Out) {
 /// How many nodes a graph has, and its variables.
 fn put_extent(alloc: Global, graph: &Graph, out: &mut Out) {
     out.put("nodes ");
-    out.show(&graph.nodes.len());
+    out.show(&graph.len());
     out.put("\nvariables");
     match graph.variables(alloc) {
         Err(_) => out.fail(),

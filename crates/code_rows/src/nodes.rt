@@ -169,11 +169,11 @@ pub(crate) fn put_nodes(alloc: Global, row: &str, out: &mut Out) -> Result<(), A
     let (entry, rest) = split(row, ' ');
     let mut stack = Vec::new(alloc);
     let mut graph = Graph::new(alloc);
-    graph.entry = number(entry);
+    graph.set_entry(number(entry));
     add_nodes(alloc, rest, &mut stack, &mut graph)?;
     out.put("valid ");
     out.show(&validate(&graph));
     out.put(" nodes ");
-    out.show(&graph.nodes.len());
+    out.show(&graph.len());
     Ok(())
 }

@@ -1,11 +1,13 @@
 //! Graphs as text: a line for each node, its number, the address if it is the first of an
 //! instruction, and what it does.
 
+ghost use Rattle.std.specs.Prelude.{◌<◌, length};
+
 use decompile::CodeGraph;
-use graph_core::{Binding, Next, Node};
+use graph_core::{Next, SharedBinding, SharedNode};
 use row_io::Out;
 use std::fmt::Debug;
-use term_core::Term;
+use term_bank::{Bank, TermId, TermNode};
 use term_spec::{Atom, BinaryOperator, Family, Variable};
 
 /// A variable after a blank.
@@ -45,41 +47,50 @@ fn put_binary(operator: BinaryOperator, out: &mut Out) {
 }
 
 /// A term after a blank: an operator and its arguments in brackets.
-fn put_term(term: &Term, out: &mut Out) {
-    match term {
-        Term::Leaf(atom) => return put_atom(*atom, out),
-        Term::Unary(operator, a) => {
-            put_operator(operator, out);
-            put_term(a, out);
+fn put_term(bank: &Bank, id: TermId, out: &mut Out)
+    requires { id < length bank.now }
+{
+    match bank.node(id) {
+        TermNode::Leaf(atom) => return put_atom(atom, out),
+        TermNode::Unary(operator, a) => {
+            put_operator(&operator, out);
+            put_term(bank, a, out);
         }
-        Term::Binary(operator, a, b) => {
-            put_binary(*operator, out);
-            put_term(a, out);
-            put_term(b, out);
+        TermNode::Binary(operator, a, b) => {
+            put_binary(operator, out);
+            put_term(bank, a, out);
+            put_term(bank, b, out);
         }
-        Term::Ternary(operator, a, b, c) => {
-            put_operator(operator, out);
-            put_term(a, out);
-            put_term(b, out);
-            put_term(c, out);
+        TermNode::Ternary(operator, a, b, c) => {
+            put_operator(&operator, out);
+            put_term(bank, a, out);
+            put_term(bank, b, out);
+            put_term(bank, c, out);
         }
-        Term::Quaternary(operator, a, b, c, d) => {
-            put_operator(operator, out);
-            put_term(a, out);
-            put_term(b, out);
-            put_term(c, out);
-            put_term(d, out);
+        TermNode::Quaternary(operator, a, b, c, d) => {
+            put_operator(&operator, out);
+            put_term(bank, a, out);
+            put_term(bank, b, out);
+            put_term(bank, c, out);
+            put_term(bank, d, out);
         }
-        Term::Octonary(..) => out.put(" (?"),
+        TermNode::Octonary(..) => out.put(" (?"),
     }
     out.put(")");
 }
 
-fn put_bindings(bindings: &[Binding], out: &mut Out) {
+/// A term that is in the bank.
+fn put_known(bank: &Bank, id: TermId, out: &mut Out) {
+    if id < bank.len() {
+        put_term(bank, id, out);
+    }
+}
+
+fn put_bindings(bank: &Bank, bindings: &[SharedBinding], out: &mut Out) {
     for binding in bindings {
         put_variable(binding.variable, out);
         out.put(" =");
-        put_term(&binding.term, out);
+        put_known(bank, binding.term, out);
         out.put(";");
     }
 }
@@ -95,34 +106,34 @@ fn put_next(next: Next, out: &mut Out) {
     }
 }
 
-fn put_node(node: &Node, out: &mut Out) {
+fn put_node(bank: &Bank, node: &SharedNode, out: &mut Out) {
     match node {
-        Node::Basic { bindings, next } => {
-            put_bindings(bindings.as_slice(), out);
+        SharedNode::Basic { bindings, next } => {
+            put_bindings(bank, bindings.as_slice(), out);
             put_next(*next, out);
         }
-        Node::Cond {
+        SharedNode::Cond {
             test,
             on_true,
             on_false,
         } => {
-            put_term(test, out);
+            put_known(bank, *test, out);
             out.put("?");
             put_next(*on_true, out);
             out.put(" :");
             put_next(*on_false, out);
         }
-        Node::Call {
+        SharedNode::Call {
             callee,
             inputs,
             outputs,
             landing,
         } => {
-            put_bindings(inputs.as_slice(), out);
+            put_bindings(bank, inputs.as_slice(), out);
             out.put(" graph ");
             out.show(callee);
             out.put(";");
-            put_bindings(outputs.as_slice(), out);
+            put_bindings(bank, outputs.as_slice(), out);
             put_next(Next::At(*landing), out);
         }
     }
@@ -130,7 +141,7 @@ fn put_node(node: &Node, out: &mut Out) {
 
 /// The graph of a function.
 pub(crate) fn put_graph(found: &CodeGraph, out: &mut Out) {
-    for (number, node) in found.graph.nodes.iter().enumerate() {
+    for (number, node) in found.graph.nodes().iter().enumerate() {
         out.show(&number);
         for (address, first) in &found.firsts {
             if *first == number {
@@ -139,7 +150,7 @@ pub(crate) fn put_graph(found: &CodeGraph, out: &mut Out) {
             }
         }
         out.put(":");
-        put_node(node, out);
+        put_node(found.graph.bank(), node, out);
         out.put("\n");
     }
 }

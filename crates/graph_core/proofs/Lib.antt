@@ -1,2 +1,6 @@
-mod Each
-mod Adding
+pub mod Each
+pub mod Sorted
+pub mod Growing
+pub mod Storing
+pub mod Adding
+pub mod Seeing

@@ -1,1 +1,4 @@
+pub mod Shared
+pub mod Sorts
 pub mod Graphs
+pub mod Seen

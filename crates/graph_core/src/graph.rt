@@ -1,19 +1,25 @@
-//! Graphs, and when one is valid.
+//! Graphs over the terms of a bank.
 
-ghost use Rattle.std.specs.Prelude.{◌≡◌, ◌↔◌, ◌<◌, ◌++◌, ◌∷◌, [], IsTrue, OnOk, OnErr, IfOk, Some};
-ghost use Rattle.std.specs.Prelude.{length, map, suc};
-ghost use Rattle.std.specs.List.{All};
-ghost use Rattle.term_spec.specs.Sort.{sort_of};
+ghost use Rattle.std.specs.Prelude.{◌≡◌, ◌<◌, ◌≤◌, ◌^◌, ◌∷◌, [], IfOk, OnOk, OnErr, All, length, map};
 ghost use Rattle.term_core.specs.Trees.{term_of};
+ghost use Rattle.term_bank.specs.Nodes.{IsNode as IsTermNode, Holds, build, Extends};
 ghost use Rattle.graph_spec.specs.Graph as spec;
-ghost use Rattle.graph_core.specs.Graphs.{binding_of, bindings_of, graph_of, node_of};
 ghost use Rattle.graph_spec.specs.Graph.{empty, with_call, with_nodes};
+ghost use Rattle.graph_core.specs.Shared.{shared_node_of, IsSharedNode};
+ghost use Rattle.graph_core.specs.Sorts.{AreSorts};
+ghost use Rattle.graph_core.specs.Graphs.{binding_of, bindings_of, graph_of, node_of};
+ghost use Rattle.graph_core.specs.Graphs.{Adds, AreShared, Grows};
 
-use attempt::attempt;
+use crate::shared::{SharedBinding, SharedNode};
+use crate::sharing::share;
+use crate::sorts::add_sorts;
 use graph_spec::Next;
 use std::alloc::{AllocError, Global};
-use term_core::{Term, sort};
+use std::marker::Model;
+use term_bank::{Bank, TermId, TermNode};
+use term_core::Term;
 use term_spec::{Sort, Variable};
+use term_substitution::intern;
 
 /// A variable, and the term whose value it gets.
 #[derive(Drop)]
@@ -56,40 +62,237 @@ pub enum Node {
     },
 }
 
-/// A graph.
+/// A graph. Its nodes share the terms of its bank, which has each term once. A node's number is its
+/// index.
 #[derive(Drop)]
 pub struct Graph {
-    /// Its nodes; a node's number is its index.
-    pub nodes: Vec<Node>,
-    /// The node at which a run begins.
-    pub entry: usize,
+    alloc: Global,
+    bank: Bank,
+    // Of the first terms of the bank, among them those of the nodes.
+    sorts: Vec<Option<Sort>>,
+    nodes: Vec<SharedNode>,
+    entry: usize,
+}
+
+impl Model for Graph {
+    ghost use Rattle.graph_core.specs.Shared.{Stored, stored_code};
+
+    ghost Value = { Stored };
+
+    ghost coded = { stored_code };
+
+    ghost use Rattle.graph_core.specs.Sorts.{IsStored};
+
+    ghost view = { λ g. record { trees = g.bank; nodes = g.nodes.items; entry = g.entry } };
+
+    ghost invariant = { λ g. IsStored g.bank g.sorts.items g.nodes.items };
 }
 
 impl Graph {
-    /// A graph without nodes, whose entry is to be node 0.
+    /// A graph without nodes and terms, whose entry is to be node 0.
     pub fn new(alloc: Global) -> Self
-        ensures { graph_of result ≡ empty }
+        ensures graph { graph_of result ≡ empty }
+        ensures trees { result.trees ≡ [] }
     {
         Graph {
+            alloc,
+            bank: Bank::new(alloc),
+            sorts: Vec::new(alloc),
             nodes: Vec::new(alloc),
             entry: 0,
         }
     }
 
-    /// Adds a node, and answers its number.
-    pub fn add(&mut self, node: Node) -> Result<usize, AllocError>
+    /// How many nodes there are.
+    pub fn len(&self) -> usize
+        ensures count { result ≡ length (graph_of self.now).nodes }
+        ensures small { result < 2 ^ 63 }
+    {
+        self.nodes.len()
+    }
+
+    /// The node at which a run begins.
+    pub fn entry(&self) -> usize
+        ensures { result ≡ (graph_of self.now).entry }
+    {
+        self.entry
+    }
+
+    /// Lets runs begin at a node.
+    pub fn set_entry(&mut self, entry: usize)
+        ensures graph { graph_of self.new ≡ record (graph_of self.old) { entry = entry } }
+        ensures trees { self.new.trees ≡ self.old.trees }
+    {
+        self.entry = entry;
+    }
+
+    /// The terms.
+    pub fn bank(&self) -> &Bank
+        ensures { result.now ≡ self.now.trees }
+    {
+        &self.bank
+    }
+
+    /// The nodes, whose terms are in the bank.
+    pub fn nodes(&self) -> &[SharedNode]
+        ensures nodes { result.now ≡ self.now.nodes }
+        ensures within { All (IsSharedNode (length self.now.trees)) result.now }
+    {
+        self.nodes.as_slice()
+    }
+
+    /// The sorts of the first terms, among them those of the nodes.
+    pub(crate) fn sorts(&self) -> &[Option<Sort>]
+        ensures sorts { AreSorts self.now.trees result.now }
+        ensures within { All (IsSharedNode (length result.now)) self.now.nodes }
+    {
+        let _ = &self.nodes;
+        self.sorts.as_slice()
+    }
+
+    /// The index of a node's term, which is added where it isn't there; the graph's nodes stay.
+    pub fn add_term(&mut self, node: TermNode) -> Result<TermId, AllocError>
+        requires { IsTermNode (length self.old.trees) node }
+        ensures id { IfOk result (λ i. Holds self.new.trees i (build self.old.trees node)) }
+        ensures within { IfOk result (λ i. i < length self.new.trees) }
+        ensures extends { Extends self.old.trees self.new.trees }
+        ensures longer { length self.old.trees ≤ length self.new.trees }
+        ensures kept { graph_of self.new ≡ graph_of self.old }
+    {
+        self.bank.add(node)
+    }
+
+    /// Adds a node whose terms are in the bank, and answers its number.
+    pub fn add_shared(&mut self, node: SharedNode) -> Result<usize, AllocError>
+        requires { IsSharedNode (length self.old.trees) node }
         ensures number { IfOk result (λ number. number ≡ length (graph_of self.old).nodes) }
         ensures added { OnOk result (graph_of self.new
-            ≡ with_nodes (graph_of self.old) (node_of node ∷ [])) }
+            ≡ with_nodes (graph_of self.old) (shared_node_of self.old.trees node ∷ [])) }
         ensures kept { OnErr result (graph_of self.new ≡ graph_of self.old) }
+        ensures trees { self.new.trees ≡ self.old.trees }
     {
+        add_sorts(&self.bank, &mut self.sorts)?;
         let number = self.nodes.len();
         self.nodes.push(node)?;
         Ok(number)
     }
 
+    // Adds two nodes, and answers the number of the first.
+    fn add_two(&mut self, first: SharedNode, second: SharedNode) -> Result<usize, AllocError>
+        requires first { IsSharedNode (length self.old.trees) first }
+        requires second { IsSharedNode (length self.old.trees) second }
+        ensures { Adds self.old self.new (shared_node_of self.old.trees first
+            ∷ shared_node_of self.old.trees second ∷ []) result }
+    {
+        add_sorts(&self.bank, &mut self.sorts)?;
+        let number = self.nodes.len();
+        self.nodes.reserve(2)?;
+        self.nodes.push_reserved(first);
+        self.nodes.push_reserved(second);
+        Ok(number)
+    }
+
+    // The index of a tree, which is added to the bank.
+    fn share_term(&mut self, term: &Term) -> Result<TermId, AllocError>
+        ensures id { IfOk result (λ i. Holds self.new.trees i (term_of term.now)) }
+        ensures grows { Grows self.old self.new }
+    {
+        intern(self.alloc, &mut self.bank, term)
+    }
+
+    // Bindings over the bank, to which their terms are added.
+    fn share(&mut self, bindings: &[Binding]) -> Result<Vec<SharedBinding>, AllocError>
+        ensures shared { IfOk result (λ found. AreShared self.new.trees
+            (map binding_of bindings.now) found.items) }
+        ensures grows { Grows self.old self.new }
+    {
+        share(self.alloc, &mut self.bank, bindings)
+    }
+
+    fn add_basic(&mut self, bindings: &[Binding], next: Next) -> Result<usize, AllocError>
+        ensures { Adds self.old self.new
+            (spec.Basic (map binding_of bindings.now) next ∷ []) result }
+    {
+        let bindings = self.share(bindings)?;
+        self.add_shared(SharedNode::Basic { bindings, next })
+    }
+
+    fn add_test(&mut self, test: &Term, on_true: Next, on_false: Next) -> Result<usize, AllocError>
+        ensures { Adds self.old self.new
+            (spec.Cond (term_of test.now) on_true on_false ∷ []) result }
+    {
+        let test = self.share_term(test)?;
+        self.add_shared(SharedNode::Cond {
+            test,
+            on_true,
+            on_false,
+        })
+    }
+
+    // What a call passes and takes back, over the bank.
+    fn share_both(
+        &mut self,
+        inputs: &[Binding],
+        outputs: &[Binding],
+    ) -> Result<(Vec<SharedBinding>, Vec<SharedBinding>), AllocError>
+        ensures inputs { IfOk result (λ found. AreShared self.new.trees
+            (map binding_of inputs.now) found.0.items) }
+        ensures outputs { IfOk result (λ found. AreShared self.new.trees
+            (map binding_of outputs.now) found.1.items) }
+        ensures grows { Grows self.old self.new }
+    {
+        let inputs = self.share(inputs)?;
+        let outputs = self.share(outputs)?;
+        Ok((inputs, outputs))
+    }
+
+    // Adds a call alone.
+    fn add_call_at(
+        &mut self,
+        callee: usize,
+        inputs: &[Binding],
+        outputs: &[Binding],
+        landing: usize,
+    ) -> Result<usize, AllocError>
+        ensures { Adds self.old self.new (spec.Call callee (map binding_of inputs.now)
+            (map binding_of outputs.now) landing ∷ []) result }
+    {
+        let (inputs, outputs) = self.share_both(inputs, outputs)?;
+        self.add_shared(SharedNode::Call {
+            callee,
+            inputs,
+            outputs,
+            landing,
+        })
+    }
+
+    /// Adds a node, its terms to the bank, and answers its number. Out of memory, the bank may have
+    /// some more terms.
+    pub fn add(&mut self, node: Node) -> Result<usize, AllocError>
+        ensures number { IfOk result (λ number. number ≡ length (graph_of self.old).nodes) }
+        ensures added { OnOk result (graph_of self.new
+            ≡ with_nodes (graph_of self.old) (node_of node ∷ [])) }
+        ensures kept { OnErr result (graph_of self.new ≡ graph_of self.old) }
+        ensures extends { Extends self.old.trees self.new.trees }
+    {
+        match &node {
+            Node::Basic { bindings, next } => self.add_basic(bindings.as_slice(), *next),
+            Node::Cond {
+                test,
+                on_true,
+                on_false,
+            } => self.add_test(test, *on_true, *on_false),
+            Node::Call {
+                callee,
+                inputs,
+                outputs,
+                landing,
+            } => self.add_call_at(*callee, inputs.as_slice(), outputs.as_slice(), *landing),
+        }
+    }
+
     /// Adds a call and, directly after it, its landing node, which continues at `next`; answers the
-    /// call's number.
+    /// call's number. Out of memory, the bank may have some more terms.
     pub fn add_call(
         &mut self,
         alloc: Global,
@@ -103,99 +306,20 @@ impl Graph {
             ≡ with_call (graph_of self.old) callee (bindings_of inputs)
             (bindings_of outputs) next) }
         ensures kept { OnErr result (graph_of self.new ≡ graph_of self.old) }
+        ensures extends { Extends self.old.trees self.new.trees }
     {
-        let number = self.nodes.len();
-        attempt!(self.nodes.reserve(2));
-        let call = Node::Call {
+        let number = self.len();
+        let (inputs, outputs) = self.share_both(inputs.as_slice(), outputs.as_slice())?;
+        let call = SharedNode::Call {
             callee,
             inputs,
             outputs,
             landing: number + 1,
         };
-        let landing = Node::Basic {
+        let landing = SharedNode::Basic {
             bindings: Vec::new(alloc),
             next,
         };
-        self.nodes.push(call).unwrap();
-        self.nodes.push(landing).unwrap();
-        Ok(number)
+        self.add_two(call, landing)
     }
-}
-
-/// Whether a graph is valid: whether each node that it names is there, and each term is well
-/// sorted.
-pub fn validate(graph: &Graph) -> bool
-    ensures { IsTrue result ↔ spec.IsValid (graph_of graph.now) }
-{
-    graph.entry < graph.nodes.len() && are_nodes(graph.nodes.len(), graph.nodes.as_slice())
-}
-
-fn are_nodes(count: usize, nodes: &[Node]) -> bool
-    ensures { IsTrue result ↔ All (spec.IsNode count) (map node_of nodes.now) }
-{
-    for node in nodes {
-        if !is_node(count, node) {
-            return false;
-        }
-    }
-    true
-}
-
-fn is_node(count: usize, node: &Node) -> bool
-    ensures { IsTrue result ↔ spec.IsNode count (node_of node.now) }
-{
-    match node {
-        Node::Basic { bindings, next } => is_basic(count, bindings.as_slice(), *next),
-        Node::Cond {
-            test,
-            on_true,
-            on_false,
-        } => has_sort(test, Sort::Truth) && is_next(count, *on_true) && is_next(count, *on_false),
-        Node::Call {
-            inputs,
-            outputs,
-            landing,
-            ..
-        } => is_call(count, inputs.as_slice(), outputs.as_slice(), *landing),
-    }
-}
-
-fn is_basic(count: usize, bindings: &[Binding], next: Next) -> bool
-    ensures { IsTrue result ↔ (spec.AreBindings (map binding_of bindings.now)
-        × spec.IsNext count next) }
-{
-    are_bindings(bindings) && is_next(count, next)
-}
-
-fn is_call(count: usize, inputs: &[Binding], outputs: &[Binding], landing: usize) -> bool
-    ensures { IsTrue result ↔ (spec.AreBindings (map binding_of inputs.now)
-        × spec.AreBindings (map binding_of outputs.now) × (landing < count)) }
-{
-    are_bindings(inputs) && are_bindings(outputs) && landing < count
-}
-
-fn is_next(count: usize, next: Next) -> bool
-    ensures { IsTrue result ↔ spec.IsNext count next }
-{
-    match next {
-        Next::At(node) => node < count,
-        Next::Ret | Next::Err => true,
-    }
-}
-
-fn are_bindings(bindings: &[Binding]) -> bool
-    ensures { IsTrue result ↔ spec.AreBindings (map binding_of bindings.now) }
-{
-    for binding in bindings {
-        if !has_sort(&binding.term, binding.variable.sort) {
-            return false;
-        }
-    }
-    true
-}
-
-fn has_sort(term: &Term, expected: Sort) -> bool
-    ensures { IsTrue result ↔ (sort_of (term_of term.now) ≡ Some expected) }
-{
-    sort(term) == Some(expected)
 }

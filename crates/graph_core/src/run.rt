@@ -42,7 +42,7 @@ impl<'a> Walks for GraphRun<'a> {
 
     fn nodes(&self) -> usize {
         match self.graphs.get(self.outermost) {
-            Some(graph) => graph.nodes.len(),
+            Some(graph) => graph.len(),
             None => 0,
         }
     }

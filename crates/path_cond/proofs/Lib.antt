@@ -5,6 +5,8 @@ pub mod Numbers
 pub mod Changed
 pub mod Uniting
 pub mod Current
+pub mod Untaken
+pub mod Unbound
 pub mod Conditionals
 pub mod Left
 pub mod Arriving

@@ -1,5 +1,5 @@
 -- States by the numbers of the variables that a graph binds: a variable's number is its index in a list.
-use Rattle.std.specs.Prelude.{◌≡◌, ℕ, ◌<◌, true, false, if◌then◌else◌, List, length, slice_get, is_some, Option, Some}
+use Rattle.std.specs.Prelude.{◌≡◌, ℕ, ◌<◌, true, false, if◌then◌else◌, List, length, slice_get, is_some, Option, Some, None}
 use Rattle.term_spec.specs.declared.Variable.{Variable}
 use Rattle.term_spec.specs.Same.{same_variable}
 use Rattle.term_spec.specs.Term.{Term}
@@ -52,3 +52,7 @@ pub record Stays (before now : List Term) (variables : List Variable) (old new :
 pub record IsStart (trees : List Term) (variables : List Variable) (start : State) (ids : ℕ → Option ℕ) (current : Variable → Option ℕ) : Type 0 where
   pub first : HasState trees variables start ids start
   pub outside : IsOutside trees variables start current
+
+-- no term was taken from another bank
+abbrev pub IsUntaken : (ℕ → Option ℕ) → Type 0
+IsUntaken done = (id : ℕ) → done id ≡ None

@@ -1,18 +1,23 @@
 //! The variables that the basic nodes of a graph bind.
 
-ghost use Rattle.std.specs.Prelude.{◌≡◌, ℕ, ◌<◌, map, IfOk, OnOk};
-ghost use Rattle.graph_core.specs.Graphs.{binding_of, graph_of, node_of};
+ghost use Rattle.std.specs.Prelude.{◌≡◌, ℕ, ◌<◌, List, map, IfOk, OnOk};
+ghost use Rattle.term_spec.specs.Term.{Term};
+ghost use Rattle.graph_core.specs.Graphs.{graph_of};
+ghost use Rattle.graph_core.specs.Shared.{shared_binding_of, shared_node_of};
 ghost use Rattle.path_cond.specs.Bound.{AreListed, IsListedNode, KeepsListed, ListsAll};
 
-use attempt::attempt;
-use graph_core::{Binding, Graph, Node};
+use graph_core::{Graph, SharedBinding, SharedNode};
 use indexmap::IndexSet;
 use std::alloc::{AllocError, Global};
 use term_spec::Variable;
 
 // Adds the variables of some bindings.
-fn add_bindings(variables: &mut IndexSet<Variable>, bindings: &[Binding]) -> Result<(), AllocError>
-    ensures listed { OnOk result (AreListed variables.new.keys (map binding_of bindings.now)) }
+fn add_bindings(
+    variables: &mut IndexSet<Variable>,
+    bindings: &[SharedBinding],
+) -> Result<(), AllocError>
+    ensures listed { (trees : List Term) → OnOk result (AreListed variables.new.keys
+        (map (shared_binding_of trees) bindings.now)) }
     ensures kept { OnOk result (KeepsListed variables.old.keys variables.new.keys) }
 {
     for binding in bindings {
@@ -22,19 +27,21 @@ fn add_bindings(variables: &mut IndexSet<Variable>, bindings: &[Binding]) -> Res
 }
 
 // Adds the variables that a node binds, if it is a basic one.
-fn add_node(variables: &mut IndexSet<Variable>, node: &Node) -> Result<(), AllocError>
-    ensures listed { OnOk result (IsListedNode variables.new.keys (node_of node.now)) }
+fn add_node(variables: &mut IndexSet<Variable>, node: &SharedNode) -> Result<(), AllocError>
+    ensures listed { (trees : List Term) → OnOk result (IsListedNode variables.new.keys
+        (shared_node_of trees node.now)) }
     ensures kept { OnOk result (KeepsListed variables.old.keys variables.new.keys) }
 {
     match node {
-        Node::Basic { bindings, .. } => add_bindings(variables, bindings.as_slice()),
-        Node::Cond { .. } | Node::Call { .. } => Ok(()),
+        SharedNode::Basic { bindings, .. } => add_bindings(variables, bindings.as_slice()),
+        SharedNode::Cond { .. } | SharedNode::Call { .. } => Ok(()),
     }
 }
 
 // Adds the variables that some nodes bind.
-fn add_nodes(variables: &mut IndexSet<Variable>, nodes: &[Node]) -> Result<(), AllocError>
-    ensures { OnOk result (ListsAll variables.new.keys (map node_of nodes.now)) }
+fn add_nodes(variables: &mut IndexSet<Variable>, nodes: &[SharedNode]) -> Result<(), AllocError>
+    ensures { (trees : List Term) → OnOk result (ListsAll variables.new.keys
+        (map (shared_node_of trees) nodes.now)) }
 {
     for node in nodes {
         add_node(variables, node)?;
@@ -47,6 +54,6 @@ pub fn bound_variables(alloc: Global, graph: &Graph) -> Result<IndexSet<Variable
     ensures { IfOk result (λ found. ListsAll found.keys (graph_of graph.now).nodes) }
 {
     let mut variables = IndexSet::new(alloc);
-    attempt!(add_nodes(&mut variables, graph.nodes.as_slice()));
+    add_nodes(&mut variables, graph.nodes())?;
     Ok(variables)
 }

@@ -1,20 +1,21 @@
 //! What leaves a node: the condition of each of its branches, and the state after it.
 
 ghost use Rattle.std.specs.Prelude.{◌≡◌, ◌<◌, length, map, IfOk, OnOk, Some, None, List};
-ghost use Rattle.std.specs.Prelude.{option_map};
+ghost use Rattle.std.specs.Prelude.{option_map, IfSome};
 ghost use Rattle.std.specs.HashMap.{get};
 ghost use Rattle.term_spec.specs.Same.{same_variable};
 ghost use Rattle.term_spec.specs.Term as tree;
 ghost use Rattle.term_spec.specs.Substitution.{State as Terms, substituted};
 ghost use Rattle.term_spec.specs.declared.Variable as spec;
-ghost use Rattle.term_core.specs.Trees.{term_of};
-ghost use Rattle.term_bank.specs.Nodes.{Extends, Holds};
+ghost use Rattle.term_bank.specs.Nodes.{tree_at, Extends, Holds};
 ghost use Rattle.term_substitution.specs.States.{AreBelow};
 ghost use Rattle.visit_spec.specs.declared.Branch.{Branch};
 ghost use Rattle.condition_spec.specs.Conditions.{Conditional, node_of_place};
 ghost use Rattle.path_cond.specs.Branches.{HasBranches, IsLeft, id_by};
 ghost use Rattle.condition_spec.specs.Conditions.{assigned};
-ghost use Rattle.graph_core.specs.Graphs.{binding_of, graph_of, node_of};
+ghost use Rattle.graph_core.specs.Graphs.{graph_of};
+ghost use Rattle.graph_core.specs.Shared.{shared_binding_of, shared_node_of};
+ghost use Rattle.graph_core.specs.Shared.{AreSharedBindings, IsSharedNode};
 ghost use Rattle.path_cond.specs.Bound.{AreListed, IsListedNode, ListsAll};
 ghost use Rattle.path_cond.specs.Ids.{id_at};
 ghost use Rattle.path_cond.specs.States.{HasState, IsCurrent, IsFull, IsOutside, IsSet};
@@ -23,13 +24,13 @@ ghost use Rattle.path_cond.specs.States.{Stays};
 use crate::ids::Ids;
 use crate::states::{State, assign, set_current};
 use attempt::attempt;
-use graph_core::{Binding, Graph, Next, Node};
+use graph_core::{Graph, Next, SharedBinding, SharedNode};
 use indexmap::IndexSet;
 use std::alloc::{AllocError, Global};
+use std::collections::HashMap;
 use term_bank::{Bank, TermId, TermNode};
-use term_core::Term;
 use term_spec::{BinaryOperator, UnaryOperator, Variable};
-use term_substitution::substitute;
+use term_substitution::transfer_one;
 
 /// The conditions of the branches of a node: all are the node's own, unless it has a test.
 #[derive(Clone, Copy)]
@@ -42,21 +43,25 @@ pub struct Leaving {
     pub if_false: TermId,
 }
 
-/// The conditions of the branches of a conditional node, from that of the node and the state there.
+/// The conditions of the branches of a conditional node, whose test is in the bank `from`, by that
+/// of the node and the state there.
 pub fn branches(
+    alloc: Global,
     bank: &mut Bank,
+    from: &Bank,
     condition: TermId,
-    test: &Term,
+    test: TermId,
     current: &State,
 ) -> Result<Leaving, AllocError>
+    requires test { test < length from.now }
     requires condition { condition < length bank.old }
     requires current { AreBelow (length bank.old) (get same_variable current.now) }
     ensures branches { (c : tree.Term) (state : Terms) → Holds bank.old condition c
         → IsCurrent bank.old (get same_variable current.now) state
-        → IfOk result (HasBranches bank.new c (substituted state (term_of test.now))) }
+        → IfOk result (HasBranches bank.new c (substituted state (tree_at from.now test))) }
     ensures extends { Extends bank.old bank.new }
 {
-    let holds = substitute(bank, test, current)?;
+    let holds = transfer_one(alloc, bank, from, test, current)?;
     let fails = bank.add(TermNode::Unary(UnaryOperator::Not, holds))?;
     let if_true = bank.add(TermNode::Binary(BinaryOperator::And, condition, holds))?;
     let if_false = bank.add(TermNode::Binary(BinaryOperator::And, condition, fails))?;
@@ -67,40 +72,49 @@ pub fn branches(
     })
 }
 
-// The state after some bindings, whose terms speak of the state before.
+// The state after some bindings, whose terms, of the bank `from`, speak of the state before.
 fn bind(
     alloc: Global,
     bank: &mut Bank,
+    from: &Bank,
     variables: &IndexSet<Variable>,
     current: &mut State,
-    bindings: &[Binding],
+    bindings: &[SharedBinding],
     state: &Ids,
 ) -> Result<Ids, AllocError>
+    requires within { AreSharedBindings (length from.now) bindings.now }
     requires current { AreBelow (length bank.old) (get same_variable current.old) }
-    requires listed { AreListed variables.now.keys (map binding_of bindings.now) }
+    requires listed { AreListed variables.now.keys
+        (map (shared_binding_of from.now) bindings.now) }
     requires full { IsFull (length bank.old) (length variables.now.keys) (id_at state.now) }
     ensures state { (start s : Terms)
         → HasState bank.old variables.now.keys start (id_at state.now) s
         → IsOutside bank.old variables.now.keys start (get same_variable current.old)
         → IfOk result (λ new. HasState bank.new variables.now.keys start (id_at new)
-        (assigned (map binding_of bindings.now) s s)) }
+        (assigned (map (shared_binding_of from.now) bindings.now) s s)) }
     ensures current { OnOk result (IsSet variables.now.keys (id_at state.now)
         (get same_variable current.old) (get same_variable current.new)) }
     ensures extends { Extends bank.old bank.new }
 {
     set_current(current, variables, state)?;
-    assign(alloc, bank, variables, current, bindings, state)
+    let mut done = HashMap::new(alloc);
+    assign(
+        alloc, bank, from, variables, current, bindings, state, &mut done,
+    )
 }
 
-// The conditions of the branches of a test, whose term speaks of the state.
+// The conditions of the branches of a test, whose term, of the bank `from`, speaks of the state.
 fn divide(
+    alloc: Global,
     bank: &mut Bank,
+    from: &Bank,
     variables: &IndexSet<Variable>,
     current: &mut State,
-    test: &Term,
+    test: TermId,
     condition: TermId,
     state: &Ids,
 ) -> Result<Leaving, AllocError>
+    requires test { test < length from.now }
     requires current { AreBelow (length bank.old) (get same_variable current.old) }
     requires condition { condition < length bank.old }
     requires full { IsFull (length bank.old) (length variables.now.keys) (id_at state.now) }
@@ -108,13 +122,13 @@ fn divide(
         → HasState bank.old variables.now.keys start (id_at state.now) s
         → IsOutside bank.old variables.now.keys start (get same_variable current.old)
         → Holds bank.old condition c
-        → IfOk result (HasBranches bank.new c (substituted s (term_of test.now))) }
+        → IfOk result (HasBranches bank.new c (substituted s (tree_at from.now test))) }
     ensures current { OnOk result (IsSet variables.now.keys (id_at state.now)
         (get same_variable current.old) (get same_variable current.new)) }
     ensures extends { Extends bank.old bank.new }
 {
     set_current(current, variables, state)?;
-    branches(bank, condition, test, current)
+    branches(alloc, bank, from, condition, test, current)
 }
 
 // The conditions of the branches of a node without a test.
@@ -128,39 +142,52 @@ fn undivided(condition: TermId) -> Leaving
     }
 }
 
-// What leaves a node that is there.
+// What leaves a node that is there, whose terms are in the bank `from`.
 fn leave_node(
     alloc: Global,
     bank: &mut Bank,
+    from: &Bank,
     variables: &IndexSet<Variable>,
     current: &mut State,
-    node: &Node,
+    node: &SharedNode,
     condition: TermId,
     state: &Ids,
 ) -> Result<(Leaving, Ids), AllocError>
+    requires within { IsSharedNode (length from.now) node.now }
     requires current { AreBelow (length bank.old) (get same_variable current.old) }
     requires condition { condition < length bank.old }
-    requires listed { IsListedNode variables.now.keys (node_of node.now) }
+    requires listed { IsListedNode variables.now.keys (shared_node_of from.now node.now) }
     requires full { IsFull (length bank.old) (length variables.now.keys) (id_at state.now) }
     ensures left { (start : Terms) (c : Conditional) → Holds bank.old condition c.condition
         → HasState bank.old variables.now.keys start (id_at state.now) c.state
         → IsOutside bank.old variables.now.keys start (get same_variable current.old)
-        → IfOk result (IsLeft bank.new variables.now.keys start (Some (node_of node.now)) c) }
+        → IfOk result (IsLeft bank.new variables.now.keys start
+        (Some (shared_node_of from.now node.now)) c) }
     ensures current { OnOk result (Stays bank.old bank.new variables.now.keys
         (get same_variable current.old) (get same_variable current.new)) }
     ensures extends { Extends bank.old bank.new }
 {
     match node {
-        Node::Basic { bindings, .. } => {
-            let after = bind(alloc, bank, variables, current, bindings.as_slice(), state)?;
+        SharedNode::Basic { bindings, .. } => {
+            let after = bind(
+                alloc,
+                bank,
+                from,
+                variables,
+                current,
+                bindings.as_slice(),
+                state,
+            )?;
             Ok((undivided(condition), after))
         }
-        Node::Cond { test, .. } => {
+        SharedNode::Cond { test, .. } => {
             let after = state.share()?;
-            let leaving = divide(bank, variables, current, test, condition, state)?;
+            let leaving = divide(
+                alloc, bank, from, variables, current, *test, condition, state,
+            )?;
             Ok((leaving, after))
         }
-        Node::Call { .. } => {
+        SharedNode::Call { .. } => {
             let after = state.share()?;
             Ok((undivided(condition), after))
         }
@@ -168,11 +195,13 @@ fn leave_node(
 }
 
 // The node of a place.
-fn node_at(graph: &Graph, place: Next) -> Option<&Node>
-    ensures { option_map (λ n. node_of n.now) result ≡ node_of_place (graph_of graph.now) place }
+fn node_at(graph: &Graph, place: Next) -> Option<&SharedNode>
+    ensures node { option_map (λ n. shared_node_of graph.now.trees n.now) result
+        ≡ node_of_place (graph_of graph.now) place }
+    ensures within { IfSome result (λ n. IsSharedNode (length graph.now.trees) n.now) }
 {
     match place {
-        Next::At(n) => graph.nodes.get(n),
+        Next::At(n) => graph.nodes().get(n),
         Next::Ret | Next::Err => None,
     }
 }
@@ -214,7 +243,16 @@ pub fn leave(
     ensures extends { Extends bank.old bank.new }
 {
     match node_at(graph, place) {
-        Some(node) => leave_node(alloc, bank, variables, current, node, condition, state),
+        Some(node) => leave_node(
+            alloc,
+            bank,
+            graph.bank(),
+            variables,
+            current,
+            node,
+            condition,
+            state,
+        ),
         None => unchanged(condition, state),
     }
 }

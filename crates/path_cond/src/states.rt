@@ -1,27 +1,29 @@
 //! States: the term of each variable, as a map, and by the numbers of the variables that a graph
 //! binds.
 
-ghost use Rattle.std.specs.Prelude.{◌≡◌, ◌∷◌, true, length, map, List, IfOk, OnOk};
+ghost use Rattle.std.specs.Prelude.{◌≡◌, ◌<◌, ◌∷◌, true, length, map, nat_eq, List, IfOk, OnOk};
 ghost use Rattle.std.specs.HashMap.{get};
 ghost use Rattle.term_spec.specs.Same.{same_variable};
 ghost use Rattle.term_spec.specs.Substitution.{State as Terms};
 ghost use Rattle.term_bank.specs.Nodes.{Extends};
 ghost use Rattle.term_substitution.specs.States.{AreBelow};
+ghost use Rattle.term_substitution.specs.Transfers.{AreTaken, AreWithin, TakesMore};
 ghost use Rattle.condition_spec.specs.Conditions.{assigned};
-ghost use Rattle.graph_core.specs.Graphs.{binding_of};
+ghost use Rattle.graph_core.specs.Shared.{shared_binding_of, AreSharedBindings};
 ghost use Rattle.graph_spec.specs.Graph as spec;
 ghost use Rattle.path_cond.specs.Bound.{AreListed, has};
 ghost use Rattle.path_cond.specs.Ids.{id_at};
 ghost use Rattle.path_cond.specs.States.{HasState, IsCurrent, IsNumbered, IsPut, IsSet};
+ghost use Rattle.path_cond.specs.States.{IsUntaken};
 
 use crate::ids::Ids;
-use graph_core::Binding;
+use graph_core::SharedBinding;
 use indexmap::IndexSet;
 use std::alloc::{AllocError, Global};
 use std::collections::HashMap;
 use term_bank::{Bank, TermId};
 use term_spec::Variable;
-use term_substitution::substitute;
+use term_substitution::{Taken, transfer};
 
 /// The term of each variable; one that has none is itself.
 pub type State = HashMap<Variable, TermId>;
@@ -60,51 +62,74 @@ fn put(
     ids.with(alloc, number, id)
 }
 
-// The state after one more binding, whose term speaks of the state that `current` has.
+// The state after one more binding, whose term, of the bank `from`, speaks of the state that
+// `current` has.
 fn assign_one(
     alloc: Global,
     bank: &mut Bank,
+    from: &Bank,
     variables: &IndexSet<Variable>,
     current: &State,
-    binding: &Binding,
+    binding: SharedBinding,
     made: &Ids,
+    done: &mut Taken,
 ) -> Result<Ids, AllocError>
+    requires term { binding.term < length from.now }
     requires current { AreBelow (length bank.old) (get same_variable current.now) }
-    requires listed { has variables.now.keys binding.now.variable ≡ true }
+    requires listed { has variables.now.keys binding.variable ≡ true }
+    requires done { AreWithin (length bank.old) (get nat_eq done.old) }
     ensures state { (start state : Terms) (rest : List spec.Binding)
         → HasState bank.old variables.now.keys start (id_at made.now) (assigned rest state state)
         → IsCurrent bank.old (get same_variable current.now) state
+        → AreTaken state from.now bank.old (get nat_eq done.old)
         → IfOk result (λ new. HasState bank.new variables.now.keys start (id_at new)
-        (assigned (binding_of binding.now ∷ rest) state state)) }
+        (assigned (shared_binding_of from.now binding ∷ rest) state state)) }
+    ensures more { OnOk result (TakesMore from.now (get same_variable current.now) bank.old
+        bank.new (get nat_eq done.old) (get nat_eq done.new)) }
     ensures extends { Extends bank.old bank.new }
 {
-    let id = substitute(bank, &binding.term, current)?;
+    let id = transfer(bank, from, binding.term, current, done)?;
     put(alloc, variables, made, binding.variable, id)
 }
 
-/// The state after some bindings, all at once, from the state `ids`, whose terms `current` has.
+/// The state after some bindings, all at once, from the state `ids`, whose terms `current` has. The
+/// terms of the bindings are in the bank `from`, and nothing is taken from it yet.
 pub fn assign(
     alloc: Global,
     bank: &mut Bank,
+    from: &Bank,
     variables: &IndexSet<Variable>,
     current: &State,
-    bindings: &[Binding],
+    bindings: &[SharedBinding],
     ids: &Ids,
+    done: &mut Taken,
 ) -> Result<Ids, AllocError>
+    requires within { AreSharedBindings (length from.now) bindings.now }
     requires current { AreBelow (length bank.old) (get same_variable current.now) }
-    requires listed { AreListed variables.now.keys (map binding_of bindings.now) }
+    requires listed { AreListed variables.now.keys
+        (map (shared_binding_of from.now) bindings.now) }
+    requires done { IsUntaken (get nat_eq done.old) }
     ensures state { (start state : Terms)
         → HasState bank.old variables.now.keys start (id_at ids.now) state
         → IsCurrent bank.old (get same_variable current.now) state
         → IfOk result (λ new. HasState bank.new variables.now.keys start (id_at new)
-        (assigned (map binding_of bindings.now) state state)) }
+        (assigned (map (shared_binding_of from.now) bindings.now) state state)) }
     ensures extends { Extends bank.old bank.new }
 {
     let mut made = ids.share()?;
     let mut i = bindings.len();
     while i > 0 {
         i -= 1;
-        made = assign_one(alloc, bank, variables, current, &bindings[i], &made)?;
+        made = assign_one(
+            alloc,
+            bank,
+            from,
+            variables,
+            current,
+            bindings[i],
+            &made,
+            done,
+        )?;
     }
     Ok(made)
 }

@@ -1,12 +1,14 @@
 //! The nodes that a node of a graph leads to.
 
-ghost use Rattle.std.specs.Prelude.{◌≡◌, ◌⊎◌, ◌↔◌, [], ◌∷◌, IsTrue, IfOk, OnOk, Contains};
+ghost use Rattle.std.specs.Prelude.{◌≡◌, ◌⊎◌, ◌↔◌, [], ◌∷◌, List, IsTrue, IfOk, OnOk, Contains};
+ghost use Rattle.term_spec.specs.Term.{Term};
 ghost use Rattle.graph_spec.specs.Run.{GoesTo, IsEdge};
-ghost use Rattle.graph_core.specs.Graphs.{graph_of, graphs_of, node_of};
+ghost use Rattle.graph_core.specs.Graphs.{graph_of, graphs_of};
+ghost use Rattle.graph_core.specs.Shared.{shared_node_of};
 ghost use Rattle.proof_tree.specs.Ahead.{Grows, AreAhead};
 
 use attempt::attempt;
-use graph_core::{Graph, GraphRun, Next, Node};
+use graph_core::{Graph, GraphRun, Next, SharedNode};
 use indexmap::IndexSet;
 use std::alloc::{AllocError, Global};
 
@@ -72,15 +74,16 @@ fn add_both(found: &mut IndexSet<usize>, on_true: Next, on_false: Next) -> Resul
 }
 
 /// Adds the nodes to which an edge goes from a node.
-fn add_edges(found: &mut IndexSet<usize>, node: &Node) -> Result<(), AllocError>
-    ensures { OnOk result (Grows (GoesTo (node_of node.now)) found.old.keys found.new.keys) }
+fn add_edges(found: &mut IndexSet<usize>, node: &SharedNode) -> Result<(), AllocError>
+    ensures { (trees : List Term) → OnOk result (Grows (GoesTo (shared_node_of trees node.now))
+        found.old.keys found.new.keys) }
 {
     match node {
-        Node::Basic { next, .. } => {
+        SharedNode::Basic { next, .. } => {
             add_next(found, *next)?;
             Ok(())
         }
-        Node::Cond {
+        SharedNode::Cond {
             on_true,
             on_false,
             ..
@@ -88,7 +91,7 @@ fn add_edges(found: &mut IndexSet<usize>, node: &Node) -> Result<(), AllocError>
             add_both(found, *on_true, *on_false)?;
             Ok(())
         }
-        Node::Call { landing, .. } => {
+        SharedNode::Call { landing, .. } => {
             add(found, *landing)?;
             Ok(())
         }
@@ -100,7 +103,7 @@ fn follow(found: &mut IndexSet<usize>, graph: &Graph, node: usize) -> Result<(),
     ensures { OnOk result (Grows (IsEdge (graph_of graph.now ∷ []) 0 node) found.old.keys
         found.new.keys) }
 {
-    match graph.nodes.as_slice().get(node) {
+    match graph.nodes().get(node) {
         None => Ok(()),
         Some(node) => {
             add_edges(found, node)?;

@@ -1,6 +1,6 @@
 mod Passing
 mod Meeting
-mod Soundness
-mod Over
+pub mod Soundness
+pub mod Over
 mod PassedOver
 mod EachGoal

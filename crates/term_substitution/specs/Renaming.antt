@@ -1,5 +1,5 @@
 -- Variables of some families that belong to an instance, as a function's own variables do where its call is inlined.
-use Rattle.std.specs.Prelude.{ℕ, Bool, true, false, if◌then◌else◌, List}
+use Rattle.std.specs.Prelude.{ℕ, Bool, if◌then◌else◌, List}
 use Rattle.std.specs.List.{list_any}
 use Rattle.term_spec.specs.declared.Family.{Family}
 use Rattle.term_spec.specs.declared.Variable.{Variable}

@@ -1,15 +1,14 @@
 // Terms of a bank in place of the variables of a tree.
 
 ghost use Rattle.std.specs.Prelude.{◌≤◌, List, length};
-ghost use Rattle.std.specs.HashMap.{get};
 ghost use Rattle.term_spec.specs.Term as tree;
-ghost use Rattle.term_spec.specs.Same.{same_variable};
 ghost use Rattle.term_spec.specs.Substitution.{substituted, substituted_atom};
 ghost use Rattle.term_core.specs.Trees.{term_of};
 ghost use Rattle.term_bank.specs.Nodes.{Extends};
 ghost use Rattle.term_substitution.specs.States.{state_of, IsStateOf, AreBelow, IsAt, IsFound};
 
-use std::alloc::AllocError;
+use crate::lookup::Lookup;
+use std::alloc::{AllocError, Global};
 use std::collections::HashMap;
 use term_bank::{Bank, TermId, TermNode};
 use term_core::Term;
@@ -17,24 +16,24 @@ use term_spec::{
     Atom, BinaryOperator, QuaternaryOperator, TernaryOperator, UnaryOperator, Variable,
 };
 
-// The term of a variable, or a constant; `size` is above the ids of the state.
-fn put_atom(
+/// The term of a variable, or a constant; `size` is above the ids of the state.
+pub(crate) fn put_atom<L: Lookup>(
     bank: &mut Bank,
     atom: Atom,
-    state: &HashMap<Variable, TermId>,
+    state: &L,
     size: usize,
 ) -> Result<TermId, AllocError>
-    requires state { AreBelow size (get same_variable state.now) }
+    requires state { AreBelow size (L.terms state.now) }
     requires size { size ≤ length bank.old }
-    ensures tree { (base : List tree.Term) → Extends base bank.old → IsStateOf base (get same_variable state.now)
-        → IsAt bank.new result (substituted_atom (state_of base (get same_variable state.now)) atom) }
+    ensures tree { (base : List tree.Term) → Extends base bank.old → IsStateOf base (L.terms state.now)
+        → IsAt bank.new result (substituted_atom (state_of base (L.terms state.now)) atom) }
     ensures within { IsFound bank.new result }
     ensures extends { Extends bank.old bank.new }
     ensures longer { length bank.old ≤ length bank.new }
 {
     if let Atom::Open(variable) = atom {
-        if let Some(id) = state.get(&variable) {
-            return Ok(*id);
+        if let Some(id) = state.term(&variable) {
+            return Ok(id);
         }
     }
     bank.add(TermNode::Leaf(atom))
@@ -177,16 +176,16 @@ fn over_eight(
 }
 
 // The index of a tree with the terms of the state in place of its variables.
-fn put(
+fn put<L: Lookup>(
     bank: &mut Bank,
     term: &Term,
-    state: &HashMap<Variable, TermId>,
+    state: &L,
     size: usize,
 ) -> Result<TermId, AllocError>
-    requires state { AreBelow size (get same_variable state.now) }
+    requires state { AreBelow size (L.terms state.now) }
     requires size { size ≤ length bank.old }
-    ensures tree { (base : List tree.Term) → Extends base bank.old → IsStateOf base (get same_variable state.now)
-        → IsAt bank.new result (substituted (state_of base (get same_variable state.now)) (term_of term.now)) }
+    ensures tree { (base : List tree.Term) → Extends base bank.old → IsStateOf base (L.terms state.now)
+        → IsAt bank.new result (substituted (state_of base (L.terms state.now)) (term_of term.now)) }
     ensures within { IsFound bank.new result }
     ensures extends { Extends bank.old bank.new }
     ensures longer { length bank.old ≤ length bank.new }
@@ -231,17 +230,23 @@ fn put(
 
 /// The index of a tree with the terms of `state` in place of its variables, all at once; a variable
 /// that has none stays. Out of memory, the bank may have some more terms.
-pub fn substitute(
-    bank: &mut Bank,
-    term: &Term,
-    state: &HashMap<Variable, TermId>,
-) -> Result<TermId, AllocError>
-    requires { AreBelow (length bank.old) (get same_variable state.now) }
+pub fn substitute<L: Lookup>(bank: &mut Bank, term: &Term, state: &L) -> Result<TermId, AllocError>
+    requires { AreBelow (length bank.old) (L.terms state.now) }
     ensures tree { IsAt bank.new result
-        (substituted (state_of bank.old (get same_variable state.now)) (term_of term.now)) }
+        (substituted (state_of bank.old (L.terms state.now)) (term_of term.now)) }
     ensures within { IsFound bank.new result }
     ensures extends { Extends bank.old bank.new }
 {
     let size = bank.len();
     put(bank, term, state, size)
+}
+
+/// The index of a tree. Out of memory, the bank may have some more terms.
+pub fn intern(alloc: Global, bank: &mut Bank, term: &Term) -> Result<TermId, AllocError>
+    ensures tree { IsAt bank.new result (term_of term.now) }
+    ensures within { IsFound bank.new result }
+    ensures extends { Extends bank.old bank.new }
+{
+    let none: HashMap<Variable, TermId> = HashMap::new(alloc);
+    substitute(bank, term, &none)
 }

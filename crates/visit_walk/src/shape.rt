@@ -1,11 +1,12 @@
 //! The shape of a graph.
 
-ghost use Rattle.std.specs.Prelude.{◌≡◌, [], map, slice_set, IfOk, OnOk};
-ghost use Rattle.graph_core.specs.Graphs.{graph_of, node_of};
+ghost use Rattle.std.specs.Prelude.{◌≡◌, [], List, map, slice_set, IfOk, OnOk};
+ghost use Rattle.term_spec.specs.Term.{Term};
+ghost use Rattle.graph_core.specs.Graphs.{graph_of};
+ghost use Rattle.graph_core.specs.Shared.{shared_node_of};
 ghost use Rattle.visit_spec.specs.Shape as spec;
 
-use attempt::attempt;
-use graph_core::{Graph, Node};
+use graph_core::{Graph, SharedNode};
 use std::alloc::{AllocError, Global};
 use visit_spec::Successors;
 
@@ -16,18 +17,19 @@ pub struct Shape {
     pub successors: Vec<Successors>,
 }
 
-/// Where a run continues after a node.
-fn successors_of(node: &Node) -> Successors
-    ensures { result ≡ spec.successors_of (node_of node.now) }
+/// Where a run continues after a node, whatever its terms are.
+fn successors_of(node: &SharedNode) -> Successors
+    ensures { (trees : List Term)
+        → result ≡ spec.successors_of (shared_node_of trees node.now) }
 {
     match node {
-        Node::Basic { next, .. } => Successors::One(*next),
-        Node::Cond {
+        SharedNode::Basic { next, .. } => Successors::One(*next),
+        SharedNode::Cond {
             on_true,
             on_false,
             ..
         } => Successors::Two(*on_true, *on_false),
-        Node::Call { .. } => Successors::Callee,
+        SharedNode::Call { .. } => Successors::Callee,
     }
 }
 
@@ -38,7 +40,7 @@ impl Shape {
             ≡ spec.shape_of (graph_of graph.now)) }
     {
         let mut successors = Vec::new(alloc);
-        attempt!(add_successors(&mut successors, graph.nodes.as_slice()));
+        add_successors(&mut successors, graph.nodes())?;
         Ok(Shape { successors })
     }
 
@@ -54,9 +56,10 @@ impl Shape {
 }
 
 /// Adds the successors of each node.
-fn add_successors(successors: &mut Vec<Successors>, nodes: &[Node]) -> Result<(), AllocError>
+fn add_successors(successors: &mut Vec<Successors>, nodes: &[SharedNode]) -> Result<(), AllocError>
     requires { successors.old.items ≡ [] }
-    ensures { OnOk result (successors.new.items ≡ map spec.successors_of (map node_of nodes.now)) }
+    ensures { (trees : List Term) → OnOk result (successors.new.items
+        ≡ map spec.successors_of (map (shared_node_of trees) nodes.now)) }
 {
     for node in nodes {
         successors.push(successors_of(node))?;

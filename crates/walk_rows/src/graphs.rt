@@ -170,7 +170,7 @@ fn node(alloc: Global, word: &str, number: usize) -> Result<Node, AllocError> {
 pub(crate) fn read(alloc: Global, text: &str) -> Result<Graph, AllocError> {
     let mut graph = Graph::new(alloc);
     for word in text.split(' ') {
-        let number = graph.nodes.len();
+        let number = graph.len();
         let node = node(alloc, word, number)?;
         graph.add(node)?;
     }

@@ -2,14 +2,16 @@
 //! of it.
 //!
 //! A row is `QUESTION WORDS = ANSWER`; each is printed with `ok`, or with what was found in place
-//! of the answer. The modules `lists`, `conditions`, `cuts` and `nesting` have the questions, and
-//! `words` and `graphs` have how a walk and a graph are written. A row without ` = ` is a title.
+//! of the answer. The modules `lists`, `conditions`, `loads`, `cuts` and `nesting` have the
+//! questions, and `words` and `graphs` have how a walk and a graph are written. A row without ` = `
+//! is a title.
 #![tactic(auto)]
 
 mod conditions;
 mod cuts;
 mod graphs;
 mod lists;
+mod loads;
 mod nesting;
 mod words;
 
@@ -25,6 +27,7 @@ fn add_found(alloc: Global, out: &mut String, row: &str) -> Result<(), AllocErro
         "conditions" | "sizes" | "stops" | "bounds" | "returns" | "failures" => {
             conditions::answer(alloc, out, name, text)
         }
+        "loads" => loads::answer(alloc, out, text),
         "cut" => cuts::answer(alloc, out, text),
         "cases" | "negations" => nesting::answer(alloc, out, name, text),
         _ => Ok(()),

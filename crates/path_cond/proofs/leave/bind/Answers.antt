@@ -1,5 +1,7 @@
-use Rattle.std.proofs.Common.{length}
+use Rattle.std.proofs.Common.{◌≡◌, ℕ, List, None, ap, length}
+use Rattle.std.specs.Prelude.{nat_eq}
 use Rattle.std.specs.HashMap.{get}
+use Rattle.std.specs.Map.{lookup}
 use Rattle.term_spec.specs.Same.{same_variable}
 use Rattle.path_cond.specs.Ids.{id_at}
 use Rattle.path_cond.proofs.Changed.{numbered}
@@ -19,3 +21,6 @@ returns-clause-state c = λ start s holds outside.
     c.assign.ensures.state start s holds
     (current_set c.args.variables.now.keys (id_at c.args.state.now) (get same_variable c.args.current.now) (get same_variable c.set_current.new.current) c.in_ok-set_current.ensures
     c.args.bank.now start s holds outside)
+
+pub assign-requires-clause-done : goal.assign-requires-clause-done
+assign-requires-clause-done c = λ id. ap (λ (entries : List (ℕ × ℕ)). lookup (nat_eq id) entries) c.new-done.ensures.empty

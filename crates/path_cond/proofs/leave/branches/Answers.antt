@@ -3,8 +3,7 @@ use Rattle.std.specs.HashMap.{get}
 use Rattle.term_spec.specs.Same.{same_variable}
 use Rattle.term_spec.specs.Substitution.{State, substituted}
 use Rattle.term_spec.specs.Term.{Term, not_term}
-use Rattle.term_core.specs.Trees.{term_of}
-use Rattle.term_bank.specs.Nodes.{Holds}
+use Rattle.term_bank.specs.Nodes.{tree_at, Holds}
 use Rattle.term_bank.proofs.Substitution.{kept}
 use Rattle.term_substitution.specs.States.{state_of}
 use Rattle.path_cond.proofs.Banks.{extends_then, tree_is}
@@ -14,14 +13,14 @@ use Rattle.path_cond.proofs.leave.branches.Goals as goal
 pub returns-clause-branches : goal.returns-clause-branches
 returns-clause-branches c = λ condition state holds current.
     let b0 = c.args.bank.now in
-    let b1 = c.substitute.new.bank in
+    let b1 = c.transfer_one.new.bank in
     let b2 = c.add.new.self in
     let b3 = c.add-2.new.self in
     let b4 = c.add-3.new.self in
-    let test : Term = substituted state (term_of c.args.test.now) in
+    let test : Term = substituted state (tree_at c.args.from.now c.args.test) in
     let is : state_of b0 (get same_variable c.args.current.now) ≡ state = λ i v. current v i in
-    let of_test : Holds b1 c.in_ok-holds.holds test = subst (λ (s : State). Holds b1 c.in_ok-holds.holds (substituted s (term_of c.args.test.now))) is c.in_ok-holds.ensures.tree in
-    let e02 = extends_then b0 b1 b2 c.substitute.ensures.extends c.add.ensures.extends in
+    let of_test : Holds b1 c.in_ok-holds.holds test = subst (λ (s : State). Holds b1 c.in_ok-holds.holds (substituted s (tree_at c.args.from.now c.args.test))) is c.in_ok-holds.ensures.tree in
+    let e02 = extends_then b0 b1 b2 c.transfer_one.ensures.extends c.add.ensures.extends in
     let e03 = extends_then b0 b2 b3 e02 c.add-2.ensures.extends in
     let of_not : Holds b2 c.in_ok-fails.fails (not_term test) = c.in_ok-fails.ensures.id ∙ ap (λ (t : Term). Some (not_term t)) (tree_is b1 c.in_ok-holds.holds test of_test) in
     let here = kept b1 b2 c.in_ok-holds.holds test c.add.ensures.extends of_test in

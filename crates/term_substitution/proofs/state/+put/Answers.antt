@@ -1,7 +1,5 @@
-use Rattle.std.proofs.Common.{◌≡◌, ℕ, ap, sym, subst, arith, Option}
-use Rattle.std.specs.HashMap.{get}
+use Rattle.std.proofs.Common.{ℕ, sym, subst, arith, Option}
 use Rattle.term_spec.specs.declared.Variable.{Variable}
-use Rattle.term_spec.specs.Same.{same_variable}
 use Rattle.term_spec.specs.Substitution.{State, substituted}
 use Rattle.term_core.specs.Trees.{term_of}
 use Rattle.term_substitution.specs.States.{state_of, IsAt}
@@ -9,12 +7,12 @@ use Rattle.term_substitution.proofs.Growing.{through, later, later_within}
 use Rattle.term_substitution.proofs.state.+put.Goals as goal
 
 pub returns-in-Unary-clause-extends : goal.returns-in-Unary-clause-extends
-returns-in-Unary-clause-extends t c = through c.args.bank.now c.put-x.new.bank c.over_one.new.bank c.put-x.ensures.extends c.over_one.ensures.extends
+returns-in-Unary-clause-extends g t c = through c.args.bank.now c.put-x.new.bank c.over_one.new.bank c.put-x.ensures.extends c.over_one.ensures.extends
 
 pub returns-in-Unary-clause-tree : goal.returns-in-Unary-clause-tree
 unfolding substituted
-returns-in-Unary-clause-tree t c = λ base e fits.
-    let ids : Variable → Option ℕ = get same_variable c.args.state.now in
+returns-in-Unary-clause-tree g t c = λ base e fits.
+    let ids : Variable → Option ℕ = g.L.Lookup.terms c.args.state.now in
     let state : State = state_of base ids in
     let e0 = e in
     let at0 : IsAt c.put-x.new.bank c.put-x.result (substituted state (term_of c.in-Unary.a.value)) =
@@ -24,19 +22,19 @@ returns-in-Unary-clause-tree t c = λ base e fits.
     at0)
 
 pub over_two-requires : goal.over_two-requires
-over_two-requires t c =
+over_two-requires g t c =
     record {
       a_within = later_within c.put-x-in-Binary.new.bank c.put-y.new.bank c.put-x-in-Binary.result (omega arith) c.put-x-in-Binary.ensures.within;
       b_within = c.put-y.ensures.within;
     }
 
 pub returns-in-Binary-clause-extends : goal.returns-in-Binary-clause-extends
-returns-in-Binary-clause-extends t c = through c.args.bank.now c.put-x-in-Binary.new.bank c.over_two.new.bank c.put-x-in-Binary.ensures.extends (through c.put-x-in-Binary.new.bank c.put-y.new.bank c.over_two.new.bank c.put-y.ensures.extends c.over_two.ensures.extends)
+returns-in-Binary-clause-extends g t c = through c.args.bank.now c.put-x-in-Binary.new.bank c.over_two.new.bank c.put-x-in-Binary.ensures.extends (through c.put-x-in-Binary.new.bank c.put-y.new.bank c.over_two.new.bank c.put-y.ensures.extends c.over_two.ensures.extends)
 
 pub returns-in-Binary-clause-tree : goal.returns-in-Binary-clause-tree
 unfolding substituted
-returns-in-Binary-clause-tree t c = λ base e fits.
-    let ids : Variable → Option ℕ = get same_variable c.args.state.now in
+returns-in-Binary-clause-tree g t c = λ base e fits.
+    let ids : Variable → Option ℕ = g.L.Lookup.terms c.args.state.now in
     let state : State = state_of base ids in
     let e0 = e in
     let at0 : IsAt c.put-x-in-Binary.new.bank c.put-x-in-Binary.result (substituted state (term_of c.in-Binary.a.value)) =
@@ -50,7 +48,7 @@ returns-in-Binary-clause-tree t c = λ base e fits.
     at1)
 
 pub over_three-requires : goal.over_three-requires
-over_three-requires t c =
+over_three-requires g t c =
     record {
       a_within = later_within c.put-x-in-Ternary.new.bank c.put-z.new.bank c.put-x-in-Ternary.result (omega arith) c.put-x-in-Ternary.ensures.within;
       b_within = later_within c.put-y-in-Ternary.new.bank c.put-z.new.bank c.put-y-in-Ternary.result (omega arith) c.put-y-in-Ternary.ensures.within;
@@ -58,12 +56,12 @@ over_three-requires t c =
     }
 
 pub returns-in-Ternary-clause-extends : goal.returns-in-Ternary-clause-extends
-returns-in-Ternary-clause-extends t c = through c.args.bank.now c.put-x-in-Ternary.new.bank c.over_three.new.bank c.put-x-in-Ternary.ensures.extends (through c.put-x-in-Ternary.new.bank c.put-y-in-Ternary.new.bank c.over_three.new.bank c.put-y-in-Ternary.ensures.extends (through c.put-y-in-Ternary.new.bank c.put-z.new.bank c.over_three.new.bank c.put-z.ensures.extends c.over_three.ensures.extends))
+returns-in-Ternary-clause-extends g t c = through c.args.bank.now c.put-x-in-Ternary.new.bank c.over_three.new.bank c.put-x-in-Ternary.ensures.extends (through c.put-x-in-Ternary.new.bank c.put-y-in-Ternary.new.bank c.over_three.new.bank c.put-y-in-Ternary.ensures.extends (through c.put-y-in-Ternary.new.bank c.put-z.new.bank c.over_three.new.bank c.put-z.ensures.extends c.over_three.ensures.extends))
 
 pub returns-in-Ternary-clause-tree : goal.returns-in-Ternary-clause-tree
 unfolding substituted
-returns-in-Ternary-clause-tree t c = λ base e fits.
-    let ids : Variable → Option ℕ = get same_variable c.args.state.now in
+returns-in-Ternary-clause-tree g t c = λ base e fits.
+    let ids : Variable → Option ℕ = g.L.Lookup.terms c.args.state.now in
     let state : State = state_of base ids in
     let e0 = e in
     let at0 : IsAt c.put-x-in-Ternary.new.bank c.put-x-in-Ternary.result (substituted state (term_of c.in-Ternary.a.value)) =
@@ -81,7 +79,7 @@ returns-in-Ternary-clause-tree t c = λ base e fits.
     at2)
 
 pub over_four-requires : goal.over_four-requires
-over_four-requires t c =
+over_four-requires g t c =
     record {
       a_within = later_within c.put-x-in-Quaternary.new.bank c.put-w.new.bank c.put-x-in-Quaternary.result (omega arith) c.put-x-in-Quaternary.ensures.within;
       b_within = later_within c.put-y-in-Quaternary.new.bank c.put-w.new.bank c.put-y-in-Quaternary.result (omega arith) c.put-y-in-Quaternary.ensures.within;
@@ -90,12 +88,12 @@ over_four-requires t c =
     }
 
 pub returns-in-Quaternary-clause-extends : goal.returns-in-Quaternary-clause-extends
-returns-in-Quaternary-clause-extends t c = through c.args.bank.now c.put-x-in-Quaternary.new.bank c.over_four.new.bank c.put-x-in-Quaternary.ensures.extends (through c.put-x-in-Quaternary.new.bank c.put-y-in-Quaternary.new.bank c.over_four.new.bank c.put-y-in-Quaternary.ensures.extends (through c.put-y-in-Quaternary.new.bank c.put-z-in-Quaternary.new.bank c.over_four.new.bank c.put-z-in-Quaternary.ensures.extends (through c.put-z-in-Quaternary.new.bank c.put-w.new.bank c.over_four.new.bank c.put-w.ensures.extends c.over_four.ensures.extends)))
+returns-in-Quaternary-clause-extends g t c = through c.args.bank.now c.put-x-in-Quaternary.new.bank c.over_four.new.bank c.put-x-in-Quaternary.ensures.extends (through c.put-x-in-Quaternary.new.bank c.put-y-in-Quaternary.new.bank c.over_four.new.bank c.put-y-in-Quaternary.ensures.extends (through c.put-y-in-Quaternary.new.bank c.put-z-in-Quaternary.new.bank c.over_four.new.bank c.put-z-in-Quaternary.ensures.extends (through c.put-z-in-Quaternary.new.bank c.put-w.new.bank c.over_four.new.bank c.put-w.ensures.extends c.over_four.ensures.extends)))
 
 pub returns-in-Quaternary-clause-tree : goal.returns-in-Quaternary-clause-tree
 unfolding substituted
-returns-in-Quaternary-clause-tree t c = λ base e fits.
-    let ids : Variable → Option ℕ = get same_variable c.args.state.now in
+returns-in-Quaternary-clause-tree g t c = λ base e fits.
+    let ids : Variable → Option ℕ = g.L.Lookup.terms c.args.state.now in
     let state : State = state_of base ids in
     let e0 = e in
     let at0 : IsAt c.put-x-in-Quaternary.new.bank c.put-x-in-Quaternary.result (substituted state (term_of c.in-Quaternary.a.value)) =
@@ -117,7 +115,7 @@ returns-in-Quaternary-clause-tree t c = λ base e fits.
     at3)
 
 pub over_eight-requires : goal.over_eight-requires
-over_eight-requires t c =
+over_eight-requires g t c =
     record {
       a_within = later_within c.put-x-in-Octonary.new.bank c.put-v.new.bank c.put-x-in-Octonary.result (omega arith) c.put-x-in-Octonary.ensures.within;
       b_within = later_within c.put-y-in-Octonary.new.bank c.put-v.new.bank c.put-y-in-Octonary.result (omega arith) c.put-y-in-Octonary.ensures.within;
@@ -130,12 +128,12 @@ over_eight-requires t c =
     }
 
 pub returns-in-Octonary-clause-extends : goal.returns-in-Octonary-clause-extends
-returns-in-Octonary-clause-extends t c = through c.args.bank.now c.put-x-in-Octonary.new.bank c.over_eight.new.bank c.put-x-in-Octonary.ensures.extends (through c.put-x-in-Octonary.new.bank c.put-y-in-Octonary.new.bank c.over_eight.new.bank c.put-y-in-Octonary.ensures.extends (through c.put-y-in-Octonary.new.bank c.put-z-in-Octonary.new.bank c.over_eight.new.bank c.put-z-in-Octonary.ensures.extends (through c.put-z-in-Octonary.new.bank c.put-w-in-Octonary.new.bank c.over_eight.new.bank c.put-w-in-Octonary.ensures.extends (through c.put-w-in-Octonary.new.bank c.put-s.new.bank c.over_eight.new.bank c.put-s.ensures.extends (through c.put-s.new.bank c.put-t.new.bank c.over_eight.new.bank c.put-t.ensures.extends (through c.put-t.new.bank c.put-u.new.bank c.over_eight.new.bank c.put-u.ensures.extends (through c.put-u.new.bank c.put-v.new.bank c.over_eight.new.bank c.put-v.ensures.extends c.over_eight.ensures.extends)))))))
+returns-in-Octonary-clause-extends g t c = through c.args.bank.now c.put-x-in-Octonary.new.bank c.over_eight.new.bank c.put-x-in-Octonary.ensures.extends (through c.put-x-in-Octonary.new.bank c.put-y-in-Octonary.new.bank c.over_eight.new.bank c.put-y-in-Octonary.ensures.extends (through c.put-y-in-Octonary.new.bank c.put-z-in-Octonary.new.bank c.over_eight.new.bank c.put-z-in-Octonary.ensures.extends (through c.put-z-in-Octonary.new.bank c.put-w-in-Octonary.new.bank c.over_eight.new.bank c.put-w-in-Octonary.ensures.extends (through c.put-w-in-Octonary.new.bank c.put-s.new.bank c.over_eight.new.bank c.put-s.ensures.extends (through c.put-s.new.bank c.put-t.new.bank c.over_eight.new.bank c.put-t.ensures.extends (through c.put-t.new.bank c.put-u.new.bank c.over_eight.new.bank c.put-u.ensures.extends (through c.put-u.new.bank c.put-v.new.bank c.over_eight.new.bank c.put-v.ensures.extends c.over_eight.ensures.extends)))))))
 
 pub returns-in-Octonary-clause-tree : goal.returns-in-Octonary-clause-tree
 unfolding substituted
-returns-in-Octonary-clause-tree t c = λ base e fits.
-    let ids : Variable → Option ℕ = get same_variable c.args.state.now in
+returns-in-Octonary-clause-tree g t c = λ base e fits.
+    let ids : Variable → Option ℕ = g.L.Lookup.terms c.args.state.now in
     let state : State = state_of base ids in
     let e0 = e in
     let at0 : IsAt c.put-x-in-Octonary.new.bank c.put-x-in-Octonary.result (substituted state (term_of c.in-Octonary.a.value)) =
@@ -174,6 +172,6 @@ returns-in-Octonary-clause-tree t c = λ base e fits.
 
 pub returns-in-Leaf-clause-tree : goal.returns-in-Leaf-clause-tree
 unfolding substituted
-returns-in-Leaf-clause-tree t c = λ base e fits.
-    subst (λ u. IsAt c.put_atom.new.bank c.put_atom.result (substituted (state_of base (get same_variable c.args.state.now)) (term_of u))) (sym c.in-Leaf.is)
+returns-in-Leaf-clause-tree g t c = λ base e fits.
+    subst (λ u. IsAt c.put_atom.new.bank c.put_atom.result (substituted (state_of base (g.L.Lookup.terms c.args.state.now)) (term_of u))) (sym c.in-Leaf.is)
     (c.put_atom.ensures.tree base e fits)

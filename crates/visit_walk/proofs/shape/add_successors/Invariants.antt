@@ -1,7 +1,8 @@
-use Rattle.std.proofs.Common.{◌≡◌, map, take}
-use Rattle.graph_core.specs.Graphs.{node_of}
+use Rattle.std.proofs.Common.{◌≡◌, List, map, take}
+use Rattle.term_spec.specs.Term.{Term}
+use Rattle.graph_core.specs.Shared.{shared_node_of}
 use Rattle.visit_spec.specs.Shape as spec
 use Rattle.visit_walk.proofs.shape.add_successors.Given as goal
 
 abbrev pub invariant-loop-node : goal.invariant-loop-node
-invariant-loop-node l = l.successors.items ≡ map spec.successors_of (map node_of (take l.node-index l.nodes))
+invariant-loop-node l = (trees : List Term) → l.successors.items ≡ map spec.successors_of (map (shared_node_of trees) (take l.node-index l.nodes))
