@@ -1,6 +1,5 @@
 -- Agreement, from a simulation of the graphs at a start, and from what both sides' graphs have of machine and C run.
-use Rattle.std.proofs.Common.{◌≡◌, ◌∙◌, ◌⊎◌, ℕ, ℤ, ◌≤◌, Bool, true, false, List, [], Option, Some, None, refl, sym, ap, subst, inl, inr}
-use Rattle.std.specs.Prelude.{◌↔◌}
+use Rattle.std.proofs.Common.{◌≡◌, ◌∙◌, ℕ, ℤ, Bool, true, false, List, [], Option, Some, refl, sym, ap, subst, inl, inr}
 use Rattle.memory_spec.specs.Memory.{Memory}
 use Rattle.memory_spec.specs.Zones.{Zone}
 use Rattle.rv_spec.specs.Machine.{Machine, read_register}
@@ -16,28 +15,28 @@ use Rattle.code_graph_spec.specs.State.{Alike}
 use Rattle.code_graph_spec.specs.Blocks.{Entrance}
 use Rattle.code_graph_laws.specs.Together as together
 use Rattle.code_graph_laws.specs.Together.{ReturnTogether}
-use Rattle.c_meaning_spec.specs.Calls.{Outcome, Broke, Back, c_run}
+use Rattle.c_meaning_spec.specs.Calls.{Outcome, Back, c_run}
 use Rattle.c_graph_laws.specs.Together as c
 use Rattle.c_graph_laws.specs.Together.{RunTogether, ReturnsAlike}
 use Rattle.c_graph_spec.specs.SourceGraph.{body_number, graphs_of}
 use Rattle.claim_spec.specs.Convention.{Gives}
-use Rattle.agreement_laws.specs.Agreement.{AgreesFrom, ComesBack, RunsBack, BreaksNoGuard, result_words}
+use Rattle.agreement_laws.specs.Agreement.{AgreesFrom, ComesBack, RunsBack, result_words}
 use Rattle.agreement_laws.specs.EntryFrame.{Pair, place_of}
 use Rattle.agreement_laws.proofs.Ends.{first_back, whole, safe, forth, back}
 
 -- ---- ends of graphs' runs
 
-returned_is : (s : State) → has_returned s ≡ true → (values : Assignment) × (s ≡ Returned values)
+pub returned_is : (s : State) → has_returned s ≡ true → (values : Assignment) × (s ≡ Returned values)
 returned_is (Running g n values below) h = absurd (let bad : false ≡ true = h in cc)
 returned_is (Returned values) h = (values, refl)
 returned_is Failed h = absurd (let bad : false ≡ true = h in cc)
 
-failed_apart : (s : State) → has_failed s ≡ true → has_returned s ≡ false
+pub failed_apart : (s : State) → has_failed s ≡ true → has_returned s ≡ false
 failed_apart (Running g n values below) h = refl
 failed_apart (Returned values) h = absurd (let bad : false ≡ true = h in cc)
 failed_apart Failed h = refl
 
-returned_stays : (graphs : Graphs) (s : State) → has_returned s ≡ true → graph.step graphs s ≡ s
+pub returned_stays : (graphs : Graphs) (s : State) → has_returned s ≡ true → graph.step graphs s ≡ s
 unfolding graph.step
 returned_stays graphs (Running g n values below) h = absurd (let bad : false ≡ true = h in cc)
 returned_stays graphs (Returned values) h = refl

@@ -1,61 +1,33 @@
 -- The simulation of the frame at the entry gives agreement.
-use Rattle.std.proofs.Common.{◌≡◌, ◌≢◌, ◌∙◌, ℕ, ◌+◌, ◌≤◌, ◌&&◌, true, arith, List, [], ◌∷◌, ◌++◌, length, slice_get, Option, Some, None, option_and_then, refl, sym, ap, subst}
+use Rattle.std.proofs.Common.{◌≡◌, ◌∙◌, ℕ, ◌+◌, List, refl, sym, ap, subst}
 use Rattle.std.specs.Prelude.{ℤ}
-use Rattle.std.specs.List.{All}
-use Rattle.std.proofs.lemmas.Bool.{and_from}
-use Rattle.elf_spec.specs.Image.{size_at, fixed_byte}
+use Rattle.elf_spec.specs.Image.{fixed_byte, function_named}
+use Rattle.elf_spec.specs.declared.SymbolValues.TheVariants.{One}
+use Rattle.rv_spec.specs.Arithmetic.{word}
 use Rattle.rv_spec.specs.Machine.{Machine, read_register}
-use Rattle.rv_spec.proofs.Kept.{read_below, byte_below}
-use Rattle.code_spec.specs.Code.{itself}
-use Rattle.term_spec.specs.declared.Family.TheVariants as family
-use Rattle.term_spec.specs.Term.{Term}
+use Rattle.rv_spec.proofs.Kept.{read_below}
+use Rattle.code_spec.specs.Code.{IsStack}
 use Rattle.term_spec.specs.declared.Width.TheVariants.{W32}
-use Rattle.term_spec.specs.declared.Variable.{Variable}
-use Rattle.term_spec.specs.Value.{Number, Assignment, IsAssignment}
-use Rattle.condition_spec.specs.Passages.{holds}
-use Rattle.graph_spec.specs.Graph.{Node, Graph, node_at}
-use Rattle.graph_spec.specs.Variables.{own_bindings}
-use Rattle.code_graph_spec.specs.State.{entry_register}
-use Rattle.code_graph_spec.specs.CodeGraph.{IsCodeGraph}
-use Rattle.code_graph_laws.specs.Together.{StartAlike, StepTogether, ReturnTogether, setting}
+use Rattle.term_spec.specs.Value.{Number, Assignment}
+use Rattle.code_graph_laws.specs.Together.{StartAlike, StepTogether, ReturnTogether}
 use Rattle.code_graph_laws.proofs.Running.{return_together, step_together}
-use Rattle.code_graph_laws.proofs.Binding.{never_binds}
-use Rattle.c_type_spec.specs.declared.Scalar.{Scalar}
-use Rattle.c_type_spec.specs.HasType.{IsTypedBody}
-use Rattle.c_meaning_spec.specs.Calls.{locals_at_entry}
-use Rattle.c_graph_laws.specs.Together.{Alike}
-use Rattle.c_graph_laws.proofs.Extents.{BodyExtents, IsPlain, unit_extents}
-use Rattle.c_graph_laws.proofs.ValidGraphs.{all_valid}
-use Rattle.rule_spec.specs.Points.{values_at, all_hold, with_memory}
-use Rattle.rule_spec.proofs.Start.{all_at}
-use Rattle.rule_spec.proofs.Truths.{all_left, pass_all}
-use Rattle.claim_spec.specs.Convention.{dead_stack, Meets}
-use Rattle.agreement_laws.specs.Agreement.{AgreesFrom, AgreesWith, BreaksNoGuard, HaveTypes, argument_words, run_from}
-use Rattle.agreement_laws.specs.EntryFrame.{Pair, place_of, convention_of, entry_frame, entry_opening, entry_premises, lines_of, binary_facts, source_facts}
-use Rattle.agreement_laws.specs.Statements.{IsPair, IsEntry, KeepsFixed, KeepsZone, IsSimulatedAtEntry, binary_entry, source_entry}
-use Rattle.agreement_laws.proofs.Entry.{Never}
-use Rattle.agreement_laws.proofs.Assigned.{binary_values, source_values, binary_sorted, binary_entry_is, binary_alike, source_sorted}
-use Rattle.agreement_laws.proofs.Premises.{premises_hold}
-use Rattle.agreement_laws.proofs.Fine.{always, always_source, fixed_bytes}
-use Rattle.agreement_laws.proofs.Facts.{facts_hold, source_alike, front_of, Front, same_length, words_length, are_passed, Passed}
-use Rattle.agreement_laws.proofs.Entries.{body_has, entries_agree, some_size}
+use Rattle.claim_spec.specs.Convention.{Meets}
+use Rattle.agreement_laws.specs.Agreement.{AgreesWith, HaveTypes, IsValid, argument_words}
+use Rattle.agreement_laws.specs.EntryFrame.{Pair}
+use Rattle.agreement_laws.specs.Statements.{IsPair, IsEntry, IsSimulatedAtEntry}
+use Rattle.agreement_laws.proofs.Assigned.{binary_values, binary_sorted, binary_entry_is, binary_register_is, binary_alike}
+use Rattle.agreement_laws.proofs.Premises.{IsCalled}
+use Rattle.agreement_laws.proofs.Fine.{far_there, fixed_bytes}
+use Rattle.agreement_laws.proofs.Facts.{word_is}
+use Rattle.agreement_laws.proofs.Begun.{IsBegun, source_of, like_source, premise, binary_fine, source_fine}
+use Rattle.agreement_laws.proofs.Entries.{entries_agree}
+use Rattle.agreement_laws.proofs.Pairs.{size}
+use Rattle.agreement_laws.proofs.Stacks.{one_stack}
 
-module _ (p : Pair) (is : IsPair p) (keeps : KeepsFixed p) (zone : KeepsZone p) (simulated : IsSimulatedAtEntry p) (m : Machine) (arguments : List ℤ)
+module _ (p : Pair) (is : IsPair p) (m : Machine) (arguments : List ℤ)
     (typed : HaveTypes p.body.signature.parameters arguments) (meets : Meets p.image p.entry p.stack m (argument_words arguments)) where
-  words : List ℕ
-  words = argument_words arguments
-
   abbrev a : Assignment
   a = binary_values m
-
-  abbrev b : Assignment
-  b = source_values (argument_words arguments) m.memory (dead_stack m p.stack)
-
-  size : (n : ℕ) × (size_at p.image p.entry ≡ Some n)
-  size = some_size (size_at p.image p.entry) is.is_function
-
-  code : (graph : Graph) × (slice_get p.graphs (p.numbering.graph_number p.entry) ≡ Some graph) × IsCodeGraph p.image (setting p.numbering p.entry size.0) graph
-  code = is.whole.each p.entry size.0 itself size.1
 
   start_alike : StartAlike p.image p.entry m a
   start_alike = record {
@@ -66,71 +38,59 @@ module _ (p : Pair) (is : IsPair p) (keeps : KeepsFixed p) (zone : KeepsZone p) 
   }
 
   home : ReturnTogether p.image p.entry p.numbering p.graphs m a
-  home = return_together p.image p.entry size.0 p.numbering p.graphs m a size.1 is.no_fault is.whole start_alike meets.return_aligned meets.return_outside
+  home = return_together p.image p.entry (size p is).0 p.numbering p.graphs m a (size p is).1 is.no_fault is.whole start_alike meets.return_aligned meets.return_outside
 
   steps : StepTogether p.image p.entry p.numbering p.graphs m a (read_register m 1)
-  steps = step_together p.image p.entry size.0 p.numbering p.graphs m a size.1 is.no_fault is.whole start_alike (read_register m 1) meets.return_outside
+  steps = step_together p.image p.entry (size p is).0 p.numbering p.graphs m a (size p is).1 is.no_fault is.whole start_alike (read_register m 1) meets.return_outside
 
-  never : (n : ℕ) (node : Node) → node_at p.graphs (p.numbering.graph_number p.entry) n ≡ Some node → All (λ b. b.variable.family ≢ family.Entry) (own_bindings node)
-  never n node there =
-      all_at (λ (node : Node). All (λ b. b.variable.family ≢ family.Entry) (own_bindings node)) code.0.nodes n node
-      (never_binds family.Entry (λ bad. cc) (λ bad. cc) p.image (setting p.numbering p.entry size.0) code.0 code.2)
-      (sym (ap (λ (o : Option Graph). option_and_then (λ (graph : Graph). slice_get graph.nodes n) o) code.1) ∙ there)
+  called : IsCalled p (read_register m)
+  called = record {
+    return_aligned = meets.return_aligned;
+    stack_aligned = meets.stack_aligned;
+    stack_room = meets.stack_room;
+    stack_below = read_below m 2 meets.machine;
+    gp = meets.gp;
+    zone_free = λ address from below. meets.zone_free address (record { from = from; below = below });
+  }
 
-  never_entry : (r n : ℕ) (node : Node) → node_at p.graphs (p.numbering.graph_number p.entry) n ≡ Some node → Never (entry_register r) (own_bindings node)
-  never_entry r n node there i d lt same = never n node there i d lt (ap (λ (v : Variable). v.family) same)
+  begun : IsBegun p (read_register m) m.memory arguments a
+  begun = record {
+    ranged = binary_sorted m meets.machine;
+    entries = binary_entry_is m meets.machine;
+    registers_are = λ i d lt. binary_register_is m meets.machine _ ∙ sym (binary_entry_is m meets.machine _);
+    memory_is = refl;
+    passed = λ i v e. binary_register_is m meets.machine (10 + i) ∙ ap (Number W32) (meets.arguments i (word v) (word_is arguments i v e));
+    typed = typed;
+    called = called;
+    fixed = fixed_bytes m meets.machine (fixed_byte p.image) meets.fixed;
+    far = far_there p m a (read_register m 1) steps home;
+  }
 
-  source_is_sorted : IsAssignment b
-  source_is_sorted = source_sorted (argument_words arguments) m.memory (dead_stack m p.stack) (λ q. byte_below m q meets.machine)
-
-  extents : BodyExtents p.body
-  extents = body_has BodyExtents p.unit.bodies p.body.name p.body (unit_extents p.unit is.typed is.sizes).bodies is.body_is
-
-  typed_body : IsTypedBody p.unit p.body
-  typed_body = body_has (λ body. IsTypedBody p.unit body) p.unit.bodies p.body.name p.body is.typed.bodies_typed is.body_is
-
-  plain : All IsPlain p.body.signature.parameters
-  plain = all_left IsPlain p.body.signature.parameters typed_body.begun.0 (subst (λ (types : List Scalar). All IsPlain types) typed_body.begun.1 extents.locals)
-
-  front : Front p.body.locals arguments
-  front = subst (λ (types : List Scalar). Front types arguments) (sym typed_body.begun.1) (front_of p.body.signature.parameters typed_body.begun.0 arguments typed)
-
-  passed : Passed m (argument_words arguments) 0 arguments
-  passed = are_passed m arguments meets.arguments
-
-  long : 0 + length arguments ≡ length (argument_words arguments)
-  long = let same : 0 + length arguments ≡ length arguments = omega arith in same ∙ sym (words_length arguments)
-
-  like_source : Alike p.body.locals (locals_at_entry p.body.locals arguments) m.memory (dead_stack m p.stack) b
-  like_source = source_alike p m meets.machine (argument_words arguments) meets.stack_room 0 arguments extents.locals front passed long
-
-  premises : (s : Assignment) → ((r : ℕ) → s (entry_register r) ≡ Number W32 (read_register m r)) → All (λ (line : Term). holds s line ≡ true) (entry_premises p)
-  premises = premises_hold p m (argument_words arguments) code.2.runs_are meets (read_below m 2 meets.machine)
-
-  pub entry : IsEntry p m arguments a b
+  pub entry : IsEntry p m arguments a (source_of p (read_register m) m.memory arguments)
   entry = record {
     machine = start_alike;
     entries = binary_entry_is m meets.machine;
-    source = like_source;
-    premise = λ at.
-        let s : Assignment = values_at at (binary_entry p a) (source_entry p b) in
-        and_from ((entry_opening p (dead_stack m p.stack)).known at (binary_entry p a) (source_entry p b)) (all_hold (entry_premises p) at (binary_entry p a) (source_entry p b))
-        (pass_all (λ (line : Term). holds s line) (with_memory (convention_of p (dead_stack m p.stack)) (lines_of (binary_facts p ++ source_facts p)))
-        (facts_hold p m meets.machine (argument_words arguments) meets.stack_room at arguments plain typed passed
-        (ap (λ (n : ℕ). 0 + n) (same_length p.body.signature.parameters arguments typed) ∙ long)))
-        (pass_all (λ (line : Term). holds s line) (entry_premises p) (premises s (binary_entry_is m meets.machine)));
-    binary_fine = record {
-      kept = record { valid = is.binary_valid; sorted = (binary_sorted m meets.machine, tt) };
-      held = always p m a (read_register m 1) never_entry (binary_entry_is m meets.machine) steps home premises meets.stack_room (read_below m 2 meets.machine);
-    };
-    source_fine = record {
-      kept = record { valid = all_valid p.unit (place_of p) is.placed is.typed is.sizes; sorted = (source_is_sorted, tt) };
-      held = always_source p (dead_stack m p.stack) b zone like_source.low_is like_source.high_is
-          (keeps b source_is_sorted (fixed_bytes m meets.machine (fixed_byte p.image) meets.fixed));
-    };
+    source = like_source p is (read_register m) m.memory arguments a begun;
+    premise = premise p is (read_register m) m.memory arguments a begun;
+    binary_fine = binary_fine p is (read_register m) m.memory arguments a begun;
+    source_fine = source_fine p is (read_register m) m.memory arguments a begun;
   }
 
-pub simulation_agrees : (p : Pair) → IsPair p → KeepsFixed p → KeepsZone p → IsSimulatedAtEntry p → AgreesWith p.image p.unit p.body.name p.body.signature p.entry p.stack
-simulation_agrees p is keeps zone simulated m arguments typed meets unbroken =
-    entries_agree p is simulated m arguments (binary_values m) (source_values (argument_words arguments) m.memory (dead_stack m p.stack)) meets unbroken
-    (entry p is keeps zone simulated m arguments typed meets)
+pub simulation_agrees : (p : Pair) → IsPair p → IsSimulatedAtEntry p → AgreesWith p.image p.unit p.body.name p.body.signature p.entry p.stack
+simulation_agrees p is simulated m arguments typed meets unbroken =
+    entries_agree p is simulated m arguments (binary_values m) (source_of p (read_register m) m.memory arguments) meets unbroken
+    (entry p is m arguments typed meets)
+
+-- the function is valid, where it is the one of its name and takes this much stack
+pub simulated_valid : (p : Pair) → IsPair p → IsSimulatedAtEntry p → function_named p.image p.body.name ≡ One p.entry → IsStack p.image p.entry p.stack
+    → IsValid p.image p.unit p.body.name p.stack
+simulated_valid p is simulated named stack = record {
+  body = p.body;
+  body_is = is.body_is;
+  entry = p.entry;
+  entry_is = named;
+  stack_is = stack;
+  agrees = λ other other_is.
+      subst (λ (n : ℕ). AgreesWith p.image p.unit p.body.name p.body.signature p.entry n) (one_stack p.image p.entry p.stack other stack other_is)
+      (simulation_agrees p is simulated);
+}

@@ -1,6 +1,6 @@
 -- The variables with which both graphs begin, for a machine at the entry and the values of a call.
-use Rattle.std.proofs.Common.{◌≡◌, ◌≢◌, ◌∙◌, ℕ, ◌+◌, ◌-◌, ◌*◌, ◌%◌, ◌^◌, ◌<◌, ◌≤◌, ◌==◌, zero, suc, Bool, true, false, if◌then◌else◌, List, [], ◌∷◌, ◌++◌, length, slice_get, get_or, nat_lt, Option, Some, None, refl, sym, ap, subst, arith}
-use Rattle.std.specs.Prelude.{ℤ, pos, negsuc, IsTrue}
+use Rattle.std.proofs.Common.{◌≡◌, ℕ, ◌^◌, ◌<◌, ◌==◌, Bool, if◌then◌else◌, List, length, get_or, nat_lt, refl, ap, arith}
+use Rattle.std.specs.Prelude.{ℤ, pos, negsuc}
 use Rattle.std.proofs.Math.Nat.{mod-eq_of_lt}
 use Rattle.memory_spec.specs.Memory.{Memory, byte_at}
 use Rattle.memory_spec.specs.Zones.{Zone}
@@ -13,19 +13,15 @@ use Rattle.term_spec.specs.declared.Sort.{Sort}
 use Rattle.term_spec.specs.declared.Sort.TheVariants as sort
 use Rattle.term_spec.specs.declared.Family.{Family}
 use Rattle.term_spec.specs.declared.Family.TheVariants as family
-use Rattle.term_spec.specs.declared.Variable.{Variable}
 use Rattle.term_spec.specs.Sort.{bits}
 use Rattle.term_spec.specs.Value.{Value, Truth, Number, Bytes, Assignment, IsAssignment, IsOfSort, low_bits}
 use Rattle.graph_spec.specs.Run.{unset}
 use Rattle.rule_spec.proofs.Sides.{unset-sort}
 use Rattle.code_graph_spec.specs.State.{register, entry_register, Alike}
-use Rattle.code_graph_laws.specs.Together.{StartAlike}
 use Rattle.c_type_spec.specs.declared.Scalar.{Scalar}
-use Rattle.c_type_spec.specs.Values.{bits_of, of_bits, is_of}
+use Rattle.c_type_spec.specs.Values.{bits_of}
 use Rattle.c_graph_spec.specs.State.{width_of}
 use Rattle.c_graph_laws.proofs.Extents.{IsPlain, byte, half, full}
-use Rattle.claim_spec.specs.Convention.{Meets, dead_stack}
-use Rattle.agreement_laws.specs.Agreement.{argument_words}
 
 -- ---- values of a sort
 

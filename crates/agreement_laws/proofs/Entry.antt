@@ -1,39 +1,18 @@
 -- What a function had in a variable of its own, which it never binds, when it began stays so until it has returned or failed.
-use Rattle.std.proofs.Common.{◌≡◌, ◌≢◌, ◌∙◌, ℕ, zero, suc, Bool, true, false, if◌then◌else◌, List, [], ◌∷◌, ◌++◌, Option, Some, None, slice_get, refl, sym, ap, subst, option_and_then}
-use Rattle.std.specs.List.{All}
-use Rattle.std.specs.Option.{option_map_or}
-use Rattle.std.proofs.lemmas.List.Elements.{All-head, All-tail}
-use Rattle.term_spec.specs.declared.Width.TheVariants.{W32}
+use Rattle.std.proofs.Common.{◌≡◌, ◌∙◌, ℕ, zero, suc, Bool, false, if◌then◌else◌, List, [], ◌∷◌, Option, Some, None, slice_get, refl, sym, ap}
 use Rattle.term_spec.specs.declared.Variable.{Variable}
 use Rattle.term_spec.specs.Value.{Value, Assignment, value}
-use Rattle.term_spec.specs.Same.{same_variable}
-use Rattle.term_spec.proofs.Same.{variable-same}
 use Rattle.walk_spec.specs.TransitionSystem.{after}
-use Rattle.walk_spec.proofs.Runs.{after-suc}
 use Rattle.graph_spec.specs.declared.Next.{Next}
 use Rattle.graph_spec.specs.declared.Next.TheVariants as next
 use Rattle.graph_spec.specs.Graph.{Binding, Node, Basic, Cond, Call, Graph, Graphs, node_at}
-use Rattle.graph_spec.specs.Variables.{NeverBinds, own_bindings}
-use Rattle.graph_spec.specs.Run.{Waiting, State, Running, Returned, Failed, bound, resumed, is_shared, step, act, go, leave, enter, entered, is_truth, system_of}
-use Rattle.rule_spec.proofs.Start.{all_at}
+use Rattle.graph_spec.specs.Variables.{own_bindings}
+use Rattle.c_graph_laws.proofs.Spared.{Spares, spared}
+use Rattle.graph_spec.specs.Run.{Waiting, State, Running, Returned, Failed, bound, is_shared, step, act, go, leave, enter, entered, is_truth, system_of}
 
-module _ (u : Variable) where
-  abbrev pub Never : List Binding → Type 0
-  Never bindings = All (λ (b : Binding). b.variable ≢ u) bindings
-
-  -- bindings of other variables leave it
-  same_bound : (bindings : List Binding) → Never bindings → (values rest : Assignment)
-      → bound bindings values rest u ≡ rest u
-  unfolding bound
-  same_bound [] never values rest = refl
-  same_bound (b ∷ bindings) never values rest =
-      by (same_variable u b.variable) refl (same_bound bindings (All-tail (λ (b : Binding). b.variable ≢ u) b bindings never) values rest)
-    where
-      by : (t : Bool) → same_variable u b.variable ≡ t → bound bindings values rest u ≡ rest u
-          → (if t then value values b.term else bound bindings values rest u) ≡ rest u
-      by true e later = absurd (All-head (λ (b : Binding). b.variable ≢ u) b bindings never
-          (sym (variable-same u b.variable e)))
-      by false e later = later
+-- none of these binds it
+abbrev pub Never : Variable → List Binding → Type 0
+Never u bindings = Spares u bindings
 
 module _ (u : Variable) (own : is_shared u ≡ false) (x : Value) (graphs : Graphs) (outermost : ℕ)
     (never : (n : ℕ) (node : Node) → node_at graphs outermost n ≡ Some node → Never u (own_bindings node)) where
@@ -56,7 +35,7 @@ module _ (u : Variable) (own : is_shared u ≡ false) (x : Value) (graphs : Grap
   left g values [] h = h.1
   left g values (f ∷ []) h = (
     h.0,
-    same_bound u f.outputs h.2 values (λ v. if is_shared v then values v else f.values v)
+    spared u f.outputs h.2 values (λ v. if is_shared v then values v else f.values v)
         ∙ ap (λ (shared : Bool). if shared then values u else f.values u) own ∙ h.1,
   )
   left g values (f ∷ k ∷ below) h = h
@@ -68,7 +47,7 @@ module _ (u : Variable) (own : is_shared u ≡ false) (x : Value) (graphs : Grap
 
   put : (g : ℕ) (bindings : List Binding) (values : Assignment) (below : List Waiting) → (g ≡ outermost → Never u bindings) → Kept g values below
       → Kept g (bound bindings values values) below
-  put g bindings values [] apart h = (h.0, same_bound u bindings (apart h.0) values values ∙ h.1)
+  put g bindings values [] apart h = (h.0, spared u bindings (apart h.0) values values ∙ h.1)
   put g bindings values (f ∷ below) apart h = h
 
   entering : (callee : ℕ) (graph : Option Graph) (values : Assignment) (f : Waiting) (below : List Waiting) → Below f below → EntryIs (enter callee graph values (f ∷ below))

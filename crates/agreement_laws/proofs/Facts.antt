@@ -1,6 +1,6 @@
 -- The facts of the opening hold of both sides' variables at the entry, and these are like those of the C call.
-use Rattle.std.proofs.Common.{◌≡◌, ◌∙◌, ℕ, ◌+◌, ◌-◌, ◌%◌, ◌^◌, ◌<◌, ◌≤◌, ◌==◌, ◌&&◌, ◌||◌, zero, suc, Bool, true, false, not, cond, List, [], ◌∷◌, ◌++◌, length, map, slice_get, get_or, nat_lt, Option, Some, None, refl, sym, ap, subst, arith}
-use Rattle.std.specs.Prelude.{ℤ, pos, negsuc, IsTrue, ⊤}
+use Rattle.std.proofs.Common.{◌≡◌, ◌∙◌, ℕ, ◌+◌, ◌-◌, ◌^◌, ◌<◌, ◌≤◌, ◌==◌, ◌&&◌, zero, suc, Bool, true, false, not, List, [], ◌∷◌, ◌++◌, length, map, slice_get, get_or, nat_lt, Option, Some, None, refl, sym, ap, subst, arith}
+use Rattle.std.specs.Prelude.{ℤ, IsTrue, ⊤}
 use Rattle.std.specs.List.{All}
 use Rattle.std.proofs.lemmas.Bool.{lt-ltb, le-ltb, eq-eqb, or_right}
 use Rattle.std.proofs.lemmas.List.Elements.{All-append, All-head, All-tail}
@@ -8,39 +8,36 @@ use Rattle.std.proofs.Math.Nat.{mod-eq_of_lt}
 use Rattle.memory_spec.specs.Memory.{Memory, byte_at}
 use Rattle.memory_spec.specs.Zones.{Zone}
 use Rattle.rv_spec.specs.Arithmetic as machine
-use Rattle.rv_spec.specs.Machine.{Machine, IsMachine, read_register}
-use Rattle.rv_spec.proofs.Kept.{read_below, byte_below}
 use Rattle.term_spec.specs.declared.Width.{Width}
 use Rattle.term_spec.specs.declared.Width.TheVariants.{W32}
 use Rattle.term_spec.specs.Sort.{bits}
 use Rattle.term_spec.specs.Term.{Term, equal, open_term, truth}
-use Rattle.term_spec.specs.Value.{Value, Truth, Number, Bytes, Assignment, value, binary_value, low_bits}
+use Rattle.term_spec.specs.Value.{Truth, Number, Bytes, Assignment, value, binary_value, low_bits}
 use Rattle.term_spec.proofs.Sorts.{same_width-same}
 use Rattle.condition_spec.specs.Passages.{holds}
-use Rattle.graph_spec.specs.Run.{State, is_truth}
+use Rattle.graph_spec.specs.Run.{is_truth}
 use Rattle.code_graph_spec.specs.State as code
-use Rattle.code_graph_laws.proofs.Values.{equal_evaluates, same_truth_evaluates}
+use Rattle.code_graph_laws.proofs.Values.{same_truth_evaluates}
 use Rattle.c_type_spec.specs.declared.Scalar.{Scalar}
-use Rattle.c_type_spec.specs.Values.{bits_of, of_bits, is_of}
+use Rattle.c_type_spec.specs.Values.{bits_of, is_of}
 use Rattle.c_meaning_spec.specs.Calls.{locals_at_entry}
 use Rattle.c_graph_spec.specs.State.{width_of, local, is_set, zone_low, zone_high}
 use Rattle.c_graph_laws.proofs.Extents.{IsPlain, full, scalar}
-use Rattle.c_graph_laws.specs.Together.{Alike, HasLocal, HasValue, unset, set}
+use Rattle.c_graph_laws.specs.Together.{Alike, HasLocal, unset, set}
 use Rattle.c_graph_laws.proofs.Divisions.{at_width_is}
 use Rattle.c_graph_laws.proofs.Bits.{bits_resized, bits_below, value_back}
-use Rattle.rule_spec.specs.Points.{Convention, values_at, same_byte, address}
+use Rattle.rule_spec.specs.Points.{values_at, same_byte, binary_memory}
 use Rattle.rule_spec.specs.Calling as calling
-use Rattle.claim_spec.specs.Convention.{dead_stack}
 use Rattle.agreement_laws.specs.Agreement.{HaveTypes, argument_words}
 use Rattle.agreement_laws.specs.EntryFrame.{Pair, Fact, convention_of, lines_of, parameter, widened, argument_facts, registers, binary_facts, local_facts, zone_facts, source_facts}
 use Rattle.agreement_laws.specs.Statements.{binary_entry, source_entry}
-use Rattle.agreement_laws.proofs.Assigned.{binary_values, source_values, binary_entry_is, binary_register_is, source_sorted, low_word}
+use Rattle.agreement_laws.proofs.Assigned.{source_values, source_sorted, low_word}
 use Rattle.agreement_laws.proofs.Premises.{all_more}
 use Rattle.agreement_laws.proofs.ReadBack.{open_value, zone_from_is, line_value, bits_word}
 
 -- ---- lines
 
-equal_itself : (s : Assignment) (x y : Term) (w : Width) (n : ℕ) → value s x ≡ Number w n → value s y ≡ Number w n → holds s (equal x y) ≡ true
+pub equal_itself : (s : Assignment) (x y : Term) (w : Width) (n : ℕ) → value s x ≡ Number w n → value s y ≡ Number w n → holds s (equal x y) ≡ true
 unfolding value binary_value
 equal_itself s x y w n ex ey = rw (ex, ey, same_width-same w, eq-eqb n n refl) refl
 
@@ -87,29 +84,35 @@ get_word (w ∷ words) zero n e = let same : w ≡ n = cc in same
 get_word (w ∷ words) (suc i) n e = get_word words i n e
 
 -- the values from a number on are those of these words and registers
-abbrev pub Passed : Machine → (words : List ℕ) → (number : ℕ) → List ℤ → Type 0
-Passed m words number arguments = (i : ℕ) (v : ℤ) → slice_get arguments i ≡ Some v
-    → (get_or words (number + i) 0 ≡ machine.word v) × (read_register m (10 + (number + i)) ≡ machine.word v)
+abbrev pub Passed : Assignment → (words : List ℕ) → (number : ℕ) → List ℤ → Type 0
+Passed a words number arguments = (i : ℕ) (v : ℤ) → slice_get arguments i ≡ Some v
+    → (get_or words (number + i) 0 ≡ machine.word v) × (a (code.register (10 + (number + i))) ≡ Number W32 (machine.word v))
 
-later : (m : Machine) (words : List ℕ) (number : ℕ) (u : ℤ) (arguments : List ℤ) → Passed m words number (u ∷ arguments) → Passed m words (suc number) arguments
-later m words number u arguments passed i v e =
+later : (a : Assignment) (words : List ℕ) (number : ℕ) (u : ℤ) (arguments : List ℤ) → Passed a words number (u ∷ arguments) → Passed a words (suc number) arguments
+later a words number u arguments passed i v e =
     let next : number + suc i ≡ suc number + i = omega arith in
     let h = passed (suc i) v e in
-    (subst (λ (n : ℕ). get_or words n 0 ≡ machine.word v) next h.0, subst (λ (n : ℕ). read_register m (10 + n) ≡ machine.word v) next h.1)
+    (subst (λ (n : ℕ). get_or words n 0 ≡ machine.word v) next h.0, subst (λ (n : ℕ). a (code.register (10 + n)) ≡ Number W32 (machine.word v)) next h.1)
 
-here : (m : Machine) (words : List ℕ) (number : ℕ) (u : ℤ) (arguments : List ℤ) → Passed m words number (u ∷ arguments)
-    → (get_or words number 0 ≡ machine.word u) × (read_register m (10 + number) ≡ machine.word u)
-here m words number u arguments passed =
+here : (a : Assignment) (words : List ℕ) (number : ℕ) (u : ℤ) (arguments : List ℤ) → Passed a words number (u ∷ arguments)
+    → (get_or words number 0 ≡ machine.word u) × (a (code.register (10 + number)) ≡ Number W32 (machine.word u))
+here a words number u arguments passed =
     let same : number + 0 ≡ number = omega arith in
     let h = passed 0 u refl in
-    (subst (λ (n : ℕ). get_or words n 0 ≡ machine.word u) same h.0, subst (λ (n : ℕ). read_register m (10 + n) ≡ machine.word u) same h.1)
+    (subst (λ (n : ℕ). get_or words n 0 ≡ machine.word u) same h.0, subst (λ (n : ℕ). a (code.register (10 + n)) ≡ Number W32 (machine.word u)) same h.1)
 
-module _ (p : Pair) (m : Machine) (is : IsMachine m) (words : List ℕ) (room : p.stack ≤ read_register m 2) (at : ℕ) where
+module _ (p : Pair) (a : Assignment) (had : ℕ → ℕ) (memory : Memory) (entries : (r : ℕ) → a (code.entry_register r) ≡ Number W32 (had r))
+    (begun : All (λ (r : ℕ). a (code.register r) ≡ a (code.entry_register r)) registers) (memory_is : a binary_memory ≡ Bytes (byte_at memory))
+    (room : p.stack ≤ had 2) (below : had 2 < 2 ^ 32) (words : List ℕ) (at : ℕ) where
+  -- the dead stack
+  abbrev zone : Zone
+  zone = record { low = had 2 - p.stack; high = had 2 }
+
   abbrev b : Assignment
-  b = source_values words m.memory (dead_stack m p.stack)
+  b = source_values words memory zone
 
   abbrev s : Assignment
-  s = values_at at (binary_entry p (binary_values m)) (source_entry p b)
+  s = values_at at (binary_entry p a) (source_entry p b)
 
   -- a parameter, or a local of its type, has the bits of the value
   bits_there : (type : Scalar) → IsPlain type → (number : ℕ) (v : ℤ) → get_or words number 0 ≡ machine.word v
@@ -124,28 +127,32 @@ module _ (p : Pair) (m : Machine) (is : IsMachine m) (words : List ℕ) (room : 
       ∙ ap (Number W32) (sym (bits_resized type (scalar 32 false) plain (full false) (bits_of type.width v) (bits_below type.width v))
       ∙ ap (bits_of 32) (sym (value_back type v typed)) ∙ bits_word v)
 
-  arguments_hold : (number : ℕ) (types : List Scalar) (arguments : List ℤ) → All IsPlain types → HaveTypes types arguments → Passed m words number arguments
+  arguments_hold : (number : ℕ) (types : List Scalar) (arguments : List ℤ) → All IsPlain types → HaveTypes types arguments → Passed a words number arguments
       → All (FactHolds s) (argument_facts number types)
   arguments_hold number [] arguments plain typed passed = none_of (FactHolds s)
   arguments_hold number (type ∷ types) [] plain typed passed = absurd typed
   arguments_hold number (type ∷ types) (v ∷ arguments) plain typed passed =
-      let h = here m words number v arguments passed in
+      let h = here a words number v arguments passed in
       all_more (FactHolds s) (record { variable = code.register (10 + number); term = widened type (parameter number type) }) (argument_facts (suc number) types)
       (equal_itself s (open_term (code.register (10 + number))) (widened type (parameter number type)) W32 (machine.word v)
-      (open_value s (code.register (10 + number)) ∙ binary_register_is m is (10 + number) ∙ ap (Number W32) h.1)
+      (open_value s (code.register (10 + number)) ∙ h.1)
       (widened_is type (All-head IsPlain type types plain) number v typed.0 h.0))
-      (arguments_hold (suc number) types arguments (All-tail IsPlain type types plain) typed.1 (later m words number v arguments passed))
+      (arguments_hold (suc number) types arguments (All-tail IsPlain type types plain) typed.1 (later a words number v arguments passed))
 
   abbrev at_entry_fact : ℕ → Fact
   at_entry_fact r = record { variable = code.register r; term = calling.at_entry r }
 
-  registers_hold : (rs : List ℕ) → All (FactHolds s) (map at_entry_fact rs)
-  registers_hold [] = none_of (FactHolds s)
-  registers_hold (r ∷ rs) =
+  abbrev AreBegun : List ℕ → Type 0
+  AreBegun rs = All (λ (r : ℕ). a (code.register r) ≡ a (code.entry_register r)) rs
+
+  registers_hold : (rs : List ℕ) → AreBegun rs → All (FactHolds s) (map at_entry_fact rs)
+  registers_hold [] are = none_of (FactHolds s)
+  registers_hold (r ∷ rs) are =
       all_more (FactHolds s) (at_entry_fact r) (map at_entry_fact rs)
-      (equal_itself s (open_term (code.register r)) (calling.at_entry r) W32 (read_register m r)
-      (open_value s (code.register r) ∙ binary_register_is m is r) (open_value s (code.entry_register r) ∙ binary_entry_is m is r))
-      (registers_hold rs)
+      (equal_itself s (open_term (code.register r)) (calling.at_entry r) W32 (had r)
+      (open_value s (code.register r) ∙ All-head (λ (r : ℕ). a (code.register r) ≡ a (code.entry_register r)) r rs are ∙ entries r)
+      (open_value s (code.entry_register r) ∙ entries r))
+      (registers_hold rs (All-tail (λ (r : ℕ). a (code.register r) ≡ a (code.entry_register r)) r rs are))
 
   set_fact : (number : ℕ) (t : Bool) → nat_lt number (length words) ≡ t → FactHolds s (record { variable = is_set number; term = truth t })
   set_fact number t e = same_truth s (open_term (is_set number)) (truth t) t (open_value s (is_set number) ∙ ap Truth e) (truth_value s t)
@@ -168,47 +175,47 @@ module _ (p : Pair) (m : Machine) (is : IsMachine m) (words : List ℕ) (room : 
       (open_value s (local number parameter_type)) (open_value s (parameter number parameter_type)))
       (locals_hold (suc number) parameters locals (omega (arith, long))))
 
-  pub low_value : b zone_low ≡ Number W32 (read_register m 2 - p.stack)
-  low_value = let below = read_below m 2 is in ap (Number W32) (mod-eq_of_lt (omega arith))
+  pub low_value : b zone_low ≡ Number W32 (had 2 - p.stack)
+  low_value = ap (Number W32) (mod-eq_of_lt (omega arith))
 
-  pub high_value : b zone_high ≡ Number W32 (read_register m 2)
-  high_value = ap (Number W32) (mod-eq_of_lt (read_below m 2 is))
+  pub high_value : b zone_high ≡ Number W32 (had 2)
+  high_value = ap (Number W32) (mod-eq_of_lt below)
 
   zone_hold : All (FactHolds s) (zone_facts p.stack)
   zone_hold =
       all_more (FactHolds s) (record { variable = zone_low; term = calling.zone_from p.stack }) (record { variable = zone_high; term = calling.at_entry 2 } ∷ [])
-      (equal_itself s (open_term zone_low) (calling.zone_from p.stack) W32 (read_register m 2 - p.stack)
-      (open_value s zone_low ∙ low_value) (zone_from_is s (read_register m 2) p.stack room (read_below m 2 is) (binary_entry_is m is 2)))
+      (equal_itself s (open_term zone_low) (calling.zone_from p.stack) W32 (had 2 - p.stack)
+      (open_value s zone_low ∙ low_value) (zone_from_is s (had 2) p.stack room below (entries 2)))
       (all_more (FactHolds s) (record { variable = zone_high; term = calling.at_entry 2 }) []
-      (equal_itself s (open_term zone_high) (calling.at_entry 2) W32 (read_register m 2)
-      (open_value s zone_high ∙ high_value) (open_value s (code.entry_register 2) ∙ binary_entry_is m is 2))
+      (equal_itself s (open_term zone_high) (calling.at_entry 2) W32 (had 2)
+      (open_value s zone_high ∙ high_value) (open_value s (code.entry_register 2) ∙ entries 2))
       (none_of (FactHolds s)))
 
-  byte_line : holds s (same_byte (convention_of p (dead_stack m p.stack))) ≡ true
+  byte_line : holds s (same_byte (convention_of p zone)) ≡ true
   byte_line =
       let q = low_bits 32 at in
-      let is_value = line_value (convention_of p (dead_stack m p.stack)) (byte_at m.memory) (byte_at m.memory) (read_register m 2 - p.stack) (read_register m 2) s q refl refl refl
-      (zone_from_is s (read_register m 2) p.stack room (read_below m 2 is) (binary_entry_is m is 2)) (open_value s (code.entry_register 2) ∙ binary_entry_is m is 2) in
+      let is_value = line_value (convention_of p zone) (byte_at memory) (byte_at memory) (had 2 - p.stack) (had 2) s q memory_is refl refl
+      (zone_from_is s (had 2) p.stack room below (entries 2)) (open_value s (code.entry_register 2) ∙ entries 2) in
       ap is_truth is_value
-      ∙ or_right (not (nat_lt q (read_register m 2 - p.stack)) && nat_lt q (read_register m 2)) (byte_at m.memory (low_bits 32 q) == byte_at m.memory (low_bits 32 q))
-      (eq-eqb (byte_at m.memory (low_bits 32 q)) (byte_at m.memory (low_bits 32 q)) refl)
+      ∙ or_right (not (nat_lt q (had 2 - p.stack)) && nat_lt q (had 2)) (byte_at memory (low_bits 32 q) == byte_at memory (low_bits 32 q))
+      (eq-eqb (byte_at memory (low_bits 32 q)) (byte_at memory (low_bits 32 q)) refl)
 
-  pub facts_hold : (arguments : List ℤ) → All IsPlain p.body.signature.parameters → HaveTypes p.body.signature.parameters arguments → Passed m words 0 arguments
+  pub facts_hold : (arguments : List ℤ) → All IsPlain p.body.signature.parameters → HaveTypes p.body.signature.parameters arguments → Passed a words 0 arguments
       → 0 + length p.body.signature.parameters ≡ length words
-      → All (λ (line : Term). holds s line ≡ true) (lines_of (binary_facts p ++ source_facts p) ++ same_byte (convention_of p (dead_stack m p.stack)) ∷ [])
+      → All (λ (line : Term). holds s line ≡ true) (lines_of (binary_facts p ++ source_facts p) ++ same_byte (convention_of p zone) ∷ [])
   facts_hold arguments plain typed passed long =
-      All-append (λ (line : Term). holds s line ≡ true) (lines_of (binary_facts p ++ source_facts p)) (same_byte (convention_of p (dead_stack m p.stack)) ∷ [])
+      All-append (λ (line : Term). holds s line ≡ true) (lines_of (binary_facts p ++ source_facts p)) (same_byte (convention_of p zone) ∷ [])
       (all_lines s (binary_facts p ++ source_facts p)
       (All-append (FactHolds s) (binary_facts p) (source_facts p)
       (All-append (FactHolds s) (argument_facts 0 p.body.signature.parameters) (map at_entry_fact registers)
-      (arguments_hold 0 p.body.signature.parameters arguments plain typed passed) (registers_hold registers))
+      (arguments_hold 0 p.body.signature.parameters arguments plain typed passed) (registers_hold registers begun))
       (All-append (FactHolds s) (local_facts 0 p.body.signature.parameters p.body.locals) (zone_facts p.stack)
       (locals_hold 0 p.body.signature.parameters p.body.locals long) zone_hold)))
-      (all_more (λ (line : Term). holds s line ≡ true) (same_byte (convention_of p (dead_stack m p.stack))) [] byte_line (none_of (λ (line : Term). holds s line ≡ true)))
+      (all_more (λ (line : Term). holds s line ≡ true) (same_byte (convention_of p zone)) [] byte_line (none_of (λ (line : Term). holds s line ≡ true)))
 
   -- ---- the locals of the call
 
-  locals_alike : (number : ℕ) (locals : List Scalar) (arguments : List ℤ) → All IsPlain locals → Front locals arguments → Passed m words number arguments
+  locals_alike : (number : ℕ) (locals : List Scalar) (arguments : List ℤ) → All IsPlain locals → Front locals arguments → Passed a words number arguments
       → number + length arguments ≡ length words → (i : ℕ) (type : Scalar) (v : Option ℤ) → slice_get locals i ≡ Some type
       → slice_get (locals_at_entry locals arguments) i ≡ Some v → HasLocal b (number + i) type v
   locals_alike number [] arguments plain front passed long i type v e f = absurd (cc)
@@ -238,13 +245,13 @@ module _ (p : Pair) (m : Machine) (is : IsMachine m) (words : List ℕ) (room : 
       (set u (ap Truth (lt-ltb number (length words) (omega (arith, long)))) (record {
         bits = bits_of other.width u;
         below = bits_below other.width u;
-        word = ap (Number (width_of other)) (bits_there other (All-head IsPlain other locals plain) number u (here m words number u arguments passed).0);
+        word = ap (Number (width_of other)) (bits_there other (All-head IsPlain other locals plain) number u (here a words number u arguments passed).0);
         value_is = value_back other u front.0;
       }))))
   locals_alike number (other ∷ locals) (u ∷ arguments) plain front passed long (suc i) type v e f =
       let next : suc number + i ≡ number + suc i = omega arith in
       subst (λ (n : ℕ). HasLocal b n type v) next
-      (locals_alike (suc number) locals arguments (All-tail IsPlain other locals plain) front.1 (later m words number u arguments passed) (omega (arith, long)) i type v e f)
+      (locals_alike (suc number) locals arguments (All-tail IsPlain other locals plain) front.1 (later a words number u arguments passed) (omega (arith, long)) i type v e f)
 
   local_there : (locals : List Scalar) (arguments : List ℤ) (i : ℕ) (type : Scalar) → slice_get locals i ≡ Some type
       → (v : Option ℤ) × (slice_get (locals_at_entry locals arguments) i ≡ Some v)
@@ -254,11 +261,11 @@ module _ (p : Pair) (m : Machine) (is : IsMachine m) (words : List ℕ) (room : 
   local_there (other ∷ locals) [] (suc i) type e = local_there locals [] i type e
   local_there (other ∷ locals) (u ∷ arguments) (suc i) type e = local_there locals arguments i type e
 
-  pub source_alike : (arguments : List ℤ) → All IsPlain p.body.locals → Front p.body.locals arguments → Passed m words 0 arguments
+  pub source_alike : ((q : ℕ) → byte_at memory q < 2 ^ 8) → (arguments : List ℤ) → All IsPlain p.body.locals → Front p.body.locals arguments → Passed a words 0 arguments
       → 0 + length arguments ≡ length words
-      → Alike p.body.locals (locals_at_entry p.body.locals arguments) m.memory (dead_stack m p.stack) b
-  source_alike arguments plain front passed long = record {
-    sorted = source_sorted words m.memory (dead_stack m p.stack) (λ q. byte_below m q is);
+      → Alike p.body.locals (locals_at_entry p.body.locals arguments) memory zone b
+  source_alike ranged arguments plain front passed long = record {
+    sorted = source_sorted words memory zone ranged;
     local_is = λ number type v e f.
         let same : 0 + number ≡ number = omega arith in
         subst (λ (n : ℕ). HasLocal b n type v) same (locals_alike 0 p.body.locals arguments plain front passed long number type v e f);
@@ -281,10 +288,10 @@ same_length [] (v ∷ arguments) typed = absurd typed
 same_length (type ∷ types) [] typed = absurd typed
 same_length (type ∷ types) (v ∷ arguments) typed = ap suc (same_length types arguments typed.1)
 
-pub are_passed : (m : Machine) (arguments : List ℤ) → ((i n : ℕ) → slice_get (argument_words arguments) i ≡ Some n → read_register m (10 + i) ≡ n)
-    → Passed m (argument_words arguments) 0 arguments
-are_passed m arguments passed i v e =
+pub are_passed : (a : Assignment) (arguments : List ℤ) → ((i : ℕ) (v : ℤ) → slice_get arguments i ≡ Some v → a (code.register (10 + i)) ≡ Number W32 (machine.word v))
+    → Passed a (argument_words arguments) 0 arguments
+are_passed a arguments passed i v e =
     let same : i ≡ 0 + i = omega arith in (
       get_word (argument_words arguments) (0 + i) (machine.word v) (subst (λ (n : ℕ). slice_get (argument_words arguments) n ≡ Some (machine.word v)) same (word_is arguments i v e)),
-      subst (λ (n : ℕ). read_register m (10 + n) ≡ machine.word v) same (passed i (machine.word v) (word_is arguments i v e)),
+      subst (λ (n : ℕ). a (code.register (10 + n)) ≡ Number W32 (machine.word v)) same (passed i v e),
     )

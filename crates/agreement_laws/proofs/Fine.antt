@@ -1,9 +1,9 @@
 -- What always holds of both graphs' runs from the entry.
-use Rattle.std.proofs.Common.{◌≡◌, ◌∙◌, ◌⊎◌, ℕ, ◌≤◌, ◌<◌, ◌^◌, ◌==◌, ◌&&◌, ◌||◌, zero, suc, Bool, true, false, if◌then◌else◌, List, [], ◌∷◌, Option, Some, None, nat_lt, unwrap_or, refl, sym, ap, subst, inl, inr, arith}
-use Rattle.std.specs.List.{All, list_all}
+use Rattle.std.proofs.Common.{◌≡◌, ◌∙◌, ℕ, ◌-◌, ◌≤◌, ◌<◌, ◌^◌, ◌&&◌, ◌||◌, Bool, true, false, if◌then◌else◌, List, [], ◌∷◌, Option, Some, None, unwrap_or, refl, ap, subst, inl, inr, arith}
+use Rattle.std.specs.List.{All}
 use Rattle.std.specs.FinMap.{get}
 use Rattle.std.proofs.lemmas.Bool.{cases_Bool, cases_lt, lt-ltb, le-ltb, eq-eqb, and_from, or_left, or_right}
-use Rattle.memory_spec.specs.Memory.{Memory, byte_at}
+use Rattle.memory_spec.specs.Memory.{byte_at}
 use Rattle.memory_spec.specs.Zones.{Zone}
 use Rattle.rv_spec.specs.Machine.{Machine, IsMachine, read_register}
 use Rattle.term_spec.specs.declared.Width.TheVariants.{W32}
@@ -20,14 +20,14 @@ use Rattle.graph_spec.specs.Run.{State, Waiting, Running, Returned, Failed, has_
 use Rattle.graph_spec.specs.Fixed.{has_byte, holds_byte, AlwaysHoldsFixed}
 use Rattle.code_graph_spec.specs.State.{Alike, entry_register}
 use Rattle.rule_spec.specs.Points.{Convention, values_in, values_at, outermost_values, all_hold, binary_memory, source_memory, bounded, nothing, entry_zone, source_zone}
-use Rattle.rule_spec.specs.Systems.{entry_holds, binary_always, source_always}
+use Rattle.rule_spec.specs.Systems.{entry_holds, source_always}
 use Rattle.rule_spec.specs.Calling.{word}
-use Rattle.claim_spec.specs.Convention.{dead_stack}
 use Rattle.c_graph_spec.specs.State.{zone_low, zone_high}
 use Rattle.c_graph_spec.specs.SourceGraph.{body_number, graphs_of}
 use Rattle.rule_spec.proofs.Truths.{pass_all}
 use Rattle.agreement_laws.specs.EntryFrame.{Pair, place_of, convention_of, entry_frame, entry_premises}
-use Rattle.agreement_laws.specs.Statements.{KeepsZone, binary_entry, source_entry}
+use Rattle.agreement_laws.specs.Statements.{binary_entry, source_entry}
+use Rattle.c_graph_laws.proofs.OwnBindings.{no_zone}
 use Rattle.agreement_laws.proofs.Premises.{all_more, word_line, zone_holds}
 use Rattle.agreement_laws.proofs.ReadBack.{open_value}
 use Rattle.agreement_laws.proofs.Entry.{Never, Below, EntryIs, entry_stays}
@@ -90,59 +90,55 @@ not_over : (s : State) → IsOver s → (g node : ℕ) (values : Assignment) (be
 not_over _ (returned v) g node values below e = let bad : true ≡ false = ap has_returned e in cc
 not_over _ failed g node values below e = let bad : true ≡ false = ap has_failed e in cc
 
-module _ (p : Pair) (m : Machine) (a : Assignment) (stop : ℕ)
+module _ (p : Pair) (had : ℕ → ℕ) (a : Assignment)
     (never : (r n : ℕ) (node : Node) → node_at p.graphs (p.numbering.graph_number p.entry) n ≡ Some node → Never (entry_register r) (own_bindings node))
-    (begins : (r : ℕ) → a (entry_register r) ≡ Number W32 (read_register m r))
-    (steps : StepTogether p.image p.entry p.numbering p.graphs m a stop) (home : ReturnTogether p.image p.entry p.numbering p.graphs m a)
-    (premises : (s : Assignment) → ((r : ℕ) → s (entry_register r) ≡ Number W32 (read_register m r)) → All (λ (line : Term). holds s line ≡ true) (entry_premises p))
-    (room : p.stack ≤ read_register m 2) (below : read_register m 2 < 2 ^ 32) where
-  abbrev c : Convention
-  c = convention_of p (dead_stack m p.stack)
+    (begins : (r : ℕ) → a (entry_register r) ≡ Number W32 (had r))
+    (premises : (s : Assignment) → ((r : ℕ) → s (entry_register r) ≡ Number W32 (had r)) → All (λ (line : Term). holds s line ≡ true) (entry_premises p))
+    (room : p.stack ≤ had 2) (below : had 2 < 2 ^ 32) where
+  abbrev called : Convention
+  called = convention_of p (record { low = had 2 - p.stack; high = had 2 })
 
   -- a state of the run has the registers at entry
-  entries_there : (k : ℕ) (s : State) → run p.graphs p.numbering p.entry a k ≡ s → has_failed s ≡ false → (at r : ℕ)
-      → values_at at s Failed (entry_register r) ≡ Number W32 (read_register m r)
-  entries_there k s e live at r =
-      values_entry (entry_register r) refl (Number W32 (read_register m r)) p.graphs (p.numbering.graph_number p.entry) (never r) s
-      (subst (λ (t : State). EntryIs (entry_register r) refl (Number W32 (read_register m r)) p.graphs (p.numbering.graph_number p.entry) (never r) t) e
-      (entry_stays (entry_register r) refl (Number W32 (read_register m r)) p.graphs (p.numbering.graph_number p.entry) (never r) k (binary_entry p a) (refl, begins r))) live
+  pub entries_there : (k : ℕ) (s : State) → run p.graphs p.numbering p.entry a k ≡ s → has_failed s ≡ false → (r : ℕ) → values_in s (entry_register r) ≡ Number W32 (had r)
+  entries_there k s e live r =
+      values_entry (entry_register r) refl (Number W32 (had r)) p.graphs (p.numbering.graph_number p.entry) (never r) s
+      (subst (λ (t : State). EntryIs (entry_register r) refl (Number W32 (had r)) p.graphs (p.numbering.graph_number p.entry) (never r) t) e
+      (entry_stays (entry_register r) refl (Number W32 (had r)) p.graphs (p.numbering.graph_number p.entry) (never r) k (binary_entry p a) (refl, begins r))) live
 
-  abbrev lines_hold : ℕ → State → Bool
-  lines_hold at s = entry_holds (entry_frame p) at s Failed && (has_failed s || all_hold (entry_zone c) at s Failed)
+  abbrev pub lines_hold : ℕ → State → Bool
+  lines_hold at s =
+      entry_holds (entry_frame p) at s Failed && (has_failed s || all_hold (entry_zone (convention_of p (record { low = had 2 - p.stack; high = had 2 }))) at s Failed)
 
-  lines_there : (k : ℕ) (s : State) → run p.graphs p.numbering p.entry a k ≡ s → has_failed s ≡ false → (at : ℕ) → lines_hold at s ≡ true
+  pub lines_there : (k : ℕ) (s : State) → run p.graphs p.numbering p.entry a k ≡ s → has_failed s ≡ false → (at : ℕ) → lines_hold at s ≡ true
   lines_there k s e live at =
       let there : Assignment = values_at at s Failed in
-      and_from (entry_holds (entry_frame p) at s Failed) (has_failed s || all_hold (entry_zone c) at s Failed)
+      and_from (entry_holds (entry_frame p) at s Failed) (has_failed s || all_hold (entry_zone called) at s Failed)
       (or_right (has_failed s) (all_hold (entry_premises p) at s Failed)
-      (pass_all (λ (line : Term). holds there line) (entry_premises p) (premises there (entries_there k s e live at))))
-      (or_right (has_failed s) (all_hold (entry_zone c) at s Failed)
-      (pass_all (λ (line : Term). holds there line) (entry_zone c) (zone_holds p m room below there (entries_there k s e live at))))
+      (pass_all (λ (line : Term). holds there line) (entry_premises p) (premises there (entries_there k s e live))))
+      (or_right (has_failed s) (all_hold (entry_zone called) at s Failed)
+      (pass_all (λ (line : Term). holds there line) (entry_zone called) (zone_holds p had room below there (entries_there k s e live))))
 
+module _ (p : Pair) (m : Machine) (a : Assignment) (stop : ℕ) (steps : StepTogether p.image p.entry p.numbering p.graphs m a stop)
+    (home : ReturnTogether p.image p.entry p.numbering p.graphs m a) where
   byte_there : (now : Machine) (values : Assignment) → IsMachine now → Alike now values → (at : ℕ) → has_byte (values binary_memory) at (bounded nothing at) ≡ true
   byte_there now values is alike at = ap (λ (v : Value). has_byte v at (bounded nothing at)) alike.bytes ∙ far_byte now is at
 
-  pub always : (k at : ℕ) → binary_always c (entry_frame p) at (run p.graphs p.numbering p.entry a k) ≡ true
-  always k at = by (run p.graphs p.numbering p.entry a k) refl
+  -- the memory of each machine has no byte from 2 ^ 32 on
+  pub far_there : (k at : ℕ) → holds_byte (bounded nothing) binary_memory at (run p.graphs p.numbering p.entry a k) ≡ true
+  far_there k at = by (run p.graphs p.numbering p.entry a k) refl
     where
-      by : (s : State) → run p.graphs p.numbering p.entry a k ≡ s → binary_always c (entry_frame p) at s ≡ true
+      by : (s : State) → run p.graphs p.numbering p.entry a k ≡ s → holds_byte (bounded nothing) binary_memory at s ≡ true
       by Failed e = refl
-      by (Returned values) e =
-          let back = home.graphs_return k values e in
-          and_from (has_byte (values binary_memory) at (bounded nothing at)) (lines_hold at (Returned values))
-          (byte_there back.2.final values back.2.sound.is_machine back.2.alike at) (lines_there k (Returned values) e refl at)
-      by (Running g node values below) e =
-          and_from (has_byte (values binary_memory) at (bounded nothing at)) (lines_hold at (Running g node values below))
-          (elim (steps.graphs_lead k) [
-            | inl over ↦ absurd (not_over _ over g node values below e)
-            | inr there ↦ byte_there there.2.now values there.2.sound.is_machine
-                (alike_there p.image p.entry p.numbering (read_register m 1) there.2.now _ there.2.alike g node values below e) at
-          ])
-          (lines_there k (Running g node values below) e refl at)
+      by (Returned values) e = let back = home.graphs_return k values e in byte_there back.2.final values back.2.sound.is_machine back.2.alike at
+      by (Running g node values below) e = elim (steps.graphs_lead k) [
+        | inl over ↦ absurd (not_over _ over g node values below e)
+        | inr there ↦ byte_there there.2.now values there.2.sound.is_machine
+            (alike_there p.image p.entry p.numbering (read_register m 1) there.2.now _ there.2.alike g node values below e) at
+      ]
 
 -- ---- the source
 
-module _ (p : Pair) (zone : Zone) (b : Assignment) (keeps : KeepsZone p) (low : b zone_low ≡ Number W32 zone.low) (high : b zone_high ≡ Number W32 zone.high)
+module _ (p : Pair) (zone : Zone) (b : Assignment) (low : b zone_low ≡ Number W32 zone.low) (high : b zone_high ≡ Number W32 zone.high)
     (fixed : AlwaysHoldsFixed (graphs_of p.unit (place_of p)) (body_number p.body.name p.unit.bodies) (bounded (fixed_byte p.image)) source_memory (source_entry p b)) where
   abbrev graphs : Graphs
   graphs = graphs_of p.unit (place_of p)
@@ -163,9 +159,9 @@ module _ (p : Pair) (zone : Zone) (b : Assignment) (keeps : KeepsZone p) (low : 
       let there : Assignment = values_at at Failed s in
       pass_all (λ (line : Term). holds there line) source_lines
       (all_more (λ (line : Term). holds there line ≡ true) (equal (open_term zone_low) (word zone.low)) (equal (open_term zone_high) (word zone.high) ∷ [])
-      (word_line there (open_term zone_low) zone.low (open_value there zone_low ∙ stays k s e live zone_low refl (Number W32 zone.low) low (λ n node at_n i d lt. (keeps n node at_n i d lt).0)))
+      (word_line there (open_term zone_low) zone.low (open_value there zone_low ∙ stays k s e live zone_low refl (Number W32 zone.low) low (λ n node at_n i d lt. (no_zone p.unit (place_of p) outermost n node at_n i d lt).0)))
       (all_more (λ (line : Term). holds there line ≡ true) (equal (open_term zone_high) (word zone.high)) []
-      (word_line there (open_term zone_high) zone.high (open_value there zone_high ∙ stays k s e live zone_high refl (Number W32 zone.high) high (λ n node at_n i d lt. (keeps n node at_n i d lt).1)))
+      (word_line there (open_term zone_high) zone.high (open_value there zone_high ∙ stays k s e live zone_high refl (Number W32 zone.high) high (λ n node at_n i d lt. (no_zone p.unit (place_of p) outermost n node at_n i d lt).1)))
       (λ i d lt. absurd (omega (arith, lt)))))
 
   pub always_source : (k at : ℕ) → source_always (convention_of p zone) at (after (system_of graphs outermost) k (source_entry p b)) ≡ true

@@ -1,7 +1,7 @@
 -- Two states at the entry have the values of the opening's terms.
-use Rattle.std.proofs.Common.{◌≡◌, ◌∙◌, ℕ, ◌^◌, ◌≤◌, ◌<◌, ◌&&◌, ◌==◌, Bool, true, false, if◌then◌else◌, List, [], ◌∷◌, ◌++◌, Option, Some, None, refl, sym, ap, ap₂, subst}
+use Rattle.std.proofs.Common.{◌≡◌, ◌∙◌, ℕ, ◌==◌, Bool, true, false, if◌then◌else◌, List, [], ◌∷◌, ◌++◌, refl, sym, ap, ap₂}
 use Rattle.std.specs.List.{All}
-use Rattle.std.proofs.lemmas.Bool.{and_from, eqb-true}
+use Rattle.std.proofs.lemmas.Bool.{eqb-true}
 use Rattle.std.proofs.lemmas.List.Elements.{All-head, All-tail}
 use Rattle.term_spec.specs.declared.Variable.{Variable}
 use Rattle.term_spec.specs.Same.{same_variable}
@@ -9,8 +9,8 @@ use Rattle.term_spec.proofs.Same.{variable-same}
 use Rattle.term_spec.specs.Sort.{same_width}
 use Rattle.term_spec.proofs.Sorts.{same_width-true}
 use Rattle.term_spec.specs.Term.{Term, equal, open_term}
-use Rattle.term_spec.specs.Value.{Value, Truth, Number, Bytes, Assignment, IsAssignment, IsOfSort, value, binary_value, equal_values, stray}
-use Rattle.term_spec.specs.Substitution.{State as Terms, values_of}
+use Rattle.term_spec.specs.Value.{Value, Truth, Number, Bytes, Assignment, value, binary_value, equal_values, stray}
+use Rattle.term_spec.specs.Substitution.{State as Terms}
 use Rattle.condition_spec.specs.Passages.{holds}
 use Rattle.agreement_laws.specs.EntryFrame.{Pair, Fact, given, lines_of, convention_of, entry_opening, entry_frame, binary_facts, source_facts}
 use Rattle.walk_spec.specs.Simulation.{IsRelated}
@@ -40,7 +40,7 @@ given_values s (fact ∷ facts) rest all v same =
 
 -- ---- from the facts as lines
 
-equal_true : (u v : Value) → is_truth (equal_values u v) ≡ true → v ≡ u
+pub equal_true : (u v : Value) → is_truth (equal_values u v) ≡ true → v ≡ u
 equal_true (Truth true) (Truth true) h = refl
 equal_true (Truth true) (Truth false) h = absurd (let bad : false ≡ true = h in cc)
 equal_true (Truth false) (Truth true) h = absurd (let bad : false ≡ true = h in cc)
@@ -56,7 +56,7 @@ equal_true (Number w n) (Number z k) h = by (same_width w z) refl h
     by false e h = absurd (let bad : false ≡ true = h in cc)
 equal_true (Bytes m) v h = absurd (let bad : false ≡ true = h in cc)
 
-fact_value : (s : Assignment) (fact : Fact) → FactHolds s fact → value s fact.term ≡ s fact.variable
+pub fact_value : (s : Assignment) (fact : Fact) → FactHolds s fact → value s fact.term ≡ s fact.variable
 unfolding value binary_value
 fact_value s fact h = equal_true (s fact.variable) (value s fact.term) h
 

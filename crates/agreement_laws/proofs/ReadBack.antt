@@ -1,7 +1,7 @@
 -- What the lines of the return relation say of the machine and of what C gives back.
-use Rattle.std.proofs.Common.{◌≡◌, ◌≢◌, ◌∙◌, ℕ, ◌+◌, ◌-◌, ◌%◌, ◌^◌, ◌<◌, ◌≤◌, ◌==◌, ◌&&◌, ◌||◌, zero, suc, Bool, true, false, not, List, [], ◌∷◌, ◌++◌, Contains, slice_get, map, Option, Some, None, nat_lt, refl, sym, ap, subst, inl, inr, arith}
+use Rattle.std.proofs.Common.{◌≡◌, ◌∙◌, ℕ, ◌+◌, ◌-◌, ◌%◌, ◌^◌, ◌<◌, ◌≤◌, ◌==◌, ◌&&◌, ◌||◌, zero, suc, Bool, true, false, not, List, [], ◌∷◌, Contains, map, Option, Some, None, nat_lt, refl, sym, ap, subst, inl, inr, arith}
 use Rattle.std.specs.Prelude.{ℤ, pos, negsuc}
-use Rattle.std.specs.List.{All, list_all}
+use Rattle.std.specs.List.{All}
 use Rattle.std.proofs.lemmas.Bool.{or_cases, and_parts, ltb-true, ltb-false, eqb-true}
 use Rattle.std.proofs.lemmas.List.Elements.{All-contains, All-head}
 use Rattle.std.proofs.Math.Nat.{mod-eq_of_lt}
@@ -13,21 +13,21 @@ use Rattle.term_spec.specs.declared.Width.TheVariants.{W32}
 use Rattle.term_spec.specs.declared.WordOperator.TheVariants as operator
 use Rattle.term_spec.specs.declared.Variable.{Variable}
 use Rattle.term_spec.specs.Term.{Term, equal, open_term}
-use Rattle.term_spec.specs.Value.{Value, Number, Bytes, Truth, Assignment, value, unary_value, binary_value, low_bits, operation}
+use Rattle.term_spec.specs.Value.{Number, Bytes, Truth, Assignment, value, unary_value, binary_value, low_bits, operation}
 use Rattle.walk_spec.specs.Simulation.{IsRelated}
 use Rattle.condition_spec.specs.Passages.{holds}
-use Rattle.graph_spec.specs.Run.{State, Returned, is_truth}
+use Rattle.graph_spec.specs.Run.{Returned, is_truth}
 use Rattle.code_graph_spec.specs.State.{Alike, entry_register}
 use Rattle.code_graph_laws.proofs.Values.{equal_evaluates, words_evaluates}
 use Rattle.c_type_spec.specs.declared.Scalar.{Scalar}
-use Rattle.c_type_spec.specs.Values.{bits_of, of_bits}
+use Rattle.c_type_spec.specs.Values.{bits_of}
 use Rattle.c_graph_spec.specs.State.{result}
-use Rattle.c_graph_laws.proofs.Extents.{ResultExtent, IsPlain, full, scalar}
+use Rattle.c_graph_laws.proofs.Extents.{ResultExtent, full, scalar}
 use Rattle.c_graph_laws.specs.Together as c
 use Rattle.c_graph_laws.specs.Together.{ReturnsAlike, gives_none, gives_some}
 use Rattle.c_graph_laws.proofs.Divisions.{at_width_is}
 use Rattle.c_graph_laws.proofs.Bits.{bits_resized}
-use Rattle.rule_spec.specs.Points.{Convention, values_at, all_hold, with_memory, same_byte, binary_memory, source_memory, address}
+use Rattle.rule_spec.specs.Points.{Convention, values_at, with_memory, same_byte, binary_memory, source_memory, address}
 use Rattle.rule_spec.specs.Calling as calling
 use Rattle.rule_spec.specs.Systems.{relation}
 use Rattle.rule_spec.proofs.Truths.{all_left, all_right, all_mapped, all_pass}

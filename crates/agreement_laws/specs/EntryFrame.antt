@@ -1,5 +1,5 @@
 -- The frame at the entry of a function of an executable and of a C unit, and the terms of both sides' variables there.
-use Rattle.std.specs.Prelude.{ℕ, suc, ◌+◌, ◌-◌, true, false, List, [], ◌∷◌, ◌++◌, length, map, Option, Some, None, option_map, if◌then◌else◌}
+use Rattle.std.specs.Prelude.{ℕ, suc, ◌+◌, ◌-◌, true, false, List, [], ◌∷◌, ◌++◌, length, map, Option, option_map, if◌then◌else◌}
 use Rattle.memory_spec.specs.Runs as memory
 use Rattle.memory_spec.specs.Zones.{Zone}
 use Rattle.elf_spec.specs.Image.{Image, fixed_byte, global_pointer}
@@ -23,7 +23,6 @@ use Rattle.proof_spec.specs.Scope as scope
 use Rattle.proof_spec.specs.Frames.{Frame}
 use Rattle.rule_spec.specs.Points.{Convention, with_memory, all_hold}
 use Rattle.rule_spec.specs.Calling.{Run, convention, entry_lines, zone_from, at_entry}
-use Rattle.rule_spec.specs.Systems.{Relation}
 use Rattle.rule_spec.specs.Rules.{Opening, at_cut}
 use Rattle.agreement_laws.specs.Agreement.{globals_of}
 

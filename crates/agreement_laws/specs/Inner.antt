@@ -1,5 +1,5 @@
 -- What a function gives to its callers: its simulation where a wider zone is barred, that of a caller.
-use Rattle.std.specs.Prelude.{◌≡◌, ℕ, ◌+◌, ◌^◌, ◌<◌, ◌&&◌, ◌||◌, ◌==◌, nat_lt, nat_le, Bool, true, false, not, List, [], ◌∷◌, ◌++◌, None}
+use Rattle.std.specs.Prelude.{◌≡◌, ℕ, ◌+◌, ◌^◌, ◌<◌, ◌&&◌, ◌||◌, ◌==◌, nat_lt, nat_le, Bool, false, not, List, [], ◌∷◌, ◌++◌, None}
 use Rattle.memory_spec.specs.Zones.{Zone, InZone}
 use Rattle.elf_spec.specs.Image.{fixed_byte, global_pointer}
 use Rattle.term_spec.specs.Term.{Term, equal, less, not_term, bit_and}

@@ -2,3 +2,4 @@ pub mod Agreement
 pub mod EntryFrame
 pub mod Inner
 pub mod Statements
+pub mod Callers

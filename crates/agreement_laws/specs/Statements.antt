@@ -1,31 +1,32 @@
 -- What the laws of agreement say.
-use Rattle.std.specs.Prelude.{◌≡◌, ◌≢◌, ℕ, ℤ, true, List, [], All, Some, IsSome}
+use Rattle.std.specs.Prelude.{◌≡◌, ℕ, ◌^◌, ◌<◌, ℤ, List, [], All, Some, IsSome}
 use Rattle.memory_spec.specs.Zones.{Zone}
-use Rattle.elf_spec.specs.Image.{size_at, fixed_byte}
+use Rattle.elf_spec.specs.Image.{Image, size_at, function_named}
+use Rattle.elf_spec.specs.declared.SymbolValues.TheVariants.{One}
+use Rattle.code_spec.specs.Code.{IsStack}
 use Rattle.code_spec.specs.Faults.{ReachesNoFault}
 use Rattle.rv_spec.specs.Machine.{Machine, read_register}
 use Rattle.code_graph_spec.specs.Blocks.{Entrance}
 use Rattle.code_graph_spec.specs.State.{entry_register}
 use Rattle.code_graph_laws.specs.Together.{AreCodeGraphs, StartAlike}
 use Rattle.term_spec.specs.declared.Width.TheVariants.{W32}
-use Rattle.term_spec.specs.Value.{Number, Assignment, IsAssignment}
+use Rattle.term_spec.specs.Value.{Number, Assignment}
 use Rattle.walk_spec.specs.Simulation.{IsRelated}
-use Rattle.graph_spec.specs.Graph.{Binding, Node, IsValid, node_at}
-use Rattle.graph_spec.specs.Variables.{own_bindings}
+use Rattle.graph_spec.specs.Graph as graph
 use Rattle.graph_spec.specs.Run.{State, Running}
-use Rattle.graph_spec.specs.Fixed.{has_byte, AlwaysHoldsFixed}
 use Rattle.c_type_spec.specs.HasType.{IsTypedUnit}
 use Rattle.c_meaning_spec.specs.Calls.{body_named, locals_at_entry}
 use Rattle.pair_spec.specs.SourceReach.{Reaches}
 use Rattle.c_graph_spec.specs.Sizes.{UnitSizes}
-use Rattle.c_graph_spec.specs.State.{zone_low, zone_high}
-use Rattle.c_graph_spec.specs.SourceGraph.{body_number, graphs_of}
+use Rattle.c_graph_spec.specs.SourceGraph.{body_number}
 use Rattle.c_graph_laws.specs.Together.{IsPlace, Alike}
 use Rattle.proof_spec.specs.Cuts.{both}
-use Rattle.rule_spec.specs.Points.{bounded, source_memory, all_hold}
+use Rattle.rule_spec.specs.Points.{all_hold}
+use Rattle.rule_spec.specs.Proper.{Opens}
 use Rattle.rule_spec.specs.Systems.{IsSimulated, IsBinaryFine, IsSourceFine}
 use Rattle.claim_spec.specs.Convention.{dead_stack, Meets}
-use Rattle.agreement_laws.specs.Agreement.{AgreesWith, AgreesFrom, BreaksNoGuard, argument_words, run_from}
+use Rattle.agreement_laws.specs.Agreement.{AgreesWith, AgreesFrom, BreaksNoGuard, IsValid, argument_words, run_from}
+use Rattle.agreement_laws.specs.Inner.{Inner}
 use Rattle.agreement_laws.specs.EntryFrame.{Pair, place_of, convention_of, entry_frame, entry_opening, entry_premises}
 
 -- a function of a file without faults of code in what it reaches, and its graphs; a body of a typed unit, whose sizes are
@@ -34,24 +35,12 @@ pub record IsPair (p : Pair) : Type 0 where
   pub is_function : IsSome (size_at p.image p.entry)
   pub no_fault : ReachesNoFault p.image p.entry
   pub whole : AreCodeGraphs p.image p.entry p.numbering p.graphs
-  pub binary_valid : All IsValid p.graphs
+  pub binary_valid : All graph.IsValid p.graphs
   pub typed : IsTypedUnit p.unit
   pub sizes : UnitSizes p.unit
   pub placed : IsPlace (place_of p)
   pub body_is : body_named p.unit.bodies p.body.name ≡ Some p.body
   pub bodies : (other : List ℕ) → Reaches p.unit p.body.name other → IsSome (body_named p.unit.bodies other)
-
--- from the entry of the function on, runs of the graphs of C keep fixed bytes
-abbrev pub KeepsFixed : Pair → Type 0
-KeepsFixed p = (values : Assignment) → IsAssignment values
-    → ((at : ℕ) → has_byte (values source_memory) at (bounded (fixed_byte p.image) at) ≡ true)
-    → AlwaysHoldsFixed (graphs_of p.unit (place_of p)) (body_number p.body.name p.unit.bodies) (bounded (fixed_byte p.image)) source_memory
-    (Running (body_number p.body.name p.unit.bodies) 0 values [])
-
--- no node of the function's C graph binds, in its own frame, the words that are the zone's ends
-abbrev pub KeepsZone : Pair → Type 0
-KeepsZone p = (n : ℕ) (node : Node) → node_at (graphs_of p.unit (place_of p)) (body_number p.body.name p.unit.bodies) n ≡ Some node
-    → All (λ (b : Binding). (b.variable ≢ zone_low) × (b.variable ≢ zone_high)) (own_bindings node)
 
 -- the simulation of the frame at the entry, wherever the dead stack is
 abbrev pub IsSimulatedAtEntry : Pair → Type 0
@@ -59,8 +48,28 @@ IsSimulatedAtEntry p = (zone : Zone) → IsSimulated (convention_of p zone) (ent
 
 -- where the frame at the entry is simulated, the code does what the source says
 abbrev pub SimulationAgrees : Type 0
-SimulationAgrees = (p : Pair) → IsPair p → KeepsFixed p → KeepsZone p → IsSimulatedAtEntry p
-    → AgreesWith p.image p.unit p.body.name p.body.signature p.entry p.stack
+SimulationAgrees = (p : Pair) → IsPair p → IsSimulatedAtEntry p → AgreesWith p.image p.unit p.body.name p.body.signature p.entry p.stack
+
+-- there is one number of bytes of stack
+abbrev pub OneStack : Type 0
+OneStack = (image : Image) (entry one two : ℕ) → IsStack image entry one → IsStack image entry two → one ≡ two
+
+-- and where the function has this name, and takes this much stack, it is valid
+abbrev pub SimulatedIsValid : Type 0
+SimulatedIsValid = (p : Pair) → IsPair p → IsSimulatedAtEntry p → function_named p.image p.body.name ≡ One p.entry → IsStack p.image p.entry p.stack
+    → IsValid p.image p.unit p.body.name p.stack
+
+-- ---- callers
+
+-- where the frame at the entry is simulated, the function gives to its callers what they rely on
+abbrev pub SimulatedIsInner : Type 0
+SimulatedIsInner = (p : Pair) → IsPair p → IsSimulatedAtEntry p → Inner p
+
+-- ---- what the rules ask at the entry
+
+-- two states of which the facts are known have the values of the opening's terms
+abbrev pub EntryOpens : Type 0
+EntryOpens = (p : Pair) (zone : Zone) → IsPair p → p.stack < 2 ^ 32 → Opens (convention_of p zone) (entry_frame p) (entry_opening p zone)
 
 -- ---- starts
 

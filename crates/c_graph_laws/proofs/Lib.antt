@@ -3,7 +3,7 @@ mod Stands
 mod Laid
 mod Steps
 pub mod Bits
-mod Changes
+pub mod Changes
 mod Means
 mod Flows
 mod Parts
@@ -11,14 +11,14 @@ mod Choosing
 mod Compared
 mod Sums
 mod Products
-mod Sorted
+pub mod Sorted
 mod Evaluates
 mod Operators
 pub mod Divisions
 mod Moves
 mod Accesses
 mod Objects
-mod ExpressionSorts
+pub mod ExpressionSorts
 mod Expressions
 mod Statements
 mod Acting
@@ -28,3 +28,7 @@ mod Serving
 pub mod Together
 pub mod ValidGraphs
 mod Starts
+pub mod Spared
+mod StoreBytes
+pub mod KeptBytes
+pub mod OwnBindings

@@ -3,3 +3,4 @@ pub mod Starts
 pub mod Valid
 pub mod OfUnits
 pub mod Samples
+pub mod Keeps

@@ -1,0 +1,8 @@
+pub mod EntryLines
+pub mod Speaking
+pub mod CodeSpeaks
+pub mod PlainLines
+pub mod SourceSpeaks
+pub mod SourceGraphs
+pub mod Simulated
+pub mod Functions
