@@ -1,0 +1,6 @@
+pub mod Members
+pub mod Later
+pub mod Folds
+pub mod TwoMaps
+pub mod Parts
+pub mod Bounds

@@ -1,0 +1,52 @@
+use Rattle.std.proofs.Common.{◌≡◌, ◌<◌, Box, Global, List, length, map, take, get_or, Some, sym, ap, ◌∙◌, subst, arith}
+use Rattle.std.proofs.lemmas.List.{take_all}
+use Rattle.term_spec.specs.Term.{and_term}
+use Rattle.term_spec.specs.Substitution.{State, substituted}
+use Rattle.term_core.specs.Trees.{term_of}
+use Rattle.term_core.specs.declared.term.Term.{Term as CodeTerm}
+use Rattle.term_bank.specs.Nodes.{Holds}
+use Rattle.term_bank.proofs.Substitution.{kept, extends_through}
+use Rattle.graph_core.specs.Graphs.{boxed_term}
+use Rattle.proof_tree.specs.Frames.{terms_of}
+use Rattle.rule_spec.specs.Rules.{all_of}
+use Rattle.rule_terms.proofs.Folds.{all_first, all_more}
+use Rattle.rule_terms.proofs.Later.{below_later, map_later}
+use Rattle.rule_terms.proofs.lines.some_lines.Goals as goal
+
+pub loop-i-init : goal.loop-i-init
+loop-i-init g c = record {
+  extends = c.line_at.ensures.extends;
+  longer = c.line_at.ensures.longer;
+  within = c.in_ok-first.ensures.within;
+  tree = λ s is.
+      let first = ap (λ (t : CodeTerm). substituted s (term_of t)) c.deref.ensures ∙ ap (λ (b : Box CodeTerm Global). substituted s (boxed_term b)) c.index-lines-0.is in
+      subst (Holds c.line_at.new.bank c.in_ok-first.first) (first ∙ sym (all_first (substituted s) boxed_term c.args.lines.now c.index-lines-0.result c.requires.some)) (c.in_ok-first.ensures.tree s is);
+}
+
+pub line_at-requires-in-loop-i : goal.line_at-requires-in-loop-i
+line_at-requires-in-loop-i g c =
+    below_later c.args.bank.now c.loop-i.bank c.loop-i.invariant.extends (g.L.Lookup.terms c.args.terms.now) c.requires.terms
+
+pub loop-i-preserved : goal.loop-i-preserved
+loop-i-preserved g c =
+    let b0 = c.args.bank.now in
+    let b1 = c.loop-i.bank in
+    let b2 = c.line_at-in-loop-i.new.bank in
+    let b3 = c.both.new.bank in
+    let some : 0 < c.loop-i.i = omega arith in
+    record {
+      extends = extends_through b0 b1 b3 c.loop-i.invariant.extends (extends_through b1 b2 b3 c.line_at-in-loop-i.ensures.extends c.both.ensures.extends);
+      longer = omega arith;
+      within = c.in_ok-all.ensures.within;
+      tree = λ s is.
+          let before = c.loop-i.invariant.tree s is in
+          let next = c.in_ok-next.ensures.tree s (map_later b0 b1 c.loop-i.invariant.extends (g.L.Lookup.terms c.args.terms.now) s is) in
+          let both = c.in_ok-all.ensures.tree _ _ (kept b1 b2 c.loop-i.all _ c.line_at-in-loop-i.ensures.extends before) next in
+          let here = ap (λ (t : CodeTerm). substituted s (term_of t)) c.deref-in-loop-i.ensures ∙ ap (λ (b : Box CodeTerm Global). substituted s (boxed_term b)) c.index-lines-i.is in
+          subst (Holds b3 c.in_ok-all.all) (ap (and_term (all_of (map (substituted s) (terms_of (take c.loop-i.i c.args.lines.now))))) here
+          ∙ sym (all_more (substituted s) boxed_term c.args.lines.now c.loop-i.i c.index-lines-i.result c.loop-i-test.true some)) both;
+    }
+
+pub returns-clause-tree : goal.returns-clause-tree
+returns-clause-tree g c = λ s is.
+    subst (λ (l : List (Box CodeTerm Global)). Holds c.loop-i.bank c.loop-i.all (all_of (map (substituted s) (terms_of l)))) (take_all c.loop-i.i c.args.lines.now c.loop-i-test.false) (c.loop-i.invariant.tree s is)

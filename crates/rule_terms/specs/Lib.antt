@@ -1,0 +1,6 @@
+pub mod Which
+pub mod Both
+pub mod Openings
+pub mod Ways
+pub mod Seen
+pub mod Conventions

@@ -1,0 +1,27 @@
+//! The terms of which the obligations of a rule are made, in a bank.
+//!
+//! A [`Way`] is one side of a frame, a [`Sight`] its visits with their conditions and states, a
+//! [`Part`] several of them as one. [`relation`] gives what holds at a point, [`premises`] and
+//! [`bounded_premises`] what may be used: exactly the terms of `rule_spec` (`specs/Sides.antt`,
+//! `specs/Rules.antt` there).
+
+#![tactic(auto)]
+
+mod convention;
+mod families;
+mod given;
+mod lines;
+mod logic;
+mod points;
+mod sight;
+mod way;
+mod which;
+
+pub use convention::Convention;
+pub use given::{bounded_premises, premises};
+pub use lines::Known;
+pub use logic::{both, either, implication, negation, truth};
+pub use points::{BothSides, Opening, relation};
+pub use sight::{Part, Sight};
+pub use way::{Way, conditions_of};
+pub use which::Which;
