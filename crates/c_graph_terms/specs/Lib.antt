@@ -1,0 +1,5 @@
+pub mod Tables
+pub mod Built
+pub mod Tests
+pub mod Accesses
+pub mod Scenes
