@@ -143,6 +143,14 @@ impl<'a, M: Drop> Scopes<'a, M> {
         }
     }
 
+    /// The names of the file scope, in the order of their declarations.
+    pub fn into_file(self) -> IndexMap<&'a [u8], M>
+        ensures { file_of result.entries ≡ (scopes_of self.entry).file }
+    {
+        let Scopes { file, .. } = self;
+        file
+    }
+
     /// Closes the innermost block, and hides its names until the block around it is closed.
     pub fn close_hidden(&mut self)
         ensures { scopes_of self.new ≡ rule.closed_hidden None (scopes_of self.old) }

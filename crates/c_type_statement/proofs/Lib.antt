@@ -1,0 +1,6 @@
+pub mod Steps
+pub mod Lists
+pub mod LabelSets
+pub mod GroupLabels
+pub mod SwitchGroups
+pub mod Declared
