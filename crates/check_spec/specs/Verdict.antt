@@ -1,10 +1,7 @@
 -- The walk along the lines of a certificate: whether it is a proof of the listed functions, and else its first fault.
-use Rattle.std.specs.Prelude.{◌≡◌, ◌≢◌, ℕ, ◌+◌, ◌<◌, true, List, [], ◌∷◌, ◌++◌, length, map, Contains, All}
-use Rattle.term_spec.specs.Term.{Term, not_term, truth}
-use Rattle.term_spec.specs.Subterms.{subterm_count}
+use Rattle.std.specs.Prelude.{◌≡◌, ◌≢◌, ℕ, ◌+◌, ◌<◌, List, [], ◌∷◌, ◌++◌, length, map, Contains, All}
+use Rattle.term_spec.specs.Term.{Term, not_term}
 use Rattle.memory_spec.specs.Runs.{Run}
-use Rattle.normal_spec.specs.Normal.{normal}
-use Rattle.blast_spec.specs.Goal.{cnf_of}
 use Rattle.proof_spec.specs.Frames.{Frame, with_premise}
 use Rattle.proof_spec.specs.Scope.{IsLine}
 use Rattle.rule_spec.specs.Points.{Convention}
@@ -13,7 +10,9 @@ use Rattle.rule_spec.specs.Obligations.{AreObligations, IsCyclicRule, IsLargeRul
 use Rattle.rule_spec.specs.Obligations as rule
 use Rattle.cert_spec.specs.declared.Symbol.{Symbol}
 use Rattle.cert_spec.specs.Lines.{Line, Header, Function, InlineBinary, InlineSource, Leaf, Case, RestrictBinary, RestrictSource, Split, Call, Log, End, line_text}
-use Rattle.check_spec.specs.declared.TheConstants.{MAX_VISITS, MAX_TERMS, MAX_VARIABLES}
+use Rattle.tv_base.specs.declared.limits.TheConstants.{MAX_VISITS}
+use Rattle.closing_spec.specs.declared.GoalQuantity.TheVariants as above
+use Rattle.closing_spec.specs.Closing.{Closes, IsLarge, Unclosed, closing}
 use Rattle.check_spec.specs.declared.RuleFault.{RuleFault}
 use Rattle.check_spec.specs.declared.RuleFault.TheVariants as fault
 use Rattle.check_spec.specs.declared.Quantity.{Quantity}
@@ -74,19 +73,6 @@ pub record IsTest (f : Frame) (symbols : List Symbol) (test : Term) : Type 0 whe
 abbrev pub with_test : Frame → Term → Frame
 with_test f test = record f { start = with_premise f.start test }
 
--- ---- obligations
-
--- the limits of a log, in the order in which they are tried
-abbrev pub ExceedsTerms : Term → Type 0
-ExceedsTerms goal = MAX_TERMS < subterm_count goal
-
-abbrev pub ExceedsVariables : List Run → Term → Type 0
-ExceedsVariables runs goal = MAX_VARIABLES < (cnf_of (normal runs goal)).variables
-
--- a log without steps closes what is true in normal form
-abbrev pub IsClosed : List Run → Term → Type 0
-IsClosed runs goal = normal runs goal ≡ truth true
-
 -- ---- a line
 
 -- rules that are not checked yet
@@ -109,7 +95,7 @@ pub data Passes (listed : List Listed) : State → Line → State → Type 0 whe
       → Passes listed (Inside parts f (Prove frame ∷ jobs)) (Leaf (length terms)) (Inside parts f (map Close terms ++ jobs))
   case : (parts : List Listed) (f : Listed) (frame : Frame) (jobs : List Job) (symbols : List Symbol) (test : Term) → IsTest frame symbols test
       → Passes listed (Inside parts f (Prove frame ∷ jobs)) (Case symbols) (Inside parts f (Prove (with_test frame test) ∷ Prove (with_test frame (not_term test)) ∷ jobs))
-  log : (parts : List Listed) (f : Listed) (goal : Term) (jobs : List Job) → (ExceedsTerms goal → ⊥) → (ExceedsVariables f.runs goal → ⊥) → IsClosed f.runs goal
+  log : (parts : List Listed) (f : Listed) (goal : Term) (jobs : List Job) → closing f.runs goal [] ≡ Closes
       → Passes listed (Inside parts f (Close goal ∷ jobs)) (Log 0) (Inside parts f jobs)
   last : (s : State) → ((f : Listed) → IsMissing listed (begun s) f → ⊥) → Passes listed s End (Between (begun s))
 
@@ -129,11 +115,11 @@ pub data Fails (listed : List Listed) : State → Line → Fault → Type 0 wher
       → Fails listed (Inside parts f (Prove frame ∷ jobs)) (Leaf logs) (NotProof f.name fault.Logs)
   sort : (parts : List Listed) (f : Listed) (frame : Frame) (jobs : List Job) (symbols : List Symbol) → ((test : Term) → IsTest frame symbols test → ⊥)
       → Fails listed (Inside parts f (Prove frame ∷ jobs)) (Case symbols) (NotProof f.name fault.Sort)
-  terms : (parts : List Listed) (f : Listed) (goal : Term) (jobs : List Job) → ExceedsTerms goal
+  terms : (parts : List Listed) (f : Listed) (goal : Term) (jobs : List Job) → closing f.runs goal [] ≡ IsLarge above.Terms
       → Fails listed (Inside parts f (Close goal ∷ jobs)) (Log 0) (Limit quantity.Terms)
-  variables : (parts : List Listed) (f : Listed) (goal : Term) (jobs : List Job) → (ExceedsTerms goal → ⊥) → ExceedsVariables f.runs goal
+  variables : (parts : List Listed) (f : Listed) (goal : Term) (jobs : List Job) → closing f.runs goal [] ≡ IsLarge above.Variables
       → Fails listed (Inside parts f (Close goal ∷ jobs)) (Log 0) (Limit quantity.Variables)
-  unclosed : (parts : List Listed) (f : Listed) (goal : Term) (jobs : List Job) → (ExceedsTerms goal → ⊥) → (ExceedsVariables f.runs goal → ⊥) → (IsClosed f.runs goal → ⊥)
+  unclosed : (parts : List Listed) (f : Listed) (goal : Term) (jobs : List Job) → closing f.runs goal [] ≡ Unclosed
       → Fails listed (Inside parts f (Close goal ∷ jobs)) (Log 0) (NotProof f.name fault.Unclosed)
   missing : (s : State) (f : Listed) → IsMissing listed (begun s) f → Fails listed s End (NotProof f.name fault.Missing)
 

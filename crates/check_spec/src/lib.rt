@@ -4,19 +4,10 @@
 //! `specs/Terms.antt` has the terms of certificates as terms over the variables of a proof,
 //! `specs/Verdict.antt` the walk along the lines. Of the rules it has Leaf and Case; at the lines of
 //! the others, and at logs with steps, the fault is [`RuleFault::Later`]. Of the crate only the
-//! types and the limits below run.
+//! types below run.
 #![tactic(auto)]
 
 pub mod samples;
-
-/// How many visits one side of a frame may have.
-pub const MAX_VISITS: usize = 65_536;
-
-/// How many distinct subterms an obligation may have, before it is put into normal form.
-pub const MAX_TERMS: usize = 4_194_304;
-
-/// How many variables the clauses of an obligation may have.
-pub const MAX_VARIABLES: usize = 16_777_216;
 
 /// What a line of a certificate breaks, in the order in which they are tried at one line.
 #[derive(Clone, Copy)]
