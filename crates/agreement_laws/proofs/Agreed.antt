@@ -19,8 +19,8 @@ use Rattle.c_meaning_spec.specs.Calls.{Outcome, Back, c_run}
 use Rattle.c_graph_laws.specs.Together as c
 use Rattle.c_graph_laws.specs.Together.{RunTogether, ReturnsAlike}
 use Rattle.c_graph_spec.specs.SourceGraph.{body_number, graphs_of}
-use Rattle.claim_spec.specs.Convention.{Gives}
-use Rattle.agreement_laws.specs.Agreement.{AgreesFrom, ComesBack, RunsBack, result_words}
+use Rattle.claim_spec.specs.Convention.{Gives, result_words}
+use Rattle.claim_spec.specs.Claim.{AgreesFrom, ComesBack, RunsBack}
 use Rattle.agreement_laws.specs.EntryFrame.{Pair, place_of}
 use Rattle.agreement_laws.proofs.Ends.{first_back, whole, safe, forth, back}
 

@@ -11,8 +11,8 @@ use Rattle.term_spec.specs.declared.Width.TheVariants.{W32}
 use Rattle.term_spec.specs.Value.{Number, Assignment}
 use Rattle.code_graph_laws.specs.Together.{StartAlike, StepTogether, ReturnTogether}
 use Rattle.code_graph_laws.proofs.Running.{return_together, step_together}
-use Rattle.claim_spec.specs.Convention.{Meets}
-use Rattle.agreement_laws.specs.Agreement.{AgreesWith, HaveTypes, IsValid, argument_words}
+use Rattle.claim_spec.specs.Convention.{Meets, argument_words}
+use Rattle.claim_spec.specs.Claim.{AgreesWith, HaveTypes, IsValid}
 use Rattle.agreement_laws.specs.EntryFrame.{Pair}
 use Rattle.agreement_laws.specs.Statements.{IsPair, IsEntry, IsSimulatedAtEntry}
 use Rattle.agreement_laws.proofs.Assigned.{binary_values, binary_sorted, binary_entry_is, binary_register_is, binary_alike}

@@ -20,7 +20,7 @@ use Rattle.c_graph_laws.specs.Together.{HasLocal, unset, set}
 use Rattle.c_graph_laws.proofs.Extents.{IsPlain, byte, half, full, scalar}
 use Rattle.c_graph_laws.proofs.Divisions.{at_width_is}
 use Rattle.c_graph_laws.proofs.Bits.{bits_resized}
-use Rattle.agreement_laws.specs.Agreement.{HaveTypes}
+use Rattle.claim_spec.specs.Claim.{HaveTypes}
 use Rattle.agreement_laws.specs.EntryFrame.{Fact, parameter, widened, argument_facts, local_facts}
 use Rattle.agreement_laws.proofs.ReadBack.{open_value, bits_word}
 

@@ -25,7 +25,8 @@ use Rattle.proof_spec.specs.Cuts.{both}
 use Rattle.rule_spec.specs.Points.{values_at, all_hold, with_memory, binary_memory, bounded, nothing}
 use Rattle.rule_spec.specs.Systems.{IsBinaryFine, IsSourceFine, binary_always}
 use Rattle.rule_spec.proofs.Truths.{pass_all}
-use Rattle.agreement_laws.specs.Agreement.{HaveTypes, argument_words}
+use Rattle.claim_spec.specs.Convention.{argument_words}
+use Rattle.claim_spec.specs.Claim.{HaveTypes}
 use Rattle.agreement_laws.specs.EntryFrame.{Pair, place_of, convention_of, entry_frame, entry_opening, entry_premises, lines_of, registers, binary_facts, source_facts}
 use Rattle.agreement_laws.specs.Statements.{IsPair, binary_entry, source_entry}
 use Rattle.agreement_laws.proofs.Assigned.{source_values, source_sorted}

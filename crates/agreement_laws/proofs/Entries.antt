@@ -23,8 +23,8 @@ use Rattle.c_graph_laws.proofs.Together.{together}
 use Rattle.proof_spec.specs.Cuts.{both}
 use Rattle.rule_spec.specs.Points.{all_hold}
 use Rattle.rule_spec.specs.Systems.{relation, IsBinaryFine, IsSourceFine}
-use Rattle.claim_spec.specs.Convention.{dead_stack, Meets}
-use Rattle.agreement_laws.specs.Agreement.{AgreesFrom, BreaksNoGuard, argument_words, run_from, setting_of}
+use Rattle.claim_spec.specs.Convention.{dead_stack, Meets, argument_words}
+use Rattle.claim_spec.specs.Claim.{AgreesFrom, BreaksNoGuard, run_from, setting_of}
 use Rattle.agreement_laws.specs.EntryFrame.{Pair, place_of, convention_of, entry_frame, entry_opening, entry_premises}
 use Rattle.agreement_laws.specs.Statements.{IsPair, IsEntry, IsSimulatedAtEntry, binary_entry, source_entry}
 use Rattle.agreement_laws.proofs.Pairs.{size, code, extents, never_entry, failed_is, binary_at, source_at}

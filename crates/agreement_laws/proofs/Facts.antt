@@ -28,7 +28,8 @@ use Rattle.c_graph_laws.proofs.Divisions.{at_width_is}
 use Rattle.c_graph_laws.proofs.Bits.{bits_resized, bits_below, value_back}
 use Rattle.rule_spec.specs.Points.{values_at, same_byte, binary_memory}
 use Rattle.rule_spec.specs.Calling as calling
-use Rattle.agreement_laws.specs.Agreement.{HaveTypes, argument_words}
+use Rattle.claim_spec.specs.Convention.{argument_words}
+use Rattle.claim_spec.specs.Claim.{HaveTypes}
 use Rattle.agreement_laws.specs.EntryFrame.{Pair, Fact, convention_of, lines_of, parameter, widened, argument_facts, registers, binary_facts, local_facts, zone_facts, source_facts}
 use Rattle.agreement_laws.specs.Statements.{binary_entry, source_entry}
 use Rattle.agreement_laws.proofs.Assigned.{source_values, source_sorted, low_word}

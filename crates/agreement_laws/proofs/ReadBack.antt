@@ -31,8 +31,7 @@ use Rattle.rule_spec.specs.Points.{Convention, values_at, with_memory, same_byte
 use Rattle.rule_spec.specs.Calling as calling
 use Rattle.rule_spec.specs.Systems.{relation}
 use Rattle.rule_spec.proofs.Truths.{all_left, all_right, all_mapped, all_pass}
-use Rattle.claim_spec.specs.Convention.{Gives, ArePassed, dead_stack, kept_registers}
-use Rattle.agreement_laws.specs.Agreement.{result_words}
+use Rattle.claim_spec.specs.Convention.{Gives, ArePassed, dead_stack, kept_registers, result_words}
 use Rattle.agreement_laws.specs.EntryFrame.{Pair, convention_of, result_term, widened}
 
 equal_back : (s : Assignment) (x y : Term) (a b : ℕ) → value s x ≡ Number W32 a → value s y ≡ Number W32 b → holds s (equal x y) ≡ true → a ≡ b

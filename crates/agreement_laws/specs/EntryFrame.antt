@@ -24,7 +24,7 @@ use Rattle.proof_spec.specs.Frames.{Frame}
 use Rattle.rule_spec.specs.Points.{Convention, with_memory, all_hold}
 use Rattle.rule_spec.specs.Calling.{Run, convention, entry_lines, zone_from, at_entry}
 use Rattle.rule_spec.specs.Rules.{Opening, at_cut}
-use Rattle.agreement_laws.specs.Agreement.{globals_of}
+use Rattle.claim_spec.specs.Claim.{globals_of}
 
 -- a function: its entry in an executable, how much stack it takes there, and the graphs of its code; and its body in a
 -- unit

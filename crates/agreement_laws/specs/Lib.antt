@@ -1,4 +1,3 @@
-pub mod Agreement
 pub mod EntryFrame
 pub mod Inner
 pub mod Statements

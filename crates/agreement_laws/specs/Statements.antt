@@ -24,8 +24,8 @@ use Rattle.proof_spec.specs.Cuts.{both}
 use Rattle.rule_spec.specs.Points.{all_hold}
 use Rattle.rule_spec.specs.Proper.{Opens}
 use Rattle.rule_spec.specs.Systems.{IsSimulated, IsBinaryFine, IsSourceFine}
-use Rattle.claim_spec.specs.Convention.{dead_stack, Meets}
-use Rattle.agreement_laws.specs.Agreement.{AgreesWith, AgreesFrom, BreaksNoGuard, IsValid, argument_words, run_from}
+use Rattle.claim_spec.specs.Convention.{dead_stack, Meets, argument_words}
+use Rattle.claim_spec.specs.Claim.{AgreesWith, AgreesFrom, BreaksNoGuard, IsValid, run_from}
 use Rattle.agreement_laws.specs.Inner.{Inner}
 use Rattle.agreement_laws.specs.EntryFrame.{Pair, place_of, convention_of, entry_frame, entry_opening, entry_premises}
 

@@ -57,9 +57,3 @@ within_then build more small so_far step = record {
 
 pub within_end : {A : Type 0} {maximum : ℕ} {whole : Build A} {old now : Cnf} (x : A) → ContinuesWithin maximum whole old now (give x) → BuiltWithin maximum whole old x now
 within_end x so_far = record { done = λ small. continues_end x (so_far.on small); count = so_far.count }
-
--- an exit hands on the error
-pub large_exit : {X : Type 0} (maximum : ℕ) (cnf : Cnf) (result : Result X BlastError) (error : BlastError) → IsErrAnd result (λ e. e ≡ error) → IfLarge maximum cnf error
-    → IfErr result (IfLarge maximum cnf)
-large_exit maximum cnf (Ok x) error is large = tt
-large_exit maximum cnf (Err e) error is large = subst (IfLarge maximum cnf) (sym is) large

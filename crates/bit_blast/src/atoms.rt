@@ -6,6 +6,7 @@ ghost use Rattle.blast_spec.specs.Goal as spec;
 ghost use Rattle.word_circuits.specs.Built.{MakesWord};
 
 use crate::parts::single;
+use attempt::attempt;
 use cnf_core::Literal;
 use std::alloc::{AllocError, Global};
 use term_core::bit_count;
@@ -31,7 +32,7 @@ fn known_bits(alloc: Global, count: usize, number: u64) -> Result<Vec<Literal>, 
     let mut out = Vec::new(alloc);
     let mut rest = number;
     for _index in 0..count {
-        out.push(known(rest % 2 == 1))?;
+        attempt!(out.push(known(rest % 2 == 1)), AllocError);
         rest /= 2;
     }
     Ok(out)

@@ -25,6 +25,7 @@ use crate::blasted::Blasted;
 use crate::loads::{LoadIndices, loads_from, loads_of};
 use crate::operators::bit_of;
 use crate::table::TermTable;
+use attempt::attempt;
 use cnf_core::Literal;
 use std::alloc::{AllocError, Global};
 use term_bank::TermNode;
@@ -77,7 +78,7 @@ fn write_back(
     let address = number_of(values, table.bits(load.address));
     let byte = number_of(values, table.bits(load.byte)) % 0x100;
     if address < 0x1_0000_0000 {
-        memory.set(address as u32, byte as u8)?;
+        attempt!(memory.set(address as u32, byte as u8));
     }
     Ok(())
 }
@@ -99,7 +100,7 @@ fn memory_back(
     let mut index = loads.len();
     'backwards: while index > 0 {
         index -= 1;
-        write_back(values, table, loads[index], &mut memory)?;
+        attempt!(write_back(values, table, loads[index], &mut memory));
     }
     Ok(memory)
 }
@@ -128,8 +129,8 @@ fn value_back(
             low_bits(width, number_of(values, table.bits(index))),
         )),
         Sort::Memory => {
-            let own = loads_from(alloc, loads, index)?;
-            let memory = memory_back(alloc, values, table, &own)?;
+            let own = attempt!(loads_from(alloc, loads, index));
+            let memory = attempt!(memory_back(alloc, values, table, &own));
             Ok(Value::Bytes(memory))
         }
     }
@@ -165,12 +166,12 @@ pub fn read_back(
 {
     let table = &blasted.table;
     table.is_distinct();
-    let loads = loads_of(alloc, table)?;
+    let loads = attempt!(loads_of(alloc, table));
     let mut assignment = Assignment::new(alloc);
     'terms: for index in 0..table.len() {
         if let Some(variable) = variable_of(table.node(index)) {
-            let value = value_back(alloc, values, table, &loads, index, variable)?;
-            assignment.set(variable, value)?;
+            let value = attempt!(value_back(alloc, values, table, &loads, index, variable));
+            attempt!(assignment.set(variable, value));
         }
     }
     Ok(assignment)

@@ -14,6 +14,7 @@ use crate::operators::bit_of;
 use crate::state::Traversal;
 use crate::table::TermTable;
 use crate::traversal::traversal;
+use attempt::attempt;
 use cnf_core::{Cnf, negation};
 use std::alloc::Global;
 use term_bank::{Bank, TermId};
@@ -68,18 +69,27 @@ pub fn blast(
         → CanBeFalse t) }
 {
     let mut gates = Gates::new(alloc);
-    let _truth = gates.truth()?;
-    let traversal = traversal(alloc, bank, gates, goal, maximum)?;
-    within(&traversal.gates, maximum)?;
+    let _truth = attempt!(gates.truth(), BlastError::NoMemory);
+    let traversal = attempt!(
+        traversal(alloc, bank, gates, goal, maximum),
+        BlastError::NoMemory
+    );
+    attempt!(within(&traversal.gates, maximum));
     let index = index_of(&traversal.indices, goal);
     let Traversal {
         mut gates,
         table,
         ..
     } = traversal;
-    tie_memories(alloc, &mut gates, &table, maximum)?;
-    within(&gates, maximum)?;
-    gates.claim(&[negation(bit_of(table.bits(index)))])?;
+    attempt!(
+        tie_memories(alloc, &mut gates, &table, maximum),
+        BlastError::NoMemory
+    );
+    attempt!(within(&gates, maximum));
+    attempt!(
+        gates.claim(&[negation(bit_of(table.bits(index)))]),
+        BlastError::NoMemory
+    );
     let cnf = gates.into_cnf();
     Ok(Blasted { cnf, table })
 }

@@ -11,6 +11,7 @@ ghost use Rattle.bit_blast.specs.Entries as spec;
 
 use crate::nodes::own_bits;
 use crate::table::TermTable;
+use attempt::attempt;
 use std::alloc::{AllocError, Global};
 use term_bank::TermNode;
 use term_spec::{BinaryOperator, WordOperator};
@@ -69,11 +70,11 @@ fn enter_division(
         (tree_at (terms_in table.old) y) table.old) gates.old table.new gates.new) }
 {
     let count = table.bits(x).len();
-    let q = gates.new_bits(alloc, count)?;
-    let r = gates.new_bits(alloc, count)?;
-    gates.division(alloc, &q, &r, table.bits(x), table.bits(y))?;
-    let index = table.enter(TermNode::Binary(DIVIDE, x, y), q)?;
-    let rest = table.enter(TermNode::Binary(REMAINDER, x, y), r)?;
+    let q = attempt!(gates.new_bits(alloc, count));
+    let r = attempt!(gates.new_bits(alloc, count));
+    attempt!(gates.division(alloc, &q, &r, table.bits(x), table.bits(y)));
+    let index = attempt!(table.enter(TermNode::Binary(DIVIDE, x, y), q));
+    let rest = attempt!(table.enter(TermNode::Binary(REMAINDER, x, y), r));
     Ok((index, rest))
 }
 
@@ -95,16 +96,16 @@ fn enter(
 {
     match division_of(node) {
         Division::Quotient(x, y) => {
-            let indices = enter_division(alloc, gates, table, x, y)?;
+            let indices = attempt!(enter_division(alloc, gates, table, x, y));
             Ok(indices.0)
         }
         Division::Remainder(x, y) => {
-            let indices = enter_division(alloc, gates, table, x, y)?;
+            let indices = attempt!(enter_division(alloc, gates, table, x, y));
             Ok(indices.1)
         }
         Division::Neither => {
-            let bits = own_bits(alloc, gates, node, table)?;
-            let index = table.enter(node, bits)?;
+            let bits = attempt!(own_bits(alloc, gates, node, table));
+            let index = attempt!(table.enter(node, bits));
             Ok(index)
         }
     }
@@ -128,6 +129,6 @@ pub(crate) fn index_for(
     if let Some(index) = table.find(node) {
         return Ok(index);
     }
-    let index = enter(alloc, gates, table, node)?;
+    let index = attempt!(enter(alloc, gates, table, node));
     Ok(index)
 }

@@ -42,7 +42,7 @@ fn push_some(loads: &mut Vec<LoadIndices>, load: Option<LoadIndices>) -> Result<
     ensures { OnOk result (loads.new.items ≡ loads.old.items ++ option_to_list load) }
 {
     if let Some(load) = load {
-        loads.push(load)?;
+        attempt!(loads.push(load), AllocError);
     }
     Ok(())
 }
@@ -57,7 +57,7 @@ pub(crate) fn loads_of(alloc: Global, table: &TermTable) -> Result<Vec<LoadIndic
     let mut loads = Vec::new(alloc);
     'terms: for index in 0..table.len() {
         let node = table.node(index);
-        push_some(&mut loads, load_of(index, node))?;
+        attempt!(push_some(&mut loads, load_of(index, node)));
     }
     Ok(loads)
 }
@@ -101,8 +101,12 @@ fn tie(
         if gates.last() > maximum {
             return Ok(());
         }
-        let same = gates.equal_bits(alloc, table.bits(load.address), table.bits(other.address))?;
-        claim_equal(gates, same, table.bits(load.byte), table.bits(other.byte))?;
+        let same = attempt!(gates.equal_bits(
+            alloc,
+            table.bits(load.address),
+            table.bits(other.address)
+        ));
+        attempt!(claim_equal(gates, same, table.bits(load.byte), table.bits(other.byte)));
     }
     Ok(())
 }
@@ -124,14 +128,14 @@ fn tie_all(
         if gates.last() > maximum {
             return Ok(());
         }
-        tie(
+        attempt!(tie(
             alloc,
             gates,
             table,
             loads[index],
             &loads[index + 1..],
             maximum,
-        )?;
+        ));
     }
     Ok(())
 }
@@ -141,7 +145,7 @@ fn push_other(memories: &mut Vec<usize>, memory: usize, other: usize) -> Result<
         ≡ memories.old.items ++ filter (λ o. not (o == memory)) (other ∷ [])) }
 {
     if other != memory {
-        memories.push(other)?;
+        attempt!(memories.push(other), AllocError);
     }
     Ok(())
 }
@@ -151,9 +155,9 @@ fn with_memory(alloc: Global, memory: usize, memories: &[usize]) -> Result<Vec<u
     ensures { IfOk result (λ all. all.items ≡ spec.with_memory memory memories.now) }
 {
     let mut all = Vec::new(alloc);
-    all.push(memory)?;
+    attempt!(all.push(memory), AllocError);
     'others: for other in memories {
-        push_other(&mut all, memory, *other)?;
+        attempt!(push_other(&mut all, memory, *other));
     }
     Ok(all)
 }
@@ -200,14 +204,14 @@ pub(crate) fn tie_memories(
         (BuiltWithin maximum ties gates.old tt gates.new) }
 {
     table.is_distinct();
-    let loads = loads_of(alloc, table)?;
-    let memories = memories_of(alloc, &loads)?;
+    let loads = attempt!(loads_of(alloc, table));
+    let memories = attempt!(memories_of(alloc, &loads));
     'memories: for memory in &memories {
         if gates.last() > maximum {
             return Ok(());
         }
-        let own = loads_from(alloc, &loads, *memory)?;
-        tie_all(alloc, gates, table, &own, maximum)?;
+        let own = attempt!(loads_from(alloc, &loads, *memory));
+        attempt!(tie_all(alloc, gates, table, &own, maximum));
     }
     Ok(())
 }

@@ -11,6 +11,7 @@ use crate::atoms::atom_bits;
 use crate::operators::{binary_bits, bit_of, quaternary_bits, ternary_bits, unary_bits};
 use crate::parts::with_four;
 use crate::table::TermTable;
+use attempt::attempt;
 use cnf_core::Literal;
 use std::alloc::{AllocError, Global};
 use term_bank::TermNode;
@@ -74,8 +75,8 @@ pub fn own_bits(
             table.bits(d),
         ),
         TermNode::Octonary(a, b, c, d, e, f, g, h) => {
-            let low = four_after(table, Vec::new(alloc), a, b, c, d)?;
-            let out = four_after(table, low, e, f, g, h)?;
+            let low = attempt!(four_after(table, Vec::new(alloc), a, b, c, d));
+            let out = attempt!(four_after(table, low, e, f, g, h));
             Ok(out)
         }
     }

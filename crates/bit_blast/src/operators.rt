@@ -7,6 +7,7 @@ ghost use Rattle.word_circuits.specs.Built.{IsBuilt, MakesWord};
 
 use crate::atoms::word_size;
 use crate::parts::{joined, part, prefix, single, with_four};
+use attempt::attempt;
 use cnf_core::Literal;
 use std::alloc::{AllocError, Global};
 use term_spec::{BinaryOperator, QuaternaryOperator, TernaryOperator, UnaryOperator, WordOperator};
@@ -69,8 +70,8 @@ fn equal(
         → IsBuilt (spec.binary_bits term BinaryOperator.Equal x.now y.now) gates.old out.items
         gates.new) }
 {
-    let same = gates.equal_bits(alloc, x, y)?;
-    let out = single(alloc, same)?;
+    let same = attempt!(gates.equal_bits(alloc, x, y));
+    let out = attempt!(single(alloc, same));
     Ok(out)
 }
 
@@ -84,8 +85,8 @@ fn less(
         → IsBuilt (spec.binary_bits term BinaryOperator.Less x.now y.now) gates.old out.items
         gates.new) }
 {
-    let less = gates.less_bit(alloc, x, y)?;
-    let out = single(alloc, less)?;
+    let less = attempt!(gates.less_bit(alloc, x, y));
+    let out = attempt!(single(alloc, less));
     Ok(out)
 }
 

@@ -12,6 +12,7 @@ use crate::entry::index_for;
 use crate::indices::{children, moved};
 use crate::state::{Task, Traversal};
 use crate::table::TermTable;
+use attempt::attempt;
 use std::alloc::{AllocError, Global};
 use std::collections::HashMap;
 use term_bank::{Bank, TermId, TermNode};
@@ -22,7 +23,7 @@ fn push_visits(tasks: &mut Vec<Task>, mut ids: Vec<TermId>) -> Result<(), AllocE
     ensures { OnOk result (tasks.new.items ≡ tasks.old.items ++ spec.visits_of ids.items) }
 {
     'ids: while let Some(id) = ids.pop() {
-        tasks.push(Task::Visit(id))?;
+        attempt!(tasks.push(Task::Visit(id)), AllocError);
     }
     Ok(())
 }
@@ -40,9 +41,9 @@ impl Traversal {
             return Ok(());
         }
         let node = bank.node(id);
-        let ids = children(alloc, node)?;
-        self.tasks.push(Task::Finish(id, node))?;
-        push_visits(&mut self.tasks, ids)?;
+        let ids = attempt!(children(alloc, node));
+        attempt!(self.tasks.push(Task::Finish(id, node)), AllocError);
+        attempt!(push_visits(&mut self.tasks, ids));
         Ok(())
     }
 
@@ -61,8 +62,8 @@ impl Traversal {
             (self.old.tasks.items ++ Task.Finish id node ∷ []) self.new) }
     {
         let own = moved(&self.indices, node);
-        let index = index_for(alloc, &mut self.gates, &mut self.table, own)?;
-        self.indices.insert(id, index)?;
+        let index = attempt!(index_for(alloc, &mut self.gates, &mut self.table, own));
+        attempt!(self.indices.insert(id, index), AllocError);
         Ok(())
     }
 
@@ -96,7 +97,7 @@ pub(crate) fn traversal(
         → IsIndexed traversal.indices goal) }
 {
     let mut tasks = Vec::new(alloc);
-    tasks.push(Task::Visit(goal))?;
+    attempt!(tasks.push(Task::Visit(goal)), AllocError);
     let mut traversal = Traversal {
         gates,
         table: TermTable::new(alloc),
@@ -107,7 +108,7 @@ pub(crate) fn traversal(
         if traversal.gates.last() > maximum {
             return Ok(traversal);
         }
-        traversal.turn(alloc, bank, task)?;
+        attempt!(traversal.turn(alloc, bank, task));
     }
     Ok(traversal)
 }

@@ -164,6 +164,10 @@ module _ (setting : Setting) (old : Frame) (memory : Memory) where
   unfolding applied
   blocks new actions pushed = pushes setting (λ left. performed setting old.types.now (sequence (map action_of actions.now)) (state old.locals.items memory) left) old new memory (task.Rest actions) (next.Goes ending.Went) pushed (λ left. refl)
 
+  pub puts_off : (new : Frame) (action : Bor kept.Action) → IsPushed old new (task.Do action) → Acts setting (action_of action.now) old memory new memory (Ok (next.Goes ending.Went))
+  unfolding applied
+  puts_off new action pushed = pushes setting (λ left. performed setting old.types.now (action_of action.now) (state old.locals.items memory) left) old new memory (task.Do action) (next.Goes ending.Went) pushed (λ left. refl)
+
   pub evaluates : (core : Core) (v : ℤ) → value setting old.locals.items memory 0 core ≡ Ok v → Acts setting (Evaluate core) old memory old memory (Ok (next.Goes ending.Went))
   evaluates core v e = stays setting (λ left. performed setting old.types.now (Evaluate core) (state old.locals.items memory) left) old old memory (next.Goes ending.Went) refl refl
       (λ left. performed-Evaluate setting old.types.now core (state old.locals.items memory) left ∙ ap (λ r. on_ok r (λ v. Went (state old.locals.items memory) left)) e)

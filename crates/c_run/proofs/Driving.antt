@@ -1,6 +1,6 @@
 -- Functions that wait for their callees, and what a run comes to.
 use Rattle.std.proofs.Common.{◌≡◌, ℕ, suc, ◌+◌, ◌-◌, ◌<◌, Option, Some, None, List, [], ◌∷◌, ◌++◌, length, length-append, refl, sym, ap, subst, ◌∙◌, arith}
-use Rattle.std.specs.Prelude.{ℤ, Bool, true, false, map, option_map, Vec, Result, Ok, Err}
+use Rattle.std.specs.Prelude.{ℤ, Bool, true, false, option_map, Vec, Result, Ok, Err}
 use Rattle.std.specs.Borrow.{Bor}
 use Rattle.std.specs.declared.alloc.Global.{Global}
 use Rattle.memory_spec.specs.Memory.{Memory}
@@ -16,11 +16,10 @@ use Rattle.c_meaning_spec.specs.Calls as spec
 use Rattle.c_meaning_spec.specs.Calls.{returned, outcome_of, locals_at_entry, body_named, runs, c_run}
 use Rattle.c_meaning_laws.specs.Depth.{called, performed}
 use Rattle.c_meaning_laws.proofs.Turns.{called-suc, called-missing}
-use Rattle.c_value.specs.declared.setting.Body.{Body}
+use Rattle.c_types.specs.declared.typed.Body.{Body}
+use Rattle.c_types.specs.Typed.{body_of_name}
 use Rattle.c_value.specs.declared.setting.Stop.{Stop}
 use Rattle.c_value.specs.declared.setting.Stop.TheVariants as stop
-use Rattle.c_value.specs.declared.setting.Setting as kept_setting
-use Rattle.c_value.specs.Settings.{body_of, setting_of}
 use Rattle.c_run.specs.declared.frame.Ending.{Ending}
 use Rattle.c_run.specs.declared.frame.Ending.TheVariants as ending
 use Rattle.c_run.specs.declared.frame.Frame.{Frame}
@@ -94,17 +93,16 @@ unfolding runs
 called_zero setting function arguments memory = refl
 
 -- a call, where its body begins
-called_begins : (setting : Setting) (function : List ℕ) (arguments : List ℤ) (memory : Memory) (body : Body) (frame : Frame) (left : ℕ) → body_named setting.bodies function ≡ Some (body_of body) → IsEntered body arguments frame
+called_begins : (setting : Setting) (function : List ℕ) (arguments : List ℤ) (memory : Memory) (body : Body) (frame : Frame) (left : ℕ) → body_named setting.bodies function ≡ Some (body_of_name function body) → IsEntered body arguments frame
     → called setting function arguments memory (suc left) ≡ returned (through setting frame.types.now frame.tasks.items (Went (state frame.locals.items memory) left))
-unfolding body_of
 called_begins setting function arguments memory body frame left found enters =
-    called-suc setting function arguments memory left (body_of body) found ∙ ap returned (sym (begins setting body arguments frame memory left enters))
+    called-suc setting function arguments memory left (body_of_name function body) found ∙ ap returned (sym (begins setting body arguments frame memory left enters))
 
-found_body : (bodies : List tree.Body) (name : List ℕ) (result : Option (Bor Body)) (b : Bor Body) → option_map (λ (x : Bor Body). body_of x.now) result ≡ body_named bodies name → result ≡ Some b → body_named bodies name ≡ Some (body_of b.now)
-found_body bodies name result b is some = sym is ∙ ap (λ r. option_map (λ (x : Bor Body). body_of x.now) r) some
+found_body : (bodies : List tree.Body) (name : List ℕ) (result : Option (Bor Body)) (b : Bor Body) → option_map (λ (x : Bor Body). body_of_name name x.now) result ≡ body_named bodies name → result ≡ Some b → body_named bodies name ≡ Some (body_of_name name b.now)
+found_body bodies name result b is some = sym is ∙ ap (λ r. option_map (λ (x : Bor Body). body_of_name name x.now) r) some
 
-no_body : (bodies : List tree.Body) (name : List ℕ) (result : Option (Bor Body)) → option_map (λ (x : Bor Body). body_of x.now) result ≡ body_named bodies name → result ≡ None → body_named bodies name ≡ None
-no_body bodies name result is none = sym is ∙ ap (λ r. option_map (λ (x : Bor Body). body_of x.now) r) none
+no_body : (bodies : List tree.Body) (name : List ℕ) (result : Option (Bor Body)) → option_map (λ (x : Bor Body). body_of_name name x.now) result ≡ body_named bodies name → result ≡ None → body_named bodies name ≡ None
+no_body bodies name result is none = sym is ∙ ap (λ r. option_map (λ (x : Bor Body). body_of_name name x.now) r) none
 
 -- ---- one turn
 
@@ -185,14 +183,14 @@ module _ (setting : Setting) (old middle : Machine) (memory after : Memory) (wai
       ∙ through-More setting middle.frame.types.now middle.frame.tasks.items)
 
   pub calls_nothing : (n : Next) (function : Bor (List ℕ)) (local : Option ℕ) (found : Option (Bor Body)) → Goes setting old.frame memory middle.frame after (Ok n) → n ≡ next.Calls function local
-      → option_map (λ (x : Bor Body). body_of x.now) found ≡ body_named setting.bodies function.now → found ≡ None → Turns setting old memory middle after (Ok (Some ended.More))
+      → option_map (λ (x : Bor Body). body_of_name function.now x.now) found ≡ body_named setting.bodies function.now → found ≡ None → Turns setting old memory middle after (Ok (Some ended.More))
   calls_nothing n function local found goes is search_is none = unfinished (next.Calls function local) (paused_with n (next.Calls function local) goes is)
       (ap (λ c. through setting middle.frame.types.now middle.frame.tasks.items (after_call middle.frame.types.now middle.frame.locals.items local c))
       (called-missing setting function.now middle.frame.arguments.items after middle.left (no_body setting.bodies function.now found search_is none))
       ∙ through-More setting middle.frame.types.now middle.frame.tasks.items)
 
   pub calls_body : (n : Next) (function : Bor (List ℕ)) (local : Option ℕ) (found : Option (Bor Body)) (b : Bor Body) (new : Machine) → Goes setting old.frame memory middle.frame after (Ok n) → n ≡ next.Calls function local
-      → option_map (λ (x : Bor Body). body_of x.now) found ≡ body_named setting.bodies function.now → found ≡ Some b → 0 < middle.left → IsCalled b.now local middle new → Turns setting old memory new after (Ok None)
+      → option_map (λ (x : Bor Body). body_of_name function.now x.now) found ≡ body_named setting.bodies function.now → found ≡ Some b → 0 < middle.left → IsCalled b.now local middle new → Turns setting old memory new after (Ok None)
   calls_body n function local found b new goes is search_is some turns calls =
       let w : Waiting = record { frame = middle.frame; local = local } in
       let taken : middle.left ≡ suc new.left = omega (arith, calls.left) in
@@ -219,14 +217,14 @@ goes_not setting old memory frame after new stop.Memory goes = tt {0}
 pub ends_by : (given other : Called) (after : Memory) (result : Result Ended Stop) → given ≡ other → Ends other after result → Ends given after result
 ends_by given other after result is done = subst (λ c. Ends c after result) (sym is) done
 
-pub starts : (setting : Setting) (function : List ℕ) (arguments : List ℤ) (memory : Memory) (turns : ℕ) (found : Option (Bor Body)) (b : Bor Body) (machine : Machine) → option_map (λ (x : Bor Body). body_of x.now) found ≡ body_named setting.bodies function
+pub starts : (setting : Setting) (function : List ℕ) (arguments : List ℤ) (memory : Memory) (turns : ℕ) (found : Option (Bor Body)) (b : Bor Body) (machine : Machine) → option_map (λ (x : Bor Body). body_of_name function x.now) found ≡ body_named setting.bodies function
     → found ≡ Some b → IsEntered b.now arguments machine.frame → machine.waiting.items ≡ [] → 0 < turns → machine.left ≡ turns - 1 → called setting function arguments memory turns ≡ comes_to setting machine memory
 starts setting function arguments memory turns found b machine search_is some enters alone turns_left left_is =
     ap (called setting function arguments memory) (one_more turns turns_left ∙ ap suc (sym left_is))
     ∙ called_begins setting function arguments memory b.now machine.frame machine.left (found_body setting.bodies function found b search_is some) enters
     ∙ sym (ap (λ ws. ends setting ws (reached setting machine.frame machine.frame.locals.items memory machine.left)) alone ∙ ends-none setting (reached setting machine.frame machine.frame.locals.items memory machine.left))
 
-pub starts_nothing : (setting : Setting) (function : List ℕ) (arguments : List ℤ) (memory after : Memory) (turns : ℕ) (found : Option (Bor Body)) → option_map (λ (x : Bor Body). body_of x.now) found ≡ body_named setting.bodies function → found ≡ None
+pub starts_nothing : (setting : Setting) (function : List ℕ) (arguments : List ℤ) (memory after : Memory) (turns : ℕ) (found : Option (Bor Body)) → option_map (λ (x : Bor Body). body_of_name function x.now) found ≡ body_named setting.bodies function → found ≡ None
     → Ends (called setting function arguments memory turns) after (Ok ended.More)
 starts_nothing setting function arguments memory after turns found search_is none =
     ap outcome_of (called-missing setting function arguments memory turns (no_body setting.bodies function found search_is none))
@@ -236,11 +234,6 @@ turn_goes_on setting old memory new after o turns is = subst (λ x. Turns settin
 
 pub turn_ends : (setting : Setting) (old : Machine) (memory : Memory) (new : Machine) (after : Memory) (o : Option Ended) (e : Ended) → Turns setting old memory new after (Ok o) → o ≡ Some e → Ends (comes_to setting old memory) after (Ok e)
 turn_ends setting old memory new after o e turns is = subst (λ x. Turns setting old memory new after (Ok x)) is turns
-
--- the bodies of a setting
-pub search_in : (setting : kept_setting.Setting) (name : List ℕ) (found : Option (Bor Body)) → option_map (λ (x : Bor Body). body_of x.now) found ≡ body_named (map body_of setting.bodies.now) name → option_map (λ (x : Bor Body). body_of x.now) found ≡ body_named (setting_of setting).bodies name
-unfolding setting_of
-search_in setting name found e = e
 
 pub run_none : (setting : Setting) (function : List ℕ) (arguments : List ℤ) (memory : Memory) (turns : ℕ) → turns ≡ 0 → spec.More ≡ c_run setting function arguments memory turns
 unfolding c_run

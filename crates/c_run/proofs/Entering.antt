@@ -1,6 +1,6 @@
--- The locals of a function where a call of it begins, and those of its caller where it has returned; bodies by name.
-use Rattle.std.proofs.Common.{◌≡◌, ℕ, zero, suc, ◌+◌, ◌<◌, ◌≤◌, true, false, if◌then◌else◌, Option, Some, None, List, [], ◌∷◌, ◌++◌, length, drop, get_or, drop-cons, refl, sym, ap, subst, ◌∙◌, arith}
-use Rattle.std.specs.Prelude.{ℤ, map, slice_get, slice_set, bytes_eq, Vec}
+-- The locals of a function where a call of it begins, and those of its caller where it has returned.
+use Rattle.std.proofs.Common.{◌≡◌, ℕ, zero, suc, ◌+◌, ◌<◌, ◌≤◌, false, Option, Some, None, List, [], ◌∷◌, ◌++◌, length, drop, get_or, drop-cons, refl, sym, ap, subst, ◌∙◌, arith}
+use Rattle.std.specs.Prelude.{ℤ, slice_get, slice_set, Vec}
 use Rattle.std.specs.Borrow.{Bor}
 use Rattle.std.specs.declared.alloc.Global.{Global}
 use Rattle.std.proofs.lemmas.List.{drop_all, append-nil, append_assoc}
@@ -8,9 +8,8 @@ use Rattle.c_type_spec.specs.declared.Scalar.{Scalar}
 use Rattle.c_core.specs.declared.action.Action as kept
 use Rattle.c_meaning_spec.specs.Evaluation.{Locals}
 use Rattle.c_meaning_spec.specs.Execution.{as_local, received}
-use Rattle.c_meaning_spec.specs.Calls.{locals_at_entry, body_named}
-use Rattle.c_value.specs.declared.setting.Body.{Body}
-use Rattle.c_value.specs.Settings.{body_of}
+use Rattle.c_meaning_spec.specs.Calls.{locals_at_entry}
+use Rattle.c_types.specs.declared.typed.Body.{Body}
 use Rattle.c_run.specs.declared.frame.Frame.{Frame}
 use Rattle.c_run.specs.declared.frame.Task.{Task}
 use Rattle.c_run.specs.declared.frame.Task.TheVariants as task
@@ -94,25 +93,3 @@ received_some old new local v number put is value_is set = record {
   locals = set.locals ∙ ap (slice_set old.locals.items number) value_is ∙ sym (ap (λ l. received old.types.now old.locals.items l v) is);
   tasks = set.tasks;
 }
-
--- ---- bodies by name
-
-named_step : (b : Body) (rest : List Body) (name : List ℕ) → body_named (map body_of (b ∷ rest)) name ≡ (if bytes_eq b.name.now name then Some (body_of b) else body_named (map body_of rest) name)
-unfolding body_of
-named_step b rest name = refl
-
-named_at : (bodies : List Body) (i : ℕ) (b : Body) (name : List ℕ) → i < length bodies → b ≡ get_or bodies i b
-    → body_named (map body_of (drop i bodies)) name ≡ (if bytes_eq b.name.now name then Some (body_of b) else body_named (map body_of (drop (i + 1) bodies)) name)
-named_at bodies i b name within is =
-    let next : i + 1 ≡ suc i = omega arith in
-    let here : drop i bodies ≡ b ∷ drop (i + 1) bodies = drop-cons bodies i b within ∙ ap (λ r. r ∷ drop (suc i) bodies) (sym is) ∙ ap (λ n. b ∷ drop n bodies) (sym next) in
-    ap (λ bs. body_named (map body_of bs) name) here ∙ named_step b (drop (i + 1) bodies) name
-
-pub named_here : (bodies : List Body) (i : ℕ) (b : Body) (name : List ℕ) → i < length bodies → b ≡ get_or bodies i b → bytes_eq b.name.now name ≡ true → body_named (map body_of (drop i bodies)) name ≡ Some (body_of b)
-named_here bodies i b name within is test = named_at bodies i b name within is ∙ ap (λ t. if t then Some (body_of b) else body_named (map body_of (drop (i + 1) bodies)) name) test
-
-pub named_later : (bodies : List Body) (i : ℕ) (b : Body) (name : List ℕ) → i < length bodies → b ≡ get_or bodies i b → bytes_eq b.name.now name ≡ false → body_named (map body_of (drop i bodies)) name ≡ body_named (map body_of (drop (i + 1) bodies)) name
-named_later bodies i b name within is test = named_at bodies i b name within is ∙ ap (λ t. if t then Some (body_of b) else body_named (map body_of (drop (i + 1) bodies)) name) test
-
-pub named_past : (bodies : List Body) (i : ℕ) (name : List ℕ) → length bodies ≤ i → body_named (map body_of (drop i bodies)) name ≡ None
-named_past bodies i name past = ap (λ bs. body_named (map body_of bs) name) (drop_all i bodies past)

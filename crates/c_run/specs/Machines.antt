@@ -7,7 +7,7 @@ use Rattle.c_meaning_spec.specs.Execution.{state, Went, Called, after_call, rece
 use Rattle.c_meaning_spec.specs.Calls as spec
 use Rattle.c_meaning_spec.specs.Calls.{returned, outcome_of, locals_at_entry}
 use Rattle.c_core.specs.declared.action.Action.{Action}
-use Rattle.c_value.specs.declared.setting.Body.{Body}
+use Rattle.c_types.specs.declared.typed.Body.{Body}
 use Rattle.c_value.specs.declared.setting.Stop.{Stop}
 use Rattle.c_value.specs.declared.setting.Stop.TheVariants as stop
 use Rattle.c_run.specs.declared.frame.Ending.{Ending}

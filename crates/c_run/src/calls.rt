@@ -2,14 +2,15 @@
 
 ghost use Rattle.std.specs.Prelude.{◌≡◌, ◌<◌, IfOk};
 ghost use Rattle.c_meaning_spec.specs.Calls as spec;
-ghost use Rattle.c_value.specs.Settings.{setting_of};
+ghost use Rattle.c_value.specs.Settings.{setting_in, setting_of};
 ghost use Rattle.c_run.specs.Machines.{Ends};
 ghost use Rattle.c_run.specs.Outcomes.{outcome_in};
 
 use crate::machine::{Ended, Machine, body_named, drive, enter};
 use attempt::attempt;
 use c_meaning_spec::Guard;
-use c_value::setting::{Setting, Stop};
+use c_types::typed::Typed;
+use c_value::setting::{Place, Setting, Stop, Zone};
 use memory_core::Memory;
 use std::alloc::Global;
 
@@ -22,6 +23,8 @@ pub struct Call<'a> {
     pub arguments: &'a [i128],
     /// The memory where the run begins.
     pub memory: &'a Memory,
+    /// No access meets it.
+    pub barred: Zone,
 }
 
 /// The outcome of a run with a number of turns.
@@ -44,9 +47,9 @@ pub enum RunError {
 }
 
 /// How the call of a function with a body ends, with the turns that are left once it is called.
-fn run_body<'s>(
+fn run_body(
     alloc: Global,
-    setting: &'s Setting<'s>,
+    setting: &Setting<'_, '_>,
     call: &Call<'_>,
     after: &mut Memory,
     turns: u64,
@@ -55,7 +58,7 @@ fn run_body<'s>(
     ensures { Ends (spec.runs (setting_of setting.now) turns call.now.function.now
         call.now.arguments.now after.old turns) after.new result }
 {
-    let Some(body) = body_named(setting.bodies, call.function) else {
+    let Some(body) = body_named(setting, call.function) else {
         return Ok(Ended::More);
     };
     let mut machine = Machine {
@@ -71,20 +74,27 @@ fn run_body<'s>(
 /// memory again as it writes, and a frame for each function that waits for another; calls and
 /// statements inside one another take no stack. Time is that of the statements performed, at most
 /// 2^64 - 1 between two turns.
-pub fn run<'s>(
+pub fn run<'s, 'a>(
     alloc: Global,
-    setting: &'s Setting<'s>,
+    unit: &'s Typed<'a>,
+    place: &Place<'s, 'a>,
     call: &Call<'_>,
     turns: u64,
 ) -> Result<Outcome, RunError>
-    ensures { IfOk result (λ outcome. outcome_in outcome ≡ spec.c_run (setting_of setting.now)
-        call.now.function.now call.now.arguments.now call.now.memory.now turns) }
+    ensures { IfOk result (λ outcome. outcome_in outcome ≡ spec.c_run (setting_in unit.now
+        place.now call.now.barred) call.now.function.now call.now.arguments.now
+        call.now.memory.now turns) }
 {
     if turns == 0 {
         return Ok(Outcome::More);
     }
+    let setting = Setting {
+        unit,
+        place: *place,
+        barred: call.barred,
+    };
     let mut after = attempt!(call.memory.copy(), RunError::NoMemory);
-    match run_body(alloc, setting, call, &mut after, turns) {
+    match run_body(alloc, &setting, call, &mut after, turns) {
         Ok(ended) => match ended {
             Ended::More => Ok(Outcome::More),
             Ended::Back(value) => Ok(Outcome::Back(value, after)),

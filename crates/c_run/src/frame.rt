@@ -21,30 +21,30 @@ pub enum Ending {
 
 /// A loop.
 #[derive(Clone, Copy)]
-pub struct Cycle<'a> {
+pub struct Cycle<'s, 'a> {
     /// Where its test is.
     pub place: TestPlace,
     /// Its test.
-    pub test: &'a Core<'a>,
+    pub test: &'s Core<'a>,
     /// Its step, where the test is before the body.
-    pub step: &'a Action<'a>,
+    pub step: &'s Action<'a>,
     /// Its body.
-    pub body: &'a Action<'a>,
+    pub body: &'s Action<'a>,
 }
 
 /// What a function still has to do.
 #[derive(Clone, Copy)]
-pub enum Task<'a> {
+pub enum Task<'s, 'a> {
     /// A statement.
-    Do(&'a Action<'a>),
+    Do(&'s Action<'a>),
     /// Statements one after the other.
-    Rest(&'a [Action<'a>]),
+    Rest(&'s [Action<'a>]),
     /// The rest of a round of a loop, after its body.
-    Body(Cycle<'a>),
+    Body(Cycle<'s, 'a>),
     /// The next round of a loop, after its step.
-    Step(Cycle<'a>),
+    Step(Cycle<'s, 'a>),
     /// A round of a loop.
-    Round(Cycle<'a>),
+    Round(Cycle<'s, 'a>),
     /// The end of a `switch`.
     Switch,
 }
@@ -62,20 +62,20 @@ pub enum Next<'a> {
 
 /// A function that runs.
 #[derive(Drop)]
-pub struct Frame<'a> {
+pub struct Frame<'s, 'a> {
     /// The types of its locals.
-    pub types: &'a [Scalar],
+    pub types: &'s [Scalar],
     /// The values of its locals.
     pub locals: Vec<Option<i128>>,
     /// What it still has to do; the last is next.
-    pub tasks: Vec<Task<'a>>,
+    pub tasks: Vec<Task<'s, 'a>>,
     /// The values of the arguments of the call that is next.
     pub arguments: Vec<i128>,
 }
 
-impl<'a> Frame<'a> {
+impl<'s, 'a> Frame<'s, 'a> {
     /// One more task, which is next.
-    pub fn push(&mut self, task: Task<'a>) -> Result<(), AllocError>
+    pub fn push(&mut self, task: Task<'s, 'a>) -> Result<(), AllocError>
         ensures { OnOk result (IsPushed self.old self.new task.entry) }
     {
         match self.tasks.push(task) {
@@ -85,7 +85,7 @@ impl<'a> Frame<'a> {
     }
 
     /// The task that is next, if there is one.
-    pub fn take(&mut self) -> Option<Task<'a>>
+    pub fn take(&mut self) -> Option<Task<'s, 'a>>
         ensures { IsTaken self.old self.new result }
     {
         match self.tasks.pop() {

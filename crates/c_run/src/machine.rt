@@ -1,9 +1,10 @@
 //! Functions that run: the innermost one, and those that wait for their callees.
 
-ghost use Rattle.std.specs.Prelude.{◌≡◌, ◌<◌, ◌++◌, IfOk, OnOk, slice_get, map, option_map};
+ghost use Rattle.std.specs.Prelude.{◌≡◌, ◌<◌, ◌++◌, IfOk, OnOk, slice_get, option_map};
 ghost use Rattle.c_meaning_spec.specs.Calls as spec;
 ghost use Rattle.c_meaning_spec.specs.Execution as flow;
-ghost use Rattle.c_value.specs.Settings.{body_of, setting_of};
+ghost use Rattle.c_types.specs.Typed.{body_of_name};
+ghost use Rattle.c_value.specs.Settings.{setting_of};
 ghost use Rattle.c_run.specs.Machines.{Ends, Turns, Resumes, comes_to, value_of};
 ghost use Rattle.c_run.specs.Machines.{IsCalled, IsEntered, IsReceived};
 
@@ -13,26 +14,27 @@ use attempt::attempt;
 use c_core::constants::has_width;
 use c_core::values::{TooWide, convert};
 use c_type_spec::Scalar;
-use c_value::setting::{Body, Setting, Stop};
+use c_types::typed::Body;
+use c_value::setting::{Setting, Stop};
 use memory_core::Memory;
 use std::alloc::{AllocError, Global};
 
 /// A function that waits for its callee.
 #[derive(Drop)]
-pub struct Waiting<'a> {
+pub struct Waiting<'s, 'a> {
     /// Its locals, and what it still has to do.
-    pub frame: Frame<'a>,
+    pub frame: Frame<'s, 'a>,
     /// The local that gets the callee's value.
     pub local: Option<usize>,
 }
 
 /// The functions that run.
 #[derive(Drop)]
-pub struct Machine<'a> {
+pub struct Machine<'s, 'a> {
     /// The innermost one.
-    pub frame: Frame<'a>,
+    pub frame: Frame<'s, 'a>,
     /// Those that wait; the last is the innermost one's caller.
-    pub waiting: Vec<Waiting<'a>>,
+    pub waiting: Vec<Waiting<'s, 'a>>,
     /// How many turns are left.
     pub left: u64,
 }
@@ -56,17 +58,14 @@ fn value_of(ending: Ending) -> Option<i128>
     }
 }
 
-/// The first function of a name.
-pub fn body_named<'b, 'a>(bodies: &'b [Body<'a>], name: &[u8]) -> Option<&'b Body<'a>>
-    ensures { option_map (λ b. body_of b.now) result ≡ spec.body_named (map body_of bodies.now)
-        name.now }
+/// The body of the function of a name.
+#[tactic(auto, unfolding(c_value::specs::Settings::setting_in))]
+pub fn body_named<'s, 'a>(setting: &Setting<'s, 'a>, name: &[u8]) -> Option<&'s Body<'a>>
+    ensures { option_map (λ b. body_of_name name.now b.now) result ≡ spec.body_named (setting_of
+        setting.now).bodies name.now }
 {
-    for body in bodies {
-        if body.name == name {
-            return Some(body);
-        }
-    }
-    None
+    let unit = setting.unit;
+    unit.body(name)
 }
 
 /// The argument of a number, if there is one.
@@ -95,11 +94,11 @@ fn begin_locals(
 }
 
 /// A function where a call of it begins.
-pub fn enter<'a>(
+pub fn enter<'s, 'a>(
     alloc: Global,
-    body: &'a Body<'a>,
+    body: &'s Body<'a>,
     arguments: &[i128],
-) -> Result<Frame<'a>, AllocError>
+) -> Result<Frame<'s, 'a>, AllocError>
     ensures { IfOk result (λ frame. IsEntered body.now arguments.now frame) }
 {
     let types = body.locals.as_slice();
@@ -131,7 +130,11 @@ fn as_local(types: &[Scalar], local: usize, value: Option<i128>) -> Result<Optio
 }
 
 /// The value of a call is put into a local.
-fn receive(frame: &mut Frame<'_>, local: Option<usize>, value: Option<i128>) -> Result<(), TooWide>
+fn receive(
+    frame: &mut Frame<'_, '_>,
+    local: Option<usize>,
+    value: Option<i128>,
+) -> Result<(), TooWide>
     ensures { OnOk result (IsReceived frame.old frame.new local value) }
 {
     let Some(number) = local else {
@@ -143,7 +146,7 @@ fn receive(frame: &mut Frame<'_>, local: Option<usize>, value: Option<i128>) -> 
 }
 
 /// The innermost function has returned a value. Its caller goes on, if there is one.
-fn resume(machine: &mut Machine<'_>, value: Option<i128>) -> Result<bool, TooWide>
+fn resume(machine: &mut Machine<'_, '_>, value: Option<i128>) -> Result<bool, TooWide>
     ensures { IfOk result (λ goes_on. Resumes value machine.old machine.new goes_on) }
 {
     let Some(waiting) = machine.waiting.pop() else {
@@ -156,10 +159,10 @@ fn resume(machine: &mut Machine<'_>, value: Option<i128>) -> Result<bool, TooWid
 }
 
 /// A function is called, with a turn, and the one that ran waits for it.
-fn descend<'a>(
+fn descend<'s, 'a>(
     alloc: Global,
-    machine: &mut Machine<'a>,
-    body: &'a Body<'a>,
+    machine: &mut Machine<'s, 'a>,
+    body: &'s Body<'a>,
     local: Option<usize>,
 ) -> Result<(), AllocError>
     requires { 0 < machine.old.left }
@@ -174,10 +177,10 @@ fn descend<'a>(
 
 /// The innermost function, until it has returned, a turn is taken, or it has called another: how
 /// the run ended, if it did.
-fn turn<'s>(
+fn turn<'s, 'a>(
     alloc: Global,
-    setting: &'s Setting<'s>,
-    machine: &mut Machine<'s>,
+    setting: &Setting<'s, 'a>,
+    machine: &mut Machine<'s, 'a>,
     memory: &mut Memory,
 ) -> Result<Option<Ended>, Stop>
     ensures { Turns (setting_of setting.now) machine.old memory.old machine.new memory.new result }
@@ -202,7 +205,7 @@ fn turn<'s>(
             if machine.left == 0 {
                 return Ok(Some(Ended::More));
             }
-            let Some(body) = body_named(setting.bodies, function) else {
+            let Some(body) = body_named(setting, function) else {
                 return Ok(Some(Ended::More));
             };
             attempt!(descend(alloc, machine, body, local), Stop::Memory);
@@ -212,10 +215,10 @@ fn turn<'s>(
 }
 
 /// The functions that run, until the outermost one has returned or the turns are at an end.
-pub fn drive<'s>(
+pub fn drive<'s, 'a>(
     alloc: Global,
-    setting: &'s Setting<'s>,
-    machine: &mut Machine<'s>,
+    setting: &Setting<'s, 'a>,
+    machine: &mut Machine<'s, 'a>,
     memory: &mut Memory,
 ) -> Result<Ended, Stop>
     ensures { Ends (comes_to (setting_of setting.now) machine.old memory.old) memory.new result }

@@ -14,9 +14,9 @@ use memory_core::Memory;
 
 /// Statements one after the other.
 fn rest<'s, 'a>(
-    actions: &'a [Action<'a>],
-    setting: &'s Setting<'s>,
-    frame: &mut Frame<'a>,
+    actions: &'s [Action<'a>],
+    setting: &Setting<'_, '_>,
+    frame: &mut Frame<'s, 'a>,
     memory: &mut Memory,
 ) -> Result<Next<'a>, Stop>
     ensures { Proceeds (setting_of setting.now) (Task.Rest actions.entry) Ending.Went frame.old
@@ -31,9 +31,9 @@ fn rest<'s, 'a>(
 
 /// The rest of a round of a loop, after its body has ended by itself or by `continue`.
 fn end_round<'s, 'a>(
-    cycle: Cycle<'a>,
-    setting: &'s Setting<'s>,
-    frame: &mut Frame<'a>,
+    cycle: Cycle<'s, 'a>,
+    setting: &Setting<'_, '_>,
+    frame: &mut Frame<'s, 'a>,
     memory: &mut Memory,
 ) -> Result<Next<'a>, Stop>
     ensures { Proceeds (setting_of setting.now) (Task.Body cycle.entry) Ending.Went frame.old
@@ -58,9 +58,9 @@ fn end_round<'s, 'a>(
 
 /// The body of a loop, and then the rest of its round.
 fn begin<'s, 'a>(
-    cycle: Cycle<'a>,
-    setting: &'s Setting<'s>,
-    frame: &mut Frame<'a>,
+    cycle: Cycle<'s, 'a>,
+    setting: &Setting<'_, '_>,
+    frame: &mut Frame<'s, 'a>,
     memory: &mut Memory,
 ) -> Result<Next<'a>, Stop>
     ensures { Begins (setting_of setting.now) cycle.entry frame.old memory.old frame.new memory.new
@@ -73,9 +73,9 @@ fn begin<'s, 'a>(
 
 /// A round of a loop, whose turn is taken.
 fn round<'s, 'a>(
-    cycle: Cycle<'a>,
-    setting: &'s Setting<'s>,
-    frame: &mut Frame<'a>,
+    cycle: Cycle<'s, 'a>,
+    setting: &Setting<'_, '_>,
+    frame: &mut Frame<'s, 'a>,
     memory: &mut Memory,
 ) -> Result<Next<'a>, Stop>
     ensures { Proceeds (setting_of setting.now) (Task.Round cycle.entry) Ending.Went frame.old
@@ -95,9 +95,9 @@ fn round<'s, 'a>(
 
 /// The next round of a loop, after its step.
 fn again<'s, 'a>(
-    cycle: Cycle<'a>,
-    setting: &'s Setting<'s>,
-    frame: &mut Frame<'a>,
+    cycle: Cycle<'s, 'a>,
+    setting: &Setting<'_, '_>,
+    frame: &mut Frame<'s, 'a>,
     memory: &mut Memory,
 ) -> Result<Next<'a>, Stop>
     ensures { Proceeds (setting_of setting.now) (Task.Step cycle.entry) Ending.Went frame.old
@@ -109,9 +109,9 @@ fn again<'s, 'a>(
 
 /// A task where control goes on.
 fn start<'s, 'a>(
-    task: Task<'a>,
-    setting: &'s Setting<'s>,
-    frame: &mut Frame<'a>,
+    task: Task<'s, 'a>,
+    setting: &Setting<'_, '_>,
+    frame: &mut Frame<'s, 'a>,
     memory: &mut Memory,
 ) -> Result<Next<'a>, Stop>
     ensures { Proceeds (setting_of setting.now) task.entry Ending.Went frame.old memory.old
@@ -139,10 +139,10 @@ fn after_jump(jump: Jump) -> Ending
 
 /// The body of a loop is left by a jump.
 fn leave_body<'s, 'a>(
-    cycle: Cycle<'a>,
+    cycle: Cycle<'s, 'a>,
     jump: Jump,
-    setting: &'s Setting<'s>,
-    frame: &mut Frame<'a>,
+    setting: &Setting<'_, '_>,
+    frame: &mut Frame<'s, 'a>,
     memory: &mut Memory,
 ) -> Result<Next<'a>, Stop>
     ensures { Proceeds (setting_of setting.now) (Task.Body cycle.entry) (Ending.Jumped jump)
@@ -156,10 +156,10 @@ fn leave_body<'s, 'a>(
 
 /// A task that a jump reaches.
 fn leave<'s, 'a>(
-    task: Task<'a>,
+    task: Task<'s, 'a>,
     jump: Jump,
-    setting: &'s Setting<'s>,
-    frame: &mut Frame<'a>,
+    setting: &Setting<'_, '_>,
+    frame: &mut Frame<'s, 'a>,
     memory: &mut Memory,
 ) -> Result<Next<'a>, Stop>
     ensures { Proceeds (setting_of setting.now) task.entry (Ending.Jumped jump) frame.old memory.old
@@ -177,10 +177,10 @@ fn leave<'s, 'a>(
 
 /// A task, by how what was before it ended.
 fn proceed<'s, 'a>(
-    task: Task<'a>,
+    task: Task<'s, 'a>,
     ending: Ending,
-    setting: &'s Setting<'s>,
-    frame: &mut Frame<'a>,
+    setting: &Setting<'_, '_>,
+    frame: &mut Frame<'s, 'a>,
     memory: &mut Memory,
 ) -> Result<Next<'a>, Stop>
     ensures { Proceeds (setting_of setting.now) task.entry ending frame.old memory.old
@@ -195,8 +195,8 @@ fn proceed<'s, 'a>(
 
 /// The tasks of a function, until it ends, needs a turn, or calls another.
 pub fn go<'s, 'a>(
-    setting: &'s Setting<'s>,
-    frame: &mut Frame<'a>,
+    setting: &Setting<'_, '_>,
+    frame: &mut Frame<'s, 'a>,
     memory: &mut Memory,
 ) -> Result<Next<'a>, Stop>
     ensures { Goes (setting_of setting.now) frame.old memory.old frame.new memory.new result }

@@ -25,10 +25,10 @@ use c_value::setting::{Setting, Stop};
 use memory_core::Memory;
 
 /// The value of an expression in a frame.
-pub fn value_in<'s, 'm>(
+pub fn value_in<'m>(
     core: &Core<'_>,
-    setting: &'s Setting<'s>,
-    frame: &'m Frame<'_>,
+    setting: &Setting<'_, '_>,
+    frame: &'m Frame<'_, '_>,
     memory: &'m Memory,
     target: u64,
 ) -> Result<i128, Stop>
@@ -36,19 +36,18 @@ pub fn value_in<'s, 'm>(
         memory.now target (core_of core.now)) }
 {
     let scene = Scene {
-        setting,
         locals: frame.locals.as_slice(),
         memory,
         target,
     };
-    value(core, &scene)
+    value(core, setting, &scene)
 }
 
 /// A test is not 0.
-pub fn holds<'s, 'm>(
+pub fn holds<'m>(
     test: &Core<'_>,
-    setting: &'s Setting<'s>,
-    frame: &'m Frame<'_>,
+    setting: &Setting<'_, '_>,
+    frame: &'m Frame<'_, '_>,
     memory: &'m Memory,
 ) -> Result<bool, Stop>
     ensures { Gives (λ b. b) result (truth (spec.value (setting_of setting.now)
@@ -60,9 +59,9 @@ pub fn holds<'s, 'm>(
 
 /// Statements one after the other.
 fn block<'s, 'a>(
-    actions: &'a [Action<'a>],
-    setting: &'s Setting<'s>,
-    frame: &mut Frame<'a>,
+    actions: &'s [Action<'a>],
+    setting: &Setting<'_, '_>,
+    frame: &mut Frame<'s, 'a>,
     memory: &mut Memory,
 ) -> Result<Next<'a>, Stop>
     ensures { Acts (setting_of setting.now) (tree.sequence (map action_of actions.now)) frame.old
@@ -75,8 +74,8 @@ fn block<'s, 'a>(
 /// A value that is dropped.
 fn evaluate<'s, 'a>(
     core: &Core<'_>,
-    setting: &'s Setting<'s>,
-    frame: &mut Frame<'a>,
+    setting: &Setting<'_, '_>,
+    frame: &mut Frame<'s, 'a>,
     memory: &mut Memory,
 ) -> Result<Next<'a>, Stop>
     ensures { Acts (setting_of setting.now) (tree.Evaluate (core_of core.now)) frame.old
@@ -90,8 +89,8 @@ fn evaluate<'s, 'a>(
 fn set<'s, 'a>(
     local: usize,
     core: &Core<'_>,
-    setting: &'s Setting<'s>,
-    frame: &mut Frame<'a>,
+    setting: &Setting<'_, '_>,
+    frame: &mut Frame<'s, 'a>,
     memory: &mut Memory,
 ) -> Result<Next<'a>, Stop>
     ensures { Acts (setting_of setting.now) (tree.Set local (core_of core.now)) frame.old
@@ -105,8 +104,8 @@ fn set<'s, 'a>(
 /// A declaration without initial value.
 fn unset<'s, 'a>(
     local: usize,
-    setting: &'s Setting<'s>,
-    frame: &mut Frame<'a>,
+    setting: &Setting<'_, '_>,
+    frame: &mut Frame<'s, 'a>,
     memory: &mut Memory,
 ) -> Result<Next<'a>, Stop>
     ensures { Acts (setting_of setting.now) (tree.Unset local) frame.old
@@ -123,8 +122,8 @@ fn store<'s, 'a>(
     displacement: usize,
     core: &Core<'_>,
     offset: usize,
-    setting: &'s Setting<'s>,
-    frame: &mut Frame<'a>,
+    setting: &Setting<'_, '_>,
+    frame: &mut Frame<'s, 'a>,
     memory: &mut Memory,
 ) -> Result<Next<'a>, Stop>
     ensures { Acts (setting_of setting.now) (tree.Store of (core_of address.now) displacement
@@ -140,8 +139,8 @@ fn store<'s, 'a>(
 /// The values of arguments, for the call that is next.
 fn pass<'s, 'a>(
     arguments: &[Box<Core<'a>>],
-    setting: &'s Setting<'s>,
-    frame: &mut Frame<'a>,
+    setting: &Setting<'_, '_>,
+    frame: &mut Frame<'s, 'a>,
     memory: &Memory,
 ) -> Result<(), Stop>
     ensures values { Gives (λ _. frame.new.arguments.items) result (spec.values (setting_of
@@ -160,10 +159,10 @@ fn pass<'s, 'a>(
 fn call<'s, 'a>(
     number: usize,
     function: &'a [u8],
-    arguments: &'a [Box<Core<'a>>],
+    arguments: &'s [Box<Core<'a>>],
     local: Option<usize>,
-    setting: &'s Setting<'s>,
-    frame: &mut Frame<'a>,
+    setting: &Setting<'_, '_>,
+    frame: &mut Frame<'s, 'a>,
     memory: &mut Memory,
 ) -> Result<Next<'a>, Stop>
     ensures { Acts (setting_of setting.now) (tree.Call number function.now (map (λ b. core_of
@@ -176,10 +175,10 @@ fn call<'s, 'a>(
 /// One of two, by a test.
 fn choose<'s, 'a>(
     test: &Core<'_>,
-    first: &'a Action<'a>,
-    second: &'a Action<'a>,
-    setting: &'s Setting<'s>,
-    frame: &mut Frame<'a>,
+    first: &'s Action<'a>,
+    second: &'s Action<'a>,
+    setting: &Setting<'_, '_>,
+    frame: &mut Frame<'s, 'a>,
     memory: &mut Memory,
 ) -> Result<Next<'a>, Stop>
     ensures { Acts (setting_of setting.now) (tree.If (core_of test.now) (action_of first.now)
@@ -197,9 +196,9 @@ fn choose<'s, 'a>(
 /// A loop.
 fn repeat<'s, 'a>(
     number: usize,
-    cycle: Cycle<'a>,
-    setting: &'s Setting<'s>,
-    frame: &mut Frame<'a>,
+    cycle: Cycle<'s, 'a>,
+    setting: &Setting<'_, '_>,
+    frame: &mut Frame<'s, 'a>,
     memory: &mut Memory,
 ) -> Result<Next<'a>, Stop>
     ensures { Acts (setting_of setting.now) (tree.Loop number cycle.entry.place (core_of
@@ -213,8 +212,8 @@ fn repeat<'s, 'a>(
 /// The end of the call.
 fn give_back<'s, 'a>(
     value: &Option<Box<Core<'a>>>,
-    setting: &'s Setting<'s>,
-    frame: &mut Frame<'a>,
+    setting: &Setting<'_, '_>,
+    frame: &mut Frame<'s, 'a>,
     memory: &mut Memory,
 ) -> Result<Next<'a>, Stop>
     ensures { Acts (setting_of setting.now) (tree.Return (core_in value.now)) frame.old
@@ -280,9 +279,9 @@ fn chosen<'b, 'a>(groups: &'b [Group<'a>], value: i128) -> Option<&'b Action<'a>
 /// One of several groups, by a value.
 fn switch<'s, 'a>(
     test: &Core<'_>,
-    groups: &'a [Group<'a>],
-    setting: &'s Setting<'s>,
-    frame: &mut Frame<'a>,
+    groups: &'s [Group<'a>],
+    setting: &Setting<'_, '_>,
+    frame: &mut Frame<'s, 'a>,
     memory: &mut Memory,
 ) -> Result<Next<'a>, Stop>
     ensures { Acts (setting_of setting.now) (tree.Switch (core_of test.now) (groups_in (map
@@ -297,19 +296,33 @@ fn switch<'s, 'a>(
     Ok(Next::Goes(Ending::Went))
 }
 
-/// What a statement does.
-#[tactic(auto, using(c_core::proofs::ActionViews::action_views))]
-pub fn act<'s, 'a>(
-    action: &'a Action<'a>,
-    setting: &'s Setting<'s>,
-    frame: &mut Frame<'a>,
+/// A statement that is next.
+fn put_off<'s, 'a>(
+    action: &'s Action<'a>,
+    setting: &Setting<'_, '_>,
+    frame: &mut Frame<'s, 'a>,
     memory: &mut Memory,
 ) -> Result<Next<'a>, Stop>
-    ensures { Acts (setting_of setting.now) (action_of action.now) frame.old memory.old
-        frame.new memory.new result }
+    ensures { Acts (setting_of setting.now) (action_of action.now) frame.old memory.old frame.new
+        memory.new result }
+{
+    attempt!(frame.push(Task::Do(action)), Stop::Memory);
+    Ok(Next::Goes(Ending::Went))
+}
+
+/// What a statement does that drops a value, or sets a local or an object. Another is next: `act`
+/// hands on none.
+#[tactic(auto, using(c_core::proofs::ActionViews::action_views))]
+fn assign<'s, 'a>(
+    action: &'s Action<'a>,
+    setting: &Setting<'_, '_>,
+    frame: &mut Frame<'s, 'a>,
+    memory: &mut Memory,
+) -> Result<Next<'a>, Stop>
+    ensures { Acts (setting_of setting.now) (action_of action.now) frame.old memory.old frame.new
+        memory.new result }
 {
     match action {
-        Action::Block(actions) => block(actions, setting, frame, memory),
         Action::Evaluate(core) => evaluate(core, setting, frame, memory),
         Action::Set(local, core) => set(*local, core, setting, frame, memory),
         Action::Unset(local) => unset(*local, setting, frame, memory),
@@ -323,10 +336,46 @@ pub fn act<'s, 'a>(
             frame,
             memory,
         ),
+        _ => put_off(action, setting, frame, memory),
+    }
+}
+
+/// What a call or a jump does; another statement is `assign`'s.
+#[tactic(auto, using(c_core::proofs::ActionViews::action_views))]
+fn transfer<'s, 'a>(
+    action: &'s Action<'a>,
+    setting: &Setting<'_, '_>,
+    frame: &mut Frame<'s, 'a>,
+    memory: &mut Memory,
+) -> Result<Next<'a>, Stop>
+    ensures { Acts (setting_of setting.now) (action_of action.now) frame.old memory.old frame.new
+        memory.new result }
+{
+    match action {
         Action::Call(number, function, arguments, local) => call(
-            *number, function, arguments, *local, setting, frame, memory,
+            *number, *function, arguments, *local, setting, frame, memory,
         ),
-        Action::If(test, first, second) => { choose(test, first, second, setting, frame, memory) }
+        Action::Leave(jump) => Ok(Next::Goes(Ending::Jumped(*jump))),
+        Action::Return(value) => give_back(value, setting, frame, memory),
+        Action::MissingReturn(offset) => Err(Stop::Broke(Guard::MissingReturn, *offset)),
+        _ => assign(action, setting, frame, memory),
+    }
+}
+
+/// What a statement does: here one that has others in it.
+#[tactic(auto, using(c_core::proofs::ActionViews::action_views))]
+pub fn act<'s, 'a>(
+    action: &'s Action<'a>,
+    setting: &Setting<'_, '_>,
+    frame: &mut Frame<'s, 'a>,
+    memory: &mut Memory,
+) -> Result<Next<'a>, Stop>
+    ensures { Acts (setting_of setting.now) (action_of action.now) frame.old memory.old frame.new
+        memory.new result }
+{
+    match action {
+        Action::Block(actions) => block(actions, setting, frame, memory),
+        Action::If(test, first, second) => choose(test, first, second, setting, frame, memory),
         Action::Loop(number, place, test, step, body) => {
             let cycle = Cycle {
                 place: *place,
@@ -336,9 +385,7 @@ pub fn act<'s, 'a>(
             };
             repeat(*number, cycle, setting, frame, memory)
         }
-        Action::Leave(jump) => Ok(Next::Goes(Ending::Jumped(*jump))),
         Action::Switch(test, groups) => switch(test, groups, setting, frame, memory),
-        Action::Return(value) => give_back(value, setting, frame, memory),
-        Action::MissingReturn(offset) => Err(Stop::Broke(Guard::MissingReturn, *offset)),
+        _ => transfer(action, setting, frame, memory),
     }
 }

@@ -1,13 +1,13 @@
 -- What the program keeps of a setting, as the definitions see it.
-use Rattle.std.specs.Prelude.{ℕ, List, map, find, bytes_eq, Option, option_map, is_some}
+use Rattle.std.specs.Prelude.{ℕ, List, find, bytes_eq, Option, option_map, is_some}
 use Rattle.memory_spec.specs.Zones as zones
 use Rattle.memory_spec.specs.Runs.{fixed_byte}
 use Rattle.memory_spec.specs.Viewed.{runs_of}
-use Rattle.c_core.specs.Actions.{action_of}
-use Rattle.c_type_spec.specs.Core as tree
 use Rattle.c_meaning_spec.specs.Setting as spec
-use Rattle.c_value.specs.declared.setting.Body.{Body}
+use Rattle.c_types.specs.Typed.{bodies_of}
+use Rattle.c_types.specs.declared.typed.Typed.{Typed}
 use Rattle.c_value.specs.declared.setting.Global.{Global}
+use Rattle.c_value.specs.declared.setting.Place.{Place}
 use Rattle.c_value.specs.declared.setting.Zone.{Zone}
 use Rattle.c_value.specs.declared.setting.Setting.{Setting}
 
@@ -18,20 +18,14 @@ zone_of zone = record { low = zone.low; high = zone.high }
 abbrev pub address_in : List Global → List ℕ → Option ℕ
 address_in globals name = option_map (λ (g : Global). g.address) (find (λ (g : Global). bytes_eq g.name.now name) globals)
 
-unfoldable pub body_of : Body → tree.Body
-body_of body = record {
-  name = body.name.now;
-  signature = record { parameters = body.parameters.items; result = body.result };
-  locals = body.locals.items;
-  loops = body.loops;
-  calls = body.calls;
-  action = action_of body.action.value;
+-- the setting of the runs of a unit
+unfoldable pub setting_in : Typed → Place → Zone → spec.Setting
+setting_in unit place barred = record {
+  bodies = bodies_of unit.bodies.entries;
+  globals = address_in place.globals.now;
+  barred = zone_of barred;
+  is_fixed = λ address. is_some (fixed_byte (runs_of place.fixed.now) address);
 }
 
-unfoldable pub setting_of : Setting → spec.Setting
-setting_of setting = record {
-  bodies = map body_of setting.bodies.now;
-  globals = address_in setting.place.globals.now;
-  barred = zone_of setting.barred;
-  is_fixed = λ address. is_some (fixed_byte (runs_of setting.place.fixed.now) address);
-}
+abbrev pub setting_of : Setting → spec.Setting
+setting_of setting = setting_in setting.unit.now setting.place setting.barred

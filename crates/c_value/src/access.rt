@@ -74,8 +74,8 @@ fn meets_fixed(size: u32, fixed: &[Run], address: u64) -> bool
 }
 
 /// The first guard that a read breaks.
-#[tactic(auto, unfolding(c_meaning_spec::specs::Accesses::read_guard, crate::specs::Settings::setting_of))]
-fn read_guard(setting: &Setting<'_>, size: u32, address: u64) -> Option<Guard>
+#[tactic(auto, unfolding(c_meaning_spec::specs::Accesses::read_guard, crate::specs::Settings::setting_in))]
+fn read_guard(setting: &Setting<'_, '_>, size: u32, address: u64) -> Option<Guard>
     requires { 0 < size }
     ensures exact { result ≡ spec.read_guard (setting_of setting.now) size address }
     ensures inside { IfNone result (address + size ≤ 2 ^ 32) }
@@ -90,8 +90,8 @@ fn read_guard(setting: &Setting<'_>, size: u32, address: u64) -> Option<Guard>
 }
 
 /// The first guard that a write breaks.
-#[tactic(auto, unfolding(c_meaning_spec::specs::Accesses::write_guard, crate::specs::Settings::setting_of))]
-fn write_guard(setting: &Setting<'_>, size: u32, address: u64) -> Option<Guard>
+#[tactic(auto, unfolding(c_meaning_spec::specs::Accesses::write_guard, crate::specs::Settings::setting_in))]
+fn write_guard(setting: &Setting<'_, '_>, size: u32, address: u64) -> Option<Guard>
     requires { 0 < size }
     ensures exact { result ≡ spec.write_guard (setting_of setting.now) size address }
     ensures inside { IfNone result (address + size ≤ 2 ^ 32) }
@@ -170,7 +170,7 @@ fn of_bits(of: Scalar, bits: u64) -> i128
 /// The value of the object at an address.
 #[tactic(auto, unfolding(c_meaning_spec::specs::Accesses::object_value))]
 pub fn object_value(
-    setting: &Setting<'_>,
+    setting: &Setting<'_, '_>,
     memory: &Memory,
     of: Scalar,
     address: u64,
@@ -191,7 +191,7 @@ pub fn object_value(
 /// Stores a value in the object at an address.
 #[tactic(auto, unfolding(c_meaning_spec::specs::Accesses::stored))]
 pub fn store_object(
-    setting: &Setting<'_>,
+    setting: &Setting<'_, '_>,
     memory: &mut Memory,
     of: Scalar,
     address: u64,

@@ -3,11 +3,13 @@
 ghost use Rattle.std.specs.Prelude.{◌≡◌, ◌+◌, pos, slice_get, unwrap_or, Ok};
 ghost use Rattle.c_type_spec.specs.Types.{word};
 ghost use Rattle.c_type_spec.specs.Values as rule;
+ghost use Rattle.c_type_spec.specs.Core as core;
 ghost use Rattle.c_meaning_spec.specs.Accesses as accesses;
 ghost use Rattle.c_meaning_spec.specs.Evaluation as spec;
 ghost use Rattle.c_core.specs.Expressions.{core_of};
 ghost use Rattle.c_value.specs.Settings.{setting_of};
 ghost use Rattle.c_value.specs.Gives.{Gives, GivesValue};
+ghost use Rattle.c_value.specs.Scenes.{Evaluates, chosen_in};
 
 use crate::access::object_value;
 use crate::setting::{Setting, Stop, global_address};
@@ -19,15 +21,13 @@ use c_meaning_spec::Guard;
 use c_type_spec::{Arithmetic, Comparison, Direction, Order, Scalar};
 use memory_core::Memory;
 
-/// What an expression is evaluated in.
+/// What an expression is evaluated in, with a setting that stays for the whole run.
 #[derive(Clone, Copy)]
-pub struct Scene<'s, 'a> {
-    /// What stays as it is for the whole run.
-    pub setting: &'s Setting<'s>,
+pub struct Scene<'m> {
     /// The values of the locals.
-    pub locals: &'a [Option<i128>],
+    pub locals: &'m [Option<i128>],
     /// The memory.
-    pub memory: &'a Memory,
+    pub memory: &'m Memory,
     /// The address of the object that the assignment around the expression stores to, or 0.
     pub target: u64,
 }
@@ -57,8 +57,8 @@ pub fn address_past(value: i128, displacement: usize) -> Result<u64, Stop>
 }
 
 /// The address of a global, as a value.
-#[tactic(auto, unfolding(crate::specs::Settings::setting_of))]
-fn global_value(setting: &Setting<'_>, name: &[u8]) -> i128
+#[tactic(auto, unfolding(crate::specs::Settings::setting_in))]
+fn global_value(setting: &Setting<'_, '_>, name: &[u8]) -> i128
     ensures { result ≡ pos (unwrap_or ((setting_of setting.now).globals name.now) 0) }
 {
     let place = setting.place;
@@ -198,56 +198,193 @@ fn aligned(alignment: usize, pointer: i128, offset: usize) -> Result<i128, Stop>
     }
 }
 
-/// The value of an expression, or the first guard that it breaks.
-#[tactic(auto, using(c_core::proofs::Views::views), unfolding(c_meaning_spec::specs::Evaluation::value))]
-pub fn value(core: &Core<'_>, scene: &Scene<'_, '_>) -> Result<i128, Stop>
-    ensures { GivesValue result (spec.value (setting_of scene.now.setting.now) scene.now.locals.now
-        scene.now.memory.now scene.now.target (core_of core.now)) }
+// ---- what has other expressions in it
+
+/// The object so many bytes past an address.
+#[cycle(values)]
+#[tactic(auto, unfolding(c_meaning_spec::specs::Evaluation::value))]
+fn load(
+    address: &Core<'_>,
+    setting: &Setting<'_, '_>,
+    scene: &Scene<'_>,
+    of: Scalar,
+    displacement: usize,
+    offset: usize,
+) -> Result<i128, Stop>
+    ensures { Evaluates setting.now scene.now result (core.Load of (core_of address.now)
+        displacement offset) }
 {
-    match core {
-        Core::Constant(_, value) => Ok(*value),
+    let base = attempt!(value(address, setting, scene));
+    let place = attempt!(address_past(base, displacement));
+    object_value(setting, scene.memory, of, place, offset)
+}
+
+/// An operator on two values.
+#[cycle(values)]
+#[tactic(auto, unfolding(c_meaning_spec::specs::Evaluation::value))]
+fn operate(
+    left: &Core<'_>,
+    right: &Core<'_>,
+    setting: &Setting<'_, '_>,
+    scene: &Scene<'_>,
+    operator: Arithmetic,
+    of: Scalar,
+    offset: usize,
+) -> Result<i128, Stop>
+    ensures { Evaluates setting.now scene.now result (core.Operate operator of (core_of left.now)
+        (core_of right.now) offset) }
+{
+    let first = attempt!(value(left, setting, scene));
+    let second = attempt!(value(right, setting, scene));
+    operated(operator, of, first, second, offset)
+}
+
+/// A comparison of two values.
+#[cycle(values)]
+#[tactic(auto, unfolding(c_meaning_spec::specs::Evaluation::value))]
+fn compare(
+    left: &Core<'_>,
+    right: &Core<'_>,
+    setting: &Setting<'_, '_>,
+    scene: &Scene<'_>,
+    operator: Comparison,
+) -> Result<i128, Stop>
+    ensures { Evaluates setting.now scene.now result (core.Compare operator (core_of left.now)
+        (core_of right.now)) }
+{
+    let first = attempt!(value(left, setting, scene));
+    let second = attempt!(value(right, setting, scene));
+    compared(operator, first, second)
+}
+
+/// A pointer that is moved by so many objects of a size.
+#[cycle(values)]
+#[tactic(auto, unfolding(c_meaning_spec::specs::Evaluation::value))]
+fn move_pointer(
+    pointer: &Core<'_>,
+    index: &Core<'_>,
+    setting: &Setting<'_, '_>,
+    scene: &Scene<'_>,
+    direction: Direction,
+    order: Order,
+    size: usize,
+    offset: usize,
+) -> Result<i128, Stop>
+    ensures { Evaluates setting.now scene.now result (core.Move direction order size (core_of
+        pointer.now) (core_of index.now) offset) }
+{
+    match order {
+        Order::PointerFirst => {
+            let address = attempt!(value(pointer, setting, scene));
+            let number = attempt!(value(index, setting, scene));
+            moved(direction, size, address, number, offset)
+        }
+        Order::IndexFirst => {
+            let number = attempt!(value(index, setting, scene));
+            let address = attempt!(value(pointer, setting, scene));
+            moved(direction, size, address, number, offset)
+        }
+    }
+}
+
+/// One of two values, by a test.
+#[cycle(values)]
+#[tactic(auto, unfolding(c_meaning_spec::specs::Evaluation::value))]
+fn choose(
+    test: &Core<'_>,
+    first: &Core<'_>,
+    second: &Core<'_>,
+    setting: &Setting<'_, '_>,
+    scene: &Scene<'_>,
+) -> Result<i128, Stop>
+    ensures { GivesValue result (chosen_in setting.now scene.now (core_of test.now) (core_of
+        first.now) (core_of second.now)) }
+{
+    let tested = attempt!(value(test, setting, scene));
+    if tested == 0 {
+        value(second, setting, scene)
+    } else {
+        value(first, setting, scene)
+    }
+}
+
+/// A value in another type.
+#[cycle(values)]
+#[tactic(auto, unfolding(c_meaning_spec::specs::Evaluation::value))]
+fn convert_value(
+    operand: &Core<'_>,
+    setting: &Setting<'_, '_>,
+    scene: &Scene<'_>,
+    of: Scalar,
+) -> Result<i128, Stop>
+    ensures { Evaluates setting.now scene.now result (core.Convert of (core_of operand.now)) }
+{
+    let number = attempt!(value(operand, setting, scene));
+    converted(of, number)
+}
+
+/// An index below a bound.
+#[cycle(values)]
+#[tactic(auto, unfolding(c_meaning_spec::specs::Evaluation::value))]
+fn bounded(
+    index: &Core<'_>,
+    setting: &Setting<'_, '_>,
+    scene: &Scene<'_>,
+    bound: usize,
+    offset: usize,
+) -> Result<i128, Stop>
+    ensures { Evaluates setting.now scene.now result (core.Within bound (core_of index.now)
+        offset) }
+{
+    let number = attempt!(value(index, setting, scene));
+    within(bound, number, offset)
+}
+
+/// A pointer at a multiple of an alignment.
+#[cycle(values)]
+#[tactic(auto, unfolding(c_meaning_spec::specs::Evaluation::value))]
+fn at_alignment(
+    pointer: &Core<'_>,
+    setting: &Setting<'_, '_>,
+    scene: &Scene<'_>,
+    alignment: usize,
+    offset: usize,
+) -> Result<i128, Stop>
+    ensures { Evaluates setting.now scene.now result (core.Aligned alignment (core_of pointer.now)
+        offset) }
+{
+    let address = attempt!(value(pointer, setting, scene));
+    aligned(alignment, address, offset)
+}
+
+/// The value of an expression, or the first guard that it breaks.
+#[cycle(values)]
+#[tactic(auto, using(c_core::proofs::Views::views), unfolding(c_meaning_spec::specs::Evaluation::value))]
+pub fn value(x: &Core<'_>, setting: &Setting<'_, '_>, scene: &Scene<'_>) -> Result<i128, Stop>
+    ensures { Evaluates setting.now scene.now result (core_of x.now) }
+{
+    match x {
+        Core::Constant(_, number) => Ok(*number),
         Core::ReadLocal(_, local, offset) => local_value(scene.locals, *local, *offset),
-        Core::GlobalAddress(name) => Ok(global_value(scene.setting, name)),
+        Core::GlobalAddress(name) => Ok(global_value(setting, name)),
         Core::Target(of, offset) => {
-            object_value(scene.setting, scene.memory, *of, scene.target, *offset)
+            object_value(setting, scene.memory, *of, scene.target, *offset)
         }
         Core::Load(of, address, displacement, offset) => {
-            let address = address_past(value(address, scene)?, *displacement)?;
-            object_value(scene.setting, scene.memory, *of, address, *offset)
+            load(address, setting, scene, *of, *displacement, *offset)
         }
-        Core::Convert(of, operand) => converted(*of, value(operand, scene)?),
+        Core::Convert(of, operand) => convert_value(operand, setting, scene, *of),
         Core::Operate(operator, of, left, right, offset) => {
-            let left = value(left, scene)?;
-            let right = value(right, scene)?;
-            operated(*operator, *of, left, right, *offset)
+            operate(left, right, setting, scene, *operator, *of, *offset)
         }
-        Core::Compare(operator, left, right) => {
-            let left = value(left, scene)?;
-            let right = value(right, scene)?;
-            compared(*operator, left, right)
-        }
-        Core::Move(direction, order, size, pointer, index, offset) => match order {
-            Order::PointerFirst => {
-                let pointer = value(pointer, scene)?;
-                let index = value(index, scene)?;
-                moved(*direction, *size, pointer, index, *offset)
-            }
-            Order::IndexFirst => {
-                let index = value(index, scene)?;
-                let pointer = value(pointer, scene)?;
-                moved(*direction, *size, pointer, index, *offset)
-            }
-        },
-        Core::Within(bound, index, offset) => within(*bound, value(index, scene)?, *offset),
+        Core::Compare(operator, left, right) => compare(left, right, setting, scene, *operator),
+        Core::Move(direction, order, size, pointer, index, offset) => move_pointer(
+            pointer, index, setting, scene, *direction, *order, *size, *offset,
+        ),
+        Core::Within(bound, index, offset) => bounded(index, setting, scene, *bound, *offset),
         Core::Aligned(alignment, pointer, offset) => {
-            aligned(*alignment, value(pointer, scene)?, *offset)
+            at_alignment(pointer, setting, scene, *alignment, *offset)
         }
-        Core::Choose(_, test, first, second) => {
-            if value(test, scene)? == 0 {
-                value(second, scene)
-            } else {
-                value(first, scene)
-            }
-        }
+        Core::Choose(_, test, first, second) => choose(test, first, second, setting, scene),
     }
 }

@@ -6,29 +6,9 @@ ghost use Rattle.memory_spec.specs.Viewed.{run_of, runs_of};
 ghost use Rattle.c_meaning_spec.specs.Accesses.{in_zone};
 ghost use Rattle.c_value.specs.Settings.{zone_of, address_in};
 
-use c_core::action::Action;
 use c_meaning_spec::Guard;
-use c_type_spec::Scalar;
+use c_types::typed::Typed;
 use memory_spec::Run;
-
-/// A function with a body.
-#[derive(Drop)]
-pub struct Body<'a> {
-    /// Its name.
-    pub name: &'a [u8],
-    /// The types of its parameters.
-    pub parameters: Vec<Scalar>,
-    /// The type of its result, unless it is `void`.
-    pub result: Option<Scalar>,
-    /// The types of its locals, the parameters first.
-    pub locals: Vec<Scalar>,
-    /// How many loops it has.
-    pub loops: usize,
-    /// How many calls it has.
-    pub calls: usize,
-    /// What it does.
-    pub action: Box<Action<'a>>,
-}
 
 /// A global, and where it is.
 #[derive(Clone, Copy)]
@@ -48,20 +28,20 @@ pub struct Zone {
 
 /// Where the globals are, and the bytes that no write meets.
 #[derive(Clone, Copy)]
-pub struct Place<'a> {
+pub struct Place<'s, 'a> {
     /// The globals; of two with one name the first counts.
-    pub globals: &'a [Global<'a>],
+    pub globals: &'s [Global<'a>],
     /// The runs of fixed bytes.
-    pub fixed: &'a [Run],
+    pub fixed: &'s [Run],
 }
 
 /// What stays as it is for a whole run.
 #[derive(Clone, Copy)]
-pub struct Setting<'a> {
-    /// The functions with a body; of two with one name the first counts.
-    pub bodies: &'a [Body<'a>],
+pub struct Setting<'s, 'a> {
+    /// The unit, which has the functions' bodies.
+    pub unit: &'s Typed<'a>,
     /// Where the globals are, and the fixed bytes.
-    pub place: Place<'a>,
+    pub place: Place<'s, 'a>,
     /// No access meets it.
     pub barred: Zone,
 }

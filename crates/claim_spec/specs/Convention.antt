@@ -1,36 +1,25 @@
 -- The calling convention: how a function is called, and what it gives back (RISC-V psABI, ILP32).
-use Rattle.std.specs.Prelude.{◌≡◌, ◌+◌, ◌-◌, ◌%◌, ◌^◌, ◌<◌, ◌≤◌, ℕ, ℤ, List, [], ◌∷◌, ◌++◌, Contains, slice_get, Option, Some, None, IfSome}
+use Rattle.std.specs.Prelude.{◌≡◌, ◌+◌, ◌-◌, ◌%◌, ◌^◌, ◌<◌, ◌≤◌, ℕ, ℤ, List, [], ◌∷◌, Contains, slice_get, Option, Some, None, IfSome}
 use Rattle.memory_spec.specs.Memory.{Memory, byte_at}
 use Rattle.memory_spec.specs.Zones.{Zone, InZone}
 use Rattle.rv_spec.specs.Arithmetic.{word}
 use Rattle.rv_spec.specs.Machine.{Machine, IsMachine, read_register}
 use Rattle.elf_spec.specs.Image.{Image, size_at, fixed_byte, global_pointer}
 use Rattle.code_spec.specs.Code.{InRange, Reaches, HoldsFixed}
-use Rattle.c_meaning_spec.specs.Types.{ScalarType, UnsignedInt, FunctionType}
+use Rattle.c_type_spec.specs.declared.Scalar.{Scalar}
 
 -- ---- words (RISC-V psABI, integer calling convention)
 
--- the words of a value, the lowest first; a value that is narrower than a word is widened by the sign of its type
-abbrev pub words_of : ScalarType → ℤ → List ℕ
-words_of UnsignedInt value = word value ∷ []
+-- the words of the arguments of a call, one each: a value of a type that is narrower than a word is widened by the sign
+-- of its type
+abbrev pub argument_words : List ℤ → List ℕ
+argument_words [] = []
+argument_words (v ∷ values) = word v ∷ argument_words values
 
--- the words of values, one after the other
-abbrev pub words_of_all : List ScalarType → List ℤ → List ℕ
-words_of_all (type ∷ types) (value ∷ values) = words_of type value ++ words_of_all types values
-words_of_all types values = []
-
--- the words of the arguments of a call
-abbrev pub argument_words : FunctionType → List ℤ → List ℕ
-argument_words type values = words_of_all type.parameters values
-
--- the words of a result, if there is one
-abbrev pub words_if : Option ScalarType → Option ℤ → List ℕ
-words_if (Some type) (Some value) = words_of type value
-words_if type value = []
-
--- the words of the result of a call
-abbrev pub result_words : FunctionType → Option ℤ → List ℕ
-result_words type value = words_if type.result value
+-- the word of the result of a call, unless the function is `void`
+abbrev pub result_words : Option Scalar → Option ℤ → List ℕ
+result_words (Some type) (Some v) = word v ∷ []
+result_words type v = []
 
 -- words are passed in registers from x10 on, one after the other
 abbrev pub ArePassed : Machine → List ℕ → Type 0

@@ -1,2 +1,3 @@
+pub mod Source
 pub mod Convention
 pub mod Claim

@@ -8,7 +8,7 @@ use Rattle.rv_spec.specs.Machine.{IsMachine, read_register}
 use Rattle.code_spec.specs.Code.{InRange}
 use Rattle.claim_spec.specs.Convention.{argument_words, ArePassed, Meets}
 use Rattle.example_laws.specs.AddTwoArguments.{start}
-use Rattle.example_laws.specs.AddTwoArgumentsCalled.{image, binary, values}
+use Rattle.example_laws.specs.AddTwoArgumentsCalled.{image, values}
 use Rattle.example_laws.proofs.ClaimBytes.{holds_fixed, code_cells}
 
 is_machine : IsMachine start
@@ -32,13 +32,13 @@ outside other size e within = by_test (0x10000 == other) refl e
         omega (arith, within.below)
     by_test false is e = absurd (cc)
 
-arguments : ArePassed start (argument_words binary values)
+arguments : ArePassed start (argument_words values)
 unfolding start read_register
 arguments zero n e = let is : 5 ≡ n = cc in is
 arguments (suc zero) n e = let is : 7 ≡ n = cc in is
 arguments (suc (suc i)) n e = absurd (cc)
 
-pub meets : Meets image 0x10000 0 start (argument_words binary values)
+pub meets : Meets image 0x10000 0 start (argument_words values)
 unfolding start read_register global_pointer
 meets = record {
   machine = is_machine;

@@ -9,3 +9,5 @@ pub mod CodeGraphComputes
 mod ClauseComputes
 pub mod FaultsWorked
 pub mod CodeWorked
+mod Lexed
+mod SumRead

@@ -1,9 +1,8 @@
 -- The worked example `add_two_arguments`: `add x10, x10, x11` and `jalr x0, 0(x1)` at 00010000, and its source.
-use Rattle.std.specs.Prelude.{ℕ, ℤ, pos, List, [], ◌∷◌, codes, Some}
+use Rattle.std.specs.Prelude.{ℕ, ℤ, pos, List, [], ◌∷◌, codes}
 use Rattle.elf_spec.specs.Image.{Image}
 use Rattle.elf_spec.specs.declared.fields.TheConstants.{STT_FUNC}
-use Rattle.c_meaning_spec.specs.Types.{FunctionType, UnsignedInt}
-use Rattle.c_meaning_spec.specs.Run.{Outcome}
+use Rattle.c_meaning_spec.specs.Calls.{Outcome}
 use Rattle.claim_spec.specs.Convention.{dead_stack}
 use Rattle.claim_spec.specs.Claim.{run_from}
 use Rattle.example_laws.specs.AddTwoArguments.{start}
@@ -38,10 +37,6 @@ image = record {
   segments = record { vaddr = 0x10000; memsz = 8; flags = 5; bytes = code_bytes } ∷ [];
   symbols = record { name = codes "f"; value = 0x10000; size = 8; kind = STT_FUNC } ∷ [];
 }
-
--- the type of its function
-abbrev pub binary : FunctionType
-binary = record { parameters = UnsignedInt ∷ UnsignedInt ∷ []; result = Some UnsignedInt }
 
 abbrev pub values : List ℤ
 values = pos 5 ∷ pos 7 ∷ []

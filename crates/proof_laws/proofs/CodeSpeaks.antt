@@ -27,106 +27,110 @@ use Rattle.code_graph_spec.specs.State.{register, entry_register, memory}
 use Rattle.code_graph_spec.specs.InstructionTerms.{number, operand, address, places, set_if, computed, taken, loaded, stored, is_multiple, load_tests, avoids, last_written, aligned_for, access_tests, returns_home, put, effects, branch_test}
 use Rattle.code_graph_spec.specs.Blocks.{NodeName, Following, Setting, Ending, Does, Goes, toward, onward, chain, tests_of, ending_of, nodes_at, leaves, entry_binding, other_registers, call_inputs, tail_inputs, call_nodes, tail_call_nodes}
 use Rattle.code_graph_spec.specs.CodeGraph.{IsNodeAt, entrance, of_instruction, landing, IsCodeGraph}
+use Rattle.term_spec.specs.declared.Variable.{Variable}
 use Rattle.rule_spec.specs.Points.{is_binary}
 use Rattle.rule_spec.specs.Proper.{IsOwnTerm, IsOwnBinding, AreOwnBindings, IsOwnNode, IsOwnGraph}
 use Rattle.proof_laws.proofs.Speaking.{const_own, truth_own, open_own, one_own, two_own, three_own, either_own, one_test, signed_less_own, quotient_own, remainder_own, product_own, product_signed_own, product_mixed_own, past_own, load_own, load_half_own, load_word_own, store_byte_own, store_half_own, store_word_own}
+
+abbrev of_binary : Variable → Bool
+of_binary v = is_binary v.family
 
 abbrev Own : Term → Type 0
 Own t = IsOwnTerm is_binary t
 
 number_own : (n : ℕ) → Own (number n)
-number_own n = const_own is_binary W32 n
+number_own n = const_own of_binary W32 n
 
 register_own : (r : ℕ) → Own (open_term (register r))
-register_own r = open_own is_binary (register r) refl
+register_own r = open_own of_binary (register r) refl
 
 memory_own : Own (open_term memory)
-memory_own = open_own is_binary memory refl
+memory_own = open_own of_binary memory refl
 
 operand_own : (r : ℕ) → Own (operand r)
-operand_own r = either_own is_binary (r == 0) (number 0) (open_term (register r)) (number_own 0) (register_own r)
+operand_own r = either_own of_binary (r == 0) (number 0) (open_term (register r)) (number_own 0) (register_own r)
 
 address_own : (base r : ℕ) → Own (operand base) → Own (number r) → Own (shapes.past (operand base) r)
-address_own base r h k = two_own is_binary _ (operand base) (number r) h k
+address_own base r h k = two_own of_binary _ (operand base) (number r) h k
 
 places_own : (y : Term) → Own y → Own (places y)
-places_own y h = two_own is_binary _ y (number 31) h (number_own 31)
+places_own y h = two_own of_binary _ y (number 31) h (number_own 31)
 
 set_own : (t : Term) → Own t → Own (set_if t)
-set_own t h = three_own is_binary _ t (number 1) (number 0) h (number_own 1) (number_own 0)
+set_own t h = three_own of_binary _ t (number 1) (number 0) h (number_own 1) (number_own 0)
 
 computed_own : (operation : ArithmeticOperation) (x y : Term) → Own x → Own y → Own (computed operation x y)
 unfolding computed
-computed_own arithmetic.Add x y h k = two_own is_binary _ x y h k
-computed_own arithmetic.Subtract x y h k = two_own is_binary _ x y h k
-computed_own arithmetic.ShiftLeft x y h k = two_own is_binary _ x (places y) h (places_own y k)
-computed_own arithmetic.SetLess x y h k = set_own _ (signed_less_own is_binary W32 x y h k)
-computed_own arithmetic.SetLessUnsigned x y h k = set_own (less x y) (two_own is_binary _ x y h k)
-computed_own arithmetic.Xor x y h k = two_own is_binary _ x y h k
-computed_own arithmetic.ShiftRightLogical x y h k = two_own is_binary _ x (places y) h (places_own y k)
-computed_own arithmetic.ShiftRightArithmetic x y h k = two_own is_binary _ x (places y) h (places_own y k)
-computed_own arithmetic.Or x y h k = two_own is_binary _ x y h k
-computed_own arithmetic.And x y h k = two_own is_binary _ x y h k
-computed_own arithmetic.Multiply x y h k = two_own is_binary _ x y h k
-computed_own arithmetic.MultiplyHigh x y h k = product_signed_own is_binary x y h k
-computed_own arithmetic.MultiplyHighSignedUnsigned x y h k = product_mixed_own is_binary x y h k
-computed_own arithmetic.MultiplyHighUnsigned x y h k = product_own is_binary x y h k
-computed_own arithmetic.Divide x y h k = quotient_own is_binary x y h k
-computed_own arithmetic.DivideUnsigned x y h k = two_own is_binary _ x y h k
-computed_own arithmetic.Remainder x y h k = remainder_own is_binary x y h k
-computed_own arithmetic.RemainderUnsigned x y h k = two_own is_binary _ x y h k
+computed_own arithmetic.Add x y h k = two_own of_binary _ x y h k
+computed_own arithmetic.Subtract x y h k = two_own of_binary _ x y h k
+computed_own arithmetic.ShiftLeft x y h k = two_own of_binary _ x (places y) h (places_own y k)
+computed_own arithmetic.SetLess x y h k = set_own _ (signed_less_own of_binary W32 x y h k)
+computed_own arithmetic.SetLessUnsigned x y h k = set_own (less x y) (two_own of_binary _ x y h k)
+computed_own arithmetic.Xor x y h k = two_own of_binary _ x y h k
+computed_own arithmetic.ShiftRightLogical x y h k = two_own of_binary _ x (places y) h (places_own y k)
+computed_own arithmetic.ShiftRightArithmetic x y h k = two_own of_binary _ x (places y) h (places_own y k)
+computed_own arithmetic.Or x y h k = two_own of_binary _ x y h k
+computed_own arithmetic.And x y h k = two_own of_binary _ x y h k
+computed_own arithmetic.Multiply x y h k = two_own of_binary _ x y h k
+computed_own arithmetic.MultiplyHigh x y h k = product_signed_own of_binary x y h k
+computed_own arithmetic.MultiplyHighSignedUnsigned x y h k = product_mixed_own of_binary x y h k
+computed_own arithmetic.MultiplyHighUnsigned x y h k = product_own of_binary x y h k
+computed_own arithmetic.Divide x y h k = quotient_own of_binary x y h k
+computed_own arithmetic.DivideUnsigned x y h k = two_own of_binary _ x y h k
+computed_own arithmetic.Remainder x y h k = remainder_own of_binary x y h k
+computed_own arithmetic.RemainderUnsigned x y h k = two_own of_binary _ x y h k
 
 taken_own : (test : BranchTest) (x y : Term) → Own x → Own y → Own (taken test x y)
 unfolding taken
-taken_own branch.Equal x y h k = two_own is_binary _ x y h k
-taken_own branch.NotEqual x y h k = one_own is_binary _ (equal x y) (two_own is_binary _ x y h k)
-taken_own branch.Less x y h k = signed_less_own is_binary W32 x y h k
-taken_own branch.GreaterOrEqual x y h k = one_own is_binary _ _ (signed_less_own is_binary W32 x y h k)
-taken_own branch.LessUnsigned x y h k = two_own is_binary _ x y h k
-taken_own branch.GreaterOrEqualUnsigned x y h k = one_own is_binary _ (less x y) (two_own is_binary _ x y h k)
+taken_own branch.Equal x y h k = two_own of_binary _ x y h k
+taken_own branch.NotEqual x y h k = one_own of_binary _ (equal x y) (two_own of_binary _ x y h k)
+taken_own branch.Less x y h k = signed_less_own of_binary W32 x y h k
+taken_own branch.GreaterOrEqual x y h k = one_own of_binary _ _ (signed_less_own of_binary W32 x y h k)
+taken_own branch.LessUnsigned x y h k = two_own of_binary _ x y h k
+taken_own branch.GreaterOrEqualUnsigned x y h k = one_own of_binary _ (less x y) (two_own of_binary _ x y h k)
 
 loaded_own : (kind : LoadKind) (a : Term) → Own a → Own (loaded kind a)
 unfolding loaded
-loaded_own load_kind.Byte a h = one_own is_binary _ (load (open_term memory) a) (load_own is_binary (open_term memory) a memory_own h)
-loaded_own load_kind.Half a h = one_own is_binary _ _ (load_half_own is_binary (open_term memory) a memory_own h)
-loaded_own load_kind.Word a h = load_word_own is_binary (open_term memory) a memory_own h
-loaded_own load_kind.ByteUnsigned a h = one_own is_binary _ (load (open_term memory) a) (load_own is_binary (open_term memory) a memory_own h)
-loaded_own load_kind.HalfUnsigned a h = one_own is_binary _ _ (load_half_own is_binary (open_term memory) a memory_own h)
+loaded_own load_kind.Byte a h = one_own of_binary _ (load (open_term memory) a) (load_own of_binary (open_term memory) a memory_own h)
+loaded_own load_kind.Half a h = one_own of_binary _ _ (load_half_own of_binary (open_term memory) a memory_own h)
+loaded_own load_kind.Word a h = load_word_own of_binary (open_term memory) a memory_own h
+loaded_own load_kind.ByteUnsigned a h = one_own of_binary _ (load (open_term memory) a) (load_own of_binary (open_term memory) a memory_own h)
+loaded_own load_kind.HalfUnsigned a h = one_own of_binary _ _ (load_half_own of_binary (open_term memory) a memory_own h)
 
 stored_own : (kind : StoreKind) (a x : Term) → Own a → Own x → Own (stored kind a x)
 unfolding stored
-stored_own store_kind.Byte a x h k = store_byte_own is_binary (open_term memory) a x memory_own h k
-stored_own store_kind.Half a x h k = store_half_own is_binary (open_term memory) a x memory_own h k
-stored_own store_kind.Word a x h k = store_word_own is_binary (open_term memory) a x memory_own h k
+stored_own store_kind.Byte a x h k = store_byte_own of_binary (open_term memory) a x memory_own h k
+stored_own store_kind.Half a x h k = store_half_own of_binary (open_term memory) a x memory_own h k
+stored_own store_kind.Word a x h k = store_word_own of_binary (open_term memory) a x memory_own h k
 
 -- ---- tests
 
 multiple_own : (mask : ℕ) (a : Term) → Own a → Own (is_multiple mask a)
-multiple_own mask a h = two_own is_binary _ (bit_and a (number mask)) (number 0) (two_own is_binary _ a (number mask) h (number_own mask)) (number_own 0)
+multiple_own mask a h = two_own of_binary _ (bit_and a (number mask)) (number 0) (two_own of_binary _ a (number mask) h (number_own mask)) (number_own 0)
 
 load_tests_own : (kind : LoadKind) (a : Term) → Own a → All Own (load_tests kind a)
 load_tests_own load_kind.Byte a h = All-nil Own
-load_tests_own load_kind.Half a h = one_test is_binary (is_multiple 1 a) (multiple_own 1 a h)
-load_tests_own load_kind.Word a h = one_test is_binary (is_multiple 3 a) (multiple_own 3 a h)
+load_tests_own load_kind.Half a h = one_test of_binary (is_multiple 1 a) (multiple_own 1 a h)
+load_tests_own load_kind.Word a h = one_test of_binary (is_multiple 3 a) (multiple_own 3 a h)
 load_tests_own load_kind.ByteUnsigned a h = All-nil Own
-load_tests_own load_kind.HalfUnsigned a h = one_test is_binary (is_multiple 1 a) (multiple_own 1 a h)
+load_tests_own load_kind.HalfUnsigned a h = one_test of_binary (is_multiple 1 a) (multiple_own 1 a h)
 
 aligned_own : (kind : StoreKind) (a : Term) → Own a → All Own (aligned_for kind a)
 aligned_own store_kind.Byte a h = All-nil Own
-aligned_own store_kind.Half a h = one_test is_binary (is_multiple 1 a) (multiple_own 1 a h)
-aligned_own store_kind.Word a h = one_test is_binary (is_multiple 3 a) (multiple_own 3 a h)
+aligned_own store_kind.Half a h = one_test of_binary (is_multiple 1 a) (multiple_own 1 a h)
+aligned_own store_kind.Word a h = one_test of_binary (is_multiple 3 a) (multiple_own 3 a h)
 
 last_own : (kind : StoreKind) (a : Term) → Own a → Own (last_written kind a)
 last_own store_kind.Byte a h = h
-last_own store_kind.Half a h = past_own is_binary a 1 h
-last_own store_kind.Word a h = past_own is_binary a 3 h
+last_own store_kind.Half a h = past_own of_binary a 1 h
+last_own store_kind.Word a h = past_own of_binary a 3 h
 
 avoids_own : (a e : Term) (runs : List Run) → Own a → Own e → All Own (map (avoids a e) runs)
 avoids_own a e [] h k = All-nil Own
 avoids_own a e (run ∷ runs) h k =
     All-cons Own (avoids a e run) (map (avoids a e) runs)
-    (two_own is_binary _ (less (number (run.start + length run.bytes - 1)) a) (less e (number run.start))
-    (two_own is_binary _ (number (run.start + length run.bytes - 1)) a (number_own _) h) (two_own is_binary _ e (number run.start) k (number_own run.start)))
+    (two_own of_binary _ (less (number (run.start + length run.bytes - 1)) a) (less e (number run.start))
+    (two_own of_binary _ (number (run.start + length run.bytes - 1)) a (number_own _) h) (two_own of_binary _ e (number run.start) k (number_own run.start)))
     (avoids_own a e runs h k)
 
 access_own : (runs : List Run) (i : Instr) → All Own (access_tests runs i)
@@ -150,7 +154,7 @@ access_own runs instr.Ecall = All-nil Own
 access_own runs instr.Ebreak = All-nil Own
 
 home_own : Own returns_home
-home_own = two_own is_binary _ (open_term (register 1)) (open_term (entry_register 1)) (register_own 1) (open_own is_binary (entry_register 1) refl)
+home_own = two_own of_binary _ (open_term (register 1)) (open_term (entry_register 1)) (register_own 1) (open_own of_binary (entry_register 1) refl)
 
 -- ---- bindings
 
@@ -185,19 +189,19 @@ effects_own pc instr.Ebreak = none
 
 branch_own : (i : Instr) → Own (branch_test i)
 unfolding branch_test
-branch_own (instr.Lui rd imm) = truth_own is_binary false
-branch_own (instr.Auipc rd imm) = truth_own is_binary false
-branch_own (instr.Jal rd offset) = truth_own is_binary false
-branch_own (instr.Jalr rd base offset) = truth_own is_binary false
+branch_own (instr.Lui rd imm) = truth_own of_binary false
+branch_own (instr.Auipc rd imm) = truth_own of_binary false
+branch_own (instr.Jal rd offset) = truth_own of_binary false
+branch_own (instr.Jalr rd base offset) = truth_own of_binary false
 branch_own (instr.Branch test left right offset) = taken_own test (operand left) (operand right) (operand_own left) (operand_own right)
-branch_own (instr.Load kind rd base offset) = truth_own is_binary false
-branch_own (instr.Store kind base source offset) = truth_own is_binary false
-branch_own (instr.Immediate operation rd source imm) = truth_own is_binary false
-branch_own (instr.Shift operation rd source amount) = truth_own is_binary false
-branch_own (instr.Arithmetic operation rd left right) = truth_own is_binary false
-branch_own (instr.Fence rd source bits) = truth_own is_binary false
-branch_own instr.Ecall = truth_own is_binary false
-branch_own instr.Ebreak = truth_own is_binary false
+branch_own (instr.Load kind rd base offset) = truth_own of_binary false
+branch_own (instr.Store kind base source offset) = truth_own of_binary false
+branch_own (instr.Immediate operation rd source imm) = truth_own of_binary false
+branch_own (instr.Shift operation rd source amount) = truth_own of_binary false
+branch_own (instr.Arithmetic operation rd left right) = truth_own of_binary false
+branch_own (instr.Fence rd source bits) = truth_own of_binary false
+branch_own instr.Ecall = truth_own of_binary false
+branch_own instr.Ebreak = truth_own of_binary false
 
 entries_own : (rs : List ℕ) → AreOwnBindings is_binary (map entry_binding rs)
 entries_own [] = none
@@ -236,11 +240,11 @@ tests_own f i (Branches target) = All-nil Own
 tests_own f i (Jumps target) = at (leaves f target)
   where
     at : (b : Bool) → All Own (if b then returns_home ∷ [] else [])
-    at true = one_test is_binary returns_home home_own
+    at true = one_test of_binary returns_home home_own
     at false = All-nil Own
 tests_own f i (Calls target) = All-nil Own
 tests_own f i (Links target) = All-nil Own
-tests_own f i Returns = one_test is_binary returns_home home_own
+tests_own f i Returns = one_test of_binary returns_home home_own
 tests_own f i Stops = All-nil Own
 
 ending_good : (f : Setting) (a : ℕ) (i : Instr) (flow : Flow) → EndsGood (ending_of f a i flow)

@@ -7,7 +7,7 @@ use Rattle.elf_spec.specs.declared.SymbolValues.TheVariants.{One}
 use Rattle.code_spec.specs.Code.{IsStack}
 use Rattle.code_graph_laws.specs.Together.{setting}
 use Rattle.code_graph_laws.proofs.ValidGraphs.{code_graph_valid}
-use Rattle.agreement_laws.specs.Agreement.{Agrees, AgreesWith, IsValid}
+use Rattle.claim_spec.specs.Claim.{Agrees, AgreesWith, IsValid}
 use Rattle.agreement_laws.specs.EntryFrame.{Pair, entry_frame, entry_premises}
 use Rattle.agreement_laws.specs.Statements.{IsPair, IsSimulatedAtEntry}
 use Rattle.agreement_laws.proofs.Agreement.{simulation_agrees, simulated_valid}
@@ -16,7 +16,7 @@ use Rattle.proof_laws.specs.Derivation.{Function, pair_for, AtEntry, IsFunction,
 use Rattle.proof_laws.specs.Statements.{AreSimulated}
 use Rattle.proof_laws.proofs.Simulated.{simulated}
 
-is_pair : (q : Pair) (g : Function) → AreSides q → IsFunction q g → IsPair (pair_for q g)
+pub is_pair : (q : Pair) (g : Function) → AreSides q → IsFunction q g → IsPair (pair_for q g)
 is_pair q g sides is = record {
   is_function = is.is_there;
   no_fault = is.no_fault;

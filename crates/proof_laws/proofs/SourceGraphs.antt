@@ -1,8 +1,11 @@
--- Graphs of C speak of locals, whether they are set, memory and further words; and what their calls bind.
+-- Graphs of C speak of locals, whether they are set, one memory and further words; and what their calls bind.
 use Rattle.std.proofs.Common.{◌≡◌, ◌∙◌, ℕ, suc, ◌+◌, true, false, ℤ, refl, sym, ap, List, [], ◌∷◌, ◌++◌, length, map, All, Option, Some, None, bytes_eq, Bool, cond, if◌then◌else◌, arith}
-use Rattle.std.specs.Prelude.{⊤}
-use Rattle.std.proofs.lemmas.List.Elements.{All-nil, All-cons, All-append, All-head, All-tail}
+use Rattle.std.specs.Prelude.{⊤, ◌||◌, not}
+use Rattle.std.proofs.lemmas.List.Elements.{All-nil, All-cons, All-append, All-head, All-tail, All-weaker}
+use Rattle.std.proofs.lemmas.Bool.{and_parts}
 use Rattle.std.proofs.lemmas.Slice.Eq.{bytes_eq-Decides}
+use Rattle.term_spec.specs.declared.Variable.{Variable}
+use Rattle.term_spec.specs.Same.{same_variable}
 use Rattle.term_spec.specs.Term.{Term, Occurs, truth, open_term, equal}
 use Rattle.graph_spec.specs.declared.Next.{Next}
 use Rattle.graph_spec.specs.declared.Next.TheVariants.{At, Ret, Err}
@@ -26,7 +29,7 @@ use Rattle.rule_spec.specs.Calls.{IsGivenTerm}
 use Rattle.rule_spec.specs.Proper.{IsOwnBinding, AreOwnBindings, IsOwnNode, IsOwnGraph}
 use Rattle.proof_laws.proofs.Speaking.{const_own, truth_own, open_own, two_own}
 use Rattle.proof_laws.proofs.PlainLines.{result_given}
-use Rattle.proof_laws.proofs.SourceSpeaks.{Own, width_own, stored_own, speaks, writes_own, tests_own}
+use Rattle.proof_laws.proofs.SourceSpeaks.{is_source_memory, is_spoken, Own, width_own, stored_own, speaks, writes_own, tests_own}
 
 -- ---- what a call node binds: an argument of its type for each parameter; and where it is back what its callee gives
 
@@ -37,22 +40,49 @@ HasCallShape unit f (graph.Call callee ins outs lands) =
     (function : List ℕ) × (arguments : List Core) × (type : FunctionType) × (callee ≡ f.graph_number function) × (ins ≡ inputs f 0 arguments)
     × (entry_of unit.functions function ≡ Some type) × (map type_of arguments ≡ type.parameters) × All (λ (b : Binding). IsGivenTerm b.term) outs
 
+-- ---- nodes whose terms and variables are of the source, with its only memory
+
+abbrev pub IsSpokenBinding : Binding → Type 0
+IsSpokenBinding b = (is_spoken b.variable ≡ true) × Own b.term
+
+abbrev pub AreSpokenBindings : List Binding → Type 0
+AreSpokenBindings bindings = All IsSpokenBinding bindings
+
+abbrev pub IsSpokenNode : Node → Type 0
+IsSpokenNode (Basic bindings next) = AreSpokenBindings bindings
+IsSpokenNode (Cond test on_true on_false) = Own test
+IsSpokenNode (graph.Call callee ins outs lands) = AreSpokenBindings ins × AreSpokenBindings outs
+
+abbrev pub IsSpokenGraph : Graph → Type 0
+IsSpokenGraph g = All IsSpokenNode g.nodes
+
+of_source : (v : Variable) → is_spoken v ≡ true → is_source v.family ≡ true
+of_source v h = (and_parts (is_source v.family) (not (is_source_memory v.family) || same_variable v memory) h).0
+
+bindings_of_source : (bindings : List Binding) → AreSpokenBindings bindings → AreOwnBindings is_source bindings
+bindings_of_source bindings all = All-weaker IsSpokenBinding (IsOwnBinding is_source) (λ b h. (of_source b.variable h.0, λ v o. of_source v (h.1 v o))) bindings all
+
+node_of_source : (node : Node) → IsSpokenNode node → IsOwnNode is_source node
+node_of_source (Basic bindings next) h = bindings_of_source bindings h
+node_of_source (Cond test on_true on_false) h = λ v o. of_source v (h v o)
+node_of_source (graph.Call callee ins outs lands) h = (bindings_of_source ins h.0, bindings_of_source outs h.1)
+
 -- ---- bindings
 
-none : AreOwnBindings is_source []
-none = All-nil (IsOwnBinding is_source)
+none : AreSpokenBindings []
+none = All-nil IsSpokenBinding
 
-set_own : (index : ℕ) (type : Scalar) (x : Term) → Own x → AreOwnBindings is_source (set_local index type x)
+set_own : (index : ℕ) (type : Scalar) (x : Term) → Own x → AreSpokenBindings (set_local index type x)
 set_own index type x h =
-    All-cons (IsOwnBinding is_source) (binding (local index type) x) (binding (is_set index) (truth true) ∷ []) (refl, h)
-    (All-cons (IsOwnBinding is_source) (binding (is_set index) (truth true)) [] (refl, truth_own is_source true) none)
+    All-cons IsSpokenBinding (binding (local index type) x) (binding (is_set index) (truth true) ∷ []) (refl, h)
+    (All-cons IsSpokenBinding (binding (is_set index) (truth true)) [] (refl, truth_own is_spoken true) none)
 
-outputs_own : (place : Option ℕ) (local_type : ℕ → Scalar) (type : Option Scalar) → AreOwnBindings is_source (result_put place local_type type)
+outputs_own : (place : Option ℕ) (local_type : ℕ → Scalar) (type : Option Scalar) → AreSpokenBindings (result_put place local_type type)
 outputs_own None local_type type = none
 outputs_own (Some index) local_type None = none
 outputs_own (Some index) local_type (Some type) =
     set_own index (local_type index) (at_width type (width_of (local_type index)) (open_term (result type)))
-    (width_own type (width_of (local_type index)) (open_term (result type)) (open_own is_source (result type) refl))
+    (width_own type (width_of (local_type index)) (open_term (result type)) (open_own is_spoken (result type) refl))
 
 outputs_given : (place : Option ℕ) (local_type : ℕ → Scalar) (type : Option Scalar) → All (λ (b : Binding). IsGivenTerm b.term) (result_put place local_type type)
 unfolding Occurs
@@ -65,10 +95,10 @@ outputs_given (Some index) local_type (Some type) =
 
 module _ (unit : Typed) (f : Setting) where
   abbrev IsGood : Node → Type 0
-  IsGood node = IsOwnNode is_source node × HasCallShape unit f node
+  IsGood node = IsSpokenNode node × HasCallShape unit f node
 
   base_own : Own no_object.base
-  base_own = const_own is_source _ 0
+  base_own = const_own is_spoken _ 0
 
   word_own : (x : Core) → Own (value_in f x)
   word_own x = (speaks f.place.globals no_object base_own x).0
@@ -84,13 +114,13 @@ module _ (unit : Typed) (f : Setting) where
   arguments_own [] = All-nil Own
   arguments_own (x ∷ list) = All-append Own (tests_in f x) (argument_tests f list) (all_tests x) (arguments_own list)
 
-  inputs_own : (index : ℕ) (list : List Core) → AreOwnBindings is_source (inputs f index list)
+  inputs_own : (index : ℕ) (list : List Core) → AreSpokenBindings (inputs f index list)
   unfolding inputs
   inputs_own index [] =
-      All-cons (IsOwnBinding is_source) (binding zone_low (open_term zone_low)) (binding zone_high (open_term zone_high) ∷ []) (refl, open_own is_source zone_low refl)
-      (All-cons (IsOwnBinding is_source) (binding zone_high (open_term zone_high)) [] (refl, open_own is_source zone_high refl) none)
+      All-cons IsSpokenBinding (binding zone_low (open_term zone_low)) (binding zone_high (open_term zone_high) ∷ []) (refl, open_own is_spoken zone_low refl)
+      (All-cons IsSpokenBinding (binding zone_high (open_term zone_high)) [] (refl, open_own is_spoken zone_high refl) none)
   inputs_own index (x ∷ list) =
-      All-append (IsOwnBinding is_source) (set_local index (type_of x) (value_in f x)) (inputs f (suc index) list) (set_own index (type_of x) (value_in f x) (word_own x)) (inputs_own (suc index) list)
+      All-append IsSpokenBinding (set_local index (type_of x) (value_in f x)) (inputs f (suc index) list) (set_own index (type_of x) (value_in f x) (word_own x)) (inputs_own (suc index) list)
 
   store_own : (type : Scalar) (address : Core) (displacement : ℕ) (x : Core) → All Own (store_tests f type address displacement x) × Own (memory_stored f type address displacement x)
   store_own type address displacement x =
@@ -120,7 +150,7 @@ module _ (unit : Typed) (f : Setting) where
   selection_good type x h [] at other = All-nil IsGood
   selection_good type x h (one ∷ entries) at other =
       All-cons IsGood (Cond (equal x (value_constant type one.0)) one.1 (first (length entries) (suc at) other)) (selection type x entries (suc at) other)
-      (two_own is_source _ x (value_constant type one.0) h (const_own is_source (width_of type) _), tt) (selection_good type x h entries (suc at) other)
+      (two_own is_spoken _ x (value_constant type one.0) h (const_own is_spoken (width_of type) _), tt) (selection_good type x h entries (suc at) other)
 
   module _ (body : Body) where
     types_are : (list : List Core) (types : List Scalar) → HaveTypes (scope_of unit body) list types → map type_of list ≡ types
@@ -140,11 +170,11 @@ module _ (unit : Typed) (f : Setting) where
       nodes_good _ (typed.set index x t is has) at to e =
           guarded_good (tests_in f x) at (Basic (set_local index (type_of x) (value_in f x)) to) (all_tests x) (set_own index (type_of x) (value_in f x) (word_own x), tt)
       nodes_good _ (typed.unset index t is) at to e =
-          one_node (Basic (binding (is_set index) (truth false) ∷ []) to) (All-cons (IsOwnBinding is_source) (binding (is_set index) (truth false)) [] (refl, truth_own is_source false) none, tt)
+          one_node (Basic (binding (is_set index) (truth false) ∷ []) to) (All-cons IsSpokenBinding (binding (is_set index) (truth false)) [] (refl, truth_own is_spoken false) none, tt)
       nodes_good _ (typed.store t address displacement x offset ha hx) at to e =
           let are = store_own t address displacement x in
           guarded_good (store_tests f t address displacement x) at (Basic (binding memory (memory_stored f t address displacement x) ∷ []) to) are.0
-          (All-cons (IsOwnBinding is_source) (binding memory (memory_stored f t address displacement x)) [] (refl, are.1) none, tt)
+          (All-cons IsSpokenBinding (binding memory (memory_stored f t address displacement x)) [] (refl, are.1) none, tt)
       nodes_good _ (typed.call index function arguments place type named haves receives) at to e =
           let node = graph.Call (f.graph_number function) (inputs f 0 arguments) (outputs f function place) (at + length (argument_tests f arguments) + 1) in
           All-append IsGood (guarded (argument_tests f arguments) at node) (Basic [] to ∷ [])
@@ -188,8 +218,8 @@ module _ (unit : Typed) (f : Setting) where
       nodes_good _ (typed.give_back None is) at to e = All-nil IsGood
       nodes_good _ (typed.give_back (Some x) is) at to e =
           guarded_good (tests_in f x) at (Basic (binding (result (type_of x)) (value_in f x) ∷ []) Ret) (all_tests x)
-          (All-cons (IsOwnBinding is_source) (binding (result (type_of x)) (value_in f x)) [] (refl, word_own x) none, tt)
-      nodes_good _ (typed.missing_return offset) at to e = one_node (Cond (truth false) Err Err) (truth_own is_source false, tt)
+          (All-cons IsSpokenBinding (binding (result (type_of x)) (value_in f x)) [] (refl, word_own x) none, tt)
+      nodes_good _ (typed.missing_return offset) at to e = one_node (Cond (truth false) Err Err) (truth_own is_spoken false, tt)
 
       groups_good : (t : Scalar) (list : Groups) → AreTyped (scope_of unit body) t list → (at : ℕ) (to : Next) (e : Exits) → All IsGood (groups_nodes f list at to e)
       groups_good _ _ (typed.last_group t) at to e = All-nil IsGood
@@ -209,15 +239,19 @@ graph_good unit p body is =
 pub source_call_shape : (unit : Typed) (p : Place) (body : Body) → IsTypedBody unit body → All (HasCallShape unit (setting_of unit p body)) (graph_of unit p body).nodes
 source_call_shape unit p body is k d below = (graph_good unit p body is k d below).1
 
-each_own : (unit : Typed) (p : Place) (bodies : List Body) → All (λ (b : Body). IsTypedBody unit b) bodies → All (IsOwnGraph is_source) (map (graph_of unit p) bodies)
-each_own unit p [] are = All-nil (IsOwnGraph is_source)
-each_own unit p (body ∷ bodies) are =
-    All-cons (IsOwnGraph is_source) (graph_of unit p body) (map (graph_of unit p) bodies)
+each_spoken : (unit : Typed) (p : Place) (bodies : List Body) → All (λ (b : Body). IsTypedBody unit b) bodies → All IsSpokenGraph (map (graph_of unit p) bodies)
+each_spoken unit p [] are = All-nil IsSpokenGraph
+each_spoken unit p (body ∷ bodies) are =
+    All-cons IsSpokenGraph (graph_of unit p body) (map (graph_of unit p) bodies)
     (λ k d below. (graph_good unit p body (All-head (λ (b : Body). IsTypedBody unit b) body bodies are) k d below).0)
-    (each_own unit p bodies (All-tail (λ (b : Body). IsTypedBody unit b) body bodies are))
+    (each_spoken unit p bodies (All-tail (λ (b : Body). IsTypedBody unit b) body bodies are))
+
+pub source_is_spoken : (unit : Typed) (p : Place) → All (λ (b : Body). IsTypedBody unit b) unit.bodies → All IsSpokenGraph (graphs_of unit p)
+source_is_spoken unit p are = each_spoken unit p unit.bodies are
 
 pub source_is_own : (unit : Typed) (p : Place) → All (λ (b : Body). IsTypedBody unit b) unit.bodies → All (IsOwnGraph is_source) (graphs_of unit p)
-source_is_own unit p are = each_own unit p unit.bodies are
+source_is_own unit p are =
+    All-weaker IsSpokenGraph (IsOwnGraph is_source) (λ g h. All-weaker IsSpokenNode (IsOwnNode is_source) node_of_source g.nodes h) (graphs_of unit p) (source_is_spoken unit p are)
 
 -- ---- names and numbers of functions
 

@@ -1,9 +1,8 @@
--- Terms whose variables are of one side.
+-- Terms whose variables pass a test.
 use Rattle.std.proofs.Common.{◌≡◌, ◌∙◌, ℕ, Bool, true, false, if◌then◌else◌, List, [], ◌∷◌, map, All, ap, inl, inr}
 use Rattle.std.proofs.lemmas.List.Elements.{All-nil, All-cons, All-head, All-tail}
 use Rattle.term_spec.specs.declared.Width.{Width}
 use Rattle.term_spec.specs.declared.Width.TheVariants.{W32, W64}
-use Rattle.term_spec.specs.declared.Family.{Family}
 use Rattle.term_spec.specs.declared.Variable.{Variable}
 use Rattle.term_spec.specs.declared.UnaryOperator.{UnaryOperator}
 use Rattle.term_spec.specs.declared.BinaryOperator.{BinaryOperator}
@@ -11,11 +10,10 @@ use Rattle.term_spec.specs.declared.TernaryOperator.{TernaryOperator}
 use Rattle.term_spec.specs.declared.QuaternaryOperator.{QuaternaryOperator}
 use Rattle.term_spec.specs.Term.{Term, Unary, Binary, Ternary, Quaternary, Occurs, truth, constant, open_term, not_term, and_term, equal, bit_xor, divide, remainder, multiply, zero_extend, sign_extend, byte, load, store}
 use Rattle.term_spec.specs.Shapes.{sign_bit, signed_less, is_positive, negated, magnitude, signed_quotient, signed_remainder, high_half, high_product, high_product_signed, high_product_signed_unsigned, past, load_half, load_word, store_byte, store_half, store_word}
-use Rattle.rule_spec.specs.Proper.{IsOwnTerm}
 
-module _ (own : Family → Bool) where
+module _ (own : Variable → Bool) where
   abbrev pub Own : Term → Type 0
-  Own t = IsOwnTerm own t
+  Own t = (v : Variable) → Occurs v t → own v ≡ true
 
   pub const_own : (w : Width) (n : ℕ) → Own (constant w n)
   unfolding Occurs
@@ -25,9 +23,9 @@ module _ (own : Family → Bool) where
   unfolding Occurs
   truth_own b v o = absurd o
 
-  pub open_own : (w : Variable) → own w.family ≡ true → Own (open_term w)
+  pub open_own : (w : Variable) → own w ≡ true → Own (open_term w)
   unfolding Occurs
-  open_own w h v o = ap (λ (u : Variable). own u.family) o ∙ h
+  open_own w h v o = ap own o ∙ h
 
   pub one_own : (op : UnaryOperator) (x : Term) → Own x → Own (Unary op x)
   unfolding Occurs

@@ -16,7 +16,7 @@ use Rattle.proof_spec.specs.Frames.{Start, Goal, Hold}
 use Rattle.rule_spec.specs.Points.{is_binary, is_source}
 use Rattle.rule_spec.specs.Proper.{IsOwnGraph}
 use Rattle.rule_spec.specs.Systems.{IsSimulated}
-use Rattle.agreement_laws.specs.Agreement.{Agrees, IsValid}
+use Rattle.claim_spec.specs.Claim.{Agrees, IsValid}
 use Rattle.agreement_laws.specs.EntryFrame.{Pair, convention_of, entry_premises}
 use Rattle.agreement_laws.specs.Statements.{IsPair, IsSimulatedAtEntry}
 use Rattle.agreement_laws.specs.Callers.{frame_of}

@@ -8,12 +8,16 @@ use Rattle.c_grammar_spec.specs.declared.LeftOut.{LeftOut}
 use Rattle.c_grammar_spec.specs.declared.LeftOut.TheVariants as left_out
 use Rattle.c_grammar_spec.specs.declared.ParseFaultKind.{ParseFaultKind}
 use Rattle.c_grammar_spec.specs.declared.ParseFaultKind.TheVariants.{Unexpected, LeftOut as LeftOutKind, Depth}
+use Rattle.c_type_spec.specs.declared.LeftOut.{LeftOut as TypeLeftOut}
+use Rattle.c_type_spec.specs.declared.LeftOut.TheVariants as type_left_out
+use Rattle.c_type_spec.specs.declared.TypeFaultKind.{TypeFaultKind}
+use Rattle.c_type_spec.specs.declared.TypeFaultKind.TheVariants as typing
 use Rattle.code_spec.specs.declared.CodeKind.{CodeKind}
 use Rattle.code_spec.specs.declared.CodeKind.TheVariants.{NoFunction, Ambiguous, Empty, Writable, Misplaced, Undecoded, Indirect, Leaves, Overlap}
 use Rattle.report_spec.specs.declared.Quantity.{Quantity}
 use Rattle.report_spec.specs.declared.Quantity.TheVariants.{Elf, C, Functions}
 use Rattle.report_spec.specs.declared.SourceKind.{SourceKind}
-use Rattle.report_spec.specs.declared.SourceKind.TheVariants.{Token, Syntax, Later}
+use Rattle.report_spec.specs.declared.SourceKind.TheVariants.{Token, Syntax, Typing}
 use Rattle.report_spec.specs.declared.PairKind.{PairKind}
 use Rattle.report_spec.specs.declared.PairKind.TheVariants.{NothingListed, NoSource, NoSymbol}
 
@@ -65,10 +69,30 @@ syntax_word Unexpected = codes "Unexpected"
 syntax_word (LeftOutKind part) = codes "LeftOut." ++ left_out_word part
 syntax_word Depth = codes "Depth"
 
+abbrev pub type_left_out_word : TypeLeftOut → List ℕ
+type_left_out_word type_left_out.Word64 = codes "Word64"
+type_left_out_word type_left_out.Struct = codes "Struct"
+type_left_out_word type_left_out.Array = codes "Array"
+type_left_out_word type_left_out.Difference = codes "Difference"
+type_left_out_word type_left_out.FunctionName = codes "FunctionName"
+type_left_out_word type_left_out.CallPlace = codes "CallPlace"
+type_left_out_word type_left_out.StaticLocal = codes "StaticLocal"
+
+abbrev pub type_word : TypeFaultKind → List ℕ
+type_word typing.Unknown = codes "Unknown"
+type_word typing.Twice = codes "Twice"
+type_word typing.Mismatch = codes "Mismatch"
+type_word typing.NotLvalue = codes "NotLvalue"
+type_word typing.AddressOfLocal = codes "AddressOfLocal"
+type_word typing.Incomplete = codes "Incomplete"
+type_word typing.TooManyWords = codes "TooManyWords"
+type_word typing.Fallthrough = codes "Fallthrough"
+type_word (typing.LeftOut part) = codes "LeftOut." ++ type_left_out_word part
+
 abbrev pub source_word : SourceKind → List ℕ
 source_word (Token kind) = token_word kind
 source_word (Syntax kind) = syntax_word kind
-source_word Later = codes "Later"
+source_word (Typing kind) = type_word kind
 
 abbrev pub pair_word : PairKind → List ℕ
 pair_word NothingListed = codes "NothingListed"

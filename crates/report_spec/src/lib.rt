@@ -5,6 +5,7 @@
 
 use c_grammar_spec::ParseFaultKind;
 use c_spec::token::TokenFaultKind;
+use c_type_spec::TypeFaultKind;
 
 /// A quantity with a maximum.
 #[derive(Clone, Copy, Debug, PartialEq, Eq)]
@@ -18,14 +19,14 @@ pub enum Quantity {
 }
 
 /// Why the C source is refused.
-#[derive(Clone, Copy, Debug, PartialEq, Eq)]
+#[derive(Clone, Copy)]
 pub enum SourceKind {
     /// The text has no tokens.
     Token(TokenFaultKind),
     /// The tokens are no unit of the grammar.
     Syntax(ParseFaultKind),
-    /// The unit is not of the one form that is judged so far.
-    Later,
+    /// The unit has no types.
+    Typing(TypeFaultKind),
 }
 
 /// Why the functions of an executable and of a source don't go together.

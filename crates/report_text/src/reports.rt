@@ -10,6 +10,7 @@ use crate::{Judgement, Verdict};
 use attempt::attempt;
 use c_grammar_spec::{LeftOut, ParseFaultKind};
 use c_spec::token::TokenFaultKind;
+use c_type_spec::{LeftOut as TypeLeftOut, TypeFaultKind};
 use code_spec::CodeKind;
 use elf_spec::ElfKind;
 use itoa::Buffer;
@@ -119,6 +120,38 @@ fn push_syntax_word(out: &mut Vec<u8>, kind: ParseFaultKind) -> Result<(), Alloc
     }
 }
 
+/// The word of a part of C that is left out, which typing alone can see.
+fn type_left_out_word(part: TypeLeftOut) -> &'static [u8]
+    ensures { result.now ≡ words.type_left_out_word part }
+{
+    match part {
+        TypeLeftOut::Word64 => b"Word64",
+        TypeLeftOut::Struct => b"Struct",
+        TypeLeftOut::Array => b"Array",
+        TypeLeftOut::Difference => b"Difference",
+        TypeLeftOut::FunctionName => b"FunctionName",
+        TypeLeftOut::CallPlace => b"CallPlace",
+        TypeLeftOut::StaticLocal => b"StaticLocal",
+    }
+}
+
+/// The word of a refusal of a unit.
+fn push_type_word(out: &mut Vec<u8>, kind: TypeFaultKind) -> Result<(), AllocError>
+    ensures { OnOk result (out.new.items ≡ out.old.items ++ words.type_word kind) }
+{
+    match kind {
+        TypeFaultKind::Unknown => out.extend_from_slice(b"Unknown"),
+        TypeFaultKind::Twice => out.extend_from_slice(b"Twice"),
+        TypeFaultKind::Mismatch => out.extend_from_slice(b"Mismatch"),
+        TypeFaultKind::NotLvalue => out.extend_from_slice(b"NotLvalue"),
+        TypeFaultKind::AddressOfLocal => out.extend_from_slice(b"AddressOfLocal"),
+        TypeFaultKind::Incomplete => out.extend_from_slice(b"Incomplete"),
+        TypeFaultKind::TooManyWords => out.extend_from_slice(b"TooManyWords"),
+        TypeFaultKind::Fallthrough => out.extend_from_slice(b"Fallthrough"),
+        TypeFaultKind::LeftOut(part) => push_all(out, &[b"LeftOut.", type_left_out_word(part)]),
+    }
+}
+
 /// The word of a refusal of a source.
 fn push_source_word(out: &mut Vec<u8>, kind: SourceKind) -> Result<(), AllocError>
     ensures { OnOk result (out.new.items ≡ out.old.items ++ words.source_word kind) }
@@ -126,7 +159,7 @@ fn push_source_word(out: &mut Vec<u8>, kind: SourceKind) -> Result<(), AllocErro
     match kind {
         SourceKind::Token(kind) => out.extend_from_slice(token_word(kind)),
         SourceKind::Syntax(kind) => push_syntax_word(out, kind),
-        SourceKind::Later => out.extend_from_slice(b"Later"),
+        SourceKind::Typing(kind) => push_type_word(out, kind),
     }
 }
 

@@ -31,8 +31,8 @@ pub enum Verdict {
         kind: ElfKind,
         offset: usize,
     },
-    /// The second file has no tokens, its tokens are no unit, or the unit is not of the form that
-    /// is judged so far. The offset counts bytes of the file.
+    /// The second file has no tokens, its tokens are no unit, or the unit has no types. The offset
+    /// counts bytes of the file.
     RefusedC {
         kind: SourceKind,
         offset: usize,

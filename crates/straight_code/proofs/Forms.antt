@@ -16,7 +16,7 @@ pub data IsPlain : Option Instr → Type 0 where
   difference_form : (rd left right : ℕ) → rd ≢ 2 → IsPlain (Some (Arithmetic Subtract rd left right))
   immediate_form : (rd source : ℕ) (imm : ℤ) → rd ≢ 2 → IsPlain (Some (Immediate immediate.Add rd source imm))
 
-not_true : (b : Bool) → not b ≡ true → b ≡ false
+pub not_true : (b : Bool) → not b ≡ true → b ≡ false
 not_true true e = absurd (cc)
 not_true false e = refl
 
@@ -26,7 +26,7 @@ plain_form (Some (Arithmetic Subtract rd left right)) e = difference_form rd lef
 plain_form (Some (Immediate immediate.Add rd source imm)) e = immediate_form rd source imm (eqb-false rd 2 (not_true (rd == 2) e))
 plain_form other e = absurd (cc)
 
-both_true : (a b : Bool) → (a && b) ≡ true → (a ≡ true) × (b ≡ true)
+pub both_true : (a b : Bool) → (a && b) ≡ true → (a ≡ true) × (b ≡ true)
 both_true true b e = (refl, e)
 both_true false b e = absurd (cc)
 

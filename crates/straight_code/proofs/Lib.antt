@@ -4,6 +4,8 @@ pub mod Fetch
 pub mod Values
 pub mod Terms
 pub mod Run
+pub mod SourceRuns
+pub mod Blocks
 pub mod Result
 pub mod Agree
 pub mod Loops

@@ -1,5 +1,5 @@
 -- When straight-line code is accepted: the normal forms of a few equations are true.
-use Rattle.std.specs.Prelude.{ℕ, zero, suc, ◌+◌, ◌==◌, Bool, if◌then◌else◌, List, [], ◌∷◌, ◌++◌, map, get_or, slice_set, Option, Some}
+use Rattle.std.specs.Prelude.{ℕ, zero, suc, ◌+◌, ◌==◌, Bool, false, if◌then◌else◌, List, [], ◌∷◌, ◌++◌, map, get_or, slice_set, Option, Some, None}
 use Rattle.std.specs.List.{list_all}
 use Rattle.rv_instr.specs.declared.Instr.{Instr}
 use Rattle.rv_instr.specs.declared.Instr.TheVariants.{Immediate, Arithmetic}
@@ -7,11 +7,7 @@ use Rattle.rv_instr.specs.declared.ArithmeticOperation.TheVariants as arithmetic
 use Rattle.rv_instr.specs.declared.ImmediateOperation.TheVariants as immediate
 use Rattle.rv_spec.specs.Arithmetic.{word}
 use Rattle.elf_spec.specs.Image.{Image}
-use Rattle.c_spec.specs.declared.Operand.{Operand}
-use Rattle.c_spec.specs.declared.Operand.TheVariants.{First, Second}
-use Rattle.c_spec.specs.declared.Operator.{Operator}
-use Rattle.c_spec.specs.declared.Operator.TheVariants.{Plus, Minus}
-use Rattle.c_spec.specs.Unit.{Unit}
+use Rattle.c_type_spec.specs.Core.{Typed}
 use Rattle.code_spec.specs.Code.{instr_at}
 use Rattle.claim_spec.specs.Convention.{kept_registers}
 use Rattle.term_spec.specs.declared.Width.TheVariants.{W32}
@@ -19,7 +15,13 @@ use Rattle.term_spec.specs.Term.{Term, constant, open_term, equal, add, subtract
 use Rattle.normal_spec.specs.Patterns.{is_true}
 use Rattle.normal_spec.specs.Normal.{normal}
 use Rattle.code_graph_spec.specs.State.{entry_register}
+use Rattle.straight_code.specs.declared.source.Operand.{Operand}
+use Rattle.straight_code.specs.declared.source.Operand.TheVariants.{First, Second}
+use Rattle.straight_code.specs.declared.source.Operator.{Operator}
+use Rattle.straight_code.specs.declared.source.Operator.TheVariants.{Plus, Minus}
+use Rattle.straight_code.specs.declared.source.Form.{Form}
 use Rattle.straight_code.specs.Straight.{words_before_last}
+use Rattle.straight_code.specs.Source.{form_named}
 
 -- what a register holds at the entry: x0 is 0 and no variable
 abbrev pub entry_term : ℕ → Term
@@ -62,22 +64,22 @@ abbrev pub operand_term : Operand → Term
 operand_term First = entry_term 10
 operand_term Second = entry_term 11
 
--- the value that the C function returns (ISO C11, 6.5.6)
+-- the value that a C function of the form returns (ISO C11, 6.5.6)
 abbrev pub result_term : Operator → Operand → Operand → Term
 result_term Plus left right = add (operand_term left) (operand_term right)
 result_term Minus left right = subtract (operand_term left) (operand_term right)
 
 -- x10 has the result
-abbrev pub result_test : Unit → Registers → Term
-result_test unit terms = equal (term_at terms 10) (result_term unit.operator unit.left unit.right)
+abbrev pub result_test : Form → Registers → Term
+result_test form terms = equal (term_at terms 10) (result_term form.operator form.left form.right)
 
 -- a register has its entry value
 abbrev pub kept_test : Registers → ℕ → Term
 kept_test terms r = equal (term_at terms r) (entry_term r)
 
 -- the return address and the kept registers have their entry values
-abbrev pub tests_of : Unit → Registers → List Term
-tests_of unit terms = result_test unit terms ∷ map (kept_test terms) (1 ∷ kept_registers)
+abbrev pub tests_of : Form → Registers → List Term
+tests_of form terms = result_test form terms ∷ map (kept_test terms) (1 ∷ kept_registers)
 
 -- the normal form is true; the terms have no memory, so no bytes are fixed
 abbrev pub is_found : Term → Bool
@@ -86,6 +88,11 @@ is_found test = is_true (normal [] test)
 abbrev pub all_found : List Term → Bool
 all_found tests = list_all is_found tests
 
--- the straight-line code of the function is found to do what the C source says
-abbrev pub accepts : Image → Unit → (entry size : ℕ) → Bool
-accepts image unit entry size = all_found (tests_of unit (final_terms image entry size))
+-- the straight-line code of a function is found to do what a C function of the form does
+abbrev pub accepts_form : Image → Option Form → (entry size : ℕ) → Bool
+accepts_form image None entry size = false
+accepts_form image (Some form) entry size = all_found (tests_of form (final_terms image entry size))
+
+-- and what the C function of a name does, which has to be of the form
+abbrev pub accepts : Image → Typed → (name : List ℕ) → (entry size : ℕ) → Bool
+accepts image unit name entry size = accepts_form image (form_named unit name) entry size

@@ -1,3 +1,5 @@
 pub mod Straight
+pub mod Source
+pub mod Units
 pub mod Decision
 pub mod Terms

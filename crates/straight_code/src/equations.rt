@@ -6,19 +6,18 @@ ghost use Rattle.term_spec.specs.Term as tree;
 ghost use Rattle.term_spec.specs.Term.{Term};
 ghost use Rattle.term_bank.specs.Nodes.{build, tree_at, Holds, Extends};
 ghost use Rattle.normal_spec.specs.Patterns.{is_true};
-ghost use Rattle.c_spec.specs.declared.Operand.{Operand as operand};
+ghost use Rattle.straight_code.specs.declared.source.Operand.{Operand as operand};
 ghost use Rattle.straight_code.specs.Decision as spec;
 
 use crate::registers::{entry_atom, place_of};
+use crate::source::{Form, Operand, Operator};
 use crate::state::Registers;
 use attempt::attempt;
-use c_spec::{Operand, Operator};
 use rv_instr::Reg;
 use std::alloc::{AllocError, Global};
 use term_bank::{Bank, TermId, TermNode};
 use term_norm::normal;
 use term_spec::{Atom, BinaryOperator, WordOperator};
-use thin_source::Unit;
 
 // The return address, and sp, gp, tp and s0 to s11, which a function keeps (RISC-V psABI, integer
 // register convention).
@@ -46,15 +45,15 @@ fn operation(operator: Operator) -> WordOperator
     }
 }
 
-// The value that the function of the source returns.
-fn result_term(bank: &mut Bank, unit: &Unit) -> Result<TermId, AllocError>
+// The value that a function of the form returns.
+fn result_term(bank: &mut Bank, form: Form) -> Result<TermId, AllocError>
     ensures tree { IfOk result (λ i. Holds bank.new i
-        (spec.result_term unit.now.operator unit.now.left unit.now.right)) }
+        (spec.result_term form.operator form.left form.right)) }
     ensures extends { Extends bank.old bank.new }
 {
-    let left = attempt!(bank.add(TermNode::Leaf(operand(unit.left()))));
-    let right = attempt!(bank.add(TermNode::Leaf(operand(unit.right()))));
-    let operator = BinaryOperator::Word(operation(unit.operator()));
+    let left = attempt!(bank.add(TermNode::Leaf(operand(form.left))));
+    let right = attempt!(bank.add(TermNode::Leaf(operand(form.right))));
+    let operator = BinaryOperator::Word(operation(form.operator));
     bank.add(TermNode::Binary(operator, left, right))
 }
 
@@ -84,12 +83,12 @@ fn is_equal(alloc: Global, bank: &mut Bank, x: TermId, y: TermId) -> Result<bool
 
 impl Registers {
     // Whether x10 has the result.
-    fn has_result(&mut self, alloc: Global, unit: &Unit) -> Result<bool, AllocError>
+    fn has_result(&mut self, alloc: Global, form: Form) -> Result<bool, AllocError>
         ensures found { IfOk result (λ yes. yes
-            ≡ spec.is_found (spec.result_test unit.now self.old)) }
+            ≡ spec.is_found (spec.result_test form self.old)) }
         ensures same { self.new ≡ self.old }
     {
-        let wanted = result_term(&mut self.bank, unit)?;
+        let wanted = result_term(&mut self.bank, form)?;
         let given = place_of(&self.places, Reg::new(10));
         is_equal(alloc, &mut self.bank, given, wanted)
     }
@@ -121,10 +120,10 @@ impl Registers {
 
     // Whether each of the equations is found to be true: the result is that of the source, and the
     // return address and the kept registers have their entry values.
-    pub(crate) fn are_accepted(&mut self, alloc: Global, unit: &Unit) -> Result<bool, AllocError>
-        ensures { IfOk result (λ yes. yes ≡ spec.all_found (spec.tests_of unit.now self.old)) }
+    pub(crate) fn are_accepted(&mut self, alloc: Global, form: Form) -> Result<bool, AllocError>
+        ensures { IfOk result (λ yes. yes ≡ spec.all_found (spec.tests_of form self.old)) }
     {
-        if !attempt!(self.has_result(alloc, unit)) {
+        if !attempt!(self.has_result(alloc, form)) {
             return Ok(false);
         }
         self.are_kept(alloc, &KEPT)

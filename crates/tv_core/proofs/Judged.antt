@@ -4,7 +4,7 @@ use Rattle.std.specs.Prelude.{IsTrue, IfOk, codes}
 use Rattle.std.proofs.lemmas.List.{take_more, take-append-drop, map-append}
 use Rattle.std.proofs.lemmas.List.Elements.{All-push, All-map}
 use Rattle.elf_spec.specs.Image.{Image}
-use Rattle.c_spec.specs.Unit.{Unit}
+use Rattle.c_type_spec.specs.Core.{Typed}
 use Rattle.claim_spec.specs.Claim.{IsValid}
 use Rattle.code_spec.specs.declared.CodeKind.{CodeKind}
 use Rattle.report_spec.specs.declared.PairKind.{PairKind}
@@ -20,7 +20,7 @@ use Rattle.report_text.specs.declared.verdicts.Verdict.{Verdict}
 use Rattle.verdict_spec.specs.Verdicts.{Lists, Pairs, Judges, judged, code_refused, nothing_listed, too_many, pair_refused, AreSound, IsJudgement, IsSoundCode, IsFirstCodeFault, HasCodeFault}
 
 -- the first names have these judgements
-pub record AreJudged (image : Image) (unit : Unit) (names : List (List ℕ)) (i : ℕ) (judgements : List spec.Judgement) : Type 0 where
+pub record AreJudged (image : Image) (unit : Typed) (names : List (List ℕ)) (i : ℕ) (judgements : List spec.Judgement) : Type 0 where
   pub of_names : map (λ j. j.name) judgements ≡ take i names
   pub each : All (IsJudgement image unit) judgements
   pub sound : All (λ j. IsTrue j.valid → IsValid image unit j.name j.stack) judgements
@@ -32,7 +32,7 @@ names_more names i name js j e at below named =
     ∙ sym (take_more names i name below)
 
 -- and one more
-pub one_more : (image : Image) (unit : Unit) (names : List (List ℕ)) (i : ℕ) (name : List ℕ) (items more : List Judgement) (judgement : Judgement)
+pub one_more : (image : Image) (unit : Typed) (names : List (List ℕ)) (i : ℕ) (name : List ℕ) (items more : List Judgement) (judgement : Judgement)
     → AreJudged image unit names i (judgements_of items) → more ≡ items ++ judgement ∷ [] → name ≡ get_or names i name → i < length names
     → judgement.name ≡ name → IsJudgement image unit (judgement_of judgement)
     → (IsTrue judgement.valid → IsValid image unit judgement.name judgement.stack)
@@ -56,7 +56,7 @@ split_at names i name at below =
     ∙ ap (λ n. take i names ++ (n ∷ drop (i + 1) names)) (sym at)
 
 -- the first name whose code has a fault
-pub first_fault : (image : Image) (unit : Unit) (names : List (List ℕ)) (i : ℕ) (name : List ℕ) (items : List Judgement) (kind : CodeKind) (address : ℕ)
+pub first_fault : (image : Image) (unit : Typed) (names : List (List ℕ)) (i : ℕ) (name : List ℕ) (items : List Judgement) (kind : CodeKind) (address : ℕ)
     → AreJudged image unit names i (judgements_of items) → name ≡ get_or names i name → i < length names
     → HasCodeFault image name kind address → IsFirstCodeFault image names kind name address
 first_fault image unit names i name items kind address before at below fault = record {
@@ -69,7 +69,7 @@ first_fault image unit names i name items kind address before at below fault = r
 }
 
 -- the verdict on it
-pub refused_by : {E : Type 0} (image : Image) (unit : Unit) (names : List (List ℕ)) (name : List ℕ) (kind : CodeKind) (address : ℕ) (r : Result Verdict E)
+pub refused_by : {E : Type 0} (image : Image) (unit : Typed) (names : List (List ℕ)) (name : List ℕ) (kind : CodeKind) (address : ℕ) (r : Result Verdict E)
     → IfOk r (λ verdict. verdict_of verdict ≡ spec.RefusedCode kind name address) → IsFirstCodeFault image names kind name address
     → IfOk r (λ verdict. (elf c : List ℕ) (functions : Option (List (List ℕ))) → Pairs elf c functions image unit names → Judges elf c functions (verdict_of verdict))
 refused_by image unit names name kind address (Ok verdict) e fault = λ elf c functions pairs.
@@ -77,14 +77,14 @@ refused_by image unit names name kind address (Ok verdict) e fault = λ elf c fu
 refused_by image unit names name kind address (Err error) e fault = tt
 
 -- all names have their judgements
-pub all_judged : (image : Image) (unit : Unit) (names : List (List ℕ)) (i : ℕ) (judgements : List spec.Judgement) → AreJudged image unit names i judgements
+pub all_judged : (image : Image) (unit : Typed) (names : List (List ℕ)) (i : ℕ) (judgements : List spec.Judgement) → AreJudged image unit names i judgements
     → length names ≤ i → (elf c : List ℕ) (functions : Option (List (List ℕ))) → Pairs elf c functions image unit names
     → Judges elf c functions (spec.Judged judgements)
 all_judged image unit names i judgements before past elf c functions pairs =
     judged image unit judgements
     (subst (Pairs elf c functions image unit) (sym (before.of_names ∙ take_all i names past)) pairs) before.each
 
-pub all_sound : (image : Image) (unit : Unit) (names : List (List ℕ)) (i : ℕ) (judgements : List spec.Judgement) → AreJudged image unit names i judgements
+pub all_sound : (image : Image) (unit : Typed) (names : List (List ℕ)) (i : ℕ) (judgements : List spec.Judgement) → AreJudged image unit names i judgements
     → length names ≤ i → (elf c : List ℕ) (functions : Option (List (List ℕ))) → Lists elf c functions image unit names
     → AreSound elf c functions judgements
 all_sound image unit names i judgements before past elf c functions lists = record {
@@ -98,21 +98,21 @@ all_sound image unit names i judgements before past elf c functions lists = reco
 
 -- ---- refused pairs
 
-abbrev Refuses : Image → Unit → List (List ℕ) → spec.Verdict → Type 0
+abbrev Refuses : Image → Typed → List (List ℕ) → spec.Verdict → Type 0
 Refuses image unit names verdict =
     (elf c : List ℕ) (functions : Option (List (List ℕ))) → Lists elf c functions image unit names → Judges elf c functions verdict
 
-pub refused_empty : {E : Type 0} (image : Image) (unit : Unit) (names : List (List ℕ)) (r : Result Verdict E)
+pub refused_empty : {E : Type 0} (image : Image) (unit : Typed) (names : List (List ℕ)) (r : Result Verdict E)
     → IfOk r (λ verdict. verdict_of verdict ≡ spec.RefusedPair NothingListed (codes "-")) → names ≡ []
     → IfOk r (λ verdict. Refuses image unit names (verdict_of verdict))
 refused_empty image unit names (Ok verdict) e none = λ elf c functions lists.
     subst (Judges elf c functions) (sym e) (nothing_listed image unit (subst (Lists elf c functions image unit) none lists))
 refused_empty image unit names (Err error) e none = tt
 
-pub refused_many : (image : Image) (unit : Unit) (names : List (List ℕ)) → MAX_FUNCTIONS < length names → Refuses image unit names (spec.TooLarge Functions)
+pub refused_many : (image : Image) (unit : Typed) (names : List (List ℕ)) → MAX_FUNCTIONS < length names → Refuses image unit names (spec.TooLarge Functions)
 refused_many image unit names many = λ elf c functions lists. too_many image unit names lists many
 
-pub refused_unpaired : {E : Type 0} (image : Image) (unit : Unit) (names : List (List ℕ)) (name : List ℕ) (r : Result Verdict E)
+pub refused_unpaired : {E : Type 0} (image : Image) (unit : Typed) (names : List (List ℕ)) (name : List ℕ) (r : Result Verdict E)
     → IfOk r (λ verdict. (kind : PairKind) × (verdict_of verdict ≡ spec.RefusedPair kind name) × (listing.pair_fault image unit name ≡ Some kind))
     → length names ≤ MAX_FUNCTIONS → listing.first_unpaired image unit names ≡ Some name → IfOk r (λ verdict. Refuses image unit names (verdict_of verdict))
 refused_unpaired image unit names name (Ok verdict) e few found = λ elf c functions lists.

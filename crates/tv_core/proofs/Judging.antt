@@ -7,16 +7,27 @@ use Rattle.c_spec.specs.Lexical.{AreTokens}
 use Rattle.c_token.specs.declared.Token.{Token}
 use Rattle.c_tree_spec.specs.Unit.{TranslationUnit}
 use Rattle.c_grammar_spec.specs.Faults.{IsUnit}
+use Rattle.c_grammar_spec.specs.Source.{HasTree}
+use Rattle.c_type_spec.specs.Units.{typed}
+use Rattle.c_types.specs.Typed.{typed_of}
+use Rattle.c_types.specs.declared.typed.Typed.{Typed}
+use Rattle.claim_spec.specs.Source.{IsC}
+use Rattle.straight_code.specs.Units.{unit_of}
 use Rattle.c_parse_token.specs.Lists.{list_of}
 use Rattle.report_text.specs.Verdicts.{verdict_of}
 use Rattle.report_text.specs.declared.verdicts.Verdict.{Verdict}
 use Rattle.tv_base.specs.declared.faults.OutsideFault.{OutsideFault}
 use Rattle.tv_base.specs.declared.faults.OutsideFault.TheVariants.{NoMemory}
-use Rattle.verdict_spec.specs.Verdicts.{IsInGrammar, Judges, IsSound}
+use Rattle.verdict_spec.specs.Verdicts.{Judges, IsSound}
 use Rattle.tv_core.specs.Files.{JudgesBy}
 
-pub in_grammar : (text : List ℕ) (lexed : List Token) (unit : TranslationUnit) → AreTokens text (list_of lexed) → IsUnit (list_of lexed) unit → IsInGrammar text
-in_grammar text lexed unit lexes parses = (unit, record { tokens = list_of lexed; lexes = lexes; parses = parses })
+pub has_tree : (text : List ℕ) (lexed : List Token) (tree : TranslationUnit) → AreTokens text (list_of lexed) → IsUnit (list_of lexed) tree → HasTree text tree
+has_tree text lexed tree lexes parses = record { tokens = list_of lexed; lexes = lexes; parses = parses }
+
+-- the source of a tree that has types
+pub is_source : (text : List ℕ) (tree : TranslationUnit) (unit : Typed) → HasTree text tree → typed tree ≡ Ok (typed_of unit) → IsC text (unit_of unit)
+unfolding unit_of
+is_source text tree unit derives has_types = record { tree = tree; derives = derives; has_types = has_types }
 
 module _ (image : Image) (c : List ℕ) (functions : Option (List (List ℕ))) where
   pub by_parts : (r : Result Verdict OutsideFault) → ((elf : List ℕ) → IsElf elf image → IfOk r (λ verdict. Judges elf c functions (verdict_of verdict)))

@@ -1,15 +1,19 @@
 -- The symbols and the bodies of a name.
 use Rattle.std.proofs.Common.{rules, ◌≡◌, ◌≢◌, ℕ, Bool, true, false, List, [], ◌∷◌, ◌<◌, length, get_or, All, cond, Option, Some, None, refl, ap, sym, ◌∙◌, subst}
-use Rattle.std.specs.Prelude.{◌==◌, ◌||◌, is_some, bytes_eq, not, find, if◌then◌else◌}
+use Rattle.std.specs.Borrow.{Bor}
+use Rattle.std.specs.Prelude.{◌==◌, is_some, not, find, filter, map, option_map, if◌then◌else◌}
 use Rattle.std.proofs.lemmas.List.Elements.{All-cons, All-get_or}
-use Rattle.std.proofs.lemmas.Slice.Eq.{bytes_eq-Decides}
 use Rattle.elf_spec.specs.Image.{Image, entry_of, function_named, named_of, named_beside, first_of, values_of}
 use Rattle.elf_spec.specs.declared.SymbolValues.{SymbolValues}
 use Rattle.elf_spec.specs.declared.SymbolValues.TheVariants.{Absent, One, Two}
-use Rattle.c_spec.specs.Unit.{Unit}
+use Rattle.c_type_spec.specs.Core as core
+use Rattle.c_types.specs.declared.typed.Body.{Body}
+use Rattle.c_types.specs.declared.typed.Typed.{Typed}
+use Rattle.c_types.specs.Typed.{bodies_of, body_in, body_of_name, typed_of}
+use Rattle.straight_code.specs.Units.{unit_of}
 use Rattle.report_spec.specs.declared.PairKind.{PairKind}
 use Rattle.report_spec.specs.declared.PairKind.TheVariants.{NoSource, NoSymbol}
-use Rattle.verdict_spec.specs.Listing.{is_present, has_symbol, listed, pair_fault, first_unpaired}
+use Rattle.verdict_spec.specs.Listing.{is_present, has_symbol, has_body, listed, pair_fault, first_unpaired}
 
 beside_one : (value entry : ℕ) (other : Option ℕ) → named_beside value other ≡ One entry → value ≡ entry
 beside_one value entry None e = cc
@@ -36,52 +40,65 @@ symbol_there image name there = present (function_named image name) there
 pub symbol_absent : (image : Image) (name : List ℕ) → function_named image name ≡ Absent → has_symbol image name ≡ false
 symbol_absent image name e = ap is_present e
 
-listed_by : (image : Image) (unit : Unit) (there : Bool) → has_symbol image unit.name ≡ there
-    → listed image unit ≡ (if there then unit.name ∷ [] else [])
-unfolding listed
-listed_by image unit there e = ap (λ b. if b then unit.name ∷ [] else []) e
+-- a name is listed if it has a symbol
+pub not_listed : (image : Image) (name : List ℕ) → function_named image name ≡ Absent → filter (has_symbol image) (name ∷ []) ≡ []
+not_listed image name absent = ap (λ b. if b then name ∷ [] else []) (symbol_absent image name absent)
 
-pub none_listed : (image : Image) (unit : Unit) → function_named image unit.name ≡ Absent → listed image unit ≡ []
-none_listed image unit absent = listed_by image unit false (symbol_absent image unit.name absent)
+pub is_listed : (image : Image) (name : List ℕ) → function_named image name ≢ Absent → filter (has_symbol image) (name ∷ []) ≡ name ∷ []
+is_listed image name there = ap (λ b. if b then name ∷ [] else []) (symbol_there image name there)
 
-pub one_listed : (image : Image) (unit : Unit) → function_named image unit.name ≢ Absent → listed image unit ≡ unit.name ∷ []
-one_listed image unit there = listed_by image unit true (symbol_there image unit.name there)
+-- the names of bodies are the keys of their map
+abbrev pub names_in : List (Bor (List ℕ)) → List (List ℕ)
+names_in keys = map (λ key. key.now) keys
+
+bodies_are : (entries : List (Bor (List ℕ) × Body)) → map (λ (b : core.Body). b.name) (bodies_of entries) ≡ names_in (map (λ entry. entry.0) entries)
+bodies_are [] = refl
+bodies_are (entry ∷ entries) = ap (λ rest. entry.0.now ∷ rest) (bodies_are entries)
+
+pub listed_are : (image : Image) (unit : Typed) → listed image (unit_of unit) ≡ filter (has_symbol image) (names_in (map (λ entry. entry.0) unit.bodies.entries))
+unfolding listed unit_of
+listed_are image unit = ap (filter (has_symbol image)) (bodies_are unit.bodies.entries)
+
+-- ---- bodies
+
+some_there : {X Y : Type 0} (f : X → Y) (o : Option X) → is_some (option_map f o) ≡ is_some o
+some_there f None = refl
+some_there f (Some x) = refl
+
+pub body_there : (unit : Typed) (name : List ℕ) (found : Option (Bor Body)) → option_map (λ b. body_of_name name b.now) found ≡ body_in (typed_of unit).bodies name
+    → is_some found ≡ has_body (unit_of unit) name
+unfolding unit_of
+body_there unit name found e = sym (some_there (λ (b : Bor Body). body_of_name name b.now) found) ∙ ap is_some e
 
 -- ---- pairs
 
 abbrev fault_by : Bool → Bool → Option PairKind
 fault_by body symbol = if not body then Some NoSource else if not symbol then Some NoSymbol else None
 
-or_false : (b : Bool) → (b || false) ≡ b
-or_false true = refl
-or_false false = refl
-
-fault_is : (image : Image) (unit : Unit) (name : List ℕ) (body symbol : Bool) → bytes_eq name unit.name ≡ body
+fault_is : (image : Image) (unit : core.Typed) (name : List ℕ) (body symbol : Bool) → has_body unit name ≡ body
     → has_symbol image name ≡ symbol → pair_fault image unit name ≡ fault_by body symbol
-fault_is image unit name body symbol e f =
-    ap (λ b. fault_by b (has_symbol image name)) (or_false (bytes_eq name unit.name) ∙ e) ∙ ap (λ s. fault_by body s) f
+fault_is image unit name body symbol e f = ap (λ b. fault_by b (has_symbol image name)) e ∙ ap (λ s. fault_by body s) f
 
-differs : (xs ys : List ℕ) (b : Bool) → bytes_eq xs ys ≡ b → (xs ≡ ys → ⊥) → b ≡ false
-differs xs ys true e apart = absurd (apart ((bytes_eq-Decides xs ys).0 e))
-differs xs ys false e apart = refl
+pub no_body : (image : Image) (unit : core.Typed) (name : List ℕ) → has_body unit name ≡ false → pair_fault image unit name ≡ Some NoSource
+no_body image unit name none = fault_is image unit name false (has_symbol image name) none refl
 
-pub no_symbol : (image : Image) (unit : Unit) (name : List ℕ) → name ≡ unit.name → function_named image name ≡ Absent
+pub no_symbol : (image : Image) (unit : core.Typed) (name : List ℕ) → has_body unit name ≡ true → function_named image name ≡ Absent
     → pair_fault image unit name ≡ Some NoSymbol
-no_symbol image unit name e absent = fault_is image unit name true false ((bytes_eq-Decides name unit.name).1 e) (symbol_absent image name absent)
+no_symbol image unit name e absent = fault_is image unit name true false e (symbol_absent image name absent)
 
-pub no_fault : (image : Image) (unit : Unit) (name : List ℕ) → name ≡ unit.name → function_named image name ≢ Absent
+pub no_fault : (image : Image) (unit : core.Typed) (name : List ℕ) → has_body unit name ≡ true → function_named image name ≢ Absent
     → pair_fault image unit name ≡ None
-no_fault image unit name e there = fault_is image unit name true true ((bytes_eq-Decides name unit.name).1 e) (symbol_there image name there)
+no_fault image unit name e there = fault_is image unit name true true e (symbol_there image name there)
 
 symbol_of_faultless : (body symbol : Bool) → fault_by body symbol ≡ None → symbol ≡ true
 symbol_of_faultless true true none = refl
 symbol_of_faultless true false none = absurd (cc)
 symbol_of_faultless false symbol none = absurd (cc)
 
-pub function_of_faultless : (image : Image) (unit : Unit) (name : List ℕ) → pair_fault image unit name ≡ None → function_named image name ≢ Absent
+pub function_of_faultless : (image : Image) (unit : core.Typed) (name : List ℕ) → pair_fault image unit name ≡ None → function_named image name ≢ Absent
 function_of_faultless image unit name none absent =
-    let e = fault_is image unit name (bytes_eq name unit.name) (has_symbol image name) refl refl in
-    let there = symbol_of_faultless (bytes_eq name unit.name) (has_symbol image name) (sym e ∙ none) in
+    let e = fault_is image unit name (has_body unit name) (has_symbol image name) refl refl in
+    let there = symbol_of_faultless (has_body unit name) (has_symbol image name) (sym e ∙ none) in
     let gone = symbol_absent image name absent in
     absurd (cc)
 
@@ -99,7 +116,7 @@ none_of None e = refl
 none_of (Some kind) e = cc
 
 -- where no name has such a fault, none at any place has
-pub all_paired : (image : Image) (unit : Unit) (names : List (List ℕ)) → first_unpaired image unit names ≡ None
+pub all_paired : (image : Image) (unit : core.Typed) (names : List (List ℕ)) → first_unpaired image unit names ≡ None
     → (i : ℕ) (d : List ℕ) → i < length names → pair_fault image unit (get_or names i d) ≡ None
 all_paired image unit names none i d below =
     none_of (pair_fault image unit (get_or names i d))
@@ -116,6 +133,6 @@ found_passes p [] x found = cc
 found_passes p (y ∷ ys) x found = found_case p y x ys (p y) refl found (found_passes p ys x)
 
 -- the first name with such a fault has one
-pub unpaired_faulty : (image : Image) (unit : Unit) (names : List (List ℕ)) (name : List ℕ) → first_unpaired image unit names ≡ Some name
+pub unpaired_faulty : (image : Image) (unit : core.Typed) (names : List (List ℕ)) (name : List ℕ) → first_unpaired image unit names ≡ Some name
     → is_some (pair_fault image unit name) ≡ true
 unpaired_faulty image unit names name found = found_passes (λ n. is_some (pair_fault image unit n)) names name found

@@ -1,5 +1,5 @@
 -- The verdict on two files, from the bytes that were read of them.
-use Rattle.std.proofs.Common.{◌≡◌, ◌≢◌, ◌⊎◌, ◌+◌, ◌<◌, ◌≤◌, ℕ, List, [], ◌∷◌, map, Option, Some, None, Ok, Err, length, take, take_all, arith, refl, sym, ap, ◌∙◌, subst, inl, inr}
+use Rattle.std.proofs.Common.{◌≡◌, ◌≢◌, ◌+◌, ◌<◌, ◌≤◌, ℕ, List, [], ◌∷◌, map, Option, Some, None, Ok, Err, length, take, take_all, arith, refl, sym, ap, ◌∙◌, subst, inl, inr}
 use Rattle.std.specs.Prelude.{IfSome, Vec, Result, IfOk}
 use Rattle.std.specs.Global.{Global}
 use Rattle.std.proofs.lemmas.List.{length-take}
@@ -7,7 +7,7 @@ use Rattle.report_spec.specs.Verdict.{Verdict, TooLarge, Judgement}
 use Rattle.report_text.specs.declared.verdicts.Verdict.{Verdict as CodeVerdict}
 use Rattle.report_text.specs.Verdicts.{verdict_of}
 use Rattle.report_spec.specs.declared.Quantity.TheVariants.{Elf, C}
-use Rattle.verdict_spec.specs.Verdicts.{IsSound, Judges, elf_refused, no_tokens, no_unit, other_form, too_many, nothing_listed, pair_refused, code_refused, judged, elf_large, c_large, within}
+use Rattle.verdict_spec.specs.Verdicts.{IsSound, Judges, elf_refused, c_refused, too_many, nothing_listed, pair_refused, code_refused, judged, elf_large, c_large, within}
 use Rattle.tv_base.specs.declared.limits.TheConstants.{MAX_ELF_BYTES, MAX_C_BYTES}
 use Rattle.tv_base.specs.declared.faults.OutsideFault.{OutsideFault}
 use Rattle.tv_base.specs.Reading.{with_name}
@@ -92,9 +92,7 @@ one_at_least (j ∷ js) some e = absurd (cc)
 -- a verdict on two files is not that of a usage error, and never an empty list of judgements
 pub of_command : (elf c : List ℕ) (functions : Option (List (List ℕ))) (verdict : Verdict) → Judges elf c functions verdict → IsOfCommand verdict
 of_command elf c functions _ (elf_refused fault offset h) = tt
-of_command elf c functions _ (no_tokens image kind offset h k) = tt
-of_command elf c functions _ (no_unit image kind offset h k) = tt
-of_command elf c functions _ (other_form image tree h k l) = tt
+of_command elf c functions _ (c_refused image kind offset h k) = tt
 of_command elf c functions _ (too_many image unit names h k) = tt
 of_command elf c functions _ (nothing_listed image unit h) = tt
 of_command elf c functions _ (pair_refused image unit names kind name h k l m) = tt

@@ -6,6 +6,7 @@ ghost use Rattle.claim_spec.specs.Claim.{IsValid};
 ghost use Rattle.code_spec.specs.Code.{IsStack};
 ghost use Rattle.code_spec.specs.Faults.{IsFirst, IsReachFault, ReachesNoFault};
 ghost use Rattle.report_spec.specs.Verdict as verdicts;
+ghost use Rattle.straight_code.specs.Units.{unit_of};
 ghost use Rattle.tv_base.specs.declared.faults.OutsideFault.TheVariants.{NoMemory};
 ghost use Rattle.report_text.specs.Judgements.{judgement_of};
 ghost use Rattle.report_text.specs.Verdicts.{verdict_of};
@@ -16,6 +17,7 @@ ghost use Rattle.verdict_spec.specs.Verdicts.{Lists, Pairs, Judges, IsSound, Has
 ghost use Rattle.verdict_spec.specs.Verdicts.{HasSoundCode, IsJudgement};
 
 use crate::listing::{first_unpaired, pair_fault};
+use c_types::typed::Typed;
 use code_reach::{CodeError, CodeFault, reach};
 use code_spec::CodeKind;
 use elf_read::Image;
@@ -24,7 +26,6 @@ use report_spec::{PairKind, Quantity};
 use report_text::{Judgement, Verdict};
 use std::alloc::{AllocError, Global};
 use straight_code::{decide, first_not_straight};
-use thin_source::Unit;
 use tv_base::OutsideFault;
 use tv_base::limits::MAX_FUNCTIONS;
 use tv_bytes::Bytes;
@@ -78,46 +79,48 @@ fn find_code(
     }
 }
 
-/// Whether the code of a function is straight-line, and is accepted. The function is the one of the
-/// source.
+/// Whether the code of the function of a name is straight-line, and is accepted.
 fn is_proved(
     alloc: Global,
     image: &Image<'_>,
-    unit: &Unit,
+    unit: &Typed<'_>,
+    name: &[u8],
     entry: u32,
     size: u32,
 ) -> Result<bool, AllocError>
-    requires sound { HasSoundCode image.now unit.now.name entry }
+    requires sound { HasSoundCode image.now name.now entry }
     requires sized { size_at image.now entry ≡ Some size }
-    ensures decided { IfOk result (λ valid. valid ≡ spec.is_proved image.now unit.now entry size) }
+    ensures decided { IfOk result (λ valid. valid
+        ≡ spec.is_proved image.now (unit_of unit.now) name.now entry size) }
     ensures stack { IfOk result (λ valid. IsTrue valid → IsStack image.now entry 0) }
     ensures sound { IfOk result (λ valid. IsTrue valid
-        → IsValid image.now unit.now unit.now.name 0) }
+        → IsValid image.now (unit_of unit.now) name.now 0) }
 {
     if first_not_straight(image, entry, size).is_some() {
         return Ok(false);
     }
-    let valid = decide(alloc, image, unit, entry, size)?;
+    let valid = decide(alloc, image, unit, name, entry, size)?;
     Ok(valid)
 }
 
-/// The judgement on a function with sound code, which is the one of the source.
+/// The judgement on the function of a name, which has sound code.
 fn judge_function(
     alloc: Global,
     image: &Image<'_>,
-    unit: &Unit,
+    unit: &Typed<'_>,
+    name: &[u8],
     entry: u32,
 ) -> Result<Judgement, AllocError>
-    requires { HasSoundCode image.now unit.now.name entry }
-    ensures judged { IfOk result (λ judgement. IsJudgement image.now unit.now
+    requires { HasSoundCode image.now name.now entry }
+    ensures judged { IfOk result (λ judgement. IsJudgement image.now (unit_of unit.now)
         (judgement_of judgement)) }
-    ensures named { IfOk result (λ judgement. judgement.name ≡ unit.now.name) }
+    ensures named { IfOk result (λ judgement. judgement.name ≡ name.now) }
     ensures sound { IfOk result (λ judgement. IsTrue judgement.valid
-        → IsValid image.now unit.now judgement.name judgement.stack) }
+        → IsValid image.now (unit_of unit.now) judgement.name judgement.stack) }
 {
     let size = image.size_at(entry).unwrap();
-    let valid = is_proved(alloc, image, unit, entry, size)?;
-    let name = Bytes::copied(alloc, unit.name())?;
+    let valid = is_proved(alloc, image, unit, name, entry, size)?;
+    let name = Bytes::copied(alloc, name)?;
     Ok(Judgement {
         name,
         valid,
@@ -152,21 +155,21 @@ fn refused_code(alloc: Global, name: &[u8], fault: &CodeFault) -> Result<Verdict
 fn judge_name(
     alloc: Global,
     image: &Image<'_>,
-    unit: &Unit,
+    unit: &Typed<'_>,
     name: &[u8],
 ) -> Result<Result<Judgement, CodeFault>, AllocError>
-    requires { listing.pair_fault image.now unit.now name.now ≡ None }
+    requires { listing.pair_fault image.now (unit_of unit.now) name.now ≡ None }
     ensures judged { IfOk result (λ found. IfOk found
-        (λ judgement. IsJudgement image.now unit.now (judgement_of judgement))) }
+        (λ judgement. IsJudgement image.now (unit_of unit.now) (judgement_of judgement))) }
     ensures named { IfOk result (λ found. IfOk found (λ judgement. judgement.name ≡ name.now)) }
     ensures sound { IfOk result (λ found. IfOk found (λ judgement. IsTrue judgement.valid
-        → IsValid image.now unit.now judgement.name judgement.stack)) }
+        → IsValid image.now (unit_of unit.now) judgement.name judgement.stack)) }
     ensures fault { IfOk result (λ found. IfErr found
         (λ fault. HasCodeFault image.now name.now fault.kind fault.address)) }
 {
     match find_code(alloc, image, name)? {
         Ok(entry) => {
-            let judgement = judge_function(alloc, image, unit, entry)?;
+            let judgement = judge_function(alloc, image, unit, name, entry)?;
             Ok(Ok(judgement))
         }
         Err(fault) => Ok(Err(fault)),
@@ -177,15 +180,15 @@ fn judge_name(
 fn judge_paired(
     alloc: Global,
     image: &Image<'_>,
-    unit: &Unit,
+    unit: &Typed<'_>,
     names: &[Bytes],
 ) -> Result<Verdict, OutsideFault>
-    requires { listing.first_unpaired image.now unit.now names.now ≡ None }
+    requires { listing.first_unpaired image.now (unit_of unit.now) names.now ≡ None }
     ensures exact { IfOk result (λ verdict. (elf c : List ℕ) (functions : Option (List (List ℕ)))
-        → Pairs elf c functions image.now unit.now names.now
+        → Pairs elf c functions image.now (unit_of unit.now) names.now
         → Judges elf c functions (verdict_of verdict)) }
     ensures sound { IfOk result (λ verdict. (elf c : List ℕ) (functions : Option (List (List ℕ)))
-        → Lists elf c functions image.now unit.now names.now
+        → Lists elf c functions image.now (unit_of unit.now) names.now
         → IsSound elf c functions (verdict_of verdict)) }
     ensures memory { OnErr result (IsErrOf result NoMemory) }
 {
@@ -204,13 +207,13 @@ fn judge_paired(
 fn refused_unpaired(
     alloc: Global,
     image: &Image<'_>,
-    unit: &Unit,
+    unit: &Typed<'_>,
     name: &[u8],
 ) -> Result<Verdict, OutsideFault>
-    requires { IsSome (listing.pair_fault image.now unit.now name.now) }
+    requires { IsSome (listing.pair_fault image.now (unit_of unit.now) name.now) }
     ensures ok { IfOk result (λ verdict. (kind : pair_kind)
         × (verdict_of verdict ≡ verdicts.RefusedPair kind name.now)
-        × (listing.pair_fault image.now unit.now name.now ≡ Some kind)) }
+        × (listing.pair_fault image.now (unit_of unit.now) name.now ≡ Some kind)) }
     ensures memory { OnErr result (IsErrOf result NoMemory) }
 {
     let kind = pair_fault(image, unit, name).unwrap();
@@ -221,14 +224,14 @@ fn refused_unpaired(
 pub(crate) fn judge_names(
     alloc: Global,
     image: &Image<'_>,
-    unit: &Unit,
+    unit: &Typed<'_>,
     names: &[Bytes],
 ) -> Result<Verdict, OutsideFault>
     ensures exact { IfOk result (λ verdict. (elf c : List ℕ) (functions : Option (List (List ℕ)))
-        → Lists elf c functions image.now unit.now names.now
+        → Lists elf c functions image.now (unit_of unit.now) names.now
         → Judges elf c functions (verdict_of verdict)) }
     ensures sound { IfOk result (λ verdict. (elf c : List ℕ) (functions : Option (List (List ℕ)))
-        → Lists elf c functions image.now unit.now names.now
+        → Lists elf c functions image.now (unit_of unit.now) names.now
         → IsSound elf c functions (verdict_of verdict)) }
     ensures memory { OnErr result (IsErrOf result NoMemory) }
 {

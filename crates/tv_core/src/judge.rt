@@ -1,14 +1,19 @@
-ghost use Rattle.std.specs.Prelude.{◌≡◌, ℕ, List, Option, IfOk, OnErr, IsErrOf};
+ghost use Rattle.std.specs.Prelude.{ℕ, List, Option, Err, IfOk, OnErr, IsErrOf};
 ghost use Rattle.elf_spec.specs.Image.{Image as elf_image};
 ghost use Rattle.elf_spec.specs.File.{IsElf};
 ghost use Rattle.elf_read.specs.Refusal as file;
-ghost use Rattle.thin_source.specs.Refused.{IsRefusedBy};
 ghost use Rattle.tv_base.specs.declared.faults.OutsideFault.TheVariants.{NoMemory};
 ghost use Rattle.report_text.specs.Verdicts.{verdict_of};
 ghost use Rattle.tv_words.specs.Jobs.{proving_of};
-ghost use Rattle.verdict_spec.specs.Verdicts.{IsInGrammar, Judges, IsSound};
+ghost use Rattle.verdict_spec.specs.Verdicts.{Judges, IsSound};
 ghost use Rattle.c_spec.specs.Lexical.{AreTokens};
-ghost use Rattle.c_spec.specs.Unit.{IsC};
+ghost use Rattle.c_tree_spec.specs.Unit.{TranslationUnit as translation_unit};
+ghost use Rattle.c_grammar_spec.specs.Source.{HasTree};
+ghost use Rattle.c_syntax.specs.Units.{unit_of as tree_of};
+ghost use Rattle.c_type_spec.specs.Units.{typed};
+ghost use Rattle.c_types.specs.Typed.{IsChecked};
+ghost use Rattle.claim_spec.specs.Source.{IsC};
+ghost use Rattle.straight_code.specs.Units.{unit_of};
 ghost use Rattle.c_parse_token.specs.Lists.{list_of};
 ghost use Rattle.c_parse.specs.Refused as syntax;
 ghost use Rattle.c_token.specs.Refused as token;
@@ -16,13 +21,15 @@ ghost use Rattle.tv_core.specs.Files.{JudgesBy};
 
 use crate::functions::judge_names;
 use crate::listing::names;
-use c_parse::{ParseError, check};
+use c_parse::{ParseError, parse};
+use c_syntax::unit::TranslationUnit;
 use c_token::{Token, TokenError, tokens};
+use c_types::typed::{TypeError, Typed};
+use c_types::unit::check;
 use elf_read::{ElfError, Image};
 use report_spec::SourceKind;
 use report_text::Verdict;
 use std::alloc::Global;
-use thin_source::{SourceError, Unit};
 use tv_base::OutsideFault;
 use tv_words::Proving;
 
@@ -71,36 +78,37 @@ fn judge_tokens(
     requires { AreTokens source.now (list_of lexed.now) }
     ensures { JudgesBy image.now source.now (proving_of job.now).functions result }
 {
-    match check(alloc, lexed) {
-        Ok(()) => judge_text(alloc, image, source, job),
+    match parse(alloc, lexed) {
+        Ok(tree) => judge_tree(alloc, image, source, &tree, job),
         Err(error) => without_unit(error, lexed, source),
     }
 }
 
-/// The verdict on an image and a source that is in the grammar.
-fn judge_text(
+/// The verdict on an image and a source, whose tree this is.
+fn judge_tree(
     alloc: Global,
     image: &Image<'_>,
     source: &[u8],
+    tree: &TranslationUnit<'_>,
     job: &Proving<'_>,
 ) -> Result<Verdict, OutsideFault>
-    requires { IsInGrammar source.now }
+    requires { HasTree source.now (tree_of tree.now) }
     ensures { JudgesBy image.now source.now (proving_of job.now).functions result }
 {
-    match thin_source::read(alloc, source) {
+    match check(alloc, tree) {
         Ok(unit) => judge_unit(alloc, image, &unit, job),
-        Err(error) => refused_source(error),
+        Err(error) => without_types(error),
     }
 }
 
-/// The verdict on an image and the unit of a source.
+/// The verdict on an image and a source of this typed core.
 fn judge_unit(
     alloc: Global,
     image: &Image<'_>,
-    unit: &Unit,
+    unit: &Typed<'_>,
     job: &Proving<'_>,
 ) -> Result<Verdict, OutsideFault>
-    ensures { (c : List ℕ) → IsInGrammar c → IsC c unit.now
+    ensures { (c : List ℕ) → IsC c (unit_of unit.now)
         → JudgesBy image.now c (proving_of job.now).functions result }
 {
     match names(alloc, job, image, unit) {
@@ -167,20 +175,21 @@ fn refused_elf(error: ElfError) -> Result<Verdict, OutsideFault>
     }
 }
 
-/// The verdict where there is an image and the unit is not of the one form.
-fn refused_source(error: SourceError) -> Result<Verdict, OutsideFault>
+/// The verdict where there is an image and the tree of the source has no types.
+fn without_types(error: TypeError) -> Result<Verdict, OutsideFault>
     ensures exact { (elf c : List ℕ) (functions : Option (List (List ℕ))) (image : elf_image)
-        → IsElf elf image → IsInGrammar c → IsRefusedBy c error
+        (tree : translation_unit) → IsElf elf image → HasTree c tree
+        → IsChecked (Err error) (typed tree)
         → IfOk result (λ verdict. Judges elf c functions (verdict_of verdict)) }
     ensures sound { (elf c : List ℕ) (functions : Option (List (List ℕ)))
         → IfOk result (λ verdict. IsSound elf c functions (verdict_of verdict)) }
     ensures memory { OnErr result (IsErrOf result NoMemory) }
 {
     match error {
-        SourceError::Later => Ok(Verdict::RefusedC {
-            kind: SourceKind::Later,
-            offset: 0,
+        TypeError::Fault(kind, offset) => Ok(Verdict::RefusedC {
+            kind: SourceKind::Typing(kind),
+            offset,
         }),
-        SourceError::NoMemory => Err(OutsideFault::NoMemory),
+        TypeError::NoMemory => Err(OutsideFault::NoMemory),
     }
 }

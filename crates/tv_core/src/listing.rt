@@ -1,12 +1,14 @@
-ghost use Rattle.std.specs.Prelude.{◌≡◌, IfOk, map, option_map};
+ghost use Rattle.std.specs.Prelude.{◌≡◌, ◌++◌, ◌∷◌, [], IfOk, OnOk, filter, map, option_map};
+ghost use Rattle.straight_code.specs.Units.{unit_of};
 ghost use Rattle.verdict_spec.specs.Listing as spec;
 ghost use Rattle.tv_words.specs.Jobs.{proving_of};
 
+use attempt::attempt;
+use c_types::typed::Typed;
 use elf_read::Image;
 use elf_spec::SymbolValues;
 use report_spec::PairKind;
 use std::alloc::{AllocError, Global};
-use thin_source::Unit;
 use tv_bytes::Bytes;
 use tv_words::Proving;
 
@@ -21,15 +23,35 @@ fn given_names(alloc: Global, functions: &[&str]) -> Result<Vec<Bytes>, AllocErr
     Ok(names)
 }
 
+/// Adds a name, if it has a symbol.
+fn push_listed(
+    alloc: Global,
+    image: &Image<'_>,
+    name: &[u8],
+    names: &mut Vec<Bytes>,
+) -> Result<(), AllocError>
+    ensures { OnOk result (names.new.items
+        ≡ names.old.items ++ filter (spec.has_symbol image.now) (name.now ∷ [])) }
+{
+    if image.function(name) == SymbolValues::Absent {
+        return Ok(());
+    }
+    names.push(Bytes::copied(alloc, name)?)?;
+    Ok(())
+}
+
 /// The names with a body and a symbol, in source order.
-fn listed_names(alloc: Global, image: &Image<'_>, unit: &Unit) -> Result<Vec<Bytes>, AllocError>
-    ensures { IfOk result (λ names. names.items ≡ spec.listed image.now unit.now) }
+fn listed_names(
+    alloc: Global,
+    image: &Image<'_>,
+    unit: &Typed<'_>,
+) -> Result<Vec<Bytes>, AllocError>
+    ensures { IfOk result (λ names. names.items ≡ spec.listed image.now (unit_of unit.now)) }
 {
     let mut names = Vec::new(alloc);
-    if image.function(unit.name()) == SymbolValues::Absent {
-        return Ok(names);
+    for name in unit.bodies.keys() {
+        attempt!(push_listed(alloc, image, name, &mut names));
     }
-    names.push(Bytes::copied(alloc, unit.name())?)?;
     Ok(names)
 }
 
@@ -38,10 +60,10 @@ pub(crate) fn names(
     alloc: Global,
     job: &Proving<'_>,
     image: &Image<'_>,
-    unit: &Unit,
+    unit: &Typed<'_>,
 ) -> Result<Vec<Bytes>, AllocError>
     ensures { IfOk result (λ names. names.items
-        ≡ spec.names_of (proving_of job.now).functions image.now unit.now) }
+        ≡ spec.names_of (proving_of job.now).functions image.now (unit_of unit.now)) }
 {
     match &job.functions {
         Some(functions) => given_names(alloc, functions.as_slice()),
@@ -49,11 +71,18 @@ pub(crate) fn names(
     }
 }
 
-/// Why a name can't be validated.
-pub(crate) fn pair_fault(image: &Image<'_>, unit: &Unit, name: &[u8]) -> Option<PairKind>
-    ensures { result ≡ spec.pair_fault image.now unit.now name.now }
+/// Whether the function of a name has a body.
+fn has_body(unit: &Typed<'_>, name: &[u8]) -> bool
+    ensures { result ≡ spec.has_body (unit_of unit.now) name.now }
 {
-    if name != unit.name() {
+    unit.body(name).is_some()
+}
+
+/// Why a name can't be validated.
+pub(crate) fn pair_fault(image: &Image<'_>, unit: &Typed<'_>, name: &[u8]) -> Option<PairKind>
+    ensures { result ≡ spec.pair_fault image.now (unit_of unit.now) name.now }
+{
+    if !has_body(unit, name) {
         return Some(PairKind::NoSource);
     }
     if image.function(name) == SymbolValues::Absent {
@@ -65,11 +94,11 @@ pub(crate) fn pair_fault(image: &Image<'_>, unit: &Unit, name: &[u8]) -> Option<
 /// The first name that can't be validated.
 pub(crate) fn first_unpaired<'a>(
     image: &Image<'_>,
-    unit: &Unit,
+    unit: &Typed<'_>,
     names: &'a [Bytes],
 ) -> Option<&'a Bytes>
     ensures { option_map (λ name. name.now) result
-        ≡ spec.first_unpaired image.now unit.now names.now }
+        ≡ spec.first_unpaired image.now (unit_of unit.now) names.now }
 {
     names
         .iter()

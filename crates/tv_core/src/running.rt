@@ -153,7 +153,7 @@ fn try_run<D: Desk, R: Sink, K: Store>(
 /// | 7 | a file is longer, or the list has more functions, than the maximum |
 ///
 /// The order of refusals is: the words; reading the executable, then its length; reading the
-/// source, then its length; the executable; the source: its tokens, its grammar, its form; the
+/// source, then its length; the executable; the source: its tokens, its grammar, its types; the
 /// length of the list; its functions, each in its turn; their code. Memory may run out at any
 /// growth.
 ///

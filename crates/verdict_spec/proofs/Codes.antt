@@ -3,7 +3,7 @@ use Rattle.std.proofs.Common.{◌≡◌, ℕ, suc, Bool, true, false, List, [], 
 use Rattle.std.proofs.lemmas.List.Elements.{All-map}
 use Rattle.elf_spec.specs.Image.{Image, function_named, size_at}
 use Rattle.elf_spec.specs.declared.SymbolValues.TheVariants.{One}
-use Rattle.c_spec.specs.Unit.{Unit}
+use Rattle.c_type_spec.specs.Core.{Typed}
 use Rattle.code_spec.specs.declared.CodeKind.{CodeKind}
 use Rattle.code_spec.specs.Code.{IsStack}
 use Rattle.code_spec.specs.Faults.{IsReachFault, IsFirst}
@@ -68,7 +68,7 @@ one_first image names kind other one two address place x y =
 
 -- ---- judgements
 
-one_judgement : (image : Image) (unit : Unit) (one two : Judgement) → IsJudgement image unit one → IsJudgement image unit two → one.name ≡ two.name → one ≡ two
+one_judgement : (image : Image) (unit : Typed) (one two : Judgement) → IsJudgement image unit one → IsJudgement image unit two → one.name ≡ two.name → one ≡ two
 one_judgement image unit one two x y names =
     let named = x.code.named in
     let renamed : function_named image one.name ≡ One y.entry = ap (function_named image) names ∙ y.code.named in
@@ -76,7 +76,8 @@ one_judgement image unit one two x y names =
     let sized = x.sized in
     let resized : size_at image x.entry ≡ Some y.size = ap (size_at image) entries ∙ y.sized in
     let sizes : x.size ≡ y.size = cc in
-    let valid : one.valid ≡ two.valid = x.decided ∙ ap (λ e. is_proved image unit e x.size) entries ∙ ap (is_proved image unit y.entry) sizes ∙ sym y.decided in
+    let valid : one.valid ≡ two.valid = x.decided ∙ ap (λ n. is_proved image unit n x.entry x.size) names ∙ ap (λ e. is_proved image unit two.name e x.size) entries
+    ∙ ap (is_proved image unit two.name y.entry) sizes ∙ sym y.decided in
     let stack = by_valid one.valid refl (sym valid) entries in
     λ i. record { name = names i; valid = valid i; stack = stack i }
   where
@@ -85,7 +86,7 @@ one_judgement image unit one two x y names =
         one_stack image y.entry one.stack two.stack (subst (λ a. IsStack image a one.stack) entries (x.stack e)) (y.stack (same ∙ e))
     by_valid false e same entries = x.no_stack e ∙ sym (y.no_stack (same ∙ e))
 
-one_list : (image : Image) (unit : Unit) (ones twos : List Judgement) → map (λ j. j.name) ones ≡ map (λ j. j.name) twos → All (IsJudgement image unit) ones
+one_list : (image : Image) (unit : Typed) (ones twos : List Judgement) → map (λ j. j.name) ones ≡ map (λ j. j.name) twos → All (IsJudgement image unit) ones
     → All (IsJudgement image unit) twos → ones ≡ twos
 one_list image unit [] [] e x y = refl
 one_list image unit [] (two ∷ twos) e x y = absurd (cc)
@@ -97,17 +98,17 @@ one_list image unit (one ∷ ones) (two ∷ twos) e x y =
     let others = one_list image unit ones twos tail (λ k d inside. x (suc k) d (omega arith)) (λ k d inside. y (suc k) d (omega arith)) in
     λ i. first i ∷ others i
 
-pub one_judged : (image : Image) (unit : Unit) (names : List (List ℕ)) (ones twos : List Judgement) → map (λ j. j.name) ones ≡ names → map (λ j. j.name) twos ≡ names
+pub one_judged : (image : Image) (unit : Typed) (names : List (List ℕ)) (ones twos : List Judgement) → map (λ j. j.name) ones ≡ names → map (λ j. j.name) twos ≡ names
     → All (IsJudgement image unit) ones → All (IsJudgement image unit) twos → ones ≡ twos
 one_judged image unit names ones twos e f x y = one_list image unit ones twos (e ∙ sym f) x y
 
 -- ---- no name of a list that is judged has a fault
 
-sound_names : (image : Image) (unit : Unit) (judgements : List Judgement) → All (IsJudgement image unit) judgements → All (IsSoundCode image) (map (λ j. j.name) judgements)
+sound_names : (image : Image) (unit : Typed) (judgements : List Judgement) → All (IsJudgement image unit) judgements → All (IsSoundCode image) (map (λ j. j.name) judgements)
 sound_names image unit judgements each =
     All-map (IsSoundCode image) (λ j. j.name) judgements (λ k d inside. let j = each k d inside in (j.entry, j.code))
 
-pub judged_or_faulty : (image : Image) (unit : Unit) (names : List (List ℕ)) (judgements : List Judgement) (kind : CodeKind) (name : List ℕ) (address : ℕ)
+pub judged_or_faulty : (image : Image) (unit : Typed) (names : List (List ℕ)) (judgements : List Judgement) (kind : CodeKind) (name : List ℕ) (address : ℕ)
     → map (λ j. j.name) judgements ≡ names → All (IsJudgement image unit) judgements → IsFirstCodeFault image names kind name address → ⊥
 judged_or_faulty image unit names judgements kind name address e each first =
     let all = subst (All (IsSoundCode image)) (e ∙ first.split) (sound_names image unit judgements each) in

@@ -1,43 +1,96 @@
--- A text is one source at most.
-use Rattle.std.proofs.Common.{◌≡◌, ◌≢◌, ℕ, List, Some, refl, sym, ◌∙◌, arith}
-use Rattle.c_spec.specs.declared.Operand.{Operand}
-use Rattle.c_spec.specs.declared.Operand.TheVariants.{First, Second}
-use Rattle.c_spec.specs.declared.Operator.{Operator}
-use Rattle.c_spec.specs.declared.Operator.TheVariants.{Plus, Minus}
-use Rattle.c_spec.specs.Unit.{Unit, IsC, operand_name, operator_byte, unit_tokens}
+-- A text has one verdict at most.
+use Rattle.std.proofs.Common.{◌≡◌, ℕ, List, length, Result, Ok, Err, ap, sym, ◌∙◌, subst}
+use Rattle.c_spec.specs.Lexical.{Placed, IsTokenFault}
+use Rattle.c_spec.specs.declared.token.TokenFaultKind.{TokenFaultKind}
+use Rattle.c_tree_spec.specs.Unit.{TranslationUnit}
+use Rattle.c_grammar_spec.specs.declared.ParseFaultKind.{ParseFaultKind}
+use Rattle.c_grammar_spec.specs.Faults.{IsUnit, IsFault, offset_of}
+use Rattle.c_grammar_spec.specs.Source.{HasTree, IsParseFault}
+use Rattle.c_type_spec.specs.declared.TypeFaultKind.{TypeFaultKind}
+use Rattle.c_type_spec.specs.Core.{Typed}
+use Rattle.c_type_spec.specs.Names.{Fault}
+use Rattle.c_type_spec.specs.Units.{typed}
+use Rattle.c_statement_laws.specs.UnitExactness.{UnitExact, UnitReports}
+use Rattle.c_statement_laws.proofs.UnitAll.{unit-is_exact}
+use Rattle.c_statement_laws.proofs.Faults.{unit-reports}
+use Rattle.report_spec.specs.declared.SourceKind.TheVariants.{Token, Syntax, Typing}
+use Rattle.verdict_spec.specs.Source.{Source, Accepted, Refused, CVerdict, no_tokens, no_unit, no_types, accepted}
+use Rattle.verdict_spec.specs.Laws.{OneSource}
+use Rattle.verdict_spec.proofs.Texts.{one_tokens, tokens_or_fault, one_token_fault}
 
-abbrev named : (first second : List ℕ) → Operand → List ℕ
-named first second First = first
-named first second Second = second
+-- ---- trees
 
-same_operand : (first second other next : List ℕ) (one two : Operand) → first ≡ other → second ≡ next → first ≢ second
-    → named first second one ≡ named other next two → one ≡ two
-same_operand first second other next First First a b differ e = refl
-same_operand first second other next First Second a b differ e = absurd (differ (e ∙ sym b))
-same_operand first second other next Second First a b differ e = absurd (differ (a ∙ sym e))
-same_operand first second other next Second Second a b differ e = refl
+same_tree : UnitExact → (tokens : List Placed) (one two : TranslationUnit) → IsUnit tokens one → IsUnit tokens two → one ≡ two
+same_tree exact tokens one two x y =
+    let first = exact.only tokens one x in
+    let second = exact.only tokens two y in
+    let both : Ok one ≡ Ok two = sym first ∙ second in
+    cc
 
-name_of : (unit : Unit) (operand : Operand) → operand_name unit operand ≡ named unit.first unit.second operand
-name_of unit First = refl
-name_of unit Second = refl
+one_tree : UnitExact → (text : List ℕ) (one two : TranslationUnit) → HasTree text one → HasTree text two → one ≡ two
+one_tree exact text one two x y =
+    same_tree exact x.tokens one two x.parses (subst (λ t. IsUnit t two) (one_tokens text y.tokens x.tokens y.lexes x.lexes) y.parses)
 
-same_operator : (one two : Operator) → operator_byte one ≡ operator_byte two → one ≡ two
-same_operator Plus Plus e = refl
-same_operator Plus Minus e = absurd (omega arith)
-same_operator Minus Plus e = absurd (omega arith)
-same_operator Minus Minus e = refl
+-- ---- two verdicts that differ
 
-pub one_unit : (text : List ℕ) (one two : Unit) → IsC text one → IsC text two → one ≡ two
-one_unit text one two x y =
-    let all : Some (unit_tokens one) ≡ Some (unit_tokens two) = sym x.tokens ∙ y.tokens in
-    let tokens : unit_tokens one ≡ unit_tokens two = cc in
-    let name : one.name ≡ two.name = cc in
-    let first : one.first ≡ two.first = cc in
-    let second : one.second ≡ two.second = cc in
-    let left_name : operand_name one one.left ≡ operand_name two two.left = cc in
-    let right_name : operand_name one one.right ≡ operand_name two two.right = cc in
-    let byte : operator_byte one.operator ≡ operator_byte two.operator = cc in
-    let left = same_operand one.first one.second two.first two.second one.left two.left first second x.names.differ (sym (name_of one one.left) ∙ left_name ∙ name_of two two.left) in
-    let right = same_operand one.first one.second two.first two.second one.right two.right first second x.names.differ (sym (name_of one one.right) ∙ right_name ∙ name_of two two.right) in
-    let operator = same_operator one.operator two.operator byte in
-    λ i. record { name = name i; first = first i; second = second i; left = left i; operator = operator i; right = right i }
+unparsed_or_tree : UnitReports → (text : List ℕ) (tree : TranslationUnit) (kind : ParseFaultKind) (offset : ℕ) → HasTree text tree → IsParseFault text kind offset → ⊥
+unparsed_or_tree reports text tree kind offset x y =
+    reports.none x.tokens tree kind y.rest x.parses (subst (λ t. IsFault t kind y.rest) (one_tokens text y.tokens x.tokens y.lexes x.lexes) y.fault)
+
+unlexed_or_unparsed : (text : List ℕ) (kind : TokenFaultKind) (other : ParseFaultKind) (offset place : ℕ) → IsTokenFault text kind offset → IsParseFault text other place → ⊥
+unlexed_or_unparsed text kind other offset place x y = tokens_or_fault text y.tokens kind offset y.lexes x
+
+unlexed_or_tree : (text : List ℕ) (tree : TranslationUnit) (kind : TokenFaultKind) (offset : ℕ) → HasTree text tree → IsTokenFault text kind offset → ⊥
+unlexed_or_tree text tree kind offset x y = tokens_or_fault text x.tokens kind offset x.lexes y
+
+-- ---- two verdicts of one kind
+
+one_unparsed : UnitReports → (text : List ℕ) (one two : ParseFaultKind) (offset place : ℕ) → IsParseFault text one offset → IsParseFault text two place → (one ≡ two) × (offset ≡ place)
+one_unparsed reports text one two offset place x y =
+    let fault = subst (λ t. IsFault t two y.rest) (one_tokens text y.tokens x.tokens y.lexes x.lexes) y.fault in
+    let same = reports.unique x.tokens one two x.rest y.rest x.fault fault in
+    (same.0, x.there ∙ ap (offset_of (length text)) same.1 ∙ sym y.there)
+
+-- what typing says of trees that are one
+both_typed : UnitExact → (text : List ℕ) (one two : TranslationUnit) (first second : Result Typed Fault) → HasTree text one → HasTree text two → typed one ≡ first → typed two ≡ second
+    → first ≡ second
+both_typed exact text one two first second x y e f = sym e ∙ (ap typed (one_tree exact text one two x y) ∙ f)
+
+abbrev failed : TypeFaultKind → (offset : ℕ) → Result Typed Fault
+failed kind offset = Err (kind, offset)
+
+same_fault : (one two : TypeFaultKind) (offset place : ℕ) → failed one offset ≡ failed two place → (one ≡ two) × (offset ≡ place)
+same_fault one two offset place e =
+    let pair : ◌≡◌ {A = Fault} (one, offset) (two, place) = cc in
+    (ap (λ p. p.0) pair, ap (λ p. p.1) pair)
+
+once : UnitExact → UnitReports → (text : List ℕ) (one two : Source) → CVerdict text one → CVerdict text two → one ≡ two
+once exact reports text _ _ (no_tokens kind offset x) (no_tokens other place y) =
+    let same = one_token_fault text kind other offset place x y in
+    λ i. Refused (Token (same.0 i)) (same.1 i)
+once exact reports text _ _ (no_tokens kind offset x) (no_unit other place y) = absurd (unlexed_or_unparsed text kind other offset place x y)
+once exact reports text _ _ (no_tokens kind offset x) (no_types tree other place y e) = absurd (unlexed_or_tree text tree kind offset y x)
+once exact reports text _ _ (no_tokens kind offset x) (accepted unit y) = absurd (unlexed_or_tree text y.tree kind offset y.derives x)
+once exact reports text _ _ (no_unit kind offset x) (no_tokens other place y) = absurd (unlexed_or_unparsed text other kind place offset y x)
+once exact reports text _ _ (no_unit kind offset x) (no_unit other place y) =
+    let same = one_unparsed reports text kind other offset place x y in
+    λ i. Refused (Syntax (same.0 i)) (same.1 i)
+once exact reports text _ _ (no_unit kind offset x) (no_types tree other place y e) = absurd (unparsed_or_tree reports text tree kind offset y x)
+once exact reports text _ _ (no_unit kind offset x) (accepted unit y) = absurd (unparsed_or_tree reports text y.tree kind offset y.derives x)
+once exact reports text _ _ (no_types tree kind offset x e) (no_tokens other place y) = absurd (unlexed_or_tree text tree other place x y)
+once exact reports text _ _ (no_types tree kind offset x e) (no_unit other place y) = absurd (unparsed_or_tree reports text tree other place x y)
+once exact reports text _ _ (no_types tree kind offset x e) (no_types second other place y f) =
+    let same = same_fault kind other offset place (both_typed exact text tree second (Err (kind, offset)) (Err (other, place)) x y e f) in
+    λ i. Refused (Typing (same.0 i)) (same.1 i)
+once exact reports text _ _ (no_types tree kind offset x e) (accepted unit y) =
+    let same = both_typed exact text tree y.tree (Err (kind, offset)) (Ok unit) x y.derives e y.has_types in absurd (cc)
+once exact reports text _ _ (accepted unit x) (no_tokens other place y) = absurd (unlexed_or_tree text x.tree other place x.derives y)
+once exact reports text _ _ (accepted unit x) (no_unit other place y) = absurd (unparsed_or_tree reports text x.tree other place x.derives y)
+once exact reports text _ _ (accepted unit x) (no_types tree other place y f) =
+    let same = both_typed exact text x.tree tree (Ok unit) (Err (other, place)) x.derives y x.has_types f in absurd (cc)
+once exact reports text _ _ (accepted unit x) (accepted other y) =
+    let same : Ok unit ≡ Ok other = both_typed exact text x.tree y.tree (Ok unit) (Ok other) x.derives y.derives x.has_types y.has_types in
+    ap Accepted (cc)
+
+pub one-source : OneSource
+one-source = once unit-is_exact unit-reports

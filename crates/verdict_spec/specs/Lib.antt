@@ -1,3 +1,4 @@
+pub mod Source
 pub mod Listing
 pub mod Verdicts
 pub mod Laws

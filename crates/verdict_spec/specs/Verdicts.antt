@@ -4,29 +4,22 @@ use Rattle.elf_spec.specs.Image.{Image, function_named, size_at}
 use Rattle.elf_spec.specs.File.{IsElf, IsRefusedFile}
 use Rattle.elf_spec.specs.declared.ElfKind.{ElfKind}
 use Rattle.elf_spec.specs.declared.SymbolValues.TheVariants.{One, Two}
-use Rattle.c_spec.specs.Unit.{Unit, IsC}
-use Rattle.c_spec.specs.declared.token.TokenFaultKind.{TokenFaultKind}
-use Rattle.c_spec.specs.Lexical.{IsTokenFault}
-use Rattle.c_tree_spec.specs.Unit.{TranslationUnit}
-use Rattle.c_grammar_spec.specs.declared.ParseFaultKind.{ParseFaultKind}
-use Rattle.c_grammar_spec.specs.Source.{HasTree, IsParseFault}
+use Rattle.c_type_spec.specs.Core.{Typed}
 use Rattle.code_spec.specs.declared.CodeKind.{CodeKind}
 use Rattle.code_spec.specs.declared.CodeKind.TheVariants.{Ambiguous}
 use Rattle.code_spec.specs.Code.{IsStack}
 use Rattle.code_spec.specs.Faults.{IsReachFault, ReachesNoFault, IsFirst}
+use Rattle.claim_spec.specs.Source.{IsC}
 use Rattle.claim_spec.specs.Claim.{IsValid}
 use Rattle.report_spec.specs.declared.Quantity.TheVariants.{Elf, C, Functions}
-use Rattle.report_spec.specs.declared.SourceKind.TheVariants.{Token, Syntax, Later}
+use Rattle.report_spec.specs.declared.SourceKind.{SourceKind}
 use Rattle.report_spec.specs.declared.PairKind.{PairKind}
 use Rattle.report_spec.specs.declared.PairKind.TheVariants.{NothingListed}
 use Rattle.report_spec.specs.Verdict.{Verdict, TooLarge, RefusedElf, RefusedC, RefusedPair, RefusedCode, Judged, Judgement, maximum_of}
+use Rattle.verdict_spec.specs.Source.{CVerdict, Refused}
 use Rattle.verdict_spec.specs.Listing.{names_of, pair_fault, first_unpaired}
 use Rattle.straight_code.specs.Straight.{not_straight_at}
 use Rattle.straight_code.specs.Decision.{accepts}
-
--- the text is a unit of the grammar
-abbrev pub IsInGrammar : List ℕ → Type 0
-IsInGrammar text = (tree : TranslationUnit) × HasTree text tree
 
 -- ---- code
 
@@ -53,31 +46,30 @@ pub record IsFirstCodeFault (image : Image) (names : List (List ℕ)) (kind : Co
   pub earlier : All (λ other. IsSoundCode image other) prefix
   pub fault : HasCodeFault image name kind address
 
--- the code of the function at an entry is straight-line, and it is accepted
-abbrev pub is_proved : Image → Unit → (entry size : ℕ) → Bool
-is_proved image unit entry size = not (is_some (not_straight_at image entry size)) && accepts image unit entry size
+-- the code of the function of a name, at its entry, is straight-line, and it is accepted
+abbrev pub is_proved : Image → Typed → (name : List ℕ) → (entry size : ℕ) → Bool
+is_proved image unit name entry size = not (is_some (not_straight_at image entry size)) && accepts image unit name entry size
 
 -- the judgement on a function with sound code; that on a function that isn't valid gives stack 0
-pub record IsJudgement (image : Image) (unit : Unit) (judgement : Judgement) : Type 0 where
+pub record IsJudgement (image : Image) (unit : Typed) (judgement : Judgement) : Type 0 where
   pub entry : ℕ
   pub size : ℕ
   pub code : HasSoundCode image judgement.name entry
   pub sized : size_at image entry ≡ Some size
-  pub decided : judgement.valid ≡ is_proved image unit entry size
+  pub decided : judgement.valid ≡ is_proved image unit judgement.name entry size
   pub stack : IsTrue judgement.valid → IsStack image entry judgement.stack
   pub no_stack : judgement.valid ≡ false → judgement.stack ≡ 0
 
 -- ---- two files
 
 -- both files are accepted, and these names are to be validated
-pub record Lists (elf c : List ℕ) (functions : Option (List (List ℕ))) (image : Image) (unit : Unit) (names : List (List ℕ)) : Type 0 where
+pub record Lists (elf c : List ℕ) (functions : Option (List (List ℕ))) (image : Image) (unit : Typed) (names : List (List ℕ)) : Type 0 where
   pub is_elf : IsElf elf image
-  pub in_grammar : IsInGrammar c
   pub is_c : IsC c unit
   pub listed : names ≡ names_of functions image unit
 
 -- these are within their limit, at least one, and each has a body and a symbol
-pub record Pairs (elf c : List ℕ) (functions : Option (List (List ℕ))) (image : Image) (unit : Unit) (names : List (List ℕ)) : Type 0 where
+pub record Pairs (elf c : List ℕ) (functions : Option (List (List ℕ))) (image : Image) (unit : Typed) (names : List (List ℕ)) : Type 0 where
   pub lists : Lists elf c functions image unit names
   pub within : length names ≤ maximum_of Functions
   pub some : names ≢ []
@@ -86,21 +78,16 @@ pub record Pairs (elf c : List ℕ) (functions : Option (List (List ℕ))) (imag
 -- the verdict on two files within their limits: the first refusal in this order, or judgements
 pub data Judges (elf c : List ℕ) (functions : Option (List (List ℕ))) : Verdict → Type 0 where
   elf_refused : (kind : ElfKind) (offset : ℕ) → IsRefusedFile elf kind offset → Judges elf c functions (RefusedElf kind offset)
-  no_tokens : (image : Image) (kind : TokenFaultKind) (offset : ℕ) → IsElf elf image → IsTokenFault c kind offset
-      → Judges elf c functions (RefusedC (Token kind) offset)
-  no_unit : (image : Image) (kind : ParseFaultKind) (offset : ℕ) → IsElf elf image → IsParseFault c kind offset
-      → Judges elf c functions (RefusedC (Syntax kind) offset)
-  other_form : (image : Image) (tree : TranslationUnit) → IsElf elf image → HasTree c tree → ((unit : Unit) → IsC c unit → ⊥)
-      → Judges elf c functions (RefusedC Later 0)
-  too_many : (image : Image) (unit : Unit) (names : List (List ℕ)) → Lists elf c functions image unit names
+  c_refused : (image : Image) (kind : SourceKind) (offset : ℕ) → IsElf elf image → CVerdict c (Refused kind offset) → Judges elf c functions (RefusedC kind offset)
+  too_many : (image : Image) (unit : Typed) (names : List (List ℕ)) → Lists elf c functions image unit names
       → maximum_of Functions < length names → Judges elf c functions (TooLarge Functions)
-  nothing_listed : (image : Image) (unit : Unit) → Lists elf c functions image unit [] → Judges elf c functions (RefusedPair NothingListed (codes "-"))
-  pair_refused : (image : Image) (unit : Unit) (names : List (List ℕ)) (kind : PairKind) (name : List ℕ) → Lists elf c functions image unit names
+  nothing_listed : (image : Image) (unit : Typed) → Lists elf c functions image unit [] → Judges elf c functions (RefusedPair NothingListed (codes "-"))
+  pair_refused : (image : Image) (unit : Typed) (names : List (List ℕ)) (kind : PairKind) (name : List ℕ) → Lists elf c functions image unit names
       → length names ≤ maximum_of Functions → first_unpaired image unit names ≡ Some name → pair_fault image unit name ≡ Some kind
       → Judges elf c functions (RefusedPair kind name)
-  code_refused : (image : Image) (unit : Unit) (names : List (List ℕ)) (kind : CodeKind) (name : List ℕ) (address : ℕ) → Pairs elf c functions image unit names
+  code_refused : (image : Image) (unit : Typed) (names : List (List ℕ)) (kind : CodeKind) (name : List ℕ) (address : ℕ) → Pairs elf c functions image unit names
       → IsFirstCodeFault image names kind name address → Judges elf c functions (RefusedCode kind name address)
-  judged : (image : Image) (unit : Unit) (judgements : List Judgement) → Pairs elf c functions image unit (map (λ j. j.name) judgements)
+  judged : (image : Image) (unit : Typed) (judgements : List Judgement) → Pairs elf c functions image unit (map (λ j. j.name) judgements)
       → All (IsJudgement image unit) judgements → Judges elf c functions (Judged judgements)
 
 -- the verdict on two files: the limits come first
@@ -113,7 +100,7 @@ pub data IsVerdict (elf c : List ℕ) (functions : Option (List (List ℕ))) : V
 -- the functions to validate have these judgements, and each that is called valid is valid
 pub record AreSound (elf c : List ℕ) (functions : Option (List (List ℕ))) (judgements : List Judgement) : Type 0 where
   pub image : Image
-  pub unit : Unit
+  pub unit : Typed
   pub is_elf : IsElf elf image
   pub is_c : IsC c unit
   pub names : map (λ j. j.name) judgements ≡ names_of functions image unit

@@ -4,7 +4,7 @@ use Rattle.bit_blast.proofs.atoms.known_bits.Goals as goal
 
 pub loop-index-preserved : goal.loop-index-preserved
 loop-index-preserved c =
-    known_step c.loop-index.out.items c.push.new.self.items c.args.count c.loop-index._index c.loop-index.rest c.known.result (omega arith) c.known.ensures c.in_ok-push.ensures.items
+    known_step c.loop-index.out.items c.push.new.self.items c.args.count c.loop-index._index c.loop-index.rest c.known.result (omega arith) c.known.ensures c.in-Ok-attempt.ensures.items
     ∙ c.loop-index.invariant
 
 pub returns : goal.returns

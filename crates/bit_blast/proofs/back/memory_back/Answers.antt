@@ -24,5 +24,5 @@ pub backwards-preserved : goal.backwards-preserved
 backwards-preserved c = (
   omega (arith, c.backwards.invariant.0),
   back_one (valuation c.args.values.now) c.args.table.now c.args.loads.now c.backwards.index (c.backwards.index - 1) blank_load (bytes_of c.backwards.memory)
-      (bytes_of c.write_back.new.memory) (omega arith) c.backwards.invariant.0 c.backwards.invariant.1 c.in_ok-write_back.ensures,
+      (bytes_of c.write_back.new.memory) (omega arith) c.backwards.invariant.0 c.backwards.invariant.1 c.in-Ok-attempt.ensures,
 )

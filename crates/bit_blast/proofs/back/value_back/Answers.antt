@@ -14,7 +14,7 @@ use Rattle.bit_blast.proofs.back.value_back.Goals as goal
 
 pub memory_back-requires : goal.memory_back-requires
 memory_back-requires c =
-    subst (AreWithin c.args.table.now) (sym (c.deref.ensures.value ∙ c.in_ok-own-in-Memory.ensures))
+    subst (AreWithin c.args.table.now) (sym (c.deref.ensures.value ∙ c.in-Ok-attempt.ensures))
     (within_filter c.args.table.now c.is_distinct.ensures (λ (load : LoadIndices). load.memory == c.args.index) c.args.loads.now c.requires.within)
 
 pub returns-in-Truth : goal.returns-in-Truth
@@ -27,8 +27,8 @@ returns-in-Word c = λ short.
     word_back (valuation c.args.values.now) c.args.table.now c.args.index c.args.variable c.in-Word.width c.number_of.result c.low_bits.result c.in-Word.is c.requires.term
     (c.number_of.ensures ∙ ap (λ (xs : Bits). number_of (valuation c.args.values.now) xs % 2 ^ 64) c.bits-in-Word.ensures) c.low_bits.ensures
 
-pub returns-in_ok-memory-in-Memory : goal.returns-in_ok-memory-in-Memory
-returns-in_ok-memory-in-Memory c = λ short.
+pub returns-in-Ok-attempt-memory : goal.returns-in-Ok-attempt-memory
+returns-in-Ok-attempt-memory c = λ short.
     bytes_back (valuation c.args.values.now) c.args.table.now c.is_distinct.ensures c.args.loads.now c.requires.within c.requires.loads c.args.index c.args.variable
-    c.deref.result.now (bytes_of c.in_ok-memory-in-Memory.memory) c.requires.below c.in-Memory.is c.requires.term (c.deref.ensures.value ∙ c.in_ok-own-in-Memory.ensures)
-    c.in_ok-memory-in-Memory.ensures short
+    c.deref.result.now (bytes_of c.in-Ok-attempt-memory.field-0) c.requires.below c.in-Memory.is c.requires.term (c.deref.ensures.value ∙ c.in-Ok-attempt.ensures)
+    c.in-Ok-attempt-memory.ensures short

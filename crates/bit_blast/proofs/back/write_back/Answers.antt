@@ -8,10 +8,10 @@ use Rattle.bit_blast.proofs.Numbers.{short_number}
 use Rattle.bit_blast.proofs.Written.{write_one}
 use Rattle.bit_blast.proofs.back.write_back.Goals as goal
 
-pub returns-in_ok-set : goal.returns-in_ok-set
-returns-in_ok-set c = λ short.
+pub returns-in-Ok-attempt : goal.returns-in-Ok-attempt
+returns-in-Ok-attempt c = λ short.
     write_one (valuation c.args.values.now) (bits_at c.args.table.now c.args.load.address) (bits_at c.args.table.now c.args.load.byte) _ _
-    c.number_of-address.result c.number_of-byte.result (bytes_of c.args.memory.now) (bytes_of c.set.new.self) c.in_ok-set.ensures.ok
+    c.number_of-address.result c.number_of-byte.result (bytes_of c.args.memory.now) (bytes_of c.set.new.self) c.in-Ok-attempt.ensures.ok
     (c.number_of-address.ensures ∙ ap (λ (xs : Bits). number_of (valuation c.args.values.now) xs % 2 ^ 64) c.bits.ensures)
     (c.number_of-byte.ensures ∙ ap (λ (xs : Bits). number_of (valuation c.args.values.now) xs % 2 ^ 64) c.bits-2.ensures)
     (λ small. omega (arith, small)) (omega arith) short

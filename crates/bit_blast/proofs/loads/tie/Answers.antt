@@ -24,13 +24,13 @@ ties-preserved c =
     let load = c.args.load in
     let other : LoadIndices = get_or c.args.later.now c.ties.other-index blank_load in
     tie_one (load_at t load) (load_at t other) (map (load_at t) (drop (c.ties.other-index + 1) c.args.later.now)) (tie (load_at t load) (map (load_at t) c.args.later.now))
-    c.args.gates.now c.ties.gates c.equal_bits.new.self c.claim_equal.new.gates c.in_ok-same.same
+    c.args.gates.now c.ties.gates c.equal_bits.new.self c.claim_equal.new.gates c.in-Ok-attempt.field-0
     (subst (λ (loads : List Load). Continues (tie (load_at t load) (map (load_at t) c.args.later.now)) c.args.gates.now c.ties.gates (tie (load_at t load) loads) (λ (u : Unit {0}). u))
     (from_index (load_at t) c.args.later.now c.ties.other-index blank_load (omega arith)) c.ties.invariant)
-    (subst (λ (x : Bits). IsBuilt (equal_bits x (bits_at t other.address)) c.ties.gates c.in_ok-same.same c.equal_bits.new.self) c.bits.ensures
-    (subst (λ (y : Bits). IsBuilt (equal_bits c.bits.result.now y) c.ties.gates c.in_ok-same.same c.equal_bits.new.self) c.bits-in-ties.ensures c.in_ok-same.ensures))
-    (subst (λ (x : Bits). IsBuilt (claim (equal_where c.in_ok-same.same x (bits_at t other.byte))) c.equal_bits.new.self tt c.claim_equal.new.gates) c.bits-in-ties-2.ensures
-    (subst (λ (y : Bits). IsBuilt (claim (equal_where c.in_ok-same.same c.bits-in-ties-2.result.now y)) c.equal_bits.new.self tt c.claim_equal.new.gates) c.bits-in-ties-3.ensures c.in_ok-claim_equal.ensures))
+    (subst (λ (x : Bits). IsBuilt (equal_bits x (bits_at t other.address)) c.ties.gates c.in-Ok-attempt.field-0 c.equal_bits.new.self) c.bits.ensures
+    (subst (λ (y : Bits). IsBuilt (equal_bits c.bits.result.now y) c.ties.gates c.in-Ok-attempt.field-0 c.equal_bits.new.self) c.bits-in-ties.ensures c.in-Ok-attempt.ensures))
+    (subst (λ (x : Bits). IsBuilt (claim (equal_where c.in-Ok-attempt.field-0 x (bits_at t other.byte))) c.equal_bits.new.self tt c.claim_equal.new.gates) c.bits-in-ties-2.ensures
+    (subst (λ (y : Bits). IsBuilt (claim (equal_where c.in-Ok-attempt.field-0 c.bits-in-ties-2.result.now y)) c.equal_bits.new.self tt c.claim_equal.new.gates) c.bits-in-ties-3.ensures c.in-Ok-attempt-2.ensures))
 
 pub returns : goal.returns
 returns c =

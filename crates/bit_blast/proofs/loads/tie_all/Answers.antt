@@ -25,7 +25,7 @@ ties-preserved c =
     (subst (λ (loads : List Load). ContinuesWithin c.args.maximum (tie_all (map (load_at t) c.args.loads.now)) c.args.gates.now c.ties.gates (tie_all loads))
     (from_index (load_at t) c.args.loads.now c.ties.index blank_load (omega arith)) c.ties.invariant)
     (subst (λ (later : List LoadIndices). BuiltWithin c.args.maximum (tie (load_at t (get_or c.args.loads.now c.ties.index blank_load)) (map (load_at t) later)) c.ties.gates tt c.tie.new.gates)
-    (take_rest c.args.loads.now (c.ties.index + 1)) c.in_ok-tie.ensures)
+    (take_rest c.args.loads.now (c.ties.index + 1)) c.in-Ok-attempt.ensures)
 
 pub returns : goal.returns
 returns c =

@@ -2,6 +2,6 @@ use Rattle.blast_spec.specs.Goal.{binary_bits}
 use Rattle.bit_blast.proofs.Bare.{single_gives}
 use Rattle.bit_blast.proofs.operators.equal.Goals as goal
 
-pub returns : goal.returns
+pub returns-3 : goal.returns-3
 unfolding binary_bits
-returns c = λ term. single_gives c.in_ok-out.out.items c.in_ok-out.ensures c.in_ok-same.ensures
+returns-3 c = λ term. single_gives c.in-Ok-attempt-out.field-0.items c.in-Ok-attempt-out.ensures c.in-Ok-attempt.ensures

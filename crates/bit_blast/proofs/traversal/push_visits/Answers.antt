@@ -4,7 +4,7 @@ use Rattle.bit_blast.proofs.traversal.push_visits.Goals as goal
 
 pub ids-preserved : goal.ids-preserved
 ids-preserved c =
-    pushed c.ids.tasks.items c.push.new.self.items c.ids.ids.items c.pop.new.self.items c.in-Some.id c.in-Some.ensures.items c.in_ok-push.ensures.items
+    pushed c.ids.tasks.items c.push.new.self.items c.ids.ids.items c.pop.new.self.items c.in-Some.id c.in-Some.ensures.items c.in-Ok-attempt.ensures.items
     ∙ c.ids.invariant
 
 pub returns : goal.returns

@@ -15,7 +15,7 @@ use Rattle.bit_blast.proofs.traversal.traversal.Goals as goal
 pub tasks-init : goal.tasks-init
 tasks-init c =
     subst (Traverses c.args.bank.now c.args.goal c.args.gates (record { gates = c.args.gates; table = c.new.result; indices = c.new-2.result; tasks = c.push.new.self }))
-    (sym (c.in_ok-push.ensures.items ∙ ap (λ (tasks : List Task). tasks ++ Visit c.args.goal ∷ []) c.new-tasks.ensures.items))
+    (sym (c.in-Ok-attempt.ensures.items ∙ ap (λ (tasks : List Task). tasks ++ Visit c.args.goal ∷ []) c.new-tasks.ensures.items))
     (traverses_start c.args.bank.now c.args.goal (record { gates = c.args.gates; table = c.new.result; indices = c.new-2.result; tasks = c.push.new.self }) c.requires c.new.ensures
     (λ id. ap (lookup (nat_eq id)) c.new-2.ensures.empty))
 
@@ -27,23 +27,23 @@ tasks-preserved c =
     traverses_turned c.args.bank.now c.args.goal c.args.gates
     (record { gates = c.tasks.traversal.gates; table = c.tasks.traversal.table; indices = c.tasks.traversal.indices; tasks = c.pop.new.self }) c.turn.new.self
     (c.pop.new.self.items ++ c.in-Some.task ∷ [])
-    (traverses_pop c.args.bank.now c.args.goal c.args.gates c.tasks.traversal c.pop.new.self c.in-Some.task c.in-Some.ensures.items c.tasks.invariant) c.in_ok-turn.ensures
+    (traverses_pop c.args.bank.now c.args.goal c.args.gates c.tasks.traversal c.pop.new.self c.in-Some.task c.in-Some.ensures.items c.tasks.invariant) c.in-Ok-attempt-2.ensures
 
 pub tasks-smaller : goal.tasks-smaller
 tasks-smaller c =
     subst (λ (tasks : List Task). weights (steps_of c.args.bank.now c.turn.new.self.tasks.items) < weights (steps_of c.args.bank.now tasks)) (sym c.in-Some.ensures.items)
-    c.in_ok-turn.ensures.lighter
+    c.in-Ok-attempt-2.ensures.lighter
 
-pub returns-clause-built : goal.returns-clause-built
-returns-clause-built c =
+pub returns-2-clause-built : goal.returns-2-clause-built
+returns-2-clause-built c =
     whole_built (traverses_end c.args.bank.now c.args.goal c.args.gates c.tasks.traversal
     (nothing_left c.args.bank.now c.args.goal c.args.gates c.tasks.traversal c.tasks.traversal.tasks.items (omega (arith, c.in_default.ensures.cases.0)) c.tasks.invariant))
 
-pub returns-clause-indices : goal.returns-clause-indices
-returns-clause-indices c = c.tasks.invariant.consistent.indexed
+pub returns-2-clause-indices : goal.returns-2-clause-indices
+returns-2-clause-indices c = c.tasks.invariant.consistent.indexed
 
-pub returns-clause-indexed : goal.returns-clause-indexed
-returns-clause-indexed c = λ small.
+pub returns-2-clause-indexed : goal.returns-2-clause-indexed
+returns-2-clause-indexed c = λ small.
     (nothing_left c.args.bank.now c.args.goal c.args.gates c.tasks.traversal c.tasks.traversal.tasks.items (omega (arith, c.in_default.ensures.cases.0)) c.tasks.invariant).due
 
 pub returns-then-last-maximum-clause-built : goal.returns-then-last-maximum-clause-built

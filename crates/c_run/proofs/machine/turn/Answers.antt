@@ -1,5 +1,5 @@
 use Rattle.std.proofs.Common.{refl, ◌-◌, arith}
-use Rattle.c_run.proofs.Driving.{goes_not, gives_back, goes_back, waits_ended, waits_no_more, calls_ended, calls_nothing, calls_body, search_in}
+use Rattle.c_run.proofs.Driving.{goes_not, gives_back, goes_back, waits_ended, waits_no_more, calls_ended, calls_nothing, calls_body}
 use Rattle.c_run.proofs.machine.turn.Goals as goal
 
 pub returns : goal.returns
@@ -21,7 +21,7 @@ pub returns-then-machine-eq0-2 : goal.returns-then-machine-eq0-2
 returns-then-machine-eq0-2 c = calls_ended _ c.args.machine.now (record c.args.machine.now { frame = c.go.new.frame }) c.args.memory.now c.go.new.memory refl refl c.in-Ok-attempt.field-0 c.in-Calls.function c.in-Calls.local c.in-Ok-attempt.ensures c.in-Calls.is c.if-machine-eq0-2.true
 
 pub returns-in_default : goal.returns-in_default
-returns-in_default c = calls_nothing _ c.args.machine.now (record c.args.machine.now { frame = c.go.new.frame }) c.args.memory.now c.go.new.memory refl refl c.in-Ok-attempt.field-0 c.in-Calls.function c.in-Calls.local c.body_named.result c.in-Ok-attempt.ensures c.in-Calls.is (search_in c.args.setting.now c.in-Calls.function.now c.body_named.result c.body_named.ensures) c.in_default.is
+returns-in_default c = calls_nothing _ c.args.machine.now (record c.args.machine.now { frame = c.go.new.frame }) c.args.memory.now c.go.new.memory refl refl c.in-Ok-attempt.field-0 c.in-Calls.function c.in-Calls.local c.body_named.result c.in-Ok-attempt.ensures c.in-Calls.is c.body_named.ensures c.in_default.is
 
 pub returns-in-Ok-attempt-2 : goal.returns-in-Ok-attempt-2
-returns-in-Ok-attempt-2 c = calls_body _ c.args.machine.now (record c.args.machine.now { frame = c.go.new.frame }) c.args.memory.now c.go.new.memory refl refl c.in-Ok-attempt.field-0 c.in-Calls.function c.in-Calls.local c.body_named.result c.in-Some.body c.descend.new.machine c.in-Ok-attempt.ensures c.in-Calls.is (search_in c.args.setting.now c.in-Calls.function.now c.body_named.result c.body_named.ensures) c.in-Some.is (omega (arith, c.if-machine-eq0-2.false)) c.in-Ok-attempt-2.ensures
+returns-in-Ok-attempt-2 c = calls_body _ c.args.machine.now (record c.args.machine.now { frame = c.go.new.frame }) c.args.memory.now c.go.new.memory refl refl c.in-Ok-attempt.field-0 c.in-Calls.function c.in-Calls.local c.body_named.result c.in-Some.body c.descend.new.machine c.in-Ok-attempt.ensures c.in-Calls.is c.body_named.ensures c.in-Some.is (omega (arith, c.if-machine-eq0-2.false)) c.in-Ok-attempt-2.ensures

@@ -1,7 +1,10 @@
 use Rattle.std.proofs.Common.{refl}
-use Rattle.c_meaning_spec.specs.Run.{c_run}
+use Rattle.c_type_spec.specs.Values.{converted, arithmetic_value}
+use Rattle.c_meaning_spec.specs.Evaluation.{local_value, operated, value}
+use Rattle.c_meaning_spec.specs.Execution.{does}
+use Rattle.c_meaning_spec.specs.Calls.{runs, c_run}
 use Rattle.example_laws.proofs.source.add_two_arguments_gives_their_sum.Goals as goal
 
 pub returns : goal.returns
-unfolding c_run
+unfolding converted arithmetic_value local_value operated value does runs c_run
 returns c = λ memory globals zone is_fixed. refl

@@ -7,5 +7,5 @@ use Rattle.tv_core.proofs.functions.judge_function.Goals as goal
 pub unwrap-size-requires : goal.unwrap-size-requires
 unwrap-size-requires c =
     subst IsSome (sym c.size_at.ensures)
-    (entry_has_size c.args.image.now c.args.unit.now.name c.args.entry
-    (one_entry c.args.image.now c.args.unit.now.name c.args.entry c.requires.named))
+    (entry_has_size c.args.image.now c.args.name.now c.args.entry
+    (one_entry c.args.image.now c.args.name.now c.args.entry c.requires.named))

@@ -1,9 +1,10 @@
+use Rattle.c_syntax.specs.Units.{unit_of as tree_of}
 use Rattle.tv_words.specs.Jobs.{proving_of}
-use Rattle.tv_core.proofs.Judging.{in_grammar, by_parts}
+use Rattle.tv_core.proofs.Judging.{has_tree, by_parts}
 use Rattle.tv_core.proofs.judge.judge_tokens.Goals as goal
 
-pub judge_text-requires : goal.judge_text-requires
-judge_text-requires c = in_grammar c.args.source.now c.args.lexed.now c.in-Ok.ensures.found.0 c.requires c.in-Ok.ensures.found.1
+pub judge_tree-requires : goal.judge_tree-requires
+judge_tree-requires c = has_tree c.args.source.now c.args.lexed.now (tree_of c.in-Ok.tree) c.requires c.in-Ok.ensures.found
 
 pub returns-in-Err : goal.returns-in-Err
 returns-in-Err c =

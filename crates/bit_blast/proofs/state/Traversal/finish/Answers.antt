@@ -18,15 +18,15 @@ index_for-requires-clause-arguments c =
     subst (IsNode (length c.args.self.now.table)) (sym c.moved-own.ensures)
     (is_node c.args._bank.now c.args.self.now.indices c.args.self.now.table c.requires.indexed c.args.node wanted)
 
-pub returns : goal.returns
-returns c =
+pub returns-3 : goal.returns-3
+returns-3 c =
     let wanted = wants_indexed c.args._bank.now c.args.self.now.indices c.args.self.now.table c.args.self.now.tasks.items c.args.id c.args.node c.requires in
     let same : build (terms_in c.args.self.now.table) c.moved-own.result ≡ build c.args._bank.now c.args.node =
     ap (build (terms_in c.args.self.now.table)) c.moved-own.ensures
     ∙ same_build c.args._bank.now c.args.self.now.indices c.args.self.now.table c.requires.indexed c.args.node wanted in
     turned_finish c.args._bank.now c.args.self.now c.args.id c.args.node c.requires
     (record { gates = c.index_for.new.gates; table = c.index_for.new.table; indices = c.insert.new.self; tasks = c.args.self.now.tasks })
-    c.in_ok-index.index refl c.in_ok-insert.ensures.updates.0
+    c.in-Ok-attempt.field-0 refl c.in-Ok-attempt-2.ensures.updates.0
     (subst (λ (term : Term). IsBuilt (once term c.args.self.now.table (finish term c.args.self.now.table)) c.args.self.now.gates c.index_for.new.table c.index_for.new.gates)
-    same c.in_ok-index.ensures.gives)
-    (subst (Holds (terms_in c.index_for.new.table) c.in_ok-index.index) same c.in_ok-index.ensures.index)
+    same c.in-Ok-attempt.ensures.gives)
+    (subst (Holds (terms_in c.index_for.new.table) c.in-Ok-attempt.field-0) same c.in-Ok-attempt.ensures.index)

@@ -13,10 +13,10 @@ returns-then-contains_key c = turned_indexed c.args.bank.now c.args.self.now c.a
 pub node-node-requires : goal.node-node-requires
 node-node-requires c = (tasks_end c.args.bank.now c.args.self.now.tasks.items (Visit c.args.id ∷ []) c.requires.sound).0
 
-pub returns : goal.returns
-returns c =
+pub returns-4 : goal.returns-4
+returns-4 c =
     turned_visit c.args.bank.now c.args.self.now c.args.id c.node-node.result c.requires c.node-node.ensures.tree c.node-node.ensures.children c.push_visits.new.tasks
-    (c.in_ok-push_visits.ensures
-    ∙ ap (λ (tasks : List Task). tasks ++ visits_of c.in_ok-ids.ids.items) c.in_ok-push.ensures.items
-    ∙ append_assoc c.args.self.now.tasks.items (Finish c.args.id c.node-node.result ∷ []) (visits_of c.in_ok-ids.ids.items)
-    ∙ ap (λ (ids : List ℕ). c.args.self.now.tasks.items ++ Finish c.args.id c.node-node.result ∷ visits_of ids) c.in_ok-ids.ensures)
+    (c.in-Ok-attempt-3.ensures
+    ∙ ap (λ (tasks : List Task). tasks ++ visits_of c.in-Ok-attempt.field-0.items) c.in-Ok-attempt-2.ensures.items
+    ∙ append_assoc c.args.self.now.tasks.items (Finish c.args.id c.node-node.result ∷ []) (visits_of c.in-Ok-attempt.field-0.items)
+    ∙ ap (λ (ids : List ℕ). c.args.self.now.tasks.items ++ Finish c.args.id c.node-node.result ∷ visits_of ids) c.in-Ok-attempt.ensures)

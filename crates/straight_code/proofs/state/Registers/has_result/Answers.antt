@@ -24,13 +24,13 @@ returns-clause-found c =
     let old = c.self.inside.bank in
     let mid = c.result_term.new.bank in
     let places = c.self.inside.places.items in
-    let unit = c.args.unit.now in
-    let wanted : tree_at mid c.in_ok-wanted.wanted ≡ result_term unit.operator unit.left unit.right = read mid c.in_ok-wanted.wanted (result_term unit.operator unit.left unit.right) c.in_ok-wanted.ensures.tree in
+    let form = c.args.form in
+    let wanted : tree_at mid c.in_ok-wanted.wanted ≡ result_term form.operator form.left form.right = read mid c.in_ok-wanted.wanted (result_term form.operator form.left form.right) c.in_ok-wanted.ensures.tree in
     let now : tree_at mid c.place_of-given.result ≡ term_at c.args.self.now 10 =
     there_later old mid places c.deref.result.now c.place_of-given.result c.new.result c.self.invariant c.result_term.ensures.extends c.deref.ensures.value c.place_of-given.ensures.below c.place_of-given.ensures.place
     ∙ (ap (λ terms. term_at terms c.new.result) c.self.view_is ∙ ap (term_at c.args.self.now) c.new.ensures) in
     subst (λ (t : Term). IfOk c.is_equal.result (λ (yes : Bool). yes ≡ is_found t))
-    (equated (tree_at mid c.place_of-given.result) (term_at c.args.self.now 10) (tree_at mid c.in_ok-wanted.wanted) (result_term unit.operator unit.left unit.right) now wanted)
+    (equated (tree_at mid c.place_of-given.result) (term_at c.args.self.now 10) (tree_at mid c.in_ok-wanted.wanted) (result_term form.operator form.left form.right) now wanted)
     c.is_equal.ensures.found
 
 pub returns-clause-same : goal.returns-clause-same

@@ -1,0 +1,5 @@
+mod Lists
+pub mod Indices
+mod Bodies
+pub mod Sources
+pub mod Declared

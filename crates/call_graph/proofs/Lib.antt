@@ -1,0 +1,4 @@
+pub mod Growing
+mod Extending
+pub mod Cycles
+mod Deepest

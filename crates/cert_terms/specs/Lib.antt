@@ -1,0 +1,5 @@
+pub mod Operators
+pub mod Variables
+pub mod Reading
+pub mod Views
+pub mod Outcomes

@@ -1,0 +1,28 @@
+-- What a part of a certificate shows: a tree of Leaf and Case at the frame of its function, each of whose obligations is
+-- closed by the log without steps.
+use Rattle.std.specs.Prelude.{◌≡◌, List, [], All, Contains}
+use Rattle.memory_spec.specs.Runs.{Run}
+use Rattle.term_spec.specs.Term.{Term, not_term}
+use Rattle.proof_spec.specs.Frames.{Frame}
+use Rattle.proof_spec.specs.Scope.{IsLine}
+use Rattle.rule_spec.specs.Obligations.{AreObligations}
+use Rattle.rule_spec.specs.Obligations as rule
+use Rattle.closing_spec.specs.Closing.{Closes, closing}
+use Rattle.check_spec.specs.Verdict.{Listed, with_test}
+
+-- the log without steps closes the goal
+abbrev pub IsClosedGoal : List Run → Term → Type 0
+IsClosedGoal runs goal = closing runs goal [] ≡ Closes
+
+-- the frame has a proof by Leaf and Case in the part of the function
+pub data IsClosed (f : Listed) : Frame → Type 0 where
+  leaf : (frame : Frame) (terms : List Term) → AreObligations f.convention f.opening frame rule.Leaf terms → All (IsClosedGoal f.runs) terms → IsClosed f frame
+  case : (frame : Frame) (test : Term) → IsLine frame.setting frame.start.path test → IsClosed f (with_test frame test) → IsClosed f (with_test frame (not_term test))
+      → IsClosed f frame
+
+-- a listed function of the same name has one
+pub record HasPart (listed : List Listed) (f : Listed) : Type 0 where
+  pub part : Listed
+  pub is_listed : Contains listed part
+  pub named : part.name ≡ f.name
+  pub closed : IsClosed part part.frame

@@ -1,0 +1,11 @@
+pub mod Occurring
+pub mod Listings
+pub mod Banks
+pub mod Puts
+pub mod Begins
+pub mod Returns
+pub mod Folds
+pub mod LineLists
+pub mod Renamed
+pub mod Exits
+pub mod Found

@@ -1,0 +1,9 @@
+pub mod Listed
+pub mod Left
+pub mod Bound
+pub mod Cuts
+pub mod Callees
+pub mod Sites
+pub mod Begun
+pub mod Returned
+pub mod Outcome

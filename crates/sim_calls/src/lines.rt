@@ -1,0 +1,100 @@
+//! Lines of a relation, over the terms of their variables.
+
+ghost use Rattle.std.specs.Prelude.{◌∷◌, [], ◌++◌, ◌<◌, ◌≤◌, length, map};
+ghost use Rattle.std.specs.List.{fold};
+ghost use Rattle.path_cond.specs.States.{IsMapOf};
+ghost use Rattle.proof_tree.specs.Frames.{terms_of};
+ghost use Rattle.rule_spec.specs.Rules.{all_of};
+ghost use Rattle.term_bank.specs.Nodes.{Extends, Holds};
+ghost use Rattle.term_core.specs.Trees.{term_of};
+ghost use Rattle.term_spec.specs.Substitution.{State as Terms, substituted};
+ghost use Rattle.term_spec.specs.Term as tree;
+ghost use Rattle.term_substitution.specs.States.{AreBelow, IsAt, IsFound};
+
+use rule_terms::both;
+use std::alloc::AllocError;
+use term_bank::{Bank, TermId};
+use term_core::Term;
+use term_substitution::{Lookup, substitute};
+
+/// A line over the terms of its variables.
+pub(crate) fn line_at<L: Lookup>(
+    bank: &mut Bank,
+    line: &Term,
+    terms: &L,
+) -> Result<TermId, AllocError>
+    requires { AreBelow (length bank.old) (L.terms terms.now) }
+    ensures tree { (s : Terms) → IsMapOf bank.old (L.terms terms.now) s
+        → IsAt bank.new result (substituted s (term_of line.now)) }
+    ensures within { IsFound bank.new result }
+    ensures extends { Extends bank.old bank.new }
+    ensures longer { length bank.old ≤ length bank.new }
+{
+    substitute(bank, line, terms)
+}
+
+/// `and` of a term and some lines, nested to the left.
+pub(crate) fn and_lines<L: Lookup>(
+    bank: &mut Bank,
+    first: TermId,
+    lines: &[Box<Term>],
+    terms: &L,
+) -> Result<TermId, AllocError>
+    requires first { first < length bank.old }
+    requires terms { AreBelow (length bank.old) (L.terms terms.now) }
+    ensures tree { (t : tree.Term) (s : Terms) → Holds bank.old first t
+        → IsMapOf bank.old (L.terms terms.now) s → IsAt bank.new result
+        (fold tree.and_term t (map (substituted s) (terms_of lines.now))) }
+    ensures within { IsFound bank.new result }
+    ensures extends { Extends bank.old bank.new }
+    ensures longer { length bank.old ≤ length bank.new }
+{
+    let mut all = first;
+    for i in 0..lines.len() {
+        let next = line_at(bank, &lines[i], terms)?;
+        all = both(bank, all, next)?;
+    }
+    Ok(all)
+}
+
+// `and` of a line, more lines and a last one.
+fn all_from<L: Lookup>(
+    bank: &mut Bank,
+    first: &Term,
+    rest: &[Box<Term>],
+    last: &Term,
+    terms: &L,
+) -> Result<TermId, AllocError>
+    requires { AreBelow (length bank.old) (L.terms terms.now) }
+    ensures tree { (s : Terms) → IsMapOf bank.old (L.terms terms.now) s → IsAt bank.new result
+        (all_of (map (substituted s) (term_of first.now ∷ (terms_of rest.now
+        ++ term_of last.now ∷ [])))) }
+    ensures within { IsFound bank.new result }
+    ensures extends { Extends bank.old bank.new }
+    ensures longer { length bank.old ≤ length bank.new }
+{
+    let all = line_at(bank, first, terms)?;
+    let all = and_lines(bank, all, rest, terms)?;
+    let last = line_at(bank, last, terms)?;
+    both(bank, all, last)
+}
+
+/// `and` of some lines and a last one.
+pub(crate) fn all_lines<L: Lookup>(
+    bank: &mut Bank,
+    lines: &[Box<Term>],
+    last: &Term,
+    terms: &L,
+) -> Result<TermId, AllocError>
+    requires { AreBelow (length bank.old) (L.terms terms.now) }
+    ensures tree { (s : Terms) → IsMapOf bank.old (L.terms terms.now) s → IsAt bank.new result
+        (all_of (map (substituted s) (terms_of lines.now ++ term_of last.now ∷ []))) }
+    ensures within { IsFound bank.new result }
+    ensures extends { Extends bank.old bank.new }
+    ensures longer { length bank.old ≤ length bank.new }
+{
+    match lines {
+        [] => line_at(bank, last, terms),
+        [first, rest @ ..] => all_from(bank, first, rest, last, terms),
+    }
+}

@@ -1,0 +1,41 @@
+-- Lists of ids of terms.
+use Rattle.std.proofs.Common.{◌≡◌, ℕ, List, [], ◌∷◌, ◌++◌, sym, subst, append_assoc, append-nil}
+use Rattle.term_spec.specs.Term.{Term}
+use Rattle.term_bank.specs.Nodes.{Holds, Extends}
+use Rattle.term_bank.proofs.Substitution.{kept}
+use Rattle.sim_rules.specs.Held.{AreHeld, HasAdded}
+
+held_later : (before now : List Term) → Extends before now → (ids : List ℕ) (ts : List Term) → AreHeld before ids ts → AreHeld now ids ts
+held_later before now e [] [] h = tt
+held_later before now e [] (t ∷ ts) h = h
+held_later before now e (i ∷ ids) [] h = h
+held_later before now e (i ∷ ids) (t ∷ ts) h = (kept before now i t e h.0, held_later before now e ids ts h.1)
+
+held_append : (trees : List Term) (ids more : List ℕ) (ts us : List Term) → AreHeld trees ids ts → AreHeld trees more us → AreHeld trees (ids ++ more) (ts ++ us)
+held_append trees [] more [] us h g = g
+held_append trees [] more (t ∷ ts) us h g = absurd h
+held_append trees (i ∷ ids) more [] us h g = absurd h
+held_append trees (i ∷ ids) more (t ∷ ts) us h g = (h.0, held_append trees ids more ts us h.1 g)
+
+module _ (before now : List Term) (e : Extends before now) where
+  -- none
+  pub added_none : (ids : List ℕ) → HasAdded before now [] ids ids
+  added_none ids = λ earlier h. subst (AreHeld now ids) (sym (append-nil earlier)) (held_later before now e ids earlier h)
+
+  -- one
+  pub added_one : (old new : List ℕ) (i : ℕ) (t : Term) → new ≡ old ++ i ∷ [] → Holds now i t → HasAdded before now (t ∷ []) old new
+  added_one old new i t is at = λ earlier h.
+      subst (λ (l : List ℕ). AreHeld now l (earlier ++ t ∷ [])) (sym is) (held_append now old (i ∷ []) earlier (t ∷ []) (held_later before now e old earlier h) (at, tt))
+
+  -- two
+  pub added_two : (old new : List ℕ) (i j : ℕ) (t u : Term) → new ≡ old ++ i ∷ j ∷ [] → Holds now i t → Holds now j u → HasAdded before now (t ∷ u ∷ []) old new
+  added_two old new i j t u is at at_j = λ earlier h.
+      subst (λ (l : List ℕ). AreHeld now l (earlier ++ t ∷ u ∷ [])) (sym is) (held_append now old (i ∷ j ∷ []) earlier (t ∷ u ∷ []) (held_later before now e old earlier h) (at, (at_j, tt)))
+
+-- some, and then others
+pub added_then : (first second third xs ys : List Term) (old mid new : List ℕ) → HasAdded first second xs old mid → HasAdded second third ys mid new → HasAdded first third (xs ++ ys) old new
+added_then first second third xs ys old mid new p q = λ earlier h. subst (AreHeld third new) (append_assoc earlier xs ys) (q (earlier ++ xs) (p earlier h))
+
+-- all of them
+pub added_all : (before now terms : List Term) (old new : List ℕ) → old ≡ [] → HasAdded before now terms old new → AreHeld now new terms
+added_all before now terms old new none added = added [] (subst (λ (l : List ℕ). AreHeld before l []) (sym none) tt)

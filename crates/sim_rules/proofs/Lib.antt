@@ -1,0 +1,11 @@
+pub mod Held
+pub mod Added
+pub mod Stopping
+pub mod AtStops
+pub mod Resting
+pub mod Lists
+pub mod Cut
+pub mod Made
+pub mod Faulty
+pub mod Knowing
+pub mod Finishing

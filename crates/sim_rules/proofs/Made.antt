@@ -1,0 +1,87 @@
+-- Ways that were made for a side of a frame, and their walks, as a bank grows.
+use Rattle.std.proofs.Common.{◌≡◌, ◌∙◌, ℕ, List, Option, sym, subst, refl, length}
+use Rattle.std.specs.Prelude.{Result, Ok, Err, IfOk, IfErr}
+use Rattle.std.specs.HashMap.{get}
+use Rattle.term_spec.specs.declared.Variable.{Variable}
+use Rattle.term_spec.specs.Same.{same_variable}
+use Rattle.term_spec.specs.Term.{Term}
+use Rattle.term_bank.specs.Nodes.{Extends}
+use Rattle.term_substitution.specs.States.{AreBelow, state_of}
+use Rattle.graph_core.specs.Graphs.{graph_of}
+use Rattle.visit_spec.specs.Listing.{Listing, IsListing}
+use Rattle.visit_spec.specs.Visits.{Walk}
+use Rattle.visit_walk.specs.Found.{IsWalkFault}
+use Rattle.visit_walk.specs.declared.found.WalkFault.{WalkFault}
+use Rattle.path_cond.specs.States.{IsMapOf}
+use Rattle.proof_tree.specs.Frames.{frame_of}
+use Rattle.rule_spec.specs.Points.{Convention}
+use Rattle.rule_spec.specs.Rules.{Opening}
+use Rattle.rule_spec.specs.Sides as sides
+use Rattle.rule_terms.specs.declared.points.Opening.{Opening as CodeOpening}
+use Rattle.rule_terms.specs.declared.way.Way.{Way}
+use Rattle.rule_terms.specs.Openings.{IsOpening, IsOpeningIn}
+use Rattle.rule_terms.specs.Ways.{IsWay, walk_on}
+use Rattle.rule_terms.proofs.Later.{map_later, opening_later}
+use Rattle.sim_rules.specs.declared.setup.Setup.{Setup}
+use Rattle.sim_rules.specs.declared.side.Side.{Side}
+use Rattle.sim_rules.specs.declared.side.Side.TheVariants.{Binary, Source}
+use Rattle.sim_rules.specs.declared.plan.Change.{Change}
+use Rattle.sim_rules.specs.declared.plan.Change.TheVariants.{Plain, Holding, Restricting}
+use Rattle.sim_rules.specs.declared.walked.Walked.{Walked}
+use Rattle.sim_rules.specs.Faults.{IsOutcome}
+use Rattle.sim_rules.specs.Made.{IsMade, changed}
+use Rattle.sim_rules.specs.Setups.{IsSetup}
+use Rattle.sim_rules.specs.Sides.{ids_at, terms_at, way_at}
+use Rattle.sim_rules.specs.Walks.{IsWalked}
+
+map_at : (trees : List Term) (o : Opening) (code : CodeOpening) (side : Side) → IsOpening trees o code → IsMapOf trees (ids_at code side) (terms_at o side)
+map_at trees o code Binary is = is.of_binary
+map_at trees o code Source is = is.of_source
+
+below_at : (n : ℕ) (code : CodeOpening) (side : Side) → IsOpeningIn n code → AreBelow n (ids_at code side)
+below_at n code Binary is = is.binary_below
+below_at n code Source is = is.source_below
+
+module _ (trees : List Term) (s : Setup) (side : Side) where
+  terms_made : (o : Opening) (change : Change) (way : Way) → IsOpening trees o s.opening → IsMade s side change way → IsMapOf trees (get same_variable way.terms.now) (terms_at o side)
+  terms_made o change way opening made = subst (λ (f : Variable → Option ℕ). IsMapOf trees f (terms_at o side)) (sym made.ids_are) (map_at trees o s.opening side opening)
+
+  -- the way is the side's, as the rule changes it
+  pub is_way : (o : Opening) (change : Change) (way : Way) → IsOpening trees o s.opening → IsMade s side change way
+      → IsWay trees (changed (way_at o (frame_of s.frame.now) side) change way.shape.successors.items) way
+  is_way o Plain way opening made = record { graph = made.graph_is; walk = made.walk_is o; terms = terms_made o Plain way opening made }
+  is_way o (Holding n) way opening made = record { graph = made.graph_is; walk = made.walk_is o; terms = terms_made o (Holding n) way opening made }
+  is_way o (Restricting b) way opening made = record { graph = made.graph_is; walk = made.walk_is o; terms = terms_made o (Restricting b) way opening made }
+
+  -- the way as it is, of whatever terms its map has
+  pub some_way : (change : Change) (way : Way) → IsOpeningIn (length trees) s.opening → IsMade s side change way → (w : sides.Way) × IsWay trees w way
+  some_way change way opening made = (
+    record { graph = graph_of way.graph.now; walk = walk_on way; start = state_of trees (get same_variable way.terms.now) },
+    record {
+      graph = refl;
+      walk = refl;
+      terms = record { current = λ v. refl; below = subst (AreBelow (length trees)) (sym made.ids_are) (below_at (length trees) s.opening side opening) };
+    },
+  )
+
+-- ---- as the bank grows
+
+module _ (before now : List Term) (e : Extends before now) where
+  pub way_later : (w : sides.Way) (way : Way) → IsWay before w way → IsWay now w way
+  way_later w way is = record { graph = is.graph; walk = is.walk; terms = map_later before now e (get same_variable way.terms.now) w.start is.terms }
+
+  pub walked_later : (w : sides.Way) (x : Walked) → IsWalked before w x → IsWalked now w x
+  walked_later w x is = record { is_way = way_later w x.way.now is.is_way; maximum = is.maximum; outcome = is.outcome }
+
+  pub setup_later : (c : Convention) (o : Opening) (s : Setup) → IsSetup before c o s → IsSetup now c o s
+  setup_later c o s is = record { convention_is = is.convention_is; opening_is = opening_later before now e o s.opening is.opening_is }
+
+-- ---- what a walk gives
+
+pub outcome : (w : Walk) (maximum : ℕ) (r : Result Listing WalkFault) → IfOk r (IsListing w maximum) → IfErr r (IsWalkFault w maximum) → IsOutcome w maximum r
+outcome w maximum (Ok listing) ok err = ok
+outcome w maximum (Err fault) ok err = err
+
+-- of the way that was asked for
+pub outcome_of : (trees : List Term) (w : sides.Way) (way : Way) (maximum : ℕ) (r : Result Listing WalkFault) → IsWay trees w way → IsOutcome (walk_on way) maximum r → IsOutcome w.walk maximum r
+outcome_of trees w way maximum r is h = subst (λ (walk : Walk). IsOutcome walk maximum r) is.walk h

@@ -1,0 +1,14 @@
+pub mod Sides
+pub mod Marks
+pub mod Plans
+pub mod Made
+pub mod Cutting
+pub mod Faults
+pub mod Walks
+pub mod Setups
+pub mod Held
+pub mod Terms
+pub mod Stops
+pub mod Outcome
+pub mod Lines
+pub mod Rules

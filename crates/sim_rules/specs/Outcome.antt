@@ -1,0 +1,28 @@
+-- The obligations of a rule, as terms of a bank, and why there are none.
+use Rattle.std.specs.Prelude.{ℕ, List}
+use Rattle.term_spec.specs.Term.{Term}
+use Rattle.proof_spec.specs.Frames.{Frame}
+use Rattle.rule_spec.specs.Points.{Convention}
+use Rattle.rule_spec.specs.Rules.{Opening}
+use Rattle.rule_spec.specs.Obligations as spec
+use Rattle.rule_spec.specs.Obligations.{Rule, HasNoLine, IsCyclicRule, IsLargeRule}
+use Rattle.sim_rules.specs.declared.fault.RuleFault.{RuleFault}
+use Rattle.sim_rules.specs.declared.fault.RuleFault.TheVariants.{Sort, Cyclic, Large, NoMemory}
+use Rattle.sim_rules.specs.Held.{AreHeld}
+
+-- the ids are those of the rule's obligations, in their order
+pub record AreObligations (trees : List Term) (c : Convention) (o : Opening) (f : Frame) (rule : Rule) (ids : List ℕ) : Type 0 where
+  pub terms : List Term
+  pub are : spec.AreObligations c o f rule terms
+  pub held : AreHeld trees ids terms
+
+-- out of memory may come at any time
+abbrev pub IsRuleFault : Opening → Frame → (maximum : ℕ) → Rule → RuleFault → Type 0
+IsRuleFault o f maximum rule (Sort index) = HasNoLine f rule index
+IsRuleFault o f maximum rule (Cyclic node) = IsCyclicRule o f rule node
+IsRuleFault o f maximum rule (Large count) = IsLargeRule o f maximum rule count
+IsRuleFault o f maximum rule NoMemory = Unit {0}
+
+-- each line of the rule is one
+abbrev pub HasLines : Frame → Rule → Type 0
+HasLines f rule = (index : ℕ) → HasNoLine f rule index → ⊥

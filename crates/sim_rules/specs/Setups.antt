@@ -1,0 +1,12 @@
+-- What the rules are applied to, of the code as the definitions have it, in a bank.
+use Rattle.std.specs.Prelude.{List}
+use Rattle.term_spec.specs.Term.{Term}
+use Rattle.rule_spec.specs.Points as points
+use Rattle.rule_spec.specs.Rules as spec
+use Rattle.rule_terms.specs.Conventions.{IsConventionOf}
+use Rattle.rule_terms.specs.Openings.{IsOpening}
+use Rattle.sim_rules.specs.declared.setup.Setup.{Setup}
+
+pub record IsSetup (trees : List Term) (c : points.Convention) (o : spec.Opening) (s : Setup) : Type 0 where
+  pub convention_is : IsConventionOf s.convention.now c
+  pub opening_is : IsOpening trees o s.opening

@@ -1,0 +1,124 @@
+//! The rules of a proof, and their obligations.
+
+ghost use Rattle.std.specs.Prelude.{◌≡◌, ◌∷◌, [], IfErr, IfOk, OnOk, length};
+ghost use Rattle.term_core.specs.Trees.{term_of};
+ghost use Rattle.term_bank.specs.Nodes.{Extends};
+ghost use Rattle.proof_tree.specs.Frames.{frame_of, terms_of};
+ghost use Rattle.proof_tree.specs.Scope.{setting_of};
+ghost use Rattle.rule_spec.specs.Points as points;
+ghost use Rattle.rule_spec.specs.Rules as rules;
+ghost use Rattle.rule_terms.specs.Openings.{IsOpeningIn};
+ghost use Rattle.sim_rules.specs.Lines.{AreLines, IsFirstBad, IsLineFault};
+ghost use Rattle.sim_rules.specs.Outcome.{AreObligations, HasLines, IsRuleFault};
+ghost use Rattle.sim_rules.specs.Rules.{rule_of};
+ghost use Rattle.sim_rules.specs.Setups.{IsSetup};
+
+use crate::fault::RuleFault;
+use crate::plan::Walking;
+use crate::setup::Setup;
+use crate::whole::whole;
+use proof_spec::Mark;
+use proof_tree::{Hold, Setting, is_line};
+use std::alloc::Global;
+use term_bank::{Bank, TermId};
+use term_core::Term;
+
+/// A rule of a proof, at nodes in place of points.
+#[derive(Clone, Copy)]
+pub enum Rule<'a> {
+    /// both sides' walks end
+    Leaf,
+    /// where the term holds, and where it doesn't
+    Case(&'a Term),
+    /// so many arrivals of the binary at the node don't come
+    RestrictBinary(Mark),
+    /// so many arrivals of the source at the node don't come
+    RestrictSource(Mark),
+    /// the cut of a Split or a Hold, in the source body of this path; the lines of the relation
+    Cut(&'a [u32], &'a [Box<Term>]),
+    /// the binary alone comes to an open hold
+    Wait(Hold<'a>),
+}
+
+// The index of the first term that is no line in the body of the path, if there is one.
+fn first_bad(setting: &Setting, path: &[u32], lines: &[Box<Term>]) -> Option<usize>
+    ensures { IsFirstBad (setting_of setting.now) path.now (terms_of lines.now) result }
+{
+    for index in 0..lines.len() {
+        if !is_line(setting, path, &lines[index]) {
+            return Some(index);
+        }
+    }
+    None
+}
+
+// A Case or a cut leaves nothing to show, where its terms are lines.
+fn nothing(
+    alloc: Global,
+    setting: &Setting,
+    path: &[u32],
+    lines: &[Box<Term>],
+) -> Result<Vec<TermId>, RuleFault>
+    ensures lines { OnOk result (AreLines (setting_of setting.now) path.now (terms_of lines.now)) }
+    ensures terms { IfOk result (λ ids. ids.items ≡ []) }
+    ensures fault { IfErr result (IsLineFault (setting_of setting.now) path.now
+        (terms_of lines.now)) }
+{
+    match first_bad(setting, path, lines) {
+        Some(index) => Err(RuleFault::Sort(index)),
+        None => Ok(Vec::new(alloc)),
+    }
+}
+
+// The same of one term.
+fn nothing_by(
+    alloc: Global,
+    setting: &Setting,
+    path: &[u32],
+    test: &Term,
+) -> Result<Vec<TermId>, RuleFault>
+    ensures lines { OnOk result (AreLines (setting_of setting.now) path.now
+        (term_of test.now ∷ [])) }
+    ensures terms { IfOk result (λ ids. ids.items ≡ []) }
+    ensures fault { IfErr result (IsLineFault (setting_of setting.now) path.now
+        (term_of test.now ∷ [])) }
+{
+    if is_line(setting, path, test) {
+        Ok(Vec::new(alloc))
+    } else {
+        Err(RuleFault::Sort(0))
+    }
+}
+
+/// The obligations of a rule at a frame, in their order, or the first of these that applies: a term
+/// that is no line, a walk that is cyclic, a walk with too many visits. Out of memory, the bank may
+/// have some more terms.
+pub fn obligations(
+    alloc: Global,
+    setup: &Setup<'_>,
+    rule: Rule<'_>,
+    bank: &mut Bank,
+) -> Result<Vec<TermId>, RuleFault>
+    requires { IsOpeningIn (length bank.old) setup.now.opening }
+    ensures terms { (c : points.Convention) (o : rules.Opening) → IsSetup bank.old c o setup.now
+        → IfOk result (λ ids. AreObligations bank.new c o (frame_of setup.now.frame.now)
+        (rule_of rule.entry) ids.items) }
+    ensures lines { OnOk result (HasLines (frame_of setup.now.frame.now) (rule_of rule.entry)) }
+    ensures fault { (o : rules.Opening) → IfErr result (IsRuleFault o (frame_of setup.now.frame.now)
+        setup.now.maximum (rule_of rule.entry)) }
+    ensures extends { Extends bank.old bank.new }
+{
+    let frame = setup.frame;
+    match rule {
+        Rule::Leaf => whole(alloc, bank, setup, &Walking::Leaf),
+        Rule::Case(test) => nothing_by(alloc, frame.setting, frame.start.path, test),
+        Rule::RestrictBinary(bound) => {
+            whole(alloc, bank, setup, &Walking::RestrictBinary(bound))
+        }
+        Rule::RestrictSource(bound) => {
+            whole(alloc, bank, setup, &Walking::RestrictSource(bound))
+        }
+        Rule::Cut(path, lines) => nothing(alloc, frame.setting, path, lines),
+        Rule::Wait(hold) => whole(alloc, bank, setup, &Walking::Wait(hold)),
+    }
+}

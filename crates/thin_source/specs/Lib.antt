@@ -1,3 +1,0 @@
-pub mod Lexeme
-pub mod Parts
-pub mod Refused

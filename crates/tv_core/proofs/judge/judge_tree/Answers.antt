@@ -1,0 +1,16 @@
+use Rattle.c_syntax.specs.Units.{unit_of as tree_of}
+use Rattle.tv_words.specs.Jobs.{proving_of}
+use Rattle.tv_core.proofs.Judging.{is_source, by_parts}
+use Rattle.tv_core.proofs.judge.judge_tree.Goals as goal
+
+pub returns-in-Ok : goal.returns-in-Ok
+returns-in-Ok c =
+    c.judge_unit.ensures c.args.source.now
+    (is_source c.args.source.now (tree_of c.args.tree.now) c.in-Ok.unit c.requires c.in-Ok.ensures)
+
+pub returns-in-Err : goal.returns-in-Err
+returns-in-Err c =
+    let functions = (proving_of c.args.job.now).functions in
+    by_parts c.args.image.now c.args.source.now functions c.without_types.result
+    (λ elf is. c.without_types.ensures.exact elf c.args.source.now functions c.args.image.now (tree_of c.args.tree.now) is c.requires c.in-Err.ensures)
+    (λ elf is. c.without_types.ensures.sound elf c.args.source.now functions) c.without_types.ensures.memory

@@ -1,0 +1,27 @@
+-- Why a text is no C source: its first fault.
+use Rattle.std.specs.Prelude.{◌≡◌, ℕ, List, Err}
+use Rattle.c_spec.specs.declared.token.TokenFaultKind.{TokenFaultKind}
+use Rattle.c_spec.specs.Lexical.{IsTokenFault}
+use Rattle.c_tree_spec.specs.Unit.{TranslationUnit}
+use Rattle.c_grammar_spec.specs.declared.ParseFaultKind.{ParseFaultKind}
+use Rattle.c_grammar_spec.specs.Source.{HasTree, IsParseFault}
+use Rattle.c_type_spec.specs.declared.TypeFaultKind.{TypeFaultKind}
+use Rattle.c_type_spec.specs.Core.{Typed}
+use Rattle.c_type_spec.specs.Units.{typed}
+use Rattle.claim_spec.specs.Source.{IsC}
+use Rattle.report_spec.specs.declared.SourceKind.{SourceKind}
+use Rattle.report_spec.specs.declared.SourceKind.TheVariants.{Token, Syntax, Typing}
+
+-- a text is C, or is refused
+pub data Source : Type 0 where
+  Accepted : (unit : Typed) → Source
+  -- for this reason, at this offset
+  Refused : (kind : SourceKind) → (offset : ℕ) → Source
+
+-- the verdict on a text: its first fault of tokens, else of the grammar, else of types; else it is C, and has a typed core
+pub data CVerdict (text : List ℕ) : Source → Type 0 where
+  no_tokens : (kind : TokenFaultKind) (offset : ℕ) → IsTokenFault text kind offset → CVerdict text (Refused (Token kind) offset)
+  no_unit : (kind : ParseFaultKind) (offset : ℕ) → IsParseFault text kind offset → CVerdict text (Refused (Syntax kind) offset)
+  no_types : (tree : TranslationUnit) (kind : TypeFaultKind) (offset : ℕ) → HasTree text tree → typed tree ≡ Err (kind, offset)
+      → CVerdict text (Refused (Typing kind) offset)
+  accepted : (unit : Typed) → IsC text unit → CVerdict text (Accepted unit)
