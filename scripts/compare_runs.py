@@ -4,6 +4,10 @@
     scripts/compare_runs.py results [COUNT] [SEED] [PROGRAM]    where a call returns: its value, and the bytes of all globals
     scripts/compare_runs.py guards [COUNT] [SEED] [PROGRAM]     where it breaks a guard on arithmetic or an index: gcc's sanitizer traps, else not
 
+gcc folds constant products, and narrows an operation whose result is converted, before it instruments them. So a call that
+breaks guard 2 (signed overflow) and doesn't trap is run once more with `+`, `-` and `*` written out by gcc's functions that
+report overflow, which it can't narrow. Those that trap then are counted apart; the others differ.
+
 It is run outside the gate and needs gcc for RISC-V and qemu (Debian: gcc-riscv64-linux-gnu, qemu-user) on the path, and
 the program `c_run_rows`, or what `rt run` has built in its crate. The programs have loops, calls, `switch`, structs, arrays,
 pointers into globals and all integer types, and are compiled with and without optimisation. A process a processor works
@@ -27,9 +31,52 @@ DEFINED = ["-fwrapv"]
 TRAPS = ["-fsanitize=signed-integer-overflow,integer-divide-by-zero,shift-exponent,bounds-strict", "-fsanitize-undefined-trap-on-error"]
 SANITIZED = ("SignedOverflow", "Division", "ShiftCount", "Index")
 BATCH = 250
+# An operation of a program as it is made: its marks, with the operands between them.
+OPEN, BETWEEN, CLOSE = "\ue000", "\ue001", "\ue002"
+OPERATION = re.compile("{0}([^{0}{1}{2}]*){1}([^{0}{1}{2}]*){1}([^{0}{1}{2}]*){2}".format(OPEN, BETWEEN, CLOSE))
 ARGUMENTS = [0, 1, 2, 3, -1, -2, 7, 31, 32, 100, 255, 256, 32767, 65535, 65536, 2147483647, -2147483648, 12345678, -987654321]
 TYPES = ["char", "signed char", "unsigned char", "short", "unsigned short", "int", "unsigned", "long", "unsigned long"]
 SIZES = {"char": 1, "signed char": 1, "unsigned char": 1, "short": 2, "unsigned short": 2}
+
+
+def operation(left, operator, right):
+    return f"{OPEN}{left}{BETWEEN}{operator}{BETWEEN}{right}{CLOSE}"
+
+
+def plain(left, operator, right):
+    """An operation as C has it."""
+    if operator in ("++", "--"):
+        return f"{left}{operator};"
+    if operator.endswith("=") and operator not in ("==", "!=", ">="):
+        return f"{left}{operator}{right};"
+    return f"({left}{operator} {right})" if left else f"{operator}({right})"
+
+
+# Operations that may overflow, with the overflow tested; their operands have no side effects.
+CHECKED = {
+    "+": lambda left, right: f"ADDED({left},{right})",
+    "-": lambda left, right: f"SUBTRACTED({left or 0},{right})",
+    "*": lambda left, right: f"MULTIPLIED({left},{right})",
+    "+=": lambda left, right: f"{left}=ADDED({left},{right});",
+    "-=": lambda left, right: f"{left}=SUBTRACTED({left},{right});",
+    "*=": lambda left, right: f"{left}=MULTIPLIED({left},{right});",
+    "++": lambda left, right: f"{left}=ADDED({left},1);",
+    "--": lambda left, right: f"{left}=SUBTRACTED({left},1);",
+}
+
+
+def written(text, forms):
+    """The text of a program, whose operations have the forms that are given, or are plain."""
+
+    def one(found):
+        left, operator, right = found.groups()
+        if operator in forms and (left or operator != "+"):
+            return forms[operator](left, right)
+        return plain(left, operator, right)
+
+    while OPEN in text:
+        text = OPERATION.sub(one, text)
+    return text
 
 
 class Program:
@@ -50,7 +97,8 @@ class Program:
         self.name = f"f_{number}"
         start = f"{self.pointer}=a_{number};q_{number}=&{self.struct};"
         body += f"{self.kind()} {self.name}({self.kind()} a,{self.kind()} b){{{start}{self.statements(['a', 'b'], [], 3, 5, True)}return {self.value(['a', 'b'], 3)};}}"
-        self.text = declared + body
+        self.text = declared + written(body, {})
+        self.checked = declared + written(body, CHECKED)
 
     def pick(self, words):
         return self.random.choice(words)
@@ -83,13 +131,13 @@ class Program:
             return self.pick(names + [self.pick(self.scalars)[1]] + [str(self.random.randrange(20)), self.pick(["255", "65535", "1000000u", "0x80000000", "'x'", "3u"])])
         x, y = self.value(names, depth - 1), self.value(names, depth - 1)
         if roll < 0.5:
-            return f"({x}{self.pick(['+', '-', '*', '&', '|', '^', '<', '>=', '==', '!=', '&&', '||'])} {y})"
+            return operation(x, self.pick(["+", "-", "*", "&", "|", "^", "<", ">=", "==", "!=", "&&", "||"]), y)
         if roll < 0.58:
             return f"({x}{self.pick(['/', '%'])}({y}{self.pick(['|1'] * 14 + [''])}))"
         if roll < 0.66:
             return f"({x}{self.pick(['<<', '>>'])}({y}{self.pick(['&31'] * 8 + ['&7'] * 6 + [''])}))"
         if roll < 0.74:
-            return f"{self.pick(['-', '~', '!', '+'])}({x})"
+            return operation("", self.pick(["-", "~", "!", "+"]), x)
         if roll < 0.82:
             return f"({self.kind()})({x})"
         if roll < 0.88:
@@ -110,9 +158,9 @@ class Program:
         if roll < 0.3 or depth <= 0:
             return f"{self.target(names, fixed, 1)}={x};"
         if roll < 0.42:
-            return f"{self.target(names, fixed, 1)}{self.pick(['+', '-', '^', '|', '&', '*'])}={x};"
+            return operation(self.target(names, fixed, 1), self.pick(["+", "-", "^", "|", "&", "*"]) + "=", x)
         if roll < 0.48:
-            return f"{self.target(names, fixed, 1)}{self.pick(['++', '--'])};"
+            return operation(self.target(names, fixed, 1), self.pick(["++", "--"]), "")
         if roll < 0.6:
             return f"if({x}){{{self.statements(inner, fixed, depth - 1, 2, calls)}}}else{{{self.statements(inner, fixed, depth - 1, 1, calls)}}}"
         if roll < 0.76:
@@ -169,12 +217,16 @@ static void put(char c){text[length++]=c;}
 static void put_hex(const unsigned char*p,unsigned n){put(' ');while(n--){put("0123456789abcdef"[*p>>4]);put("0123456789abcdef"[*p&15]);p++;}}
 static void put_number(int is_unsigned,unsigned n){char d[12];int k=0;if(!is_unsigned&&(int)n<0){put('-');n=-n;}do{d[k++]='0'+n%10;n/=10;}while(n);while(k)put(d[--k]);}
 static void end_line(void){put('\n');system_call(64,1,(long)text,length);length=0;}
+#define TESTED(overflows,op,x,y)({__auto_type x_=(x);__auto_type y_=(y);__typeof__(x_ op y_)r_;if(overflows((__typeof__(r_))x_,(__typeof__(r_))y_,&r_)&&(__typeof__(r_))-1<0)__builtin_trap();r_;})
+#define ADDED(x,y)TESTED(__builtin_add_overflow,+,x,y)
+#define SUBTRACTED(x,y)TESTED(__builtin_sub_overflow,-,x,y)
+#define MULTIPLIED(x,y)TESTED(__builtin_mul_overflow,*,x,y)
 """
 
 
-def compiled(folder, name, cases, flags):
+def compiled(folder, name, cases, flags, is_checked=False):
     """The program that calls cases."""
-    source = [HARNESS] + list(dict.fromkeys(program.text for program, _, _ in cases))
+    source = [HARNESS] + list(dict.fromkeys(program.checked if is_checked else program.text for program, _, _ in cases))
     calls = []
     for number, (program, first, second) in enumerate(cases):
         clear = "".join(f"memset(&{name},0,sizeof {name});" for name, _ in program.globals())
@@ -227,22 +279,25 @@ def kind_of(outcome):
 
 
 def compared(start, end, seed, is_results):
-    """Of the programs with these numbers: how many calls have which outcome, and what is printed of those that differ."""
+    """Of the programs with these numbers: how many calls have which outcome, what is printed of those that differ, and how
+    many trap only where operations are written out."""
     cases = batch(start, end, seed)
     outcomes = ours(cases)
     with tempfile.TemporaryDirectory() as folder:
-        return Counter(map(kind_of, outcomes)), (results if is_results else guards)(folder, cases, outcomes)
+        return Counter(map(kind_of, outcomes)), *(results if is_results else guards)(folder, cases, outcomes)
 
 
 def compare(count, seed, is_results):
-    counted, differ = Counter(), 0
+    counted, differ, folded = Counter(), 0, 0
     with ProcessPoolExecutor(initializer=os.nice, initargs=(19,)) as pool:
         starts = range(0, count, BATCH)
-        for kinds, told in pool.map(compared, starts, [min(count, start + BATCH) for start in starts], [seed] * len(starts), [is_results] * len(starts)):
+        for kinds, told, apart in pool.map(compared, starts, [min(count, start + BATCH) for start in starts], [seed] * len(starts), [is_results] * len(starts)):
             counted += kinds
             differ += len(told)
+            folded += apart
             print("".join(told), end="", flush=True)
-    print(f"{count} programs, each called twice: {dict(sorted(counted.items()))}; differ: {differ}")
+    also = "" if is_results else f"; signed overflows that gcc folds or narrows: {folded}"
+    print(f"{count} programs, each called twice: {dict(sorted(counted.items()))}{also}; differ: {differ}")
     return differ
 
 
@@ -259,19 +314,26 @@ def results(folder, cases, outcomes):
         if len(lines) != len(kept) or status:
             raise RuntimeError(f"{len(kept)} calls and {len(lines)} lines, status {status}")
         differ += [say(cases[number], outcomes[number], line) for number, line in zip(kept, lines) if outcomes[number] != line]
-    return differ
+    return differ, 0
 
 
 def guards(folder, cases, outcomes):
-    """The calls that trap where no guard is broken, or the other way."""
+    """The calls that trap where no guard is broken, or the other way, and how many trap only where operations are written out."""
     kept = [number for number, outcome in enumerate(outcomes) if kind_of(outcome) in ("returned",) + SANITIZED]
     program = compiled(folder, "traps", [cases[number] for number in kept], ["-O0"] + TRAPS)
-    differ = []
+    differ, unseen = [], []
     for place, number in enumerate(kept):
         lines, status = ran(program, place)
-        if (status != 0) != (kind_of(outcomes[number]) != "returned"):
+        if status == 0 and kind_of(outcomes[number]) == "SignedOverflow":
+            unseen.append(number)
+        elif (status != 0) != (kind_of(outcomes[number]) != "returned"):
             differ.append(say(cases[number], outcomes[number], f"status {status}"))
-    return differ
+    if not unseen:
+        return differ, 0
+    program = compiled(folder, "checked", [cases[number] for number in unseen], ["-O0"] + TRAPS, True)
+    missed = [number for place, number in enumerate(unseen) if ran(program, place)[1] == 0]
+    differ += [say(cases[number], outcomes[number], "status 0, also where operations are written out") for number in missed]
+    return differ, len(unseen) - len(missed)
 
 
 def main(words):

@@ -6,8 +6,8 @@
     scripts/compare_types.py statements [COUNT] [SEED]    random assignments, calls and returns: accepted or refused
     scripts/compare_types.py rows                         the rows of `crates/c_type_rows`, whose answers are asked of gcc alone
 
-It is run outside the gate and needs `rt` and gcc for RISC-V (Debian: gcc-riscv64-linux-gnu) on the path. The texts go to
-the rows' program, which runs unproved. gcc is asked with `-pedantic-errors`, so that each constraint of C11 that is
+It is run outside the gate and needs gcc for RISC-V (Debian: gcc-riscv64-linux-gnu) on the path. The texts go to the rows'
+program as it is compiled (`crates/c_type_rows/out/c_type_rows`, after `rt run` there); without it `rt try` runs it unproved. gcc is asked with `-pedantic-errors`, so that each constraint of C11 that is
 violated is an error. What differs by choice is counted by its cause, and everything else is printed.
 """
 
@@ -116,7 +116,9 @@ class Maker:
 def ours(rows):
     """What the rows' program finds for each question and text."""
     text = "".join(f"{question} | ? | {unit}\n" for question, unit in rows)
-    ran = subprocess.run(["rt", "try", "--seconds", "3600"], cwd=ROWS, input=text, capture_output=True, text=True)
+    program = ROWS / "out/c_type_rows"
+    command = [str(program)] if program.exists() else ["rt", "try", "--seconds", "3600"]
+    ran = subprocess.run(command, cwd=ROWS, input=text, capture_output=True, text=True)
     found = [line[2:].strip() for line in ran.stdout.splitlines() if line.startswith("? ") or line == "?"]
     if len(found) != len(rows):
         sys.exit(f"{len(rows)} rows and {len(found)} answers: {ran.stdout[-2000:]}{ran.stderr[-2000:]}")

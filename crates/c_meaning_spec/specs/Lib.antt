@@ -1,5 +1,3 @@
-pub mod Types
-pub mod Run
 pub mod Setting
 pub mod Accesses
 pub mod Evaluation

@@ -64,7 +64,7 @@ fn declared<'t>(
 {
     allocated!(declare(names, is_typedef, &first));
     let end = attempt!(value(alloc, tokens, names));
-    all.push(first)?;
+    allocated!(all.push(first));
     Ok(end)
 }
 
@@ -86,11 +86,11 @@ fn more_globals<'t>(
     let typedef = is_typedef(specifiers);
     let mut end = end;
     'items: while tokens.next_is(Punctuator::Comma) {
-        tokens.mark(Punctuator::Comma, end)?;
-        let next = global(alloc, tokens, names, typedef)?;
-        end = declared(alloc, tokens, names, typedef, next, all)?;
+        attempt!(tokens.mark(Punctuator::Comma, end));
+        let next = attempt!(global(alloc, tokens, names, typedef));
+        end = attempt!(declared(alloc, tokens, names, typedef, next, all));
     }
-    tokens.mark(Punctuator::Semicolon, end)?;
+    attempt!(tokens.mark(Punctuator::Semicolon, end));
     Ok(())
 }
 
@@ -111,7 +111,7 @@ pub fn globals<'t>(
 {
     let mut all: Vec<Box<GlobalDeclarator<'t>>> = Vec::new(alloc);
     let shared: &Specifiers<'t> = &specifiers;
-    let end = declared(alloc, tokens, names, is_typedef(shared), first, &mut all)?;
-    more_globals(alloc, tokens, names, shared, &mut all, end)?;
-    Ok(boxed(alloc, ExternalDeclaration::Declaration(specifiers, all))?)
+    let end = attempt!(declared(alloc, tokens, names, is_typedef(shared), first, &mut all));
+    attempt!(more_globals(alloc, tokens, names, shared, &mut all, end));
+    Ok(allocated!(boxed(alloc, ExternalDeclaration::Declaration(specifiers, all))))
 }

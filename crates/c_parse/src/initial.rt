@@ -23,14 +23,14 @@ fn designator<'t>(scope: Scope<'_, 't>, tokens: &mut Tokens<'t>) -> Result<(), S
     ensures shorter { IfOk result (λ _. IsShorter tokens.new tokens.old) }
 {
     if tokens.next_is(Punctuator::Dot) {
-        tokens.mark(Punctuator::Dot, Role::Nothing)?;
-        tokens.name(Role::Nothing)?;
+        attempt!(tokens.mark(Punctuator::Dot, Role::Nothing));
+        attempt!(tokens.name(Role::Nothing));
         return Ok(());
     }
-    tokens.opening(Punctuator::LeftBracket, scope.depth)?;
-    let index = whole(scope.alloc, tokens, scope.names, scope.depth + 1)?;
+    attempt!(tokens.opening(Punctuator::LeftBracket, scope.depth));
+    let index = attempt!(whole(scope.alloc, tokens, scope.names, scope.depth + 1));
     drop(index);
-    tokens.mark(Punctuator::RightBracket, Role::OperandEnd)?;
+    attempt!(tokens.mark(Punctuator::RightBracket, Role::OperandEnd));
     Ok(())
 }
 
@@ -41,9 +41,9 @@ fn designators<'t>(scope: Scope<'_, 't>, tokens: &mut Tokens<'t>) -> Result<(), 
         scope.entry.depth) (λ _. tt {0}) tokens.old tokens.new result }
     ensures shorter { IfOk result (λ _. IsShorter tokens.new tokens.old) }
 {
-    designator(scope, tokens)?;
+    attempt!(designator(scope, tokens));
     'items: while starts_designator(tokens) {
-        designator(scope, tokens)?;
+        attempt!(designator(scope, tokens));
     }
     Ok(())
 }
@@ -88,16 +88,16 @@ fn initials<'t>(scope: Scope<'_, 't>, tokens: &mut Tokens<'t>, fuel: usize) -> R
         scope.entry) fuel scope.entry.depth)) (λ _. tt {0}) tokens.old tokens.new result }
     ensures shorter { IfOk result (λ _. IsShorter tokens.new tokens.old) }
 {
-    let mut end = designated(scope, tokens, fuel)?;
+    let mut end = attempt!(designated(scope, tokens, fuel));
     'items: while tokens.next_is(Punctuator::Comma) {
-        tokens.mark(Punctuator::Comma, end)?;
+        attempt!(tokens.mark(Punctuator::Comma, end));
         if !starts_initial(tokens, scope.names) {
-            tokens.mark(Punctuator::RightBrace, Role::Nothing)?;
+            attempt!(tokens.mark(Punctuator::RightBrace, Role::Nothing));
             return Ok(());
         }
-        end = designated(scope, tokens, fuel)?;
+        end = attempt!(designated(scope, tokens, fuel));
     }
-    tokens.mark(Punctuator::RightBrace, end)?;
+    attempt!(tokens.mark(Punctuator::RightBrace, end));
     Ok(())
 }
 
@@ -119,19 +119,19 @@ pub fn initial<'t>(
         return Err(Stopped::At(Fault::LimitExceeded));
     }
     if !tokens.next_is(Punctuator::LeftBrace) {
-        let value = whole(scope.alloc, tokens, scope.names, scope.depth)?;
+        let value = attempt!(whole(scope.alloc, tokens, scope.names, scope.depth));
         drop(value);
         return Ok(Role::OperandEnd);
     }
-    tokens.opening(Punctuator::LeftBrace, scope.depth)?;
+    attempt!(tokens.opening(Punctuator::LeftBrace, scope.depth));
     if tokens.next_is(Punctuator::RightBrace) {
-        tokens.mark(Punctuator::RightBrace, Role::Nothing)?;
+        attempt!(tokens.mark(Punctuator::RightBrace, Role::Nothing));
         return Ok(Role::Nothing);
     }
     let deeper = Scope {
         depth: scope.depth + 1,
         ..scope
     };
-    initials(deeper, tokens, fuel - 1)?;
+    attempt!(initials(deeper, tokens, fuel - 1));
     Ok(Role::Nothing)
 }

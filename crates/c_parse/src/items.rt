@@ -58,9 +58,9 @@ fn definition<'t>(
         (λ x. (external_declaration_of x.value, names_of names.now)) tokens.old tokens.new result }
     ensures shorter { IfOk result (λ _. IsShorter tokens.new tokens.old) }
 {
-    let (parts, close) = body(alloc, tokens, names)?;
+    let (parts, close) = attempt!(body(alloc, tokens, names));
     let made = ExternalDeclaration::Definition(specifiers, declarator, parts, close);
-    Ok(boxed(alloc, made)?)
+    Ok(allocated!(boxed(alloc, made)))
 }
 
 // The rest of an external declaration after its specifiers and its first declarator, with them.
@@ -145,8 +145,8 @@ fn items<'t>(
     ensures whole { IfOk result (λ _. tokens.new.rest.now ≡ []) }
 {
     'items: while !tokens.rest.is_empty() {
-        let next = item(alloc, tokens, names)?;
-        all.push(next)?;
+        let next = attempt!(item(alloc, tokens, names));
+        allocated!(all.push(next));
     }
     Ok(())
 }

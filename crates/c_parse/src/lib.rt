@@ -5,7 +5,7 @@
 //! the grammar's derivations alone (`specs/Units.antt`, `specs/Faults.antt`).
 #![tactic(auto)]
 
-ghost use Rattle.std.specs.Prelude.{◌≡◌, IfOk, IfErr, OnOk, Err, drop};
+ghost use Rattle.std.specs.Prelude.{◌≡◌, IfOk, IfErr, Err, drop};
 ghost use Rattle.c_tree_spec.specs.Unit as tree;
 ghost use Rattle.c_grammar_spec.specs.Faults.{IsUnit, offset_of};
 ghost use Rattle.c_syntax.specs.Units.{unit_of};
@@ -104,15 +104,5 @@ pub fn parse<'t>(alloc: Global, tokens: &'t [Token<'t>]) -> Result<TranslationUn
     }
 }
 
-/// Whether tokens are a unit; or their first fault. As [`parse`], for a caller that doesn't want
-/// the tree.
-pub fn check<'t>(alloc: Global, tokens: &'t [Token<'t>]) -> Result<(), ParseError>
-    ensures found { OnOk result ((unit : tree.TranslationUnit) × IsUnit (list_of tokens.now)
-        unit) }
-    ensures fault { IfErr result (λ error. IsFaultOf (list_of tokens.now) error) }
-{
-    match parse(alloc, tokens) {
-        Ok(_unit) => Ok(()),
-        Err(error) => Err(error),
-    }
-}
+/// Drops a unit. That its parts are dropped is proved here, and not in each crate that drops one.
+pub fn discard(_unit: TranslationUnit<'_>) {}

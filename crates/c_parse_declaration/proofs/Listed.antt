@@ -23,7 +23,7 @@ use Rattle.c_syntax.specs.Expressions as syntax
 use Rattle.c_token.specs.declared.Token.{Token}
 use Rattle.c_parse_token.specs.declared.outcome.Stopped.{Stopped}
 use Rattle.c_parse_token.specs.Lists.{Gives}
-use Rattle.c_parse_token.proofs.Errors.{gives-from, failed}
+use Rattle.c_parse_token.proofs.Errors.{gives-from}
 use Rattle.c_parse_token.proofs.Steps.{begins-next}
 use Rattle.c_parse_declaration.specs.Parts.{read_arguments_from}
 
@@ -144,7 +144,3 @@ same-expressions (x ∷ xs) = ap (tree.expressions x) (same-expressions xs)
 
 pub first-pushed : {A X : Type 0} (view : A → X) (boxes all : List (Box A Global)) (one : Box A Global) → all ≡ boxes ++ one ∷ [] → boxes ≡ [] → map view (map (λ b. b.value) all) ≡ view one.value ∷ []
 first-pushed view boxes all one is none = ap (λ xs. map view (map (λ b. b.value) xs)) (is ∙ ap (λ xs. xs ++ one ∷ []) none)
-
--- an error that `?` passes on
-pub relayed : {X Y : Type 0} (outcome : Outcome Placed Role Y) (view : X → Y) (left : List Token) (result : Result X Stopped) (error : Stopped) → IsErrAnd result (λ e. e ≡ error) → Gives outcome (λ y. y) left (Err error) → Gives outcome view left result
-relayed {Y = Y} outcome view left result error is h = failed {A = Y} outcome outcome (λ y. y) view left result error is h (λ fault e. e)

@@ -245,14 +245,14 @@ fn more_locals<'t>(
     ensures shorter { IfOk result (λ _. IsShorter tokens.new tokens.old) }
 {
     let mut end = end_of_local(&first);
-    locals.push(first)?;
+    allocated!(locals.push(first));
     'items: while tokens.next_is(Punctuator::Comma) {
-        tokens.mark(Punctuator::Comma, end)?;
-        let next = local(scope, tokens)?;
+        attempt!(tokens.mark(Punctuator::Comma, end));
+        let next = attempt!(local(scope, tokens));
         end = end_of_local(&next);
-        locals.push(next)?;
+        allocated!(locals.push(next));
     }
-    tokens.mark(Punctuator::Semicolon, end)?;
+    attempt!(tokens.mark(Punctuator::Semicolon, end));
     Ok(())
 }
 

@@ -156,14 +156,14 @@ fn more_parameters<'t>(
     ensures shorter { IfOk result (λ _. IsShorter tokens.new tokens.old) }
 {
     let mut end = parameter_end(&first);
-    list.push(first)?;
+    allocated!(list.push(first));
     'items: while tokens.next_is(Punctuator::Comma) {
-        tokens.mark(Punctuator::Comma, end)?;
-        let next = parameter(scope, tokens)?;
+        attempt!(tokens.mark(Punctuator::Comma, end));
+        let next = attempt!(parameter(scope, tokens));
         end = parameter_end(&next);
-        list.push(next)?;
+        allocated!(list.push(next));
     }
-    tokens.mark(Punctuator::RightParenthesis, end)?;
+    attempt!(tokens.mark(Punctuator::RightParenthesis, end));
     Ok(())
 }
 

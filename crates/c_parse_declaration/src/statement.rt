@@ -191,13 +191,13 @@ fn more_arguments<'t>(
         tokens.old tokens.new result }
     ensures shorter { IfOk result (λ _. IsNoLonger tokens.new tokens.old) }
 {
-    arguments.push(first)?;
+    allocated!(arguments.push(first));
     'items: while tokens.next_is(Punctuator::Comma) {
-        tokens.mark(Punctuator::Comma, Role::OperandEnd)?;
-        let next = conditional(scope.alloc, tokens, scope.names, scope.depth)?;
-        arguments.push(next)?;
+        attempt!(tokens.mark(Punctuator::Comma, Role::OperandEnd));
+        let next = attempt!(conditional(scope.alloc, tokens, scope.names, scope.depth));
+        allocated!(arguments.push(next));
     }
-    tokens.mark(Punctuator::RightParenthesis, Role::OperandEnd)?;
+    attempt!(tokens.mark(Punctuator::RightParenthesis, Role::OperandEnd));
     Ok(())
 }
 

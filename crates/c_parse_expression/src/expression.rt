@@ -111,10 +111,10 @@ fn binary<'t>(scope: Scope<'_, 't>, tokens: &mut Tokens<'t>, level: u8) -> Parse
         tokens.old.count) tokens.old.count tokens.old tokens.new result }
 {
     let before = tokens.count;
-    let mut x = cast(scope, tokens)?;
+    let mut x = attempt!(cast(scope, tokens));
     let mut done = 0u8;
     'levels: while done < level {
-        x = operations(scope, tokens, done, before, x)?;
+        x = attempt!(operations(scope, tokens, done, before, x));
         done += 1;
     }
     Ok(x)
@@ -137,7 +137,7 @@ fn operations<'t>(
 {
     let mut left = first;
     'items: while tokens.starts_level(level + 1) {
-        left = operation(scope, tokens, level, left)?;
+        left = attempt!(operation(scope, tokens, level, left));
     }
     Ok(left)
 }
@@ -271,7 +271,7 @@ fn suffixes<'t>(
 {
     let mut base = first;
     'items: while tokens.starts_suffix() {
-        base = suffix(scope, tokens, base)?;
+        base = attempt!(suffix(scope, tokens, base));
     }
     Ok(base)
 }

@@ -57,7 +57,7 @@ pub fn conditional<'t>(
         (operators (expression_of x.value)) tokens.new.count) }
     ensures shorter { IfOk result (λ _. IsNoLonger tokens.new tokens.old) }
 {
-    Ok(expression::conditional(scope(alloc, names, depth), tokens)?)
+    Ok(attempt!(expression::conditional(scope(alloc, names, depth), tokens)))
 }
 
 /// A whole expression: a conditional expression with no operator before it.
@@ -118,7 +118,7 @@ pub fn specifiers<'t>(
         is_alone: true,
         ..scope(alloc, names, depth)
     };
-    Ok(specifier::specifiers(alone, tokens)?)
+    Ok(attempt!(specifier::specifiers(alone, tokens)))
 }
 
 /// What follows the first token of a type specifier (6.7.2).

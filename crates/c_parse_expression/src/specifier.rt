@@ -171,13 +171,13 @@ fn members<'t>(scope: Scope<'_, 't>, tokens: &mut Tokens<'t>) -> Rows<Member<'t>
     ensures { ReadsPart (types.read_members (names_in scope.entry)) members_in
         grammar.operators_of_members IsNoLonger scope.entry tokens.old tokens.new result }
 {
-    tokens.opening(Punctuator::LeftBrace, scope.depth)?;
+    attempt!(tokens.opening(Punctuator::LeftBrace, scope.depth));
     let deeper = Scope {
         depth: scope.depth + 1,
         ..scope
     };
-    let rows = all_members(deeper, tokens)?;
-    tokens.mark(Punctuator::RightBrace, Role::Nothing)?;
+    let rows = attempt!(all_members(deeper, tokens));
+    attempt!(tokens.mark(Punctuator::RightBrace, Role::Nothing));
     Ok(rows)
 }
 
@@ -190,8 +190,8 @@ fn all_members<'t>(scope: Scope<'_, 't>, tokens: &mut Tokens<'t>) -> Rows<Member
 {
     let mut rows: Vec<Box<Member<'t>>> = Vec::new(scope.alloc);
     'items: while tokens.starts_type(scope.names) {
-        let row = member(scope, tokens)?;
-        rows.push(row)?;
+        let row = attempt!(member(scope, tokens));
+        allocated!(rows.push(row));
     }
     Ok(rows)
 }
@@ -216,8 +216,8 @@ fn member_list<'t>(scope: Scope<'_, 't>, tokens: &mut Tokens<'t>) -> Rows<Declar
         IsShorter scope.entry tokens.old tokens.new result }
 {
     let before = tokens.count;
-    let first = declarator(scope, tokens)?;
-    Ok(more_declarators(scope, tokens, before, first)?)
+    let first = attempt!(declarator(scope, tokens));
+    Ok(attempt!(more_declarators(scope, tokens, before, first)))
 }
 
 // Further declarators after the first, and the `;` after them.
@@ -239,13 +239,13 @@ fn more_declarators<'t>(
 {
     let mut end = member_end(&first);
     let mut all: Vec<Box<Declarator<'t>>> = Vec::new(scope.alloc);
-    all.push(first)?;
+    allocated!(all.push(first));
     'items: while tokens.next_is(Punctuator::Comma) {
-        let next = next_declarator(scope, tokens)?;
+        let next = attempt!(next_declarator(scope, tokens));
         end = member_end(&next);
-        all.push(next)?;
+        allocated!(all.push(next));
     }
-    tokens.mark(Punctuator::Semicolon, end)?;
+    attempt!(tokens.mark(Punctuator::Semicolon, end));
     Ok(all)
 }
 
@@ -297,11 +297,11 @@ fn open_array<'t>(scope: Scope<'_, 't>, tokens: &mut Tokens<'t>) -> Parsed<Dimen
     ensures { ReadsPart read_open_array array_of operators_of_array IsNoLonger scope.entry
         tokens.old tokens.new result }
 {
-    tokens.mark(Punctuator::RightBracket, Role::Nothing)?;
+    attempt!(tokens.mark(Punctuator::RightBracket, Role::Nothing));
     let before = tokens.count;
     let none: Vec<Box<Expression<'t>>> = Vec::new(scope.alloc);
-    let all = lengths(scope, tokens, before, none)?;
-    Ok(Dimensions::new(scope.alloc, true, all)?)
+    let all = attempt!(lengths(scope, tokens, before, none));
+    Ok(allocated!(Dimensions::new(scope.alloc, true, all)))
 }
 
 // After `[` an array whose first length is given.
@@ -318,11 +318,11 @@ fn given_array<'t>(scope: Scope<'_, 't>, tokens: &mut Tokens<'t>) -> Parsed<Dime
         depth: scope.depth + 1,
         ..scope
     };
-    let first = ended(deeper, tokens, Punctuator::RightBracket)?;
+    let first = attempt!(ended(deeper, tokens, Punctuator::RightBracket));
     let mut given: Vec<Box<Expression<'t>>> = Vec::new(scope.alloc);
-    given.push(first)?;
-    let all = lengths(scope, tokens, before, given)?;
-    Ok(Dimensions::new(scope.alloc, false, all)?)
+    allocated!(given.push(first));
+    let all = attempt!(lengths(scope, tokens, before, given));
+    Ok(allocated!(Dimensions::new(scope.alloc, false, all)))
 }
 
 // Further lengths, after those given.
@@ -344,8 +344,8 @@ fn lengths<'t>(
 {
     let mut all = given;
     'items: while tokens.next_is(Punctuator::LeftBracket) {
-        let next = length(scope, tokens)?;
-        all.push(next)?;
+        let next = attempt!(length(scope, tokens));
+        allocated!(all.push(next));
     }
     Ok(all)
 }
@@ -373,18 +373,18 @@ fn constants<'t>(scope: Scope<'_, 't>, tokens: &mut Tokens<'t>) -> Rows<Constant
     ensures { ReadsPart (types.read_constants (names_in scope.entry)) constants_in
         grammar.operators_of_constants IsNoLonger scope.entry tokens.old tokens.new result }
 {
-    tokens.opening(Punctuator::LeftBrace, scope.depth)?;
+    attempt!(tokens.opening(Punctuator::LeftBrace, scope.depth));
     let before = tokens.count;
     let deeper = Scope {
         depth: scope.depth + 1,
         ..scope
     };
-    let first = constant(deeper, tokens)?;
+    let first = attempt!(constant(deeper, tokens));
     let end = constant_end(&first);
     let mut rows: Vec<Box<Constant<'t>>> = Vec::new(scope.alloc);
-    rows.push(first)?;
-    let end = more_constants(deeper, tokens, before, &mut rows, end)?;
-    tokens.mark(Punctuator::RightBrace, end)?;
+    allocated!(rows.push(first));
+    let end = attempt!(more_constants(deeper, tokens, before, &mut rows, end));
+    attempt!(tokens.mark(Punctuator::RightBrace, end));
     Ok(rows)
 }
 
@@ -409,13 +409,13 @@ fn more_constants<'t>(
 {
     let mut end = end;
     'items: while tokens.next_is(Punctuator::Comma) {
-        tokens.mark(Punctuator::Comma, Role::Nothing)?;
+        attempt!(tokens.mark(Punctuator::Comma, Role::Nothing));
         if !tokens.starts_plain_name(scope.names) {
             return Ok(Role::Nothing);
         }
-        let next = constant(scope, tokens)?;
+        let next = attempt!(constant(scope, tokens));
         end = constant_end(&next);
-        rows.push(next)?;
+        allocated!(rows.push(next));
     }
     Ok(end)
 }

@@ -209,20 +209,12 @@ groups-end names inner inside depth whole read tokens groups quiet =
     going-end groups.going (ends groups.had_label tokens groups.over quiet) ∙ ap (λ g. Ok (g, tokens)) (groups.is [] (tt {0}) ∙ before-alone read)
 
 -- labels, or parts, that stop
-pub labels-failed : {B : Type 0} (names : List (List ℕ)) (inner : Parsers) (inside : statements.Statements) (depth : ℕ) (whole : Outcome Placed Role unit.Groups) (seen : B → unit.Groups) (read : List (List unit.Label × unit.Parts)) (old left : List TokenRow) (result : Result B Stopped) (error : Stopped) → IsErrAnd result (λ e. e ≡ error) → Groups names inner inside depth whole read (list_of old)
-    → Runs statements.begins_label (statements.read_label inner depth) taken_labels old left (Err error) → Gives whole seen left result
-labels-failed {B} names inner inside depth whole seen read old left (Ok x) error same groups runs = absurd same
-labels-failed {B} names inner inside depth whole seen read old left (Err other) error same groups runs = subst (λ e. Gives {X = B} whole seen left (Err e)) (sym same) (by_error error runs)
-  where
-    by_error : (e : Stopped) → Runs statements.begins_label (statements.read_label inner depth) taken_labels old left (Err e) → Gives {X = B} whole seen left (Err e)
-    by_error NoMemory h = tt {0}
-    by_error (At fault) h = groups-label_fault names inner inside depth whole read (list_of old) h.1 h.0 (fault_of fault, list_of left) groups h.2 h.3 h.4
+pub labels-failed : {B : Type 0} (names : List (List ℕ)) (inner : Parsers) (inside : statements.Statements) (depth : ℕ) (whole : Outcome Placed Role unit.Groups) (seen : B → unit.Groups) (read : List (List unit.Label × unit.Parts)) (old left : List TokenRow) (error : Stopped) → Groups names inner inside depth whole read (list_of old)
+    → Runs statements.begins_label (statements.read_label inner depth) taken_labels old left (Err error) → Gives {X = B} whole seen left (Err error)
+labels-failed names inner inside depth whole seen read old left NoMemory groups runs = tt {0}
+labels-failed names inner inside depth whole seen read old left (At fault) groups runs = groups-label_fault names inner inside depth whole read (list_of old) runs.1 runs.0 (fault_of fault, list_of left) groups runs.2 runs.3 runs.4
 
-pub parts-failed : {B : Type 0} (names : List (List ℕ)) (inner : Parsers) (inside : statements.Statements) (depth : ℕ) (whole : Outcome Placed Role unit.Groups) (seen : B → unit.Groups) (read : List (List unit.Label × unit.Parts)) (tokens : List Placed) (labels : List unit.Label) (old left : List TokenRow) (result : Result B Stopped) (error : Stopped) → IsErrAnd result (λ e. e ≡ error) → Groups names inner inside depth whole read tokens
-    → next_is statements.begins_label tokens ≡ true → Run statements.begins_label (statements.read_label inner depth) tokens labels (list_of old) → next_is statements.begins_label (list_of old) ≡ false → Runs starts_part (statements.read_part names inner inside depth) taken_parts old left (Err error) → Gives whole seen left result
-parts-failed {B} names inner inside depth whole seen read tokens labels old left (Ok x) error same groups was labelled quiet runs = absurd same
-parts-failed {B} names inner inside depth whole seen read tokens labels old left (Err other) error same groups was labelled quiet runs = subst (λ e. Gives {X = B} whole seen left (Err e)) (sym same) (by_error error runs)
-  where
-    by_error : (e : Stopped) → Runs starts_part (statements.read_part names inner inside depth) taken_parts old left (Err e) → Gives {X = B} whole seen left (Err e)
-    by_error NoMemory h = tt {0}
-    by_error (At fault) h = groups-part_fault names inner inside depth whole read tokens (list_of old) h.1 labels h.0 (fault_of fault, list_of left) groups was labelled quiet h.2 h.3 h.4
+pub parts-failed : {B : Type 0} (names : List (List ℕ)) (inner : Parsers) (inside : statements.Statements) (depth : ℕ) (whole : Outcome Placed Role unit.Groups) (seen : B → unit.Groups) (read : List (List unit.Label × unit.Parts)) (tokens : List Placed) (labels : List unit.Label) (old left : List TokenRow) (error : Stopped) → Groups names inner inside depth whole read tokens
+    → next_is statements.begins_label tokens ≡ true → Run statements.begins_label (statements.read_label inner depth) tokens labels (list_of old) → next_is statements.begins_label (list_of old) ≡ false → Runs starts_part (statements.read_part names inner inside depth) taken_parts old left (Err error) → Gives {X = B} whole seen left (Err error)
+parts-failed names inner inside depth whole seen read tokens labels old left NoMemory groups was labelled quiet runs = tt {0}
+parts-failed names inner inside depth whole seen read tokens labels old left (At fault) groups was labelled quiet runs = groups-part_fault names inner inside depth whole read tokens (list_of old) runs.1 labels runs.0 (fault_of fault, list_of left) groups was labelled quiet runs.2 runs.3 runs.4

@@ -18,19 +18,10 @@ run-last starts item tokens middle rest xs x (none t) b e l = more middle rest r
 run-last starts item tokens middle rest xs x (more t m r y ys b0 e0 l0 run) b e l = more t m rest y (ys ++ x ∷ []) b0 e0 l0 (run-last starts item m middle rest ys x run b e l)
 
 -- the item after a run has a fault
-run-fault : {A B X : Type 0} (starts : Token → Bool) (item : Parser Placed Role X) (view : A → List X) (seen : B → X) (old left : List TokenRow) (middle : List Placed) (xs : List X) (error : Stopped) → Run starts item (list_of old) xs middle → next_is starts middle ≡ true → Gives {X = B} (item middle) seen left (Err error)
+pub run-fault : {A B X : Type 0} (starts : Token → Bool) (item : Parser Placed Role X) (view : A → List X) (seen : B → X) (old left : List TokenRow) (middle : List Placed) (xs : List X) (error : Stopped) → Run starts item (list_of old) xs middle → next_is starts middle ≡ true → Gives {X = B} (item middle) seen left (Err error)
     → Runs {A = A} starts item view old left (Err error)
 run-fault starts item view seen old left middle xs NoMemory run b gives = tt {0}
 run-fault starts item view seen old left middle xs (At fault) run b gives = (xs, middle, run, b, gives)
-
-pub run-failed : {A B X : Type 0} (starts : Token → Bool) (item : Parser Placed Role X) (view : A → List X) (seen : B → X) (old left : List TokenRow) (middle : List Placed) (xs : List X) (result : Result A Stopped) (error : Stopped) → IsErrAnd result (λ e. e ≡ error) → Run starts item (list_of old) xs middle → next_is starts middle ≡ true → Gives {X = B} (item middle) seen left (Err error)
-    → Runs starts item view old left result
-run-failed starts item view seen old left middle xs (Ok a) error same run b gives = absurd same
-run-failed {A = A} starts item view seen old left middle xs (Err other) error same run b gives = subst (λ e. Runs {A = A} starts item view old left (Err e)) (sym same) (run-fault starts item view seen old left middle xs error run b gives)
-
-pub run-no_memory : {A X : Type 0} (starts : Token → Bool) (item : Parser Placed Role X) (view : A → List X) (old left : List TokenRow) (result : Result A Stopped) → IsErrAnd result (λ e. e ≡ NoMemory) → Runs starts item view old left result
-run-no_memory starts item view old left (Ok a) same = absurd same
-run-no_memory {A = A} starts item view old left (Err other) same = subst (λ e. Runs {A = A} starts item view old left (Err e)) (sym same) (tt {0})
 
 -- a run takes tokens, where an item begins before it and none after it
 not_longer : {X : Type 0} (starts : Token → Bool) (item : Parser Placed Role X) (tokens rest : List Placed) (xs : List X) → Run starts item tokens xs rest → length rest < suc (length tokens)

@@ -139,8 +139,8 @@ pub fn labels<'t>(scope: Scope<'_, 't>, tokens: &mut Tokens<'t>) -> Result<Vec<L
 {
     let mut all: Vec<Label<'t>> = Vec::new(scope.alloc);
     'items: while starts_label(tokens) {
-        let next = label(scope, tokens)?;
-        all.push(next)?;
+        let next = attempt!(label(scope, tokens));
+        allocated!(all.push(next));
     }
     Ok(all)
 }
@@ -173,15 +173,15 @@ fn return_statement<'t>(scope: Scope<'_, 't>, tokens: &mut Tokens<'t>) -> Parsed
         (λ x. statement_of x.value) tokens.old tokens.new result }
     ensures shorter { IfOk result (λ _. IsShorter tokens.new tokens.old) }
 {
-    let offset = keyword(tokens, Keyword::Return)?;
+    let offset = attempt!(keyword(tokens, Keyword::Return));
     if tokens.next_is(Punctuator::Semicolon) {
-        tokens.mark(Punctuator::Semicolon, Role::Nothing)?;
+        attempt!(tokens.mark(Punctuator::Semicolon, Role::Nothing));
         return or_no_memory(Statement::return_at(scope.alloc, None, offset));
     }
     tokens.count = 0;
-    let value = value(scope, tokens)?;
+    let value = attempt!(value(scope, tokens));
     let end = value_end(&value);
-    tokens.mark(Punctuator::Semicolon, end)?;
+    attempt!(tokens.mark(Punctuator::Semicolon, end));
     or_no_memory(Statement::return_at(scope.alloc, Some(value), offset))
 }
 
@@ -192,9 +192,9 @@ fn perform<'t>(scope: Scope<'_, 't>, tokens: &mut Tokens<'t>) -> Parsed<Statemen
         (λ x. statement_of x.value) tokens.old tokens.new result }
     ensures shorter { IfOk result (λ _. IsShorter tokens.new tokens.old) }
 {
-    let simple = simple(scope, tokens)?;
+    let simple = attempt!(simple(scope, tokens));
     let end = statement_end(&simple);
-    tokens.mark(Punctuator::Semicolon, end)?;
+    attempt!(tokens.mark(Punctuator::Semicolon, end));
     or_no_memory(Statement::perform(scope.alloc, simple))
 }
 
@@ -206,11 +206,11 @@ pub fn plain_statement<'t>(scope: Scope<'_, 't>, tokens: &mut Tokens<'t>) -> Par
     ensures shorter { IfOk result (λ _. IsShorter tokens.new tokens.old) }
 {
     if next_keyword(tokens, Keyword::Continue) {
-        let offset = jump(tokens, Keyword::Continue)?;
+        let offset = attempt!(jump(tokens, Keyword::Continue));
         return or_no_memory(Statement::continue_at(scope.alloc, offset));
     }
     if next_keyword(tokens, Keyword::Break) {
-        let offset = jump(tokens, Keyword::Break)?;
+        let offset = attempt!(jump(tokens, Keyword::Break));
         return or_no_memory(Statement::break_at(scope.alloc, offset));
     }
     if next_keyword(tokens, Keyword::Return) {

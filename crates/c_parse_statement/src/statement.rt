@@ -31,10 +31,10 @@ fn part<'t>(scope: Scope<'_, 't>, tokens: &mut Tokens<'t>, fuel: usize) -> Resul
     ensures shorter { IfOk result (λ _. IsShorter tokens.new tokens.old) }
 {
     if starts_locals(tokens, scope.names) {
-        let locals = locals(scope, tokens)?;
+        let locals = attempt!(locals(scope, tokens));
         return Ok(Part::declared(locals));
     }
-    let statement = statement(scope, tokens, fuel)?;
+    let statement = attempt!(statement(scope, tokens, fuel));
     Ok(Part::stated(statement))
 }
 
@@ -55,8 +55,8 @@ fn all_parts<'t>(
 {
     let mut all: Vec<Part<'t>> = Vec::new(scope.alloc);
     'items: while starts_part(tokens) {
-        let next = part(scope, tokens, fuel)?;
-        all.push(next)?;
+        let next = attempt!(part(scope, tokens, fuel));
+        allocated!(all.push(next));
     }
     Ok(all)
 }
@@ -70,13 +70,13 @@ fn block<'t>(scope: Scope<'_, 't>, tokens: &mut Tokens<'t>, fuel: usize) -> Pars
         tokens.new result }
     ensures shorter { IfOk result (λ _. IsShorter tokens.new tokens.old) }
 {
-    let offset = tokens.opening(Punctuator::LeftBrace, scope.depth)?;
+    let offset = attempt!(tokens.opening(Punctuator::LeftBrace, scope.depth));
     let deeper = Scope {
         depth: scope.depth + 1,
         ..scope
     };
-    let parts = all_parts(deeper, tokens, fuel)?;
-    tokens.mark(Punctuator::RightBrace, Role::Nothing)?;
+    let parts = attempt!(all_parts(deeper, tokens, fuel));
+    attempt!(tokens.mark(Punctuator::RightBrace, Role::Nothing));
     or_no_memory(Statement::block(scope.alloc, parts, offset))
 }
 
@@ -120,13 +120,13 @@ fn if_statement<'t>(
         fuel) scope.entry.depth) (λ x. statement_of x.value) tokens.old tokens.new result }
     ensures shorter { IfOk result (λ _. IsShorter tokens.new tokens.old) }
 {
-    let offset = opening(tokens, Keyword::If, scope.depth)?;
+    let offset = attempt!(opening(tokens, Keyword::If, scope.depth));
     let deeper = Scope {
         depth: scope.depth + 1,
         ..scope
     };
-    let test = test(deeper, tokens)?;
-    let body = statement(deeper, tokens, fuel)?;
+    let test = attempt!(test(deeper, tokens));
+    let body = attempt!(statement(deeper, tokens, fuel));
     else_part(scope, tokens, fuel, test, body, offset)
 }
 
@@ -143,13 +143,13 @@ fn while_statement<'t>(
         result }
     ensures shorter { IfOk result (λ _. IsShorter tokens.new tokens.old) }
 {
-    let offset = opening(tokens, Keyword::While, scope.depth)?;
+    let offset = attempt!(opening(tokens, Keyword::While, scope.depth));
     let deeper = Scope {
         depth: scope.depth + 1,
         ..scope
     };
-    let test = test(deeper, tokens)?;
-    let body = statement(deeper, tokens, fuel)?;
+    let test = attempt!(test(deeper, tokens));
+    let body = attempt!(statement(deeper, tokens, fuel));
     or_no_memory(Statement::while_loop(scope.alloc, test, body, offset))
 }
 
@@ -165,15 +165,15 @@ fn do_statement<'t>(
         fuel) scope.entry.depth) (λ x. statement_of x.value) tokens.old tokens.new result }
     ensures shorter { IfOk result (λ _. IsShorter tokens.new tokens.old) }
 {
-    let offset = opening(tokens, Keyword::Do, scope.depth)?;
+    let offset = attempt!(opening(tokens, Keyword::Do, scope.depth));
     let deeper = Scope {
         depth: scope.depth + 1,
         ..scope
     };
-    let body = statement(deeper, tokens, fuel)?;
-    keyword(tokens, Keyword::While)?;
-    let test = test(deeper, tokens)?;
-    tokens.mark(Punctuator::Semicolon, Role::Nothing)?;
+    let body = attempt!(statement(deeper, tokens, fuel));
+    attempt!(keyword(tokens, Keyword::While));
+    let test = attempt!(test(deeper, tokens));
+    attempt!(tokens.mark(Punctuator::Semicolon, Role::Nothing));
     or_no_memory(Statement::do_loop(scope.alloc, body, test, offset))
 }
 
@@ -190,20 +190,20 @@ fn for_statement<'t>(
         tokens.new result }
     ensures shorter { IfOk result (λ _. IsShorter tokens.new tokens.old) }
 {
-    let offset = opening(tokens, Keyword::For, scope.depth)?;
-    tokens.opening(Punctuator::LeftParenthesis, scope.depth + 1)?;
+    let offset = attempt!(opening(tokens, Keyword::For, scope.depth));
+    attempt!(tokens.opening(Punctuator::LeftParenthesis, scope.depth + 1));
     let head = Scope {
         depth: scope.depth + 2,
         ..scope
     };
-    let start = for_start(head, tokens)?;
-    let test = for_test(head, tokens)?;
-    let step = for_step(head, tokens)?;
+    let start = attempt!(for_start(head, tokens));
+    let test = attempt!(for_test(head, tokens));
+    let step = attempt!(for_step(head, tokens));
     let deeper = Scope {
         depth: scope.depth + 1,
         ..scope
     };
-    let body = statement(deeper, tokens, fuel)?;
+    let body = attempt!(statement(deeper, tokens, fuel));
     or_no_memory(Statement::for_loop(scope.alloc, start, test, step, body, offset))
 }
 
@@ -221,10 +221,10 @@ fn groups<'t>(
 {
     let mut all: Vec<Box<Group<'t>>> = Vec::new(scope.alloc);
     'items: while starts_label(tokens) {
-        let labels = labels(scope, tokens)?;
-        let parts = all_parts(scope, tokens, fuel)?;
-        let group = Group::new(scope.alloc, labels, parts)?;
-        all.push(group)?;
+        let labels = attempt!(labels(scope, tokens));
+        let parts = attempt!(all_parts(scope, tokens, fuel));
+        let group = allocated!(Group::new(scope.alloc, labels, parts));
+        allocated!(all.push(group));
     }
     Ok(all)
 }
@@ -242,19 +242,19 @@ fn switch_statement<'t>(
         tokens.new result }
     ensures shorter { IfOk result (λ _. IsShorter tokens.new tokens.old) }
 {
-    let offset = opening(tokens, Keyword::Switch, scope.depth)?;
+    let offset = attempt!(opening(tokens, Keyword::Switch, scope.depth));
     let deeper = Scope {
         depth: scope.depth + 1,
         ..scope
     };
-    let test = test(deeper, tokens)?;
-    tokens.opening(Punctuator::LeftBrace, deeper.depth)?;
+    let test = attempt!(test(deeper, tokens));
+    attempt!(tokens.opening(Punctuator::LeftBrace, deeper.depth));
     let inside = Scope {
         depth: scope.depth + 2,
         ..scope
     };
-    let groups = groups(inside, tokens, fuel)?;
-    tokens.mark(Punctuator::RightBrace, Role::Nothing)?;
+    let groups = attempt!(groups(inside, tokens, fuel));
+    attempt!(tokens.mark(Punctuator::RightBrace, Role::Nothing));
     or_no_memory(Statement::switch(scope.alloc, test, groups, offset))
 }
 
@@ -279,7 +279,7 @@ fn statement<'t>(
         return block(scope, tokens, inner);
     }
     if tokens.next_is(Punctuator::Semicolon) {
-        let offset = tokens.mark(Punctuator::Semicolon, Role::Nothing)?;
+        let offset = attempt!(tokens.mark(Punctuator::Semicolon, Role::Nothing));
         return or_no_memory(Statement::empty(scope.alloc, offset));
     }
     if next_keyword(tokens, Keyword::If) {

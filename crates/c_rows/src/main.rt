@@ -14,7 +14,7 @@ mod texts;
 mod tokens;
 mod units;
 
-use c_parse::{ParseError, parse};
+use c_parse::{ParseError, discard, parse};
 use c_token::{Token, TokenError};
 use row_io::{Out, input, output, split, split_at};
 use std::alloc::Global;
@@ -30,7 +30,10 @@ fn put_fault<K: Debug>(kind: &K, offset: usize, out: &mut Out) {
 /// The tree of tokens, where it is asked for, or their first fault; the text has so many bytes.
 fn put_parsed(alloc: Global, is_tree: bool, tokens: &[Token<'_>], end: usize, out: &mut Out) {
     match parse(alloc, tokens) {
-        Ok(unit) => units::put_unit(is_tree, &unit, out),
+        Ok(unit) => {
+            units::put_unit(is_tree, &unit, out);
+            discard(unit);
+        }
         Err(ParseError::Fault(fault)) => put_fault(&fault.kind, fault.offset(tokens, end), out),
         Err(ParseError::NoMemory) => out.fail(),
     }

@@ -1,5 +1,5 @@
 -- The group of a `switch` that is chosen, by its number and by what it does.
-use Rattle.std.proofs.Common.{◌≡◌, ℕ, suc, Bool, true, false, if◌then◌else◌, Option, Some, None, List, refl, ap, ◌∙◌}
+use Rattle.std.proofs.Common.{◌≡◌, ℕ, suc, Bool, true, false, if◌then◌else◌, Option, Some, None, List, [], ◌∷◌, refl, ap, ◌∙◌}
 use Rattle.std.specs.Prelude.{ℤ, option_map, Ok, Err}
 use Rattle.std.specs.Option.{option_or}
 use Rattle.std.specs.List.{list_any}
@@ -23,8 +23,8 @@ use Rattle.c_run.specs.declared.frame.Next.TheVariants as next
 use Rattle.c_run.specs.declared.frame.Ending.TheVariants as ending
 use Rattle.c_run.specs.Frames.{IsPushed}
 use Rattle.c_run.specs.Groups.{picked, chosen_action}
-use Rattle.c_run.specs.Tasks.{Acts, applied}
-use Rattle.c_run.proofs.Acting.{stays, stops, pushes_two}
+use Rattle.c_run.specs.Tasks.{Acts, applied, through}
+use Rattle.c_run.proofs.Acting.{stays, stops, pushes, and_pushed}
 
 module _ (setting : Setting) (calls : Calls) (types : List Scalar) (depth : ℕ) where
   data Alike (list : Groups) : Option ℕ → Option Action → Type 0 where
@@ -84,8 +84,8 @@ module _ (setting : Setting) (old : Frame) (memory : Memory) where
 
   pub switches : (middle new : Frame) (core : Core) (list : Groups) (v : ℤ) (a : Bor kept.Action) → value setting old.locals.items memory 0 core ≡ Ok v → chosen_action v list ≡ Some (action_of a.now) → IsPushed old middle task.Switch → IsPushed middle new (task.Do a)
       → Acts setting (Switch core list) old memory new memory (Ok (next.Goes ending.Went))
-  unfolding applied performed
-  switches middle new core list v a e chosen first second = pushes_two setting (λ left. performed setting old.types.now (Switch core list) (state old.locals.items memory) left) old middle new memory task.Switch (task.Do a) (next.Goes ending.Went) first second
+  unfolding applied performed through
+  switches middle new core list v a e chosen first second = pushes setting (λ left. performed setting old.types.now (Switch core list) (state old.locals.items memory) left) old new memory (task.Switch ∷ task.Do a ∷ []) (next.Goes ending.Went) (and_pushed old middle new (task.Switch ∷ []) (task.Do a) first second)
       (λ left. takes setting old.types.now core list v (Some (action_of a.now)) (state old.locals.items memory) left e chosen)
 
   pub passes_by : (core : Core) (list : Groups) (v : ℤ) → value setting old.locals.items memory 0 core ≡ Ok v → chosen_action v list ≡ None

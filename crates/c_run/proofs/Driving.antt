@@ -1,6 +1,6 @@
 -- Functions that wait for their callees, and what a run comes to.
 use Rattle.std.proofs.Common.{◌≡◌, ℕ, suc, ◌+◌, ◌-◌, ◌<◌, Option, Some, None, List, [], ◌∷◌, ◌++◌, length, length-append, refl, sym, ap, subst, ◌∙◌, arith}
-use Rattle.std.specs.Prelude.{ℤ, Bool, true, false, option_map, Vec, Result, Ok, Err}
+use Rattle.std.specs.Prelude.{ℤ, option_map, Vec, Result, Ok, Err}
 use Rattle.std.specs.Borrow.{Bor}
 use Rattle.std.specs.declared.alloc.Global.{Global}
 use Rattle.memory_spec.specs.Memory.{Memory}
@@ -10,7 +10,6 @@ use Rattle.c_core.specs.declared.action.Action as kept
 use Rattle.c_core.specs.Actions.{action_of}
 use Rattle.c_meaning_spec.specs.declared.Guard.{Guard}
 use Rattle.c_meaning_spec.specs.Setting.{Setting}
-use Rattle.c_meaning_spec.specs.Evaluation.{Locals}
 use Rattle.c_meaning_spec.specs.Execution.{State, state, More, Went, Called, Unfinished, Failed, Returned, after_call}
 use Rattle.c_meaning_spec.specs.Calls as spec
 use Rattle.c_meaning_spec.specs.Calls.{returned, outcome_of, locals_at_entry, body_named, runs, c_run}
@@ -20,56 +19,44 @@ use Rattle.c_types.specs.declared.typed.Body.{Body}
 use Rattle.c_types.specs.Typed.{body_of_name}
 use Rattle.c_value.specs.declared.setting.Stop.{Stop}
 use Rattle.c_value.specs.declared.setting.Stop.TheVariants as stop
-use Rattle.c_run.specs.declared.frame.Ending.{Ending}
-use Rattle.c_run.specs.declared.frame.Ending.TheVariants as ending
+use Rattle.c_run.specs.declared.frame.Pause.{Pause}
+use Rattle.c_run.specs.declared.frame.Pause.TheVariants as pause
 use Rattle.c_run.specs.declared.frame.Frame.{Frame}
 use Rattle.c_run.specs.declared.frame.Task.{Task}
 use Rattle.c_run.specs.declared.frame.Task.TheVariants as task
-use Rattle.c_run.specs.declared.frame.Next.{Next}
-use Rattle.c_run.specs.declared.frame.Next.TheVariants as next
-use Rattle.c_run.specs.declared.machine.Waiting.{Waiting}
 use Rattle.c_run.specs.declared.machine.Machine.{Machine}
 use Rattle.c_run.specs.declared.machine.Ended.{Ended}
 use Rattle.c_run.specs.declared.machine.Ended.TheVariants as ended
-use Rattle.c_run.specs.Tasks.{flow_of, applied, through, paused, Goes}
-use Rattle.c_run.specs.Machines.{value_of, ends, comes_to, Ends, Turns, weight, IsEntered, IsReceived, IsCalled, Resumes}
-use Rattle.c_run.proofs.Through.{through-More, through-Broke}
+use Rattle.c_run.specs.Tasks.{applied, through, paused, reached, Goes}
+use Rattle.c_run.specs.Machines.{ends, comes_to, comes_by, Ends, Turns, Turned, weight, IsEntered, IsReceived, IsCalled}
+use Rattle.c_run.proofs.Through.{through-More, through-Broke, through-Gave}
 
 -- ---- functions that wait
 
-ends-push : (setting : Setting) (waiting : List Waiting) (w : Waiting) (result : Called)
-    → ends setting (waiting ++ w ∷ []) result ≡ ends setting waiting (returned (through setting w.frame.types.now w.frame.tasks.items (after_call w.frame.types.now w.frame.locals.items w.local result)))
+ends-push : (setting : Setting) (waiting : List Frame) (w : Frame) (result : Called)
+    → ends setting (waiting ++ w ∷ []) result ≡ ends setting waiting (returned (through setting w.types.now w.tasks.items (after_call w.types.now w.locals.items w.receiver result)))
 unfolding ends
 ends-push setting [] w result = refl
 ends-push setting (x ∷ waiting) w result =
-    ap (λ c. returned (through setting x.frame.types.now x.frame.tasks.items (after_call x.frame.types.now x.frame.locals.items x.local c))) (ends-push setting waiting w result)
+    ap (λ c. returned (through setting x.types.now x.tasks.items (after_call x.types.now x.locals.items x.receiver c))) (ends-push setting waiting w result)
 
-ends-Unfinished : (setting : Setting) (waiting : List Waiting) → ends setting waiting Unfinished ≡ Unfinished
+ends-Unfinished : (setting : Setting) (waiting : List Frame) → ends setting waiting Unfinished ≡ Unfinished
 unfolding ends
 ends-Unfinished setting [] = refl
 ends-Unfinished setting (w ∷ waiting) =
-    ap (λ c. returned (through setting w.frame.types.now w.frame.tasks.items (after_call w.frame.types.now w.frame.locals.items w.local c))) (ends-Unfinished setting waiting)
-    ∙ ap returned (through-More setting w.frame.types.now w.frame.tasks.items)
+    ap (λ c. returned (through setting w.types.now w.tasks.items (after_call w.types.now w.locals.items w.receiver c))) (ends-Unfinished setting waiting)
+    ∙ ap returned (through-More setting w.types.now w.tasks.items)
 
-ends-Failed : (setting : Setting) (waiting : List Waiting) (guard : Guard) (offset : ℕ) → ends setting waiting (Failed guard offset) ≡ Failed guard offset
+ends-Failed : (setting : Setting) (waiting : List Frame) (guard : Guard) (offset : ℕ) → ends setting waiting (Failed guard offset) ≡ Failed guard offset
 unfolding ends
 ends-Failed setting [] guard offset = refl
 ends-Failed setting (w ∷ waiting) guard offset =
-    ap (λ c. returned (through setting w.frame.types.now w.frame.tasks.items (after_call w.frame.types.now w.frame.locals.items w.local c))) (ends-Failed setting waiting guard offset)
-    ∙ ap returned (through-Broke setting w.frame.types.now w.frame.tasks.items guard offset)
+    ap (λ c. returned (through setting w.types.now w.tasks.items (after_call w.types.now w.locals.items w.receiver c))) (ends-Failed setting waiting guard offset)
+    ∙ ap returned (through-Broke setting w.types.now w.tasks.items guard offset)
 
 ends-none : (setting : Setting) (result : Called) → ends setting [] result ≡ result
 unfolding ends
 ends-none setting result = refl
-
-returned_value : (end : Ending) (st : State) (left : ℕ) → returned (flow_of end st left) ≡ Returned (value_of end) st.memory left
-returned_value ending.Went st left = refl
-returned_value (ending.Jumped j) st left = refl
-returned_value (ending.Gave v) st left = refl
-
--- a function goes on in a frame
-abbrev reached : Setting → Frame → Locals → Memory → ℕ → Called
-reached setting frame locals memory left = returned (through setting frame.types.now frame.tasks.items (Went (state locals memory) left))
 
 does_body : (setting : Setting) (types : List Scalar) (action : Bor kept.Action) (st : State) (left : ℕ)
     → through setting types (task.Do action ∷ []) (Went st left) ≡ performed setting types (action_of action.now) st left
@@ -104,112 +91,100 @@ found_body bodies name result b is some = sym is ∙ ap (λ r. option_map (λ (x
 no_body : (bodies : List tree.Body) (name : List ℕ) (result : Option (Bor Body)) → option_map (λ (x : Bor Body). body_of_name name x.now) result ≡ body_named bodies name → result ≡ None → body_named bodies name ≡ None
 no_body bodies name result is none = sym is ∙ ap (λ r. option_map (λ (x : Bor Body). body_of_name name x.now) r) none
 
--- ---- one turn
+-- ---- the innermost function doesn't go on by itself
 
--- `middle` is the machine after the tasks of its innermost function
-module _ (setting : Setting) (old middle : Machine) (memory after : Memory) (waits : middle.waiting ≡ old.waiting) (left_is : middle.left ≡ old.left) where
-  paused_at : (n : Next) → Goes setting old.frame memory middle.frame after (Ok n) → comes_to setting old memory ≡ ends setting middle.waiting.items (returned (paused setting middle.frame after n middle.left))
-  paused_at n goes =
-      ap (λ f. ends setting old.waiting.items (returned f)) (goes old.left)
-      ∙ ap (λ (ws : Vec Waiting Global). ends setting ws.items (returned (paused setting middle.frame after n old.left))) (sym waits)
-      ∙ ap (λ m. ends setting middle.waiting.items (returned (paused setting middle.frame after n m))) (sym left_is)
+module _ (setting : Setting) (old : Machine) (memory : Memory) where
+  unfinished : (p : Pause) → paused setting old.frame memory p old.left ≡ Unfinished → Ends (comes_by setting old memory p) memory (Ok ended.More)
+  unfinished p more = ap outcome_of (ap (ends setting old.waiting.items) more ∙ ends-Unfinished setting old.waiting.items)
 
-  paused_with : (n n' : Next) → Goes setting old.frame memory middle.frame after (Ok n) → n ≡ n' → comes_to setting old memory ≡ ends setting middle.waiting.items (returned (paused setting middle.frame after n' middle.left))
-  paused_with n n' goes is = paused_at n goes ∙ ap (λ x. ends setting middle.waiting.items (returned (paused setting middle.frame after x middle.left))) is
+  -- it has returned
 
-  unfinished : (n' : Next) → comes_to setting old memory ≡ ends setting middle.waiting.items (returned (paused setting middle.frame after n' middle.left)) → paused setting middle.frame after n' middle.left ≡ More
-      → Turns setting old memory middle after (Ok (Some ended.More))
-  unfinished n' is more = ap outcome_of (is ∙ ap (λ f. ends setting middle.waiting.items (returned f)) more ∙ ends-Unfinished setting middle.waiting.items)
+  given_back : comes_by setting old memory pause.Ended ≡ ends setting old.waiting.items (Returned old.frame.given memory old.left)
+  given_back = ap (λ f. ends setting old.waiting.items (returned f)) (through-Gave setting old.frame.types.now old.frame.tasks.items old.frame.given memory old.left)
 
-  -- the innermost function has returned
+  pub gives_back : old.waiting.items ≡ [] → Ends (comes_by setting old memory pause.Ended) memory (Ok (ended.Back old.frame.given))
+  gives_back last = ap outcome_of (given_back ∙ ap (λ ws. ends setting ws (Returned old.frame.given memory old.left)) last ∙ ends-none setting (Returned old.frame.given memory old.left))
 
-  pub gives_back : (n : Next) (end : Ending) (v : Option ℤ) (goes_on : Bool) → Goes setting old.frame memory middle.frame after (Ok n) → n ≡ next.Goes end → v ≡ value_of end → (new : Machine) → Resumes v middle new goes_on → goes_on ≡ false
-      → Turns setting old memory new after (Ok (Some (ended.Back v)))
-  gives_back n end v goes_on goes is value_is new resumes stops =
-      let last : middle.waiting.items ≡ [] = subst (λ b. Resumes v middle new b) stops resumes in
-      ap outcome_of (paused_with n (next.Goes end) goes is
-      ∙ ap (λ ws. ends setting ws (returned (flow_of end (state middle.frame.locals.items after) middle.left))) last
-      ∙ ends-none setting (returned (flow_of end (state middle.frame.locals.items after) middle.left))
-      ∙ returned_value end (state middle.frame.locals.items after) middle.left
-      ∙ ap (λ x. Returned x after middle.left) (sym value_is))
-
-  pub goes_back : (n : Next) (end : Ending) (v : Option ℤ) (goes_on : Bool) → Goes setting old.frame memory middle.frame after (Ok n) → n ≡ next.Goes end → v ≡ value_of end → (new : Machine) → Resumes v middle new goes_on → goes_on ≡ true
-      → Turns setting old memory new after (Ok None)
-  goes_back n end v goes_on goes is value_is new resumes going =
-      let some : Resumes v middle new true = subst (λ b. Resumes v middle new b) going resumes in
-      let w : Waiting = some.0 in
-      let pushed : middle.waiting.items ≡ new.waiting.items ++ w ∷ [] = some.1 in
-      let got : IsReceived w.frame new.frame w.local v = some.2 in
-      let same_left : new.left ≡ middle.left = some.3 in
-      let counted : length middle.waiting.items ≡ length new.waiting.items + 1 = ap length pushed ∙ length-append new.waiting.items (w ∷ []) in
-      let waited : length middle.waiting.items ≡ length old.waiting.items = ap (λ (ws : Vec Waiting Global). length ws.items) waits in (
-        paused_with n (next.Goes end) goes is
-            ∙ ap (ends setting middle.waiting.items) (returned_value end (state middle.frame.locals.items after) middle.left ∙ ap (λ x. Returned x after middle.left) (sym value_is))
-            ∙ ap (λ ws. ends setting ws (Returned v after middle.left)) pushed
-            ∙ ends-push setting new.waiting.items w (Returned v after middle.left)
-            ∙ ap (λ ls. ends setting new.waiting.items (returned (through setting w.frame.types.now w.frame.tasks.items (Went (state ls after) middle.left)))) (sym got.locals)
-            ∙ ap (λ (ts : Vec Task Global). ends setting new.waiting.items (returned (through setting w.frame.types.now ts.items (Went (state new.frame.locals.items after) middle.left)))) (sym got.tasks)
-            ∙ ap (λ (ty : Bor (List Scalar)). ends setting new.waiting.items (returned (through setting ty.now new.frame.tasks.items (Went (state new.frame.locals.items after) middle.left)))) (sym got.types)
-            ∙ ap (λ m. ends setting new.waiting.items (returned (through setting new.frame.types.now new.frame.tasks.items (Went (state new.frame.locals.items after) m)))) (sym same_left),
+  pub goes_back : (new : Machine) (w : Frame) → old.waiting.items ≡ new.waiting.items ++ w ∷ [] → IsReceived w new.frame old.frame.given → new.left ≡ old.left
+      → (comes_by setting old memory pause.Ended ≡ comes_to setting new memory) × (weight new < weight old)
+  goes_back new w pushed got same_left =
+      let counted : length old.waiting.items ≡ length new.waiting.items + 1 = ap length pushed ∙ length-append new.waiting.items (w ∷ []) in (
+        given_back
+            ∙ ap (λ ws. ends setting ws (Returned old.frame.given memory old.left)) pushed
+            ∙ ends-push setting new.waiting.items w (Returned old.frame.given memory old.left)
+            ∙ ap (λ ls. ends setting new.waiting.items (returned (through setting w.types.now w.tasks.items (Went (state ls memory) old.left)))) (sym got.locals)
+            ∙ ap (λ (ts : Vec Task Global). ends setting new.waiting.items (returned (through setting w.types.now ts.items (Went (state new.frame.locals.items memory) old.left)))) (sym got.tasks)
+            ∙ ap (λ (ty : Bor (List Scalar)). ends setting new.waiting.items (returned (through setting ty.now new.frame.tasks.items (Went (state new.frame.locals.items memory) old.left)))) (sym got.types)
+            ∙ ap (λ m. ends setting new.waiting.items (reached setting new.frame memory m)) (sym same_left),
         omega arith,
       )
 
   -- it needs a turn
 
-  waits_more : (left : ℕ) → left ≡ 0 → paused setting middle.frame after next.Waits left ≡ More
-  waits_more left none = ap (λ m. paused setting middle.frame after next.Waits m) none ∙ through-More setting middle.frame.types.now middle.frame.tasks.items
+  pub waits_ended : old.left ≡ 0 → Ends (comes_by setting old memory pause.Waits) memory (Ok ended.More)
+  waits_ended none = unfinished pause.Waits
+      (ap (λ m. paused setting old.frame memory pause.Waits m) none ∙ ap returned (through-More setting old.frame.types.now old.frame.tasks.items))
 
-  pub waits_ended : (n : Next) → Goes setting old.frame memory middle.frame after (Ok n) → n ≡ next.Waits → middle.left ≡ 0 → Turns setting old memory middle after (Ok (Some ended.More))
-  waits_ended n goes is none = unfinished next.Waits (paused_with n next.Waits goes is) (waits_more middle.left none)
-
-  pub waits_no_more : (n : Next) (new : Machine) → Goes setting old.frame memory middle.frame after (Ok n) → n ≡ next.Waits → 0 < middle.left → new.frame ≡ middle.frame → new.waiting ≡ middle.waiting → new.left ≡ middle.left - 1
-      → Turns setting old memory new after (Ok None)
-  waits_no_more n new goes is some frame waiting taken =
-      let counted : length new.waiting.items ≡ length old.waiting.items = ap (λ (ws : Vec Waiting Global). length ws.items) (waiting ∙ waits) in (
-        paused_with n next.Waits goes is
-            ∙ ap (λ m. ends setting middle.waiting.items (returned (paused setting middle.frame after next.Waits m))) (one_more middle.left some)
-            ∙ ap (λ m. ends setting middle.waiting.items (reached setting middle.frame middle.frame.locals.items after m)) (sym taken)
-            ∙ ap (λ (ws : Vec Waiting Global). ends setting ws.items (reached setting middle.frame middle.frame.locals.items after new.left)) (sym waiting)
-            ∙ ap (λ (f : Frame). ends setting new.waiting.items (reached setting f f.locals.items after new.left)) (sym frame),
-        omega arith,
-      )
+  pub waits_no_more : 0 < old.left → (comes_by setting old memory pause.Waits ≡ comes_to setting (record old { left = old.left - 1 }) memory) × (weight (record old { left = old.left - 1 }) < weight old)
+  waits_no_more some = (
+    ap (λ m. ends setting old.waiting.items (paused setting old.frame memory pause.Waits m)) (one_more old.left some),
+    omega arith,
+  )
 
   -- it calls another
 
-  pub calls_ended : (n : Next) (function : Bor (List ℕ)) (local : Option ℕ) → Goes setting old.frame memory middle.frame after (Ok n) → n ≡ next.Calls function local → middle.left ≡ 0 → Turns setting old memory middle after (Ok (Some ended.More))
-  calls_ended n function local goes is none = unfinished (next.Calls function local) (paused_with n (next.Calls function local) goes is)
-      (ap (λ m. paused setting middle.frame after (next.Calls function local) m) none
-      ∙ ap (λ c. through setting middle.frame.types.now middle.frame.tasks.items (after_call middle.frame.types.now middle.frame.locals.items local c)) (called_zero setting function.now middle.frame.arguments.items after)
-      ∙ through-More setting middle.frame.types.now middle.frame.tasks.items)
+  abbrev called_with : Called → Called
+  called_with c = returned (through setting old.frame.types.now old.frame.tasks.items (after_call old.frame.types.now old.frame.locals.items old.frame.receiver c))
 
-  pub calls_nothing : (n : Next) (function : Bor (List ℕ)) (local : Option ℕ) (found : Option (Bor Body)) → Goes setting old.frame memory middle.frame after (Ok n) → n ≡ next.Calls function local
-      → option_map (λ (x : Bor Body). body_of_name function.now x.now) found ≡ body_named setting.bodies function.now → found ≡ None → Turns setting old memory middle after (Ok (Some ended.More))
-  calls_nothing n function local found goes is search_is none = unfinished (next.Calls function local) (paused_with n (next.Calls function local) goes is)
-      (ap (λ c. through setting middle.frame.types.now middle.frame.tasks.items (after_call middle.frame.types.now middle.frame.locals.items local c))
-      (called-missing setting function.now middle.frame.arguments.items after middle.left (no_body setting.bodies function.now found search_is none))
-      ∙ through-More setting middle.frame.types.now middle.frame.tasks.items)
+  no_call : called_with Unfinished ≡ Unfinished
+  no_call = ap returned (through-More setting old.frame.types.now old.frame.tasks.items)
 
-  pub calls_body : (n : Next) (function : Bor (List ℕ)) (local : Option ℕ) (found : Option (Bor Body)) (b : Bor Body) (new : Machine) → Goes setting old.frame memory middle.frame after (Ok n) → n ≡ next.Calls function local
-      → option_map (λ (x : Bor Body). body_of_name function.now x.now) found ≡ body_named setting.bodies function.now → found ≡ Some b → 0 < middle.left → IsCalled b.now local middle new → Turns setting old memory new after (Ok None)
-  calls_body n function local found b new goes is search_is some turns calls =
-      let w : Waiting = record { frame = middle.frame; local = local } in
-      let taken : middle.left ≡ suc new.left = omega (arith, calls.left) in
-      let counted : length new.waiting.items ≡ length middle.waiting.items + 1 = ap length calls.waiting ∙ length-append middle.waiting.items (w ∷ []) in
-      let waited : length middle.waiting.items ≡ length old.waiting.items = ap (λ (ws : Vec Waiting Global). length ws.items) waits in (
-        paused_with n (next.Calls function local) goes is
-            ∙ ap (λ m. ends setting middle.waiting.items (returned (paused setting middle.frame after (next.Calls function local) m))) taken
-            ∙ ap (λ c. ends setting middle.waiting.items (returned (through setting middle.frame.types.now middle.frame.tasks.items (after_call middle.frame.types.now middle.frame.locals.items local c))))
-            (called_begins setting function.now middle.frame.arguments.items after b.now new.frame new.left (found_body setting.bodies function.now found b search_is some) calls.entered)
-            ∙ sym (ends-push setting middle.waiting.items w (reached setting new.frame new.frame.locals.items after new.left))
-            ∙ ap (λ ws. ends setting ws (reached setting new.frame new.frame.locals.items after new.left)) (sym calls.waiting),
-        omega (arith, calls.left),
-      )
+  pub calls_ended : old.left ≡ 0 → Ends (comes_by setting old memory pause.Calls) memory (Ok ended.More)
+  calls_ended none = unfinished pause.Calls
+      (ap (λ m. paused setting old.frame memory pause.Calls m) none
+      ∙ ap called_with (called_zero setting old.frame.callee.now old.frame.arguments.items memory) ∙ no_call)
+
+  module _ (found : Option (Bor Body)) (search_is : option_map (λ (x : Bor Body). body_of_name old.frame.callee.now x.now) found ≡ body_named setting.bodies old.frame.callee.now) where
+    pub calls_nothing : found ≡ None → Ends (comes_by setting old memory pause.Calls) memory (Ok ended.More)
+    calls_nothing none = unfinished pause.Calls
+        (ap called_with (called-missing setting old.frame.callee.now old.frame.arguments.items memory old.left (no_body setting.bodies old.frame.callee.now found search_is none)) ∙ no_call)
+
+    pub calls_body : (b : Bor Body) (new : Machine) → found ≡ Some b → IsCalled b.now old new → (comes_by setting old memory pause.Calls ≡ comes_to setting new memory) × (weight new < weight old)
+    calls_body b new some calls =
+        let taken : old.left ≡ suc new.left = omega (arith, calls.left) in
+        let counted : length new.waiting.items ≡ length old.waiting.items + 1 = ap length calls.waiting ∙ length-append old.waiting.items (old.frame ∷ []) in (
+          ap (λ m. ends setting old.waiting.items (paused setting old.frame memory pause.Calls m)) taken
+              ∙ ap (λ c. ends setting old.waiting.items (called_with c))
+              (called_begins setting old.frame.callee.now old.frame.arguments.items memory b.now new.frame new.left (found_body setting.bodies old.frame.callee.now found b search_is some) calls.entered)
+              ∙ sym (ends-push setting old.waiting.items old.frame (reached setting new.frame memory new.left))
+              ∙ ap (λ ws. ends setting ws (reached setting new.frame memory new.left)) (sym calls.waiting),
+          omega (arith, calls.left),
+        )
+
+-- ---- one turn
 
 -- the tasks stop
-pub goes_not : (setting : Setting) (old : Machine) (memory : Memory) (frame : Frame) (after : Memory) (new : Machine) (e : Stop) → Goes setting old.frame memory frame after (Err e) → Turns setting old memory new after (Err e)
+pub goes_not : (setting : Setting) (old : Machine) (memory : Memory) (frame : Frame) (after : Memory) (new : Machine) (e : Stop) → Goes setting old.frame memory frame after (Err e) → Turns (comes_to setting old memory) setting old new after (Err e)
 goes_not setting old memory frame after new (stop.Broke guard offset) goes =
-    ap outcome_of (ap (λ f. ends setting old.waiting.items (returned f)) (goes old.left) ∙ ends-Failed setting old.waiting.items guard offset)
+    ap outcome_of (ap (ends setting old.waiting.items) (goes old.left) ∙ ends-Failed setting old.waiting.items guard offset)
 goes_not setting old memory frame after new stop.Memory goes = tt {0}
+
+turns_other : (other given : Called) (setting : Setting) (old new : Machine) (after : Memory) (result : Result (Option Ended) Stop) → given ≡ other → Turns other setting old new after result → Turns given setting old new after result
+turns_other other given setting old new after result same holds = subst (λ c. Turns c setting old new after result) (sym same) holds
+
+-- a machine weighs as much with another innermost function
+with_frame : (given : Called) (setting : Setting) (old new : Machine) (frame : Frame) (after : Memory) (result : Result (Option Ended) Stop) → Turns given setting (record old { frame = frame }) new after result → Turns given setting old new after result
+with_frame given setting old new frame after (Ok None) holds = holds
+with_frame given setting old new frame after (Ok (Some e)) holds = holds
+with_frame given setting old new frame after (Err e) holds = holds
+
+-- the innermost function goes on as far as it does by itself, and then the run does
+pub turns_on : (setting : Setting) (old new : Machine) (memory after : Memory) (frame : Frame) (p p' : Pause) (result : Result (Option Ended) Stop) → Goes setting old.frame memory frame after (Ok p) → p ≡ p'
+    → Turned setting p' (record old { frame = frame }) new result → Turns (comes_to setting old memory) setting old new after result
+turns_on setting old new memory after frame p p' result goes is turned =
+    with_frame (comes_to setting old memory) setting old new frame after result
+    (turns_other (comes_by setting (record old { frame = frame }) after p') (comes_to setting old memory) setting (record old { frame = frame }) new after result
+    (ap (ends setting old.waiting.items) (goes old.left ∙ ap (λ x. paused setting frame after x old.left) is)) (turned after))
 
 -- ---- a run
 
@@ -222,18 +197,18 @@ pub starts : (setting : Setting) (function : List ℕ) (arguments : List ℤ) (m
 starts setting function arguments memory turns found b machine search_is some enters alone turns_left left_is =
     ap (called setting function arguments memory) (one_more turns turns_left ∙ ap suc (sym left_is))
     ∙ called_begins setting function arguments memory b.now machine.frame machine.left (found_body setting.bodies function found b search_is some) enters
-    ∙ sym (ap (λ ws. ends setting ws (reached setting machine.frame machine.frame.locals.items memory machine.left)) alone ∙ ends-none setting (reached setting machine.frame machine.frame.locals.items memory machine.left))
+    ∙ sym (ap (λ ws. ends setting ws (reached setting machine.frame memory machine.left)) alone ∙ ends-none setting (reached setting machine.frame memory machine.left))
 
 pub starts_nothing : (setting : Setting) (function : List ℕ) (arguments : List ℤ) (memory after : Memory) (turns : ℕ) (found : Option (Bor Body)) → option_map (λ (x : Bor Body). body_of_name function x.now) found ≡ body_named setting.bodies function → found ≡ None
     → Ends (called setting function arguments memory turns) after (Ok ended.More)
 starts_nothing setting function arguments memory after turns found search_is none =
     ap outcome_of (called-missing setting function arguments memory turns (no_body setting.bodies function found search_is none))
 
-pub turn_goes_on : (setting : Setting) (old : Machine) (memory : Memory) (new : Machine) (after : Memory) (o : Option Ended) → Turns setting old memory new after (Ok o) → o ≡ None → (comes_to setting old memory ≡ comes_to setting new after) × (weight new < weight old)
-turn_goes_on setting old memory new after o turns is = subst (λ x. Turns setting old memory new after (Ok x)) is turns
+pub turn_goes_on : (setting : Setting) (old : Machine) (memory : Memory) (new : Machine) (after : Memory) (o : Option Ended) → Turns (comes_to setting old memory) setting old new after (Ok o) → o ≡ None → (comes_to setting old memory ≡ comes_to setting new after) × (weight new < weight old)
+turn_goes_on setting old memory new after o turns is = subst (λ x. Turns (comes_to setting old memory) setting old new after (Ok x)) is turns
 
-pub turn_ends : (setting : Setting) (old : Machine) (memory : Memory) (new : Machine) (after : Memory) (o : Option Ended) (e : Ended) → Turns setting old memory new after (Ok o) → o ≡ Some e → Ends (comes_to setting old memory) after (Ok e)
-turn_ends setting old memory new after o e turns is = subst (λ x. Turns setting old memory new after (Ok x)) is turns
+pub turn_ends : (setting : Setting) (old : Machine) (memory : Memory) (new : Machine) (after : Memory) (o : Option Ended) (e : Ended) → Turns (comes_to setting old memory) setting old new after (Ok o) → o ≡ Some e → Ends (comes_to setting old memory) after (Ok e)
+turn_ends setting old memory new after o e turns is = subst (λ x. Turns (comes_to setting old memory) setting old new after (Ok x)) is turns
 
 pub run_none : (setting : Setting) (function : List ℕ) (arguments : List ℤ) (memory : Memory) (turns : ℕ) → turns ≡ 0 → spec.More ≡ c_run setting function arguments memory turns
 unfolding c_run

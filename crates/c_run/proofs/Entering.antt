@@ -13,10 +13,9 @@ use Rattle.c_types.specs.declared.typed.Body.{Body}
 use Rattle.c_run.specs.declared.frame.Frame.{Frame}
 use Rattle.c_run.specs.declared.frame.Task.{Task}
 use Rattle.c_run.specs.declared.frame.Task.TheVariants as task
-use Rattle.c_run.specs.declared.machine.Waiting.{Waiting}
 use Rattle.c_run.specs.declared.machine.Machine.{Machine}
 use Rattle.c_run.specs.Frames.{IsPushed, IsSet}
-use Rattle.c_run.specs.Machines.{IsEntered, IsReceived, IsCalled}
+use Rattle.c_run.specs.Machines.{IsBegun, IsEntered, IsReceived, IsCalled}
 
 -- ---- the locals at entry
 
@@ -64,31 +63,30 @@ module _ (old : Locals) (types : List Scalar) (arguments : List ℤ) where
   begun_all i now past begun =
       sym (append-nil now) ∙ ap (λ ts. now ++ locals_at_entry ts (drop i arguments)) (sym (drop_all i types past)) ∙ begun
 
-pub entered : (body : Body) (arguments : List ℤ) (before : Locals) (first new : Frame) (action : Bor kept.Action) → first.types.now ≡ body.locals.items → before ≡ []
-    → first.locals.items ≡ before ++ locals_at_entry first.types.now arguments → first.tasks.items ≡ [] → IsPushed first new (task.Do action) → action.now ≡ body.action.value → IsEntered body arguments new
-entered body arguments before first new action types none locals tasks pushed is = record {
-  types = ap (λ (ty : Bor (List Scalar)). ty.now) pushed.types ∙ types;
-  locals = ap (λ (ls : Vec (Option ℤ) Global). ls.items) pushed.locals ∙ locals ∙ ap (λ xs. xs ++ locals_at_entry first.types.now arguments) none ∙ ap (λ ts. locals_at_entry ts arguments) types;
-  tasks = (action, pushed.tasks ∙ ap (λ (ts : List Task). ts ++ task.Do action ∷ []) tasks, is);
+-- `first` has its locals, and nothing to do
+pub entered : (body : Body) (arguments : List ℤ) (types : List Scalar) (idle first new : Frame) (action : Bor kept.Action) → types ≡ body.locals.items → IsBegun types idle
+    → first.types ≡ idle.types → first.locals.items ≡ idle.locals.items ++ locals_at_entry types arguments → first.tasks ≡ idle.tasks → IsPushed first new (task.Do action) → action.now ≡ body.action.value → IsEntered body arguments new
+entered body arguments types idle first new action types_are begun same_types locals tasks pushed is = record {
+  types = ap (λ (ty : Bor (List Scalar)). ty.now) (pushed.types ∙ same_types) ∙ begun.types ∙ types_are;
+  locals = ap (λ (ls : Vec (Option ℤ) Global). ls.items) pushed.locals ∙ locals ∙ ap (λ xs. xs ++ locals_at_entry types arguments) begun.locals ∙ ap (λ ts. locals_at_entry ts arguments) types_are;
+  tasks = (action, pushed.tasks ∙ ap (λ (ts : Vec Task Global). ts.items ++ task.Do action ∷ []) tasks ∙ ap (λ (ts : List Task). ts ++ task.Do action ∷ []) begun.tasks, is);
 }
 
-pub called_now : (body : Body) (local : Option ℕ) (old new : Machine) (callee frame : Frame) (arguments : List ℤ) → IsEntered body arguments callee → arguments ≡ old.frame.arguments.items → frame ≡ old.frame → new.frame ≡ callee
-    → new.waiting.items ≡ old.waiting.items ++ (record { frame = frame; local = local }) ∷ [] → new.left + 1 ≡ old.left → IsCalled body local old new
-called_now body local old new callee frame arguments enters args before after waits left = record {
-  waiting = waits ∙ ap (λ f. old.waiting.items ++ waiting_at f ∷ []) before;
+pub called_now : (body : Body) (old new : Machine) (callee frame : Frame) (arguments : List ℤ) → IsEntered body arguments callee → arguments ≡ old.frame.arguments.items → frame ≡ old.frame → new.frame ≡ callee
+    → new.waiting.items ≡ old.waiting.items ++ frame ∷ [] → new.left + 1 ≡ old.left → IsCalled body old new
+called_now body old new callee frame arguments enters args before after waits left = record {
+  waiting = waits ∙ ap (λ f. old.waiting.items ++ f ∷ []) before;
   entered = subst (λ f. IsEntered body old.frame.arguments.items f) (sym after) (subst (λ vs. IsEntered body vs callee) args enters);
   left = left;
-} where
-  waiting_at : Frame → Waiting
-  waiting_at f = record { frame = f; local = local }
+}
 
 -- ---- the locals after a call
 
-pub received_none : (old : Frame) (local : Option ℕ) (v : Option ℤ) → local ≡ None → IsReceived old old local v
-received_none old local v is = record { types = refl; locals = sym (ap (λ l. received old.types.now old.locals.items l v) is); tasks = refl }
+pub received_none : (old : Frame) (v : Option ℤ) → old.receiver ≡ None → IsReceived old old v
+received_none old v is = record { types = refl; locals = sym (ap (λ l. received old.types.now old.locals.items l v) is); tasks = refl }
 
-pub received_some : (old new : Frame) (local : Option ℕ) (v : Option ℤ) (number : ℕ) (put : Option ℤ) → local ≡ Some number → put ≡ as_local old.types.now number v → IsSet old new number put → IsReceived old new local v
-received_some old new local v number put is value_is set = record {
+pub received_some : (old new : Frame) (v : Option ℤ) (number : ℕ) (put : Option ℤ) → old.receiver ≡ Some number → put ≡ as_local old.types.now number v → IsSet old new number put → IsReceived old new v
+received_some old new v number put is value_is set = record {
   types = set.types;
   locals = set.locals ∙ ap (slice_set old.locals.items number) value_is ∙ sym (ap (λ l. received old.types.now old.locals.items l v) is);
   tasks = set.tasks;

@@ -3,11 +3,14 @@ use Rattle.std.specs.Prelude.{◌≡◌, ℕ, ℤ, ◌++◌, ◌∷◌, [], List
 use Rattle.c_run.specs.declared.frame.Frame.{Frame}
 use Rattle.c_run.specs.declared.frame.Task.{Task}
 
--- one more task
-pub record IsPushed (old new : Frame) (t : Task) : Type 0 where
+-- more tasks, of which the last is next
+pub record ArePushed (old new : Frame) (ts : List Task) : Type 0 where
   pub types : new.types ≡ old.types
   pub locals : new.locals ≡ old.locals
-  pub tasks : new.tasks.items ≡ old.tasks.items ++ t ∷ []
+  pub tasks : new.tasks.items ≡ old.tasks.items ++ ts
+
+abbrev pub IsPushed : (old new : Frame) → Task → Type 0
+IsPushed old new t = ArePushed old new (t ∷ [])
 
 -- another value of a local
 pub record IsSet (old new : Frame) (local : ℕ) (value : Option ℤ) : Type 0 where

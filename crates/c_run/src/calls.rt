@@ -61,8 +61,9 @@ fn run_body(
     let Some(body) = body_named(setting, call.function) else {
         return Ok(Ended::More);
     };
+    let frame = attempt!(enter(alloc, body, call.arguments), Stop::Memory);
     let mut machine = Machine {
-        frame: attempt!(enter(alloc, body, call.arguments), Stop::Memory),
+        frame,
         waiting: Vec::new(alloc),
         left: turns - 1,
     };

@@ -5,31 +5,38 @@ ghost use Rattle.c_run.specs.Frames.{IsPushed, IsSet, IsTaken};
 
 use c_core::action::Action;
 use c_core::expression::Core;
-use c_type_spec::{Jump, Scalar, TestPlace};
+use c_type_spec::Scalar;
 use std::alloc::AllocError;
 
-/// How a statement ended, unless it broke a guard.
+/// How control reaches a task.
 #[derive(Clone, Copy)]
 pub enum Ending {
-    /// Control goes on after it.
+    /// What was before it is done.
     Went,
-    /// By `break` or `continue`.
-    Jumped(Jump),
-    /// By `return`, with the value if there is one.
-    Gave(Option<i128>),
+    /// By `break`.
+    Broke,
+    /// By `continue`.
+    Continued,
 }
 
-/// A loop.
+/// Why a function doesn't go on by itself.
 #[derive(Clone, Copy)]
-pub struct Cycle<'s, 'a> {
-    /// Where its test is.
-    pub place: TestPlace,
-    /// Its test.
-    pub test: &'s Core<'a>,
-    /// Its step, where the test is before the body.
-    pub step: &'s Action<'a>,
-    /// Its body.
-    pub body: &'s Action<'a>,
+pub enum Pause {
+    /// It has returned, with the value that is given, if one is.
+    Ended,
+    /// The next task needs a turn.
+    Waits,
+    /// It calls a function.
+    Calls,
+}
+
+/// What follows a statement.
+#[derive(Clone, Copy)]
+pub enum Next {
+    /// The next task, by how the statement ended.
+    Goes(Ending),
+    /// The function doesn't go on by itself.
+    Pauses(Pause),
 }
 
 /// What a function still has to do.
@@ -39,25 +46,14 @@ pub enum Task<'s, 'a> {
     Do(&'s Action<'a>),
     /// Statements one after the other.
     Rest(&'s [Action<'a>]),
-    /// The rest of a round of a loop, after its body.
-    Body(Cycle<'s, 'a>),
-    /// The next round of a loop, after its step.
-    Step(Cycle<'s, 'a>),
-    /// A round of a loop.
-    Round(Cycle<'s, 'a>),
+    /// The step of a loop, after its body, which may have ended by `continue`.
+    Step(&'s Action<'a>),
+    /// The test of a loop, likewise. Where it is 0 the loop is left, as by `break`.
+    Test(&'s Core<'a>),
+    /// The loop once more, after a round, unless the round ended by `break`.
+    Repeat(&'s Action<'a>),
     /// The end of a `switch`.
     Switch,
-}
-
-/// What follows a statement.
-#[derive(Clone, Copy)]
-pub enum Next<'a> {
-    /// The next task, by how the statement ended.
-    Goes(Ending),
-    /// The next task, which needs a turn.
-    Waits,
-    /// The call of a function, and the local that gets its value.
-    Calls(&'a [u8], Option<usize>),
 }
 
 /// A function that runs.
@@ -69,8 +65,14 @@ pub struct Frame<'s, 'a> {
     pub locals: Vec<Option<i128>>,
     /// What it still has to do; the last is next.
     pub tasks: Vec<Task<'s, 'a>>,
-    /// The values of the arguments of the call that is next.
+    /// The values of the arguments of its call.
     pub arguments: Vec<i128>,
+    /// The function that it calls.
+    pub callee: &'a [u8],
+    /// The local that gets the value of its call.
+    pub receiver: Option<usize>,
+    /// The value that it returns.
+    pub given: Option<i128>,
 }
 
 impl<'s, 'a> Frame<'s, 'a> {

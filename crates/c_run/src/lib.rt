@@ -9,3 +9,6 @@ pub mod frame;
 pub mod machine;
 pub mod running;
 pub mod statement;
+
+#[test]
+fn nothing() {}

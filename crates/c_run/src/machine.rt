@@ -1,14 +1,14 @@
 //! Functions that run: the innermost one, and those that wait for their callees.
 
-ghost use Rattle.std.specs.Prelude.{◌≡◌, ◌<◌, ◌++◌, IfOk, OnOk, slice_get, option_map};
+ghost use Rattle.std.specs.Prelude.{◌≡◌, ◌<◌, ◌++◌, IfOk, OnOk, Ok, slice_get, option_map};
 ghost use Rattle.c_meaning_spec.specs.Calls as spec;
 ghost use Rattle.c_meaning_spec.specs.Execution as flow;
 ghost use Rattle.c_types.specs.Typed.{body_of_name};
 ghost use Rattle.c_value.specs.Settings.{setting_of};
-ghost use Rattle.c_run.specs.Machines.{Ends, Turns, Resumes, comes_to, value_of};
-ghost use Rattle.c_run.specs.Machines.{IsCalled, IsEntered, IsReceived};
+ghost use Rattle.c_run.specs.Machines.{Ends, Turns, Turned, comes_to};
+ghost use Rattle.c_run.specs.Machines.{IsBegun, IsCalled, IsEntered, IsReceived};
 
-use crate::frame::{Ending, Frame, Next, Task};
+use crate::frame::{Frame, Pause, Task};
 use crate::running::go;
 use attempt::attempt;
 use c_core::constants::has_width;
@@ -19,22 +19,13 @@ use c_value::setting::{Setting, Stop};
 use memory_core::Memory;
 use std::alloc::{AllocError, Global};
 
-/// A function that waits for its callee.
-#[derive(Drop)]
-pub struct Waiting<'s, 'a> {
-    /// Its locals, and what it still has to do.
-    pub frame: Frame<'s, 'a>,
-    /// The local that gets the callee's value.
-    pub local: Option<usize>,
-}
-
 /// The functions that run.
 #[derive(Drop)]
 pub struct Machine<'s, 'a> {
     /// The innermost one.
     pub frame: Frame<'s, 'a>,
-    /// Those that wait; the last is the innermost one's caller.
-    pub waiting: Vec<Waiting<'s, 'a>>,
+    /// Those that wait for their callees; the last is the innermost one's caller.
+    pub waiting: Vec<Frame<'s, 'a>>,
     /// How many turns are left.
     pub left: u64,
 }
@@ -46,16 +37,6 @@ pub enum Ended {
     More,
     /// The outermost function returned this value, unless it is `void`.
     Back(Option<i128>),
-}
-
-/// The value that a body gives, by how it ended.
-fn value_of(ending: Ending) -> Option<i128>
-    ensures { result ≡ value_of ending }
-{
-    match ending {
-        Ending::Gave(value) => value,
-        Ending::Went | Ending::Jumped(_) => None,
-    }
 }
 
 /// The body of the function of a name.
@@ -93,6 +74,21 @@ fn begin_locals(
     Ok(())
 }
 
+/// A function that is about to run.
+fn idle<'s, 'a>(alloc: Global, types: &'s [Scalar]) -> Frame<'s, 'a>
+    ensures { IsBegun types.now result }
+{
+    Frame {
+        types,
+        locals: Vec::new(alloc),
+        tasks: Vec::new(alloc),
+        arguments: Vec::new(alloc),
+        callee: b"",
+        receiver: None,
+        given: None,
+    }
+}
+
 /// A function where a call of it begins.
 pub fn enter<'s, 'a>(
     alloc: Global,
@@ -102,12 +98,7 @@ pub fn enter<'s, 'a>(
     ensures { IfOk result (λ frame. IsEntered body.now arguments.now frame) }
 {
     let types = body.locals.as_slice();
-    let mut frame = Frame {
-        types,
-        locals: Vec::new(alloc),
-        tasks: Vec::new(alloc),
-        arguments: Vec::new(alloc),
-    };
+    let mut frame = idle(alloc, types);
     attempt!(begin_locals(&mut frame.locals, types, arguments));
     attempt!(frame.push(Task::Do(&*body.action)));
     Ok(frame)
@@ -129,15 +120,11 @@ fn as_local(types: &[Scalar], local: usize, value: Option<i128>) -> Result<Optio
     Ok(Some(convert(number, *of)))
 }
 
-/// The value of a call is put into a local.
-fn receive(
-    frame: &mut Frame<'_, '_>,
-    local: Option<usize>,
-    value: Option<i128>,
-) -> Result<(), TooWide>
-    ensures { OnOk result (IsReceived frame.old frame.new local value) }
+/// The value of a function's call is put into its local.
+fn receive(frame: &mut Frame<'_, '_>, value: Option<i128>) -> Result<(), TooWide>
+    ensures { OnOk result (IsReceived frame.old frame.new value) }
 {
-    let Some(number) = local else {
+    let Some(number) = frame.receiver else {
         return Ok(());
     };
     let put = attempt!(as_local(frame.types, number, value));
@@ -145,17 +132,31 @@ fn receive(
     Ok(())
 }
 
-/// The innermost function has returned a value. Its caller goes on, if there is one.
-fn resume(machine: &mut Machine<'_, '_>, value: Option<i128>) -> Result<bool, TooWide>
-    ensures { IfOk result (λ goes_on. Resumes value machine.old machine.new goes_on) }
+/// The innermost function has returned. Its caller goes on, if there is one.
+fn give_back<'s, 'a>(
+    setting: &Setting<'s, 'a>,
+    machine: &mut Machine<'s, 'a>,
+) -> Result<Option<Ended>, Stop>
+    ensures { Turned (setting_of setting.now) Pause.Ended machine.old machine.new result }
 {
-    let Some(waiting) = machine.waiting.pop() else {
-        return Ok(false);
+    let value = machine.frame.given;
+    let Some(caller) = machine.waiting.pop() else {
+        return Ok(Some(Ended::Back(value)));
     };
-    let local = waiting.local;
-    machine.frame = waiting.frame;
-    attempt!(receive(&mut machine.frame, local, value));
-    Ok(true)
+    machine.frame = caller;
+    attempt!(receive(&mut machine.frame, value), Stop::Memory);
+    Ok(None)
+}
+
+/// The innermost function takes a turn, if one is left.
+fn take_turn<'s, 'a>(setting: &Setting<'s, 'a>, machine: &mut Machine<'s, 'a>) -> Option<Ended>
+    ensures { Turned (setting_of setting.now) Pause.Waits machine.old machine.new (Ok result) }
+{
+    if machine.left == 0 {
+        return Some(Ended::More);
+    }
+    machine.left -= 1;
+    None
 }
 
 /// A function is called, with a turn, and the one that ran waits for it.
@@ -163,16 +164,33 @@ fn descend<'s, 'a>(
     alloc: Global,
     machine: &mut Machine<'s, 'a>,
     body: &'s Body<'a>,
-    local: Option<usize>,
 ) -> Result<(), AllocError>
     requires { 0 < machine.old.left }
-    ensures { OnOk result (IsCalled body.now local machine.old machine.new) }
+    ensures { OnOk result (IsCalled body.now machine.old machine.new) }
 {
     let callee = attempt!(enter(alloc, body, machine.frame.arguments.as_slice()));
     let frame = std::mem::replace(&mut machine.frame, callee);
-    attempt!(machine.waiting.push(Waiting { frame, local }), AllocError);
+    attempt!(machine.waiting.push(frame), AllocError);
     machine.left -= 1;
     Ok(())
+}
+
+/// The innermost function calls another, if a turn is left.
+fn call<'s, 'a>(
+    alloc: Global,
+    setting: &Setting<'s, 'a>,
+    machine: &mut Machine<'s, 'a>,
+) -> Result<Option<Ended>, Stop>
+    ensures { Turned (setting_of setting.now) Pause.Calls machine.old machine.new result }
+{
+    if machine.left == 0 {
+        return Ok(Some(Ended::More));
+    }
+    let Some(body) = body_named(setting, machine.frame.callee) else {
+        return Ok(Some(Ended::More));
+    };
+    attempt!(descend(alloc, machine, body), Stop::Memory);
+    Ok(None)
 }
 
 /// The innermost function, until it has returned, a turn is taken, or it has called another: how
@@ -183,34 +201,13 @@ fn turn<'s, 'a>(
     machine: &mut Machine<'s, 'a>,
     memory: &mut Memory,
 ) -> Result<Option<Ended>, Stop>
-    ensures { Turns (setting_of setting.now) machine.old memory.old machine.new memory.new result }
+    ensures { Turns (comes_to (setting_of setting.now) machine.old memory.old) (setting_of
+        setting.now) machine.old machine.new memory.new result }
 {
     match attempt!(go(setting, &mut machine.frame, memory)) {
-        Next::Goes(ending) => {
-            let value = value_of(ending);
-            let goes_on = attempt!(resume(machine, value), Stop::Memory);
-            if goes_on {
-                return Ok(None);
-            }
-            Ok(Some(Ended::Back(value)))
-        }
-        Next::Waits => {
-            if machine.left == 0 {
-                return Ok(Some(Ended::More));
-            }
-            machine.left -= 1;
-            Ok(None)
-        }
-        Next::Calls(function, local) => {
-            if machine.left == 0 {
-                return Ok(Some(Ended::More));
-            }
-            let Some(body) = body_named(setting, function) else {
-                return Ok(Some(Ended::More));
-            };
-            attempt!(descend(alloc, machine, body, local), Stop::Memory);
-            Ok(None)
-        }
+        Pause::Ended => give_back(setting, machine),
+        Pause::Waits => Ok(take_turn(setting, machine)),
+        Pause::Calls => call(alloc, setting, machine),
     }
 }
 

@@ -1,6 +1,6 @@
 //! What statements do in a frame.
 
-ghost use Rattle.std.specs.Prelude.{◌≡◌, map, option_map};
+ghost use Rattle.std.specs.Prelude.{◌≡◌, OnOk, map, option_map};
 ghost use Rattle.std.specs.List.{list_any};
 ghost use Rattle.c_type_spec.specs.Core as tree;
 ghost use Rattle.c_core.specs.Expressions.{core_of};
@@ -9,26 +9,27 @@ ghost use Rattle.c_type_spec.specs.Statements.{groups_in, same_label};
 ghost use Rattle.c_meaning_spec.specs.Evaluation as spec;
 ghost use Rattle.c_value.specs.Settings.{setting_of};
 ghost use Rattle.c_value.specs.Gives.{Gives, GivesValue};
-ghost use Rattle.c_run.specs.Tasks.{Acts, truth};
-ghost use Rattle.c_run.specs.Frames.{IsPassed};
+ghost use Rattle.c_run.specs.Tasks.{Acts, Repeats, ending_of, loop_tasks, truth};
+ghost use Rattle.c_run.specs.Frames.{ArePushed, IsPassed};
 ghost use Rattle.c_run.specs.Groups.{picked, chosen_action};
 
-use crate::frame::{Cycle, Ending, Frame, Next, Task};
+use crate::frame::{Ending, Frame, Next, Pause, Task};
 use attempt::attempt;
 use c_core::action::{Action, Group};
 use c_core::expression::Core;
 use c_meaning_spec::Guard;
-use c_type_spec::Scalar;
+use c_type_spec::{Jump, Scalar, TestPlace};
 use c_value::access::store_object;
 use c_value::evaluation::{Scene, address_past, value};
 use c_value::setting::{Setting, Stop};
 use memory_core::Memory;
+use std::alloc::AllocError;
 
 /// The value of an expression in a frame.
-pub fn value_in<'m>(
-    core: &Core<'_>,
-    setting: &Setting<'_, '_>,
-    frame: &'m Frame<'_, '_>,
+pub fn value_in<'m, 's, 'a>(
+    core: &Core<'a>,
+    setting: &Setting<'s, 'a>,
+    frame: &'m Frame<'s, 'a>,
     memory: &'m Memory,
     target: u64,
 ) -> Result<i128, Stop>
@@ -44,10 +45,10 @@ pub fn value_in<'m>(
 }
 
 /// A test is not 0.
-pub fn holds<'m>(
-    test: &Core<'_>,
-    setting: &Setting<'_, '_>,
-    frame: &'m Frame<'_, '_>,
+pub fn holds<'m, 's, 'a>(
+    test: &Core<'a>,
+    setting: &Setting<'s, 'a>,
+    frame: &'m Frame<'s, 'a>,
     memory: &'m Memory,
 ) -> Result<bool, Stop>
     ensures { Gives (λ b. b) result (truth (spec.value (setting_of setting.now)
@@ -60,10 +61,10 @@ pub fn holds<'m>(
 /// Statements one after the other.
 fn block<'s, 'a>(
     actions: &'s [Action<'a>],
-    setting: &Setting<'_, '_>,
+    setting: &Setting<'s, 'a>,
     frame: &mut Frame<'s, 'a>,
     memory: &mut Memory,
-) -> Result<Next<'a>, Stop>
+) -> Result<Next, Stop>
     ensures { Acts (setting_of setting.now) (tree.sequence (map action_of actions.now)) frame.old
         memory.old frame.new memory.new result }
 {
@@ -73,11 +74,11 @@ fn block<'s, 'a>(
 
 /// A value that is dropped.
 fn evaluate<'s, 'a>(
-    core: &Core<'_>,
-    setting: &Setting<'_, '_>,
+    core: &'s Core<'a>,
+    setting: &Setting<'s, 'a>,
     frame: &mut Frame<'s, 'a>,
     memory: &mut Memory,
-) -> Result<Next<'a>, Stop>
+) -> Result<Next, Stop>
     ensures { Acts (setting_of setting.now) (tree.Evaluate (core_of core.now)) frame.old
         memory.old frame.new memory.new result }
 {
@@ -88,11 +89,11 @@ fn evaluate<'s, 'a>(
 /// A value for a local.
 fn set<'s, 'a>(
     local: usize,
-    core: &Core<'_>,
-    setting: &Setting<'_, '_>,
+    core: &'s Core<'a>,
+    setting: &Setting<'s, 'a>,
     frame: &mut Frame<'s, 'a>,
     memory: &mut Memory,
-) -> Result<Next<'a>, Stop>
+) -> Result<Next, Stop>
     ensures { Acts (setting_of setting.now) (tree.Set local (core_of core.now)) frame.old
         memory.old frame.new memory.new result }
 {
@@ -104,10 +105,10 @@ fn set<'s, 'a>(
 /// A declaration without initial value.
 fn unset<'s, 'a>(
     local: usize,
-    setting: &Setting<'_, '_>,
+    setting: &Setting<'s, 'a>,
     frame: &mut Frame<'s, 'a>,
     memory: &mut Memory,
-) -> Result<Next<'a>, Stop>
+) -> Result<Next, Stop>
     ensures { Acts (setting_of setting.now) (tree.Unset local) frame.old
         memory.old frame.new memory.new result }
 {
@@ -118,14 +119,14 @@ fn unset<'s, 'a>(
 /// A value for the object so many bytes past an address.
 fn store<'s, 'a>(
     of: Scalar,
-    address: &Core<'_>,
+    address: &'s Core<'a>,
     displacement: usize,
-    core: &Core<'_>,
+    core: &'s Core<'a>,
     offset: usize,
-    setting: &Setting<'_, '_>,
+    setting: &Setting<'s, 'a>,
     frame: &mut Frame<'s, 'a>,
     memory: &mut Memory,
-) -> Result<Next<'a>, Stop>
+) -> Result<Next, Stop>
     ensures { Acts (setting_of setting.now) (tree.Store of (core_of address.now) displacement
         (core_of core.now) offset) frame.old memory.old frame.new memory.new result }
 {
@@ -138,8 +139,8 @@ fn store<'s, 'a>(
 
 /// The values of arguments, for the call that is next.
 fn pass<'s, 'a>(
-    arguments: &[Box<Core<'a>>],
-    setting: &Setting<'_, '_>,
+    arguments: &'s [Box<Core<'a>>],
+    setting: &Setting<'s, 'a>,
     frame: &mut Frame<'s, 'a>,
     memory: &Memory,
 ) -> Result<(), Stop>
@@ -161,26 +162,28 @@ fn call<'s, 'a>(
     function: &'a [u8],
     arguments: &'s [Box<Core<'a>>],
     local: Option<usize>,
-    setting: &Setting<'_, '_>,
+    setting: &Setting<'s, 'a>,
     frame: &mut Frame<'s, 'a>,
     memory: &mut Memory,
-) -> Result<Next<'a>, Stop>
+) -> Result<Next, Stop>
     ensures { Acts (setting_of setting.now) (tree.Call number function.now (map (λ b. core_of
         b.value) arguments.now) local) frame.old memory.old frame.new memory.new result }
 {
     attempt!(pass(arguments, setting, frame, memory));
-    Ok(Next::Calls(function, local))
+    frame.callee = function;
+    frame.receiver = local;
+    Ok(Next::Pauses(Pause::Calls))
 }
 
 /// One of two, by a test.
 fn choose<'s, 'a>(
-    test: &Core<'_>,
+    test: &'s Core<'a>,
     first: &'s Action<'a>,
     second: &'s Action<'a>,
-    setting: &Setting<'_, '_>,
+    setting: &Setting<'s, 'a>,
     frame: &mut Frame<'s, 'a>,
     memory: &mut Memory,
-) -> Result<Next<'a>, Stop>
+) -> Result<Next, Stop>
     ensures { Acts (setting_of setting.now) (tree.If (core_of test.now) (action_of first.now)
         (action_of second.now)) frame.old memory.old frame.new memory.new result }
 {
@@ -193,38 +196,87 @@ fn choose<'s, 'a>(
     Ok(Next::Goes(Ending::Went))
 }
 
-/// A loop.
+/// The tasks of a round whose test is before the body.
+fn test_first<'s, 'a>(
+    action: &'s Action<'a>,
+    test: &'s Core<'a>,
+    step: &'s Action<'a>,
+    body: &'s Action<'a>,
+    frame: &mut Frame<'s, 'a>,
+) -> Result<(), AllocError>
+    ensures { OnOk result (ArePushed frame.old frame.new (loop_tasks TestPlace.Before action.entry
+        test.entry step.entry body.entry)) }
+{
+    attempt!(frame.push(Task::Repeat(action)));
+    attempt!(frame.push(Task::Step(step)));
+    attempt!(frame.push(Task::Do(body)));
+    attempt!(frame.push(Task::Test(test)));
+    Ok(())
+}
+
+/// The tasks of a round whose test is after the body.
+fn test_last<'s, 'a>(
+    action: &'s Action<'a>,
+    test: &'s Core<'a>,
+    step: &'s Action<'a>,
+    body: &'s Action<'a>,
+    frame: &mut Frame<'s, 'a>,
+) -> Result<(), AllocError>
+    ensures { OnOk result (ArePushed frame.old frame.new (loop_tasks TestPlace.After action.entry
+        test.entry step.entry body.entry)) }
+{
+    attempt!(frame.push(Task::Repeat(action)));
+    attempt!(frame.push(Task::Test(test)));
+    attempt!(frame.push(Task::Do(body)));
+    Ok(())
+}
+
+/// A loop, which `action` is: a round, and then it again.
 fn repeat<'s, 'a>(
-    number: usize,
-    cycle: Cycle<'s, 'a>,
-    setting: &Setting<'_, '_>,
+    action: &'s Action<'a>,
+    place: TestPlace,
+    test: &'s Core<'a>,
+    step: &'s Action<'a>,
+    body: &'s Action<'a>,
+    setting: &Setting<'s, 'a>,
     frame: &mut Frame<'s, 'a>,
     memory: &mut Memory,
-) -> Result<Next<'a>, Stop>
-    ensures { Acts (setting_of setting.now) (tree.Loop number cycle.entry.place (core_of
-        cycle.entry.test.now) (action_of cycle.entry.step.now) (action_of cycle.entry.body.now))
+) -> Result<Next, Stop>
+    ensures { Repeats (setting_of setting.now) place action.entry test.entry step.entry body.entry
         frame.old memory.old frame.new memory.new result }
 {
-    attempt!(frame.push(Task::Round(cycle)), Stop::Memory);
-    Ok(Next::Waits)
+    match place {
+        TestPlace::Before => {
+            attempt!(test_first(action, test, step, body, frame), Stop::Memory);
+            Ok(Next::Pauses(Pause::Waits))
+        }
+        TestPlace::After => {
+            attempt!(test_last(action, test, step, body, frame), Stop::Memory);
+            Ok(Next::Pauses(Pause::Waits))
+        }
+    }
 }
 
 /// The end of the call.
 fn give_back<'s, 'a>(
-    value: &Option<Box<Core<'a>>>,
-    setting: &Setting<'_, '_>,
+    value: &'s Option<Box<Core<'a>>>,
+    setting: &Setting<'s, 'a>,
     frame: &mut Frame<'s, 'a>,
     memory: &mut Memory,
-) -> Result<Next<'a>, Stop>
+) -> Result<Next, Stop>
     ensures { Acts (setting_of setting.now) (tree.Return (core_in value.now)) frame.old
         memory.old frame.new memory.new result }
 {
     match value {
         Some(core) => {
             let value = attempt!(value_in(core, setting, frame, memory, 0));
-            Ok(Next::Goes(Ending::Gave(Some(value))))
+            frame.given = Some(value);
+            Ok(Next::Pauses(Pause::Ended))
         }
-        None => Ok(Next::Goes(Ending::Gave(None))),
+        None => {
+            frame.given = None;
+            Ok(Next::Pauses(Pause::Ended))
+        }
     }
 }
 
@@ -278,12 +330,12 @@ fn chosen<'b, 'a>(groups: &'b [Group<'a>], value: i128) -> Option<&'b Action<'a>
 
 /// One of several groups, by a value.
 fn switch<'s, 'a>(
-    test: &Core<'_>,
+    test: &'s Core<'a>,
     groups: &'s [Group<'a>],
-    setting: &Setting<'_, '_>,
+    setting: &Setting<'s, 'a>,
     frame: &mut Frame<'s, 'a>,
     memory: &mut Memory,
-) -> Result<Next<'a>, Stop>
+) -> Result<Next, Stop>
     ensures { Acts (setting_of setting.now) (tree.Switch (core_of test.now) (groups_in (map
         group_of groups.now))) frame.old memory.old frame.new memory.new result }
 {
@@ -296,33 +348,29 @@ fn switch<'s, 'a>(
     Ok(Next::Goes(Ending::Went))
 }
 
-/// A statement that is next.
-fn put_off<'s, 'a>(
-    action: &'s Action<'a>,
-    setting: &Setting<'_, '_>,
-    frame: &mut Frame<'s, 'a>,
-    memory: &mut Memory,
-) -> Result<Next<'a>, Stop>
-    ensures { Acts (setting_of setting.now) (action_of action.now) frame.old memory.old frame.new
-        memory.new result }
+/// How a jump ends a statement.
+fn ending_of(jump: Jump) -> Ending
+    ensures { result ≡ ending_of jump }
 {
-    attempt!(frame.push(Task::Do(action)), Stop::Memory);
-    Ok(Next::Goes(Ending::Went))
+    match jump {
+        Jump::Break => Ending::Broke,
+        Jump::Continue => Ending::Continued,
+    }
 }
 
-/// What a statement does that drops a value, or sets a local or an object. Another is next: `act`
-/// hands on none.
+/// What a statement does.
 #[tactic(auto, using(c_core::proofs::ActionViews::action_views))]
-fn assign<'s, 'a>(
+pub fn act<'s, 'a>(
     action: &'s Action<'a>,
-    setting: &Setting<'_, '_>,
+    setting: &Setting<'s, 'a>,
     frame: &mut Frame<'s, 'a>,
     memory: &mut Memory,
-) -> Result<Next<'a>, Stop>
+) -> Result<Next, Stop>
     ensures { Acts (setting_of setting.now) (action_of action.now) frame.old memory.old frame.new
         memory.new result }
 {
     match action {
+        Action::Block(actions) => block(actions, setting, frame, memory),
         Action::Evaluate(core) => evaluate(core, setting, frame, memory),
         Action::Set(local, core) => set(*local, core, setting, frame, memory),
         Action::Unset(local) => unset(*local, setting, frame, memory),
@@ -336,56 +384,16 @@ fn assign<'s, 'a>(
             frame,
             memory,
         ),
-        _ => put_off(action, setting, frame, memory),
-    }
-}
-
-/// What a call or a jump does; another statement is `assign`'s.
-#[tactic(auto, using(c_core::proofs::ActionViews::action_views))]
-fn transfer<'s, 'a>(
-    action: &'s Action<'a>,
-    setting: &Setting<'_, '_>,
-    frame: &mut Frame<'s, 'a>,
-    memory: &mut Memory,
-) -> Result<Next<'a>, Stop>
-    ensures { Acts (setting_of setting.now) (action_of action.now) frame.old memory.old frame.new
-        memory.new result }
-{
-    match action {
         Action::Call(number, function, arguments, local) => call(
             *number, *function, arguments, *local, setting, frame, memory,
         ),
-        Action::Leave(jump) => Ok(Next::Goes(Ending::Jumped(*jump))),
+        Action::If(test, first, second) => choose(test, first, second, setting, frame, memory),
+        Action::Loop(_, place, test, step, body) => {
+            repeat(action, *place, test, step, body, setting, frame, memory)
+        }
+        Action::Leave(jump) => Ok(Next::Goes(ending_of(*jump))),
+        Action::Switch(test, groups) => switch(test, groups, setting, frame, memory),
         Action::Return(value) => give_back(value, setting, frame, memory),
         Action::MissingReturn(offset) => Err(Stop::Broke(Guard::MissingReturn, *offset)),
-        _ => assign(action, setting, frame, memory),
-    }
-}
-
-/// What a statement does: here one that has others in it.
-#[tactic(auto, using(c_core::proofs::ActionViews::action_views))]
-pub fn act<'s, 'a>(
-    action: &'s Action<'a>,
-    setting: &Setting<'_, '_>,
-    frame: &mut Frame<'s, 'a>,
-    memory: &mut Memory,
-) -> Result<Next<'a>, Stop>
-    ensures { Acts (setting_of setting.now) (action_of action.now) frame.old memory.old frame.new
-        memory.new result }
-{
-    match action {
-        Action::Block(actions) => block(actions, setting, frame, memory),
-        Action::If(test, first, second) => choose(test, first, second, setting, frame, memory),
-        Action::Loop(number, place, test, step, body) => {
-            let cycle = Cycle {
-                place: *place,
-                test,
-                step,
-                body,
-            };
-            repeat(*number, cycle, setting, frame, memory)
-        }
-        Action::Switch(test, groups) => switch(test, groups, setting, frame, memory),
-        _ => transfer(action, setting, frame, memory),
     }
 }

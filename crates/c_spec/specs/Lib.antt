@@ -1,5 +1,3 @@
-pub mod Tokens
-pub mod Unit
 pub mod Words
 pub mod Punctuators
 pub mod Numbers

@@ -20,7 +20,7 @@ use crate::tags::is_declared;
 use attempt::attempt;
 use c_syntax::expression::Name;
 use c_type_layout::types::{CType, Outer, same_type};
-use c_type_operator::operand::{TypeFault, type_or_memory};
+use c_type_operator::operand::{TypeFault, part_or_memory, type_or_memory};
 use c_type_scope::meaning::{Meaning, Signature};
 use c_type_scope::state::State;
 use c_type_spec::{ARGUMENT_WORDS, LeftOut, POINTER_WIDTH, TypeFaultKind};
@@ -50,7 +50,6 @@ fn local_declared<'a>(
 
 /// What is refused of a local.
 fn local_faults(
-    alloc: Global,
     name: Name<'_>,
     of: &CType,
     is_static: bool,
@@ -59,7 +58,7 @@ fn local_faults(
     ensures { Gives nothing result (names.faults_at name.entry.offset (rule.local_faults (name_of
         name.entry) (type_of of.now) is_static (state_of state.now))) }
 {
-    let is_large = attempt!(too_large(alloc, state.structs(), of));
+    let is_large = attempt!(too_large(state.structs(), of));
     first_fault(
         &[
             (is_declared(state, name), TypeFaultKind::Twice),
@@ -89,7 +88,7 @@ pub fn local<'a>(
     ensures { Runs (λ n. n) result state.new (rule.local (name_of name.entry) (type_of of.now)
         is_static (state_of state.old)) }
 {
-    attempt!(local_faults(alloc, name, of, is_static, state));
+    attempt!(local_faults(name, of, is_static, state));
     local_declared(alloc, Some(name), of, state)
 }
 
@@ -116,7 +115,6 @@ fn name_offset(name: Option<Name<'_>>, offset: usize) -> usize
 
 /// What is refused of a parameter, before its type is adjusted.
 fn parameter_faults(
-    alloc: Global,
     name: Option<Name<'_>>,
     of: &CType,
     has_body: bool,
@@ -127,8 +125,8 @@ fn parameter_faults(
         name.entry) offset) (rule.parameter_faults (option_map name_of name.entry) (type_of of.now)
         has_body (state_of state.now))) }
 {
-    let is_large = attempt!(too_large(alloc, state.structs(), of));
-    let lacks = attempt!(lacks_element(alloc, state.structs(), of));
+    let is_large = attempt!(too_large(state.structs(), of));
+    let lacks = attempt!(lacks_element(state.structs(), of));
     first_fault(
         &[
             (is_declared_parameter(state, name), TypeFaultKind::Twice),
@@ -157,7 +155,7 @@ pub fn parameter<'a>(
     ensures { Runs type_of result state.new (rule.parameter (option_map name_of name.entry) (type_of
         of) has_body offset (state_of state.old)) }
 {
-    attempt!(parameter_faults(alloc, name, &of, has_body, offset, state));
+    attempt!(parameter_faults(name, &of, has_body, offset, state));
     let of = attempt!(adjusted(of));
     attempt!(local_declared(alloc, name, &of, state));
     Ok(of)
@@ -177,18 +175,13 @@ fn is_once(meaning: Option<Option<&Meaning>>) -> bool
 }
 
 /// What is refused of a typedef name.
-fn typedef_faults(
-    alloc: Global,
-    name: Name<'_>,
-    of: &CType,
-    state: &State<'_>,
-) -> Result<(), TypeFault>
+fn typedef_faults(name: Name<'_>, of: &CType, state: &State<'_>) -> Result<(), TypeFault>
     ensures { Gives nothing result (names.faults_at name.entry.offset (rule.typedef_faults (name_of
         name.entry) (type_of of.now) (state_of state.now))) }
 {
     let is_there = state.meaning_in_file(name.spelling).is_some();
-    let is_large = attempt!(too_large(alloc, state.structs(), of));
-    let lacks = attempt!(lacks_element(alloc, state.structs(), of));
+    let is_large = attempt!(too_large(state.structs(), of));
+    let lacks = attempt!(lacks_element(state.structs(), of));
     first_fault(
         &[
             (is_there, TypeFaultKind::Twice),
@@ -201,32 +194,22 @@ fn typedef_faults(
 
 /// A typedef name.
 #[tactic(auto, unfolding(c_type_spec::specs::Declarations::typedef))]
-pub fn typedef<'a>(
-    alloc: Global,
-    name: Name<'a>,
-    of: CType,
-    state: &mut State<'a>,
-) -> Result<(), TypeFault>
+pub fn typedef<'a>(name: Name<'a>, of: CType, state: &mut State<'a>) -> Result<(), TypeFault>
     ensures { Runs nothing result state.new (rule.typedef (name_of name.entry) (type_of of)
         (state_of state.old)) }
 {
-    attempt!(typedef_faults(alloc, name, &of, state));
+    attempt!(typedef_faults(name, &of, state));
     state.declare_in_file(name.spelling, Meaning::Typedef(of))
 }
 
 /// An array of a length, where the elements of two arrays are of one type.
-fn with_length(
-    alloc: Global,
-    old: &CType,
-    of: &CType,
-    length: Option<u64>,
-) -> Result<Option<CType>, TypeFault>
+fn with_length(old: &CType, of: &CType, length: Option<u64>) -> Result<Option<CType>, TypeFault>
     ensures { Gives (λ t. option_map type_of t) result (Ok (specs.with_length length (type_of
         old.now) (type_of of.now))) }
 {
-    let old = attempt!(type_or_memory(old.copy(alloc)));
-    let of = attempt!(type_or_memory(of.copy(alloc)));
-    match (old.element(), of.element()) {
+    let old = attempt!(part_or_memory(old.element()));
+    let of = attempt!(part_or_memory(of.element()));
+    match (old, of) {
         (Some(a), Some(b)) => {
             if same_type(&a, &b) {
                 Ok(Some(attempt!(type_or_memory(a.array(length)))))
@@ -245,10 +228,8 @@ fn composite(alloc: Global, old: &CType, of: &CType) -> Result<Option<CType>, Ty
         of.now))) }
 {
     match (old.outer(), of.outer()) {
-        (Outer::Array(None), Outer::Array(length)) => with_length(alloc, old, of, length),
-        (Outer::Array(Some(length)), Outer::Array(None)) => {
-            with_length(alloc, old, of, Some(length))
-        }
+        (Outer::Array(None), Outer::Array(length)) => with_length(old, of, length),
+        (Outer::Array(Some(length)), Outer::Array(None)) => { with_length(old, of, Some(length)) }
         _ => {
             if same_type(old, of) {
                 Ok(Some(attempt!(type_or_memory(old.copy(alloc)))))
@@ -277,7 +258,6 @@ fn object_type(
 
 /// What is refused of an object, which has a type after this declaration or none.
 fn object_faults(
-    alloc: Global,
     name: Name<'_>,
     of: &CType,
     differs: bool,
@@ -287,8 +267,8 @@ fn object_faults(
         name.entry) (type_of of.now) differs (state_of state.now))) }
 {
     let once = is_once(state.meaning_in_file(name.spelling));
-    let is_large = attempt!(too_large(alloc, state.structs(), of));
-    let lacks = attempt!(lacks_element(alloc, state.structs(), of));
+    let is_large = attempt!(too_large(state.structs(), of));
+    let lacks = attempt!(lacks_element(state.structs(), of));
     first_fault(
         &[
             (once, TypeFaultKind::Twice),
@@ -312,7 +292,7 @@ pub fn object<'a>(
         (state_of state.old)) }
 {
     let made = attempt!(object_type(alloc, state.meaning_in_file(name.spelling), &of));
-    attempt!(object_faults(alloc, name, &of, made.is_none(), state));
+    attempt!(object_faults(name, &of, made.is_none(), state));
     let of = made.unwrap_or(of);
     state.declare_in_file(name.spelling, Meaning::Object(of))
 }

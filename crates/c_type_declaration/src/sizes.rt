@@ -16,7 +16,7 @@ use attempt::attempt;
 use c_syntax::expression::Name;
 use c_type_layout::structs::{Definition, Layout, Placed, alignment, member_named, size};
 use c_type_layout::types::{CType, Outer};
-use c_type_operator::operand::{TypeFault, type_or_memory};
+use c_type_operator::operand::{TypeFault, part_or_memory, type_or_memory};
 use c_type_spec::{LeftOut, SIZE_LIMIT, TypeFaultKind};
 use indexmap::IndexMap;
 use std::alloc::Global;
@@ -32,16 +32,11 @@ fn is_large(size: Option<u64>) -> bool
 }
 
 /// The size of the elements of an array, or none.
-fn element_size(
-    alloc: Global,
-    structs: &[Definition<'_>],
-    of: &CType,
-) -> Result<Option<u64>, TypeFault>
+fn element_size(structs: &[Definition<'_>], of: &CType) -> Result<Option<u64>, TypeFault>
     ensures { Gives (λ n. n) result (Ok (capped (specs.element_size (structs_of structs.now) (type_of
         of.now)))) }
 {
-    let copy = attempt!(type_or_memory(of.copy(alloc)));
-    match copy.element() {
+    match attempt!(part_or_memory(of.element())) {
         Some(element) => Ok(size(structs, &element)),
         None => Ok(None),
     }
@@ -49,13 +44,13 @@ fn element_size(
 
 /// The size of a type, or that of the elements of an array without length, is over the limit.
 #[tactic(auto, using(crate::proofs::Outers::by_outer, crate::proofs::Capped::capping))]
-pub fn too_large(alloc: Global, structs: &[Definition<'_>], of: &CType) -> Result<bool, TypeFault>
+pub fn too_large(structs: &[Definition<'_>], of: &CType) -> Result<bool, TypeFault>
     ensures { Gives (λ b. b) result (Ok (types.too_large (structs_of structs.now) (type_of
         of.now))) }
 {
     match of.outer() {
         Outer::Array(None) => {
-            let size = attempt!(element_size(alloc, structs, of));
+            let size = attempt!(element_size(structs, of));
             Ok(is_large(size))
         }
         Outer::Array(Some(_))
@@ -68,17 +63,13 @@ pub fn too_large(alloc: Global, structs: &[Definition<'_>], of: &CType) -> Resul
 
 /// It is an array of what has no size.
 #[tactic(auto, using(crate::proofs::Outers::by_outer, crate::proofs::Capped::capping))]
-pub fn lacks_element(
-    alloc: Global,
-    structs: &[Definition<'_>],
-    of: &CType,
-) -> Result<bool, TypeFault>
+pub fn lacks_element(structs: &[Definition<'_>], of: &CType) -> Result<bool, TypeFault>
     ensures { Gives (λ b. b) result (Ok (types.lacks_element (structs_of structs.now) (type_of
         of.now))) }
 {
     match of.outer() {
         Outer::Array(_) => {
-            let size = attempt!(element_size(alloc, structs, of));
+            let size = attempt!(element_size(structs, of));
             Ok(size.is_none())
         }
         Outer::Void | Outer::Integer(_) | Outer::Pointer | Outer::Struct(_) => Ok(false),
@@ -133,7 +124,6 @@ pub fn is_array(of: &CType) -> bool
 
 /// What is refused of a member.
 fn member_faults(
-    alloc: Global,
     structs: &[Definition<'_>],
     layout: &Layout<'_>,
     name: Name<'_>,
@@ -143,7 +133,7 @@ fn member_faults(
         (structs_of structs.now) (layout_of layout.now) (name_of name.entry) (type_of of.now))) }
 {
     let is_there = has_member(layout, name.spelling);
-    let is_large = attempt!(too_large(alloc, structs, of));
+    let is_large = attempt!(too_large(structs, of));
     first_fault(
         &[
             (is_there, TypeFaultKind::Twice),
@@ -256,7 +246,6 @@ fn layout_fits(layout: &Layout<'_>, offset: usize) -> Result<(), TypeFault>
 /// One more member of a struct.
 #[tactic(auto, unfolding(c_type_spec::specs::Declarations::member))]
 pub fn member<'a>(
-    alloc: Global,
     structs: &[Definition<'a>],
     layout: &mut Layout<'a>,
     name: Name<'a>,
@@ -265,7 +254,7 @@ pub fn member<'a>(
     ensures { Gives (λ _. layout_of layout.new) result (rule.member (structs_of structs.now)
         (layout_of layout.old) (name_of name.entry) (type_of of)) }
 {
-    attempt!(member_faults(alloc, structs, layout, name, &of));
+    attempt!(member_faults(structs, layout, name, &of));
     let size = attempt!(known_size(structs, &of, name.offset));
     let alignment = alignment(structs, &of);
     attempt!(with_member(layout, name.spelling, of, size, alignment));
@@ -292,7 +281,7 @@ pub fn empty_layout<'a>(alloc: Global) -> Result<Box<Layout<'a>>, TypeFault>
 fn pointer_to_element(of: CType) -> Result<CType, TypeFault>
     ensures { Gives type_of result (Ok (specs.element_pointer (type_of of))) }
 {
-    match of.element() {
+    match attempt!(part_or_memory(of.element())) {
         Some(element) => type_or_memory(element.pointer()),
         None => Err(TypeFault::Memory),
     }

@@ -395,7 +395,7 @@ fn member_declarators<'a>(
 {
     for item in list {
         let made = attempt!(declarator(alloc, item, of, state));
-        attempt!(member(alloc, state.structs(), layout, item.name, made));
+        attempt!(member(state.structs(), layout, item.name, made));
     }
     Ok(())
 }

@@ -1,11 +1,9 @@
 -- Structs of the program, and their layouts.
-use Rattle.std.specs.Prelude.{ℕ, ◌/◌, min, List, map, Option, Some, option_map}
+use Rattle.std.specs.Prelude.{ℕ, min, List, map, Option, Some, option_map}
 use Rattle.std.specs.Borrow.{Bor}
-use Rattle.c_type_spec.specs.declared.TheConstants.{POINTER_WIDTH, SIZE_LIMIT}
+use Rattle.c_type_spec.specs.declared.TheConstants.{SIZE_LIMIT}
 use Rattle.c_type_spec.specs.Types as tree
 use Rattle.c_type_layout.specs.Types.{type_of}
-use Rattle.c_type_layout.specs.declared.types.Layer.{Layer}
-use Rattle.c_type_layout.specs.declared.types.Layer.TheVariants as layer
 use Rattle.c_type_layout.specs.declared.structs.Placed.{Placed}
 use Rattle.c_type_layout.specs.declared.structs.Layout.{Layout}
 use Rattle.c_type_layout.specs.declared.structs.Definition.{Definition}
@@ -28,16 +26,6 @@ structs_of structs = map definition_of structs
 -- a size, or the limit where it is above that
 abbrev pub capped : Option ℕ → Option ℕ
 capped size = option_map (λ n. min n SIZE_LIMIT) size
-
--- the size with one more layer
-abbrev pub layer_size : Layer → Option ℕ → Option ℕ
-layer_size layer.Pointer size = Some (POINTER_WIDTH / 8)
-layer_size (layer.Array length) size = capped (tree.times length size)
-
--- the alignment with one more layer
-abbrev pub layer_alignment : Layer → ℕ → ℕ
-layer_alignment layer.Pointer alignment = POINTER_WIDTH / 8
-layer_alignment (layer.Array length) alignment = alignment
 
 -- a member's type and its distance
 abbrev pub placed_of : Placed → tree.CType × ℕ

@@ -3,8 +3,8 @@ use Rattle.std.specs.Prelude.{◌&&◌, Bool, true, false, List, [], ◌∷◌, 
 use Rattle.c_type_spec.specs.Types as tree
 use Rattle.c_type_layout.specs.declared.types.Base.{Base}
 use Rattle.c_type_layout.specs.declared.types.Base.TheVariants as base
-use Rattle.c_type_layout.specs.declared.types.Layer.{Layer}
-use Rattle.c_type_layout.specs.declared.types.Layer.TheVariants as layer
+use Rattle.c_type_layout.specs.declared.types.Layers.{Layers}
+use Rattle.c_type_layout.specs.declared.types.Layers.TheVariants.{Nothing, Pointer', Array'}
 use Rattle.c_type_layout.specs.declared.types.Outer.{Outer}
 use Rattle.c_type_layout.specs.declared.types.Outer.TheVariants as outer
 use Rattle.c_type_layout.specs.declared.types.CType.{CType}
@@ -14,17 +14,14 @@ base_of base.Void = tree.Void
 base_of (base.Integer scalar) = tree.Integer scalar
 base_of (base.Struct number) = tree.Struct number
 
-abbrev pub around : Layer → tree.CType → tree.CType
-around layer.Pointer type = tree.Pointer type
-around (layer.Array length) type = tree.Array length type
-
--- a type with layers round it, the innermost first
-abbrev pub wrapped : tree.CType → List Layer → tree.CType
-wrapped type [] = type
-wrapped type (first ∷ rest) = wrapped (around first type) rest
+-- a type with layers round it, the outermost first
+abbrev pub wrapped : Layers → Base → tree.CType
+wrapped Nothing base = base_of base
+wrapped (Pointer' p rest) base = tree.Pointer (wrapped rest base)
+wrapped (Array' length p rest) base = tree.Array length (wrapped rest base)
 
 unfoldable pub type_of : CType → tree.CType
-type_of type = wrapped (base_of type.base) type.layers.items
+type_of type = wrapped type.layers type.base
 
 -- what a type is from outside
 abbrev pub outer_of : tree.CType → Outer
@@ -42,20 +39,12 @@ abbrev pub element_of : tree.CType → Option tree.CType
 element_of (tree.Array length element) = Some element
 element_of other = None
 
-abbrev pub same_layer : Layer → Layer → Bool
-same_layer layer.Pointer layer.Pointer = true
-same_layer (layer.Array m) (layer.Array n) = tree.same_length m n
-same_layer a b = false
-
 -- as many layers, each equal to the other's
-unfoldable pub same_layers : List Layer → List Layer → Bool
-same_layers [] [] = true
-same_layers (a ∷ layers) (b ∷ others) = same_layer a b && same_layers layers others
+unfoldable pub same_layers : Layers → Layers → Bool
+same_layers Nothing Nothing = true
+same_layers (Pointer' p layers) (Pointer' q others) = same_layers layers others
+same_layers (Array' m p layers) (Array' n q others) = tree.same_length m n && same_layers layers others
 same_layers layers others = false
-
-abbrev pub is_pointer : Layer → Bool
-is_pointer layer.Pointer = true
-is_pointer (layer.Array length) = false
 
 abbrev pub void_pointer : tree.CType → Bool
 void_pointer (tree.Pointer target) = tree.is_void target

@@ -3,11 +3,10 @@
 ghost use Rattle.std.specs.Prelude.{◌≡◌, min, option_map, slice_get};
 ghost use Rattle.c_type_spec.specs.Types as tree;
 ghost use Rattle.c_type_layout.specs.Types.{type_of, base_of};
-ghost use Rattle.c_type_layout.specs.Structs as specs;
 ghost use Rattle.c_type_layout.specs.Structs.{layout_of, definition_of, structs_of, capped};
-ghost use Rattle.c_type_layout.specs.Structs.{layer_size, placed_of, part_of};
+ghost use Rattle.c_type_layout.specs.Structs.{placed_of, part_of};
 
-use crate::types::{Base, CType, Layer};
+use crate::types::{Base, CType, Layers};
 use c_type_spec::{POINTER_WIDTH, SIZE_LIMIT};
 use indexmap::IndexMap;
 
@@ -124,28 +123,34 @@ fn base_size(structs: &[Definition<'_>], base: Base) -> Option<u64>
     }
 }
 
-/// The size with one more layer.
-fn with_layer(layer: Layer, size: Option<u64>) -> Option<u64>
-    ensures { result ≡ layer_size layer size }
+/// So many elements, or the limit where there are more.
+fn times(count: Option<u64>, length: Option<u64>) -> Option<u64>
+    ensures { result ≡ capped (tree.times count length) }
 {
-    match (layer, size) {
-        (Layer::Pointer, _) => Some(POINTER_WIDTH as u64 / 8),
-        (Layer::Array(Some(length)), Some(size)) => Some(limited(length.saturating_mul(size))),
-        (Layer::Array(_), _) => None,
+    match (count, length) {
+        (Some(m), Some(n)) => Some(limited(m.saturating_mul(n))),
+        _ => None,
     }
 }
 
 /// The size of a type in bytes, or [`SIZE_LIMIT`] where it is from there on; none where the type
 /// is incomplete.
-#[tactic(auto, unfolding(crate::specs::Types::type_of), using(crate::proofs::Sizes::one_more))]
+#[tactic(auto, unfolding(crate::specs::Types::type_of, c_type_spec::specs::Types::size_of), using(crate::proofs::Sizes::one_more))]
 pub fn size(structs: &[Definition<'_>], of: &CType) -> Option<u64>
     ensures { result ≡ capped (tree.size_of (structs_of structs.now) (type_of of.now)) }
 {
-    let mut size = base_size(structs, of.base);
-    for layer in of.layers.as_slice() {
-        size = with_layer(*layer, size);
+    let mut count = Some(1);
+    let mut layers = &of.layers;
+    loop {
+        match layers {
+            Layers::Nothing => return times(count, base_size(structs, of.base)),
+            Layers::Pointer(_) => return times(count, Some(POINTER_WIDTH as u64 / 8)),
+            Layers::Array(length, element) => {
+                count = times(count, *length);
+                layers = element;
+            }
+        }
     }
-    size
 }
 
 /// The alignment of what a type has innermost, in bytes.
@@ -163,26 +168,19 @@ fn base_alignment(structs: &[Definition<'_>], base: Base) -> u64
     }
 }
 
-/// The alignment with one more layer.
-fn layer_alignment(layer: Layer, alignment: u64) -> u64
-    ensures { result ≡ specs.layer_alignment layer alignment }
-{
-    match layer {
-        Layer::Pointer => POINTER_WIDTH as u64 / 8,
-        Layer::Array(_) => alignment,
-    }
-}
-
 /// The alignment of a type, in bytes.
-#[tactic(auto, unfolding(crate::specs::Types::type_of), using(crate::proofs::Sizes::one_more_aligned),)]
+#[tactic(auto, unfolding(crate::specs::Types::type_of, c_type_spec::specs::Types::alignment_of))]
 pub fn alignment(structs: &[Definition<'_>], of: &CType) -> u64
     ensures { result ≡ tree.alignment_of (structs_of structs.now) (type_of of.now) }
 {
-    let mut alignment = base_alignment(structs, of.base);
-    for layer in of.layers.as_slice() {
-        alignment = layer_alignment(*layer, alignment);
+    let mut layers = &of.layers;
+    loop {
+        match layers {
+            Layers::Nothing => return base_alignment(structs, of.base),
+            Layers::Pointer(_) => return POINTER_WIDTH as u64 / 8,
+            Layers::Array(_, element) => layers = element,
+        }
     }
-    alignment
 }
 
 /// The member of a name.

@@ -5,10 +5,12 @@ ghost use Rattle.c_type_spec.specs.Types as tree;
 ghost use Rattle.c_type_spec.specs.Operands as rule;
 ghost use Rattle.c_type_layout.specs.Types as specs;
 ghost use Rattle.c_type_layout.specs.Types.{type_of, base_of, outer_of, target_of, element_of};
+ghost use Rattle.c_type_layout.specs.Types.{wrapped};
 
 use attempt::attempt;
 use c_type_spec::{POINTER_WIDTH, Scalar, WIDE_WIDTH};
 use std::alloc::{AllocError, Global};
+use std::rc::Rc;
 
 /// The type of a pointer's value, and of `sizeof`.
 pub const WORD: Scalar = Scalar {
@@ -27,13 +29,32 @@ pub enum Base {
     Struct(usize),
 }
 
-/// What is made of a type.
-#[derive(Clone, Copy)]
-pub enum Layer {
-    /// A pointer to it.
-    Pointer,
-    /// An array of it, with its length or without.
-    Array(Option<u64>),
+/// Pointers and arrays round a type, the outermost first. Copies share them.
+pub enum Layers {
+    /// None of them.
+    Nothing,
+    /// A pointer, and what it points to.
+    Pointer(Rc<Layers>),
+    /// An array with its length or without, and its elements.
+    Array(Option<u64>, Rc<Layers>),
+}
+
+impl Drop for Layers {
+    fn drop(mut self) {
+        loop {
+            match self {
+                Layers::Nothing => return,
+                Layers::Pointer(rest) => match Rc::into_inner(rest) {
+                    Some(layers) => self = layers,
+                    None => return,
+                },
+                Layers::Array(_, rest) => match Rc::into_inner(rest) {
+                    Some(layers) => self = layers,
+                    None => return,
+                },
+            }
+        }
+    }
 }
 
 /// What a type is, from outside.
@@ -51,13 +72,44 @@ pub enum Outer {
     Array(Option<u64>),
 }
 
-/// A type.
+/// A type. A copy shares the pointers and arrays.
 #[derive(Drop)]
 pub struct CType {
+    alloc: Global,
     /// What it has innermost.
-    pub base: Base,
-    /// The pointers and arrays round it, the innermost first.
-    pub layers: Vec<Layer>,
+    pub(crate) base: Base,
+    /// The pointers and arrays round it.
+    pub(crate) layers: Layers,
+}
+
+impl Layers {
+    /// The same layers.
+    fn share(&self) -> Result<Layers, AllocError>
+        ensures { IfOk result (λ l. (b : Base) → wrapped l b ≡ wrapped self.now b) }
+    {
+        match self {
+            Layers::Nothing => Ok(Layers::Nothing),
+            Layers::Pointer(rest) => {
+                let shared = attempt!(rest.clone());
+                Ok(Layers::Pointer(shared))
+            }
+            Layers::Array(length, rest) => {
+                let shared = attempt!(rest.clone());
+                Ok(Layers::Array(*length, shared))
+            }
+        }
+    }
+}
+
+/// A type without pointers and arrays, from outside.
+fn plain_outer(base: Base) -> Outer
+    ensures { result ≡ outer_of (base_of base) }
+{
+    match base {
+        Base::Void => Outer::Void,
+        Base::Integer(scalar) => Outer::Integer(scalar),
+        Base::Struct(number) => Outer::Struct(number),
+    }
 }
 
 impl CType {
@@ -67,8 +119,9 @@ impl CType {
         ensures { type_of result ≡ base_of base }
     {
         CType {
+            alloc,
             base,
-            layers: Vec::new(alloc),
+            layers: Layers::Nothing,
         }
     }
 
@@ -77,26 +130,23 @@ impl CType {
     pub fn copy(&self, alloc: Global) -> Result<CType, AllocError>
         ensures { IfOk result (λ t. type_of t ≡ type_of self.now) }
     {
-        let layers = attempt!(Vec::from_slice(alloc, self.layers.as_slice()));
+        let layers = attempt!(self.layers.share());
         Ok(CType {
+            alloc,
             base: self.base,
             layers,
         })
     }
 
     /// What it is from outside.
-    #[tactic(auto, unfolding(crate::specs::Types::type_of), using(crate::proofs::Wrapped::outer_last),)]
+    #[tactic(auto, unfolding(crate::specs::Types::type_of))]
     pub fn outer(&self) -> Outer
         ensures { result ≡ outer_of (type_of self.now) }
     {
-        match self.layers.as_slice().last() {
-            Some(Layer::Pointer) => Outer::Pointer,
-            Some(Layer::Array(length)) => Outer::Array(*length),
-            None => match self.base {
-                Base::Void => Outer::Void,
-                Base::Integer(scalar) => Outer::Integer(scalar),
-                Base::Struct(number) => Outer::Struct(number),
-            },
+        match &self.layers {
+            Layers::Nothing => plain_outer(self.base),
+            Layers::Pointer(_) => Outer::Pointer,
+            Layers::Array(length, _) => Outer::Array(*length),
         }
     }
 
@@ -144,56 +194,85 @@ impl CType {
     }
 
     /// It is a pointer to `void`.
-    #[tactic(auto, unfolding(crate::specs::Types::type_of), using(crate::proofs::Outers::void_pointers),)]
+    #[tactic(auto, unfolding(crate::specs::Types::type_of))]
     pub fn points_to_void(&self) -> bool
         ensures { result ≡ specs.void_pointer (type_of self.now) }
     {
-        if self.layers.len() != 1 {
-            return false;
+        match &self.layers {
+            Layers::Pointer(target) => is_void(self.base, target),
+            Layers::Nothing | Layers::Array(_, _) => false,
         }
-        if !is_pointer(self.layers[0]) {
-            return false;
-        }
-        is_void_base(self.base)
     }
 
     /// A pointer to it.
-    #[tactic(auto, unfolding(crate::specs::Types::type_of), using(crate::proofs::Wrapped::wrapped_push),)]
-    pub fn pointer(mut self) -> Result<CType, AllocError>
+    #[tactic(auto, unfolding(crate::specs::Types::type_of))]
+    pub fn pointer(self) -> Result<CType, AllocError>
         ensures { IfOk result (λ t. type_of t ≡ tree.Pointer (type_of self)) }
     {
-        self.layers.push(Layer::Pointer)?;
-        Ok(self)
+        let CType {
+            alloc,
+            base,
+            layers,
+        } = self;
+        let target = Rc::new(alloc, layers)?;
+        Ok(CType {
+            alloc,
+            base,
+            layers: Layers::Pointer(target),
+        })
     }
 
     /// An array of it.
-    #[tactic(auto, unfolding(crate::specs::Types::type_of), using(crate::proofs::Wrapped::wrapped_push),)]
-    pub fn array(mut self, length: Option<u64>) -> Result<CType, AllocError>
+    #[tactic(auto, unfolding(crate::specs::Types::type_of))]
+    pub fn array(self, length: Option<u64>) -> Result<CType, AllocError>
         ensures { IfOk result (λ t. type_of t ≡ tree.Array length (type_of self)) }
     {
-        self.layers.push(Layer::Array(length))?;
-        Ok(self)
+        let CType {
+            alloc,
+            base,
+            layers,
+        } = self;
+        let element = Rc::new(alloc, layers)?;
+        Ok(CType {
+            alloc,
+            base,
+            layers: Layers::Array(length, element),
+        })
     }
 
     /// What a pointer points to; none of another type.
-    #[tactic(auto, unfolding(crate::specs::Types::type_of), using(crate::proofs::Wrapped::wrapped_pop),)]
-    pub fn target(mut self) -> Option<CType>
-        ensures { option_map type_of result ≡ target_of (type_of self) }
+    #[tactic(auto, unfolding(crate::specs::Types::type_of))]
+    pub fn target(&self) -> Result<Option<CType>, AllocError>
+        ensures { IfOk result (λ t. option_map type_of t ≡ target_of (type_of self.now)) }
     {
-        match self.layers.pop() {
-            Some(Layer::Pointer) => Some(self),
-            _ => None,
+        match &self.layers {
+            Layers::Pointer(target) => {
+                let layers = attempt!(target.share());
+                Ok(Some(CType {
+                    alloc: self.alloc,
+                    base: self.base,
+                    layers,
+                }))
+            }
+            Layers::Nothing | Layers::Array(_, _) => Ok(None),
         }
     }
 
     /// The elements of an array; none of another type.
-    #[tactic(auto, unfolding(crate::specs::Types::type_of), using(crate::proofs::Wrapped::wrapped_pop),)]
-    pub fn element(mut self) -> Option<CType>
-        ensures { option_map type_of result ≡ element_of (type_of self) }
+    #[tactic(auto, unfolding(crate::specs::Types::type_of))]
+    pub fn element(&self) -> Result<Option<CType>, AllocError>
+        ensures { IfOk result (λ t. option_map type_of t ≡ element_of (type_of self.now)) }
     {
-        match self.layers.pop() {
-            Some(Layer::Array(_)) => Some(self),
-            _ => None,
+        match &self.layers {
+            Layers::Array(_, element) => {
+                let layers = attempt!(element.share());
+                Ok(Some(CType {
+                    alloc: self.alloc,
+                    base: self.base,
+                    layers,
+                }))
+            }
+            Layers::Nothing | Layers::Pointer(_) => Ok(None),
         }
     }
 
@@ -209,16 +288,6 @@ impl CType {
     }
 }
 
-/// The layer is a pointer.
-fn is_pointer(layer: Layer) -> bool
-    ensures { result ≡ specs.is_pointer layer }
-{
-    match layer {
-        Layer::Pointer => true,
-        Layer::Array(_) => false,
-    }
-}
-
 fn is_void_base(base: Base) -> bool
     ensures { result ≡ tree.is_void (base_of base) }
 {
@@ -228,14 +297,23 @@ fn is_void_base(base: Base) -> bool
     }
 }
 
-/// The layers are equal.
-fn same_layer(a: Layer, b: Layer) -> bool
-    ensures { result ≡ specs.same_layer a b }
+/// A type with these layers is `void`.
+fn is_void(base: Base, layers: &Layers) -> bool
+    ensures { result ≡ tree.is_void (wrapped layers.now base) }
+{
+    match layers {
+        Layers::Nothing => is_void_base(base),
+        Layers::Pointer(_) | Layers::Array(_, _) => false,
+    }
+}
+
+/// The lengths are equal.
+fn same_length(a: Option<u64>, b: Option<u64>) -> bool
+    ensures { result ≡ tree.same_length a b }
 {
     match (a, b) {
-        (Layer::Pointer, Layer::Pointer) => true,
-        (Layer::Array(None), Layer::Array(None)) => true,
-        (Layer::Array(Some(m)), Layer::Array(Some(n))) => m == n,
+        (None, None) => true,
+        (Some(m), Some(n)) => m == n,
         _ => false,
     }
 }
@@ -261,19 +339,34 @@ fn same_base(a: Base, b: Base) -> bool
 }
 
 /// As many layers, each equal to the other's.
-#[tactic(auto, using(crate::proofs::Same::one_more))]
-fn same_layers(a: &[Layer], b: &[Layer]) -> bool
+#[tactic(auto, unfolding(crate::specs::Types::same_layers))]
+fn same_layers(a: &Layers, b: &Layers) -> bool
     ensures { result ≡ specs.same_layers a.now b.now }
 {
-    if a.len() != b.len() {
-        return false;
-    }
-    for i in 0..a.len() {
-        if !same_layer(a[i], b[i]) {
-            return false;
+    let mut left = a;
+    let mut right = b;
+    loop {
+        match (left, right) {
+            (Layers::Nothing, Layers::Nothing) => return true,
+            (Layers::Pointer(s), Layers::Pointer(t)) => {
+                left = s;
+                right = t;
+            }
+            (Layers::Array(m, s), Layers::Array(n, t)) => {
+                if !same_length(*m, *n) {
+                    return false;
+                }
+                left = s;
+                right = t;
+            }
+            (Layers::Nothing, Layers::Pointer(_)) => return false,
+            (Layers::Nothing, Layers::Array(_, _)) => return false,
+            (Layers::Pointer(_), Layers::Nothing) => return false,
+            (Layers::Pointer(_), Layers::Array(_, _)) => return false,
+            (Layers::Array(_, _), Layers::Nothing) => return false,
+            (Layers::Array(_, _), Layers::Pointer(_)) => return false,
         }
     }
-    true
 }
 
 /// The types are equal.
@@ -281,5 +374,5 @@ fn same_layers(a: &[Layer], b: &[Layer]) -> bool
 pub fn same_type(a: &CType, b: &CType) -> bool
     ensures { result ≡ tree.same_type (type_of a.now) (type_of b.now) }
 {
-    same_base(a.base, b.base) && same_layers(a.layers.as_slice(), b.layers.as_slice())
+    same_base(a.base, b.base) && same_layers(&a.layers, &b.layers)
 }

@@ -10,7 +10,9 @@ ghost use Rattle.c_type_operator.specs.Members.{name_of, arrow_in_by};
 ghost use Rattle.c_type_operator.specs.Operands.{core_in, operand_of, valued_of};
 
 use crate::logic::{complement, minus, negation, plus};
-use crate::operand::{Category, Operand, TypeFault, Valued, core_or_memory, type_or_memory};
+use crate::operand::{
+    Category, Operand, TypeFault, Valued, core_or_memory, part_or_memory, type_or_memory,
+};
 use crate::pointer::{address_of, dereferenced, size_needed};
 use crate::scalar::integer_operand;
 use crate::value::value_of;
@@ -172,7 +174,7 @@ pub fn arrow<'a>(
     ensures { Gives operand_of result (operators.arrow (structs_of structs.now) (valued_of x.entry)
         (name_of name.now name_offset) offset) }
 {
-    match x.of.target() {
+    match attempt!(part_or_memory(x.of.target())) {
         Some(target) => { arrow_in(alloc, structs, &target, x.core, name, name_offset, offset) }
         None => Err(TypeFault::At(TypeFaultKind::Mismatch, offset)),
     }

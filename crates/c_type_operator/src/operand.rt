@@ -82,6 +82,16 @@ pub fn type_or_memory(made: Result<CType, AllocError>) -> Result<CType, TypeFaul
     }
 }
 
+/// Out of memory, where there is no memory for a part of a type.
+pub fn part_or_memory(made: Result<Option<CType>, AllocError>) -> Result<Option<CType>, TypeFault>
+    ensures { MatchResult result (λ x. made ≡ Ok x) (λ e. e ≡ TypeFault.Memory) }
+{
+    match made {
+        Ok(of) => Ok(of),
+        Err(_) => Err(TypeFault::Memory),
+    }
+}
+
 /// The value in another type; no conversion where it has the type.
 #[tactic(auto, unfolding(c_type_spec::specs::Operands::convert))]
 pub fn convert<'a>(

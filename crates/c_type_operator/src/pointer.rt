@@ -10,7 +10,7 @@ ghost use Rattle.c_type_operator.specs.Operands.{core_in, operand_of, valued_of}
 
 use crate::arithmetic::arithmetic;
 use crate::operand::{
-    Category, Operand, TypeFault, Valued, core_or_memory, displaced, type_or_memory,
+    Category, Operand, TypeFault, Valued, core_or_memory, displaced, part_or_memory, type_or_memory,
 };
 use crate::scalar::value_operand;
 use crate::value::value_of;
@@ -60,7 +60,7 @@ pub fn moved<'a>(
     ensures { Gives operand_of result (moved_pointer (structs_of structs.now) direction order
         (ctype_of of) (core_in pointer.entry) (core_in index.entry) offset) }
 {
-    let Some(target) = of.target() else {
+    let Some(target) = attempt!(part_or_memory(of.target())) else {
         return Err(TypeFault::At(TypeFaultKind::Mismatch, offset));
     };
     let size = attempt!(size_needed(structs, &target, offset));
@@ -157,7 +157,7 @@ pub fn difference<'a>(
 pub fn dereferenced<'a>(x: Valued<'a>, offset: usize) -> Result<Operand<'a>, TypeFault>
     ensures { Gives operand_of result (operators.dereferenced (valued_of x.entry) offset) }
 {
-    match x.of.target() {
+    match attempt!(part_or_memory(x.of.target())) {
         Some(target) => Ok(Operand {
             category: Category::InMemory(x.core, 0),
             of: target,

@@ -10,7 +10,7 @@ ghost use Rattle.c_type_operator.specs.Gives.{Gives};
 ghost use Rattle.c_type_operator.specs.Operands.{core_in, operand_of, valued_of, decayed};
 
 use crate::operand::{
-    Category, Operand, TypeFault, Valued, core_or_memory, displaced, type_or_memory,
+    Category, Operand, TypeFault, Valued, core_or_memory, displaced, part_or_memory, type_or_memory,
 };
 use attempt::attempt;
 use c_core::constants::constant_value;
@@ -53,7 +53,7 @@ fn decay<'a>(
     ensures { Gives valued_of result (decayed (element_of (ctype_of of)) (core_in address.entry)
         displacement offset) }
 {
-    let Some(element) = of.element() else {
+    let Some(element) = attempt!(part_or_memory(of.element())) else {
         return Err(TypeFault::At(TypeFaultKind::Mismatch, offset));
     };
     let pointer = attempt!(type_or_memory(element.pointer()));

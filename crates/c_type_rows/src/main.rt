@@ -18,7 +18,7 @@ mod answers;
 mod faults;
 mod texts;
 
-use c_parse::{ParseError, parse};
+use c_parse::{ParseError, discard, parse};
 use c_token::{Token, TokenError};
 use row_io::{Out, input, output, split_at};
 use std::alloc::Global;
@@ -34,7 +34,10 @@ fn put_fault<K: Debug>(kind: &K, offset: usize, out: &mut Out) {
 /// The answer of a unit with these tokens; its text has so many bytes.
 fn put_parsed(alloc: Global, question: &str, tokens: &[Token<'_>], end: usize, out: &mut Out) {
     match parse(alloc, tokens) {
-        Ok(unit) => answers::put_checked(alloc, question, &unit, out),
+        Ok(unit) => {
+            answers::put_checked(alloc, question, &unit, out);
+            discard(unit);
+        }
         Err(ParseError::Fault(fault)) => put_fault(&fault.kind, fault.offset(tokens, end), out),
         Err(ParseError::NoMemory) => out.fail(),
     }

@@ -37,7 +37,7 @@ fn declared_object<'a>(
 {
     let of = attempt!(declarator(alloc, given, base, state));
     if is_typedef {
-        typedef(alloc, given.name, of, state)
+        typedef(given.name, of, state)
     } else {
         object(alloc, given.name, of, state)
     }

@@ -1,19 +1,31 @@
 -- The verdicts of a run, and the status of each.
 use Rattle.std.specs.Prelude.{ℕ, Bool, if◌then◌else◌, List}
 use Rattle.std.specs.List.{list_all}
-use Rattle.tv_base.specs.declared.limits.TheConstants.{MAX_ELF_BYTES, MAX_C_BYTES, MAX_FUNCTIONS}
+use Rattle.tv_base.specs.declared.limits.TheConstants.{MAX_ELF_BYTES, MAX_C_BYTES, MAX_FUNCTIONS, MAX_NODES}
 use Rattle.elf_spec.specs.declared.ElfKind.{ElfKind}
 use Rattle.code_spec.specs.declared.CodeKind.{CodeKind}
 use Rattle.report_spec.specs.declared.Quantity.{Quantity}
-use Rattle.report_spec.specs.declared.Quantity.TheVariants.{Elf, C, Functions}
+use Rattle.report_spec.specs.declared.Quantity.TheVariants.{Elf, C, Functions, Nodes}
 use Rattle.report_spec.specs.declared.SourceKind.{SourceKind}
-use Rattle.report_spec.specs.declared.PairKind.{PairKind}
+use Rattle.pair_spec.specs.declared.PairKind.{PairKind}
 
 -- the judgement on a listed function: whether it is valid, and how much stack it takes
 pub record Judgement : Type 0 where
   pub name : List ℕ
   pub valid : Bool
   pub stack : ℕ
+
+-- a function: its entry, its size and its stack in bytes; the address and the word of each instruction that it reaches,
+-- ascending; and of its source the numbers of parameters, loops and calls
+pub record Shown : Type 0 where
+  pub name : List ℕ
+  pub entry : ℕ
+  pub size : ℕ
+  pub stack : ℕ
+  pub words : List (ℕ × ℕ)
+  pub params : ℕ
+  pub loops : ℕ
+  pub calls : ℕ
 
 -- a verdict, one for each form of report
 pub data Verdict : Type 0 where
@@ -31,12 +43,15 @@ pub data Verdict : Type 0 where
   RefusedCode : (kind : CodeKind) → (name : List ℕ) → (address : ℕ) → Verdict
   -- each listed function has its judgement, in the order of the list
   Judged : (judgements : List Judgement) → Verdict
+  -- a function is shown
+  Showed : (shown : Shown) → Verdict
 
--- how many bytes a file may have, and how many functions the list
+-- how many bytes a file may have, how many functions the list, and how many nodes a graph
 abbrev pub maximum_of : Quantity → ℕ
 maximum_of Elf = MAX_ELF_BYTES
 maximum_of C = MAX_C_BYTES
 maximum_of Functions = MAX_FUNCTIONS
+maximum_of Nodes = MAX_NODES
 
 abbrev pub all_valid : List Judgement → Bool
 all_valid judgements = list_all (λ j. j.valid) judgements
@@ -50,3 +65,4 @@ status_of (RefusedC kind offset) = 3
 status_of (RefusedPair kind name) = 3
 status_of (RefusedCode kind name address) = 3
 status_of (Judged judgements) = if all_valid judgements then 0 else 1
+status_of (Showed shown) = 0

@@ -15,16 +15,17 @@ use Rattle.c_type_spec.specs.declared.TypeFaultKind.TheVariants as typing
 use Rattle.code_spec.specs.declared.CodeKind.{CodeKind}
 use Rattle.code_spec.specs.declared.CodeKind.TheVariants.{NoFunction, Ambiguous, Empty, Writable, Misplaced, Undecoded, Indirect, Leaves, Overlap}
 use Rattle.report_spec.specs.declared.Quantity.{Quantity}
-use Rattle.report_spec.specs.declared.Quantity.TheVariants.{Elf, C, Functions}
+use Rattle.report_spec.specs.declared.Quantity.TheVariants.{Elf, C, Functions, Nodes}
 use Rattle.report_spec.specs.declared.SourceKind.{SourceKind}
 use Rattle.report_spec.specs.declared.SourceKind.TheVariants.{Token, Syntax, Typing}
-use Rattle.report_spec.specs.declared.PairKind.{PairKind}
-use Rattle.report_spec.specs.declared.PairKind.TheVariants.{NothingListed, NoSource, NoSymbol}
+use Rattle.pair_spec.specs.declared.PairKind.{PairKind}
+use Rattle.pair_spec.specs.declared.PairKind.TheVariants.{NothingListed, NoSource, NoSymbol, ObjectSize, Recursive, StackTooDeep}
 
 abbrev pub quantity_word : Quantity → List ℕ
 quantity_word Elf = codes "elf"
 quantity_word C = codes "c"
 quantity_word Functions = codes "functions"
+quantity_word Nodes = codes "nodes"
 
 abbrev pub elf_word : ElfKind → List ℕ
 elf_word file.Short = codes "Short"
@@ -98,6 +99,9 @@ abbrev pub pair_word : PairKind → List ℕ
 pair_word NothingListed = codes "NothingListed"
 pair_word NoSource = codes "NoSource"
 pair_word NoSymbol = codes "NoSymbol"
+pair_word ObjectSize = codes "ObjectSize"
+pair_word Recursive = codes "Recursive"
+pair_word StackTooDeep = codes "StackTooDeep"
 
 abbrev pub code_word : CodeKind → List ℕ
 code_word NoFunction = codes "NoFunction"

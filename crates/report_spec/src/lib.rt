@@ -1,6 +1,6 @@
 //! The verdicts of a run (`specs/Verdict.antt`), and what is written of each, byte for byte: its
 //! report (`specs/Report.antt`) and its certificate (`specs/Certificate.antt`). Definitions alone,
-//! but for the enums of refusals, which run: [`Quantity`], [`SourceKind`] and [`PairKind`].
+//! but for the enums of refusals, which run: [`Quantity`] and [`SourceKind`].
 #![tactic(auto)]
 
 use c_grammar_spec::ParseFaultKind;
@@ -16,6 +16,8 @@ pub enum Quantity {
     C,
     /// Functions of the list.
     Functions,
+    /// Nodes of a graph.
+    Nodes,
 }
 
 /// Why the C source is refused.
@@ -27,15 +29,4 @@ pub enum SourceKind {
     Syntax(ParseFaultKind),
     /// The unit has no types.
     Typing(TypeFaultKind),
-}
-
-/// Why the functions of an executable and of a source don't go together.
-#[derive(Clone, Copy, Debug, PartialEq, Eq)]
-pub enum PairKind {
-    /// No function is to be validated: none has both a body and a symbol.
-    NothingListed,
-    /// A listed function has no body in the source.
-    NoSource,
-    /// A listed function has no symbol in the executable.
-    NoSymbol,
 }

@@ -6,8 +6,10 @@
 mod certificates;
 mod lines;
 mod reports;
+mod showing;
 mod verdicts;
 
 pub use certificates::certificate;
 pub use reports::report;
+pub use showing::Shown;
 pub use verdicts::{Judgement, Verdict, status};

@@ -6,6 +6,7 @@ ghost use Rattle.report_text.specs.Judgements.{judgement_of, judgements_of};
 ghost use Rattle.report_text.specs.Verdicts.{verdict_of};
 
 use crate::lines::{digits, push_address, push_all};
+use crate::showing::push_shown;
 use crate::{Judgement, Verdict};
 use attempt::attempt;
 use c_grammar_spec::{LeftOut, ParseFaultKind};
@@ -14,9 +15,10 @@ use c_type_spec::{LeftOut as TypeLeftOut, TypeFaultKind};
 use code_spec::CodeKind;
 use elf_spec::ElfKind;
 use itoa::Buffer;
-use report_spec::{PairKind, Quantity, SourceKind};
+use pair_spec::PairKind;
+use report_spec::{Quantity, SourceKind};
 use std::alloc::{AllocError, Global};
-use tv_base::limits::{MAX_C_BYTES, MAX_ELF_BYTES, MAX_FUNCTIONS};
+use tv_base::limits::{MAX_C_BYTES, MAX_ELF_BYTES, MAX_FUNCTIONS, MAX_NODES};
 
 /// `limit QUANTITY MAXIMUM`
 fn push_maximum(out: &mut Vec<u8>, word: &[u8], maximum: usize) -> Result<(), AllocError>
@@ -37,6 +39,7 @@ fn push_limit(out: &mut Vec<u8>, quantity: Quantity) -> Result<(), AllocError>
         Quantity::Elf => push_maximum(out, b"elf", MAX_ELF_BYTES),
         Quantity::C => push_maximum(out, b"c", MAX_C_BYTES),
         Quantity::Functions => push_maximum(out, b"functions", MAX_FUNCTIONS),
+        Quantity::Nodes => push_maximum(out, b"nodes", MAX_NODES),
     }
 }
 
@@ -183,6 +186,9 @@ fn pair_word(kind: PairKind) -> &'static [u8]
         PairKind::NothingListed => b"NothingListed",
         PairKind::NoSource => b"NoSource",
         PairKind::NoSymbol => b"NoSymbol",
+        PairKind::ObjectSize => b"ObjectSize",
+        PairKind::Recursive => b"Recursive",
+        PairKind::StackTooDeep => b"StackTooDeep",
     }
 }
 
@@ -323,6 +329,7 @@ fn push_report(alloc: Global, out: &mut Vec<u8>, verdict: &Verdict) -> Result<()
             address,
         } => push_refused_code(alloc, out, *kind, name.as_slice(), *address),
         Verdict::Judged(judgements) => push_all_judged(out, judgements.as_slice()),
+        Verdict::Showed(shown) => push_shown(alloc, out, shown),
     }
 }
 

@@ -3,9 +3,11 @@ ghost use Rattle.std.specs.List.{list_all};
 ghost use Rattle.report_spec.specs.Verdict.{status_of};
 ghost use Rattle.report_text.specs.Verdicts.{verdict_of};
 
+use crate::showing::Shown;
 use code_spec::CodeKind;
 use elf_spec::ElfKind;
-use report_spec::{PairKind, Quantity, SourceKind};
+use pair_spec::PairKind;
+use report_spec::{Quantity, SourceKind};
 use tv_bytes::Bytes;
 
 /// The judgement on a listed function.
@@ -50,6 +52,8 @@ pub enum Verdict {
     },
     /// Each listed function has its judgement, in the order of the list.
     Judged(Vec<Judgement>),
+    /// A function is shown.
+    Showed(Shown),
 }
 
 /// Whether all of them are valid.
@@ -59,8 +63,8 @@ fn all_valid(judgements: &[Judgement]) -> bool
     judgements.iter().all(|j| j.valid)
 }
 
-/// The exit status: 0 where all listed functions are valid and 1 where some aren't, 2 for the
-/// words, 3 for the inputs, 7 for a limit.
+/// The exit status: 0 where all listed functions are valid or one is shown, 1 where some aren't
+/// valid, 2 for the words, 3 for the inputs, 7 for a limit.
 pub fn status(verdict: &Verdict) -> u8
     ensures { result ≡ status_of (verdict_of verdict.now) }
 {
@@ -72,5 +76,6 @@ pub fn status(verdict: &Verdict) -> u8
         | Verdict::RefusedPair { .. }
         | Verdict::RefusedCode { .. } => 3,
         Verdict::Judged(judgements) => { if all_valid(judgements) { 0 } else { 1 } }
+        Verdict::Showed(_) => 0,
     }
 }

@@ -11,8 +11,9 @@ use Rattle.visit_walk.specs.declared.found.WalkFault.TheVariants as walk
 use Rattle.sim_rules.specs.declared.fault.RuleFault.{RuleFault}
 use Rattle.sim_rules.specs.declared.fault.RuleFault.TheVariants.{Sort, Cyclic, Large, NoMemory}
 use Rattle.sim_rules.specs.declared.plan.Plan.{Plan}
-use Rattle.sim_rules.specs.Faults.{IsOutcome, IsPlanFault, cyclic_if, fault_in, first_fault, first_of, large_if}
+use Rattle.sim_rules.specs.Faults.{AreFew, IsOutcome, IsPlanFault, cyclic_if, fault_in, first_fault, first_of, large_if}
 use Rattle.sim_rules.specs.Walks.{AreKnown, visits_in}
+use Rattle.sim_rules.proofs.Counting.{never_too_many}
 
 pub not_true : false ≡ true → ⊥
 not_true e = cc
@@ -64,6 +65,12 @@ module _ (w : Walk) (maximum : ℕ) where
   known false (Err (walk.Cyclic n)) is e g = record { are = (n, is); there = λ on. absurd (not_true on) }
   known needed (Err (walk.TooMany n)) is e g = absurd (some_none (Large n) g)
   known needed (Err walk.NoMemory) is e g = absurd (some_none NoMemory e)
+
+  few : (needed : Bool) (x : Result Listing WalkFault) → IsOutcome w maximum x → cyclic_if needed (fault_in x) ≡ None → large_if (fault_in x) ≡ None → (count : ℕ) → AreTooMany w maximum count → ⊥
+  few needed (Ok l) is e g count t = never_too_many w l.visits maximum is.visits is.few count t
+  few needed (Err (walk.Cyclic n)) is e g count t = t.acyclic n is
+  few needed (Err (walk.TooMany n)) is e g count t = some_none (Large n) g
+  few needed (Err walk.NoMemory) is e g count t = some_none NoMemory e
 
 -- ---- the first of two
 
@@ -125,6 +132,13 @@ module _ (p : Plan) (a d : Walk) (maximum : ℕ) where
         let cycles = none_of (cyclic_if p.needs_binary (fault_in x)) (cyclic_if p.needs_source (fault_in y)) also.0 in
         let numbers = none_of (large_if (fault_in x)) (large_if (fault_in y)) also.1 in
         (known a maximum p.needs_binary x of_a cycles.0 numbers.0, known d maximum p.needs_source y of_d cycles.1 numbers.1)
+
+    pub both_few : first_fault p (fault_in x) (fault_in y) ≡ None → AreFew a d maximum
+    both_few e = λ count t.
+        let also = none_of (first_of (cyclic_if p.needs_binary (fault_in x)) (cyclic_if p.needs_source (fault_in y))) (first_of (large_if (fault_in x)) (large_if (fault_in y))) e in
+        let cycles = none_of (cyclic_if p.needs_binary (fault_in x)) (cyclic_if p.needs_source (fault_in y)) also.0 in
+        let numbers = none_of (large_if (fault_in x)) (large_if (fault_in y)) also.1 in
+        elim t [ inl h ↦ few a maximum p.needs_binary x of_a cycles.0 numbers.0 count h | inr h ↦ few d maximum p.needs_source y of_d cycles.1 numbers.1 count h ]
 
 -- as the code has it
 pub fault_found : (p q : Plan) (x y u v : Option WalkFault) (r s : Option RuleFault) → r ≡ first_fault p x y → p ≡ q → x ≡ u → y ≡ v → r ≡ s → first_fault q u v ≡ s

@@ -4,8 +4,9 @@ pub mod Stopping
 pub mod AtStops
 pub mod Resting
 pub mod Lists
-pub mod Cut
 pub mod Made
 pub mod Faulty
+pub mod Counting
 pub mod Knowing
 pub mod Finishing
+pub mod Answering

@@ -50,3 +50,14 @@ IsPlanFault p a d maximum (Cyclic n) =
 IsPlanFault p a d maximum (Large n) =
     (p.needs_binary ≡ true → IsAcyclic a) × (p.needs_source ≡ true → IsAcyclic d) × (AreTooMany a maximum n ⊎ AreTooMany d maximum n)
 IsPlanFault p a d maximum NoMemory = Unit {0}
+
+-- ---- what an answer says of both walks
+
+-- neither has more visits than the maximum
+abbrev pub AreFew : (a d : Walk) → (maximum : ℕ) → Type 0
+AreFew a d maximum = (count : ℕ) → AreTooMany a maximum count ⊎ AreTooMany d maximum count → ⊥
+
+-- of no fault this, and a fault is one of theirs
+abbrev pub IsPlanAnswer : {X : Type 0} → Plan → (a d : Walk) → (maximum : ℕ) → Result X RuleFault → Type 0
+IsPlanAnswer p a d maximum (Ok x) = AreFew a d maximum
+IsPlanAnswer p a d maximum (Err fault) = IsPlanFault p a d maximum fault

@@ -2,7 +2,6 @@ pub mod Sides
 pub mod Marks
 pub mod Plans
 pub mod Made
-pub mod Cutting
 pub mod Faults
 pub mod Walks
 pub mod Setups
@@ -12,3 +11,4 @@ pub mod Stops
 pub mod Outcome
 pub mod Lines
 pub mod Rules
+pub mod Replies

@@ -1,5 +1,5 @@
 -- The obligations of a rule, as terms of a bank, and why there are none.
-use Rattle.std.specs.Prelude.{ℕ, List}
+use Rattle.std.specs.Prelude.{ℕ, List, Result, Ok, Err}
 use Rattle.term_spec.specs.Term.{Term}
 use Rattle.proof_spec.specs.Frames.{Frame}
 use Rattle.rule_spec.specs.Points.{Convention}
@@ -26,3 +26,12 @@ IsRuleFault o f maximum rule NoMemory = Unit {0}
 -- each line of the rule is one
 abbrev pub HasLines : Frame → Rule → Type 0
 HasLines f rule = (index : ℕ) → HasNoLine f rule index → ⊥
+
+-- neither of its walks has more visits than the maximum
+abbrev pub HasFewVisits : Opening → Frame → (maximum : ℕ) → Rule → Type 0
+HasFewVisits o f maximum rule = (count : ℕ) → IsLargeRule o f maximum rule count → ⊥
+
+-- of no fault this, and a fault is one of the rule
+abbrev pub IsRuleAnswer : {X : Type 0} → Opening → Frame → (maximum : ℕ) → Rule → Result X RuleFault → Type 0
+IsRuleAnswer o f maximum rule (Ok x) = HasFewVisits o f maximum rule
+IsRuleAnswer o f maximum rule (Err fault) = IsRuleFault o f maximum rule fault

@@ -4,6 +4,8 @@ use Rattle.proof_tree.specs.Frames.{hold_of, mark_of, terms_of}
 use Rattle.rule_spec.specs.Obligations as spec
 use Rattle.sim_rules.specs.declared.rule.Rule.{Rule}
 use Rattle.sim_rules.specs.declared.rule.Rule.TheVariants.{Leaf, Case, RestrictBinary, RestrictSource, Cut, Wait}
+use Rattle.sim_rules.specs.declared.rule.Kind.{Kind}
+use Rattle.sim_rules.specs.declared.rule.Kind.TheVariants.{OfTerm, OfLines, OfWalks}
 use Rattle.sim_rules.specs.declared.plan.Walking.{Walking}
 use Rattle.sim_rules.specs.declared.plan.Walking.TheVariants as walking
 
@@ -20,3 +22,9 @@ walking_of walking.Leaf = spec.Leaf
 walking_of (walking.RestrictBinary bound) = spec.RestrictBinary (mark_of bound)
 walking_of (walking.RestrictSource bound) = spec.RestrictSource (mark_of bound)
 walking_of (walking.Wait hold) = spec.Wait (hold_of hold)
+
+-- the rule whose obligations are of this
+abbrev pub rule_by : Kind → spec.Rule
+rule_by (OfTerm test) = spec.Case (term_of test.now)
+rule_by (OfLines path lines) = spec.Cut path.now (terms_of lines.now)
+rule_by (OfWalks walking) = walking_of walking

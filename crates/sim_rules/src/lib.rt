@@ -6,7 +6,6 @@
 
 #![tactic(auto)]
 
-mod cutting;
 mod denied;
 mod fault;
 mod holding;

@@ -8,9 +8,10 @@ ghost use Rattle.proof_tree.specs.Scope.{setting_of};
 ghost use Rattle.rule_spec.specs.Points as points;
 ghost use Rattle.rule_spec.specs.Rules as rules;
 ghost use Rattle.rule_terms.specs.Openings.{IsOpeningIn};
+ghost use Rattle.sim_rules.specs.Replies.{IsAnswer};
 ghost use Rattle.sim_rules.specs.Lines.{AreLines, IsFirstBad, IsLineFault};
-ghost use Rattle.sim_rules.specs.Outcome.{AreObligations, HasLines, IsRuleFault};
-ghost use Rattle.sim_rules.specs.Rules.{rule_of};
+ghost use Rattle.sim_rules.specs.Outcome.{AreObligations, HasFewVisits, HasLines, IsRuleFault};
+ghost use Rattle.sim_rules.specs.Rules.{rule_by, rule_of};
 ghost use Rattle.sim_rules.specs.Setups.{IsSetup};
 
 use crate::fault::RuleFault;
@@ -38,6 +39,17 @@ pub enum Rule<'a> {
     Cut(&'a [u32], &'a [Box<Term>]),
     /// the binary alone comes to an open hold
     Wait(Hold<'a>),
+}
+
+// What a rule's obligations are of.
+#[derive(Clone, Copy)]
+enum Kind<'a> {
+    /// a term that has to be a line
+    OfTerm(&'a Term),
+    /// lines in the source body of this path
+    OfLines(&'a [u32], &'a [Box<Term>]),
+    /// both sides' walks
+    OfWalks(Walking<'a>),
 }
 
 // The index of the first term that is no line in the body of the path, if there is one.
@@ -90,6 +102,39 @@ fn nothing_by(
     }
 }
 
+// What a rule's obligations are of.
+fn kind_of<'a>(rule: Rule<'a>) -> Kind<'a>
+    ensures { rule_by result ≡ rule_of rule.entry }
+{
+    match rule {
+        Rule::Leaf => Kind::OfWalks(Walking::Leaf),
+        Rule::Case(test) => Kind::OfTerm(test),
+        Rule::RestrictBinary(bound) => Kind::OfWalks(Walking::RestrictBinary(bound)),
+        Rule::RestrictSource(bound) => Kind::OfWalks(Walking::RestrictSource(bound)),
+        Rule::Cut(path, lines) => Kind::OfLines(path, lines),
+        Rule::Wait(hold) => Kind::OfWalks(Walking::Wait(hold)),
+    }
+}
+
+// The same of any rule.
+fn answer(
+    alloc: Global,
+    setup: &Setup<'_>,
+    rule: Rule<'_>,
+    bank: &mut Bank,
+) -> Result<Vec<TermId>, RuleFault>
+    requires { IsOpeningIn (length bank.old) setup.now.opening }
+    ensures answer { IsAnswer bank.old bank.new setup.now (rule_of rule.entry) result }
+    ensures extends { Extends bank.old bank.new }
+{
+    let frame = setup.frame;
+    match kind_of(rule) {
+        Kind::OfTerm(test) => nothing_by(alloc, frame.setting, frame.start.path, test),
+        Kind::OfLines(path, lines) => nothing(alloc, frame.setting, path, lines),
+        Kind::OfWalks(walking) => whole(alloc, bank, setup, &walking),
+    }
+}
+
 /// The obligations of a rule at a frame, in their order, or the first of these that applies: a term
 /// that is no line, a walk that is cyclic, a walk with too many visits. Out of memory, the bank may
 /// have some more terms.
@@ -104,21 +149,11 @@ pub fn obligations(
         → IfOk result (λ ids. AreObligations bank.new c o (frame_of setup.now.frame.now)
         (rule_of rule.entry) ids.items) }
     ensures lines { OnOk result (HasLines (frame_of setup.now.frame.now) (rule_of rule.entry)) }
+    ensures few { (o : rules.Opening) → OnOk result (HasFewVisits o (frame_of setup.now.frame.now)
+        setup.now.maximum (rule_of rule.entry)) }
     ensures fault { (o : rules.Opening) → IfErr result (IsRuleFault o (frame_of setup.now.frame.now)
         setup.now.maximum (rule_of rule.entry)) }
     ensures extends { Extends bank.old bank.new }
 {
-    let frame = setup.frame;
-    match rule {
-        Rule::Leaf => whole(alloc, bank, setup, &Walking::Leaf),
-        Rule::Case(test) => nothing_by(alloc, frame.setting, frame.start.path, test),
-        Rule::RestrictBinary(bound) => {
-            whole(alloc, bank, setup, &Walking::RestrictBinary(bound))
-        }
-        Rule::RestrictSource(bound) => {
-            whole(alloc, bank, setup, &Walking::RestrictSource(bound))
-        }
-        Rule::Cut(path, lines) => nothing(alloc, frame.setting, path, lines),
-        Rule::Wait(hold) => whole(alloc, bank, setup, &Walking::Wait(hold)),
-    }
+    answer(alloc, setup, rule, bank)
 }

@@ -3,11 +3,11 @@
 ghost use Rattle.std.specs.Prelude.{◌≡◌, IfOk};
 ghost use Rattle.graph_core.specs.Graphs.{graph_of};
 ghost use Rattle.graph_spec.specs.Graph as nodes;
+ghost use Rattle.proof_spec.specs.Frames as frames;
 ghost use Rattle.proof_tree.specs.Frames.{side_of};
 ghost use Rattle.rule_spec.specs.Sides as sides;
 ghost use Rattle.sim_rules.specs.Made.{IsMade, IsShapeFor};
 
-use crate::cutting::cut_to;
 use crate::marks::{bounds_of, stops_of};
 use crate::plan::Change;
 use crate::setup::Setup;
@@ -17,6 +17,7 @@ use graph_core::{Graph, GraphRun};
 use rule_terms::Way;
 use std::alloc::{AllocError, Global};
 use visit_walk::Shape;
+use walk_cut::cut_to;
 
 // The graph that a side runs; where there is none, one without nodes.
 fn graph_at<'a>(run: &GraphRun<'a>, empty: &'a Graph) -> &'a Graph
@@ -30,19 +31,14 @@ fn graph_at<'a>(run: &GraphRun<'a>, empty: &'a Graph) -> &'a Graph
 }
 
 // The shape of a side's graph, as a rule changes it.
-fn shape_of(
-    alloc: Global,
-    graph: &Graph,
-    run: &GraphRun<'_>,
-    change: Change,
-) -> Result<Shape, AllocError>
-    requires { graph_of graph.now ≡ sides.graph_at (side_of run.now) }
-    ensures { IfOk result (λ shape. IsShapeFor (side_of run.now) change shape.successors.items) }
+fn shape_of(alloc: Global, graph: &Graph, change: Change) -> Result<Shape, AllocError>
+    ensures { (side : frames.Side) → sides.graph_at side ≡ graph_of graph.now
+        → IfOk result (λ shape. IsShapeFor side change shape.successors.items) }
 {
     let mut shape = attempt!(Shape::of(alloc, graph));
     match change {
         Change::Restricting(bound) => {
-            attempt!(cut_to(alloc, &mut shape, run, bound.node));
+            attempt!(cut_to(alloc, &mut shape, graph, bound.node));
             Ok(shape)
         }
         Change::Plain | Change::Holding(_) => Ok(shape),
@@ -62,7 +58,7 @@ pub(crate) fn way<'a>(
 {
     let one = one_side(setup, side);
     let graph = graph_at(one.run, empty);
-    let shape = attempt!(shape_of(alloc, graph, one.run, change));
+    let shape = attempt!(shape_of(alloc, graph, change));
     let goals = setup.frame.goals.as_slice();
     let stops = attempt!(stops_of(alloc, goals, side, change));
     let bounds = attempt!(bounds_of(alloc, one.bounds, change));

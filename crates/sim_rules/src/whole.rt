@@ -1,6 +1,6 @@
 //! A rule's obligations, of both sides' walks.
 
-ghost use Rattle.std.specs.Prelude.{◌≡◌, ℕ, [], IfErr, IfOk, OnOk, length};
+ghost use Rattle.std.specs.Prelude.{◌≡◌, ℕ, [], IfOk, OnOk, length};
 ghost use Rattle.term_bank.specs.Nodes.{Extends};
 ghost use Rattle.graph_core.specs.Graphs.{graph_of};
 ghost use Rattle.graph_spec.specs.Graph as nodes;
@@ -9,11 +9,12 @@ ghost use Rattle.rule_spec.specs.Points as points;
 ghost use Rattle.rule_spec.specs.Rules as rules;
 ghost use Rattle.rule_spec.specs.Sides as sides;
 ghost use Rattle.rule_terms.specs.Openings.{IsOpeningIn};
+ghost use Rattle.rule_terms.specs.Seen.{IsSeen};
 ghost use Rattle.rule_terms.specs.Ways.{IsWay, walk_on};
 ghost use Rattle.visit_spec.specs.Visits.{Walk};
-ghost use Rattle.sim_rules.specs.Faults.{IsOutcome, IsPlanFault};
+ghost use Rattle.sim_rules.specs.Faults.{IsOutcome, IsPlanAnswer};
 ghost use Rattle.sim_rules.specs.Held.{AreHeld};
-ghost use Rattle.sim_rules.specs.Outcome.{AreObligations, IsRuleFault};
+ghost use Rattle.sim_rules.specs.Outcome.{AreObligations, IsRuleAnswer};
 ghost use Rattle.sim_rules.specs.Plans.{plan_for};
 ghost use Rattle.sim_rules.specs.Rules.{walking_of};
 ghost use Rattle.sim_rules.specs.Setups.{IsSetup};
@@ -29,9 +30,35 @@ use crate::walked::{Walked, conditions_if, sight_if};
 use crate::ways::way;
 use attempt::attempt;
 use graph_core::Graph;
-use rule_terms::Way;
+use rule_terms::{Sight, Way};
 use std::alloc::{AllocError, Global};
 use term_bank::{Bank, TermId};
+
+// Adds what a rule leaves to show, where the binary's visits have their conditions.
+fn add_of_source(
+    alloc: Global,
+    bank: &mut Bank,
+    setup: &Setup<'_>,
+    rule: &Walking<'_>,
+    binary: Option<Sight<'_>>,
+    source: &Walked<'_>,
+    ids: &mut Vec<TermId>,
+) -> Result<(), AllocError>
+    requires opening { IsOpeningIn (length bank.old) setup.now.opening }
+    requires binary { (s : rules.Seen) × IsSeen bank.old s binary }
+    requires source { (w : sides.Way) × IsWalked bank.old w source.now }
+    requires ids { ids.old.items ≡ [] }
+    ensures terms { (c : points.Convention) (o : rules.Opening) (a : rules.Seen) (d : sides.Way)
+        → IsSetup bank.old c o setup.now → IsSeen bank.old a binary.entry
+        → IsWalked bank.old d source.now
+        → OnOk result (AreHeld bank.new ids.new.items (terms_for c o (frame_of setup.now.frame.now)
+        rule.now a (seen_by d source.now.visits.now))) }
+    ensures extends { Extends bank.old bank.new }
+{
+    let found = attempt!(conditions_if(alloc, source, bank));
+    let source = sight_if(source.way, source.visits, &found);
+    add_terms(alloc, bank, setup, rule, binary, source, ids)
+}
 
 // Adds what a rule leaves to show of both sides' walks, whose visits are known.
 fn add_of_walks(
@@ -55,10 +82,8 @@ fn add_of_walks(
     ensures extends { Extends bank.old bank.new }
 {
     let found = attempt!(conditions_if(alloc, binary, bank));
-    let others = attempt!(conditions_if(alloc, source, bank));
     let binary = sight_if(binary.way, binary.visits, &found);
-    let source = sight_if(source.way, source.visits, &others);
-    add_terms(alloc, bank, setup, rule, binary, source, ids)
+    add_of_source(alloc, bank, setup, rule, binary, source, ids)
 }
 
 // The same, or why a rule leaves nothing: a walk has no list of visits and has to.
@@ -81,9 +106,9 @@ fn add_if_walked(
         → IsOutcome d.walk maximum source.now.visits.now
         → OnOk result (AreOfWays bank.new c o (frame_of setup.now.frame.now) rule.now a d
         ids.new.items) }
-    ensures fault { (a d : Walk) (maximum : ℕ) → IsOutcome a maximum binary.now.visits.now
+    ensures walks { (a d : Walk) (maximum : ℕ) → IsOutcome a maximum binary.now.visits.now
         → IsOutcome d maximum source.now.visits.now
-        → IfErr result (IsPlanFault (plan_for rule.now) a d maximum) }
+        → IsPlanAnswer (plan_for rule.now) a d maximum result }
     ensures extends { Extends bank.old bank.new }
 {
     match first_fault(
@@ -120,8 +145,8 @@ fn add_of_ways(
         → IsSetup bank.old c o setup.now → IsWay bank.old a binary.now → IsWay bank.old d source.now
         → OnOk result (AreOfWays bank.new c o (frame_of setup.now.frame.now) rule.now a d
         ids.new.items) }
-    ensures fault { IfErr result (IsPlanFault (plan_for rule.now) (walk_on binary.now)
-        (walk_on source.now) setup.now.maximum) }
+    ensures walks { IsPlanAnswer (plan_for rule.now) (walk_on binary.now) (walk_on source.now)
+        setup.now.maximum result }
     ensures extends { Extends bank.old bank.new }
 {
     let visits = binary.visits(alloc, setup.maximum);
@@ -152,8 +177,8 @@ fn add_whole(
     ensures terms { (c : points.Convention) (o : rules.Opening) → IsSetup bank.old c o setup.now
         → OnOk result (AreObligations bank.new c o (frame_of setup.now.frame.now)
         (walking_of rule.now) ids.new.items) }
-    ensures fault { (o : rules.Opening) → IfErr result (IsRuleFault o (frame_of setup.now.frame.now)
-        setup.now.maximum (walking_of rule.now)) }
+    ensures walks { (o : rules.Opening) → IsRuleAnswer o (frame_of setup.now.frame.now)
+        setup.now.maximum (walking_of rule.now) result }
     ensures extends { Extends bank.old bank.new }
 {
     let plan = plan_of(rule);
@@ -179,8 +204,8 @@ pub(crate) fn whole(
     ensures terms { (c : points.Convention) (o : rules.Opening) → IsSetup bank.old c o setup.now
         → IfOk result (λ ids. AreObligations bank.new c o (frame_of setup.now.frame.now)
         (walking_of rule.now) ids.items) }
-    ensures fault { (o : rules.Opening) → IfErr result (IsRuleFault o (frame_of setup.now.frame.now)
-        setup.now.maximum (walking_of rule.now)) }
+    ensures walks { (o : rules.Opening) → IsRuleAnswer o (frame_of setup.now.frame.now)
+        setup.now.maximum (walking_of rule.now) result }
     ensures extends { Extends bank.old bank.new }
 {
     let empty = Graph::new(alloc);

@@ -1,24 +1,26 @@
 -- The ends of a run, from its outcome.
 use Rattle.std.proofs.Common.{◌≡◌, ◌≢◌, ◌⊎◌, ◌≤◌, ℕ, Bool, true, false, List, Option, Some, None, Ok, Err, refl, arith, ap, sym, ◌∙◌, subst, inl, inr}
 use Rattle.std.specs.Prelude.{◌↔◌, if◌then◌else◌, Result, IfOk}
-use Rattle.report_spec.specs.Verdict.{Verdict, RefusedWords, TooLarge, RefusedElf, RefusedC, RefusedPair, RefusedCode, Judged, Judgement, status_of}
+use Rattle.report_spec.specs.Verdict.{Verdict, RefusedWords, TooLarge, RefusedElf, RefusedC, RefusedPair, RefusedCode, Judged, Showed, Judgement, Shown, status_of}
 use Rattle.report_spec.specs.Certificate.{certificate_of}
 use Rattle.tv_base.specs.declared.faults.OutsideFault.{OutsideFault}
 use Rattle.tv_base.specs.declared.faults.OutsideFault.TheVariants.{Failed, NoMemory}
-use Rattle.tv_words.specs.Commands.{Command, Prove, Proving, IsCommand}
+use Rattle.tv_words.specs.Commands.{Command, Prove, Show, IsCommand}
+use Rattle.verdict_spec.specs.Listing.{Judge, Display}
+use Rattle.tv_core.specs.Tasks.{Asked, asked_of}
 use Rattle.tv_words.proofs.Commands.{same_command}
 use Rattle.verdict_spec.proofs.Once.{one-verdict}
 use Rattle.tv_core.specs.Objects.{Contents, Outputs}
-use Rattle.tv_core.specs.Ends.{AskFor, IsUsageError, IsOfCommand, IsVerdictOn, IsOutcome, usage_error, commanded, Becomes, LeavesUnder, Reports, certificate_name, Publishes, EndsBy, EndsWith, EndsAsDecided, EndsValid}
+use Rattle.tv_core.specs.Ends.{AskFor, IsUsageError, IsOfCommand, IsVerdictOn, IsOutcome, usage_error, commanded, Becomes, LeavesUnder, Reports, certificate_name, Publishes, EndsBy, EndsWith, EndsAsDecided, EndsValid, EndsShown}
 
 -- ---- outcomes
 
-pub outcome_of_some : (words : List (List ℕ)) (files : Contents) (asked : Option Proving) (job : Proving) (verdict : Verdict) → asked ≡ Some job
-    → AskFor words asked → IsOfCommand verdict → IsVerdictOn files job verdict → IsOutcome words files (certificate_name asked) verdict
-outcome_of_some words files asked job verdict e command of_command on =
-    subst (λ o. IsOutcome words files (certificate_name o) verdict) (sym e) (commanded job verdict (subst (AskFor words) e command) of_command on)
+pub outcome_of_some : (words : List (List ℕ)) (files : Contents) (asked : Option Command) (command : Command) (verdict : Verdict) → asked ≡ Some command
+    → AskFor words asked → IsOfCommand (asked_of command) verdict → IsVerdictOn files (asked_of command) verdict → IsOutcome words files (certificate_name asked) verdict
+outcome_of_some words files asked command verdict e is of_command on =
+    subst (λ o. IsOutcome words files (certificate_name o) verdict) (sym e) (commanded command verdict (subst (AskFor words) e is) of_command on)
 
-pub outcome_of_none : (words : List (List ℕ)) (files : Contents) (asked : Option Proving) → asked ≡ None → AskFor words asked
+pub outcome_of_none : (words : List (List ℕ)) (files : Contents) (asked : Option Command) → asked ≡ None → AskFor words asked
     → IsOutcome words files (certificate_name asked) RefusedWords
 outcome_of_none words files asked e none =
     subst (λ o. IsOutcome words files (certificate_name o) RefusedWords) (sym e) (usage_error (subst (AskFor words) e none))
@@ -29,17 +31,17 @@ is_usage verdict = false
 
 -- an outcome of a command, unless it is that of a usage error
 record OfJob (words : List (List ℕ)) (files : Contents) (name : List ℕ) (verdict : Verdict) : Type 0 where
-  job : Proving
-  job_is : IsCommand words (Prove job)
-  name_is : name ≡ job.certificate
-  of_command : IsOfCommand verdict
-  on : IsVerdictOn files job verdict
+  command : Command
+  command_is : IsCommand words command
+  name_is : name ≡ (asked_of command).certificate
+  of_command : IsOfCommand (asked_of command) verdict
+  on : IsVerdictOn files (asked_of command) verdict
 
 of_job : (words : List (List ℕ)) (files : Contents) (name : List ℕ) (verdict : Verdict) → IsOutcome words files name verdict
     → (verdict ≡ RefusedWords) ⊎ OfJob words files name verdict
 of_job words files _ _ (usage_error none) = inl refl
-of_job words files _ _ (commanded job verdict is of_command on) =
-    inr (record { job = job; job_is = is; name_is = refl; of_command = of_command; on = on })
+of_job words files _ _ (commanded command verdict is of_command on) =
+    inr (record { command = command; command_is = is; name_is = refl; of_command = of_command; on = on })
 
 -- ---- the validity theorem
 
@@ -51,85 +53,108 @@ called_valid : (all : Bool) → code_of all ≡ 0 → all ≡ true
 called_valid true e = refl
 called_valid false e = absurd (omega arith)
 
--- status 0 is that of judgements alone
-judgements_in : (verdict : Verdict) → status_of verdict ≡ 0 → (js : List Judgement) × (verdict ≡ Judged js)
-judgements_in RefusedWords zero = absurd (omega arith)
-judgements_in (TooLarge quantity) zero = absurd (omega arith)
-judgements_in (RefusedElf fault offset) zero = absurd (omega arith)
-judgements_in (RefusedC kind offset) zero = absurd (omega arith)
-judgements_in (RefusedPair kind name) zero = absurd (omega arith)
-judgements_in (RefusedCode kind name address) zero = absurd (omega arith)
-judgements_in (Judged js) zero = (js, refl)
+abbrev Succeeds : Verdict → Type 0
+Succeeds verdict = ((js : List Judgement) × (verdict ≡ Judged js)) ⊎ ((shown : Shown) × (verdict ≡ Showed shown))
+
+-- status 0 is that of judgements, or of a function that is shown
+success_in : (verdict : Verdict) → status_of verdict ≡ 0 → Succeeds verdict
+success_in RefusedWords zero = absurd (omega arith)
+success_in (TooLarge quantity) zero = absurd (omega arith)
+success_in (RefusedElf fault offset) zero = absurd (omega arith)
+success_in (RefusedC kind offset) zero = absurd (omega arith)
+success_in (RefusedPair kind name) zero = absurd (omega arith)
+success_in (RefusedCode kind name address) zero = absurd (omega arith)
+success_in (Judged js) zero = inl (js, refl)
+success_in (Showed shown) zero = inr (shown, refl)
 
 module _ (words : List (List ℕ)) (files : Contents) (before now : Outputs) where
-  valid_of_job : (name : List ℕ) (js : List Judgement) → OfJob words files name (Judged js) → status_of (Judged js) ≡ 0
+  valid_of_job : (name : List ℕ) (js : List Judgement) (command : Command) → IsCommand words command → name ≡ (asked_of command).certificate
+      → IsOfCommand (asked_of command) (Judged js) → IsVerdictOn files (asked_of command) (Judged js) → status_of (Judged js) ≡ 0
       → Reports (Judged js) before.report now.report → LeavesUnder name (Judged js) before.store.held now.store.held → EndsValid words files before now
-  valid_of_job name js of zero reported stored = record {
-    job = of.job;
-    job_is = of.job_is;
+  valid_of_job name js (Prove job) is named of_command on zero reported stored = record {
+    job = job;
+    job_is = is;
     judgements = js;
     claim = record {
-      some = of.of_command;
+      some = of_command.1;
       all_called_valid = called_valid _ zero;
-      valid = λ elf c e f. (of.on.1 elf c e f).1;
+      valid = λ elf c e f. (on.1 elf c e f).1;
       reported = reported;
     };
-    stored = subst (λ n. Becomes before.store.held n (certificate_of js) now.store.held) of.name_is stored;
+    stored = subst (λ n. Becomes before.store.held n (certificate_of js) now.store.held) named stored;
   }
+  valid_of_job name js (Show job) is named of_command on zero reported stored = let e = of_command.0.1 in absurd (cc)
+
+  shown_of_job : (shown : Shown) (command : Command) → IsCommand words command → IsOfCommand (asked_of command) (Showed shown)
+      → Reports (Showed shown) before.report now.report → now.store.held ≡ before.store.held → EndsShown words before now
+  shown_of_job shown (Prove job) is of_command reported stored = absurd (cc)
+  shown_of_job shown (Show job) is of_command reported stored =
+      record { job = job; job_is = is; shown = shown; name_is = cc; reported = reported; stored = stored }
 
   valid_of : (name : List ℕ) (js : List Judgement) → IsOutcome words files name (Judged js) → status_of (Judged js) ≡ 0
       → Reports (Judged js) before.report now.report → LeavesUnder name (Judged js) before.store.held now.store.held → EndsValid words files before now
   valid_of name js outcome zero reported stored =
       elim (of_job words files name (Judged js) outcome) [
         | inl e ↦ let apart : false ≡ true = ap is_usage e in absurd (cc)
-        | inr of ↦ valid_of_job name js of zero reported stored
+        | inr of ↦ valid_of_job name js of.command of.command_is of.name_is of.of_command of.on zero reported stored
       ]
 
-  pub ends_valid : (code : ℕ) → EndsWith words files code before now → code ≡ 0 → EndsValid words files before now
+  shown_of : (name : List ℕ) (shown : Shown) → IsOutcome words files name (Showed shown) → Reports (Showed shown) before.report now.report
+      → now.store.held ≡ before.store.held → EndsShown words before now
+  shown_of name shown outcome reported stored =
+      elim (of_job words files name (Showed shown) outcome) [
+        | inl e ↦ let apart : false ≡ true = ap is_usage e in absurd (cc)
+        | inr of ↦ shown_of_job shown of.command of.command_is of.of_command reported stored
+      ]
+
+  pub ends_valid : (code : ℕ) → EndsWith words files code before now → code ≡ 0 → EndsValid words files before now ⊎ EndsShown words before now
   ends_valid code ends none =
       let zero : status_of ends.verdict ≡ 0 = sym ends.ends.status_is ∙ none in
-      let found = judgements_in ends.verdict zero in
-      valid_of ends.name found.0 (subst (IsOutcome words files ends.name) found.1 ends.outcome) (subst (λ v. status_of v ≡ 0) found.1 zero)
-      (subst (λ v. Reports v before.report now.report) found.1 ends.ends.reported)
-      (subst (λ v. LeavesUnder ends.name v before.store.held now.store.held) found.1 ends.ends.stored)
+      elim (success_in ends.verdict zero) [
+        | inl found ↦ inl (valid_of ends.name found.0 (subst (IsOutcome words files ends.name) found.1 ends.outcome)
+            (subst (λ v. status_of v ≡ 0) found.1 zero) (subst (λ v. Reports v before.report now.report) found.1 ends.ends.reported)
+            (subst (λ v. LeavesUnder ends.name v before.store.held now.store.held) found.1 ends.ends.stored))
+        | inr found ↦ inr (shown_of ends.name found.0 (subst (IsOutcome words files ends.name) found.1 ends.outcome)
+            (subst (λ v. Reports v before.report now.report) found.1 ends.ends.reported)
+            (subst (λ v. LeavesUnder ends.name v before.store.held now.store.held) found.1 ends.ends.stored))
+      ]
 
   -- ---- the causes
 
-  abbrev job_in : Command → Proving
-  job_in (Prove job) = job
-
   decided_by : (name : List ℕ) (verdict : Verdict) (code : ℕ) → IsOutcome words files name verdict → EndsBy name verdict code before now
       → EndsAsDecided words files code before now
-  decided_by _ _ code (usage_error none) ends = λ job elf c other is e f has. absurd (none (Prove job) is)
-  decided_by _ _ code (commanded job verdict is of_command on) ends =
+  decided_by _ _ code (usage_error none) ends = λ command elf c other is e f has. absurd (none command is)
+  decided_by _ _ code (commanded command verdict is of_command on) ends =
       λ wanted elf c other wanted_is e f has.
-      let same : job ≡ wanted = ap job_in (same_command words (Prove job) (Prove wanted) is wanted_is) in
-      let on_wanted = subst (λ j. IsVerdictOn files j verdict) same on in
-      let one : verdict ≡ other = one-verdict elf c wanted.functions verdict other (on_wanted.1 elf c e f).0 has in
-      subst (λ v. EndsBy wanted.certificate v code before now) one (subst (λ j. EndsBy j.certificate verdict code before now) same ends)
+      let same : command ≡ wanted = same_command words command wanted is wanted_is in
+      let on_wanted = subst (λ j. IsVerdictOn files (asked_of j) verdict) same on in
+      let one : verdict ≡ other = one-verdict elf c (asked_of wanted).task verdict other (on_wanted.1 elf c e f).0 has in
+      subst (λ v. EndsBy (asked_of wanted).certificate v code before now) one
+      (subst (λ j. EndsBy (asked_of j).certificate verdict code before now) same ends)
 
   -- it ends by whatever verdict the files have
   pub ends_as_decided : (code : ℕ) → EndsWith words files code before now → EndsAsDecided words files code before now
   ends_as_decided code ends = decided_by ends.name ends.verdict code ends.outcome ends.ends
 
-of_command_not_usage : (verdict : Verdict) → IsOfCommand verdict → status_of verdict ≢ 2
-of_command_not_usage RefusedWords of = absurd of
-of_command_not_usage (TooLarge quantity) of = λ e. omega (arith, e)
-of_command_not_usage (RefusedElf fault offset) of = λ e. omega (arith, e)
-of_command_not_usage (RefusedC kind offset) of = λ e. omega (arith, e)
-of_command_not_usage (RefusedPair kind name) of = λ e. omega (arith, e)
-of_command_not_usage (RefusedCode kind name address) of = λ e. omega (arith, e)
-of_command_not_usage (Judged js) of = not_two _
+of_command_not_usage : (asked : Asked) (verdict : Verdict) → IsOfCommand asked verdict → status_of verdict ≢ 2
+of_command_not_usage asked RefusedWords of = absurd of
+of_command_not_usage asked (TooLarge quantity) of = λ e. omega (arith, e)
+of_command_not_usage asked (RefusedElf fault offset) of = λ e. omega (arith, e)
+of_command_not_usage asked (RefusedC kind offset) of = λ e. omega (arith, e)
+of_command_not_usage asked (RefusedPair kind name) of = λ e. omega (arith, e)
+of_command_not_usage asked (RefusedCode kind name address) of = λ e. omega (arith, e)
+of_command_not_usage asked (Judged js) of = not_two _
   where
     not_two : (all : Bool) → code_of all ≢ 2
     not_two true = λ e. omega (arith, e)
     not_two false = λ e. omega (arith, e)
+of_command_not_usage asked (Showed shown) of = λ e. omega (arith, e)
 
 refused_words : (words : List (List ℕ)) (files : Contents) (name : List ℕ) (verdict : Verdict) (code : ℕ) → IsOutcome words files name verdict
     → code ≡ status_of verdict → code ≡ 2 ↔ IsUsageError words
 refused_words words files _ _ code (usage_error none) e = (λ two. none, λ again. e)
-refused_words words files _ _ code (commanded job verdict is of_command on) e =
-    (λ two. absurd (of_command_not_usage verdict of_command (sym e ∙ two)), λ none. absurd (none (Prove job) is))
+refused_words words files _ _ code (commanded command verdict is of_command on) e =
+    (λ two. absurd (of_command_not_usage (asked_of command) verdict of_command (sym e ∙ two)), λ none. absurd (none command is))
 
 code_small : (all : Bool) → code_of all ≤ 3
 code_small true = omega arith
@@ -143,6 +168,7 @@ status_small (RefusedC kind offset) = inl (omega arith)
 status_small (RefusedPair kind name) = inl (omega arith)
 status_small (RefusedCode kind name address) = inl (omega arith)
 status_small (Judged js) = inl (code_small _)
+status_small (Showed shown) = inl (omega arith)
 
 module _ (words : List (List ℕ)) (files : Contents) (before now : Outputs) where
   -- it ends with 2 exactly with a usage error

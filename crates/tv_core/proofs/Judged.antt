@@ -1,23 +1,21 @@
--- Judgements on the names of a list, one after the other.
-use Rattle.std.proofs.Common.{◌≡◌, ◌<◌, ◌≤◌, ◌+◌, ◌++◌, ℕ, List, [], ◌∷◌, length, get_or, take, drop, map, All, Option, Result, Ok, Err, Some, ap, sym, ◌∙◌, subst, append_assoc, take_all}
-use Rattle.std.specs.Prelude.{IsTrue, IfOk, codes}
-use Rattle.std.proofs.lemmas.List.{take_more, take-append-drop, map-append}
-use Rattle.std.proofs.lemmas.List.Elements.{All-push, All-map}
+-- Judgements on the names of a list, one after the other, and the verdicts on a list.
+use Rattle.std.proofs.Common.{◌≡◌, ◌<◌, ◌≤◌, ◌+◌, ◌++◌, ℕ, List, [], ◌∷◌, length, get_or, take, map, All, Option, ap, sym, ◌∙◌, subst, take_all, refl}
+use Rattle.std.specs.Prelude.{IsTrue}
+use Rattle.std.proofs.lemmas.List.{take_more, map-append}
+use Rattle.std.proofs.lemmas.List.Elements.{All-push}
 use Rattle.elf_spec.specs.Image.{Image}
 use Rattle.c_type_spec.specs.Core.{Typed}
 use Rattle.claim_spec.specs.Claim.{IsValid}
-use Rattle.code_spec.specs.declared.CodeKind.{CodeKind}
-use Rattle.report_spec.specs.declared.PairKind.{PairKind}
-use Rattle.report_spec.specs.declared.PairKind.TheVariants.{NothingListed}
-use Rattle.report_spec.specs.declared.Quantity.TheVariants.{Functions}
+use Rattle.pair_outcome_spec.specs.Outcome.{IsPaired}
+use Rattle.pair_outcome_spec.specs.Outcome as outcome
+use Rattle.report_spec.specs.declared.Quantity.TheVariants.{Functions, Nodes}
 use Rattle.report_spec.specs.Verdict as spec
-use Rattle.tv_base.specs.declared.limits.TheConstants.{MAX_FUNCTIONS}
-use Rattle.verdict_spec.specs.Listing as listing
+use Rattle.report_spec.specs.Verdict.{TooLarge, RefusedWords, RefusedElf, RefusedC, RefusedPair, RefusedCode, Judged, Showed, maximum_of}
 use Rattle.report_text.specs.Judgements.{judgement_of, judgements_of}
-use Rattle.report_text.specs.Verdicts.{verdict_of}
 use Rattle.report_text.specs.declared.verdicts.Judgement.{Judgement}
-use Rattle.report_text.specs.declared.verdicts.Verdict.{Verdict}
-use Rattle.verdict_spec.specs.Verdicts.{Lists, Pairs, Judges, judged, code_refused, nothing_listed, too_many, pair_refused, AreSound, IsJudgement, IsSoundCode, IsFirstCodeFault, HasCodeFault}
+use Rattle.verdict_spec.specs.Listing.{Task, Judge, Display, names_of}
+use Rattle.verdict_spec.specs.Verdicts.{Lists, ListsFew, Pairs, Judges, judged, showed, pair_refused, code_refused, too_large, too_many, IsSound, AreSound, IsJudgement}
+use Rattle.tv_core.specs.Listed.{IsRefusal, AreJudgements, Shows, IsAnswer, AnswersList}
 
 -- the first names have these judgements
 pub record AreJudged (image : Image) (unit : Typed) (names : List (List ℕ)) (i : ℕ) (judgements : List spec.Judgement) : Type 0 where
@@ -48,73 +46,73 @@ one_more image unit names i name items more judgement before e at below named ea
       sound = All-push (λ k. IsTrue k.valid → IsValid image unit k.name k.stack) js j before.sound sound;
     })
 
-split_at : (names : List (List ℕ)) (i : ℕ) (name : List ℕ) → name ≡ get_or names i name → i < length names
-    → names ≡ take i names ++ (name ∷ drop (i + 1) names)
-split_at names i name at below =
-    sym (take-append-drop (i + 1) names) ∙ ap (λ ns. ns ++ drop (i + 1) names) (take_more names i name below)
-    ∙ append_assoc (take i names) (get_or names i name ∷ []) (drop (i + 1) names)
-    ∙ ap (λ n. take i names ++ (n ∷ drop (i + 1) names)) (sym at)
-
--- the first name whose code has a fault
-pub first_fault : (image : Image) (unit : Typed) (names : List (List ℕ)) (i : ℕ) (name : List ℕ) (items : List Judgement) (kind : CodeKind) (address : ℕ)
-    → AreJudged image unit names i (judgements_of items) → name ≡ get_or names i name → i < length names
-    → HasCodeFault image name kind address → IsFirstCodeFault image names kind name address
-first_fault image unit names i name items kind address before at below fault = record {
-  prefix = take i names;
-  rest = drop (i + 1) names;
-  split = split_at names i name at below;
-  earlier = subst (λ ns. All (IsSoundCode image) ns) before.of_names
-      (All-map (IsSoundCode image) (λ j. j.name) (judgements_of items) (λ k d inside. let j = before.each k d inside in (j.entry, j.code)));
-  fault = fault;
-}
-
--- the verdict on it
-pub refused_by : {E : Type 0} (image : Image) (unit : Typed) (names : List (List ℕ)) (name : List ℕ) (kind : CodeKind) (address : ℕ) (r : Result Verdict E)
-    → IfOk r (λ verdict. verdict_of verdict ≡ spec.RefusedCode kind name address) → IsFirstCodeFault image names kind name address
-    → IfOk r (λ verdict. (elf c : List ℕ) (functions : Option (List (List ℕ))) → Pairs elf c functions image unit names → Judges elf c functions (verdict_of verdict))
-refused_by image unit names name kind address (Ok verdict) e fault = λ elf c functions pairs.
-    subst (Judges elf c functions) (sym e) (code_refused image unit names kind name address pairs fault)
-refused_by image unit names name kind address (Err error) e fault = tt
-
 -- all names have their judgements
 pub all_judged : (image : Image) (unit : Typed) (names : List (List ℕ)) (i : ℕ) (judgements : List spec.Judgement) → AreJudged image unit names i judgements
-    → length names ≤ i → (elf c : List ℕ) (functions : Option (List (List ℕ))) → Pairs elf c functions image unit names
-    → Judges elf c functions (spec.Judged judgements)
-all_judged image unit names i judgements before past elf c functions pairs =
-    judged image unit judgements
-    (subst (Pairs elf c functions image unit) (sym (before.of_names ∙ take_all i names past)) pairs) before.each
+    → length names ≤ i → AreJudgements image unit names (Judged judgements)
+all_judged image unit names i judgements before past = (before.of_names ∙ take_all i names past, before.each, before.sound)
 
-pub all_sound : (image : Image) (unit : Typed) (names : List (List ℕ)) (i : ℕ) (judgements : List spec.Judgement) → AreJudged image unit names i judgements
-    → length names ≤ i → (elf c : List ℕ) (functions : Option (List (List ℕ))) → Lists elf c functions image unit names
-    → AreSound elf c functions judgements
-all_sound image unit names i judgements before past elf c functions lists = record {
-  image = image;
-  unit = unit;
-  is_elf = lists.is_elf;
-  is_c = lists.is_c;
-  names = before.of_names ∙ take_all i names past ∙ lists.listed;
-  valid = before.sound;
-}
+-- ---- the verdict on a list
 
--- ---- refused pairs
+few_lists : (elf c : List ℕ) (task : Task) (image : Image) (unit : Typed) (list : List (List ℕ)) → length list ≤ maximum_of Functions
+    → Lists elf c task image unit list → ListsFew elf c task image unit list
+few_lists elf c task image unit list few lists = record { lists = lists; within = few }
 
-abbrev Refuses : Image → Typed → List (List ℕ) → spec.Verdict → Type 0
-Refuses image unit names verdict =
-    (elf c : List ℕ) (functions : Option (List (List ℕ))) → Lists elf c functions image unit names → Judges elf c functions verdict
+module _ (image : Image) (unit : Typed) (task : Task) (list : List (List ℕ)) where
+  pub refused_many : maximum_of Functions < length list → AnswersList image unit task list (TooLarge Functions)
+  refused_many many = λ elf c lists. (too_many image unit list lists many, tt)
 
-pub refused_empty : {E : Type 0} (image : Image) (unit : Typed) (names : List (List ℕ)) (r : Result Verdict E)
-    → IfOk r (λ verdict. verdict_of verdict ≡ spec.RefusedPair NothingListed (codes "-")) → names ≡ []
-    → IfOk r (λ verdict. Refuses image unit names (verdict_of verdict))
-refused_empty image unit names (Ok verdict) e none = λ elf c functions lists.
-    subst (Judges elf c functions) (sym e) (nothing_listed image unit (subst (Lists elf c functions image unit) none lists))
-refused_empty image unit names (Err error) e none = tt
+  pub refused_list : (verdict : spec.Verdict) → length list ≤ maximum_of Functions → IsRefusal image unit list verdict
+      → AnswersList image unit task list verdict
+  refused_list RefusedWords few h = absurd h
+  refused_list (TooLarge quantity) few h = λ elf c lists.
+      (subst (λ q. Judges elf c task (TooLarge q)) (sym h.0) (too_large image unit list (few_lists elf c task image unit list few lists) h.1), tt)
+  refused_list (RefusedElf kind offset) few h = absurd h
+  refused_list (RefusedC kind offset) few h = absurd h
+  refused_list (RefusedPair kind name) few h = λ elf c lists.
+      (pair_refused image unit list kind name (few_lists elf c task image unit list few lists) h, tt)
+  refused_list (RefusedCode kind name address) few h = λ elf c lists.
+      (code_refused image unit list kind name address (few_lists elf c task image unit list few lists) h, tt)
+  refused_list (Judged judgements) few h = absurd h
+  refused_list (Showed shown) few h = absurd h
 
-pub refused_many : (image : Image) (unit : Typed) (names : List (List ℕ)) → MAX_FUNCTIONS < length names → Refuses image unit names (spec.TooLarge Functions)
-refused_many image unit names many = λ elf c functions lists. too_many image unit names lists many
+pairs_listed : (elf c : List ℕ) (task : Task) (image : Image) (unit : Typed) (list : List (List ℕ)) (pairs : outcome.Pairs) → length list ≤ maximum_of Functions
+    → IsPaired image unit list pairs → Lists elf c task image unit list → Pairs elf c task image unit list
+pairs_listed elf c task image unit list pairs few paired lists =
+    record { few = few_lists elf c task image unit list few lists; pairs = pairs; paired = paired }
 
-pub refused_unpaired : {E : Type 0} (image : Image) (unit : Typed) (names : List (List ℕ)) (name : List ℕ) (r : Result Verdict E)
-    → IfOk r (λ verdict. (kind : PairKind) × (verdict_of verdict ≡ spec.RefusedPair kind name) × (listing.pair_fault image unit name ≡ Some kind))
-    → length names ≤ MAX_FUNCTIONS → listing.first_unpaired image unit names ≡ Some name → IfOk r (λ verdict. Refuses image unit names (verdict_of verdict))
-refused_unpaired image unit names name (Ok verdict) e few found = λ elf c functions lists.
-    subst (Judges elf c functions) (sym e.1) (pair_refused image unit names e.0 name lists few found e.2)
-refused_unpaired image unit names name (Err error) e few found = tt
+module _ (image : Image) (unit : Typed) (list : List (List ℕ)) (pairs : outcome.Pairs) (few : length list ≤ maximum_of Functions)
+    (paired : IsPaired image unit list pairs) where
+  judged_list : (functions : Option (List (List ℕ))) (verdict : spec.Verdict) → AreJudgements image unit list verdict → AnswersList image unit (Judge functions) list verdict
+  judged_list functions RefusedWords h = absurd h
+  judged_list functions (TooLarge quantity) h = absurd h
+  judged_list functions (RefusedElf kind offset) h = absurd h
+  judged_list functions (RefusedC kind offset) h = absurd h
+  judged_list functions (RefusedPair kind name) h = absurd h
+  judged_list functions (RefusedCode kind name address) h = absurd h
+  judged_list functions (Judged judgements) h = λ elf c lists. (
+    judged functions image unit judgements refl
+        (subst (Pairs elf c (Judge functions) image unit) (sym h.0) (pairs_listed elf c (Judge functions) image unit list pairs few paired lists)) h.1,
+    record { image = image; unit = unit; is_elf = lists.is_elf; is_c = lists.is_c; names = h.0 ∙ lists.listed; valid = h.2 },
+  )
+  judged_list functions (Showed shown) h = absurd h
+
+  showed_list : (function : List ℕ) (verdict : spec.Verdict) → ((name : List ℕ) → Shows image unit (get_or list 0 name) verdict)
+      → AnswersList image unit (Display function) list verdict
+  showed_list function RefusedWords h = absurd (h [])
+  showed_list function (TooLarge quantity) h = absurd (h [])
+  showed_list function (RefusedElf kind offset) h = absurd (h [])
+  showed_list function (RefusedC kind offset) h = absurd (h [])
+  showed_list function (RefusedPair kind name) h = absurd (h [])
+  showed_list function (RefusedCode kind name address) h = absurd (h [])
+  showed_list function (Judged judgements) h = absurd (h [])
+  showed_list function (Showed shown) h = λ elf c lists.
+      let name : shown.name ≡ function = (h []).0 ∙ ap (λ names. get_or names 0 []) lists.listed in
+      let named : list ≡ shown.name ∷ [] = lists.listed ∙ ap (λ n. n ∷ []) (sym name) in (
+        showed image unit shown (ap Display (sym name))
+            (subst (Pairs elf c (Display function) image unit) named (pairs_listed elf c (Display function) image unit list pairs few paired lists)) (h []).1,
+        tt,
+      )
+
+  pub answered : (task : Task) (verdict : spec.Verdict) → IsAnswer image unit task list verdict → AnswersList image unit task list verdict
+  answered (Judge functions) verdict h = judged_list functions verdict h
+  answered (Display function) verdict h = showed_list function verdict h

@@ -18,6 +18,7 @@ use Rattle.report_text.specs.Verdicts.{verdict_of}
 use Rattle.report_text.specs.declared.verdicts.Verdict.{Verdict}
 use Rattle.tv_base.specs.declared.faults.OutsideFault.{OutsideFault}
 use Rattle.tv_base.specs.declared.faults.OutsideFault.TheVariants.{NoMemory}
+use Rattle.verdict_spec.specs.Listing.{Task}
 use Rattle.verdict_spec.specs.Verdicts.{Judges, IsSound}
 use Rattle.tv_core.specs.Files.{JudgesBy}
 
@@ -29,20 +30,20 @@ pub is_source : (text : List ℕ) (tree : TranslationUnit) (unit : Typed) → Ha
 unfolding unit_of
 is_source text tree unit derives has_types = record { tree = tree; derives = derives; has_types = has_types }
 
-module _ (image : Image) (c : List ℕ) (functions : Option (List (List ℕ))) where
-  pub by_parts : (r : Result Verdict OutsideFault) → ((elf : List ℕ) → IsElf elf image → IfOk r (λ verdict. Judges elf c functions (verdict_of verdict)))
-      → ((elf : List ℕ) → IsElf elf image → IfOk r (λ verdict. IsSound elf c functions (verdict_of verdict))) → OnErr r (IsErrOf r NoMemory) → JudgesBy image c functions r
+module _ (image : Image) (c : List ℕ) (task : Task) where
+  pub by_parts : (r : Result Verdict OutsideFault) → ((elf : List ℕ) → IsElf elf image → IfOk r (λ verdict. Judges elf c task (verdict_of verdict)))
+      → ((elf : List ℕ) → IsElf elf image → IfOk r (λ verdict. IsSound elf c task (verdict_of verdict))) → OnErr r (IsErrOf r NoMemory) → JudgesBy image c task r
   by_parts (Ok verdict) exact sound memory = λ elf is. (exact elf is, sound elf is)
   by_parts (Err fault) exact sound memory = cc
 
-  pub exactly : (r : Result Verdict OutsideFault) (elf : List ℕ) → IsElf elf image → JudgesBy image c functions r → IfOk r (λ verdict. Judges elf c functions (verdict_of verdict))
+  pub exactly : (r : Result Verdict OutsideFault) (elf : List ℕ) → IsElf elf image → JudgesBy image c task r → IfOk r (λ verdict. Judges elf c task (verdict_of verdict))
   exactly (Ok verdict) elf is h = (h elf is).0
   exactly (Err fault) elf is h = tt
 
-  pub soundly : (r : Result Verdict OutsideFault) (elf : List ℕ) → IsElf elf image → JudgesBy image c functions r → IfOk r (λ verdict. IsSound elf c functions (verdict_of verdict))
+  pub soundly : (r : Result Verdict OutsideFault) (elf : List ℕ) → IsElf elf image → JudgesBy image c task r → IfOk r (λ verdict. IsSound elf c task (verdict_of verdict))
   soundly (Ok verdict) elf is h = (h elf is).1
   soundly (Err fault) elf is h = tt
 
-  pub by_memory : (r : Result Verdict OutsideFault) → JudgesBy image c functions r → OnErr r (IsErrOf r NoMemory)
+  pub by_memory : (r : Result Verdict OutsideFault) → JudgesBy image c task r → OnErr r (IsErrOf r NoMemory)
   by_memory (Ok verdict) h = tt
   by_memory (Err fault) h = ap Err h

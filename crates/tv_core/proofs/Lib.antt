@@ -5,4 +5,6 @@ mod TwoFiles
 mod Ending
 mod Naming
 mod Sound
+mod Paired
+mod Shown
 mod Judged

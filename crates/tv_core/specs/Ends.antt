@@ -1,16 +1,18 @@
 -- How a run ends: what it reports, what it leaves, and what was the cause.
 use Rattle.std.specs.Prelude.{◌≡◌, ◌≢◌, ◌↔◌, ◌≤◌, ◌<◌, ◌+◌, ◌⊎◌, ℕ, List, [], length, take, drop, Option, Some, None, IfSome, option_map, Result, IfOk, OnOk, OnErr, IsTrue, IsErrOf, ⊤}
 use Rattle.report_spec.specs.declared.Quantity.TheVariants.{Elf, C}
-use Rattle.report_spec.specs.Verdict.{Verdict, RefusedWords, TooLarge, Judged, Judgement, all_valid, status_of, maximum_of}
-use Rattle.report_spec.specs.Report.{report_of, judgements_text}
+use Rattle.report_spec.specs.Verdict.{Verdict, RefusedWords, TooLarge, Judged, Showed, Judgement, Shown, all_valid, status_of, maximum_of}
+use Rattle.report_spec.specs.Report.{report_of, judgements_text, show_text}
 use Rattle.report_spec.specs.Certificate.{certificate_of}
 use Rattle.tv_base.specs.declared.faults.OutsideFault.{OutsideFault}
 use Rattle.tv_base.specs.declared.faults.OutsideFault.TheVariants.{Failed, NoMemory}
 use Rattle.tv_base.specs.Faults.{HasCause}
 use Rattle.tv_base.specs.Reading.{with_name}
 use Rattle.tv_base.specs.Writing.{Grows, GrowsPartly}
-use Rattle.tv_words.specs.Commands.{Command, Prove, Proving, IsCommand}
+use Rattle.tv_words.specs.Commands.{Command, Prove, Proving, Show, Showing, IsCommand}
+use Rattle.verdict_spec.specs.Listing.{Judge, Display}
 use Rattle.verdict_spec.specs.Verdicts.{IsVerdict, IsSound, AreSound}
+use Rattle.tv_core.specs.Tasks.{Asked, asked_of}
 use Rattle.tv_core.specs.Objects.{Contents, SinkState, Outputs, State, OutputsRose, AnyRose, SameOutputFaults, SameFaults}
 
 -- ---- the words
@@ -20,37 +22,39 @@ abbrev pub IsUsageError : List (List ℕ) → Type 0
 IsUsageError words = (command : Command) → IsCommand words command → ⊥
 
 -- the words ask for this, or are no command
-abbrev pub AskFor : (words : List (List ℕ)) → Option Proving → Type 0
-AskFor words (Some job) = IsCommand words (Prove job)
+abbrev pub AskFor : (words : List (List ℕ)) → Option Command → Type 0
+AskFor words (Some command) = IsCommand words command
 AskFor words None = IsUsageError words
 
--- the name of the certificate that is asked for; without a command the empty one
-abbrev pub certificate_name : Option Proving → List ℕ
-certificate_name (Some job) = job.certificate
+-- the name of the certificate that is asked for; without one the empty name
+abbrev pub certificate_name : Option Command → List ℕ
+certificate_name (Some command) = (asked_of command).certificate
 certificate_name None = []
 
 -- ---- the verdict
 
--- a verdict of a command: not that of a usage error, and never an empty list of judgements
-abbrev pub IsOfCommand : Verdict → Type 0
-IsOfCommand RefusedWords = ⊥
-IsOfCommand (Judged judgements) = judgements ≢ []
-IsOfCommand verdict = ⊤
+-- a verdict of a command: not that of a usage error; judgements, of one function at least, where these are asked for, and
+-- the function that is asked for
+abbrev pub IsOfCommand : Asked → Verdict → Type 0
+IsOfCommand asked RefusedWords = ⊥
+IsOfCommand asked (Judged judgements) = ((functions : Option (List (List ℕ))) × (asked.task ≡ Judge functions)) × (judgements ≢ [])
+IsOfCommand asked (Showed shown) = asked.task ≡ Display shown.name
+IsOfCommand asked verdict = ⊤
 
 -- it is the verdict on the two files of a desk, where contracts see them; and what it calls valid is valid. Where the
 -- executable is too long, nothing is said of the source, which may be absent
-abbrev pub IsVerdictOn : Contents → Proving → Verdict → Type 0
+abbrev pub IsVerdictOn : Contents → Asked → Verdict → Type 0
 IsVerdictOn files job verdict =
     ((elf : List ℕ) → files job.elf ≡ Some elf → maximum_of Elf < length elf → verdict ≡ TooLarge Elf)
     × ((elf c : List ℕ) → files job.elf ≡ Some elf → files job.source ≡ Some c
-    → IsVerdict elf c job.functions verdict × IsSound elf c job.functions verdict)
+    → IsVerdict elf c job.task verdict × IsSound elf c job.task verdict)
 
 -- the outcome of the words and the files of a desk, and under which name a certificate is written; a usage error has
 -- the empty name
 pub data IsOutcome (words : List (List ℕ)) (files : Contents) : (name : List ℕ) → Verdict → Type 0 where
   usage_error : IsUsageError words → IsOutcome words files [] RefusedWords
-  commanded : (job : Proving) (verdict : Verdict) → IsCommand words (Prove job) → IsOfCommand verdict
-      → IsVerdictOn files job verdict → IsOutcome words files job.certificate verdict
+  commanded : (command : Command) (verdict : Verdict) → IsCommand words command → IsOfCommand (asked_of command) verdict
+      → IsVerdictOn files (asked_of command) verdict → IsOutcome words files (asked_of command).certificate verdict
 
 -- ---- the store
 
@@ -125,7 +129,7 @@ TakesOfTwo files elf_name source_name left_before left_now =
 
 abbrev pub TakesLittle : List (List ℕ) → Contents → (left_before left_now : Option (List ℕ)) → Type 0
 TakesLittle words files left_before left_now =
-    (left_now ≡ left_before) ⊎ ((job : Proving) × IsCommand words (Prove job) × TakesOfTwo files job.elf job.source left_before left_now)
+    (left_now ≡ left_before) ⊎ ((command : Command) × IsCommand words command × TakesOfTwo files (asked_of command).elf (asked_of command).source left_before left_now)
 
 -- no file was begun, or the executable, or it and then the source; the source only where the executable, where contracts
 -- see it, is within its maximum
@@ -136,7 +140,7 @@ OpensOfTwo files elf_name source_name opened_before opened_now =
 
 abbrev pub OpensInOrder : List (List ℕ) → Contents → (opened_before opened_now : Option (List (List ℕ))) → Type 0
 OpensInOrder words files opened_before opened_now =
-    (opened_now ≡ opened_before) ⊎ ((job : Proving) × IsCommand words (Prove job) × OpensOfTwo files job.elf job.source opened_before opened_now)
+    (opened_now ≡ opened_before) ⊎ ((command : Command) × IsCommand words command × OpensOfTwo files (asked_of command).elf (asked_of command).source opened_before opened_now)
 
 -- ---- the ends of a run
 
@@ -158,8 +162,9 @@ pub record EndsWith (words : List (List ℕ)) (files : Contents) (status : ℕ) 
 -- most, so status, report and certificate each come exactly with their cause
 abbrev pub EndsAsDecided : List (List ℕ) → (files : Contents) → (status : ℕ) → (before now : Outputs) → Type 0
 EndsAsDecided words files status before now =
-    (job : Proving) (elf c : List ℕ) (verdict : Verdict) → IsCommand words (Prove job) → files job.elf ≡ Some elf → files job.source ≡ Some c
-    → IsVerdict elf c job.functions verdict → EndsBy job.certificate verdict status before now
+    (command : Command) (elf c : List ℕ) (verdict : Verdict) → IsCommand words command → files (asked_of command).elf ≡ Some elf
+    → files (asked_of command).source ≡ Some c → IsVerdict elf c (asked_of command).task verdict
+    → EndsBy (asked_of command).certificate verdict status before now
 
 -- where a run was cut off the report is as before, or has grown by a prefix of its text that isn't the whole, written
 -- when the store is done
@@ -182,7 +187,7 @@ pub record AreCalledValid (files : Contents) (elf_name source_name : List ℕ) (
     (before now : SinkState) : Type 0 where
   pub some : judgements ≢ []
   pub all_called_valid : IsTrue (all_valid judgements)
-  pub valid : (elf c : List ℕ) → files elf_name ≡ Some elf → files source_name ≡ Some c → AreSound elf c functions judgements
+  pub valid : (elf c : List ℕ) → files elf_name ≡ Some elf → files source_name ≡ Some c → AreSound elf c (Judge functions) judgements
   pub reported : Grows before.held before.begun (judgements_text judgements) now.held
 
 -- the words are a command to prove, its functions are called valid, and the store has their certificate
@@ -192,6 +197,15 @@ pub record EndsValid (words : List (List ℕ)) (files : Contents) (before now : 
   pub judgements : List Judgement
   pub claim : AreCalledValid files job.elf job.source job.functions judgements before.report now.report
   pub stored : Becomes before.store.held job.certificate (certificate_of judgements) now.store.held
+
+-- the words are a command to show a function, its code is printed, and the store is as before: nothing is claimed
+pub record EndsShown (words : List (List ℕ)) (before now : Outputs) : Type 0 where
+  pub job : Showing
+  pub job_is : IsCommand words (Show job)
+  pub shown : Shown
+  pub name_is : shown.name ≡ job.function
+  pub reported : Grows before.report.held before.report.begun (show_text shown) now.report.held
+  pub stored : now.store.held ≡ before.store.held
 
 -- ---- the contract of a run
 
@@ -208,8 +222,8 @@ pub record EndsSafely (status : ℕ) (before now : State) : Type 0 where
 
 -- how a run on these words ends
 pub record Ends (words : List (List ℕ)) (before now : State) (status : ℕ) : Type 0 where
-  -- the validity theorem
-  pub valid : status ≡ 0 → EndsValid words before.desk.files before.outputs now.outputs
+  -- the validity theorem, unless the words ask for a function's code alone
+  pub valid : status ≡ 0 → EndsValid words before.desk.files before.outputs now.outputs ⊎ EndsShown words before.outputs now.outputs
   -- where nothing cut the run off, its status, report and certificate are those of a verdict that is its outcome
   pub ended : status ≢ 4 → status ≢ 5 → EndsWith words before.desk.files status before.outputs now.outputs
   -- status 2 comes exactly with a usage error

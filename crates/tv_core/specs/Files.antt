@@ -12,8 +12,9 @@ use Rattle.tv_base.specs.declared.faults.OutsideFault.{OutsideFault}
 use Rattle.tv_base.specs.declared.faults.OutsideFault.TheVariants.{NoMemory}
 use Rattle.tv_base.specs.Faults.{HasCause}
 use Rattle.tv_base.specs.Reading.{with_name}
-use Rattle.tv_words.specs.Commands.{Proving}
 use Rattle.verdict_spec.specs.Verdicts.{IsSound, Judges}
+use Rattle.verdict_spec.specs.Listing.{Task}
+use Rattle.tv_core.specs.Tasks.{Asked}
 use Rattle.tv_core.specs.Objects.{Contents, DeskState}
 use Rattle.tv_core.specs.Ends.{IsOfCommand, IsVerdictOn, TakesAtMost, TakesOfTwo, OpensOfTwo, TakesLittle, OpensInOrder}
 
@@ -36,19 +37,19 @@ pub record ReadsFile (name : List ℕ) (maximum : ℕ) (before now : DeskState) 
   pub opened_part : (now.opened ≡ before.opened) ⊎ (now.opened ≡ with_name before.opened name)
 
 -- the verdict on the bytes that were read of a source, where the executable is within its maximum
-abbrev pub JudgesRead : (elf c : List ℕ) → Option (List (List ℕ)) → Verdict → Type 0
-JudgesRead elf c functions verdict =
-    ((MAX_C_BYTES < length c) × (verdict ≡ TooLarge C)) ⊎ ((length c ≤ MAX_C_BYTES) × Judges elf c functions verdict × IsSound elf c functions verdict)
+abbrev pub JudgesRead : (elf c : List ℕ) → Task → Verdict → Type 0
+JudgesRead elf c task verdict =
+    ((MAX_C_BYTES < length c) × (verdict ≡ TooLarge C)) ⊎ ((length c ≤ MAX_C_BYTES) × Judges elf c task verdict × IsSound elf c task verdict)
 
 -- the verdict on an image of an executable and a source; or there is no memory
-abbrev pub JudgesBy : Image → (c : List ℕ) → Option (List (List ℕ)) → Result CodeVerdict OutsideFault → Type 0
-JudgesBy image c functions (Ok verdict) =
-    (elf : List ℕ) → IsElf elf image → Judges elf c functions (verdict_of verdict) × IsSound elf c functions (verdict_of verdict)
-JudgesBy image c functions (Err fault) = fault ≡ NoMemory
+abbrev pub JudgesBy : Image → (c : List ℕ) → Task → Result CodeVerdict OutsideFault → Type 0
+JudgesBy image c task (Ok verdict) =
+    (elf : List ℕ) → IsElf elf image → Judges elf c task (verdict_of verdict) × IsSound elf c task (verdict_of verdict)
+JudgesBy image c task (Err fault) = fault ≡ NoMemory
 
 -- the verdict on the two files of a desk
-abbrev pub JudgesFiles : Contents → Proving → Verdict → Type 0
-JudgesFiles files job verdict = IsVerdictOn files job verdict × IsOfCommand verdict
+abbrev pub JudgesFiles : Contents → Asked → Verdict → Type 0
+JudgesFiles files job verdict = IsVerdictOn files job verdict × IsOfCommand job verdict
 
 -- the source is read, if the executable, of which these bytes were read, is within its maximum
 pub record ReadsSource (name elf : List ℕ) (before now : DeskState) : Type 0 where
@@ -56,7 +57,7 @@ pub record ReadsSource (name elf : List ℕ) (before now : DeskState) : Type 0 w
   pub opened : (now.opened ≡ before.opened) ⊎ ((now.opened ≡ with_name before.opened name) × (length elf ≤ MAX_ELF_BYTES))
 
 -- the executable is read, and then the source
-pub record ReadsTwo (job : Proving) (before now : DeskState) : Type 0 where
+pub record ReadsTwo (job : Asked) (before now : DeskState) : Type 0 where
   pub taken : TakesOfTwo before.files job.elf job.source before.left now.left
   pub opened : OpensOfTwo before.files job.elf job.source before.opened now.opened
 

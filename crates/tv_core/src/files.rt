@@ -1,8 +1,9 @@
-ghost use Rattle.std.specs.Prelude.{◌<◌, ◌^◌, IfOk, OnErr, IsErrOf};
+ghost use Rattle.std.specs.Prelude.{◌≡◌, ◌<◌, ◌^◌, IfOk, OnErr, IsErrOf};
 ghost use Rattle.tv_base.specs.declared.faults.OutsideFault.TheVariants.{NoMemory};
 ghost use Rattle.tv_base.specs.declared.limits.TheConstants.{MAX_ELF_BYTES as ELF_BYTES};
 ghost use Rattle.report_text.specs.Verdicts.{verdict_of};
-ghost use Rattle.tv_words.specs.Jobs.{proving_of};
+ghost use Rattle.tv_words.specs.Jobs.{job_of};
+ghost use Rattle.tv_core.specs.Tasks.{asked_of};
 ghost use Rattle.tv_core.specs.Objects.{desk_state};
 ghost use Rattle.tv_core.specs.Files.{KeepsDesk, AreOf, ReadsFile, JudgesRead, JudgesFiles};
 ghost use Rattle.tv_core.specs.Files.{ReadsSource, ReadsTwo};
@@ -13,7 +14,27 @@ use report_text::Verdict;
 use std::alloc::Global;
 use tv_base::limits::{MAX_C_BYTES, MAX_ELF_BYTES};
 use tv_base::{Desk, OutsideFault, read_up_to};
-use tv_words::Proving;
+use tv_words::Job;
+
+/// The name of the executable.
+fn elf_name<'a>(job: &Job<'a>) -> &'a str
+    ensures { result.now ≡ (asked_of (job_of job.now)).elf }
+{
+    match job {
+        Job::Prove(job) => job.elf,
+        Job::Show(job) => job.elf,
+    }
+}
+
+/// The name of the C source.
+fn source_name<'a>(job: &Job<'a>) -> &'a str
+    ensures { result.now ≡ (asked_of (job_of job.now)).source }
+{
+    match job {
+        Job::Prove(job) => job.source,
+        Job::Show(job) => job.source,
+    }
+}
 
 /// The bytes of a file, or the first ones of it: one more than this number where it has more.
 fn read_file<D: Desk>(
@@ -41,12 +62,12 @@ fn read_file<D: Desk>(
 /// The verdict on what was read of two files, of which the executable is within its maximum.
 fn judge_read(
     alloc: Global,
-    job: &Proving<'_>,
+    job: &Job<'_>,
     elf: &[u8],
     source: &[u8],
 ) -> Result<Verdict, OutsideFault>
     ensures judged { IfOk result (λ verdict. JudgesRead elf.now source.now
-        (proving_of job.now).functions (verdict_of verdict)) }
+        (asked_of (job_of job.now)).task (verdict_of verdict)) }
     ensures memory { OnErr result (IsErrOf result NoMemory) }
 {
     if source.len() > MAX_C_BYTES {
@@ -58,14 +79,14 @@ fn judge_read(
 /// The verdict on the files of a job, of which the executable is read. It reads the source.
 fn judge_with_elf<D: Desk>(
     alloc: Global,
-    job: &Proving<'_>,
+    job: &Job<'_>,
     desk: &mut D,
     elf: &[u8],
 ) -> Result<Verdict, OutsideFault>
-    requires { AreOf (D.bytes desk.old) (proving_of job.now).elf ELF_BYTES elf.now }
-    ensures judged { IfOk result (λ verdict. JudgesFiles (D.bytes desk.old) (proving_of job.now)
+    requires { AreOf (D.bytes desk.old) (asked_of (job_of job.now)).elf ELF_BYTES elf.now }
+    ensures judged { IfOk result (λ verdict. JudgesFiles (D.bytes desk.old) (asked_of (job_of job.now))
         (verdict_of verdict)) }
-    ensures reads { ReadsSource (proving_of job.now).source elf.now
+    ensures reads { ReadsSource (asked_of (job_of job.now)).source elf.now
         (desk_state (D.bytes desk.old) (D.left desk.old) (D.opened desk.old) (D.faults desk.old))
         (desk_state (D.bytes desk.new) (D.left desk.new) (D.opened desk.new)
         (D.faults desk.new)) }
@@ -77,7 +98,7 @@ fn judge_with_elf<D: Desk>(
     if elf.len() > MAX_ELF_BYTES {
         return Ok(Verdict::TooLarge(Quantity::Elf));
     }
-    match read_file(alloc, desk, job.source, MAX_C_BYTES) {
+    match read_file(alloc, desk, source_name(job), MAX_C_BYTES) {
         Ok(source) => judge_read(alloc, job, elf, source.as_slice()),
         Err(fault) => Err(fault),
     }
@@ -86,12 +107,12 @@ fn judge_with_elf<D: Desk>(
 /// The verdict on the files of a job, which it reads.
 pub(crate) fn judge_files<D: Desk>(
     alloc: Global,
-    job: &Proving<'_>,
+    job: &Job<'_>,
     desk: &mut D,
 ) -> Result<Verdict, OutsideFault>
-    ensures judged { IfOk result (λ verdict. JudgesFiles (D.bytes desk.old) (proving_of job.now)
+    ensures judged { IfOk result (λ verdict. JudgesFiles (D.bytes desk.old) (asked_of (job_of job.now))
         (verdict_of verdict)) }
-    ensures reads { ReadsTwo (proving_of job.now)
+    ensures reads { ReadsTwo (asked_of (job_of job.now))
         (desk_state (D.bytes desk.old) (D.left desk.old) (D.opened desk.old) (D.faults desk.old))
         (desk_state (D.bytes desk.new) (D.left desk.new) (D.opened desk.new)
         (D.faults desk.new)) }
@@ -100,7 +121,7 @@ pub(crate) fn judge_files<D: Desk>(
         (desk_state (D.bytes desk.new) (D.left desk.new) (D.opened desk.new) (D.faults desk.new))
         result }
 {
-    match read_file(alloc, desk, job.elf, MAX_ELF_BYTES) {
+    match read_file(alloc, desk, elf_name(job), MAX_ELF_BYTES) {
         Ok(elf) => judge_with_elf(alloc, job, desk, elf.as_slice()),
         Err(fault) => Err(fault),
     }

@@ -1,83 +1,36 @@
-ghost use Rattle.std.specs.Prelude.{◌≡◌, ◌≢◌, ℕ, List, Option, Some, None, IsSome, IfSome, IfNone};
-ghost use Rattle.std.specs.Prelude.{IfOk, IfErr, IsTrue, OnErr, IsErrOf};
-ghost use Rattle.elf_spec.specs.Image.{function_named, size_at};
-ghost use Rattle.elf_spec.specs.declared.SymbolValues.TheVariants.{Absent};
+ghost use Rattle.std.specs.Prelude.{◌≡◌, ◌≤◌, ◌<◌, ℕ, List, Some, IfOk, IsTrue, OnErr};
+ghost use Rattle.std.specs.Prelude.{IsErrOf, get_or, length};
+ghost use Rattle.elf_spec.specs.Image.{size_at};
 ghost use Rattle.claim_spec.specs.Claim.{IsValid};
 ghost use Rattle.code_spec.specs.Code.{IsStack};
-ghost use Rattle.code_spec.specs.Faults.{IsFirst, IsReachFault, ReachesNoFault};
-ghost use Rattle.report_spec.specs.Verdict as verdicts;
+ghost use Rattle.c_type_spec.specs.HasType.{IsTypedUnit};
+ghost use Rattle.c_types.specs.Typed.{typed_of};
+ghost use Rattle.c_reach.specs.Names.{names_of, texts_of};
+ghost use Rattle.pair_outcome_spec.specs.Code.{HasSoundCode};
+ghost use Rattle.pair_setup.specs.Answers.{IsNamed, IsPairError};
 ghost use Rattle.straight_code.specs.Units.{unit_of};
-ghost use Rattle.tv_base.specs.declared.faults.OutsideFault.TheVariants.{NoMemory};
 ghost use Rattle.report_text.specs.Judgements.{judgement_of};
 ghost use Rattle.report_text.specs.Verdicts.{verdict_of};
-ghost use Rattle.report_spec.specs.declared.PairKind.{PairKind as pair_kind};
-ghost use Rattle.verdict_spec.specs.Listing as listing;
 ghost use Rattle.verdict_spec.specs.Verdicts as spec;
-ghost use Rattle.verdict_spec.specs.Verdicts.{Lists, Pairs, Judges, IsSound, HasCodeFault};
-ghost use Rattle.verdict_spec.specs.Verdicts.{HasSoundCode, IsJudgement};
+ghost use Rattle.verdict_spec.specs.Verdicts.{IsJudgement};
+ghost use Rattle.tv_words.specs.Jobs.{job_of};
+ghost use Rattle.tv_core.specs.Tasks.{asked_of};
+ghost use Rattle.tv_core.specs.Listed.{AnswersList, AreJudgements, IsAnswer, IsRefusal, Shows};
+ghost use Rattle.tv_core.specs.Functions.{ArePaired, IsListed};
 
-use crate::listing::{first_unpaired, pair_fault};
+use attempt::attempt;
+use c_reach::name_at;
 use c_types::typed::Typed;
-use code_reach::{CodeError, CodeFault, reach};
-use code_spec::CodeKind;
+use code_reach::{CodeError, code};
 use elf_read::Image;
-use elf_spec::SymbolValues;
-use report_spec::{PairKind, Quantity};
-use report_text::{Judgement, Verdict};
+use pair_setup::{Function, Named, PairError, pair};
+use report_spec::Quantity;
+use report_text::{Judgement, Shown, Verdict};
 use std::alloc::{AllocError, Global};
 use straight_code::{decide, first_not_straight};
-use tv_base::OutsideFault;
 use tv_base::limits::MAX_FUNCTIONS;
 use tv_bytes::Bytes;
-
-/// The first fault of what the function at an entry reaches.
-fn reach_fault(
-    alloc: Global,
-    image: &Image<'_>,
-    entry: u32,
-) -> Result<Option<CodeFault>, AllocError>
-    requires { IsSome (size_at image.now entry) }
-    ensures sound { IfOk result (λ found. IfNone found (ReachesNoFault image.now entry)) }
-    ensures fault { IfOk result (λ found. IfSome found
-        (λ fault. IsFirst (IsReachFault image.now entry) fault.kind fault.address)) }
-{
-    let error = match reach(alloc, image, entry) {
-        Ok(_) => return Ok(None),
-        Err(error) => error,
-    };
-    match error {
-        CodeError::Fault(fault) => Ok(Some(fault)),
-        CodeError::NoMemory => Err(AllocError),
-    }
-}
-
-/// Where the function of a name begins, or the first fault of what it reaches.
-fn find_code(
-    alloc: Global,
-    image: &Image<'_>,
-    name: &[u8],
-) -> Result<Result<u32, CodeFault>, AllocError>
-    requires { function_named image.now name.now ≢ Absent }
-    ensures ok { IfOk result (λ found. IfOk found
-        (λ entry. HasSoundCode image.now name.now entry)) }
-    ensures fault { IfOk result (λ found. IfErr found
-        (λ fault. HasCodeFault image.now name.now fault.kind fault.address)) }
-{
-    let entry = match image.function(name) {
-        SymbolValues::One(entry) => entry,
-        SymbolValues::Two(_, address) => {
-            return Ok(Err(CodeFault {
-                kind: CodeKind::Ambiguous,
-                address,
-            }));
-        }
-        SymbolValues::Absent => unreachable!(),
-    };
-    match reach_fault(alloc, image, entry)? {
-        Some(fault) => Ok(Err(fault)),
-        None => Ok(Ok(entry)),
-    }
-}
+use tv_words::Job;
 
 /// Whether the code of the function of a name is straight-line, and is accepted.
 fn is_proved(
@@ -109,18 +62,18 @@ fn judge_function(
     image: &Image<'_>,
     unit: &Typed<'_>,
     name: &[u8],
-    entry: u32,
+    function: &Function,
 ) -> Result<Judgement, AllocError>
-    requires { HasSoundCode image.now name.now entry }
+    requires sound { HasSoundCode image.now name.now function.now.entry }
+    requires sized { size_at image.now function.now.entry ≡ Some function.now.size }
     ensures judged { IfOk result (λ judgement. IsJudgement image.now (unit_of unit.now)
         (judgement_of judgement)) }
     ensures named { IfOk result (λ judgement. judgement.name ≡ name.now) }
     ensures sound { IfOk result (λ judgement. IsTrue judgement.valid
         → IsValid image.now (unit_of unit.now) judgement.name judgement.stack) }
 {
-    let size = image.size_at(entry).unwrap();
-    let valid = is_proved(alloc, image, unit, name, entry, size)?;
-    let name = Bytes::copied(alloc, name)?;
+    let valid = attempt!(is_proved(alloc, image, unit, name, function.entry, function.size,));
+    let name = attempt!(Bytes::copied(alloc, name));
     Ok(Judgement {
         name,
         valid,
@@ -128,121 +81,170 @@ fn judge_function(
     })
 }
 
-/// A verdict that refuses a pair.
-fn refused_pair(alloc: Global, kind: PairKind, name: &[u8]) -> Result<Verdict, OutsideFault>
-    ensures ok { IfOk result (λ verdict. verdict_of verdict ≡ verdicts.RefusedPair kind name.now) }
-    ensures memory { OnErr result (IsErrOf result NoMemory) }
-{
-    let name = Bytes::copied(alloc, name)?;
-    Ok(Verdict::RefusedPair { kind, name })
-}
-
-/// A verdict that refuses code.
-fn refused_code(alloc: Global, name: &[u8], fault: &CodeFault) -> Result<Verdict, OutsideFault>
-    ensures ok { IfOk result (λ verdict. verdict_of verdict
-        ≡ verdicts.RefusedCode fault.now.kind name.now fault.now.address) }
-    ensures memory { OnErr result (IsErrOf result NoMemory) }
-{
-    let name = Bytes::copied(alloc, name)?;
-    Ok(Verdict::RefusedCode {
-        kind: fault.kind,
-        name,
-        address: fault.address,
-    })
-}
-
-/// The judgement on a name with a body and a symbol, or the fault of its code.
-fn judge_name(
+/// The judgements on the functions of a list, which have pairs.
+fn judge_all(
     alloc: Global,
     image: &Image<'_>,
     unit: &Typed<'_>,
-    name: &[u8],
-) -> Result<Result<Judgement, CodeFault>, AllocError>
-    requires { listing.pair_fault image.now (unit_of unit.now) name.now ≡ None }
-    ensures judged { IfOk result (λ found. IfOk found
-        (λ judgement. IsJudgement image.now (unit_of unit.now) (judgement_of judgement))) }
-    ensures named { IfOk result (λ found. IfOk found (λ judgement. judgement.name ≡ name.now)) }
-    ensures sound { IfOk result (λ found. IfOk found (λ judgement. IsTrue judgement.valid
-        → IsValid image.now (unit_of unit.now) judgement.name judgement.stack)) }
-    ensures fault { IfOk result (λ found. IfErr found
-        (λ fault. HasCodeFault image.now name.now fault.kind fault.address)) }
-{
-    match find_code(alloc, image, name)? {
-        Ok(entry) => {
-            let judgement = judge_function(alloc, image, unit, name, entry)?;
-            Ok(Ok(judgement))
-        }
-        Err(fault) => Ok(Err(fault)),
-    }
-}
-
-/// The verdict on names that each have a body and a symbol.
-fn judge_paired(
-    alloc: Global,
-    image: &Image<'_>,
-    unit: &Typed<'_>,
-    names: &[Bytes],
-) -> Result<Verdict, OutsideFault>
-    requires { listing.first_unpaired image.now (unit_of unit.now) names.now ≡ None }
-    ensures exact { IfOk result (λ verdict. (elf c : List ℕ) (functions : Option (List (List ℕ)))
-        → Pairs elf c functions image.now (unit_of unit.now) names.now
-        → Judges elf c functions (verdict_of verdict)) }
-    ensures sound { IfOk result (λ verdict. (elf c : List ℕ) (functions : Option (List (List ℕ)))
-        → Lists elf c functions image.now (unit_of unit.now) names.now
-        → IsSound elf c functions (verdict_of verdict)) }
-    ensures memory { OnErr result (IsErrOf result NoMemory) }
+    list: &[&[u8]],
+    functions: &[Function],
+) -> Result<Verdict, AllocError>
+    requires { ArePaired image.now (unit_of unit.now) (texts_of list.now) functions.now }
+    ensures { IfOk result (λ verdict. AreJudgements image.now (unit_of unit.now)
+        (texts_of list.now) (verdict_of verdict)) }
 {
     let mut judgements = Vec::new(alloc);
-    'names: for name in names {
-        let name = name.as_slice();
-        match judge_name(alloc, image, unit, name)? {
-            Ok(judgement) => judgements.push(judgement)?,
-            Err(fault) => return refused_code(alloc, name, &fault),
-        }
+    'names: for i in 0..list.len() {
+        let judgement = attempt!(judge_function(alloc, image, unit, list[i], &functions[i]));
+        judgements.push(judgement)?;
     }
     Ok(Verdict::Judged(judgements))
 }
 
-/// The verdict on a name that can't be validated.
-fn refused_unpaired(
+/// What is shown of the function of a name: its code, and the numbers of its source.
+fn show_function(
     alloc: Global,
     image: &Image<'_>,
     unit: &Typed<'_>,
     name: &[u8],
-) -> Result<Verdict, OutsideFault>
-    requires { IsSome (listing.pair_fault image.now (unit_of unit.now) name.now) }
-    ensures ok { IfOk result (λ verdict. (kind : pair_kind)
-        × (verdict_of verdict ≡ verdicts.RefusedPair kind name.now)
-        × (listing.pair_fault image.now (unit_of unit.now) name.now ≡ Some kind)) }
-    ensures memory { OnErr result (IsErrOf result NoMemory) }
+    function: &Function,
+) -> Result<Verdict, AllocError>
+    requires { IsListed image.now (unit_of unit.now) name.now function.now }
+    ensures { IfOk result (λ verdict. Shows image.now (unit_of unit.now) name.now
+        (verdict_of verdict)) }
 {
-    let kind = pair_fault(image, unit, name).unwrap();
-    refused_pair(alloc, kind, name)
+    let words = match code(alloc, image, function.entry) {
+        Ok(words) => words,
+        Err(CodeError::Fault(_)) => unreachable!(),
+        Err(CodeError::NoMemory) => return Err(AllocError),
+    };
+    let counts = unit.counts(name).unwrap();
+    let name = attempt!(Bytes::copied(alloc, name));
+    Ok(Verdict::Showed(Shown {
+        name,
+        entry: function.entry,
+        size: function.size,
+        stack: function.stack,
+        words,
+        params: counts.params,
+        loops: counts.loops,
+        calls: counts.calls,
+    }))
 }
 
-/// The verdict on an image, a unit and the names to validate.
+/// The verdict on the functions of a list, which have pairs.
+fn judge_paired(
+    alloc: Global,
+    image: &Image<'_>,
+    unit: &Typed<'_>,
+    job: &Job<'_>,
+    list: &[&[u8]],
+    functions: &[Function],
+) -> Result<Verdict, AllocError>
+    requires paired { ArePaired image.now (unit_of unit.now) (texts_of list.now) functions.now }
+    requires some { 0 < length list.now }
+    ensures { IfOk result (λ verdict. IsAnswer image.now (unit_of unit.now)
+        (asked_of (job_of job.now)).task (texts_of list.now) (verdict_of verdict)) }
+{
+    match job {
+        Job::Prove(_) => judge_all(alloc, image, unit, list, functions),
+        Job::Show(_) => show_function(alloc, image, unit, list[0], &functions[0]),
+    }
+}
+
+/// The name of which a fault of a list speaks.
+fn name_of(
+    alloc: Global,
+    unit: &Typed<'_>,
+    list: &[&[u8]],
+    named: Named,
+) -> Result<Bytes, AllocError>
+    requires { (name : List ℕ) × IsNamed (names_of unit.now) (texts_of list.now) named name }
+    ensures { IfOk result (λ name. IsNamed (names_of unit.now) (texts_of list.now) named name) }
+{
+    match named {
+        Named::Nothing => Bytes::copied(alloc, b"-"),
+        Named::Listed(index) => Bytes::copied(alloc, list[index]),
+        Named::Declared(number) => Bytes::copied(alloc, name_at(unit, number).unwrap()),
+    }
+}
+
+/// The verdict where a list has no pairs.
+fn refused(
+    alloc: Global,
+    image: &Image<'_>,
+    unit: &Typed<'_>,
+    list: &[&[u8]],
+    error: PairError,
+) -> Result<Verdict, AllocError>
+    requires { IsPairError image.now (unit_of unit.now) (names_of unit.now) (texts_of list.now)
+        error }
+    ensures { IfOk result (λ verdict. IsRefusal image.now (unit_of unit.now) (texts_of list.now)
+        (verdict_of verdict)) }
+{
+    match error {
+        PairError::Refused(kind, named) => {
+            let name = attempt!(name_of(alloc, unit, list, named));
+            Ok(Verdict::RefusedPair { kind, name })
+        }
+        PairError::Code(fault, index) => {
+            let name = attempt!(Bytes::copied(alloc, list[index]));
+            Ok(Verdict::RefusedCode {
+                kind: fault.kind,
+                name,
+                address: fault.address,
+            })
+        }
+        PairError::Nodes => Ok(Verdict::TooLarge(Quantity::Nodes)),
+        PairError::NoMemory => Err(AllocError),
+    }
+}
+
+/// The verdict on a list within its limit.
+fn judge_list(
+    alloc: Global,
+    image: &Image<'_>,
+    unit: &Typed<'_>,
+    job: &Job<'_>,
+    list: &[&[u8]],
+) -> Result<Verdict, AllocError>
+    requires typed { IsTypedUnit (typed_of unit.now) }
+    requires few { length (texts_of list.now) ≤ MAX_FUNCTIONS }
+    ensures { IfOk result (λ verdict. AnswersList image.now (unit_of unit.now)
+        (asked_of (job_of job.now)).task (texts_of list.now) (verdict_of verdict)) }
+{
+    match pair(alloc, image, unit, list) {
+        Ok(pairs) => judge_paired(alloc, image, unit, job, list, pairs.functions.as_slice()),
+        Err(error) => refused(alloc, image, unit, list, error),
+    }
+}
+
+/// The names of a list.
+fn texts<'n>(alloc: Global, names: &'n [Bytes]) -> Result<Vec<&'n [u8]>, AllocError>
+    ensures { IfOk result (λ texts. texts_of texts.items ≡ names.now) }
+{
+    let mut texts = Vec::new(alloc);
+    for name in names {
+        texts.push(name.as_slice())?;
+    }
+    Ok(texts)
+}
+
+/// The verdict on an image, a unit and the names that a job lists.
 pub(crate) fn judge_names(
     alloc: Global,
     image: &Image<'_>,
     unit: &Typed<'_>,
+    job: &Job<'_>,
     names: &[Bytes],
-) -> Result<Verdict, OutsideFault>
-    ensures exact { IfOk result (λ verdict. (elf c : List ℕ) (functions : Option (List (List ℕ)))
-        → Lists elf c functions image.now (unit_of unit.now) names.now
-        → Judges elf c functions (verdict_of verdict)) }
-    ensures sound { IfOk result (λ verdict. (elf c : List ℕ) (functions : Option (List (List ℕ)))
-        → Lists elf c functions image.now (unit_of unit.now) names.now
-        → IsSound elf c functions (verdict_of verdict)) }
-    ensures memory { OnErr result (IsErrOf result NoMemory) }
+) -> Result<Verdict, AllocError>
+    requires { IsTypedUnit (typed_of unit.now) }
+    ensures { IfOk result (λ verdict. AnswersList image.now (unit_of unit.now)
+        (asked_of (job_of job.now)).task names.now (verdict_of verdict)) }
 {
-    if names.is_empty() {
-        return refused_pair(alloc, PairKind::NothingListed, b"-");
-    }
     if names.len() > MAX_FUNCTIONS {
         return Ok(Verdict::TooLarge(Quantity::Functions));
     }
-    match first_unpaired(image, unit, names) {
-        Some(name) => refused_unpaired(alloc, image, unit, name.as_slice()),
-        None => judge_paired(alloc, image, unit, names),
-    }
+    let list = attempt!(texts(alloc, names));
+    judge_list(alloc, image, unit, job, list.as_slice())
 }

@@ -1,17 +1,20 @@
-ghost use Rattle.std.specs.Prelude.{ℕ, List, Option, Err, IfOk, OnErr, IsErrOf};
+ghost use Rattle.std.specs.Prelude.{ℕ, List, Err, IfOk, OnErr, IsErrOf};
 ghost use Rattle.elf_spec.specs.Image.{Image as elf_image};
 ghost use Rattle.elf_spec.specs.File.{IsElf};
 ghost use Rattle.elf_read.specs.Refusal as file;
 ghost use Rattle.tv_base.specs.declared.faults.OutsideFault.TheVariants.{NoMemory};
 ghost use Rattle.report_text.specs.Verdicts.{verdict_of};
-ghost use Rattle.tv_words.specs.Jobs.{proving_of};
+ghost use Rattle.tv_words.specs.Jobs.{job_of};
+ghost use Rattle.tv_core.specs.Tasks.{asked_of};
+ghost use Rattle.verdict_spec.specs.Listing.{Task};
 ghost use Rattle.verdict_spec.specs.Verdicts.{Judges, IsSound};
 ghost use Rattle.c_spec.specs.Lexical.{AreTokens};
 ghost use Rattle.c_tree_spec.specs.Unit.{TranslationUnit as translation_unit};
 ghost use Rattle.c_grammar_spec.specs.Source.{HasTree};
 ghost use Rattle.c_syntax.specs.Units.{unit_of as tree_of};
 ghost use Rattle.c_type_spec.specs.Units.{typed};
-ghost use Rattle.c_types.specs.Typed.{IsChecked};
+ghost use Rattle.c_type_spec.specs.HasType.{IsTypedUnit};
+ghost use Rattle.c_types.specs.Typed.{IsChecked, typed_of};
 ghost use Rattle.claim_spec.specs.Source.{IsC};
 ghost use Rattle.straight_code.specs.Units.{unit_of};
 ghost use Rattle.c_parse_token.specs.Lists.{list_of};
@@ -21,6 +24,8 @@ ghost use Rattle.tv_core.specs.Files.{JudgesBy};
 
 use crate::functions::judge_names;
 use crate::listing::names;
+use attempt::attempt;
+use c_core_laws::laws::cores_of_units_are_typed;
 use c_parse::{ParseError, parse};
 use c_syntax::unit::TranslationUnit;
 use c_token::{Token, TokenError, tokens};
@@ -31,19 +36,19 @@ use report_spec::SourceKind;
 use report_text::Verdict;
 use std::alloc::Global;
 use tv_base::OutsideFault;
-use tv_words::Proving;
+use tv_words::Job;
 
 /// The verdict on an executable and a source within their limits. It fails only out of memory.
 pub(crate) fn judge(
     alloc: Global,
     elf: &[u8],
     source: &[u8],
-    job: &Proving<'_>,
+    job: &Job<'_>,
 ) -> Result<Verdict, OutsideFault>
-    ensures exact { IfOk result (λ verdict. Judges elf.now source.now (proving_of job.now).functions
+    ensures exact { IfOk result (λ verdict. Judges elf.now source.now (asked_of (job_of job.now)).task
         (verdict_of verdict)) }
     ensures sound { IfOk result (λ verdict. IsSound elf.now source.now
-        (proving_of job.now).functions (verdict_of verdict)) }
+        (asked_of (job_of job.now)).task (verdict_of verdict)) }
     ensures memory { OnErr result (IsErrOf result NoMemory) }
 {
     match elf_read::read(alloc, elf) {
@@ -57,9 +62,9 @@ fn judge_source(
     alloc: Global,
     image: &Image<'_>,
     source: &[u8],
-    job: &Proving<'_>,
+    job: &Job<'_>,
 ) -> Result<Verdict, OutsideFault>
-    ensures { JudgesBy image.now source.now (proving_of job.now).functions result }
+    ensures { JudgesBy image.now source.now (asked_of (job_of job.now)).task result }
 {
     match tokens(alloc, source) {
         Ok(lexed) => judge_tokens(alloc, image, source, lexed.as_slice(), job),
@@ -73,10 +78,10 @@ fn judge_tokens(
     image: &Image<'_>,
     source: &[u8],
     lexed: &[Token<'_>],
-    job: &Proving<'_>,
+    job: &Job<'_>,
 ) -> Result<Verdict, OutsideFault>
     requires { AreTokens source.now (list_of lexed.now) }
-    ensures { JudgesBy image.now source.now (proving_of job.now).functions result }
+    ensures { JudgesBy image.now source.now (asked_of (job_of job.now)).task result }
 {
     match parse(alloc, lexed) {
         Ok(tree) => judge_tree(alloc, image, source, &tree, job),
@@ -90,11 +95,13 @@ fn judge_tree(
     image: &Image<'_>,
     source: &[u8],
     tree: &TranslationUnit<'_>,
-    job: &Proving<'_>,
+    job: &Job<'_>,
 ) -> Result<Verdict, OutsideFault>
     requires { HasTree source.now (tree_of tree.now) }
-    ensures { JudgesBy image.now source.now (proving_of job.now).functions result }
+    ensures { JudgesBy image.now source.now (asked_of (job_of job.now)).task result }
 {
+    // a law, of which nothing runs
+    cores_of_units_are_typed();
     match check(alloc, tree) {
         Ok(unit) => judge_unit(alloc, image, &unit, job),
         Err(error) => without_types(error),
@@ -106,24 +113,26 @@ fn judge_unit(
     alloc: Global,
     image: &Image<'_>,
     unit: &Typed<'_>,
-    job: &Proving<'_>,
+    job: &Job<'_>,
 ) -> Result<Verdict, OutsideFault>
+    requires { IsTypedUnit (typed_of unit.now) }
     ensures { (c : List ℕ) → IsC c (unit_of unit.now)
-        → JudgesBy image.now c (proving_of job.now).functions result }
+        → JudgesBy image.now c (asked_of (job_of job.now)).task result }
 {
-    match names(alloc, job, image, unit) {
-        Ok(names) => judge_names(alloc, image, unit, names.as_slice()),
+    let names = attempt!(names(alloc, job, image, unit), OutsideFault::NoMemory);
+    match judge_names(alloc, image, unit, job, names.as_slice()) {
+        Ok(verdict) => Ok(verdict),
         Err(_) => Err(OutsideFault::NoMemory),
     }
 }
 
 /// The verdict where there is an image and the source has no tokens.
 fn without_tokens(error: TokenError) -> Result<Verdict, OutsideFault>
-    ensures exact { (elf c : List ℕ) (functions : Option (List (List ℕ))) (image : elf_image)
+    ensures exact { (elf c : List ℕ) (task : Task) (image : elf_image)
         → IsElf elf image → token.IsFaultOf c error
-        → IfOk result (λ verdict. Judges elf c functions (verdict_of verdict)) }
-    ensures sound { (elf c : List ℕ) (functions : Option (List (List ℕ)))
-        → IfOk result (λ verdict. IsSound elf c functions (verdict_of verdict)) }
+        → IfOk result (λ verdict. Judges elf c task (verdict_of verdict)) }
+    ensures sound { (elf c : List ℕ) (task : Task)
+        → IfOk result (λ verdict. IsSound elf c task (verdict_of verdict)) }
     ensures memory { OnErr result (IsErrOf result NoMemory) }
 {
     match error {
@@ -141,12 +150,12 @@ fn without_unit(
     tokens: &[Token<'_>],
     source: &[u8],
 ) -> Result<Verdict, OutsideFault>
-    ensures exact { (elf : List ℕ) (functions : Option (List (List ℕ))) (image : elf_image)
+    ensures exact { (elf : List ℕ) (task : Task) (image : elf_image)
         → IsElf elf image → AreTokens source.now (list_of tokens.now)
         → syntax.IsFaultOf (list_of tokens.now) error
-        → IfOk result (λ verdict. Judges elf source.now functions (verdict_of verdict)) }
-    ensures sound { (elf c : List ℕ) (functions : Option (List (List ℕ)))
-        → IfOk result (λ verdict. IsSound elf c functions (verdict_of verdict)) }
+        → IfOk result (λ verdict. Judges elf source.now task (verdict_of verdict)) }
+    ensures sound { (elf c : List ℕ) (task : Task)
+        → IfOk result (λ verdict. IsSound elf c task (verdict_of verdict)) }
     ensures memory { OnErr result (IsErrOf result NoMemory) }
 {
     match error {
@@ -160,10 +169,10 @@ fn without_unit(
 
 /// The verdict where there is no image.
 fn refused_elf(error: ElfError) -> Result<Verdict, OutsideFault>
-    ensures exact { (elf c : List ℕ) (functions : Option (List (List ℕ))) → file.IsRefusal elf error
-        → IfOk result (λ verdict. Judges elf c functions (verdict_of verdict)) }
-    ensures sound { (elf c : List ℕ) (functions : Option (List (List ℕ)))
-        → IfOk result (λ verdict. IsSound elf c functions (verdict_of verdict)) }
+    ensures exact { (elf c : List ℕ) (task : Task) → file.IsRefusal elf error
+        → IfOk result (λ verdict. Judges elf c task (verdict_of verdict)) }
+    ensures sound { (elf c : List ℕ) (task : Task)
+        → IfOk result (λ verdict. IsSound elf c task (verdict_of verdict)) }
     ensures memory { OnErr result (IsErrOf result NoMemory) }
 {
     match error {
@@ -177,12 +186,12 @@ fn refused_elf(error: ElfError) -> Result<Verdict, OutsideFault>
 
 /// The verdict where there is an image and the tree of the source has no types.
 fn without_types(error: TypeError) -> Result<Verdict, OutsideFault>
-    ensures exact { (elf c : List ℕ) (functions : Option (List (List ℕ))) (image : elf_image)
+    ensures exact { (elf c : List ℕ) (task : Task) (image : elf_image)
         (tree : translation_unit) → IsElf elf image → HasTree c tree
         → IsChecked (Err error) (typed tree)
-        → IfOk result (λ verdict. Judges elf c functions (verdict_of verdict)) }
-    ensures sound { (elf c : List ℕ) (functions : Option (List (List ℕ)))
-        → IfOk result (λ verdict. IsSound elf c functions (verdict_of verdict)) }
+        → IfOk result (λ verdict. Judges elf c task (verdict_of verdict)) }
+    ensures sound { (elf c : List ℕ) (task : Task)
+        → IfOk result (λ verdict. IsSound elf c task (verdict_of verdict)) }
     ensures memory { OnErr result (IsErrOf result NoMemory) }
 {
     match error {

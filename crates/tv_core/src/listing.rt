@@ -1,16 +1,16 @@
-ghost use Rattle.std.specs.Prelude.{◌≡◌, ◌++◌, ◌∷◌, [], IfOk, OnOk, filter, map, option_map};
+ghost use Rattle.std.specs.Prelude.{◌≡◌, ◌++◌, ◌∷◌, [], filter, map, IfOk, OnOk};
 ghost use Rattle.straight_code.specs.Units.{unit_of};
+ghost use Rattle.tv_words.specs.Jobs.{job_of};
+ghost use Rattle.tv_core.specs.Tasks.{asked_of};
 ghost use Rattle.verdict_spec.specs.Listing as spec;
-ghost use Rattle.tv_words.specs.Jobs.{proving_of};
 
 use attempt::attempt;
 use c_types::typed::Typed;
 use elf_read::Image;
 use elf_spec::SymbolValues;
-use report_spec::PairKind;
 use std::alloc::{AllocError, Global};
 use tv_bytes::Bytes;
-use tv_words::Proving;
+use tv_words::Job;
 
 /// The names that a command gives.
 fn given_names(alloc: Global, functions: &[&str]) -> Result<Vec<Bytes>, AllocError>
@@ -55,52 +55,30 @@ fn listed_names(
     Ok(names)
 }
 
-/// The names to validate, in their order.
+/// The list of one name.
+fn one_name(alloc: Global, name: &str) -> Result<Vec<Bytes>, AllocError>
+    ensures { IfOk result (λ names. names.items ≡ name.now ∷ []) }
+{
+    let mut names = Vec::new(alloc);
+    names.push(Bytes::copied(alloc, name.as_bytes())?)?;
+    Ok(names)
+}
+
+/// The list, in its order.
 pub(crate) fn names(
     alloc: Global,
-    job: &Proving<'_>,
+    job: &Job<'_>,
     image: &Image<'_>,
     unit: &Typed<'_>,
 ) -> Result<Vec<Bytes>, AllocError>
     ensures { IfOk result (λ names. names.items
-        ≡ spec.names_of (proving_of job.now).functions image.now (unit_of unit.now)) }
+        ≡ spec.names_of (asked_of (job_of job.now)).task image.now (unit_of unit.now)) }
 {
-    match &job.functions {
-        Some(functions) => given_names(alloc, functions.as_slice()),
-        None => listed_names(alloc, image, unit),
+    match job {
+        Job::Prove(job) => match &job.functions {
+            Some(functions) => given_names(alloc, functions.as_slice()),
+            None => listed_names(alloc, image, unit),
+        },
+        Job::Show(job) => one_name(alloc, job.function),
     }
-}
-
-/// Whether the function of a name has a body.
-fn has_body(unit: &Typed<'_>, name: &[u8]) -> bool
-    ensures { result ≡ spec.has_body (unit_of unit.now) name.now }
-{
-    unit.body(name).is_some()
-}
-
-/// Why a name can't be validated.
-pub(crate) fn pair_fault(image: &Image<'_>, unit: &Typed<'_>, name: &[u8]) -> Option<PairKind>
-    ensures { result ≡ spec.pair_fault image.now (unit_of unit.now) name.now }
-{
-    if !has_body(unit, name) {
-        return Some(PairKind::NoSource);
-    }
-    if image.function(name) == SymbolValues::Absent {
-        return Some(PairKind::NoSymbol);
-    }
-    None
-}
-
-/// The first name that can't be validated.
-pub(crate) fn first_unpaired<'a>(
-    image: &Image<'_>,
-    unit: &Typed<'_>,
-    names: &'a [Bytes],
-) -> Option<&'a Bytes>
-    ensures { option_map (λ name. name.now) result
-        ≡ spec.first_unpaired image.now (unit_of unit.now) names.now }
-{
-    names
-        .iter()
-        .find(|name| pair_fault(image, unit, name.as_slice()).is_some())
 }

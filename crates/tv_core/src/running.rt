@@ -2,7 +2,8 @@ ghost use Rattle.std.specs.Prelude.{◌≡◌, ℕ, List, IfOk, OnErr, IsErrOf, 
 ghost use Rattle.std.specs.Prelude.{option_map, string_bytes};
 ghost use Rattle.tv_base.specs.declared.faults.OutsideFault.TheVariants.{NoMemory};
 ghost use Rattle.report_text.specs.Verdicts.{verdict_of};
-ghost use Rattle.tv_words.specs.Jobs.{proving_of};
+ghost use Rattle.tv_words.specs.Jobs.{job_of};
+ghost use Rattle.tv_core.specs.Tasks.{asked_of};
 ghost use Rattle.report_spec.specs.Verdict.{status_of};
 ghost use Rattle.tv_core.specs.Objects.{state_of, desk_state, outputs_of, sink_state};
 ghost use Rattle.tv_core.specs.Ends.{AskFor, IsOutcome, certificate_name, Publishes, RunsTo};
@@ -14,16 +15,16 @@ use crate::publish::publish;
 use report_text::{Verdict, status};
 use std::alloc::Global;
 use tv_base::{Desk, OutsideFault, Sink, Store};
-use tv_words::{Job, Proving, WordsError, command};
+use tv_words::{Job, WordsError, command};
 
 /// What the words ask for, or `None` where they are no command.
-fn asked(alloc: Global, words: &[String]) -> Result<Option<Proving<'_>>, OutsideFault>
+fn asked(alloc: Global, words: &[String]) -> Result<Option<Job<'_>>, OutsideFault>
     ensures exact { IfOk result (λ job. AskFor (map string_bytes words.now)
-        (option_map proving_of job)) }
+        (option_map job_of job)) }
     ensures memory { OnErr result (IsErrOf result NoMemory) }
 {
     match command(alloc, words) {
-        Ok(Job::Prove(job)) => Ok(Some(job)),
+        Ok(job) => Ok(Some(job)),
         Err(WordsError::Words) => Ok(None),
         Err(WordsError::NoMemory) => Err(OutsideFault::NoMemory),
     }
@@ -32,14 +33,14 @@ fn asked(alloc: Global, words: &[String]) -> Result<Option<Proving<'_>>, Outside
 /// The outcome of a job, or of words that are no command.
 fn outcome<D: Desk>(
     alloc: Global,
-    job: &Option<Proving<'_>>,
+    job: &Option<Job<'_>>,
     desk: &mut D,
 ) -> Result<Verdict, OutsideFault>
     ensures exact { IfOk result (λ verdict. (words : List (List ℕ))
-        → AskFor words (option_map proving_of job.now)
-        → IsOutcome words (D.bytes desk.old) (certificate_name (option_map proving_of job.now))
+        → AskFor words (option_map job_of job.now)
+        → IsOutcome words (D.bytes desk.old) (certificate_name (option_map job_of job.now))
         (verdict_of verdict)) }
-    ensures reads { (words : List (List ℕ)) → AskFor words (option_map proving_of job.now)
+    ensures reads { (words : List (List ℕ)) → AskFor words (option_map job_of job.now)
         → ReadsAsked words
         (desk_state (D.bytes desk.old) (D.left desk.old) (D.opened desk.old) (D.faults desk.old))
         (desk_state (D.bytes desk.new) (D.left desk.new) (D.opened desk.new)
@@ -55,12 +56,13 @@ fn outcome<D: Desk>(
     }
 }
 
-/// The name of the certificate that is asked for; without a command the empty one.
-fn name_of<'a>(job: &Option<Proving<'a>>) -> &'a str
-    ensures { result.now ≡ certificate_name (option_map proving_of job.now) }
+/// The name of the certificate that is asked for; without one the empty name.
+fn name_of<'a>(job: &Option<Job<'a>>) -> &'a str
+    ensures { result.now ≡ certificate_name (option_map job_of job.now) }
 {
     match job {
-        Some(job) => job.certificate,
+        Some(Job::Prove(job)) => job.certificate,
+        Some(Job::Show(_)) => "",
         None => "",
     }
 }
@@ -90,12 +92,12 @@ fn give<R: Sink, K: Store>(
 /// A run on a job, or on words that are no command, up to its status, or to what cut it off.
 fn run_job<D: Desk, R: Sink, K: Store>(
     alloc: Global,
-    job: &Option<Proving<'_>>,
+    job: &Option<Job<'_>>,
     desk: &mut D,
     report: &mut R,
     certificate: &mut K,
 ) -> Result<u8, OutsideFault>
-    ensures { (words : List (List ℕ)) → AskFor words (option_map proving_of job.now)
+    ensures { (words : List (List ℕ)) → AskFor words (option_map job_of job.now)
         → RunsTo words
         (state_of (desk_state (D.bytes desk.old) (D.left desk.old) (D.opened desk.old)
         (D.faults desk.old))
@@ -140,22 +142,24 @@ fn try_run<D: Desk, R: Sink, K: Store>(
 
 /// A run of the program on these words: it reads the two files that they name from `desk`, judges
 /// the listed functions, writes the certificate of the valid ones to `certificate` under the name
-/// that the words give, and then its report to `report`. The answer is the exit status:
+/// that the words give, and then its report to `report`; or it reports the code of one function
+/// (`show`), and writes no certificate. The answer is the exit status:
 ///
 /// | Status | Meaning |
 /// |---|---|
-/// | 0 | all listed functions are valid |
+/// | 0 | all listed functions are valid, or the code of one is reported |
 /// | 1 | some are unproved |
 /// | 2 | the words are no command |
 /// | 3 | an input is refused |
 /// | 4 | a read or a write failed |
 /// | 5 | out of memory |
-/// | 7 | a file is longer, or the list has more functions, than the maximum |
+/// | 7 | a file is longer, the list has more functions, or a graph more nodes, than the maximum |
 ///
 /// The order of refusals is: the words; reading the executable, then its length; reading the
 /// source, then its length; the executable; the source: its tokens, its grammar, its types; the
-/// length of the list; its functions, each in its turn; their code. Memory may run out at any
-/// growth.
+/// length of the list; for each function in its turn the names that it needs, then for each its
+/// code, then for each cycles and the depth of the stack; the nodes of graphs. Memory may run out
+/// at any growth.
 ///
 /// The contract is [`Ends`](../specs/Ends.antt): its field `valid` is the validity theorem, and
 /// the others give the cause of every status and what was written.

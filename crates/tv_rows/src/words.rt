@@ -2,7 +2,7 @@
 
 use row_io::{Out, decimal};
 use std::alloc::{AllocError, Global};
-use tv_words::{Job, Proving, WordsError, command};
+use tv_words::{Job, Proving, Showing, WordsError, command};
 
 /// So many names, parted by commas.
 fn put_names(count: u64, names: &mut String) -> Result<(), AllocError> {
@@ -53,12 +53,23 @@ fn put_job(job: &Proving<'_>, out: &mut Out) {
     }
 }
 
+/// A job of `show`: the word, two files between `|`, and the function.
+fn put_shown(job: &Showing<'_>, out: &mut Out) {
+    out.put("show ");
+    out.put(job.elf);
+    out.put("|");
+    out.put(job.source);
+    out.put("|");
+    out.put(job.function);
+}
+
 /// The outcome of a row.
 pub(crate) fn put_command(alloc: Global, row: &str, out: &mut Out) -> Result<(), AllocError> {
     let mut words = Vec::new(alloc);
     read_words(alloc, row, &mut words)?;
     match command(alloc, words.as_slice()) {
         Ok(Job::Prove(job)) => put_job(&job, out),
+        Ok(Job::Show(job)) => put_shown(&job, out),
         Err(WordsError::Words) => out.put("no command"),
         Err(WordsError::NoMemory) => out.fail(),
     }

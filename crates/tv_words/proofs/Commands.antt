@@ -1,5 +1,5 @@
 -- That words are one command at most, and what a parse says of the subcommand that it met.
-use Rattle.std.proofs.Common.{◌≡◌, ◌≢◌, ◌∙◌, true, List, [], ◌∷◌, Option, Some, None, refl, sym, ap, ap₂, subst, inl, inr, codes, unwrap_or, option_map, Result, Ok, Err, IfOk, IfErr, IsErrAnd}
+use Rattle.std.proofs.Common.{◌≡◌, ◌≢◌, ◌∙◌, true, List, [], ◌∷◌, get_or, arith, Option, Some, None, refl, sym, ap, ap₂, subst, inl, inr, codes, unwrap_or, option_map, Result, Ok, Err, IfOk, IfErr, IsErrAnd}
 use Rattle.clap.specs.Walk.{Row, Text}
 use Rattle.clap.specs.Simple.{is_simple, subcommand_of}
 use Rattle.clap.specs.Faults.{fault_of, is_simple_and_free}
@@ -10,7 +10,7 @@ use Rattle.clap.specs.declared.error.kind.ErrorKind.TheVariants.{OutOfMemory}
 use Rattle.tv_words.specs.declared.WordsError.{WordsError}
 use Rattle.tv_words.specs.declared.WordsError.TheVariants.{Words, NoMemory}
 use Rattle.tv_words.specs.Commands as spec
-use Rattle.tv_words.specs.Commands.{AreListed, AsksFor, IsCommand, IsProving, program, is_prove}
+use Rattle.tv_words.specs.Commands.{AreListed, AsksFor, IsCommand, IsProving, IsShowing, program, is_prove, is_show}
 use Rattle.tv_words.proofs.Lists.{parts_of_list}
 
 pub program_is_plain : is_simple_and_free program ≡ true
@@ -48,11 +48,30 @@ same_proving given a b x y =
     let functions = same_lists _ a.functions b.functions x.functions_are y.functions_are in
     λ i. record { elf = elf i; source = source i; certificate = certificate i; functions = functions i }
 
+same_showing : (given : List Row) (a b : spec.Showing) → IsShowing given a → IsShowing given b → a ≡ b
+same_showing given a b x y =
+    let elf = un_some a.elf b.elf (sym x.elf_is ∙ y.elf_is) in
+    let source = un_some a.source b.source (sym x.source_is ∙ y.source_is) in
+    let function = un_some a.function b.function (sym x.function_is ∙ y.function_is) in
+    λ i. record { elf = elf i; source = source i; function = function i }
+
+-- the words that name the subcommands differ
+apart : codes "prove" ≢ codes "show"
+apart e = let first : 112 ≡ 115 = ap (λ l. get_or l 0 0) e in omega (arith, first)
+
 pub same_command : (words : List Text) (a b : spec.Command) → IsCommand words a → IsCommand words b → a ≡ b
 same_command words a b (is_prove given job gives proving) (is_prove given2 job2 gives2 proving2) =
     let found = un_some (codes "prove", given) (codes "prove", given2) (sym gives.found ∙ gives2.found) in
     let rows : given ≡ given2 = ap (λ p. p.1) found in
     ap (λ (j : spec.Proving). spec.Prove j) (same_proving given job job2 proving (subst (λ (r : List Row). IsProving r job2) (sym rows) proving2))
+same_command words a b (is_show given job gives showing) (is_show given2 job2 gives2 showing2) =
+    let found = un_some (codes "show", given) (codes "show", given2) (sym gives.found ∙ gives2.found) in
+    let rows : given ≡ given2 = ap (λ p. p.1) found in
+    ap (λ (j : spec.Showing). spec.Show j) (same_showing given job job2 showing (subst (λ (r : List Row). IsShowing r job2) (sym rows) showing2))
+same_command words a b (is_prove given job gives proving) (is_show given2 job2 gives2 showing2) =
+    absurd (apart (ap (λ p. p.0) (un_some (codes "prove", given) (codes "show", given2) (sym gives.found ∙ gives2.found))))
+same_command words a b (is_show given job gives showing) (is_prove given2 job2 gives2 proving2) =
+    absurd (apart (ap (λ p. p.0) (un_some (codes "prove", given2) (codes "show", given) (sym gives2.found ∙ gives.found))))
 
 -- ---- the subcommand that was met, by its name and by its rows
 
@@ -68,20 +87,23 @@ module _ {X : Type 0} (f : X → Text) (g : X → Text × List Row) (tied : (x :
   name_of_row None name rows r = cc
   name_of_row (Some x) name rows r = ap (λ (n : Text). Some n) (sym (tied x) ∙ ap (λ p. p.0) (un_some _ _ r))
 
--- the rows of the subcommand that is asked for
-pub asked_rows : (found : Option (Text × List Row)) (command : spec.Command) → AsksFor found command
-    → (given : List Row) × (found ≡ Some (codes "prove", given))
-asked_rows found (spec.Prove job) asks = (asks.0, asks.1)
+-- where it isn't `prove`, the rows of the subcommand that is asked for are those of `show`
+pub asked_rows : (found : Option (Text × List Row)) (command : spec.Command) → ((given : List Row) → found ≢ Some (codes "prove", given)) → AsksFor found command
+    → (given : List Row) × (found ≡ Some (codes "show", given))
+asked_rows found (spec.Prove job) never asks = absurd (never asks.0 asks.1)
+asked_rows found (spec.Show job) never asks = (asks.0, asks.1)
 
 -- words that `clap` accepts are the command that their subcommand asks for
 pub commanded : (words : List Text) (found : Option (Text × List Row)) (command : spec.Command) → fault_of program words ≡ []
     → found ≡ subcommand_of program words → AsksFor found command → IsCommand words command
 commanded words found (spec.Prove job) taken same asks = is_prove asks.0 job (record { taken = taken; found = sym same ∙ asks.1 }) asks.2
+commanded words found (spec.Show job) taken same asks = is_show asks.0 job (record { taken = taken; found = sym same ∙ asks.1 }) asks.2
 
 -- and what their subcommand asks for is the command that they are
 pub asked_by : (words : List Text) (found : Option (Text × List Row)) (command : spec.Command)
     → found ≡ subcommand_of program words → IsCommand words command → AsksFor found command
 asked_by words found command same (is_prove given job gives proving) = (given, same ∙ gives.found, proving)
+asked_by words found command same (is_show given job gives showing) = (given, same ∙ gives.found, showing)
 
 module _ {J E : Type 0} (view : J → spec.Command) (words : List Text) (found : Option (Text × List Row))
     (same : found ≡ subcommand_of program words) where

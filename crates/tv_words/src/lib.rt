@@ -7,20 +7,20 @@ mod list;
 mod program;
 
 ghost use Rattle.std.specs.Prelude.{◌≡◌, ◌≢◌, IfOk, IfErr, List, ℕ, Option, map, option_map};
-ghost use Rattle.std.specs.Prelude.{string_bytes};
-ghost use Rattle.clap.specs.Walk.{first_of, rows_of};
+ghost use Rattle.std.specs.Prelude.{codes, string_bytes};
+ghost use Rattle.clap.specs.Walk.{Row, first_of, rows_of};
 ghost use Rattle.clap.specs.Matches.{found_of};
 ghost use Rattle.clap.specs.Simple.{subcommand_rows_of};
 ghost use Rattle.clap.specs.Values.{kind_of};
 ghost use Rattle.clap.specs.declared.error.kind.ErrorKind.TheVariants.{OutOfMemory};
 ghost use Rattle.tv_words.specs.Commands as spec;
-ghost use Rattle.tv_words.specs.Jobs.{job_of, names_of, proving_of};
+ghost use Rattle.tv_words.specs.Jobs.{job_of, names_of, proving_of, showing_of};
 ghost use Rattle.tv_words.specs.declared.WordsError.TheVariants.{Words, NoMemory};
 
 use attempt::attempt;
 use clap::ArgMatches;
 use clap::error::ErrorKind;
-use list::names_in;
+use list::{is_name, names_in};
 use program::parsed;
 use std::alloc::{AllocError, AllocFailed, Global};
 use thiserror::Error;
@@ -30,6 +30,8 @@ use thiserror::Error;
 pub enum Job<'a> {
     /// To look for a proof of some functions, and to write the certificate of those that have one.
     Prove(Proving<'a>),
+    /// To print the code of a function.
+    Show(Showing<'a>),
 }
 
 /// The files and the functions of `prove`.
@@ -43,6 +45,17 @@ pub struct Proving<'a> {
     pub certificate: &'a str,
     /// The names of the functions in the order given, or `None` where the words list none.
     pub functions: Option<Vec<&'a str>>,
+}
+
+/// The files and the function of `show`.
+#[derive(Clone, Copy)]
+pub struct Showing<'a> {
+    /// The name of the executable.
+    pub elf: &'a str,
+    /// The name of the C source.
+    pub source: &'a str,
+    /// The name of the function.
+    pub function: &'a str,
 }
 
 /// Why there is no job.
@@ -95,11 +108,48 @@ fn found_job<'a>(alloc: Global, matches: &ArgMatches<'a>) -> Result<Job<'a>, Wor
     ensures only { IfErr result (λ error. (other : spec.Command)
         → spec.AsksFor (subcommand_rows_of matches.now) other → error ≡ NoMemory) }
 {
-    let Some(found) = matches.subcommand_matches("prove") else {
+    match matches.subcommand_matches("prove") {
+        Some(found) => {
+            let job = prove_job(alloc, found)?;
+            Ok(Job::Prove(job))
+        }
+        None => shown_job(matches),
+    }
+}
+
+/// The job of the subcommand that was found, which isn't `prove`.
+fn shown_job<'a>(matches: &ArgMatches<'a>) -> Result<Job<'a>, WordsError>
+    requires { (given : List Row) → subcommand_rows_of matches.now ≢ Some (codes "prove", given) }
+    ensures found { IfOk result (λ job. spec.AsksFor (subcommand_rows_of matches.now)
+        (job_of job)) }
+    ensures only { IfErr result (λ error. (other : spec.Command)
+        → spec.AsksFor (subcommand_rows_of matches.now) other → error ≡ NoMemory) }
+{
+    let Some(found) = matches.subcommand_matches("show") else {
         return Err(WordsError::Words);
     };
-    let job = prove_job(alloc, found)?;
-    Ok(Job::Prove(job))
+    let job = show_job(found)?;
+    Ok(Job::Show(job))
+}
+
+/// The job of `show`, from what was found after that word.
+fn show_job<'a>(found: &ArgMatches<'a>) -> Result<Showing<'a>, WordsError>
+    ensures found { IfOk result (λ job. spec.IsShowing (rows_of (found_of found.now))
+        (showing_of job)) }
+    ensures only { IfErr result (λ error. (other : spec.Showing)
+        → spec.IsShowing (rows_of (found_of found.now)) other → error ≡ NoMemory) }
+{
+    let elf = needed(found, "elf")?;
+    let source = needed(found, "source")?;
+    let function = needed(found, "function")?;
+    if !is_name(function) {
+        return Err(WordsError::Words);
+    }
+    Ok(Showing {
+        elf,
+        source,
+        function,
+    })
 }
 
 /// The job of `prove`, from what was found after that word.

@@ -38,7 +38,7 @@ fn parts<'a>(alloc: Global, text: &'a str) -> Result<Vec<&'a str>, AllocError>
 }
 
 /// Whether a text is a name.
-fn is_name(text: &str) -> bool
+pub(crate) fn is_name(text: &str) -> bool
     ensures { result ≡ spec.is_name text.now }
 {
     match text.as_bytes() {

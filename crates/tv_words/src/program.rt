@@ -31,15 +31,31 @@ fn option<'a>(alloc: Global, name: &'a str, required: bool) -> Arg<'a>
         .action(ArgAction::Set)
 }
 
+/// A subcommand with its two files.
+fn with_files<'a>(alloc: Global, name: &'a str) -> Result<Command<'a>, AllocError>
+    ensures { IfOk result (λ command. spec.IsCommandOf command (spec.with_files name.entry.now)) }
+{
+    let with_one = attempt!(Command::new(alloc, name).arg(file(alloc, "elf")));
+    let with_both = attempt!(with_one.arg(file(alloc, "source")));
+    Ok(with_both)
+}
+
 /// The subcommand `prove ELF C --cert OUT [--functions NAME,..]`.
 fn prove<'a>(alloc: Global) -> Result<Command<'a>, AllocError>
     ensures { IfOk result (λ prove. spec.IsCommandOf prove spec.prove) }
 {
-    let command = Command::new(alloc, "prove")
-        .arg(file(alloc, "elf"))?
-        .arg(file(alloc, "source"))?
-        .arg(option(alloc, "cert", true))?
-        .arg(option(alloc, "functions", false))?;
+    let files = attempt!(with_files(alloc, "prove"));
+    let certified = attempt!(files.arg(option(alloc, "cert", true)));
+    let command = attempt!(certified.arg(option(alloc, "functions", false)));
+    Ok(command)
+}
+
+/// The subcommand `show ELF C --function NAME`.
+fn show<'a>(alloc: Global) -> Result<Command<'a>, AllocError>
+    ensures { IfOk result (λ show. spec.IsCommandOf show spec.show) }
+{
+    let files = attempt!(with_files(alloc, "show"));
+    let command = attempt!(files.arg(option(alloc, "function", true)));
     Ok(command)
 }
 
@@ -49,11 +65,13 @@ fn program<'a>(alloc: Global) -> Result<Command<'a>, AllocError>
     ensures { IfOk result (λ program. app_of program ≡ spec.program) }
 {
     let prove = attempt!(prove(alloc));
-    let command = attempt!(
+    let show = attempt!(show(alloc));
+    let first = attempt!(
         Command::new(alloc, "tv")
             .subcommand_required(true)
             .subcommand(prove)
     );
+    let command = attempt!(first.subcommand(show));
     Ok(command)
 }
 

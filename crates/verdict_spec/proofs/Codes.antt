@@ -1,6 +1,5 @@
 -- The first of several names whose code has a fault is one, and so is its fault; and so are the judgements on names.
-use Rattle.std.proofs.Common.{◌≡◌, ℕ, suc, Bool, true, false, List, [], ◌∷◌, ◌++◌, map, All, Some, refl, ap, sym, ◌∙◌, subst, arith}
-use Rattle.std.proofs.lemmas.List.Elements.{All-map}
+use Rattle.std.proofs.Common.{◌≡◌, ℕ, suc, Bool, true, false, List, [], ◌∷◌, map, All, Some, refl, ap, sym, ◌∙◌, subst, arith}
 use Rattle.elf_spec.specs.Image.{Image, function_named, size_at}
 use Rattle.elf_spec.specs.declared.SymbolValues.TheVariants.{One}
 use Rattle.c_type_spec.specs.Core.{Typed}
@@ -9,12 +8,14 @@ use Rattle.code_spec.specs.Code.{IsStack}
 use Rattle.code_spec.specs.Faults.{IsReachFault, IsFirst}
 use Rattle.code_spec.proofs.Direct.{same_first}
 use Rattle.report_spec.specs.Verdict.{Judgement}
-use Rattle.verdict_spec.specs.Verdicts.{HasCodeFault, ambiguous, of_reach, IsSoundCode, IsFirstCodeFault, IsJudgement, is_proved}
-use Rattle.verdict_spec.proofs.Stacks.{one_stack}
+use Rattle.pair_outcome_spec.specs.Code.{HasCodeFault, ambiguous, of_reach, IsSoundCode, IsFirstCodeFault}
+use Rattle.verdict_spec.specs.Verdicts.{IsJudgement, is_proved}
+use Rattle.verdict_spec.proofs.Firsts.{first_same}
+use Rattle.pair_outcome_spec.proofs.Stacks.{one_stack}
 
 -- ---- the fault of a name
 
-sound_or_faulty : (image : Image) (name : List ℕ) (kind : CodeKind) (address : ℕ) → IsSoundCode image name → HasCodeFault image name kind address → ⊥
+pub sound_or_faulty : (image : Image) (name : List ℕ) (kind : CodeKind) (address : ℕ) → IsSoundCode image name → HasCodeFault image name kind address → ⊥
 sound_or_faulty image name _ _ (entry, code) (ambiguous first second named) = let other = code.named in absurd (cc)
 sound_or_faulty image name _ _ (entry, code) (of_reach at kind address named first) =
     let other = code.named in
@@ -31,27 +32,6 @@ one_fault image name _ _ _ _ (of_reach entry kind address named fault) (of_reach
     same_first (IsReachFault image entry) kind other address place fault (subst (λ e. IsFirst (IsReachFault image e) other place) same found)
 
 -- ---- the first name with a fault
-
-at_first : (P : List ℕ → Type 0) (name : List ℕ) (names : List (List ℕ)) → All P (name ∷ names) → P name
-at_first P name names all = all 0 name (omega arith)
-
-following : (P : List ℕ → Type 0) (name : List ℕ) (names : List (List ℕ)) → All P (name ∷ names) → All P names
-following P name names all = λ k d inside. all (suc k) d (omega arith)
-
-at_middle : (P : List ℕ → Type 0) (before : List (List ℕ)) (name : List ℕ) (rest : List (List ℕ)) → All P (before ++ (name ∷ rest)) → P name
-at_middle P [] name rest all = at_first P name rest all
-at_middle P (other ∷ before) name rest all = at_middle P before name rest (following P other (before ++ (name ∷ rest)) all)
-
-first_same : (P : List ℕ → Type 0) (before prior rest more : List (List ℕ)) (one two : List ℕ) → before ++ (one ∷ rest) ≡ prior ++ (two ∷ more) → All P before → All P prior
-    → (P one → ⊥) → (P two → ⊥) → one ≡ two
-first_same P [] [] rest more one two e all others first second = cc
-first_same P [] (b ∷ prior) rest more one two e all others first second =
-    let same : b ≡ one = cc in absurd (first (subst P same (at_first P b prior others)))
-first_same P (a ∷ before) [] rest more one two e all others first second =
-    let same : a ≡ two = cc in absurd (second (subst P same (at_first P a before all)))
-first_same P (a ∷ before) (b ∷ prior) rest more one two e all others first second =
-    let tails : before ++ (one ∷ rest) ≡ prior ++ (two ∷ more) = cc in
-    first_same P before prior rest more one two tails (following P a before all) (following P b prior others) first second
 
 pub record Same (kind other : CodeKind) (one two : List ℕ) (address place : ℕ) : Type 0 where
   pub kind_is : kind ≡ other
@@ -101,15 +81,3 @@ one_list image unit (one ∷ ones) (two ∷ twos) e x y =
 pub one_judged : (image : Image) (unit : Typed) (names : List (List ℕ)) (ones twos : List Judgement) → map (λ j. j.name) ones ≡ names → map (λ j. j.name) twos ≡ names
     → All (IsJudgement image unit) ones → All (IsJudgement image unit) twos → ones ≡ twos
 one_judged image unit names ones twos e f x y = one_list image unit ones twos (e ∙ sym f) x y
-
--- ---- no name of a list that is judged has a fault
-
-sound_names : (image : Image) (unit : Typed) (judgements : List Judgement) → All (IsJudgement image unit) judgements → All (IsSoundCode image) (map (λ j. j.name) judgements)
-sound_names image unit judgements each =
-    All-map (IsSoundCode image) (λ j. j.name) judgements (λ k d inside. let j = each k d inside in (j.entry, j.code))
-
-pub judged_or_faulty : (image : Image) (unit : Typed) (names : List (List ℕ)) (judgements : List Judgement) (kind : CodeKind) (name : List ℕ) (address : ℕ)
-    → map (λ j. j.name) judgements ≡ names → All (IsJudgement image unit) judgements → IsFirstCodeFault image names kind name address → ⊥
-judged_or_faulty image unit names judgements kind name address e each first =
-    let all = subst (All (IsSoundCode image)) (e ∙ first.split) (sound_names image unit judgements each) in
-    sound_or_faulty image name kind address (at_middle (IsSoundCode image) first.prefix name first.rest all) first.fault

@@ -2,6 +2,8 @@
 mod Texts
 mod Sources
 mod Exists
-mod Stacks
+mod Firsts
 mod Codes
+mod Pairings
+mod Shown
 pub mod Once

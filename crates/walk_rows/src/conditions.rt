@@ -10,7 +10,10 @@ ghost use Rattle.std.specs.Prelude.{ℕ, ◌<◌, length, List};
 ghost use Rattle.std.specs.List.{All};
 ghost use Rattle.visit_spec.specs.Listing.{IsListing};
 ghost use Rattle.visit_spec.specs.Visits.{Walk};
-ghost use Rattle.path_cond.specs.Result.{AreMembers};
+ghost use Rattle.condition_spec.specs.Junctions.{junctions};
+ghost use Rattle.graph_spec.specs.Graph.{Graph as GraphOf};
+ghost use Rattle.path_cond.specs.Result.{AreConditions, AreMembers};
+ghost use Rattle.term_spec.specs.Substitution.{State as Terms};
 
 use crate::lists::add_place;
 use crate::words::Words;
@@ -19,72 +22,94 @@ use attempt::attempt;
 use graph_core::Graph;
 use graph_spec::Next;
 use path_cond::{Conditions, Ids, State, conditions, several};
+use row_io::Out;
 use std::alloc::{AllocError, Global};
 use std::collections::HashMap;
 use term_bank::{Bank, TermId, TermNode};
-use term_spec::{Atom, BinaryOperator, TernaryOperator, UnaryOperator, Variable, WordOperator};
+use term_spec::{
+    Atom, BinaryOperator, Family, QuaternaryOperator, TernaryOperator, UnaryOperator, Variable,
+    WordOperator,
+};
 use visit_walk::{Shape, Visits, visits};
 
-fn letter(variable: Variable) -> char {
-    char::from((variable.index % 128) as u8)
+/// Adds the letter of a variable.
+fn add_variable(out: &mut Out, variable: Variable) {
+    match variable.family {
+        Family::Address => out.put("@"),
+        Family::BinaryMemory => out.put("$"),
+        Family::SourceMemory => out.put("%"),
+        Family::ZoneMemory => out.put("^"),
+        _ => out.display(&char::from((variable.index % 128) as u8)),
+    }
 }
 
-fn add_atom(out: &mut String, atom: Atom) -> Result<(), AllocError> {
+fn add_atom(out: &mut Out, atom: Atom) {
     match atom {
-        Atom::Truth(true) => out.push('T'),
-        Atom::Truth(false) => out.push('F'),
-        Atom::Constant(_, number) => write!(out, "{number}"),
-        Atom::Open(variable) => out.push(letter(variable)),
+        Atom::Truth(true) => out.put("T"),
+        Atom::Truth(false) => out.put("F"),
+        Atom::Constant(_, number) => out.show(&number),
+        Atom::Open(variable) => add_variable(out, variable),
     }
 }
 
-fn unary(operator: UnaryOperator) -> char {
+fn unary(operator: UnaryOperator) -> &'static str {
     match operator {
-        UnaryOperator::Not => '!',
-        _ => '#',
+        UnaryOperator::Not => "!",
+        _ => "#",
     }
 }
 
-fn binary(operator: BinaryOperator) -> char {
+fn binary(operator: BinaryOperator) -> &'static str {
     match operator {
-        BinaryOperator::And => '&',
-        BinaryOperator::Or => '|',
-        BinaryOperator::Less => '<',
-        BinaryOperator::Word(WordOperator::Add) => '+',
-        _ => '#',
+        BinaryOperator::And => "&",
+        BinaryOperator::Or => "|",
+        BinaryOperator::Less => "<",
+        BinaryOperator::Equal => "=",
+        BinaryOperator::Load => "*",
+        BinaryOperator::Word(WordOperator::Add) => "+",
+        BinaryOperator::Word(WordOperator::Subtract) => "-",
+        _ => "#",
     }
 }
 
 /// Adds a term of the bank.
-fn add_term(out: &mut String, bank: &Bank, id: TermId) -> Result<(), AllocError>
+fn add_term(out: &mut Out, bank: &Bank, id: TermId)
     requires { id < length bank.now }
 {
     match bank.node(id) {
         TermNode::Leaf(atom) => add_atom(out, atom),
         TermNode::Unary(operator, a) => {
-            attempt!(out.push(unary(operator)));
-            add_term(out, bank, a)
+            out.put(unary(operator));
+            add_term(out, bank, a);
         }
         TermNode::Binary(operator, a, b) => {
-            attempt!(out.push(binary(operator)));
-            attempt!(add_term(out, bank, a));
-            add_term(out, bank, b)
+            out.put(binary(operator));
+            add_term(out, bank, a);
+            add_term(out, bank, b);
         }
         TermNode::Ternary(TernaryOperator::Choose, a, b, c) => {
-            attempt!(out.push(':'));
-            attempt!(add_term(out, bank, a));
-            attempt!(add_term(out, bank, b));
-            add_term(out, bank, c)
+            out.put(":");
+            add_term(out, bank, a);
+            add_term(out, bank, b);
+            add_term(out, bank, c);
         }
-        _ => out.push('#'),
+        TermNode::Quaternary(QuaternaryOperator::Over, a, b, c, d) => {
+            out.put("~");
+            add_term(out, bank, a);
+            add_term(out, bank, b);
+            add_term(out, bank, c);
+            add_term(out, bank, d);
+        }
+        _ => out.put("#"),
     }
 }
 
-fn add_known(out: &mut String, bank: &Bank, id: TermId) -> Result<(), AllocError> {
+/// Adds a term of the bank, if it is there.
+pub(crate) fn add_known(out: &mut Out, bank: &Bank, id: TermId) {
     if id < bank.len() {
-        add_term(out, bank, id)
+        add_term(out, bank, id);
     } else {
-        out.push('#')
+        out.put("#");
     }
 }
 
@@ -93,65 +118,51 @@ fn is_itself(bank: &Bank, id: TermId, variable: Variable) -> bool {
     id < bank.len() && bank.node(id) == TermNode::Leaf(Atom::Open(variable))
 }
 
-fn add_value(
-    out: &mut String,
-    bank: &Bank,
-    variable: Variable,
-    id: Option<TermId>,
-) -> Result<(), AllocError> {
-    let Some(id) = id else { return Ok(()) };
-    if is_itself(bank, id, variable) {
-        return Ok(());
+fn add_value(out: &mut Out, bank: &Bank, variable: Variable, id: Option<TermId>) {
+    match id {
+        Some(id) if !is_itself(bank, id, variable) => {
+            out.put(" ");
+            add_variable(out, variable);
+            out.put("=");
+            add_known(out, bank, id);
+        }
+        _ => {}
     }
-    attempt!(out.push(' '));
-    attempt!(out.push(letter(variable)));
-    attempt!(out.push('='));
-    add_known(out, bank, id)
 }
 
 /// Adds a condition, and the terms of a state that differ from those of the start.
-fn add_one(
-    out: &mut String,
-    bank: &Bank,
-    found: &Conditions,
-    condition: TermId,
-    state: &Ids,
-) -> Result<(), AllocError> {
-    attempt!(add_known(out, bank, condition));
+fn add_one(out: &mut Out, bank: &Bank, found: &Conditions, condition: TermId, state: &Ids) {
+    add_known(out, bank, condition);
     for number in 0..found.variables.len() {
-        attempt!(add_value(out, bank, found.variables[number], state.get(number)));
+        add_value(out, bank, found.variables[number], state.get(number));
     }
-    Ok(())
 }
 
-fn add_visit(
-    out: &mut String,
-    bank: &Bank,
-    found: &Conditions,
-    position: usize,
-) -> Result<(), AllocError> {
+fn add_visit(out: &mut Out, bank: &Bank, found: &Conditions, position: usize) {
     let known = &found.known;
     match (known.conditions.get(position), known.states.get(position)) {
         (Some(condition), Some(state)) => add_one(out, bank, found, *condition, state),
-        _ => out.push('#'),
+        _ => out.put("#"),
     }
 }
 
-fn add_visits(
-    out: &mut String,
-    bank: &Bank,
-    visits: &Visits,
-    found: &Conditions,
-) -> Result<(), AllocError> {
+fn add_visits(out: &mut Out, bank: &Bank, visits: &Visits, found: &Conditions) {
     let mut before = "";
     for position in 0..visits.len() {
-        attempt!(out.push_str(before));
-        attempt!(add_place(out, visits.place(position)));
-        attempt!(out.push(' '));
-        attempt!(add_visit(out, bank, found, position));
+        out.put(before);
+        add_place(out, visits.place(position));
+        out.put(" ");
+        add_visit(out, bank, found, position);
         before = "; ";
     }
-    Ok(())
+}
+
+/// Adds how many visits there are, and how many terms of the bank.
+fn add_sizes(out: &mut Out, bank: &Bank, visits: &Visits) {
+    out.show(&visits.len());
+    out.put(" visits ");
+    out.show(&bank.len());
+    out.put(" terms");
 }
 
 /// Whether the question is about the visit at a position.
@@ -178,15 +189,16 @@ fn find_members(
 {
     for position in 0..visits.len() {
         if is_asked(name, walk, visits, position) {
-            members.push(position)?;
+            attempt!(members.push(position), AllocError);
         }
     }
     Ok(())
 }
 
+/// Adds the visits asked for, as one.
 fn add_several(
     alloc: Global,
-    out: &mut String,
+    out: &mut Out,
     bank: &mut Bank,
     found: &Conditions,
     members: &[usize],
@@ -194,13 +206,32 @@ fn add_several(
     requires { AreMembers bank.old found.now members.now }
 {
     let (condition, state) = attempt!(several(alloc, bank, found, members));
-    add_one(out, bank, found, condition, &state)
+    add_one(out, bank, found, condition, &state);
+    Ok(())
+}
+
+/// Adds the answer to a question about some of the visits.
+fn add_some(
+    alloc: Global,
+    out: &mut Out,
+    name: &str,
+    walk: &Words,
+    visits: &Visits,
+    bank: &mut Bank,
+    found: &Conditions,
+) -> Result<(), AllocError>
+    requires { (s : Terms) × (g : GraphOf) × (w : Walk) × AreConditions bank.old s g
+        (junctions w visits.now.visits) found.now }
+{
+    let mut members = Vec::new(alloc);
+    attempt!(find_members(&mut members, name, walk, visits));
+    add_several(alloc, out, bank, found, members.as_slice())
 }
 
 /// Adds the answer to a question about a list of visits.
 fn add_found(
     alloc: Global,
-    out: &mut String,
+    out: &mut Out,
     name: &str,
     graph: &Graph,
     walk: &Words,
@@ -210,39 +241,39 @@ fn add_found(
 {
     let mut bank = Bank::new(alloc);
     let start: State = HashMap::new(alloc);
-    let found = conditions(alloc, graph, visits, &start, &mut bank)?;
-    if name == "conditions" {
-        return add_visits(out, &bank, visits, &found);
+    let found = attempt!(conditions(alloc, graph, visits, &start, &mut bank));
+    match name {
+        "conditions" => Ok(add_visits(out, &bank, visits, &found)),
+        "sizes" => Ok(add_sizes(out, &bank, visits)),
+        _ => add_some(alloc, out, name, walk, visits, &mut bank, &found),
     }
-    if name == "sizes" {
-        return write!(out, "{} visits {} terms", visits.len(), bank.len());
+}
+
+/// Adds the answer of a walk over a graph.
+fn add_walk(
+    alloc: Global,
+    out: &mut Out,
+    name: &str,
+    graph: &Graph,
+    walk: &Words,
+) -> Result<(), AllocError> {
+    let shape = attempt!(Shape::of(alloc, graph));
+    let (stops, bounds) = (walk.stops.as_slice(), walk.bounds.as_slice());
+    match visits(alloc, &shape, walk.start, stops, bounds, walk.maximum) {
+        Ok(found) => add_found(alloc, out, name, graph, walk, &found),
+        Err(_) => Ok(out.put("no visits")),
     }
-    let mut members = Vec::new(alloc);
-    find_members(&mut members, name, walk, visits)?;
-    add_several(alloc, out, &mut bank, &found, members.as_slice())
 }
 
 /// Adds the answer.
 pub(crate) fn answer(
     alloc: Global,
-    out: &mut String,
+    out: &mut Out,
     name: &str,
     text: &str,
 ) -> Result<(), AllocError> {
     let (nodes, rest) = text.split_once(" | ").unwrap_or((text, "from 0"));
-    let graph = graphs::read(alloc, nodes)?;
-    let mut walk = words::read(alloc, rest)?;
-    walk.shape = Shape::of(alloc, &graph)?;
-    let found = visits(
-        alloc,
-        &walk.shape,
-        walk.start,
-        walk.stops.as_slice(),
-        walk.bounds.as_slice(),
-        walk.maximum,
-    );
-    match found {
-        Ok(found) => add_found(alloc, out, name, &graph, &walk, &found),
-        Err(_) => out.push_str("no visits"),
-    }
+    let graph = attempt!(graphs::read(alloc, nodes));
+    let walk = attempt!(words::read(alloc, rest));
+    add_walk(alloc, out, name, &graph, &walk)
 }

@@ -3,11 +3,14 @@
 // side, as in `words`, and CUT a node on each side; where the cut is at calls, the landing nodes
 // come after it.
 
+use crate::frames::{frame, run, setting};
 use crate::graphs;
 use crate::words::mark;
+use attempt::attempt;
 use graph_core::{Graph, GraphRun};
 use proof_spec::{Counts, Cut, Mark as Bound, Nodes};
-use proof_tree::{Frame, Hold, Premise, Reachable, Setting, Start};
+use proof_tree::{Frame, Hold, Premise, Setting, Start};
+use row_io::{Out, split_at};
 use sim_cut::cut_allowed;
 use std::alloc::{AllocError, Global};
 use std::mem;
@@ -62,44 +65,16 @@ fn asked_of(marks: &[Mark]) -> Asked {
 fn read(alloc: Global, text: &str) -> Result<Asked, AllocError> {
     let mut marks = Vec::new(alloc);
     for word in text.split(' ') {
-        marks.push(mark(word))?;
+        attempt!(marks.push(mark(word)), AllocError);
     }
     Ok(asked_of(marks.as_slice()))
 }
 
-// A frame without goals, of one run on both sides, from node 0.
-fn frame<'a>(
-    alloc: Global,
-    run: GraphRun<'a>,
-    setting: &'a Setting,
-    lines: &'a [Box<Term>],
-) -> Result<Frame<'a>, AllocError> {
-    let binary = Reachable::new(alloc, &run, 0)?;
-    let source = Reachable::new(alloc, &run, 0)?;
-    Ok(Frame {
-        binary: run,
-        source: run,
-        setting,
-        entry: lines,
-        start: Start {
-            binary,
-            source,
-            path: &[],
-            premises: Vec::new(alloc),
-            binary_bounds: Vec::new(alloc),
-            source_bounds: Vec::new(alloc),
-        },
-        goals: Vec::new(alloc),
-        holds: Vec::new(alloc),
-    })
-}
-
 // Adds what no goal looks at: a premise and a bound on each side.
 fn fill<'a>(start: &mut Start<'a>, term: &'a Term) -> Result<(), AllocError> {
-    start.add_premise(Premise { term, holds: false })?;
-    start.add_binary_bound(Bound { node: 3, count: 1 })?;
-    start.add_source_bound(Bound { node: 3, count: 1 })?;
-    Ok(())
+    attempt!(start.add_premise(Premise { term, holds: false }));
+    attempt!(start.add_binary_bound(Bound { node: 3, count: 1 }));
+    start.add_source_bound(Bound { node: 3, count: 1 })
 }
 
 // Puts another start in place of a frame's.
@@ -109,7 +84,7 @@ fn restart<'a>(
     lines: &'a [Box<Term>],
     nodes: Nodes,
 ) -> Result<(), AllocError> {
-    let mut start = frame.start_at(alloc, nodes, &[], lines)?;
+    let mut start = attempt!(frame.start_at(alloc, nodes, &[], lines));
     mem::swap(&mut frame.start, &mut start);
     Ok(())
 }
@@ -121,9 +96,8 @@ fn stop<'a>(
     lines: &'a [Box<Term>],
     asked: Asked,
 ) -> Result<(), AllocError> {
-    let goal = frame.goal_at(alloc, asked.goal, asked.counts, lines)?;
-    frame.add_goal(goal)?;
-    Ok(())
+    let goal = attempt!(frame.goal_at(alloc, asked.goal, asked.counts, lines));
+    frame.add_goal(goal)
 }
 
 // Prepares a frame: a start, a goal, and what no goal looks at.
@@ -134,12 +108,12 @@ fn prepare<'a>(
     term: &'a Term,
     asked: Asked,
 ) -> Result<(), AllocError> {
-    restart(alloc, frame, lines, asked.start)?;
-    fill(&mut frame.start, term)?;
-    frame.add_hold(Hold {
+    attempt!(restart(alloc, frame, lines, asked.start));
+    attempt!(fill(&mut frame.start, term));
+    attempt!(frame.add_hold(Hold {
         nodes: asked.goal,
         relation: lines,
-    })?;
+    }));
     stop(alloc, frame, lines, asked)
 }
 
@@ -152,33 +126,24 @@ fn judged(
     term: &Term,
     asked: Asked,
 ) -> Result<bool, AllocError> {
-    let mut frame = frame(alloc, run, setting, lines)?;
-    prepare(alloc, &mut frame, lines, term, asked)?;
+    let mut frame = attempt!(frame(alloc, run, run, setting, lines));
+    attempt!(prepare(alloc, &mut frame, lines, term, asked));
     Ok(cut_allowed(&frame, asked.cut))
 }
 
 // Whether the cut is allowed in runs of some graphs, of which the first is the outermost.
 fn allows(alloc: Global, graphs: &[Graph], asked: Asked) -> Result<bool, AllocError> {
-    let lines: Vec<Box<Term>> = Vec::new(alloc);
-    let term = Term::leaf(alloc, Atom::Truth(false))?;
-    let setting = Setting {
-        argument_words: 0,
-        parameters: Vec::new(alloc),
-        bodies: Vec::new(alloc),
-    };
-    let run = GraphRun {
-        graphs,
-        outermost: 0,
-    };
-    judged(alloc, run, &setting, lines.as_slice(), &term, asked)
+    let term = attempt!(Term::leaf(alloc, Atom::Truth(false)));
+    let setting = setting(alloc);
+    judged(alloc, run(graphs), &setting, &[], &term, asked)
 }
 
 /// Adds the answer.
-pub(crate) fn answer(alloc: Global, out: &mut String, text: &str) -> Result<(), AllocError> {
-    let (nodes, rest) = text.split_once(" | ").unwrap_or((text, ""));
-    let asked = read(alloc, rest)?;
-    let mut set = Vec::new(alloc);
-    set.push(graphs::read(alloc, nodes)?)?;
-    let allowed = allows(alloc, set.as_slice(), asked)?;
-    out.push_str(if allowed { "allowed" } else { "refused" })
+pub(crate) fn answer(alloc: Global, out: &mut Out, text: &str) -> Result<(), AllocError> {
+    let (nodes, rest) = split_at(text, " | ");
+    let asked = attempt!(read(alloc, rest));
+    let graph = attempt!(graphs::read_alone(alloc, nodes));
+    let allowed = attempt!(allows(alloc, graph.as_slice(), asked));
+    out.put(if allowed { "allowed" } else { "refused" });
+    Ok(())
 }

@@ -1,10 +1,13 @@
 // Graphs as words: for each node in turn what it does and where a run continues after it. A node's
 // word is a place, as in `words`; with what it binds before it, as in `a=TERM,b=TERM>PLACE`; a
 // test, as `TERM?PLACE/PLACE`; or `call`, whose landing node is the next one. A term has no spaces,
-// and an operator precedes its arguments: `+`, `<`, `!`, `&`, `|`, and `:` for a choice. A letter
-// from `a` to `z` is a variable of that name, a digit a constant; `T` and `F` are the truth values.
+// and an operator precedes its arguments: `+`, `-`, `<`, `=`, `!`, `&`, `|`, `*` for the load of a
+// byte, and `:` for a choice. A letter is a variable of that name, of the source if it is a capital
+// one, a digit a constant; `T` and `F` are the truth values. `@` is any address, and `$`, `%` and
+// `^` are the memories of the binary, of the source and in the zone.
 
 use crate::words::place;
+use attempt::attempt;
 use graph_core::{Binding, Graph, Node};
 use graph_spec::Next;
 use std::alloc::{AllocError, Global};
@@ -14,33 +17,40 @@ use term_spec::{
     WordOperator,
 };
 
+/// A variable that is alone in its family: a memory, or any address.
+fn only(family: Family, sort: Sort) -> Variable {
+    Variable {
+        family,
+        index: 0,
+        instance: 0,
+        sort,
+    }
+}
+
 /// The variable of a letter.
 fn variable(letter: u8) -> Variable {
+    let family = match letter {
+        b'@' => return only(Family::Address, Sort::Word(Width::W32)),
+        b'$' => return only(Family::BinaryMemory, Sort::Memory),
+        b'%' => return only(Family::SourceMemory, Sort::Memory),
+        b'^' => return only(Family::ZoneMemory, Sort::Memory),
+        b'A'..=b'Z' => Family::Local,
+        _ => Family::Register,
+    };
     Variable {
-        family: Family::Register,
+        family,
         index: usize::from(letter),
         instance: 0,
         sort: Sort::Word(Width::W64),
     }
 }
 
-fn boxed(alloc: Global, term: Term) -> Result<Box<Term>, AllocError> {
-    Ok(Box::new(alloc, term)?)
-}
-
-/// The term that was read last.
+/// The term that was read last; one that is missing is false.
 fn last(alloc: Global, read: &mut Vec<Box<Term>>) -> Result<Box<Term>, AllocError> {
     match read.pop() {
         Some(term) => Ok(term),
-        None => boxed(alloc, Term::Leaf(Atom::Truth(false))),
+        None => Term::leaf(alloc, Atom::Truth(false)),
     }
-}
-
-fn both<A: Drop, B: Drop>(
-    first: Result<A, AllocError>,
-    second: Result<B, AllocError>,
-) -> Result<(A, B), AllocError> {
-    Ok((first?, second?))
 }
 
 fn unary(
@@ -48,8 +58,8 @@ fn unary(
     read: &mut Vec<Box<Term>>,
     operator: UnaryOperator,
 ) -> Result<Box<Term>, AllocError> {
-    let a = last(alloc, read)?;
-    boxed(alloc, Term::Unary(operator, a))
+    let a = attempt!(last(alloc, read));
+    Term::unary(alloc, operator, a)
 }
 
 fn binary(
@@ -57,17 +67,16 @@ fn binary(
     read: &mut Vec<Box<Term>>,
     operator: BinaryOperator,
 ) -> Result<Box<Term>, AllocError> {
-    let first = last(alloc, read);
-    let (a, b) = both(first, last(alloc, read))?;
-    boxed(alloc, Term::Binary(operator, a, b))
+    let a = attempt!(last(alloc, read));
+    let b = attempt!(last(alloc, read));
+    Term::binary(alloc, operator, a, b)
 }
 
 fn choice(alloc: Global, read: &mut Vec<Box<Term>>) -> Result<Box<Term>, AllocError> {
-    let first = last(alloc, read);
-    let second = last(alloc, read);
-    let rest = both(second, last(alloc, read));
-    let (a, (b, c)) = both(first, rest)?;
-    boxed(alloc, Term::Ternary(TernaryOperator::Choose, a, b, c))
+    let a = attempt!(last(alloc, read));
+    let b = attempt!(last(alloc, read));
+    let c = attempt!(last(alloc, read));
+    Term::ternary(alloc, TernaryOperator::Choose, a, b, c)
 }
 
 fn atom(byte: u8) -> Atom {
@@ -83,30 +92,33 @@ fn atom(byte: u8) -> Atom {
 fn begun(alloc: Global, read: &mut Vec<Box<Term>>, byte: u8) -> Result<Box<Term>, AllocError> {
     match byte {
         b'+' => binary(alloc, read, BinaryOperator::Word(WordOperator::Add)),
+        b'-' => binary(alloc, read, BinaryOperator::Word(WordOperator::Subtract)),
         b'<' => binary(alloc, read, BinaryOperator::Less),
+        b'=' => binary(alloc, read, BinaryOperator::Equal),
+        b'*' => binary(alloc, read, BinaryOperator::Load),
         b'&' => binary(alloc, read, BinaryOperator::And),
         b'|' => binary(alloc, read, BinaryOperator::Or),
         b'!' => unary(alloc, read, UnaryOperator::Not),
         b':' => choice(alloc, read),
-        _ => boxed(alloc, Term::Leaf(atom(byte))),
+        _ => Term::leaf(alloc, atom(byte)),
     }
 }
 
-fn term(alloc: Global, text: &str) -> Result<Box<Term>, AllocError> {
+pub(crate) fn term(alloc: Global, text: &str) -> Result<Box<Term>, AllocError> {
     let mut read = Vec::new(alloc);
     let bytes = text.as_bytes();
     let mut i = bytes.len();
     while i > 0 {
         i -= 1;
-        let term = begun(alloc, &mut read, bytes[i])?;
-        read.push(term)?;
+        let term = attempt!(begun(alloc, &mut read, bytes[i]));
+        attempt!(read.push(term), AllocError);
     }
     last(alloc, &mut read)
 }
 
 fn binding(alloc: Global, text: &str) -> Result<Binding, AllocError> {
     let (name, value) = text.split_once('=').unwrap_or((text, ""));
-    let term = term(alloc, value)?;
+    let term = attempt!(term(alloc, value));
     let variable = variable(name.bytes().next().unwrap_or(b'a'));
     Ok(Binding { variable, term })
 }
@@ -114,8 +126,8 @@ fn binding(alloc: Global, text: &str) -> Result<Binding, AllocError> {
 fn bindings(alloc: Global, text: &str) -> Result<Vec<Binding>, AllocError> {
     let mut bindings = Vec::new(alloc);
     for part in text.split(',') {
-        let binding = binding(alloc, part)?;
-        bindings.push(binding)?;
+        let binding = attempt!(binding(alloc, part));
+        attempt!(bindings.push(binding), AllocError);
     }
     Ok(bindings)
 }
@@ -132,8 +144,9 @@ fn call(alloc: Global, landing: usize) -> Node {
 
 fn test(alloc: Global, test: &str, places: &str) -> Result<Node, AllocError> {
     let (on_true, on_false) = places.split_once('/').unwrap_or((places, places));
+    let test = attempt!(term(alloc, test));
     Ok(Node::Cond {
-        test: term(alloc, test)?,
+        test,
         on_true: place(on_true),
         on_false: place(on_false),
     })
@@ -143,8 +156,9 @@ fn basic(alloc: Global, text: &str) -> Result<Node, AllocError> {
     let Some((bound, next)) = text.split_once('>') else {
         return Ok(continues(alloc, place(text)));
     };
+    let bindings = attempt!(bindings(alloc, bound));
     Ok(Node::Basic {
-        bindings: bindings(alloc, bound)?,
+        bindings,
         next: place(next),
     })
 }
@@ -171,8 +185,16 @@ pub(crate) fn read(alloc: Global, text: &str) -> Result<Graph, AllocError> {
     let mut graph = Graph::new(alloc);
     for word in text.split(' ') {
         let number = graph.len();
-        let node = node(alloc, word, number)?;
-        graph.add(node)?;
+        let node = attempt!(node(alloc, word, number));
+        attempt!(graph.add(node));
     }
     Ok(graph)
+}
+
+/// The same, alone in a list.
+pub(crate) fn read_alone(alloc: Global, text: &str) -> Result<Vec<Graph>, AllocError> {
+    let graph = attempt!(read(alloc, text));
+    let mut graphs = Vec::new(alloc);
+    attempt!(graphs.push(graph), AllocError);
+    Ok(graphs)
 }

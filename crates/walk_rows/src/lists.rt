@@ -9,33 +9,29 @@ ghost use Rattle.std.specs.Prelude.{◌<◌, length};
 use crate::words::read;
 use attempt::attempt;
 use graph_spec::Next;
+use row_io::Out;
 use std::alloc::{AllocError, Global};
 use visit_spec::{Branch, Incoming};
 use visit_walk::{Visits, WalkFault, visits};
 
-pub(crate) fn add_place(out: &mut String, place: Next) -> Result<(), AllocError> {
+pub(crate) fn add_place(out: &mut Out, place: Next) {
     match place {
-        Next::At(node) => add_number(out, node),
-        Next::Ret => out.push_str("R"),
-        Next::Err => out.push_str("E"),
+        Next::At(node) => out.show(&node),
+        Next::Ret => out.put("R"),
+        Next::Err => out.put("E"),
     }
 }
 
-fn add_number(out: &mut String, number: usize) -> Result<(), AllocError> {
-    write!(out, "{number}")
-}
-
-fn add_counts(out: &mut String, counts: &[usize]) -> Result<(), AllocError> {
+fn add_counts(out: &mut Out, counts: &[usize]) {
     let mut before = "(";
     for count in counts {
-        attempt!(out.push_str(before));
-        attempt!(add_number(out, *count));
+        out.put(before);
+        out.show(count);
         before = ",";
     }
-    if counts.is_empty() {
-        return Ok(());
+    if !counts.is_empty() {
+        out.put(")");
     }
-    out.push_str(")")
 }
 
 fn branch(branch: Branch) -> &'static str {
@@ -46,60 +42,52 @@ fn branch(branch: Branch) -> &'static str {
     }
 }
 
-fn add_edges(out: &mut String, edges: &[Incoming]) -> Result<(), AllocError> {
+fn add_edges(out: &mut Out, edges: &[Incoming]) {
     let mut before = "<";
     for edge in edges {
-        attempt!(out.push_str(before));
-        attempt!(add_number(out, edge.source));
-        attempt!(out.push_str(branch(edge.branch)));
+        out.put(before);
+        out.show(&edge.source);
+        out.put(branch(edge.branch));
         before = ",";
     }
-    Ok(())
 }
 
-fn add_visit(out: &mut String, found: &Visits, position: usize) -> Result<(), AllocError>
+fn add_visit(out: &mut Out, found: &Visits, position: usize)
     requires { position < length found.now.visits }
 {
     if position > 0 {
-        attempt!(out.push_str(" "));
+        out.put(" ");
     }
-    attempt!(add_place(out, found.place(position)));
-    attempt!(add_counts(out, found.counts(position)));
-    add_edges(out, found.incoming(position))
+    add_place(out, found.place(position));
+    add_counts(out, found.counts(position));
+    add_edges(out, found.incoming(position));
 }
 
-fn add_visits(out: &mut String, found: &Visits) -> Result<(), AllocError> {
+fn add_visits(out: &mut Out, found: &Visits) {
     for position in 0..found.len() {
-        add_visit(out, found, position)?;
+        add_visit(out, found, position);
     }
-    Ok(())
 }
 
-fn add_fault(out: &mut String, fault: WalkFault, maximum: usize) -> Result<(), AllocError> {
+fn add_fault(out: &mut Out, fault: WalkFault, maximum: usize) {
     match fault {
         WalkFault::Cyclic(node) => {
-            out.push_str("cyclic ")?;
-            add_number(out, node)
+            out.put("cyclic ");
+            out.show(&node);
         }
-        WalkFault::TooMany(count) if count > maximum => out.push_str("too many"),
-        WalkFault::TooMany(_) => out.push_str("too few"),
-        WalkFault::NoMemory => Err(AllocError),
+        WalkFault::TooMany(count) if count > maximum => out.put("too many"),
+        WalkFault::TooMany(_) => out.put("too few"),
+        WalkFault::NoMemory => out.fail(),
     }
 }
 
 /// Adds the answer.
-pub(crate) fn answer(alloc: Global, out: &mut String, text: &str) -> Result<(), AllocError> {
-    let walk = read(alloc, text)?;
-    let found = visits(
-        alloc,
-        &walk.shape,
-        walk.start,
-        walk.stops.as_slice(),
-        walk.bounds.as_slice(),
-        walk.maximum,
-    );
-    match found {
+pub(crate) fn answer(alloc: Global, out: &mut Out, text: &str) -> Result<(), AllocError> {
+    let walk = attempt!(read(alloc, text));
+    let (stops, bounds) = (walk.stops.as_slice(), walk.bounds.as_slice());
+    match visits(alloc, &walk.shape, walk.start, stops, bounds, walk.maximum) {
         Ok(found) => add_visits(out, &found),
         Err(fault) => add_fault(out, fault, walk.maximum),
     }
+    Ok(())
 }

@@ -6,12 +6,12 @@ ghost use Rattle.std.specs.Prelude.{◌<◌, ◌≤◌, ℕ, length, IfOk};
 ghost use Rattle.visit_spec.specs.Listing.{IsListing};
 ghost use Rattle.visit_spec.specs.Visits.{Walk};
 
-use crate::words;
 use crate::words::number;
 use attempt::attempt;
 use graph_core::{Graph, SharedNode, validate};
 use graph_spec::Next;
 use path_cond::{Conditions, State, conditions};
+use row_io::Out;
 use std::alloc::{AllocError, Global};
 use std::collections::HashMap;
 use term_bank::{Bank, TermId, TermNode};
@@ -20,7 +20,7 @@ use term_spec::{
 };
 use visit_walk::{Shape, Visits, visits};
 
-/// The maximum of subterms that are counted.
+/// The maximum of subterms that are counted, and of visits.
 const MOST: usize = 1 << 16;
 
 fn variable(family: Family, sort: Sort) -> Atom {
@@ -43,9 +43,9 @@ fn add_byte(
     ensures within { IfOk result (λ id. id < length graph.new.trees) }
     ensures longer { length graph.old.trees ≤ length graph.new.trees }
 {
-    let offset = graph.add_term(TermNode::Leaf(Atom::Constant(Width::W32, offset)))?;
+    let offset = attempt!(graph.add_term(TermNode::Leaf(Atom::Constant(Width::W32, offset))));
     let add = BinaryOperator::Word(WordOperator::Add);
-    let at = graph.add_term(TermNode::Binary(add, address, offset))?;
+    let at = attempt!(graph.add_term(TermNode::Binary(add, address, offset)));
     graph.add_term(TermNode::Binary(BinaryOperator::Load, memory, at))
 }
 
@@ -55,10 +55,10 @@ fn add_word(graph: &mut Graph, memory: TermId, address: TermId) -> Result<TermId
     ensures within { IfOk result (λ id. id < length graph.new.trees) }
     ensures longer { length graph.old.trees ≤ length graph.new.trees }
 {
-    let a = graph.add_term(TermNode::Binary(BinaryOperator::Load, memory, address))?;
-    let b = add_byte(graph, memory, address, 1)?;
-    let c = add_byte(graph, memory, address, 2)?;
-    let d = add_byte(graph, memory, address, 3)?;
+    let a = attempt!(graph.add_term(TermNode::Binary(BinaryOperator::Load, memory, address)));
+    let b = attempt!(add_byte(graph, memory, address, 1));
+    let c = attempt!(add_byte(graph, memory, address, 2));
+    let d = attempt!(add_byte(graph, memory, address, 3));
     graph.add_term(TermNode::Quaternary(QuaternaryOperator::Join, a, b, c, d))
 }
 
@@ -74,7 +74,7 @@ fn add_words(
 {
     let mut word = address;
     for _level in 0..levels {
-        word = add_word(graph, memory, word)?;
+        word = attempt!(add_word(graph, memory, word));
     }
     Ok(word)
 }
@@ -83,8 +83,8 @@ fn add_words(
 fn add_test(graph: &mut Graph, word: TermId) -> Result<usize, AllocError>
     requires { word < length graph.old.trees }
 {
-    let zero = graph.add_term(TermNode::Leaf(Atom::Constant(Width::W32, 0)))?;
-    let test = graph.add_term(TermNode::Binary(BinaryOperator::Equal, word, zero))?;
+    let zero = attempt!(graph.add_term(TermNode::Leaf(Atom::Constant(Width::W32, 0))));
+    let test = attempt!(graph.add_term(TermNode::Binary(BinaryOperator::Equal, word, zero)));
     graph.add_shared(SharedNode::Cond {
         test,
         on_true: Next::Ret,
@@ -95,24 +95,25 @@ fn add_test(graph: &mut Graph, word: TermId) -> Result<usize, AllocError>
 /// Adds the node of the graph.
 fn add_node(graph: &mut Graph, levels: usize) -> Result<usize, AllocError> {
     let memory = variable(Family::SourceMemory, Sort::Memory);
-    let memory = graph.add_term(TermNode::Leaf(memory))?;
+    let memory = attempt!(graph.add_term(TermNode::Leaf(memory)));
     let address = variable(Family::Parameter, Sort::Word(Width::W32));
-    let address = graph.add_term(TermNode::Leaf(address))?;
-    let word = add_words(graph, memory, address, levels)?;
+    let address = attempt!(graph.add_term(TermNode::Leaf(address)));
+    let word = attempt!(add_words(graph, memory, address, levels));
     add_test(graph, word)
 }
 
-fn add_size(alloc: Global, out: &mut String, bank: &Bank, id: TermId) -> Result<(), AllocError> {
+fn add_size(alloc: Global, out: &mut Out, bank: &Bank, id: TermId) -> Result<(), AllocError> {
+    out.put(" ");
     if id < bank.len() {
         let count = attempt!(bank.count_subterms(alloc, id, MOST));
-        return write!(out, " {}", count.unwrap_or(0));
+        out.show(&count.unwrap_or(0));
     }
-    out.push_str(" ?")
+    Ok(())
 }
 
 fn add_sizes(
     alloc: Global,
-    out: &mut String,
+    out: &mut Out,
     bank: &Bank,
     found: &Conditions,
 ) -> Result<(), AllocError> {
@@ -122,12 +123,7 @@ fn add_sizes(
     Ok(())
 }
 
-fn add_found(
-    alloc: Global,
-    out: &mut String,
-    graph: &Graph,
-    visits: &Visits,
-) -> Result<(), AllocError>
+fn add_found(alloc: Global, out: &mut Out, graph: &Graph, visits: &Visits) -> Result<(), AllocError>
     requires { (w : Walk) × (maximum : ℕ) × IsListing w maximum visits.now }
 {
     let mut bank = Bank::new(alloc);
@@ -136,26 +132,30 @@ fn add_found(
     add_sizes(alloc, out, &bank, &found)
 }
 
-/// Adds what is found of the graph.
-fn add_graph(alloc: Global, out: &mut String, graph: &Graph) -> Result<(), AllocError> {
-    let variables = attempt!(graph.variables(alloc));
-    let valid = if validate(graph) {
-        "valid"
-    } else {
-        "not valid"
-    };
-    attempt!(write!(out, "{valid}, {} variables, terms", variables.len()));
-    let walk = attempt!(words::read(alloc, "from 0"));
+/// Adds what is found of the walk from node 0.
+fn add_walk(alloc: Global, out: &mut Out, graph: &Graph) -> Result<(), AllocError> {
     let shape = attempt!(Shape::of(alloc, graph));
-    let (stops, bounds) = (walk.stops.as_slice(), walk.bounds.as_slice());
-    match visits(alloc, &shape, walk.start, stops, bounds, walk.maximum) {
+    match visits(alloc, &shape, 0, &[], &[], MOST) {
         Ok(found) => add_found(alloc, out, graph, &found),
-        Err(_) => out.push_str(" ?"),
+        Err(_) => Ok(out.put(" ?")),
     }
 }
 
+/// Adds what is found of the graph.
+fn add_graph(alloc: Global, out: &mut Out, graph: &Graph) -> Result<(), AllocError> {
+    let variables = attempt!(graph.variables(alloc));
+    out.put(if validate(graph) {
+        "valid, "
+    } else {
+        "not valid, "
+    });
+    out.show(&variables.len());
+    out.put(" variables, terms");
+    add_walk(alloc, out, graph)
+}
+
 /// Adds the answer.
-pub(crate) fn answer(alloc: Global, out: &mut String, text: &str) -> Result<(), AllocError> {
+pub(crate) fn answer(alloc: Global, out: &mut Out, text: &str) -> Result<(), AllocError> {
     let mut graph = Graph::new(alloc);
     attempt!(add_node(&mut graph, number(text)));
     add_graph(alloc, out, &graph)

@@ -2,26 +2,28 @@
 //! of it.
 //!
 //! A row is `QUESTION WORDS = ANSWER`; each is printed with `ok`, or with what was found in place
-//! of the answer. The modules `lists`, `conditions`, `loads`, `cuts` and `nesting` have the
-//! questions, and `words` and `graphs` have how a walk and a graph are written. A row without ` = `
-//! is a title.
+//! of the answer. The modules `lists`, `conditions`, `loads`, `cuts`, `nesting` and `obligations`
+//! have the questions, and `words` and `graphs` have how a walk and a graph are written. A row
+//! without ` = ` is a title.
 #![tactic(auto)]
 
 mod conditions;
 mod cuts;
+mod frames;
 mod graphs;
 mod lists;
 mod loads;
 mod nesting;
+mod obligations;
 mod words;
 
+use row_io::{Out, input, output, split};
 use std::alloc::{AllocError, Global};
 use std::io;
-use std::io::{BufRead, BufReader};
 
-/// Adds what is found for a row.
-fn add_found(alloc: Global, out: &mut String, row: &str) -> Result<(), AllocError> {
-    let (name, text) = row.split_once(' ').unwrap_or((row, ""));
+/// Adds what is found for a question.
+fn add_found(alloc: Global, out: &mut Out, question: &str) -> Result<(), AllocError> {
+    let (name, text) = split(question, ' ');
     match name {
         "visits" => lists::answer(alloc, out, text),
         "conditions" | "sizes" | "stops" | "bounds" | "returns" | "failures" => {
@@ -29,28 +31,46 @@ fn add_found(alloc: Global, out: &mut String, row: &str) -> Result<(), AllocErro
         }
         "loads" => loads::answer(alloc, out, text),
         "cut" => cuts::answer(alloc, out, text),
+        "obligations" => obligations::answer(alloc, out, text),
         "cases" | "negations" => nesting::answer(alloc, out, name, text),
         _ => Ok(()),
     }
 }
 
-/// Prints a row with its outcome.
-fn print_row(rt: &HostRuntime, row: &str) -> io::Result<()> {
-    let Some((question, answer)) = row.split_once(" = ") else {
-        return println!(rt; "{row}");
-    };
-    let mut found = String::new(rt.alloc());
-    add_found(rt.alloc(), &mut found, question)?;
-    if found.as_str() == answer {
-        println!(rt; "{row}: ok")
-    } else {
-        println!(rt; "{row}: found {found}")
+/// Adds the outcome of a question.
+fn add_outcome(alloc: Global, out: &mut Out, question: &str, answer: &str) {
+    let mut found = Out::new(alloc);
+    if add_found(alloc, &mut found, question).is_err() {
+        found.fail();
+    }
+    match found.text() {
+        Ok(text) if text == answer => out.put("ok"),
+        Ok(text) => {
+            out.put("found ");
+            out.put(text);
+        }
+        Err(_) => out.fail(),
+    }
+}
+
+fn add_row(alloc: Global, out: &mut Out, row: &str) {
+    out.put(row);
+    if let Some((question, answer)) = row.split_once(" = ") {
+        out.put(": ");
+        add_outcome(alloc, out, question, answer);
+    }
+    out.put("\n");
+}
+
+fn add_rows(alloc: Global, out: &mut Out, rows: &str) {
+    for row in rows.lines() {
+        add_row(alloc, out, row);
     }
 }
 
 fn main(rt: HostRuntime) -> io::Result<()> {
-    for line in BufReader::new(rt.alloc(), rt.reader())?.lines(rt.alloc()) {
-        print_row(&rt, line?.as_str())?;
-    }
-    Ok(())
+    let rows = input(rt)?;
+    let mut out = Out::new(rt.alloc());
+    add_rows(rt.alloc(), &mut out, rows.as_str());
+    output(rt, &out)
 }

@@ -3,7 +3,9 @@
 // maximum of visits. A node's word is `N`, `R` for return or `E` for failure, two of these as
 // `A/B` for a test, or `call`. A mark is `NODE:COUNT`.
 
+use attempt::attempt;
 use graph_spec::Next;
+use row_io::decimal;
 use std::alloc::{AllocError, Global};
 use visit_spec::{Mark, Successors};
 use visit_walk::Shape;
@@ -20,13 +22,7 @@ pub(crate) struct Words {
 
 /// The number of a decimal numeral.
 pub(crate) fn number(text: &str) -> usize {
-    let mut n: usize = 0;
-    for b in text.bytes() {
-        n = n
-            .wrapping_mul(10)
-            .wrapping_add(usize::from(b.wrapping_sub(b'0')));
-    }
-    n
+    decimal(text) as usize
 }
 
 pub(crate) fn place(text: &str) -> Next {
@@ -81,10 +77,10 @@ fn named(name: &str) -> Option<Part> {
 /// Adds what a word says.
 fn add(words: &mut Words, part: Part, word: &str) -> Result<(), AllocError> {
     match part {
-        Part::Node => words.shape.successors.push(successors(word))?,
+        Part::Node => attempt!(words.shape.successors.push(successors(word)), AllocError),
         Part::Start => words.start = number(word),
-        Part::Stop => words.stops.push(mark(word))?,
-        Part::Bound => words.bounds.push(mark(word))?,
+        Part::Stop => attempt!(words.stops.push(mark(word)), AllocError),
+        Part::Bound => attempt!(words.bounds.push(mark(word)), AllocError),
         Part::Cut => words.shape.cut(number(word)),
         Part::Maximum => words.maximum = number(word),
     }
@@ -96,7 +92,7 @@ fn add_all(words: &mut Words, text: &str) -> Result<(), AllocError> {
     for word in text.split(' ') {
         match named(word) {
             Some(next) => current = next,
-            None => add(words, current, word)?,
+            None => attempt!(add(words, current, word)),
         }
     }
     Ok(())
@@ -113,6 +109,6 @@ pub(crate) fn read(alloc: Global, text: &str) -> Result<Words, AllocError> {
         bounds: Vec::new(alloc),
         maximum: 65_536,
     };
-    add_all(&mut words, text)?;
+    attempt!(add_all(&mut words, text));
     Ok(words)
 }

@@ -1,16 +1,15 @@
 use Rattle.std.proofs.Common.{codes, refl}
-use Rattle.tv_words.proofs.Commands.{row_of_name, name_of_row, asked_rows}
+use Rattle.tv_words.proofs.Commands.{row_of_name, name_of_row}
 use Rattle.tv_words.proofs.found_job.Goals as goal
 
-pub returns-in_default-clause-only : goal.returns-in_default-clause-only
-returns-in_default-clause-only c = λ other asks.
-    let rows = asked_rows _ other asks in
-    let bad = c.in_default.ensures.found.1 (name_of_row _ _ (λ x. refl) _ _ rows.0 rows.1) in
-    cc
-
-pub returns-clause-found : goal.returns-clause-found
-returns-clause-found c = (
+pub returns-in_ok-job-in-Some-clause-found : goal.returns-in_ok-job-in-Some-clause-found
+returns-in_ok-job-in-Some-clause-found c = (
   _,
   row_of_name _ _ (λ x. refl) _ (codes "prove") _ (c.in-Some.ensures.found.0 refl) c.in-Some.ensures.rows,
-  c.in_ok-job.ensures.found,
+  c.in_ok-job-in-Some.ensures.found,
 )
+
+pub shown_job-requires : goal.shown_job-requires
+shown_job-requires c = λ given is.
+    let bad = c.in-None.ensures.found.1 (name_of_row _ _ (λ x. refl) _ _ given is) in
+    cc

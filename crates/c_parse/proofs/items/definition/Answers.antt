@@ -11,20 +11,10 @@ use Rattle.c_syntax.specs.Expressions.{specifiers_of}
 use Rattle.c_syntax.specs.Statements.{parts_in}
 use Rattle.c_syntax.specs.Units.{function_of, external_declaration_of}
 use Rattle.c_parse_token.specs.Lists.{list_of, names_of}
-use Rattle.c_parse_token.proofs.Errors.{gives-from, passed}
+use Rattle.c_parse_token.proofs.Errors.{gives-from}
 use Rattle.c_parse.specs.Following.{read_block}
 use Rattle.c_parse.proofs.Bodies.{body-same}
 use Rattle.c_parse.proofs.items.definition.Goals as goal
-
-pub returns-in_err-parts-clause-gives : goal.returns-in_err-parts-clause-gives
-returns-in_err-parts-clause-gives c =
-    let names = names_of c.args.names.now in
-    let tokens = list_of c.args.tokens.now.rest.now in
-    let specifiers = specifiers_of c.args.specifiers.value in
-    let function = function_of c.args.declarator.value in
-    let whole = read_body names specifiers function tokens in
-    passed whole (λ (x : Box ExternalDeclaration Global). (external_declaration_of x.value, names)) _ _ c.in_err-parts.field-0.0 c.from_residual.ensures.1 (gives-from (read_block names tokens) whole (λ (body : Vec Part Global × ℕ). (parts_in body.0, body.1)) (λ (x : Box ExternalDeclaration Global). (external_declaration_of x.value, names)) _ c.in_err-parts.field-0.0
-    (λ fault e. body-same names specifiers function tokens ∙ ap (λ o. bind {Y = Read} o (λ body after. Ok ((tree.Definition specifiers function body.0 body.1, names), after))) e) c.in_err-parts.ensures.gives)
 
 pub returns-clause-gives : goal.returns-clause-gives
 returns-clause-gives c =
@@ -32,6 +22,16 @@ returns-clause-gives c =
     let tokens = list_of c.args.tokens.now.rest.now in
     let specifiers = specifiers_of c.args.specifiers.value in
     let function = function_of c.args.declarator.value in
+    let whole = read_body names specifiers function tokens in
+    gives-from (read_block names tokens) whole (λ (body : Vec Part Global × ℕ). (parts_in body.0, body.1)) (λ (x : Box ExternalDeclaration Global). (external_declaration_of x.value, names)) _ c.in-Err-attempt.field-0
+    (λ fault e. body-same names specifiers function tokens ∙ ap (λ o. bind {Y = Read} o (λ body after. Ok ((tree.Definition specifiers function body.0 body.1, names), after))) e) c.in-Err-attempt.ensures.gives
+
+pub returns-3-clause-gives : goal.returns-3-clause-gives
+returns-3-clause-gives c =
+    let names = names_of c.args.names.now in
+    let tokens = list_of c.args.tokens.now.rest.now in
+    let specifiers = specifiers_of c.args.specifiers.value in
+    let function = function_of c.args.declarator.value in
     body-same names specifiers function tokens
-    ∙ ap (λ o. bind {Y = Read} o (λ body after. Ok ((tree.Definition specifiers function body.0 body.1, names), after))) c.in_ok-parts.ensures.gives
-    ∙ ap (λ i. Ok ((external_declaration_of i, names), list_of c.body.new.tokens.rest.now)) (sym c.in_ok-boxed.ensures)
+    ∙ ap (λ o. bind {Y = Read} o (λ body after. Ok ((tree.Definition specifiers function body.0 body.1, names), after))) c.in-Ok-attempt.ensures.gives
+    ∙ ap (λ i. Ok ((external_declaration_of i, names), list_of c.body.new.tokens.rest.now)) (sym c.in-Ok-allocated.ensures)

@@ -10,7 +10,7 @@ use Rattle.c_syntax.specs.Expressions.{unboxed}
 use Rattle.c_syntax.specs.Units.{external_declaration_of}
 use Rattle.c_parse_token.specs.Lists.{list_of, names_of}
 use Rattle.c_parse_token.proofs.Steps.{fewer}
-use Rattle.c_parse_token.proofs.Errors.{gives-from, passed}
+use Rattle.c_parse_token.proofs.Errors.{gives-from}
 use Rattle.c_parse.proofs.AllItems.{items-begun, items-more, items-error, items-done, items-joined, no-tokens}
 use Rattle.c_parse.proofs.items.items.Goals as goal
 
@@ -20,15 +20,15 @@ items-init c = record { going = items-begun (list_of c.args.tokens.now.rest.now)
 pub items-preserved : goal.items-preserved
 items-preserved c =
     record {
-      going = items-more (read_external_declarations (list_of c.args.tokens.now.rest.now)) (map external_declaration_of (unboxed c.items.all)) (map external_declaration_of (unboxed c.push.new.self)) (names_of c.items.names) (names_of c.item.new.names) (external_declaration_of c.in_ok-next.next.value) (list_of c.items.tokens.rest.now) (list_of c.item.new.tokens.rest.now) (items-joined c.items.all c.push.new.self c.in_ok-next.next c.in_ok-push.ensures.items) c.items.invariant.going c.in_ok-next.ensures.gives (fewer c.item.new.tokens.rest.now c.items.tokens.rest.now c.in_ok-next.ensures.shorter);
+      going = items-more (read_external_declarations (list_of c.args.tokens.now.rest.now)) (map external_declaration_of (unboxed c.items.all)) (map external_declaration_of (unboxed c.push.new.self)) (names_of c.items.names) (names_of c.item.new.names) (external_declaration_of c.in-Ok-attempt.field-0.value) (list_of c.items.tokens.rest.now) (list_of c.item.new.tokens.rest.now) (items-joined c.items.all c.push.new.self c.in-Ok-attempt.field-0 c.in-Ok-allocated.ensures.items) c.items.invariant.going c.in-Ok-attempt.ensures.gives (fewer c.item.new.tokens.rest.now c.items.tokens.rest.now c.in-Ok-attempt.ensures.shorter);
     }
 
-pub returns-in_err-next-clause-gives : goal.returns-in_err-next-clause-gives
-returns-in_err-next-clause-gives c =
+pub returns-in-items-clause-gives : goal.returns-in-items-clause-gives
+returns-in-items-clause-gives c =
     let some = eqb-false (length c.items.tokens.rest.now) 0 (sym c.is_empty.ensures ∙ c.items-test.true) in
     let whole = read_external_declarations (list_of c.args.tokens.now.rest.now) in
-    passed whole (λ (_ : Unit {0}). map external_declaration_of (unboxed c.items.all)) _ _ c.in_err-next.field-0.0 c.from_residual.ensures.1 (gives-from (read_external_declaration (names_of c.items.names) (list_of c.items.tokens.rest.now)) whole (λ (x : Box ExternalDeclaration Global). (external_declaration_of x.value, names_of c.item.new.names)) (λ (_ : Unit {0}). map external_declaration_of (unboxed c.items.all)) _ c.in_err-next.field-0.0
-    (items-error whole (map external_declaration_of (unboxed c.items.all)) (names_of c.items.names) (list_of c.items.tokens.rest.now) c.items.invariant.going (rw (length-map c.items.tokens.rest.now placed_of) (omega (arith, some)))) c.in_err-next.ensures.gives)
+    gives-from (read_external_declaration (names_of c.items.names) (list_of c.items.tokens.rest.now)) whole (λ (x : Box ExternalDeclaration Global). (external_declaration_of x.value, names_of c.item.new.names)) (λ (_ : Unit {0}). map external_declaration_of (unboxed c.items.all)) _ c.in-Err-attempt.field-0
+    (items-error whole (map external_declaration_of (unboxed c.items.all)) (names_of c.items.names) (list_of c.items.tokens.rest.now) c.items.invariant.going (rw (length-map c.items.tokens.rest.now placed_of) (omega (arith, some)))) c.in-Err-attempt.ensures.gives
 
 pub returns-clause-gives : goal.returns-clause-gives
 returns-clause-gives c =

@@ -9,10 +9,10 @@ use Rattle.c_syntax.specs.Statements.{statement_of}
 use Rattle.c_parse_statement.proofs.Made.{made-gives, always}
 use Rattle.c_parse_statement.proofs.pieces.perform.Goals as goal
 
-pub returns-clause-gives : goal.returns-clause-gives
-returns-clause-gives c =
-    let ends : c.statement_end-end.result ≡ statement_end (simple_of c.in_ok-simple.simple.value) = c.statement_end-end.ensures ∙ ap (λ x. statement_end (simple_of x)) c.deref.ensures in
-    made-gives _ (λ (x : Box Statement Global). statement_of x.value) (unit.Perform (simple_of c.in_ok-simple.simple.value)) _ _ _ c.or_no_memory.ensures c.perform.ensures (rw (c.in_ok-simple.ensures.gives, rw ends at c.in_ok-mark.ensures.gives) refl)
+pub returns-3-clause-gives : goal.returns-3-clause-gives
+returns-3-clause-gives c =
+    let ends : c.statement_end-end.result ≡ statement_end (simple_of c.in-Ok-attempt.field-0.value) = c.statement_end-end.ensures ∙ ap (λ x. statement_end (simple_of x)) c.deref.ensures in
+    made-gives _ (λ (x : Box Statement Global). statement_of x.value) (unit.Perform (simple_of c.in-Ok-attempt.field-0.value)) _ _ _ c.or_no_memory.ensures c.perform.ensures (rw (c.in-Ok-attempt.ensures.gives, rw ends at c.in-Ok-attempt-2.ensures.gives) refl)
 
-pub returns-clause-shorter : goal.returns-clause-shorter
-returns-clause-shorter c = always c.or_no_memory.result (omega (arith, c.in_ok-simple.ensures.shorter, c.in_ok-mark.ensures.shorter))
+pub returns-3-clause-shorter : goal.returns-3-clause-shorter
+returns-3-clause-shorter c = always c.or_no_memory.result (omega (arith, c.in-Ok-attempt.ensures.shorter, c.in-Ok-attempt-2.ensures.shorter))

@@ -7,17 +7,17 @@ use Rattle.c_syntax.specs.Statements.{statement_of}
 use Rattle.c_parse_statement.proofs.Made.{made-gives, always}
 use Rattle.c_parse_statement.proofs.pieces.plain_statement.Goals as goal
 
-pub returns-then-next_keyword-clause-gives : goal.returns-then-next_keyword-clause-gives
-returns-then-next_keyword-clause-gives c =
-    made-gives _ (λ (x : Box Statement Global). statement_of x.value) (unit.Continue c.in_ok-offset.offset) _ _ _ c.or_no_memory.ensures c.continue_at.ensures (rw (sym c.next_keyword.ensures ∙ c.if-next_keyword.true, c.in_ok-offset.ensures.gives) refl)
-
-pub returns-then-next_keyword-clause-shorter : goal.returns-then-next_keyword-clause-shorter
-returns-then-next_keyword-clause-shorter c = always c.or_no_memory.result c.in_ok-offset.ensures.shorter
-
 pub returns-then-next_keyword-2-clause-gives : goal.returns-then-next_keyword-2-clause-gives
 returns-then-next_keyword-2-clause-gives c =
-    made-gives _ (λ (x : Box Statement Global). statement_of x.value) (unit.Break c.in_ok-offset-2.offset) _ _ _ c.or_no_memory-then-next_keyword-2.ensures c.break_at.ensures
-    (rw (sym c.next_keyword.ensures ∙ c.if-next_keyword.false, sym c.next_keyword-2.ensures ∙ c.if-next_keyword-2.true, c.in_ok-offset-2.ensures.gives) refl)
+    made-gives _ (λ (x : Box Statement Global). statement_of x.value) (unit.Continue c.in-Ok-attempt.field-0) _ _ _ c.or_no_memory.ensures c.continue_at.ensures (rw (sym c.next_keyword.ensures ∙ c.if-next_keyword.true, c.in-Ok-attempt.ensures.gives) refl)
 
 pub returns-then-next_keyword-2-clause-shorter : goal.returns-then-next_keyword-2-clause-shorter
-returns-then-next_keyword-2-clause-shorter c = always c.or_no_memory-then-next_keyword-2.result c.in_ok-offset-2.ensures.shorter
+returns-then-next_keyword-2-clause-shorter c = always c.or_no_memory.result c.in-Ok-attempt.ensures.shorter
+
+pub returns-then-next_keyword-2-3-clause-gives : goal.returns-then-next_keyword-2-3-clause-gives
+returns-then-next_keyword-2-3-clause-gives c =
+    made-gives _ (λ (x : Box Statement Global). statement_of x.value) (unit.Break c.in-Ok-attempt-offset.field-0) _ _ _ c.or_no_memory-then-next_keyword-2.ensures c.break_at.ensures
+    (rw (sym c.next_keyword.ensures ∙ c.if-next_keyword.false, sym c.next_keyword-2.ensures ∙ c.if-next_keyword-2.true, c.in-Ok-attempt-offset.ensures.gives) refl)
+
+pub returns-then-next_keyword-2-3-clause-shorter : goal.returns-then-next_keyword-2-3-clause-shorter
+returns-then-next_keyword-2-3-clause-shorter c = always c.or_no_memory-then-next_keyword-2.result c.in-Ok-attempt-offset.ensures.shorter

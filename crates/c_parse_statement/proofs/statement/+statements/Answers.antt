@@ -19,10 +19,10 @@ use Rattle.c_parse_token.specs.Lists.{list_of, names_of, Gives}
 use Rattle.c_parse_token.proofs.Steps.{fewer}
 use Rattle.c_parse_expression.specs.Whole.{expressions}
 use Rattle.c_parse_statement.specs.Pieces.{within, read_of, read_plain, starts_part, taken_labels, taken_parts}
-use Rattle.c_parse_token.proofs.Errors.{failed, no_memory}
+use Rattle.c_parse_token.proofs.Errors.{gives-from}
 use Rattle.c_parse_statement.proofs.StatementFuel.{statement-some}
 use Rattle.c_parse_statement.specs.Runs.{Run, none}
-use Rattle.c_parse_statement.proofs.Runs.{run-last, run-failed, run-no_memory, run-takes}
+use Rattle.c_parse_statement.proofs.Runs.{run-last, run-fault, run-takes}
 use Rattle.c_parse_statement.proofs.Made.{made-gives, always}
 use Rattle.c_parse_statement.proofs.Loops.{parts-same, parts-gives, Groups, groups-start, groups-step, groups-end, labels-failed, parts-failed}
 use Rattle.c_parse_statement.proofs.Split.{if-parts}
@@ -44,35 +44,28 @@ all_parts-items-preserved t c =
     let names = names_of c.args.scope.names.now in
     let inner = expressions c.args.scope.names.now in
     let inside = within c.args.scope.names.now c.args.fuel in
-    let next = c.in_ok-next.next in
+    let next = c.in-Ok-attempt.field-0 in
     let rest = c.part.new.tokens.rest.now in
-    let all : taken_parts c.push.new.self ≡ taken_parts c.items.all ++ read_of (part_of next) ∷ [] = ap (map (λ part. read_of (part_of part))) c.in_ok-push.ensures.items ∙ map-append (λ part. read_of (part_of part)) c.items.all.items (next ∷ []) in
+    let all : taken_parts c.push.new.self ≡ taken_parts c.items.all ++ read_of (part_of next) ∷ [] = ap (map (λ part. read_of (part_of part))) c.in-Ok-allocated.ensures.items ∙ map-append (λ part. read_of (part_of part)) c.items.all.items (next ∷ []) in
     record {
       run = subst (λ xs. Run starts_part (statements.read_part names inner inside c.args.scope.depth) (list_of c.args.tokens.now.rest.now) xs (list_of rest)) (sym all)
-          (run-last starts_part (statements.read_part names inner inside c.args.scope.depth) (list_of c.args.tokens.now.rest.now) (list_of c.items.tokens.rest.now) (list_of rest) (taken_parts c.items.all) (read_of (part_of next)) c.items.invariant.run (sym c.starts_part.ensures ∙ c.items-test.true) c.in_ok-next.ensures.gives (fewer rest c.items.tokens.rest.now c.in_ok-next.ensures.shorter));
-      fewer = omega (arith, c.in_ok-next.ensures.shorter, c.items.invariant.fewer);
+          (run-last starts_part (statements.read_part names inner inside c.args.scope.depth) (list_of c.args.tokens.now.rest.now) (list_of c.items.tokens.rest.now) (list_of rest) (taken_parts c.items.all) (read_of (part_of next)) c.items.invariant.run (sym c.starts_part.ensures ∙ c.items-test.true) c.in-Ok-attempt.ensures.gives (fewer rest c.items.tokens.rest.now c.in-Ok-attempt.ensures.shorter));
+      fewer = omega (arith, c.in-Ok-attempt.ensures.shorter, c.items.invariant.fewer);
     }
 
-pub all_parts-returns-in_err-next-clause-gives : goal.all_parts-returns-in_err-next-clause-gives
-all_parts-returns-in_err-next-clause-gives t c =
+pub all_parts-returns-in-items-clause-gives : goal.all_parts-returns-in-items-clause-gives
+all_parts-returns-in-items-clause-gives t c =
     let names = names_of c.args.scope.names.now in
     let inner = expressions c.args.scope.names.now in
     let inside = within c.args.scope.names.now c.args.fuel in
-    parts-gives names inner inside c.args.scope.depth c.args.tokens.now.rest.now c.part.new.tokens.rest.now _ (run-failed starts_part (statements.read_part names inner inside c.args.scope.depth) taken_parts (λ x. read_of (part_of x)) _ _ (list_of c.items.tokens.rest.now) (taken_parts c.items.all) _ c.in_err-next.field-0.0 c.from_residual.ensures.1 c.items.invariant.run (sym c.starts_part.ensures ∙ c.items-test.true) c.in_err-next.ensures.gives)
+    parts-gives names inner inside c.args.scope.depth c.args.tokens.now.rest.now c.part.new.tokens.rest.now (Err c.in-Err-attempt.field-0) (run-fault starts_part (statements.read_part names inner inside c.args.scope.depth) taken_parts (λ x. read_of (part_of x)) _ _ (list_of c.items.tokens.rest.now) (taken_parts c.items.all) c.in-Err-attempt.field-0 c.items.invariant.run (sym c.starts_part.ensures ∙ c.items-test.true) c.in-Err-attempt.ensures.gives)
 
-pub all_parts-returns-in_err-next-clause-runs : goal.all_parts-returns-in_err-next-clause-runs
-all_parts-returns-in_err-next-clause-runs t c =
+pub all_parts-returns-in-items-clause-runs : goal.all_parts-returns-in-items-clause-runs
+all_parts-returns-in-items-clause-runs t c =
     let names = names_of c.args.scope.names.now in
     let inner = expressions c.args.scope.names.now in
     let inside = within c.args.scope.names.now c.args.fuel in
-    run-failed starts_part (statements.read_part names inner inside c.args.scope.depth) taken_parts (λ x. read_of (part_of x)) _ _ (list_of c.items.tokens.rest.now) (taken_parts c.items.all) _ c.in_err-next.field-0.0 c.from_residual.ensures.1 c.items.invariant.run (sym c.starts_part.ensures ∙ c.items-test.true) c.in_err-next.ensures.gives
-
-pub all_parts-returns-in_err-push-clause-runs : goal.all_parts-returns-in_err-push-clause-runs
-all_parts-returns-in_err-push-clause-runs t c =
-    let names = names_of c.args.scope.names.now in
-    let inner = expressions c.args.scope.names.now in
-    let inside = within c.args.scope.names.now c.args.fuel in
-    run-no_memory starts_part (statements.read_part names inner inside c.args.scope.depth) taken_parts _ _ _ c.from_residual-in_err-push.ensures.1
+    run-fault starts_part (statements.read_part names inner inside c.args.scope.depth) taken_parts (λ x. read_of (part_of x)) _ _ (list_of c.items.tokens.rest.now) (taken_parts c.items.all) c.in-Err-attempt.field-0 c.items.invariant.run (sym c.starts_part.ensures ∙ c.items-test.true) c.in-Err-attempt.ensures.gives
 
 pub all_parts-returns-clause-gives : goal.all_parts-returns-clause-gives
 all_parts-returns-clause-gives t c =
@@ -88,55 +81,50 @@ all_parts-returns-clause-runs t c =
     let inside = within c.args.scope.names.now c.args.fuel in
     (c.items.invariant.run, sym c.starts_part.ensures ∙ c.items-test.false)
 
-pub block-returns-in_err-mark-clause-gives : goal.block-returns-in_err-mark-clause-gives
-block-returns-in_err-mark-clause-gives t c =
+pub block-returns-3-clause-gives : goal.block-returns-3-clause-gives
+block-returns-3-clause-gives t c =
     let names = names_of c.args.scope.names.now in
     let inner = expressions c.args.scope.names.now in
     let inside = within c.args.scope.names.now c.args.fuel in
-    failed _ _ (λ (x : ℕ). x) _ _ _ c.in_err-mark.field-0.0 c.from_residual-in_err-mark.ensures.1 c.in_err-mark.ensures.gives
-    (λ fault e. block-unclosed names inner inside c.args.scope.depth (c.args.scope.depth + 1) c.in_ok-offset.offset (parts_in c.in_ok-parts.parts) fault (list_of c.args.tokens.now.rest.now) (list_of c.opening.new.self.rest.now) (list_of c.all_parts.new.tokens.rest.now) (omega arith) c.in_ok-offset.ensures.gives c.in_ok-parts.ensures.gives e)
+    gives-from _ _ (λ (x : ℕ). x) (λ y. y) _ c.in-Err-attempt-2.field-0 (λ fault e. block-unclosed names inner inside c.args.scope.depth (c.args.scope.depth + 1) c.in-Ok-attempt.field-0 (parts_in c.in-Ok-attempt-parts.field-0) fault (list_of c.args.tokens.now.rest.now) (list_of c.opening.new.self.rest.now) (list_of c.all_parts.new.tokens.rest.now) (omega arith) c.in-Ok-attempt.ensures.gives c.in-Ok-attempt-parts.ensures.gives e) c.in-Err-attempt-2.ensures.gives
 
-pub for_statement-returns-in_err-start-clause-gives : goal.for_statement-returns-in_err-start-clause-gives
-for_statement-returns-in_err-start-clause-gives t c =
+pub for_statement-returns-3-clause-gives : goal.for_statement-returns-3-clause-gives
+for_statement-returns-3-clause-gives t c =
     let names = names_of c.args.scope.names.now in
     let inner = expressions c.args.scope.names.now in
     let inside = within c.args.scope.names.now c.args.fuel in
-    failed _ _ (λ (x : Box ForStart Global). start_of x.value) _ _ _ c.in_err-start.field-0.0 c.from_residual-in_err-start.ensures.1 c.in_err-start.ensures.gives
-    (λ fault e. for-start_error names inner inside c.args.scope.depth (c.args.scope.depth + 1) (c.args.scope.depth + 2) c.in_ok-offset.offset c.in_ok-opening.field-0 fault (list_of c.args.tokens.now.rest.now) (list_of c.opening.new.tokens.rest.now) (list_of c.opening-2.new.self.rest.now) (omega arith) (omega arith) c.in_ok-offset.ensures.gives c.in_ok-opening.ensures.gives e)
+    gives-from _ _ (λ (x : Box ForStart Global). start_of x.value) (λ y. y) _ c.in-Err-attempt-start.field-0 (λ fault e. for-start_error names inner inside c.args.scope.depth (c.args.scope.depth + 1) (c.args.scope.depth + 2) c.in-Ok-attempt.field-0 c.in-Ok-attempt-2.field-0 fault (list_of c.args.tokens.now.rest.now) (list_of c.opening.new.tokens.rest.now) (list_of c.opening-2.new.self.rest.now) (omega arith) (omega arith) c.in-Ok-attempt.ensures.gives c.in-Ok-attempt-2.ensures.gives e) c.in-Err-attempt-start.ensures.gives
 
-pub for_statement-returns-in_err-test-clause-gives : goal.for_statement-returns-in_err-test-clause-gives
-for_statement-returns-in_err-test-clause-gives t c =
+pub for_statement-returns-4-clause-gives : goal.for_statement-returns-4-clause-gives
+for_statement-returns-4-clause-gives t c =
     let names = names_of c.args.scope.names.now in
     let inner = expressions c.args.scope.names.now in
     let inside = within c.args.scope.names.now c.args.fuel in
-    failed _ _ (λ x. option_map (λ (test : Box Expression Global). expression_of test.value) x) _ _ _ c.in_err-test.field-0.0 c.from_residual-in_err-test.ensures.1 c.in_err-test.ensures.gives
-    (λ fault e. for-test_error names inner inside c.args.scope.depth (c.args.scope.depth + 1) (c.args.scope.depth + 2) c.in_ok-offset.offset c.in_ok-opening.field-0 (start_of c.in_ok-start.start.value) fault (list_of c.args.tokens.now.rest.now) (list_of c.opening.new.tokens.rest.now) (list_of c.opening-2.new.self.rest.now) (list_of c.for_start.new.tokens.rest.now) (omega arith) (omega arith) c.in_ok-offset.ensures.gives c.in_ok-opening.ensures.gives c.in_ok-start.ensures.gives e)
+    gives-from _ _ (λ x. option_map (λ (test : Box Expression Global). expression_of test.value) x) (λ y. y) _ c.in-Err-attempt-test.field-0 (λ fault e. for-test_error names inner inside c.args.scope.depth (c.args.scope.depth + 1) (c.args.scope.depth + 2) c.in-Ok-attempt.field-0 c.in-Ok-attempt-2.field-0 (start_of c.in-Ok-attempt-start.field-0.value) fault (list_of c.args.tokens.now.rest.now) (list_of c.opening.new.tokens.rest.now) (list_of c.opening-2.new.self.rest.now) (list_of c.for_start.new.tokens.rest.now) (omega arith) (omega arith) c.in-Ok-attempt.ensures.gives c.in-Ok-attempt-2.ensures.gives c.in-Ok-attempt-start.ensures.gives e) c.in-Err-attempt-test.ensures.gives
 
-pub for_statement-returns-in_err-step-clause-gives : goal.for_statement-returns-in_err-step-clause-gives
-for_statement-returns-in_err-step-clause-gives t c =
+pub for_statement-returns-5-clause-gives : goal.for_statement-returns-5-clause-gives
+for_statement-returns-5-clause-gives t c =
     let names = names_of c.args.scope.names.now in
     let inner = expressions c.args.scope.names.now in
     let inside = within c.args.scope.names.now c.args.fuel in
-    failed _ _ (λ x. option_map (λ (step : Box Simple Global). simple_of step.value) x) _ _ _ c.in_err-step.field-0.0 c.from_residual-in_err-step.ensures.1 c.in_err-step.ensures.gives
-    (λ fault e. for-step_error names inner inside c.args.scope.depth (c.args.scope.depth + 1) (c.args.scope.depth + 2) c.in_ok-offset.offset c.in_ok-opening.field-0 (start_of c.in_ok-start.start.value) (option_map (λ x. expression_of x.value) c.in_ok-test.test) fault (list_of c.args.tokens.now.rest.now) (list_of c.opening.new.tokens.rest.now) (list_of c.opening-2.new.self.rest.now) (list_of c.for_start.new.tokens.rest.now) (list_of c.for_test.new.tokens.rest.now) (omega arith) (omega arith) c.in_ok-offset.ensures.gives c.in_ok-opening.ensures.gives c.in_ok-start.ensures.gives c.in_ok-test.ensures.gives e)
+    gives-from _ _ (λ x. option_map (λ (step : Box Simple Global). simple_of step.value) x) (λ y. y) _ c.in-Err-attempt-step.field-0 (λ fault e. for-step_error names inner inside c.args.scope.depth (c.args.scope.depth + 1) (c.args.scope.depth + 2) c.in-Ok-attempt.field-0 c.in-Ok-attempt-2.field-0 (start_of c.in-Ok-attempt-start.field-0.value) (option_map (λ x. expression_of x.value) c.in-Ok-attempt-test.field-0) fault (list_of c.args.tokens.now.rest.now) (list_of c.opening.new.tokens.rest.now) (list_of c.opening-2.new.self.rest.now) (list_of c.for_start.new.tokens.rest.now) (list_of c.for_test.new.tokens.rest.now) (omega arith) (omega arith) c.in-Ok-attempt.ensures.gives c.in-Ok-attempt-2.ensures.gives c.in-Ok-attempt-start.ensures.gives c.in-Ok-attempt-test.ensures.gives e) c.in-Err-attempt-step.ensures.gives
 
-pub for_statement-returns-in_err-body-clause-gives : goal.for_statement-returns-in_err-body-clause-gives
-for_statement-returns-in_err-body-clause-gives t c =
+pub for_statement-returns-6-clause-gives : goal.for_statement-returns-6-clause-gives
+for_statement-returns-6-clause-gives t c =
     let names = names_of c.args.scope.names.now in
     let inner = expressions c.args.scope.names.now in
     let inside = within c.args.scope.names.now c.args.fuel in
-    failed _ _ (λ (x : Box Statement Global). statement_of x.value) _ _ _ c.in_err-body.field-0.0 c.from_residual-in_err-body.ensures.1 c.in_err-body.ensures.gives
-    (λ fault e. for-body_error names inner inside c.args.scope.depth (c.args.scope.depth + 1) (c.args.scope.depth + 2) c.in_ok-offset.offset c.in_ok-opening.field-0 (start_of c.in_ok-start.start.value) (option_map (λ x. expression_of x.value) c.in_ok-test.test) (option_map (λ x. simple_of x.value) c.in_ok-step.step) fault (list_of c.args.tokens.now.rest.now) (list_of c.opening.new.tokens.rest.now) (list_of c.opening-2.new.self.rest.now) (list_of c.for_start.new.tokens.rest.now) (list_of c.for_test.new.tokens.rest.now) (list_of c.for_step.new.tokens.rest.now) (omega arith) (omega arith) c.in_ok-offset.ensures.gives c.in_ok-opening.ensures.gives c.in_ok-start.ensures.gives c.in_ok-test.ensures.gives c.in_ok-step.ensures.gives e)
+    gives-from _ _ (λ (x : Box Statement Global). statement_of x.value) (λ y. y) _ c.in-Err-attempt-body.field-0 (λ fault e. for-body_error names inner inside c.args.scope.depth (c.args.scope.depth + 1) (c.args.scope.depth + 2) c.in-Ok-attempt.field-0 c.in-Ok-attempt-2.field-0 (start_of c.in-Ok-attempt-start.field-0.value) (option_map (λ x. expression_of x.value) c.in-Ok-attempt-test.field-0) (option_map (λ x. simple_of x.value) c.in-Ok-attempt-step.field-0) fault (list_of c.args.tokens.now.rest.now) (list_of c.opening.new.tokens.rest.now) (list_of c.opening-2.new.self.rest.now) (list_of c.for_start.new.tokens.rest.now) (list_of c.for_test.new.tokens.rest.now) (list_of c.for_step.new.tokens.rest.now) (omega arith) (omega arith) c.in-Ok-attempt.ensures.gives c.in-Ok-attempt-2.ensures.gives c.in-Ok-attempt-start.ensures.gives c.in-Ok-attempt-test.ensures.gives c.in-Ok-attempt-step.ensures.gives e) c.in-Err-attempt-body.ensures.gives
 
-pub for_statement-returns-clause-gives : goal.for_statement-returns-clause-gives
-for_statement-returns-clause-gives t c =
+pub for_statement-returns-7-clause-gives : goal.for_statement-returns-7-clause-gives
+for_statement-returns-7-clause-gives t c =
     let names = names_of c.args.scope.names.now in
     let inner = expressions c.args.scope.names.now in
     let inside = within c.args.scope.names.now c.args.fuel in
-    made-gives _ (λ (x : Box Statement Global). statement_of x.value) (unit.For (start_of c.in_ok-start.start.value) (option_map (λ x. expression_of x.value) c.in_ok-test.test) (option_map (λ x. simple_of x.value) c.in_ok-step.step) (statement_of c.in_ok-body.body.value) c.in_ok-offset.offset) _ _ _ c.or_no_memory.ensures c.for_loop.ensures (for-found names inner inside c.args.scope.depth (c.args.scope.depth + 1) (c.args.scope.depth + 2) c.in_ok-offset.offset c.in_ok-opening.field-0 (start_of c.in_ok-start.start.value) (option_map (λ x. expression_of x.value) c.in_ok-test.test) (option_map (λ x. simple_of x.value) c.in_ok-step.step) (statement_of c.in_ok-body.body.value) (list_of c.args.tokens.now.rest.now) (list_of c.opening.new.tokens.rest.now) (list_of c.opening-2.new.self.rest.now) (list_of c.for_start.new.tokens.rest.now) (list_of c.for_test.new.tokens.rest.now) (list_of c.for_step.new.tokens.rest.now) (list_of c.statement.new.tokens.rest.now) (omega arith) (omega arith) c.in_ok-offset.ensures.gives c.in_ok-opening.ensures.gives c.in_ok-start.ensures.gives c.in_ok-test.ensures.gives c.in_ok-step.ensures.gives c.in_ok-body.ensures.gives)
+    made-gives _ (λ (x : Box Statement Global). statement_of x.value) (unit.For (start_of c.in-Ok-attempt-start.field-0.value) (option_map (λ x. expression_of x.value) c.in-Ok-attempt-test.field-0) (option_map (λ x. simple_of x.value) c.in-Ok-attempt-step.field-0) (statement_of c.in-Ok-attempt-body.field-0.value) c.in-Ok-attempt.field-0) _ _ _ c.or_no_memory.ensures c.for_loop.ensures (for-found names inner inside c.args.scope.depth (c.args.scope.depth + 1) (c.args.scope.depth + 2) c.in-Ok-attempt.field-0 c.in-Ok-attempt-2.field-0 (start_of c.in-Ok-attempt-start.field-0.value) (option_map (λ x. expression_of x.value) c.in-Ok-attempt-test.field-0) (option_map (λ x. simple_of x.value) c.in-Ok-attempt-step.field-0) (statement_of c.in-Ok-attempt-body.field-0.value) (list_of c.args.tokens.now.rest.now) (list_of c.opening.new.tokens.rest.now) (list_of c.opening-2.new.self.rest.now) (list_of c.for_start.new.tokens.rest.now) (list_of c.for_test.new.tokens.rest.now) (list_of c.for_step.new.tokens.rest.now) (list_of c.statement.new.tokens.rest.now) (omega arith) (omega arith) c.in-Ok-attempt.ensures.gives c.in-Ok-attempt-2.ensures.gives c.in-Ok-attempt-start.ensures.gives c.in-Ok-attempt-test.ensures.gives c.in-Ok-attempt-step.ensures.gives c.in-Ok-attempt-body.ensures.gives)
 
-pub for_statement-returns-clause-shorter : goal.for_statement-returns-clause-shorter
-for_statement-returns-clause-shorter t c = always c.or_no_memory.result (omega (arith, c.in_ok-offset.ensures.shorter, c.in_ok-opening.ensures.shorter, c.in_ok-start.ensures.shorter, c.in_ok-test.ensures.shorter, c.in_ok-step.ensures.shorter, c.in_ok-body.ensures.shorter))
+pub for_statement-returns-7-clause-shorter : goal.for_statement-returns-7-clause-shorter
+for_statement-returns-7-clause-shorter t c = always c.or_no_memory.result (omega (arith, c.in-Ok-attempt.ensures.shorter, c.in-Ok-attempt-2.ensures.shorter, c.in-Ok-attempt-start.ensures.shorter, c.in-Ok-attempt-test.ensures.shorter, c.in-Ok-attempt-step.ensures.shorter, c.in-Ok-attempt-body.ensures.shorter))
 
 pub groups-items-init : goal.groups-items-init
 groups-items-init t c =
@@ -153,17 +141,17 @@ groups-items-preserved t c =
     let names = names_of c.args.scope.names.now in
     let inner = expressions c.args.scope.names.now in
     let inside = within c.args.scope.names.now c.args.fuel in
-    let labels = taken_labels c.in_ok-labels.labels in
-    let group = c.in_ok-group.group in
+    let labels = taken_labels c.in-Ok-attempt.field-0 in
+    let group = c.in-Ok-allocated.field-0 in
     let rest = list_of c.all_parts.new.tokens.rest.now in
-    let made : (labels, statements.parts_of (taken_parts c.in_ok-parts.parts)) ≡ group_of group.value = ap (λ p. (labels, p)) (parts-same c.in_ok-parts.parts.items) ∙ sym c.in_ok-group.ensures in
+    let made : (labels, statements.parts_of (taken_parts c.in-Ok-attempt-parts.field-0)) ≡ group_of group.value = ap (λ p. (labels, p)) (parts-same c.in-Ok-attempt-parts.field-0.items) ∙ sym c.in-Ok-allocated.ensures in
     let all : map group_of (unboxed c.push.new.self) ≡ map group_of (unboxed c.items.all) ++ group_of group.value ∷ [] =
-    ap (λ items. map group_of (map (λ b. b.value) items)) c.in_ok-push.ensures.items ∙ ap (map group_of) (map-append (λ b. b.value) c.items.all.items (group ∷ [])) ∙ map-append group_of (unboxed c.items.all) (group.value ∷ []) in
+    ap (λ items. map group_of (map (λ b. b.value) items)) c.in-Ok-allocated-2.ensures.items ∙ ap (map group_of) (map-append (λ b. b.value) c.items.all.items (group ∷ [])) ∙ map-append group_of (unboxed c.items.all) (group.value ∷ []) in
     record {
       going = subst (λ gs. Groups names inner inside c.args.scope.depth (read_groups names inner inside c.args.scope.depth (list_of c.args.tokens.now.rest.now)) gs rest) (sym all)
           (subst (λ g. Groups names inner inside c.args.scope.depth (read_groups names inner inside c.args.scope.depth (list_of c.args.tokens.now.rest.now)) (map group_of (unboxed c.items.all) ++ g ∷ []) rest) made
-          (groups-step names inner inside c.args.scope.depth (read_groups names inner inside c.args.scope.depth (list_of c.args.tokens.now.rest.now)) (map group_of (unboxed c.items.all)) (list_of c.items.tokens.rest.now) (list_of c.labels.new.tokens.rest.now) rest labels (taken_parts c.in_ok-parts.parts) c.items.invariant.going (sym c.starts_label.ensures ∙ c.items-test.true) c.in_ok-labels.ensures.runs.0 c.in_ok-labels.ensures.runs.1 c.in_ok-parts.ensures.runs.0 c.in_ok-parts.ensures.runs.1));
-      fewer = omega (arith, (run-takes begins_label (read_label inner c.args.scope.depth) c.items.tokens.rest.now c.labels.new.tokens.rest.now (taken_labels c.in_ok-labels.labels) c.in_ok-labels.ensures.runs.0 (sym c.starts_label.ensures ∙ c.items-test.true) c.in_ok-labels.ensures.runs.1), c.in_ok-parts.ensures.shorter, c.items.invariant.fewer);
+          (groups-step names inner inside c.args.scope.depth (read_groups names inner inside c.args.scope.depth (list_of c.args.tokens.now.rest.now)) (map group_of (unboxed c.items.all)) (list_of c.items.tokens.rest.now) (list_of c.labels.new.tokens.rest.now) rest labels (taken_parts c.in-Ok-attempt-parts.field-0) c.items.invariant.going (sym c.starts_label.ensures ∙ c.items-test.true) c.in-Ok-attempt.ensures.runs.0 c.in-Ok-attempt.ensures.runs.1 c.in-Ok-attempt-parts.ensures.runs.0 c.in-Ok-attempt-parts.ensures.runs.1));
+      fewer = omega (arith, (run-takes begins_label (read_label inner c.args.scope.depth) c.items.tokens.rest.now c.labels.new.tokens.rest.now (taken_labels c.in-Ok-attempt.field-0) c.in-Ok-attempt.ensures.runs.0 (sym c.starts_label.ensures ∙ c.items-test.true) c.in-Ok-attempt.ensures.runs.1), c.in-Ok-attempt-parts.ensures.shorter, c.items.invariant.fewer);
     }
 
 pub groups-items-smaller : goal.groups-items-smaller
@@ -171,21 +159,21 @@ groups-items-smaller t c =
     let names = names_of c.args.scope.names.now in
     let inner = expressions c.args.scope.names.now in
     let inside = within c.args.scope.names.now c.args.fuel in
-    omega (arith, (run-takes begins_label (read_label inner c.args.scope.depth) c.items.tokens.rest.now c.labels.new.tokens.rest.now (taken_labels c.in_ok-labels.labels) c.in_ok-labels.ensures.runs.0 (sym c.starts_label.ensures ∙ c.items-test.true) c.in_ok-labels.ensures.runs.1), c.in_ok-parts.ensures.shorter)
+    omega (arith, (run-takes begins_label (read_label inner c.args.scope.depth) c.items.tokens.rest.now c.labels.new.tokens.rest.now (taken_labels c.in-Ok-attempt.field-0) c.in-Ok-attempt.ensures.runs.0 (sym c.starts_label.ensures ∙ c.items-test.true) c.in-Ok-attempt.ensures.runs.1), c.in-Ok-attempt-parts.ensures.shorter)
 
-pub groups-returns-in_err-labels-clause-gives : goal.groups-returns-in_err-labels-clause-gives
-groups-returns-in_err-labels-clause-gives t c =
+pub groups-returns-in-items-clause-gives : goal.groups-returns-in-items-clause-gives
+groups-returns-in-items-clause-gives t c =
     let names = names_of c.args.scope.names.now in
     let inner = expressions c.args.scope.names.now in
     let inside = within c.args.scope.names.now c.args.fuel in
-    labels-failed names inner inside c.args.scope.depth (read_groups names inner inside c.args.scope.depth (list_of c.args.tokens.now.rest.now)) groups_in (map group_of (unboxed c.items.all)) c.items.tokens.rest.now _ _ c.in_err-labels.field-0.0 c.from_residual.ensures.1 c.items.invariant.going c.in_err-labels.ensures.runs
+    labels-failed names inner inside c.args.scope.depth (read_groups names inner inside c.args.scope.depth (list_of c.args.tokens.now.rest.now)) groups_in (map group_of (unboxed c.items.all)) c.items.tokens.rest.now _ c.in-Err-attempt.field-0 c.items.invariant.going c.in-Err-attempt.ensures.runs
 
-pub groups-returns-in_err-parts-clause-gives : goal.groups-returns-in_err-parts-clause-gives
-groups-returns-in_err-parts-clause-gives t c =
+pub groups-returns-in-items-2-clause-gives : goal.groups-returns-in-items-2-clause-gives
+groups-returns-in-items-2-clause-gives t c =
     let names = names_of c.args.scope.names.now in
     let inner = expressions c.args.scope.names.now in
     let inside = within c.args.scope.names.now c.args.fuel in
-    parts-failed names inner inside c.args.scope.depth (read_groups names inner inside c.args.scope.depth (list_of c.args.tokens.now.rest.now)) groups_in (map group_of (unboxed c.items.all)) (list_of c.items.tokens.rest.now) (taken_labels c.in_ok-labels.labels) c.labels.new.tokens.rest.now _ _ c.in_err-parts.field-0.0 c.from_residual-in_err-parts.ensures.1 c.items.invariant.going (sym c.starts_label.ensures ∙ c.items-test.true) c.in_ok-labels.ensures.runs.0 c.in_ok-labels.ensures.runs.1 c.in_err-parts.ensures.runs
+    parts-failed names inner inside c.args.scope.depth (read_groups names inner inside c.args.scope.depth (list_of c.args.tokens.now.rest.now)) groups_in (map group_of (unboxed c.items.all)) (list_of c.items.tokens.rest.now) (taken_labels c.in-Ok-attempt.field-0) c.labels.new.tokens.rest.now _ c.in-Err-attempt-parts.field-0 c.items.invariant.going (sym c.starts_label.ensures ∙ c.items-test.true) c.in-Ok-attempt.ensures.runs.0 c.in-Ok-attempt.ensures.runs.1 c.in-Err-attempt-parts.ensures.runs
 
 pub groups-returns-clause-gives : goal.groups-returns-clause-gives
 groups-returns-clause-gives t c =
@@ -194,178 +182,163 @@ groups-returns-clause-gives t c =
     let inside = within c.args.scope.names.now c.args.fuel in
     groups-end names inner inside c.args.scope.depth (read_groups names inner inside c.args.scope.depth (list_of c.args.tokens.now.rest.now)) (map group_of (unboxed c.items.all)) (list_of c.items.tokens.rest.now) c.items.invariant.going (sym c.starts_label.ensures ∙ c.items-test.false)
 
-pub if_statement-returns-clause-gives : goal.if_statement-returns-clause-gives
-if_statement-returns-clause-gives t c =
+pub if_statement-returns-4-clause-gives : goal.if_statement-returns-4-clause-gives
+if_statement-returns-4-clause-gives t c =
     let names = names_of c.args.scope.names.now in
     let inner = expressions c.args.scope.names.now in
     let inside = within c.args.scope.names.now c.args.fuel in
-    let same = if-parts inner inside c.args.scope.depth (c.args.scope.depth + 1) c.in_ok-offset.offset (expression_of c.in_ok-test.test.value) (statement_of c.in_ok-body.body.value) (list_of c.args.tokens.now.rest.now) (list_of c.opening.new.tokens.rest.now) (list_of c.test.new.tokens.rest.now) (list_of c.statement.new.tokens.rest.now) (omega arith) c.in_ok-offset.ensures.gives c.in_ok-test.ensures.gives c.in_ok-body.ensures.gives in
+    let same = if-parts inner inside c.args.scope.depth (c.args.scope.depth + 1) c.in-Ok-attempt.field-0 (expression_of c.in-Ok-attempt-test.field-0.value) (statement_of c.in-Ok-attempt-body.field-0.value) (list_of c.args.tokens.now.rest.now) (list_of c.opening.new.tokens.rest.now) (list_of c.test.new.tokens.rest.now) (list_of c.statement.new.tokens.rest.now) (omega arith) c.in-Ok-attempt.ensures.gives c.in-Ok-attempt-test.ensures.gives c.in-Ok-attempt-body.ensures.gives in
     subst (λ o. Gives o (λ x. statement_of x.value) c.else_part.new.tokens.rest.now c.else_part.result) (sym same) c.else_part.ensures.gives
 
-pub switch_statement-returns-in_err-opening-clause-gives : goal.switch_statement-returns-in_err-opening-clause-gives
-switch_statement-returns-in_err-opening-clause-gives t c =
+pub switch_statement-returns-3-clause-gives : goal.switch_statement-returns-3-clause-gives
+switch_statement-returns-3-clause-gives t c =
     let names = names_of c.args.scope.names.now in
     let inner = expressions c.args.scope.names.now in
     let inside = within c.args.scope.names.now c.args.fuel in
-    failed _ _ (λ (x : ℕ). x) _ _ _ c.in_err-opening.field-0.0 c.from_residual-in_err-opening.ensures.1 c.in_err-opening.ensures.gives
-    (λ fault e. switch-open_error names inner inside c.args.scope.depth (c.args.scope.depth + 1) (c.args.scope.depth + 2) c.in_ok-offset.offset (expression_of c.in_ok-test.test.value) fault (list_of c.args.tokens.now.rest.now) (list_of c.opening.new.tokens.rest.now) (list_of c.test.new.tokens.rest.now) (omega arith) (omega arith) c.in_ok-offset.ensures.gives c.in_ok-test.ensures.gives e)
+    gives-from _ _ (λ (x : ℕ). x) (λ y. y) _ c.in-Err-attempt-2.field-0 (λ fault e. switch-open_error names inner inside c.args.scope.depth (c.args.scope.depth + 1) (c.args.scope.depth + 2) c.in-Ok-attempt.field-0 (expression_of c.in-Ok-attempt-test.field-0.value) fault (list_of c.args.tokens.now.rest.now) (list_of c.opening.new.tokens.rest.now) (list_of c.test.new.tokens.rest.now) (omega arith) (omega arith) c.in-Ok-attempt.ensures.gives c.in-Ok-attempt-test.ensures.gives e) c.in-Err-attempt-2.ensures.gives
 
-pub switch_statement-returns-in_err-groups-clause-gives : goal.switch_statement-returns-in_err-groups-clause-gives
-switch_statement-returns-in_err-groups-clause-gives t c =
+pub switch_statement-returns-4-clause-gives : goal.switch_statement-returns-4-clause-gives
+switch_statement-returns-4-clause-gives t c =
     let names = names_of c.args.scope.names.now in
     let inner = expressions c.args.scope.names.now in
     let inside = within c.args.scope.names.now c.args.fuel in
-    failed _ _ groups_in _ _ _ c.in_err-groups.field-0.0 c.from_residual-in_err-groups.ensures.1 c.in_err-groups.ensures.gives
-    (λ fault e. switch-groups_error names inner inside c.args.scope.depth (c.args.scope.depth + 1) (c.args.scope.depth + 2) c.in_ok-offset.offset (expression_of c.in_ok-test.test.value) c.in_ok-opening.field-0 fault (list_of c.args.tokens.now.rest.now) (list_of c.opening.new.tokens.rest.now) (list_of c.test.new.tokens.rest.now) (list_of c.opening-2.new.self.rest.now) (omega arith) (omega arith) c.in_ok-offset.ensures.gives c.in_ok-test.ensures.gives c.in_ok-opening.ensures.gives e)
+    gives-from _ _ groups_in (λ y. y) _ c.in-Err-attempt-groups.field-0 (λ fault e. switch-groups_error names inner inside c.args.scope.depth (c.args.scope.depth + 1) (c.args.scope.depth + 2) c.in-Ok-attempt.field-0 (expression_of c.in-Ok-attempt-test.field-0.value) c.in-Ok-attempt-2.field-0 fault (list_of c.args.tokens.now.rest.now) (list_of c.opening.new.tokens.rest.now) (list_of c.test.new.tokens.rest.now) (list_of c.opening-2.new.self.rest.now) (omega arith) (omega arith) c.in-Ok-attempt.ensures.gives c.in-Ok-attempt-test.ensures.gives c.in-Ok-attempt-2.ensures.gives e) c.in-Err-attempt-groups.ensures.gives
 
-pub switch_statement-returns-in_err-mark-clause-gives : goal.switch_statement-returns-in_err-mark-clause-gives
-switch_statement-returns-in_err-mark-clause-gives t c =
+pub switch_statement-returns-5-clause-gives : goal.switch_statement-returns-5-clause-gives
+switch_statement-returns-5-clause-gives t c =
     let names = names_of c.args.scope.names.now in
     let inner = expressions c.args.scope.names.now in
     let inside = within c.args.scope.names.now c.args.fuel in
-    failed _ _ (λ (x : ℕ). x) _ _ _ c.in_err-mark.field-0.0 c.from_residual-in_err-mark.ensures.1 c.in_err-mark.ensures.gives
-    (λ fault e. switch-close_error names inner inside c.args.scope.depth (c.args.scope.depth + 1) (c.args.scope.depth + 2) c.in_ok-offset.offset (expression_of c.in_ok-test.test.value) c.in_ok-opening.field-0 (groups_in c.in_ok-groups.groups) fault (list_of c.args.tokens.now.rest.now) (list_of c.opening.new.tokens.rest.now) (list_of c.test.new.tokens.rest.now) (list_of c.opening-2.new.self.rest.now) (list_of c.groups.new.tokens.rest.now) (omega arith) (omega arith) c.in_ok-offset.ensures.gives c.in_ok-test.ensures.gives c.in_ok-opening.ensures.gives c.in_ok-groups.ensures.gives e)
+    gives-from _ _ (λ (x : ℕ). x) (λ y. y) _ c.in-Err-attempt-3.field-0 (λ fault e. switch-close_error names inner inside c.args.scope.depth (c.args.scope.depth + 1) (c.args.scope.depth + 2) c.in-Ok-attempt.field-0 (expression_of c.in-Ok-attempt-test.field-0.value) c.in-Ok-attempt-2.field-0 (groups_in c.in-Ok-attempt-groups.field-0) fault (list_of c.args.tokens.now.rest.now) (list_of c.opening.new.tokens.rest.now) (list_of c.test.new.tokens.rest.now) (list_of c.opening-2.new.self.rest.now) (list_of c.groups.new.tokens.rest.now) (omega arith) (omega arith) c.in-Ok-attempt.ensures.gives c.in-Ok-attempt-test.ensures.gives c.in-Ok-attempt-2.ensures.gives c.in-Ok-attempt-groups.ensures.gives e) c.in-Err-attempt-3.ensures.gives
 
-pub switch_statement-returns-clause-gives : goal.switch_statement-returns-clause-gives
-switch_statement-returns-clause-gives t c =
+pub switch_statement-returns-6-clause-gives : goal.switch_statement-returns-6-clause-gives
+switch_statement-returns-6-clause-gives t c =
     let names = names_of c.args.scope.names.now in
     let inner = expressions c.args.scope.names.now in
     let inside = within c.args.scope.names.now c.args.fuel in
-    made-gives _ (λ (x : Box Statement Global). statement_of x.value) (unit.Switch (expression_of c.in_ok-test.test.value) (groups_in c.in_ok-groups.groups) c.in_ok-offset.offset) _ _ _ c.or_no_memory.ensures c.switch.ensures (switch-found names inner inside c.args.scope.depth (c.args.scope.depth + 1) (c.args.scope.depth + 2) c.in_ok-offset.offset (expression_of c.in_ok-test.test.value) c.in_ok-opening.field-0 (groups_in c.in_ok-groups.groups) c.in_ok-mark.field-0 (list_of c.args.tokens.now.rest.now) (list_of c.opening.new.tokens.rest.now) (list_of c.test.new.tokens.rest.now) (list_of c.opening-2.new.self.rest.now) (list_of c.groups.new.tokens.rest.now) (list_of c.mark.new.self.rest.now) (omega arith) (omega arith) c.in_ok-offset.ensures.gives c.in_ok-test.ensures.gives c.in_ok-opening.ensures.gives c.in_ok-groups.ensures.gives c.in_ok-mark.ensures.gives)
+    made-gives _ (λ (x : Box Statement Global). statement_of x.value) (unit.Switch (expression_of c.in-Ok-attempt-test.field-0.value) (groups_in c.in-Ok-attempt-groups.field-0) c.in-Ok-attempt.field-0) _ _ _ c.or_no_memory.ensures c.switch.ensures (switch-found names inner inside c.args.scope.depth (c.args.scope.depth + 1) (c.args.scope.depth + 2) c.in-Ok-attempt.field-0 (expression_of c.in-Ok-attempt-test.field-0.value) c.in-Ok-attempt-2.field-0 (groups_in c.in-Ok-attempt-groups.field-0) c.in-Ok-attempt-3.field-0 (list_of c.args.tokens.now.rest.now) (list_of c.opening.new.tokens.rest.now) (list_of c.test.new.tokens.rest.now) (list_of c.opening-2.new.self.rest.now) (list_of c.groups.new.tokens.rest.now) (list_of c.mark.new.self.rest.now) (omega arith) (omega arith) c.in-Ok-attempt.ensures.gives c.in-Ok-attempt-test.ensures.gives c.in-Ok-attempt-2.ensures.gives c.in-Ok-attempt-groups.ensures.gives c.in-Ok-attempt-3.ensures.gives)
 
-pub switch_statement-returns-clause-shorter : goal.switch_statement-returns-clause-shorter
-switch_statement-returns-clause-shorter t c = always c.or_no_memory.result (omega (arith, c.in_ok-offset.ensures.shorter, c.in_ok-test.ensures.shorter, c.in_ok-opening.ensures.shorter, c.in_ok-groups.ensures.shorter, c.in_ok-mark.ensures.shorter))
-
-pub part-returns-in_err-locals-clause-gives : goal.part-returns-in_err-locals-clause-gives
-part-returns-in_err-locals-clause-gives t c =
-    failed _ _ (λ (x : Box Locals Global). locals_of x.value) _ _ _ c.in_err-locals.field-0.0 c.from_residual.ensures.1 c.in_err-locals.ensures.gives (λ fault e. rw (sym c.starts_locals.ensures ∙ c.if-starts_locals.true, e) refl)
-
-pub part-returns-in_err-statement-clause-gives : goal.part-returns-in_err-statement-clause-gives
-part-returns-in_err-statement-clause-gives t c =
-    failed _ _ (λ (x : Box Statement Global). statement_of x.value) _ _ _ c.in_err-statement.field-0.0 c.from_residual-in_err-statement.ensures.1 c.in_err-statement.ensures.gives (λ fault e. rw (sym c.starts_locals.ensures ∙ c.if-starts_locals.false, e) refl)
+pub switch_statement-returns-6-clause-shorter : goal.switch_statement-returns-6-clause-shorter
+switch_statement-returns-6-clause-shorter t c = always c.or_no_memory.result (omega (arith, c.in-Ok-attempt.ensures.shorter, c.in-Ok-attempt-test.ensures.shorter, c.in-Ok-attempt-2.ensures.shorter, c.in-Ok-attempt-groups.ensures.shorter, c.in-Ok-attempt-3.ensures.shorter))
 
 pub part-returns-then-starts_locals-clause-gives : goal.part-returns-then-starts_locals-clause-gives
 part-returns-then-starts_locals-clause-gives t c =
-    rw (sym c.starts_locals.ensures ∙ c.if-starts_locals.true, c.in_ok-locals.ensures.gives) (ap (λ p. Ok (read_of p, list_of c.locals.new.tokens.rest.now)) (sym c.declared.ensures))
+    gives-from _ _ (λ (x : Box Locals Global). locals_of x.value) (λ y. y) _ c.in-Err-attempt.field-0 (λ fault e. rw (sym c.starts_locals.ensures ∙ c.if-starts_locals.true, e) refl) c.in-Err-attempt.ensures.gives
 
 pub part-returns-clause-gives : goal.part-returns-clause-gives
 part-returns-clause-gives t c =
-    rw (sym c.starts_locals.ensures ∙ c.if-starts_locals.false, c.in_ok-statement.ensures.gives) (ap (λ p. Ok (read_of p, list_of c.statement.new.tokens.rest.now)) (sym c.stated.ensures))
+    gives-from _ _ (λ (x : Box Statement Global). statement_of x.value) (λ y. y) _ c.in-Err-attempt-statement.field-0 (λ fault e. rw (sym c.starts_locals.ensures ∙ c.if-starts_locals.false, e) refl) c.in-Err-attempt-statement.ensures.gives
 
-pub all_parts-returns-in_err-push-clause-gives : goal.all_parts-returns-in_err-push-clause-gives
-all_parts-returns-in_err-push-clause-gives t c =
-    no_memory _ _ _ _ c.from_residual-in_err-push.ensures.1
+pub part-returns-then-starts_locals-2-clause-gives : goal.part-returns-then-starts_locals-2-clause-gives
+part-returns-then-starts_locals-2-clause-gives t c =
+    rw (sym c.starts_locals.ensures ∙ c.if-starts_locals.true, c.in-Ok-attempt.ensures.gives) (ap (λ p. Ok (read_of p, list_of c.locals.new.tokens.rest.now)) (sym c.declared.ensures))
 
-pub block-returns-in_err-offset-clause-gives : goal.block-returns-in_err-offset-clause-gives
-block-returns-in_err-offset-clause-gives t c =
-    failed _ _ (λ (x : ℕ). x) _ _ _ c.in_err-offset.field-0.0 c.from_residual.ensures.1 c.in_err-offset.ensures.gives (λ fault e. rw (e) refl)
-
-pub block-returns-in_err-parts-clause-gives : goal.block-returns-in_err-parts-clause-gives
-block-returns-in_err-parts-clause-gives t c =
-    let one : c.args.scope.depth + 1 ≡ suc c.args.scope.depth = omega arith in
-    failed _ _ parts_in _ _ _ c.in_err-parts.field-0.0 c.from_residual-in_err-parts.ensures.1 c.in_err-parts.ensures.gives (λ fault e. rw (c.in_ok-offset.ensures.gives, rw one at e) refl)
+pub part-returns-2-clause-gives : goal.part-returns-2-clause-gives
+part-returns-2-clause-gives t c =
+    rw (sym c.starts_locals.ensures ∙ c.if-starts_locals.false, c.in-Ok-attempt-statement.ensures.gives) (ap (λ p. Ok (read_of p, list_of c.statement.new.tokens.rest.now)) (sym c.stated.ensures))
 
 pub block-returns-clause-gives : goal.block-returns-clause-gives
 block-returns-clause-gives t c =
+    gives-from _ _ (λ (x : ℕ). x) (λ y. y) _ c.in-Err-attempt.field-0 (λ fault e. rw (e) refl) c.in-Err-attempt.ensures.gives
+
+pub block-returns-2-clause-gives : goal.block-returns-2-clause-gives
+block-returns-2-clause-gives t c =
     let one : c.args.scope.depth + 1 ≡ suc c.args.scope.depth = omega arith in
-    made-gives _ (λ (x : Box Statement Global). statement_of x.value) (unit.Block (parts_in c.in_ok-parts.parts) c.in_ok-offset.offset) _ _ _ c.or_no_memory.ensures c.block.ensures (rw (c.in_ok-offset.ensures.gives, rw one at c.in_ok-parts.ensures.gives, c.in_ok-mark.ensures.gives) refl)
+    gives-from _ _ parts_in (λ y. y) _ c.in-Err-attempt-parts.field-0 (λ fault e. rw (c.in-Ok-attempt.ensures.gives, rw one at e) refl) c.in-Err-attempt-parts.ensures.gives
 
-pub block-returns-clause-shorter : goal.block-returns-clause-shorter
-block-returns-clause-shorter t c = always c.or_no_memory.result (omega (arith, c.in_ok-offset.ensures.shorter, c.in_ok-parts.ensures.shorter, c.in_ok-mark.ensures.shorter))
-
-pub if_statement-returns-in_err-offset-clause-gives : goal.if_statement-returns-in_err-offset-clause-gives
-if_statement-returns-in_err-offset-clause-gives t c =
-    failed _ _ (λ (x : ℕ). x) _ _ _ c.in_err-offset.field-0.0 c.from_residual.ensures.1 c.in_err-offset.ensures.gives (λ fault e. rw (e) refl)
-
-pub if_statement-returns-in_err-test-clause-gives : goal.if_statement-returns-in_err-test-clause-gives
-if_statement-returns-in_err-test-clause-gives t c =
+pub block-returns-4-clause-gives : goal.block-returns-4-clause-gives
+block-returns-4-clause-gives t c =
     let one : c.args.scope.depth + 1 ≡ suc c.args.scope.depth = omega arith in
-    failed _ _ (λ (x : Box Expression Global). expression_of x.value) _ _ _ c.in_err-test.field-0.0 c.from_residual-in_err-test.ensures.1 c.in_err-test.ensures.gives (λ fault e. rw (c.in_ok-offset.ensures.gives, rw one at e) refl)
+    made-gives _ (λ (x : Box Statement Global). statement_of x.value) (unit.Block (parts_in c.in-Ok-attempt-parts.field-0) c.in-Ok-attempt.field-0) _ _ _ c.or_no_memory.ensures c.block.ensures (rw (c.in-Ok-attempt.ensures.gives, rw one at c.in-Ok-attempt-parts.ensures.gives, c.in-Ok-attempt-2.ensures.gives) refl)
 
-pub if_statement-returns-in_err-body-clause-gives : goal.if_statement-returns-in_err-body-clause-gives
-if_statement-returns-in_err-body-clause-gives t c =
+pub block-returns-4-clause-shorter : goal.block-returns-4-clause-shorter
+block-returns-4-clause-shorter t c = always c.or_no_memory.result (omega (arith, c.in-Ok-attempt.ensures.shorter, c.in-Ok-attempt-parts.ensures.shorter, c.in-Ok-attempt-2.ensures.shorter))
+
+pub if_statement-returns-clause-gives : goal.if_statement-returns-clause-gives
+if_statement-returns-clause-gives t c =
+    gives-from _ _ (λ (x : ℕ). x) (λ y. y) _ c.in-Err-attempt.field-0 (λ fault e. rw (e) refl) c.in-Err-attempt.ensures.gives
+
+pub if_statement-returns-2-clause-gives : goal.if_statement-returns-2-clause-gives
+if_statement-returns-2-clause-gives t c =
     let one : c.args.scope.depth + 1 ≡ suc c.args.scope.depth = omega arith in
-    failed _ _ (λ (x : Box Statement Global). statement_of x.value) _ _ _ c.in_err-body.field-0.0 c.from_residual-in_err-body.ensures.1 c.in_err-body.ensures.gives (λ fault e. rw (c.in_ok-offset.ensures.gives, rw one at c.in_ok-test.ensures.gives, rw one at e) refl)
+    gives-from _ _ (λ (x : Box Expression Global). expression_of x.value) (λ y. y) _ c.in-Err-attempt-test.field-0 (λ fault e. rw (c.in-Ok-attempt.ensures.gives, rw one at e) refl) c.in-Err-attempt-test.ensures.gives
 
-pub while_statement-returns-in_err-offset-clause-gives : goal.while_statement-returns-in_err-offset-clause-gives
-while_statement-returns-in_err-offset-clause-gives t c =
-    failed _ _ (λ (x : ℕ). x) _ _ _ c.in_err-offset.field-0.0 c.from_residual.ensures.1 c.in_err-offset.ensures.gives (λ fault e. rw (e) refl)
-
-pub while_statement-returns-in_err-test-clause-gives : goal.while_statement-returns-in_err-test-clause-gives
-while_statement-returns-in_err-test-clause-gives t c =
+pub if_statement-returns-3-clause-gives : goal.if_statement-returns-3-clause-gives
+if_statement-returns-3-clause-gives t c =
     let one : c.args.scope.depth + 1 ≡ suc c.args.scope.depth = omega arith in
-    failed _ _ (λ (x : Box Expression Global). expression_of x.value) _ _ _ c.in_err-test.field-0.0 c.from_residual-in_err-test.ensures.1 c.in_err-test.ensures.gives (λ fault e. rw (c.in_ok-offset.ensures.gives, rw one at e) refl)
-
-pub while_statement-returns-in_err-body-clause-gives : goal.while_statement-returns-in_err-body-clause-gives
-while_statement-returns-in_err-body-clause-gives t c =
-    let one : c.args.scope.depth + 1 ≡ suc c.args.scope.depth = omega arith in
-    failed _ _ (λ (x : Box Statement Global). statement_of x.value) _ _ _ c.in_err-body.field-0.0 c.from_residual-in_err-body.ensures.1 c.in_err-body.ensures.gives (λ fault e. rw (c.in_ok-offset.ensures.gives, rw one at c.in_ok-test.ensures.gives, rw one at e) refl)
+    gives-from _ _ (λ (x : Box Statement Global). statement_of x.value) (λ y. y) _ c.in-Err-attempt-body.field-0 (λ fault e. rw (c.in-Ok-attempt.ensures.gives, rw one at c.in-Ok-attempt-test.ensures.gives, rw one at e) refl) c.in-Err-attempt-body.ensures.gives
 
 pub while_statement-returns-clause-gives : goal.while_statement-returns-clause-gives
 while_statement-returns-clause-gives t c =
+    gives-from _ _ (λ (x : ℕ). x) (λ y. y) _ c.in-Err-attempt.field-0 (λ fault e. rw (e) refl) c.in-Err-attempt.ensures.gives
+
+pub while_statement-returns-2-clause-gives : goal.while_statement-returns-2-clause-gives
+while_statement-returns-2-clause-gives t c =
     let one : c.args.scope.depth + 1 ≡ suc c.args.scope.depth = omega arith in
-    made-gives _ (λ (x : Box Statement Global). statement_of x.value) (unit.While (expression_of c.in_ok-test.test.value) (statement_of c.in_ok-body.body.value) c.in_ok-offset.offset) _ _ _ c.or_no_memory.ensures c.while_loop.ensures (rw (c.in_ok-offset.ensures.gives, rw one at c.in_ok-test.ensures.gives, rw one at c.in_ok-body.ensures.gives) refl)
+    gives-from _ _ (λ (x : Box Expression Global). expression_of x.value) (λ y. y) _ c.in-Err-attempt-test.field-0 (λ fault e. rw (c.in-Ok-attempt.ensures.gives, rw one at e) refl) c.in-Err-attempt-test.ensures.gives
 
-pub while_statement-returns-clause-shorter : goal.while_statement-returns-clause-shorter
-while_statement-returns-clause-shorter t c = always c.or_no_memory.result (omega (arith, c.in_ok-offset.ensures.shorter, c.in_ok-test.ensures.shorter, c.in_ok-body.ensures.shorter))
-
-pub do_statement-returns-in_err-offset-clause-gives : goal.do_statement-returns-in_err-offset-clause-gives
-do_statement-returns-in_err-offset-clause-gives t c =
-    failed _ _ (λ (x : ℕ). x) _ _ _ c.in_err-offset.field-0.0 c.from_residual.ensures.1 c.in_err-offset.ensures.gives (λ fault e. rw (e) refl)
-
-pub do_statement-returns-in_err-body-clause-gives : goal.do_statement-returns-in_err-body-clause-gives
-do_statement-returns-in_err-body-clause-gives t c =
+pub while_statement-returns-3-clause-gives : goal.while_statement-returns-3-clause-gives
+while_statement-returns-3-clause-gives t c =
     let one : c.args.scope.depth + 1 ≡ suc c.args.scope.depth = omega arith in
-    failed _ _ (λ (x : Box Statement Global). statement_of x.value) _ _ _ c.in_err-body.field-0.0 c.from_residual-in_err-body.ensures.1 c.in_err-body.ensures.gives (λ fault e. rw (c.in_ok-offset.ensures.gives, rw one at e) refl)
+    gives-from _ _ (λ (x : Box Statement Global). statement_of x.value) (λ y. y) _ c.in-Err-attempt-body.field-0 (λ fault e. rw (c.in-Ok-attempt.ensures.gives, rw one at c.in-Ok-attempt-test.ensures.gives, rw one at e) refl) c.in-Err-attempt-body.ensures.gives
 
-pub do_statement-returns-in_err-keyword-clause-gives : goal.do_statement-returns-in_err-keyword-clause-gives
-do_statement-returns-in_err-keyword-clause-gives t c =
+pub while_statement-returns-4-clause-gives : goal.while_statement-returns-4-clause-gives
+while_statement-returns-4-clause-gives t c =
     let one : c.args.scope.depth + 1 ≡ suc c.args.scope.depth = omega arith in
-    failed _ _ (λ (x : ℕ). x) _ _ _ c.in_err-keyword.field-0.0 c.from_residual-in_err-keyword.ensures.1 c.in_err-keyword.ensures.gives (λ fault e. rw (c.in_ok-offset.ensures.gives, rw one at c.in_ok-body.ensures.gives, e) refl)
+    made-gives _ (λ (x : Box Statement Global). statement_of x.value) (unit.While (expression_of c.in-Ok-attempt-test.field-0.value) (statement_of c.in-Ok-attempt-body.field-0.value) c.in-Ok-attempt.field-0) _ _ _ c.or_no_memory.ensures c.while_loop.ensures (rw (c.in-Ok-attempt.ensures.gives, rw one at c.in-Ok-attempt-test.ensures.gives, rw one at c.in-Ok-attempt-body.ensures.gives) refl)
 
-pub do_statement-returns-in_err-test-clause-gives : goal.do_statement-returns-in_err-test-clause-gives
-do_statement-returns-in_err-test-clause-gives t c =
-    let one : c.args.scope.depth + 1 ≡ suc c.args.scope.depth = omega arith in
-    failed _ _ (λ (x : Box Expression Global). expression_of x.value) _ _ _ c.in_err-test.field-0.0 c.from_residual-in_err-test.ensures.1 c.in_err-test.ensures.gives (λ fault e. rw (c.in_ok-offset.ensures.gives, rw one at c.in_ok-body.ensures.gives, c.in_ok-keyword.ensures.gives, rw one at e) refl)
-
-pub do_statement-returns-in_err-mark-clause-gives : goal.do_statement-returns-in_err-mark-clause-gives
-do_statement-returns-in_err-mark-clause-gives t c =
-    let one : c.args.scope.depth + 1 ≡ suc c.args.scope.depth = omega arith in
-    failed _ _ (λ (x : ℕ). x) _ _ _ c.in_err-mark.field-0.0 c.from_residual-in_err-mark.ensures.1 c.in_err-mark.ensures.gives (λ fault e. rw (c.in_ok-offset.ensures.gives, rw one at c.in_ok-body.ensures.gives, c.in_ok-keyword.ensures.gives, rw one at c.in_ok-test.ensures.gives, e) refl)
+pub while_statement-returns-4-clause-shorter : goal.while_statement-returns-4-clause-shorter
+while_statement-returns-4-clause-shorter t c = always c.or_no_memory.result (omega (arith, c.in-Ok-attempt.ensures.shorter, c.in-Ok-attempt-test.ensures.shorter, c.in-Ok-attempt-body.ensures.shorter))
 
 pub do_statement-returns-clause-gives : goal.do_statement-returns-clause-gives
 do_statement-returns-clause-gives t c =
+    gives-from _ _ (λ (x : ℕ). x) (λ y. y) _ c.in-Err-attempt.field-0 (λ fault e. rw (e) refl) c.in-Err-attempt.ensures.gives
+
+pub do_statement-returns-2-clause-gives : goal.do_statement-returns-2-clause-gives
+do_statement-returns-2-clause-gives t c =
     let one : c.args.scope.depth + 1 ≡ suc c.args.scope.depth = omega arith in
-    made-gives _ (λ (x : Box Statement Global). statement_of x.value) (unit.Do (statement_of c.in_ok-body.body.value) (expression_of c.in_ok-test.test.value) c.in_ok-offset.offset) _ _ _ c.or_no_memory.ensures c.do_loop.ensures (rw (c.in_ok-offset.ensures.gives, rw one at c.in_ok-body.ensures.gives, c.in_ok-keyword.ensures.gives, rw one at c.in_ok-test.ensures.gives, c.in_ok-mark.ensures.gives) refl)
+    gives-from _ _ (λ (x : Box Statement Global). statement_of x.value) (λ y. y) _ c.in-Err-attempt-body.field-0 (λ fault e. rw (c.in-Ok-attempt.ensures.gives, rw one at e) refl) c.in-Err-attempt-body.ensures.gives
 
-pub do_statement-returns-clause-shorter : goal.do_statement-returns-clause-shorter
-do_statement-returns-clause-shorter t c = always c.or_no_memory.result (omega (arith, c.in_ok-offset.ensures.shorter, c.in_ok-body.ensures.shorter, c.in_ok-keyword.ensures.shorter, c.in_ok-test.ensures.shorter, c.in_ok-mark.ensures.shorter))
-
-pub for_statement-returns-in_err-offset-clause-gives : goal.for_statement-returns-in_err-offset-clause-gives
-for_statement-returns-in_err-offset-clause-gives t c =
-    failed _ _ (λ (x : ℕ). x) _ _ _ c.in_err-offset.field-0.0 c.from_residual.ensures.1 c.in_err-offset.ensures.gives (λ fault e. rw (e) refl)
-
-pub for_statement-returns-in_err-opening-clause-gives : goal.for_statement-returns-in_err-opening-clause-gives
-for_statement-returns-in_err-opening-clause-gives t c =
+pub do_statement-returns-3-clause-gives : goal.do_statement-returns-3-clause-gives
+do_statement-returns-3-clause-gives t c =
     let one : c.args.scope.depth + 1 ≡ suc c.args.scope.depth = omega arith in
-    failed _ _ (λ (x : ℕ). x) _ _ _ c.in_err-opening.field-0.0 c.from_residual-in_err-opening.ensures.1 c.in_err-opening.ensures.gives (λ fault e. rw (c.in_ok-offset.ensures.gives, rw one at e) refl)
+    gives-from _ _ (λ (x : ℕ). x) (λ y. y) _ c.in-Err-attempt-2.field-0 (λ fault e. rw (c.in-Ok-attempt.ensures.gives, rw one at c.in-Ok-attempt-body.ensures.gives, e) refl) c.in-Err-attempt-2.ensures.gives
 
-pub switch_statement-returns-in_err-offset-clause-gives : goal.switch_statement-returns-in_err-offset-clause-gives
-switch_statement-returns-in_err-offset-clause-gives t c =
-    failed _ _ (λ (x : ℕ). x) _ _ _ c.in_err-offset.field-0.0 c.from_residual.ensures.1 c.in_err-offset.ensures.gives (λ fault e. rw (e) refl)
-
-pub switch_statement-returns-in_err-test-clause-gives : goal.switch_statement-returns-in_err-test-clause-gives
-switch_statement-returns-in_err-test-clause-gives t c =
+pub do_statement-returns-4-clause-gives : goal.do_statement-returns-4-clause-gives
+do_statement-returns-4-clause-gives t c =
     let one : c.args.scope.depth + 1 ≡ suc c.args.scope.depth = omega arith in
-    failed _ _ (λ (x : Box Expression Global). expression_of x.value) _ _ _ c.in_err-test.field-0.0 c.from_residual-in_err-test.ensures.1 c.in_err-test.ensures.gives (λ fault e. rw (c.in_ok-offset.ensures.gives, rw one at e) refl)
+    gives-from _ _ (λ (x : Box Expression Global). expression_of x.value) (λ y. y) _ c.in-Err-attempt-test.field-0 (λ fault e. rw (c.in-Ok-attempt.ensures.gives, rw one at c.in-Ok-attempt-body.ensures.gives, c.in-Ok-attempt-2.ensures.gives, rw one at e) refl) c.in-Err-attempt-test.ensures.gives
 
-pub groups-returns-in_err-group-clause-gives : goal.groups-returns-in_err-group-clause-gives
-groups-returns-in_err-group-clause-gives t c =
-    no_memory _ _ _ _ c.from_residual-in_err-group.ensures.1
+pub do_statement-returns-5-clause-gives : goal.do_statement-returns-5-clause-gives
+do_statement-returns-5-clause-gives t c =
+    let one : c.args.scope.depth + 1 ≡ suc c.args.scope.depth = omega arith in
+    gives-from _ _ (λ (x : ℕ). x) (λ y. y) _ c.in-Err-attempt-3.field-0 (λ fault e. rw (c.in-Ok-attempt.ensures.gives, rw one at c.in-Ok-attempt-body.ensures.gives, c.in-Ok-attempt-2.ensures.gives, rw one at c.in-Ok-attempt-test.ensures.gives, e) refl) c.in-Err-attempt-3.ensures.gives
 
-pub groups-returns-in_err-push-clause-gives : goal.groups-returns-in_err-push-clause-gives
-groups-returns-in_err-push-clause-gives t c =
-    no_memory _ _ _ _ c.from_residual-in_err-push.ensures.1
+pub do_statement-returns-6-clause-gives : goal.do_statement-returns-6-clause-gives
+do_statement-returns-6-clause-gives t c =
+    let one : c.args.scope.depth + 1 ≡ suc c.args.scope.depth = omega arith in
+    made-gives _ (λ (x : Box Statement Global). statement_of x.value) (unit.Do (statement_of c.in-Ok-attempt-body.field-0.value) (expression_of c.in-Ok-attempt-test.field-0.value) c.in-Ok-attempt.field-0) _ _ _ c.or_no_memory.ensures c.do_loop.ensures (rw (c.in-Ok-attempt.ensures.gives, rw one at c.in-Ok-attempt-body.ensures.gives, c.in-Ok-attempt-2.ensures.gives, rw one at c.in-Ok-attempt-test.ensures.gives, c.in-Ok-attempt-3.ensures.gives) refl)
+
+pub do_statement-returns-6-clause-shorter : goal.do_statement-returns-6-clause-shorter
+do_statement-returns-6-clause-shorter t c = always c.or_no_memory.result (omega (arith, c.in-Ok-attempt.ensures.shorter, c.in-Ok-attempt-body.ensures.shorter, c.in-Ok-attempt-2.ensures.shorter, c.in-Ok-attempt-test.ensures.shorter, c.in-Ok-attempt-3.ensures.shorter))
+
+pub for_statement-returns-clause-gives : goal.for_statement-returns-clause-gives
+for_statement-returns-clause-gives t c =
+    gives-from _ _ (λ (x : ℕ). x) (λ y. y) _ c.in-Err-attempt.field-0 (λ fault e. rw (e) refl) c.in-Err-attempt.ensures.gives
+
+pub for_statement-returns-2-clause-gives : goal.for_statement-returns-2-clause-gives
+for_statement-returns-2-clause-gives t c =
+    let one : c.args.scope.depth + 1 ≡ suc c.args.scope.depth = omega arith in
+    gives-from _ _ (λ (x : ℕ). x) (λ y. y) _ c.in-Err-attempt-2.field-0 (λ fault e. rw (c.in-Ok-attempt.ensures.gives, rw one at e) refl) c.in-Err-attempt-2.ensures.gives
+
+pub switch_statement-returns-clause-gives : goal.switch_statement-returns-clause-gives
+switch_statement-returns-clause-gives t c =
+    gives-from _ _ (λ (x : ℕ). x) (λ y. y) _ c.in-Err-attempt.field-0 (λ fault e. rw (e) refl) c.in-Err-attempt.ensures.gives
+
+pub switch_statement-returns-2-clause-gives : goal.switch_statement-returns-2-clause-gives
+switch_statement-returns-2-clause-gives t c =
+    let one : c.args.scope.depth + 1 ≡ suc c.args.scope.depth = omega arith in
+    gives-from _ _ (λ (x : Box Expression Global). expression_of x.value) (λ y. y) _ c.in-Err-attempt-test.field-0 (λ fault e. rw (c.in-Ok-attempt.ensures.gives, rw one at e) refl) c.in-Err-attempt-test.ensures.gives
 
 pub statement-returns-then-next_is-clause-gives : goal.statement-returns-then-next_is-clause-gives
 statement-returns-then-next_is-clause-gives t c =
@@ -375,24 +348,23 @@ statement-returns-then-next_is-clause-gives t c =
     let chosen : statements.read_statement_around names inner inside c.args.scope.depth (list_of c.args.tokens.now.rest.now) ≡ statements.read_block names inner inside c.args.scope.depth (list_of c.args.tokens.now.rest.now) = rw (sym c.next_is.ensures ∙ c.if-next_is.true) refl in
     subst (λ o. Gives o (λ x. statement_of x.value) c.block.new.tokens.rest.now c.block.result) (sym (statement-some names inner c.args.fuel c.args.scope.depth (list_of c.args.tokens.now.rest.now) c.if-fuel-eq0.false ∙ chosen)) c.block.ensures.gives
 
+pub statement-returns-then-next_is-2-2-clause-gives : goal.statement-returns-then-next_is-2-2-clause-gives
+statement-returns-then-next_is-2-2-clause-gives t c =
+    let names = names_of c.args.scope.names.now in
+    let inner = expressions c.args.scope.names.now in
+    let inside = within c.args.scope.names.now (c.args.fuel - 1) in
+    let chosen : statements.read_statement_around names inner inside c.args.scope.depth (list_of c.args.tokens.now.rest.now) ≡ Ok (unit.Empty c.in-Ok-attempt.field-0, list_of c.mark.new.self.rest.now) = rw (sym c.next_is.ensures ∙ c.if-next_is.false, sym c.next_is-2.ensures ∙ c.if-next_is-2.true, c.in-Ok-attempt.ensures.gives) refl in
+    made-gives _ (λ (x : Box Statement Global). statement_of x.value) (unit.Empty c.in-Ok-attempt.field-0) _ _ _ c.or_no_memory.ensures c.empty.ensures (statement-some names inner c.args.fuel c.args.scope.depth (list_of c.args.tokens.now.rest.now) c.if-fuel-eq0.false ∙ chosen)
+
+pub statement-returns-then-next_is-2-2-clause-shorter : goal.statement-returns-then-next_is-2-2-clause-shorter
+statement-returns-then-next_is-2-2-clause-shorter t c = always c.or_no_memory.result (omega (arith, c.in-Ok-attempt.ensures.shorter))
+
 pub statement-returns-then-next_is-2-clause-gives : goal.statement-returns-then-next_is-2-clause-gives
 statement-returns-then-next_is-2-clause-gives t c =
     let names = names_of c.args.scope.names.now in
     let inner = expressions c.args.scope.names.now in
     let inside = within c.args.scope.names.now (c.args.fuel - 1) in
-    let chosen : statements.read_statement_around names inner inside c.args.scope.depth (list_of c.args.tokens.now.rest.now) ≡ Ok (unit.Empty c.in_ok-offset.offset, list_of c.mark.new.self.rest.now) = rw (sym c.next_is.ensures ∙ c.if-next_is.false, sym c.next_is-2.ensures ∙ c.if-next_is-2.true, c.in_ok-offset.ensures.gives) refl in
-    made-gives _ (λ (x : Box Statement Global). statement_of x.value) (unit.Empty c.in_ok-offset.offset) _ _ _ c.or_no_memory.ensures c.empty.ensures (statement-some names inner c.args.fuel c.args.scope.depth (list_of c.args.tokens.now.rest.now) c.if-fuel-eq0.false ∙ chosen)
-
-pub statement-returns-then-next_is-2-clause-shorter : goal.statement-returns-then-next_is-2-clause-shorter
-statement-returns-then-next_is-2-clause-shorter t c = always c.or_no_memory.result (omega (arith, c.in_ok-offset.ensures.shorter))
-
-pub statement-returns-in_err-offset-clause-gives : goal.statement-returns-in_err-offset-clause-gives
-statement-returns-in_err-offset-clause-gives t c =
-    let names = names_of c.args.scope.names.now in
-    let inner = expressions c.args.scope.names.now in
-    let inside = within c.args.scope.names.now (c.args.fuel - 1) in
-    failed _ _ (λ (x : ℕ). x) _ _ _ c.in_err-offset.field-0.0 c.from_residual.ensures.1 c.in_err-offset.ensures.gives
-    (λ fault e. let chosen : statements.read_statement_around names inner inside c.args.scope.depth (list_of c.args.tokens.now.rest.now) ≡ Err fault = rw (sym c.next_is.ensures ∙ c.if-next_is.false, sym c.next_is-2.ensures ∙ c.if-next_is-2.true, e) refl in statement-some names inner c.args.fuel c.args.scope.depth (list_of c.args.tokens.now.rest.now) c.if-fuel-eq0.false ∙ chosen)
+    gives-from _ _ (λ (x : ℕ). x) (λ y. y) _ c.in-Err-attempt.field-0 (λ fault e. let chosen : statements.read_statement_around names inner inside c.args.scope.depth (list_of c.args.tokens.now.rest.now) ≡ Err fault = rw (sym c.next_is.ensures ∙ c.if-next_is.false, sym c.next_is-2.ensures ∙ c.if-next_is-2.true, e) refl in statement-some names inner c.args.fuel c.args.scope.depth (list_of c.args.tokens.now.rest.now) c.if-fuel-eq0.false ∙ chosen) c.in-Err-attempt.ensures.gives
 
 pub statement-returns-then-next_keyword-clause-gives : goal.statement-returns-then-next_keyword-clause-gives
 statement-returns-then-next_keyword-clause-gives t c =

@@ -4,7 +4,7 @@ use Rattle.std.specs.Prelude.{Ok}
 use Rattle.c_type_spec.specs.Core.{Return}
 use Rattle.c_value.specs.Settings.{setting_of}
 use Rattle.c_run.specs.declared.frame.Next.TheVariants as next
-use Rattle.c_run.specs.declared.frame.Ending.TheVariants as ending
+use Rattle.c_run.specs.declared.frame.Pause.TheVariants as pause
 use Rattle.c_run.specs.Tasks.{Acts}
 use Rattle.c_run.proofs.Acting.{gives, gives_not, gives_nothing}
 use Rattle.c_core.specs.Expressions.{core_of}
@@ -17,7 +17,7 @@ returns-in-Some c = gives_not _ c.args.frame.now c.args.memory.now c.args.frame.
 pub returns-in-Ok-attempt : goal.returns-in-Ok-attempt
 returns-in-Ok-attempt c =
     let same : to_z w128 (of_z w128 c.in-Ok-attempt.field-0) ≡ c.in-Ok-attempt.field-0 = search rules in
-    subst (λ v. Acts (setting_of c.args.setting.now) (Return (core_in c.args.value.now)) c.args.frame.now c.args.memory.now c.args.frame.now c.args.memory.now (Ok (next.Goes (ending.Gave (Some v))))) (sym same)
+    subst (λ v. Acts (setting_of c.args.setting.now) (Return (core_in c.args.value.now)) c.args.frame.now c.args.memory.now (record c.args.frame.now { given = Some v }) c.args.memory.now (Ok (next.Pauses pause.Ended))) (sym same)
     (gives (setting_of c.args.setting.now) c.args.frame.now c.args.memory.now (core_of c.deref.result.now) c.in-Ok-attempt.field-0 (core_in c.args.value.now) (ap core_in c.in-Some.is ∙ ap (λ x. Some (core_of x)) (sym c.deref.ensures)) c.in-Ok-attempt.ensures)
 
 pub returns-in-None : goal.returns-in-None

@@ -37,10 +37,10 @@ returns-clause-terms c = λ k o a d is of_a of_d.
     (outcome_of c.args.bank.now a c.args.binary.now max x of_a (outcome (walk_on c.args.binary.now) max x c.visits-visits.ensures.listing c.visits-visits.ensures.fault))
     (outcome_of c.args.bank.now d c.args.source.now max y of_d (outcome (walk_on c.args.source.now) max y c.visits-others.ensures.listing c.visits-others.ensures.fault))
 
-pub returns-clause-fault : goal.returns-clause-fault
-returns-clause-fault c =
+pub returns-clause-walks : goal.returns-clause-walks
+returns-clause-walks c =
     let max = c.args.setup.now.maximum in
     let x = c.visits-visits.result in
     let y = c.visits-others.result in
-    c.add_if_walked.ensures.fault (walk_on c.args.binary.now) (walk_on c.args.source.now) max (outcome (walk_on c.args.binary.now) max x c.visits-visits.ensures.listing c.visits-visits.ensures.fault)
+    c.add_if_walked.ensures.walks (walk_on c.args.binary.now) (walk_on c.args.source.now) max (outcome (walk_on c.args.binary.now) max x c.visits-visits.ensures.listing c.visits-visits.ensures.fault)
     (outcome (walk_on c.args.source.now) max y c.visits-others.ensures.listing c.visits-others.ensures.fault)

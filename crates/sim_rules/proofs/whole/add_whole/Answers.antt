@@ -1,12 +1,12 @@
 use Rattle.std.proofs.Common.{◌≡◌, OnOk, subst}
-use Rattle.std.proofs.lemmas.Result.{IfErr-weaker, on_ok_weaker}
+use Rattle.std.proofs.lemmas.Result.{on_ok_weaker}
 use Rattle.proof_tree.specs.Frames.{frame_of}
 use Rattle.rule_terms.specs.Ways.{walk_on}
 use Rattle.sim_rules.specs.declared.plan.Plan.{Plan}
 use Rattle.sim_rules.specs.declared.side.Side.TheVariants.{Binary, Source}
 use Rattle.sim_rules.specs.Made.{IsMade}
 use Rattle.sim_rules.specs.Plans.{plan_for}
-use Rattle.sim_rules.proofs.Faulty.{rule_fault}
+use Rattle.sim_rules.proofs.Faulty.{rule_answer}
 use Rattle.sim_rules.proofs.Made.{is_way, some_way}
 use Rattle.sim_rules.proofs.Finishing.{finish}
 use Rattle.sim_rules.proofs.whole.add_whole.Goals as goal
@@ -31,8 +31,8 @@ returns-3-clause-terms c = λ k o is.
     (finish c.add_of_ways.new.bank k o f a.shape.successors.items d.shape.successors.items rule c.add_of_ways.new.ids.items of_a.shape_is of_d.shape_is)
     (c.add_of_ways.ensures.terms k o _ _ is (is_way b0 s Binary o (plan_for rule).binary a is.opening_is of_a) (is_way b0 s Source o (plan_for rule).source d is.opening_is of_d))
 
-pub returns-3-clause-fault : goal.returns-3-clause-fault
-returns-3-clause-fault c = λ o.
+pub returns-3-clause-walks : goal.returns-3-clause-walks
+returns-3-clause-walks c = λ o.
     let s = c.args.setup.now in
     let f = frame_of s.frame.now in
     let rule = c.args.rule.now in
@@ -40,6 +40,4 @@ returns-3-clause-fault c = λ o.
     let d = c.in-Ok-attempt-source.field-0 in
     let of_a = subst (λ (p : Plan). IsMade s Binary p.binary a) c.plan_of-plan.ensures c.in-Ok-attempt.ensures in
     let of_d = subst (λ (p : Plan). IsMade s Source p.source d) c.plan_of-plan.ensures c.in-Ok-attempt-source.ensures in
-    IfErr-weaker c.add_of_ways.result _ _
-    (λ fault h. rule_fault o f s.maximum a.shape.successors.items d.shape.successors.items rule fault (walk_on a) (walk_on d) of_a.shape_is of_d.shape_is (of_a.walk_is o) (of_d.walk_is o) h)
-    c.add_of_ways.ensures.fault
+    rule_answer o f s.maximum a.shape.successors.items d.shape.successors.items rule c.add_of_ways.result (walk_on a) (walk_on d) of_a.shape_is of_d.shape_is (of_a.walk_is o) (of_d.walk_is o) c.add_of_ways.ensures.walks

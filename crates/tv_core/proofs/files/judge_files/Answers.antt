@@ -1,23 +1,25 @@
 use Rattle.std.proofs.Common.{sym, subst}
 use Rattle.std.specs.Prelude.{IfOk}
 use Rattle.report_text.specs.Verdicts.{verdict_of}
-use Rattle.tv_words.specs.Jobs.{proving_of}
+use Rattle.tv_words.specs.Jobs.{job_of}
+use Rattle.tv_core.specs.Tasks.{asked_of}
 use Rattle.tv_base.specs.declared.limits.TheConstants.{MAX_ELF_BYTES}
 use Rattle.tv_core.specs.Files.{AreOf, JudgesFiles}
 use Rattle.tv_core.proofs.Desks.{then_keeps, same_fault}
-use Rattle.tv_core.proofs.TwoFiles.{reads_elf, reads_two}
+use Rattle.tv_core.proofs.TwoFiles.{renamed, reads_elf, reads_two}
 use Rattle.tv_core.proofs.files.judge_files.Goals as goal
 
 pub judge_with_elf-requires : goal.judge_with_elf-requires
 judge_with_elf-requires g c =
-    let job = proving_of c.args.job.now in
+    let job = asked_of (job_of c.args.job.now) in
+    let read = renamed _ _ _ _ _ _ c.elf_name.ensures c.in-Ok.ensures.reads in
     subst (λ files. AreOf files job.elf MAX_ELF_BYTES c.as_slice.result.now) (sym c.in-Ok.ensures.kept.same_files)
-    (subst (AreOf (g.D.Desk.bytes c.args.desk.now) job.elf MAX_ELF_BYTES) (sym c.as_slice.ensures.value) c.in-Ok.ensures.reads.bytes)
+    (subst (AreOf (g.D.Desk.bytes c.args.desk.now) job.elf MAX_ELF_BYTES) (sym c.as_slice.ensures.value) read.bytes)
 
 pub returns-in-Ok : goal.returns-in-Ok
 returns-in-Ok g c =
-    let job = proving_of c.args.job.now in
-    let read = c.in-Ok.ensures.reads in
+    let job = asked_of (job_of c.args.job.now) in
+    let read = renamed _ _ _ _ _ _ c.elf_name.ensures c.in-Ok.ensures.reads in
     let kept = c.in-Ok.ensures.kept in
     record {
       judged = subst (λ files. IfOk c.judge_with_elf.result (λ verdict. JudgesFiles files job (verdict_of verdict))) kept.same_files c.judge_with_elf.ensures.judged;
@@ -29,6 +31,6 @@ returns-in-Ok g c =
 pub returns-in-Err : goal.returns-in-Err
 returns-in-Err g c = record {
   judged = tt;
-  reads = reads_elf (proving_of c.args.job.now) _ _ _ c.in-Err.ensures.reads;
+  reads = reads_elf (asked_of (job_of c.args.job.now)) _ _ _ (renamed _ _ _ _ _ _ c.elf_name.ensures c.in-Err.ensures.reads);
   kept = same_fault _ _ c.in-Err.fault c.in-Err.ensures.kept;
 }

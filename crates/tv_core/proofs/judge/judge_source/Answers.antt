@@ -1,7 +1,8 @@
 use Rattle.std.proofs.Common.{sym, subst}
 use Rattle.c_spec.specs.Lexical.{AreTokens}
 use Rattle.c_parse_token.specs.Lists.{list_of}
-use Rattle.tv_words.specs.Jobs.{proving_of}
+use Rattle.tv_words.specs.Jobs.{job_of}
+use Rattle.tv_core.specs.Tasks.{asked_of}
 use Rattle.tv_core.proofs.Judging.{by_parts}
 use Rattle.tv_core.proofs.judge.judge_source.Goals as goal
 
@@ -10,7 +11,7 @@ judge_tokens-requires c = subst (λ t. AreTokens c.args.source.now (list_of t)) 
 
 pub returns-in-Err : goal.returns-in-Err
 returns-in-Err c =
-    let functions = (proving_of c.args.job.now).functions in
-    by_parts c.args.image.now c.args.source.now functions c.without_tokens.result
-    (λ elf is. c.without_tokens.ensures.exact elf c.args.source.now functions c.args.image.now is c.in-Err.ensures.fault)
-    (λ elf is. c.without_tokens.ensures.sound elf c.args.source.now functions) c.without_tokens.ensures.memory
+    let task = (asked_of (job_of c.args.job.now)).task in
+    by_parts c.args.image.now c.args.source.now task c.without_tokens.result
+    (λ elf is. c.without_tokens.ensures.exact elf c.args.source.now task c.args.image.now is c.in-Err.ensures.fault)
+    (λ elf is. c.without_tokens.ensures.sound elf c.args.source.now task) c.without_tokens.ensures.memory

@@ -4,4 +4,4 @@ use Rattle.tv_core.proofs.judge.without_tokens.Goals as goal
 
 pub returns-in-Fault-clause-exact : goal.returns-in-Fault-clause-exact
 returns-in-Fault-clause-exact c =
-    λ elf c' functions image is_elf h. c_refused image _ _ is_elf (no_tokens c.in-Fault.fault.kind c.in-Fault.fault.offset (rw c.in-Fault.is at h))
+    λ elf c' task image is_elf h. c_refused image _ _ is_elf (no_tokens c.in-Fault.fault.kind c.in-Fault.fault.offset (rw c.in-Fault.is at h))

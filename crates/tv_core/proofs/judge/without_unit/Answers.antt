@@ -6,7 +6,7 @@ use Rattle.tv_core.proofs.judge.without_unit.Goals as goal
 
 pub returns-in-Fault-clause-exact : goal.returns-in-Fault-clause-exact
 returns-in-Fault-clause-exact c =
-    λ elf functions image is_elf lexes h.
+    λ elf task image is_elf lexes h.
     c_refused image _ _ is_elf
     (no_unit c.in-Fault.fault.kind _
     (record {

@@ -2,7 +2,8 @@ use Rattle.std.proofs.Common.{refl, sym, inl, inr, subst}
 use Rattle.std.specs.Prelude.{option_map}
 use Rattle.std.proofs.lemmas.Result.{on_ok_weaker, on_err_weaker}
 use Rattle.report_text.specs.Verdicts.{verdict_of}
-use Rattle.tv_words.specs.Jobs.{proving_of}
+use Rattle.tv_words.specs.Jobs.{job_of}
+use Rattle.tv_core.specs.Tasks.{asked_of}
 use Rattle.tv_core.specs.Ends.{certificate_name, IsOutcome}
 use Rattle.tv_core.proofs.Desks.{same_fault}
 use Rattle.tv_core.proofs.Ending.{ended_by}

@@ -1,0 +1,13 @@
+pub mod Numbers
+pub mod WithNodes
+pub mod Ids
+pub mod Imported
+pub mod Chains
+pub mod Added
+pub mod Drafted
+pub mod Following
+pub mod Casing
+pub mod Parts
+pub mod Pointed
+pub mod Emitting
+pub mod Making

@@ -1,0 +1,5 @@
+pub mod Frames
+pub mod Emitted
+pub mod Bound
+pub mod Laid
+pub mod Seen

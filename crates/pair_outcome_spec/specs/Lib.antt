@@ -1,0 +1,3 @@
+pub mod Code
+pub mod Nodes
+pub mod Outcome

@@ -1,0 +1,90 @@
+-- The first OBJECT symbol of a name, and whether it has the size of a global.
+use Rattle.std.proofs.Common.{◌≡◌, ◌∙◌, ℕ, zero, suc, ◌+◌, ◌<◌, ◌≤◌, List, [], ◌∷◌, length, map, drop, min, refl, sym, ap, inl, inr, arith, true≢false}
+use Rattle.std.specs.Prelude.{◌↔◌, ◌⊎◌, Bool, true, false, not, IsTrue, filter, Option, Some, None, slice_get}
+use Rattle.std.proofs.lemmas.List.{drop_more, drop_all}
+use Rattle.std.proofs.lemmas.Bool.{cases_lt}
+use Rattle.std.proofs.lemmas.Option.{slice_get_within, get_or_from_slice_get}
+use Rattle.elf_spec.specs.declared.fields.TheConstants.{STT_OBJECT}
+use Rattle.elf_spec.specs.declared.SymbolValues.{SymbolValues}
+use Rattle.elf_spec.specs.declared.SymbolValues.TheVariants.{One}
+use Rattle.elf_spec.specs.Image.{Image, Symbol, has_name, first_of, object_named}
+use Rattle.c_type_spec.specs.declared.TheConstants.{SIZE_LIMIT}
+use Rattle.c_type_layout.specs.Structs.{capped}
+use Rattle.c_types.specs.Typed.{global_of}
+use Rattle.pair_spec.specs.Faults.{object_size, HasSize, IsPlaced}
+
+-- the size of the first of these symbols
+abbrev pub first_size : List ℕ → List Symbol → Option ℕ
+first_size name symbols = first_of (map (λ (s : Symbol). s.size) (filter (has_name STT_OBJECT name) symbols))
+
+module _ (name : List ℕ) (symbols : List Symbol) (i : ℕ) where
+  pub size-past : None ≡ slice_get symbols i → first_size name (drop i symbols) ≡ None
+  size-past none = at (cases_lt i (length symbols))
+    where
+      at : (i < length symbols) ⊎ (length symbols ≤ i) → first_size name (drop i symbols) ≡ None
+      at (inr past) = ap (first_size name) (drop_all i symbols past)
+      at (inl below) = absurd (never symbols i below none)
+        where
+          never : (list : List Symbol) (k : ℕ) → k < length list → None ≡ slice_get list k → ⊥
+          never [] k below e = omega (arith, below)
+          never (x ∷ list) zero below e = cc
+          never (x ∷ list) (suc k) below e = never list k (omega (arith, below)) e
+
+  size-at : (s : Symbol) → Some s ≡ slice_get symbols i → first_size name (drop i symbols) ≡ first_size name (s ∷ drop (i + 1) symbols)
+  size-at s is =
+      ap (first_size name)
+      (drop_more symbols i s (slice_get_within symbols i s (sym is)) ∙ ap (λ (x : Symbol). x ∷ drop (i + 1) symbols) (get_or_from_slice_get symbols i s s (sym is)))
+
+  pub size-here : (s : Symbol) → Some s ≡ slice_get symbols i → has_name STT_OBJECT name s ≡ true → first_size name (drop i symbols) ≡ Some s.size
+  size-here s is passes = size-at s is ∙ first
+    where
+      first : first_size name (s ∷ drop (i + 1) symbols) ≡ Some s.size
+      first = rw passes refl
+
+  pub size-next : (s : Symbol) → Some s ≡ slice_get symbols i → has_name STT_OBJECT name s ≡ false → first_size name (drop i symbols) ≡ first_size name (drop (i + 1) symbols)
+  size-next s is fails = size-at s is ∙ first
+    where
+      first : first_size name (s ∷ drop (i + 1) symbols) ≡ first_size name (drop (i + 1) symbols)
+      first = rw fails refl
+
+-- ---- sizes
+
+-- the size that a global of these has
+module _ (image : Image) (name : List ℕ) where
+  pub sized-none : (full : Option ℕ) → None ≡ capped full → HasSize image (global_of name full)
+  sized-none None e = inl refl
+  sized-none (Some n) e = absurd (cc)
+
+  pub sized-some : (size : ℕ) (found : Bool) → size < SIZE_LIMIT → IsTrue found ↔ (object_size image name ≡ Some size) → (full : Option ℕ) → Some size ≡ capped full
+      → IsTrue found ↔ HasSize image (global_of name full)
+  sized-some size found below is None e = absurd (cc)
+  sized-some size found below is (Some n) e =
+      (λ t. inr (is.0 t ∙ ap Some same), λ h. is.1 (at h ∙ ap Some (sym same)))
+    where
+      least : size ≡ min n SIZE_LIMIT
+      least = let both : Some size ≡ Some (min n SIZE_LIMIT) = e in cc
+
+      same : size ≡ n
+      same = let l = least in omega (arith, l, below)
+
+      at : HasSize image (global_of name (Some n)) → object_size image name ≡ Some n
+      at (inl none) = absurd (cc)
+      at (inr is) = is
+
+  pub placed-one : (address : ℕ) (sized : Bool) (full : Option ℕ) → One address ≡ object_named image name → IsTrue sized ↔ HasSize image (global_of name full)
+      → IsTrue sized ↔ IsPlaced image (global_of name full)
+  placed-one address sized full is h = (
+    λ t. record { address = address; symbol = sym is; sized = h.0 t },
+    λ p. h.1 p.sized,
+  )
+
+  pub placed-other : (values : SymbolValues) → values ≡ object_named image name → ((address : ℕ) → values ≡ One address → ⊥) → (full : Option ℕ)
+      → IsTrue false ↔ IsPlaced image (global_of name full)
+  placed-other values is other full = (
+    λ no. absurd (true≢false (sym no)),
+    λ p. absurd (other p.address (is ∙ p.symbol)),
+  )
+
+pub negated : {P : Type 0} (b : Bool) → IsTrue b ↔ P → IsTrue (not b) ↔ (P → ⊥)
+negated true h = ((λ no. absurd (true≢false (sym no))), (λ never. absurd (never (h.0 refl))))
+negated false h = ((λ t p. true≢false (sym (h.1 p))), (λ never. refl))

@@ -1,0 +1,8 @@
+use Rattle.std.proofs.Common.{◌≡◌, sym, subst}
+use Rattle.call_graph.specs.Graph.{Grows}
+use Rattle.call_graph.proofs.Growing.{grows-insert}
+use Rattle.pair_setup.proofs.code.add.Goals as goal
+
+pub returns : goal.returns
+returns c =
+    subst (λ z. Grows (λ t. t ≡ c.args.entry) c.args.entries.now.keys z) (sym c.in_ok-insert.ensures.keys) (grows-insert c.args.entries.now.keys c.args.entry)

@@ -1,0 +1,6 @@
+use Rattle.call_graph.specs.Graph.{Grows}
+use Rattle.call_graph.proofs.Growing.{IsAmong}
+use Rattle.pair_setup.proofs.code.add_all.Given as goal
+
+abbrev pub invariant-loop-entry : goal.invariant-loop-entry
+invariant-loop-entry l = Grows (IsAmong l.added l.entry-index) l.initial.entries.keys l.entries.keys

@@ -1,0 +1,8 @@
+use Rattle.std.proofs.Common.{◌≡◌, sym, subst}
+use Rattle.call_graph.specs.Graph.{Grows}
+use Rattle.call_graph.proofs.Growing.{grows-push}
+use Rattle.pair_setup.proofs.names.add.Goals as goal
+
+pub returns : goal.returns
+returns c =
+    subst (λ z. Grows (λ t. t ≡ c.args.number) c.args.found.now.items z) (sym c.in_ok-push.ensures.items) (grows-push c.args.found.now.items c.args.number)

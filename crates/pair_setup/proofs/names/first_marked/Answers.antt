@@ -1,0 +1,10 @@
+use Rattle.c_types.specs.Typed.{typed_of}
+use Rattle.c_reach.specs.Names.{names_of}
+use Rattle.pair_setup.specs.Names.{IsUsedMarked}
+use Rattle.pair_setup.proofs.Least.{least-found}
+use Rattle.pair_setup.proofs.names.first_marked.Goals as goal
+
+pub returns-2 : goal.returns-2
+returns-2 c =
+    least-found (IsUsedMarked (typed_of c.args.unit.now) (names_of c.args.unit.now) c.args.marks.now c.args.numbers.now) c.new-found.result.items c.add_of_bodies.new.found.items
+    c.as_slice.result.now c.first_of.result c.new-found.ensures.items c.as_slice.ensures.value c.in-Ok-attempt.ensures c.first_of.ensures

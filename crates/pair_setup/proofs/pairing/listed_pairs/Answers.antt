@@ -1,0 +1,26 @@
+use Rattle.std.proofs.Common.{List, ℕ, refl, subst}
+use Rattle.c_types.specs.Typed.{typed_of}
+use Rattle.c_reach.specs.Names.{names_of, texts_of}
+use Rattle.pair_setup.specs.Answers.{AreSmall, IsLargeError}
+use Rattle.pair_setup.proofs.Outcomes.{entries-sized, are-paired, large-error}
+use Rattle.pair_setup.proofs.pairing.listed_pairs.Goals as goal
+
+pub small_entries-requires : goal.small_entries-requires
+small_entries-requires c =
+    entries-sized c.args.image.now (typed_of c.args.unit.now) (names_of c.args.unit.now) (texts_of c.args.list.now) c.in-Ok-attempt.field-0.items c.checked.new.seen.keys
+    c.checked.new.entries.keys c.in-Ok-attempt.ensures.checked
+
+pub returns-3-clause-pairs : goal.returns-3-clause-pairs
+returns-3-clause-pairs c =
+    are-paired c.args.image.now (typed_of c.args.unit.now) (names_of c.args.unit.now) (texts_of c.args.list.now) c.in-Ok-attempt.field-0.items c.checked.new.seen.keys
+    c.checked.new.entries.keys c.in-Ok-attempt.ensures.checked c.in-Ok-attempt-entries.field-0.items (record { functions = c.in-Ok-attempt.field-0; entries = c.in-Ok-attempt-entries.field-0 })
+    c.requires.some
+    (subst (λ (l : List ℕ). AreSmall c.args.image.now (typed_of c.args.unit.now) (names_of c.args.unit.now) l c.checked.new.entries.keys c.in-Ok-attempt-entries.field-0.items)
+    c.as_slice-numbers.ensures.keys c.in-Ok-attempt-entries.ensures.small) refl refl
+
+pub returns-2-clause-error : goal.returns-2-clause-error
+returns-2-clause-error c =
+    large-error c.args.image.now (typed_of c.args.unit.now) (names_of c.args.unit.now) (texts_of c.args.list.now) c.in-Ok-attempt.field-0.items c.checked.new.seen.keys
+    c.checked.new.entries.keys c.in-Ok-attempt.ensures.checked c.in-Err-attempt-entries.field-0
+    (subst (λ (l : List ℕ). IsLargeError c.args.image.now (typed_of c.args.unit.now) (names_of c.args.unit.now) l c.checked.new.entries.keys c.in-Err-attempt-entries.field-0)
+    c.as_slice-numbers.ensures.keys c.in-Err-attempt-entries.ensures.error)

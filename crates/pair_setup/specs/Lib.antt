@@ -1,0 +1,7 @@
+pub mod Globals
+pub mod Surveys
+pub mod Names
+pub mod Codes
+pub mod Depths
+pub mod Sizes
+pub mod Answers

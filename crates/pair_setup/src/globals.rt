@@ -1,0 +1,176 @@
+//! Globals that have no place in the executable.
+
+ghost use Rattle.std.specs.Prelude.{◌≡◌, ◌↔◌, ℕ, [], Option, Some, IfOk, IsTrue, OnOk};
+ghost use Rattle.std.specs.Prelude.{option_map};
+ghost use Rattle.elf_spec.specs.Image.{has_name};
+ghost use Rattle.elf_read.specs.Values.{symbol_of};
+ghost use Rattle.c_type_layout.specs.Structs.{capped, structs_of};
+ghost use Rattle.c_type_layout.specs.Types.{type_of};
+ghost use Rattle.c_type_spec.specs.Types.{size_of};
+ghost use Rattle.c_types.specs.Typed.{global_of, typed_of};
+ghost use Rattle.c_reach.specs.Names.{AreApart, names_of};
+ghost use Rattle.pair_spec.specs.Faults as spec;
+ghost use Rattle.pair_spec.specs.Faults.{IsPlaced};
+ghost use Rattle.pair_setup.specs.Globals.{AreMisplaced, IsMisplacedAt, IsUnplaced, object_type};
+
+use attempt::attempt;
+use c_type_layout::structs::size;
+use c_type_layout::types::CType;
+use c_type_scope::meaning::Meaning;
+use c_type_spec::SIZE_LIMIT;
+use c_types::typed::Typed;
+use elf_read::{Image, Symbol, SymbolValues};
+use elf_spec::fields::STT_OBJECT;
+use std::alloc::{AllocError, Global};
+
+/// Whether a symbol is an OBJECT symbol of a name.
+fn is_object(symbol: &Symbol<'_>, name: &[u8]) -> bool
+    ensures { result ≡ has_name STT_OBJECT name.now (symbol_of symbol.now) }
+{
+    symbol.kind == STT_OBJECT && symbol.name == name
+}
+
+/// The size of the first OBJECT symbol of a name.
+fn object_size(image: &Image<'_>, name: &[u8]) -> Result<Option<u32>, AllocError>
+    ensures { IfOk result (λ size. size ≡ spec.object_size image.now name.now) }
+{
+    for i in 0..usize::MAX {
+        match image.symbol(i) {
+            None => return Ok(None),
+            Some(symbol) => {
+                if is_object(symbol, name) {
+                    return Ok(Some(symbol.size));
+                }
+            }
+        }
+    }
+    Err(AllocError)
+}
+
+/// Whether the first OBJECT symbol of a name has a size in bytes.
+fn has_size(image: &Image<'_>, name: &[u8], size: u64) -> Result<bool, AllocError>
+    ensures { IfOk result (λ found. IsTrue found
+        ↔ (spec.object_size image.now name.now ≡ Some size)) }
+{
+    match attempt!(object_size(image, name)) {
+        Some(found) => Ok(u64::from(found) == size),
+        None => Ok(false),
+    }
+}
+
+/// Whether the first OBJECT symbol of a name has the size of a global, unless that has none. A size
+/// from the limit of sizes on is answered as out of memory: no unit has an object of such a size.
+fn is_sized(image: &Image<'_>, name: &[u8], size: Option<u64>) -> Result<bool, AllocError>
+    ensures { IfOk result (λ sized. (full : Option ℕ) → size ≡ capped full → (IsTrue sized
+        ↔ spec.HasSize image.now (global_of name.now full))) }
+{
+    match size {
+        None => Ok(true),
+        Some(size) => {
+            if size >= SIZE_LIMIT {
+                return Err(AllocError);
+            }
+            has_size(image, name, size)
+        }
+    }
+}
+
+/// Whether the executable has a global of a name and a size: OBJECT symbols of one value, the first
+/// of them of that size, unless it has none.
+fn is_placed(image: &Image<'_>, name: &[u8], size: Option<u64>) -> Result<bool, AllocError>
+    ensures { IfOk result (λ placed. (full : Option ℕ) → size ≡ capped full → (IsTrue placed
+        ↔ IsPlaced image.now (global_of name.now full))) }
+{
+    match image.object(name) {
+        SymbolValues::One(_) => is_sized(image, name, size),
+        SymbolValues::Absent => Ok(false),
+        SymbolValues::Two(_, _) => Ok(false),
+    }
+}
+
+/// Whether a global of a name and a type isn't placed.
+fn lacks_place(
+    image: &Image<'_>,
+    unit: &Typed<'_>,
+    name: &[u8],
+    of: &CType,
+) -> Result<bool, AllocError>
+    ensures { IfOk result (λ found. IsTrue found ↔ (IsPlaced image.now (global_of name.now (size_of
+        (structs_of unit.now.structs.items) (type_of of.now))) → ⊥)) }
+{
+    let size = size(unit.structs.as_slice(), of);
+    let placed = attempt!(is_placed(image, name, size));
+    Ok(!placed)
+}
+
+/// The type of a global, where a name means one.
+fn object_in(meaning: &Meaning) -> Option<&CType>
+    ensures { option_map (λ t. t.now) result ≡ object_type meaning.now }
+{
+    match meaning {
+        Meaning::Object(of) => Some(of),
+        Meaning::Local(_, _) | Meaning::Function(_, _) => None,
+        Meaning::Typedef(_) | Meaning::Enumerator(_) => None,
+    }
+}
+
+/// Whether a name that means this is a global that isn't placed.
+fn is_unplaced(
+    image: &Image<'_>,
+    unit: &Typed<'_>,
+    name: &[u8],
+    meaning: &Meaning,
+) -> Result<bool, AllocError>
+    ensures { IfOk result (λ found. IsTrue found ↔ IsUnplaced image.now (structs_of
+        unit.now.structs.items) name.now (object_type meaning.now)) }
+{
+    match object_in(meaning) {
+        Some(of) => lacks_place(image, unit, name, of),
+        None => Ok(false),
+    }
+}
+
+/// Whether the name of a number is that of a global that isn't placed.
+fn is_misplaced(image: &Image<'_>, unit: &Typed<'_>, number: usize) -> Result<bool, AllocError>
+    requires { AreApart (names_of unit.now) }
+    ensures { IfOk result (λ found. IsTrue found
+        ↔ IsMisplacedAt image.now (typed_of unit.now) (names_of unit.now) number) }
+{
+    match unit.names.get_index(number) {
+        Some((name, meaning)) => is_unplaced(image, unit, name, meaning),
+        None => Ok(false),
+    }
+}
+
+/// Adds for each name of the file scope whether it is that of a global that isn't placed.
+fn add_misplaced(
+    found: &mut Vec<bool>,
+    image: &Image<'_>,
+    unit: &Typed<'_>,
+) -> Result<(), AllocError>
+    requires apart { AreApart (names_of unit.now) }
+    requires none { found.old.items ≡ [] }
+    ensures { OnOk result (AreMisplaced image.now (typed_of unit.now) (names_of unit.now)
+        found.new.items) }
+{
+    for number in 0..unit.names.len() {
+        let misplaced = attempt!(is_misplaced(image, unit, number));
+        found.push(misplaced)?;
+    }
+    Ok(())
+}
+
+/// For each name of the file scope whether it is that of a global that isn't placed.
+pub(crate) fn misplaced_globals(
+    alloc: Global,
+    image: &Image<'_>,
+    unit: &Typed<'_>,
+) -> Result<Vec<bool>, AllocError>
+    requires { AreApart (names_of unit.now) }
+    ensures { IfOk result (λ found. AreMisplaced image.now (typed_of unit.now) (names_of unit.now)
+        found.items) }
+{
+    let mut found = Vec::new(alloc);
+    attempt!(add_misplaced(&mut found, image, unit));
+    Ok(found)
+}

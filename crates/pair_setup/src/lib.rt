@@ -1,0 +1,16 @@
+//! Pairs of functions: [`pair`] answers, for a list of names, where each function is in the
+//! executable and how much stack it takes, or the first fault of the list, or that a graph is too
+//! large. Which answer a list has is defined in `pair_outcome_spec` (`specs/Outcome.antt` there).
+#![tactic(auto)]
+
+mod code;
+mod globals;
+mod names;
+mod nodes;
+mod outcome;
+mod pairing;
+mod reach;
+mod survey;
+
+pub use outcome::{Function, Named, PairError, Pairs};
+pub use pairing::pair;

@@ -1,0 +1,48 @@
+//! What pairing answers.
+
+use code_reach::CodeFault;
+use pair_spec::PairKind;
+
+/// A listed function.
+#[derive(Clone, Copy)]
+pub struct Function {
+    /// Where its code begins.
+    pub entry: u32,
+    /// How many bytes its code has.
+    pub size: u32,
+    /// How many bytes of stack it takes, with all that it calls.
+    pub stack: u64,
+}
+
+/// Listed functions, each of which has code and a source that can be compared.
+#[derive(Drop)]
+pub struct Pairs {
+    /// The listed functions, in the order of the list.
+    pub functions: Vec<Function>,
+    /// The entries of all functions that their code reaches, ascending, each once.
+    pub entries: Vec<u32>,
+}
+
+/// A name of which a fault speaks.
+#[derive(Clone, Copy)]
+pub enum Named {
+    /// None: nothing is listed.
+    Nothing,
+    /// The one at an index of the list.
+    Listed(usize),
+    /// The one of a number, as [`c_reach::name_at`] gives it.
+    Declared(usize),
+}
+
+/// Why a list has no pairs.
+#[derive(Clone, Copy)]
+pub enum PairError {
+    /// A function can't be paired, and the name of which that speaks.
+    Refused(PairKind, Named),
+    /// The code of the function at an index of the list has a fault; this is the first.
+    Code(CodeFault, usize),
+    /// A graph has more than [`tv_base::limits::MAX_NODES`] nodes.
+    Nodes,
+    /// There was no memory.
+    NoMemory,
+}

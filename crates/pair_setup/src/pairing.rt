@@ -1,0 +1,125 @@
+//! The pairs of a list.
+
+ghost use Rattle.std.specs.Prelude.{◌≡◌, ◌≢◌, [], All, IfErr, IfOk, IsSome};
+ghost use Rattle.elf_spec.specs.Image.{size_at};
+ghost use Rattle.c_type_spec.specs.HasType.{IsTypedUnit};
+ghost use Rattle.c_types.specs.Typed.{typed_of};
+ghost use Rattle.c_reach.specs.Names.{names_of, texts_of};
+ghost use Rattle.pair_outcome_spec.specs.Outcome.{IsPaired};
+ghost use Rattle.pair_setup.specs.Surveys.{IsSurvey};
+ghost use Rattle.pair_setup.specs.Answers.{AreChecked, AreSmall, IsLargeError, IsPairError};
+ghost use Rattle.pair_setup.specs.Answers.{pairs_of};
+
+use crate::code::sound_entries;
+use crate::names::check_names;
+use crate::nodes::is_too_large;
+use crate::outcome::{Function, Named, PairError, Pairs};
+use crate::reach::functions;
+use crate::survey::{Survey, surveyed};
+use attempt::attempt;
+use c_types::typed::Typed;
+use elf_read::Image;
+use indexmap::IndexSet;
+use pair_spec::PairKind;
+use std::alloc::Global;
+
+/// The listed functions, where none has a fault; or else the fault of the list. The numbers of all
+/// that their source reaches and the entries of all that their code reaches are added.
+fn checked(
+    alloc: Global,
+    image: &Image<'_>,
+    unit: &Typed<'_>,
+    survey: &Survey,
+    seen: &mut IndexSet<usize>,
+    entries: &mut IndexSet<u32>,
+    list: &[&[u8]],
+) -> Result<Vec<Function>, PairError>
+    requires typed { IsTypedUnit (typed_of unit.now) }
+    requires survey { IsSurvey image.now (typed_of unit.now) (names_of unit.now) survey.now }
+    requires unseen { seen.old.keys ≡ [] }
+    requires none { entries.old.keys ≡ [] }
+    ensures checked { IfOk result (λ functions. AreChecked image.now (typed_of unit.now) (names_of
+        unit.now) (texts_of list.now) functions.items seen.new.keys entries.new.keys) }
+    ensures error { IfErr result (IsPairError image.now (typed_of unit.now) (names_of unit.now)
+        (texts_of list.now)) }
+{
+    attempt!(check_names(alloc, image, unit, survey, seen, list));
+    let firsts = attempt!(sound_entries(alloc, entries, image, list));
+    functions(alloc, image, unit, survey, list, firsts.as_slice())
+}
+
+/// The entries, ascending, where no graph of these functions is too large.
+fn small_entries(
+    alloc: Global,
+    image: &Image<'_>,
+    unit: &Typed<'_>,
+    numbers: &[usize],
+    entries: &mut IndexSet<u32>,
+) -> Result<Vec<u32>, PairError>
+    requires { All (λ entry. IsSome (size_at image.now entry)) entries.old.keys }
+    ensures small { IfOk result (λ found. AreSmall image.now (typed_of unit.now) (names_of unit.now)
+        numbers.now entries.old.keys found.items) }
+    ensures error { IfErr result (IsLargeError image.now (typed_of unit.now) (names_of unit.now)
+        numbers.now entries.old.keys) }
+{
+    attempt!(entries.sort(), PairError::NoMemory);
+    let large = attempt!(
+        is_too_large(alloc, image, unit, numbers, entries.as_slice()),
+        PairError::NoMemory
+    );
+    if large {
+        return Err(PairError::Nodes);
+    }
+    let found = attempt!(
+        Vec::from_slice(alloc, entries.as_slice()),
+        PairError::NoMemory
+    );
+    Ok(found)
+}
+
+/// The pairs of a list that isn't empty.
+fn listed_pairs(
+    alloc: Global,
+    image: &Image<'_>,
+    unit: &Typed<'_>,
+    survey: &Survey,
+    list: &[&[u8]],
+) -> Result<Pairs, PairError>
+    requires typed { IsTypedUnit (typed_of unit.now) }
+    requires survey { IsSurvey image.now (typed_of unit.now) (names_of unit.now) survey.now }
+    requires some { texts_of list.now ≢ [] }
+    ensures pairs { IfOk result (λ pairs. IsPaired image.now (typed_of unit.now) (texts_of list.now)
+        (pairs_of (texts_of list.now) pairs)) }
+    ensures error { IfErr result (IsPairError image.now (typed_of unit.now) (names_of unit.now)
+        (texts_of list.now)) }
+{
+    let mut seen = IndexSet::new(alloc);
+    let mut entries = IndexSet::new(alloc);
+    let functions = attempt!(checked(alloc, image, unit, survey, &mut seen, &mut entries, list));
+    let numbers = seen.as_slice();
+    let entries = attempt!(small_entries(alloc, image, unit, numbers, &mut entries));
+    Ok(Pairs { functions, entries })
+}
+
+/// The pairs of a list of names, or the first of these: that nothing is listed; for the first
+/// function with such a fault that a body, a symbol or a global is missing; for the first function
+/// with one the first fault of code; for the first function with one a cycle, or too deep a stack;
+/// and that a graph is too large.
+pub fn pair(
+    alloc: Global,
+    image: &Image<'_>,
+    unit: &Typed<'_>,
+    list: &[&[u8]],
+) -> Result<Pairs, PairError>
+    requires { IsTypedUnit (typed_of unit.now) }
+    ensures pairs { IfOk result (λ pairs. IsPaired image.now (typed_of unit.now) (texts_of list.now)
+        (pairs_of (texts_of list.now) pairs)) }
+    ensures error { IfErr result (IsPairError image.now (typed_of unit.now) (names_of unit.now)
+        (texts_of list.now)) }
+{
+    if list.is_empty() {
+        return Err(PairError::Refused(PairKind::NothingListed, Named::Nothing));
+    }
+    let survey = attempt!(surveyed(alloc, image, unit), PairError::NoMemory);
+    listed_pairs(alloc, image, unit, &survey, list)
+}

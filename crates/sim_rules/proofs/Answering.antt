@@ -1,0 +1,85 @@
+-- A rule's answer, by what its obligations are of.
+use Rattle.std.proofs.Common.{◌≡◌, ℕ, List, [], ◌∷◌, sym, subst, refl}
+use Rattle.std.specs.Prelude.{Result, Ok, Err, Vec, IfOk, IfErr, OnOk}
+use Rattle.std.specs.Global.{Global}
+use Rattle.std.proofs.lemmas.Result.{IfOk-weaker, IfErr-weaker, on_ok_weaker}
+use Rattle.term_spec.specs.Term.{Term}
+use Rattle.proof_spec.specs.Frames.{Frame}
+use Rattle.proof_spec.specs.Scope.{Setting}
+use Rattle.proof_tree.specs.Frames.{frame_of}
+use Rattle.rule_spec.specs.Obligations as spec
+use Rattle.rule_spec.specs.Obligations.{Rule, IsNoLine}
+use Rattle.rule_spec.specs.Points.{Convention}
+use Rattle.rule_spec.specs.Rules.{Opening}
+use Rattle.sim_rules.specs.declared.fault.RuleFault.{RuleFault}
+use Rattle.sim_rules.specs.declared.fault.RuleFault.TheVariants.{Sort, Cyclic, Large, NoMemory}
+use Rattle.sim_rules.specs.declared.plan.Walking.{Walking}
+use Rattle.sim_rules.specs.declared.plan.Walking.TheVariants.{Leaf, RestrictBinary, RestrictSource, Wait}
+use Rattle.sim_rules.specs.declared.setup.Setup.{Setup}
+use Rattle.sim_rules.specs.Replies.{IsAnswer}
+use Rattle.sim_rules.specs.Held.{AreHeld}
+use Rattle.sim_rules.specs.Lines.{AreLines, IsLineFault}
+use Rattle.sim_rules.specs.Outcome.{AreObligations, HasFewVisits, HasLines, IsRuleAnswer, IsRuleFault}
+use Rattle.sim_rules.specs.Rules.{walking_of}
+use Rattle.sim_rules.specs.Setups.{IsSetup}
+
+abbrev Reply : Type 0
+Reply = Result (Vec ℕ Global) RuleFault
+
+-- ---- nothing is left to show
+
+none_left : (trees : List Term) (c : Convention) (o : Opening) (f : Frame) (rule : Rule) (ids : List ℕ) → spec.AreObligations c o f rule [] → ids ≡ [] → AreObligations trees c o f rule ids
+none_left trees c o f rule ids are e = record { terms = []; are = are; held = subst (λ (l : List ℕ). AreHeld trees l []) (sym e) tt }
+
+no_bad : (setting : Setting) (path : List ℕ) (lines : List Term) → AreLines setting path lines → (index : ℕ) → IsNoLine setting path lines index → ⊥
+no_bad setting path lines are index n = n.none (are index n.line n.there)
+
+module _ (trees : List Term) (s : Setup) (r : Reply) (none : IfOk r (λ ids. ids.items ≡ [])) where
+  abbrev f : Frame
+  f = frame_of s.frame.now
+
+  always : (P : Type 0) → P → (x : Reply) → OnOk x P
+  always P p (Ok ids) = p
+  always P p (Err fault) = tt
+
+  pub of_term : (test : Term) → OnOk r (AreLines f.setting f.start.path (test ∷ [])) → IfErr r (IsLineFault f.setting f.start.path (test ∷ [])) → IsAnswer trees trees s (spec.Case test) r
+  of_term test lines fault = record {
+    terms = λ c o is. IfOk-weaker r (λ ids. ids.items ≡ []) (λ ids. AreObligations trees c o f (spec.Case test) ids.items) (λ ids e. none_left trees c o f (spec.Case test) ids.items refl e) none;
+    lines = on_ok_weaker r (no_bad f.setting f.start.path (test ∷ [])) lines;
+    few = λ o. always (HasFewVisits o f s.maximum (spec.Case test)) (λ count h. h) r;
+    fault = λ o. IfErr-weaker r (IsLineFault f.setting f.start.path (test ∷ [])) (IsRuleFault o f s.maximum (spec.Case test)) (bad o) fault;
+  }
+    where
+      bad : (o : Opening) (x : RuleFault) → IsLineFault f.setting f.start.path (test ∷ []) x → IsRuleFault o f s.maximum (spec.Case test) x
+      bad o (Sort index) h = h
+      bad o (Cyclic node) h = h
+      bad o (Large count) h = h
+      bad o NoMemory h = tt
+
+  pub of_lines : (path : List ℕ) (lines : List Term) → OnOk r (AreLines f.setting path lines) → IfErr r (IsLineFault f.setting path lines) → IsAnswer trees trees s (spec.Cut path lines) r
+  of_lines path lines are fault = record {
+    terms = λ c o is. IfOk-weaker r (λ ids. ids.items ≡ []) (λ ids. AreObligations trees c o f (spec.Cut path lines) ids.items) (λ ids e. none_left trees c o f (spec.Cut path lines) ids.items refl e) none;
+    lines = on_ok_weaker r (no_bad f.setting path lines) are;
+    few = λ o. always (HasFewVisits o f s.maximum (spec.Cut path lines)) (λ count h. h) r;
+    fault = λ o. IfErr-weaker r (IsLineFault f.setting path lines) (IsRuleFault o f s.maximum (spec.Cut path lines)) (bad o) fault;
+  }
+    where
+      bad : (o : Opening) (x : RuleFault) → IsLineFault f.setting path lines x → IsRuleFault o f s.maximum (spec.Cut path lines) x
+      bad o (Sort index) h = h
+      bad o (Cyclic node) h = h
+      bad o (Large count) h = h
+      bad o NoMemory h = tt
+
+-- ---- both sides' walks
+
+no_lines : (f : Frame) (rule : Walking) → HasLines f (walking_of rule)
+no_lines f Leaf = λ index h. h
+no_lines f (RestrictBinary bound) = λ index h. h
+no_lines f (RestrictSource bound) = λ index h. h
+no_lines f (Wait hold) = λ index h. h
+
+module _ (before now : List Term) (s : Setup) (rule : Walking) where
+  pub of_walks : (r : Reply) → ((c : Convention) (o : Opening) → IsSetup before c o s → IfOk r (λ ids. AreObligations now c o (frame_of s.frame.now) (walking_of rule) ids.items))
+      → ((o : Opening) → IsRuleAnswer o (frame_of s.frame.now) s.maximum (walking_of rule) r) → IsAnswer before now s (walking_of rule) r
+  of_walks (Ok ids) terms walks = record { terms = terms; lines = no_lines (frame_of s.frame.now) rule; few = walks; fault = λ o. tt }
+  of_walks (Err fault) terms walks = record { terms = terms; lines = tt; few = λ o. tt; fault = walks }

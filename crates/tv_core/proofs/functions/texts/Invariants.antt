@@ -1,0 +1,6 @@
+use Rattle.std.proofs.Common.{◌≡◌, take}
+use Rattle.c_reach.specs.Names.{texts_of}
+use Rattle.tv_core.proofs.functions.texts.Given as goal
+
+abbrev pub invariant-loop-name : goal.invariant-loop-name
+invariant-loop-name l = texts_of l.texts.items ≡ take l.name-index l.names

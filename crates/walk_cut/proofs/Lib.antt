@@ -1,0 +1,5 @@
+pub mod Growing
+pub mod Gaining
+pub mod Searching
+pub mod Leading
+pub mod Cutting
