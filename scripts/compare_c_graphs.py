@@ -350,15 +350,27 @@ def zone(r):
     return f" {low}..{low + r.randrange(0, 40)}"
 
 
-def a_call(r, name, kinds, place):
-    words = [str(argument(r, kind)) for kind in kinds]
+def fitted(value, parameter):
+    """The value of a parameter's type that is equal to it modulo the type's width."""
+    if "*" in parameter:
+        return value
+    words = parameter.split()
+    width = 8 if "char" in words else 16 if "short" in words else 32
+    value %= 2**width
+    is_signed = "signed" in words if "char" in words else "unsigned" not in words
+    return value - 2**width if is_signed and value >= 2 ** (width - 1) else value
+
+
+def a_call(r, name, kinds, place, text):
+    parameters = re.search(rf"\b{name}\(([^()]*)\)\s*{{", text).group(1).split(",")
+    words = [str(fitted(argument(r, kind), p)) for kind, p in zip(kinds, parameters)]
     return " ".join([name, *words, f"4096:{memory(r)}", place]) + f"{zone(r)} turns*150 4096+128"
 
 
 def random_rows(count, seed):
     """So many states of each function, the same place for as many of them as there are places."""
     r = random.Random(seed)
-    return [(a_call(r, name, kinds, r.choice(PLACES)), text) for text, name, kinds in FUNCTIONS for _ in range(count)]
+    return [(a_call(r, name, kinds, r.choice(PLACES), text), text) for text, name, kinds in FUNCTIONS for _ in range(count)]
 
 
 def made_rows(count, seed):
@@ -373,7 +385,7 @@ def made_rows(count, seed):
             place.append(f"{name}@{at}")
             at += size
         for _ in range(4):
-            rows.append((a_call(r, program.name, "nn", " ".join(place)), program.text))
+            rows.append((a_call(r, program.name, "nn", " ".join(place), program.text), program.text))
     return rows
 
 
