@@ -19,7 +19,7 @@ from pathlib import Path
 from probe import ask
 from terms import operate
 
-CRATES = ["rv_instr", "rv_machine", "elf_read", "code_reach", "term_spec", "term_core", "graph_spec", "graph_core", "decompile", "indexmap"]
+CRATES = ["rv_instr", "rv_machine", "elf_read", "code_reach", "term_spec", "term_bank", "graph_spec", "graph_core", "decompile", "indexmap"]
 
 # Its arguments are executables. Reads lines of hexadecimal numbers: `graphs`, the place of a file and entries, ascending; or
 # `run`, the place of a file, an entry, a maximum of steps, x1 to x31, and words of memory from 00040000 on. Prints the
@@ -30,7 +30,7 @@ PROBE = r"""//! Prints graphs, and runs the machine.
 mod numbers;
 
 use elf_read::{Image, read};
-use graph_core::{Binding, Node};
+use graph_core::{SharedBinding, SharedNode};
 use graph_spec::Next;
 use numbers::hexadecimal;
 use rv_instr::Reg;
@@ -39,7 +39,7 @@ use std::alloc::{AllocError, Global};
 use std::env;
 use std::fs;
 use std::io::{BufRead, BufReader};
-use term_core::Term;
+use term_bank::{Bank, TermId, TermNode};
 use term_spec::{Atom, BinaryOperator, Family, Variable};
 
 fn put(out: &mut String, text: Result<String, AllocError>) -> Result<(), AllocError> {
@@ -56,39 +56,39 @@ fn put_variable(alloc: Global, out: &mut String, v: Variable) -> Result<(), Allo
 }
 
 #[cycle(terms)]
-fn put_term(alloc: Global, out: &mut String, term: &Term) -> Result<(), AllocError> {
-    match term {
-        Term::Leaf(Atom::Open(v)) => put_variable(alloc, out, *v),
-        Term::Leaf(Atom::Constant(width, n)) => put(out, format!(in alloc; " {width:?}:{n}")),
-        Term::Leaf(Atom::Truth(truth)) => put(out, format!(in alloc; " {truth}")),
-        Term::Unary(operator, a) => {
+fn put_term(alloc: Global, out: &mut String, bank: &Bank, id: TermId) -> Result<(), AllocError> {
+    match bank.node(id) {
+        TermNode::Leaf(Atom::Open(v)) => put_variable(alloc, out, v),
+        TermNode::Leaf(Atom::Constant(width, n)) => put(out, format!(in alloc; " {width:?}:{n}")),
+        TermNode::Leaf(Atom::Truth(truth)) => put(out, format!(in alloc; " {truth}")),
+        TermNode::Unary(operator, a) => {
             put(out, format!(in alloc; " ( {operator:?}"))?;
-            put_all(alloc, out, &[a.as_ref()])
+            put_all(alloc, out, bank, &[a])
         }
-        Term::Binary(BinaryOperator::Word(operator), a, b) => {
+        TermNode::Binary(BinaryOperator::Word(operator), a, b) => {
             put(out, format!(in alloc; " ( Word{operator:?}"))?;
-            put_all(alloc, out, &[a.as_ref(), b.as_ref()])
+            put_all(alloc, out, bank, &[a, b])
         }
-        Term::Binary(operator, a, b) => {
+        TermNode::Binary(operator, a, b) => {
             put(out, format!(in alloc; " ( {operator:?}"))?;
-            put_all(alloc, out, &[a.as_ref(), b.as_ref()])
+            put_all(alloc, out, bank, &[a, b])
         }
-        Term::Ternary(operator, a, b, c) => {
+        TermNode::Ternary(operator, a, b, c) => {
             put(out, format!(in alloc; " ( {operator:?}"))?;
-            put_all(alloc, out, &[a.as_ref(), b.as_ref(), c.as_ref()])
+            put_all(alloc, out, bank, &[a, b, c])
         }
-        Term::Quaternary(operator, a, b, c, d) => {
+        TermNode::Quaternary(operator, a, b, c, d) => {
             put(out, format!(in alloc; " ( {operator:?}"))?;
-            put_all(alloc, out, &[a.as_ref(), b.as_ref(), c.as_ref(), d.as_ref()])
+            put_all(alloc, out, bank, &[a, b, c, d])
         }
-        Term::Octonary(..) => out.push_str(" ?"),
+        TermNode::Octonary(..) => out.push_str(" ?"),
     }
 }
 
 #[cycle(terms)]
-fn put_all(alloc: Global, out: &mut String, terms: &[&Term]) -> Result<(), AllocError> {
-    for term in terms {
-        put_term(alloc, out, term)?;
+fn put_all(alloc: Global, out: &mut String, bank: &Bank, ids: &[TermId]) -> Result<(), AllocError> {
+    for id in ids {
+        put_term(alloc, out, bank, *id)?;
     }
     out.push_str(" )")
 }
@@ -101,31 +101,31 @@ fn put_next(alloc: Global, out: &mut String, next: Next) -> Result<(), AllocErro
     }
 }
 
-fn put_bindings(alloc: Global, out: &mut String, bindings: &[Binding]) -> Result<(), AllocError> {
+fn put_bindings(alloc: Global, out: &mut String, bank: &Bank, bindings: &[SharedBinding]) -> Result<(), AllocError> {
     for binding in bindings {
         put_variable(alloc, out, binding.variable)?;
-        put_term(alloc, out, &binding.term)?;
+        put_term(alloc, out, bank, binding.term)?;
     }
     out.push_str(" ;")
 }
 
-fn put_node(alloc: Global, out: &mut String, node: &Node) -> Result<(), AllocError> {
+fn put_node(alloc: Global, out: &mut String, bank: &Bank, node: &SharedNode) -> Result<(), AllocError> {
     match node {
-        Node::Basic { bindings, next } => {
+        SharedNode::Basic { bindings, next } => {
             out.push_str("node basic")?;
-            put_bindings(alloc, out, bindings.as_slice())?;
+            put_bindings(alloc, out, bank, bindings.as_slice())?;
             put_next(alloc, out, *next)
         }
-        Node::Cond { test, on_true, on_false } => {
+        SharedNode::Cond { test, on_true, on_false } => {
             out.push_str("node cond")?;
-            put_term(alloc, out, test)?;
+            put_term(alloc, out, bank, *test)?;
             put_next(alloc, out, *on_true)?;
             put_next(alloc, out, *on_false)
         }
-        Node::Call { callee, inputs, outputs, landing } => {
+        SharedNode::Call { callee, inputs, outputs, landing } => {
             put(out, format!(in alloc; "node call {callee}"))?;
-            put_bindings(alloc, out, inputs.as_slice())?;
-            put_bindings(alloc, out, outputs.as_slice())?;
+            put_bindings(alloc, out, bank, inputs.as_slice())?;
+            put_bindings(alloc, out, bank, outputs.as_slice())?;
             put(out, format!(in alloc; " {landing}"))
         }
     }
@@ -157,11 +157,11 @@ fn show(rt: &HostRuntime, image: &Image<'_>, entries: &[u32]) -> anyhow::Result<
     for entry in entries {
         match decompile::decompile(rt.alloc(), image, *entry, entries) {
             Ok(found) => {
-                let first = found.graph.entry;
+                let first = found.graph.entry();
                 println!(rt; "function {first}")?;
-                for node in &found.graph.nodes {
+                for node in found.graph.nodes() {
                     let mut out = String::new(rt.alloc());
-                    put_node(rt.alloc(), &mut out, node)?;
+                    put_node(rt.alloc(), &mut out, found.graph.bank(), node)?;
                     println!(rt; "{out}")?;
                 }
             }

@@ -248,6 +248,8 @@ def compiled_frames(folder, pick):
     of_level = [graphs[i * len(shared) : (i + 1) * len(shared)] for i in range(len(files))]
     for binaries, sources in zip(of_level, of_level[1:] + of_level[:1]):
         for binary, source in zip(binaries, sources):
+            if isinstance(binary, str) or isinstance(source, str):
+                continue  # one of them calls a function that isn't there at each level
             terms, sides = Terms(), []
             for (start, nodes), letters in ((binary, "abcdefghijklmnopqrtuvwxyz"), (source, "ABCDGHIJKLMNOPQSUVWXYZ")):
                 named = Named(terms, letters)

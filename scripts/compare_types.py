@@ -130,8 +130,8 @@ def compiled(source, *words):
 
 
 def refused(before, lines, after):
-    """The first error of each line that gcc refuses, by the line's number."""
-    errors = {}
+    """The first error of each line that gcc refuses, by the line's number, and the lines in which it warns of an overflow."""
+    errors, overflows = {}, set()
     for start in range(0, len(lines), BATCH):
         part = lines[start : start + BATCH]
         ran = compiled(before + "\n" + "\n".join(part) + "\n" + after + "\n", "-fsyntax-only")
@@ -140,7 +140,9 @@ def refused(before, lines, after):
             if not 0 <= number < len(part):
                 sys.exit(f"an error outside the lines: {message}")
             errors.setdefault(start + number, message)
-    return errors
+        for line in re.findall(r"^<stdin>:(\d+):\d+: warning: integer overflow in expression", ran.stderr, re.MULTILINE):
+            overflows.add(start + int(line) - 2)
+    return errors, overflows
 
 
 def words(before, terms, after):
@@ -174,8 +176,8 @@ def words(before, terms, after):
 CHOSEN = ("LeftOut.", "AddressOfLocal", "TooManyWords", "Fallthrough")
 
 
-def by_choice(name, text, answer, error):
-    """Why an answer differs from gcc's by choice, or None."""
+def by_choice(name, text, answer, error, has_overflow):
+    """Why an answer differs from gcc's by choice, or None; gcc warns of an overflow in the text or not."""
     if error is None and answer.startswith(CHOSEN):
         return answer.split(" at ")[0]
     if error is None and answer.startswith("Incomplete") and re.search(r"\*|\[", text):
@@ -185,6 +187,9 @@ def by_choice(name, text, answer, error):
     # gcc takes a constant with such a shift that is evaluated, and refuses one where it is not.
     if name == "values" and re.search("<<|>>", text) and (error is None and answer.startswith("Mismatch") or error and "constant expression" in error):
         return "a shift count outside the width, or a left shift of bits that are lost"
+    # gcc warns of an overflow that is evaluated, and refuses the constant only where its value shows it.
+    if name == "values" and error is None and answer.startswith("Mismatch") and has_overflow:
+        return "an overflow inside a constant whose value doesn't show it (6.5p5, 6.6p4)"
     if error is not None and not re.search(r" at \d+$", answer):
         if "discards" in error or "signedness" in error:
             return "const, or pointers to char and unsigned char"
@@ -197,8 +202,9 @@ def by_choice(name, text, answer, error):
     return None
 
 
-def compare(name, texts, answers, errors):
+def compare(name, texts, answers, found):
     """Prints where gcc accepts and we refuse, and the other way; the numbers of the texts that both accept."""
+    errors, overflows = found
     both, chosen, differ, kinds = [], Counter(), 0, Counter()
     for number, (text, answer) in enumerate(zip(texts, answers)):
         error, is_refused = errors.get(number), bool(re.search(r" at \d+$", answer))
@@ -207,7 +213,7 @@ def compare(name, texts, answers, errors):
             if not is_refused:
                 both.append(number)
             continue
-        cause = by_choice(name, text, answer, error)
+        cause = by_choice(name, text, answer, error, number in overflows)
         if cause:
             chosen[cause] += 1
             continue
@@ -228,8 +234,8 @@ def compare_types(count, seed):
     maker = Maker(seed)
     texts = [maker.anything(4) for _ in range(count)]
     answers = ours([("types t", DECLARATIONS + BEFORE + text + ";return 0;}") for text in texts])
-    errors = refused(DECLARATIONS + BEFORE, [text + ";" for text in texts], "return 0;}")
-    both, differ = compare("types", texts, answers, errors)
+    found = refused(DECLARATIONS + BEFORE, [text + ";" for text in texts], "return 0;}")
+    both, differ = compare("types", texts, answers, found)
     table = words(DECLARATIONS + "const int*use;" + BEFORE, [f"_Generic(({texts[number]}),{GENERIC})" for number in both], "return 0;}")
     for number, code in zip(both, table):
         if answers[number] != SCALARS[code]:
@@ -248,8 +254,8 @@ def compare_values(count, seed):
         if not globals_alone.search(text):
             texts.append(text)
     answers = ours([("names", f"{DECLARATIONS}enum{{Z={text}}};") for text in texts])
-    errors = refused(DECLARATIONS, [f"enum{{Z{number}={text}}};" for number, text in enumerate(texts)], "")
-    both, differ = compare("values", texts, answers, errors)
+    found = refused(DECLARATIONS, [f"enum{{Z{number}={text}}};" for number, text in enumerate(texts)], "")
+    both, differ = compare("values", texts, answers, found)
     table = words(DECLARATIONS, [f"(int)({texts[number]})" for number in both], "")
     for number, value in zip(both, table):
         found = re.search(r"\bZ=(-?\d+)", answers[number])
@@ -300,11 +306,11 @@ def compare_statements(count, seed):
     maker = Maker(seed)
     texts = [statement(maker) for _ in range(count)]
     answers = ours([("check", DECLARATIONS + BEFORE + text + "return 0;}") for text in texts])
-    errors = refused(DECLARATIONS + BEFORE, texts, "return 0;}")
+    errors, overflows = refused(DECLARATIONS + BEFORE, texts, "return 0;}")
     unlike_grammar = [number for number, answer in enumerate(answers) if answer.startswith(("Unexpected", "LeftOut("))]
     for number in unlike_grammar:
         answers[number] = "fine" if number not in errors else "outside the grammar at 0"
-    return compare("statements", texts, answers, errors)[1]
+    return compare("statements", texts, answers, (errors, overflows))[1]
 
 
 # ---- rows

@@ -8,11 +8,14 @@ It is run outside the gate and needs `rt`, gcc and GNU `time` (Debian: time) on 
 small program in a scratch repository and runs it as it is compiled; the checker in C (`log_checker.c` beside this
 script) is compiled by gcc -O2. Both programs add one step again and again over a chain of clauses, each of which is a
 hint, and begin anew as often as the last argument says, so that a run takes long enough to be timed. Runs of the two
-alternate, and of each the one with the least processor time counts. Each row is a chain: steps, hints a step, literals
-a hint's clause, millions of hints a second here and in C, their quotient, and the peak of memory of one round. The
-logs of the search are those that `sat_rows` prints, as `rt run` builds it in its folder; reading a log counts in no run.
+alternate, and of each the one with the least processor time counts. Where code begins changes its speed, so both
+programs are linked behind 0, 16, 32 and 48 bytes more, and of chains the mean of the four counts. Each row is a chain:
+steps, hints a step, literals a hint's clause, millions of hints a second here and in C, their quotient, and the peak of
+memory of one round. The logs of the search are those that `sat_rows` prints, as `rt run` builds it in its folder;
+reading a log counts in no run. The kit is in /opt/rattle, or where RATTLE_KIT says.
 """
 
+import os
 import resource
 import subprocess
 import sys
@@ -238,8 +241,11 @@ fn main(rt: HostRuntime) -> anyhow::Result<()> {
 # steps, hints a step, further literals a clause, rounds
 CHAINS = [(1000, 1000, 0, 100), (1000, 1000, 8, 50), (100000, 10, 0, 100), (100000, 10, 8, 50)]
 
-# runs of each program on each chain
+# runs of each program on each log, and at each offset on each chain
 RUNS = 9
+
+# bytes that the code of a program is moved by
+OFFSETS = (0, 16, 32, 48)
 
 
 def processor_seconds(program, words, text=""):
@@ -251,17 +257,34 @@ def processor_seconds(program, words, text=""):
     return after.ru_utime + after.ru_stime - before.ru_utime - before.ru_stime
 
 
-def chains(folder, in_c):
+def moved(folder, name, link, made):
+    """The program of an object file, linked with its code moved by each of the offsets."""
+    programs = []
+    for offset in OFFSETS:
+        pad = folder / f"pad{offset}"
+        pad.with_suffix(".s").write_text(f'.section .text.pad,"axR",@progbits\n.p2align 6\n.skip {64 + offset},0x90\n')
+        subprocess.run(["gcc", "-c", "-o", f"{pad}.o", f"{pad}.s"], check=True)
+        programs.append(folder / f"{name}{offset}")
+        subprocess.run([*link, "-o", str(programs[-1]), f"{pad}.o", *made], check=True, capture_output=True)
+    return programs
+
+
+def chains(folder):
+    kit = os.environ.get("RATTLE_KIT", "/opt/rattle")
     program = built(folder, PROBE + PUSH, CRATES)
+    subprocess.run(["gcc", "-O2", "-c", "-o", str(folder / "in_c.o"), str(ROOT / "scripts/log_checker.c")], check=True)
+    link = [f"{kit}/bin/rattle-link", "--target", "x86_64-unknown-linux-gnu", "--toolchain", f"{kit}/toolchain"]
+    here = moved(folder, "here", link, [f"{program}.o", f"{kit}/c/libos_c.a", f"{kit}/c/liblibc_c.a"])
+    in_c = moved(folder, "in_c", ["gcc"], [str(folder / "in_c.o")])
     print("| Steps | Hints a step | Literals a hint | Million hints a second | In C | Quotient | Peak MiB |")
     print("|---|---|---|---|---|---|---|")
     for steps, hints, more, rounds in CHAINS:
-        best = {program: 1e9, in_c: 1e9}
+        best = {each: 1e9 for pair in zip(here, in_c) for each in pair}
         for _ in range(RUNS):
             for each in best:
                 best[each] = min(best[each], processor_seconds(each, (steps, hints, more, rounds)))
         _, _, peak = timed(program, (steps, hints, more, 1))
-        ours, c = (steps * hints * rounds / best[each] / 1e6 for each in (program, in_c))
+        ours, c = (len(OFFSETS) * steps * hints * rounds / sum(best[each] for each in all_) / 1e6 for all_ in (here, in_c))
         cells = (steps, hints, more + 2, f"{ours:.0f}", f"{c:.0f}", f"{ours / c:.2f}", f"{peak:.1f}")
         print("| " + " | ".join(str(cell) for cell in cells) + " |", flush=True)
 
@@ -316,7 +339,7 @@ def main():
         if sys.argv[1:2] == ["own"]:
             own(Path(folder), in_c, Path(sys.argv[2]) if len(sys.argv) > 2 else ROOT / "crates/sat_rows/out/sat_rows")
         else:
-            chains(Path(folder), in_c)
+            chains(Path(folder))
 
 
 if __name__ == "__main__":

@@ -70,7 +70,7 @@ TEXTS = {
         size, lambda k: until(k, lambda n: f"int m{n};", "struct s{", "}x"), "", lambda n: f",x{n}", ";"
     ),
     "uses of the members of a struct": lambda size: half(
-        size, lambda k: until(k, lambda n: f"int m{n};", "struct s{", "}x;"), "void f(void){", lambda n: f"x.m{n % 50000}=1;", "}"
+        size, lambda k: until(k, lambda n: f"int m{n};", "struct s{", "}x;"), "void f(void){", lambda n: f"x.m{n % 40000}=1;", "}"
     ),
     "structs in one another": lambda size: until(size, lambda n: f"struct s{n}{{struct s{n - 1} a;int b;}};" if 0 < n < 40000 else f"struct s{n}{{int a;}};"),
     "tags": lambda size: until(size, lambda n: f"struct s{n};enum e{n}{{A{n}}};"),

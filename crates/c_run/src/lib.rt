@@ -9,6 +9,3 @@ pub mod frame;
 pub mod machine;
 pub mod running;
 pub mod statement;
-
-#[test]
-fn nothing() {}

@@ -50,13 +50,13 @@ pub same-parts : (a b : Base) (layers others : Layers) → tree.same_type (wrapp
 unfolding tree.same_type same_layers
 same-parts a b Nothing Nothing = and-true (tree.same_type (base_of a) (base_of b))
 same-parts a b Nothing (Pointer' q others) = base-pointer a (wrapped others b) ∙ and-false (tree.same_type (base_of a) (base_of b))
-same-parts a b Nothing (Array' n q others) = base-array a n (wrapped others b) ∙ and-false (tree.same_type (base_of a) (base_of b))
+same-parts a b Nothing (Array' n f q others) = base-array a n (wrapped others b) ∙ and-false (tree.same_type (base_of a) (base_of b))
 same-parts a b (Pointer' p layers) Nothing = pointer-base (wrapped layers a) b ∙ and-false (tree.same_type (base_of a) (base_of b))
 same-parts a b (Pointer' p layers) (Pointer' q others) = same-parts a b layers others
-same-parts a b (Pointer' p layers) (Array' n q others) = and-false (tree.same_type (base_of a) (base_of b))
-same-parts a b (Array' m p layers) Nothing = array-base m (wrapped layers a) b ∙ and-false (tree.same_type (base_of a) (base_of b))
-same-parts a b (Array' m p layers) (Pointer' q others) = and-false (tree.same_type (base_of a) (base_of b))
-same-parts a b (Array' m p layers) (Array' n q others) =
+same-parts a b (Pointer' p layers) (Array' n f q others) = and-false (tree.same_type (base_of a) (base_of b))
+same-parts a b (Array' m e p layers) Nothing = array-base m (wrapped layers a) b ∙ and-false (tree.same_type (base_of a) (base_of b))
+same-parts a b (Array' m e p layers) (Pointer' q others) = and-false (tree.same_type (base_of a) (base_of b))
+same-parts a b (Array' m e p layers) (Array' n f q others) =
     ap (λ x. tree.same_length m n && x) (same-parts a b layers others)
     ∙ and-turn (tree.same_type (base_of a) (base_of b)) (tree.same_length m n) (same_layers layers others)
 

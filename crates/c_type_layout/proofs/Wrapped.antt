@@ -10,6 +10,6 @@ pub wide-wrapped : (layers : Layers) (base : Base) → tree.is_wide (wrapped lay
 unfolding tree.is_wide
 wide-wrapped Nothing base = refl
 wide-wrapped (Pointer' p rest) base = wide-wrapped rest base
-wide-wrapped (Array' length p rest) base = wide-wrapped rest base
+wide-wrapped (Array' length extent p rest) base = wide-wrapped rest base
 
 pub ruleset wide_base = (wide-wrapped)

@@ -1,9 +1,11 @@
 -- Structs of the program, and their layouts.
-use Rattle.std.specs.Prelude.{ℕ, min, List, map, Option, Some, option_map}
+use Rattle.std.specs.Prelude.{ℕ, ◌/◌, Bool, true, false, List, map, Option, Some}
 use Rattle.std.specs.Borrow.{Bor}
-use Rattle.c_type_spec.specs.declared.TheConstants.{SIZE_LIMIT}
+use Rattle.c_type_spec.specs.declared.TheConstants.{POINTER_WIDTH}
 use Rattle.c_type_spec.specs.Types as tree
-use Rattle.c_type_layout.specs.Types.{type_of}
+pub use Rattle.c_type_layout.specs.Extents.{capped}
+use Rattle.c_type_layout.specs.declared.types.Base.{Base}
+use Rattle.c_type_layout.specs.Types.{base_of, type_of}
 use Rattle.c_type_layout.specs.declared.structs.Placed.{Placed}
 use Rattle.c_type_layout.specs.declared.structs.Layout.{Layout}
 use Rattle.c_type_layout.specs.declared.structs.Definition.{Definition}
@@ -23,9 +25,14 @@ definition_of (definition.Defined layout) = tree.Defined (layout_of layout.value
 abbrev pub structs_of : List Definition → tree.Structs
 structs_of structs = map definition_of structs
 
--- a size, or the limit where it is above that
-abbrev pub capped : Option ℕ → Option ℕ
-capped size = option_map (λ n. min n SIZE_LIMIT) size
+-- the size and the alignment of what is inside arrays: a pointer, or what a type has innermost
+abbrev pub innermost_size : tree.Structs → Base → (is_pointer : Bool) → Option ℕ
+innermost_size structs base true = Some (POINTER_WIDTH / 8)
+innermost_size structs base false = tree.size_of structs (base_of base)
+
+abbrev pub innermost_alignment : tree.Structs → Base → (is_pointer : Bool) → ℕ
+innermost_alignment structs base true = POINTER_WIDTH / 8
+innermost_alignment structs base false = tree.alignment_of structs (base_of base)
 
 -- a member's type and its distance
 abbrev pub placed_of : Placed → tree.CType × ℕ

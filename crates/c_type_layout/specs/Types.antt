@@ -1,5 +1,5 @@
 -- The type that a type of the program is.
-use Rattle.std.specs.Prelude.{◌&&◌, Bool, true, false, List, [], ◌∷◌, Option, Some, None}
+use Rattle.std.specs.Prelude.{◌&&◌, Bool, true, false, Option, Some, None}
 use Rattle.c_type_spec.specs.Types as tree
 use Rattle.c_type_layout.specs.declared.types.Base.{Base}
 use Rattle.c_type_layout.specs.declared.types.Base.TheVariants as base
@@ -18,7 +18,7 @@ base_of (base.Struct number) = tree.Struct number
 abbrev pub wrapped : Layers → Base → tree.CType
 wrapped Nothing base = base_of base
 wrapped (Pointer' p rest) base = tree.Pointer (wrapped rest base)
-wrapped (Array' length p rest) base = tree.Array length (wrapped rest base)
+wrapped (Array' length extent p rest) base = tree.Array length (wrapped rest base)
 
 unfoldable pub type_of : CType → tree.CType
 type_of type = wrapped type.layers type.base
@@ -43,7 +43,7 @@ element_of other = None
 unfoldable pub same_layers : Layers → Layers → Bool
 same_layers Nothing Nothing = true
 same_layers (Pointer' p layers) (Pointer' q others) = same_layers layers others
-same_layers (Array' m p layers) (Array' n q others) = tree.same_length m n && same_layers layers others
+same_layers (Array' m e p layers) (Array' n f q others) = tree.same_length m n && same_layers layers others
 same_layers layers others = false
 
 abbrev pub void_pointer : tree.CType → Bool

@@ -3,5 +3,6 @@
 //! a type, since a type may be as long as a text.
 #![tactic(auto)]
 
+pub mod extents;
 pub mod structs;
 pub mod types;

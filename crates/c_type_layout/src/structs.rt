@@ -5,8 +5,10 @@ ghost use Rattle.c_type_spec.specs.Types as tree;
 ghost use Rattle.c_type_layout.specs.Types.{type_of, base_of};
 ghost use Rattle.c_type_layout.specs.Structs.{layout_of, definition_of, structs_of, capped};
 ghost use Rattle.c_type_layout.specs.Structs.{placed_of, part_of};
+ghost use Rattle.c_type_layout.specs.Structs.{innermost_size, innermost_alignment};
 
-use crate::types::{Base, CType, Layers};
+use crate::extents::{limited, times};
+use crate::types::{Base, CType};
 use c_type_spec::{POINTER_WIDTH, SIZE_LIMIT};
 use indexmap::IndexMap;
 
@@ -39,13 +41,6 @@ pub enum Definition<'a> {
     Unfinished,
     /// It has these members.
     Defined(Box<Layout<'a>>),
-}
-
-/// A size, or the limit where it is above that.
-fn limited(size: u64) -> u64
-    ensures { result ≡ min size SIZE_LIMIT }
-{
-    size.min(SIZE_LIMIT)
 }
 
 /// The least multiple of an alignment from a number on, or the limit where it is above that.
@@ -123,34 +118,26 @@ fn base_size(structs: &[Definition<'_>], base: Base) -> Option<u64>
     }
 }
 
-/// So many elements, or the limit where there are more.
-fn times(count: Option<u64>, length: Option<u64>) -> Option<u64>
-    ensures { result ≡ capped (tree.times count length) }
+/// The size of what is inside arrays, a pointer or what a type has innermost, in bytes.
+fn size_inside(structs: &[Definition<'_>], base: Base, is_pointer: bool) -> Option<u64>
+    ensures { result ≡ capped (innermost_size (structs_of structs.now) base is_pointer) }
 {
-    match (count, length) {
-        (Some(m), Some(n)) => Some(limited(m.saturating_mul(n))),
-        _ => None,
+    if is_pointer {
+        Some(POINTER_WIDTH as u64 / 8)
+    } else {
+        base_size(structs, base)
     }
 }
 
 /// The size of a type in bytes, or [`SIZE_LIMIT`] where it is from there on; none where the type
 /// is incomplete.
-#[tactic(auto, unfolding(crate::specs::Types::type_of, c_type_spec::specs::Types::size_of), using(crate::proofs::Sizes::one_more))]
+#[tactic(auto, unfolding(crate::specs::Types::type_of))]
 pub fn size(structs: &[Definition<'_>], of: &CType) -> Option<u64>
     ensures { result ≡ capped (tree.size_of (structs_of structs.now) (type_of of.now)) }
 {
-    let mut count = Some(1);
-    let mut layers = &of.layers;
-    loop {
-        match layers {
-            Layers::Nothing => return times(count, base_size(structs, of.base)),
-            Layers::Pointer(_) => return times(count, Some(POINTER_WIDTH as u64 / 8)),
-            Layers::Array(length, element) => {
-                count = times(count, *length);
-                layers = element;
-            }
-        }
-    }
+    let extent = of.extent();
+    let element = size_inside(structs, of.base, extent.of_pointers);
+    times(extent.count, element)
 }
 
 /// The alignment of what a type has innermost, in bytes.
@@ -168,19 +155,24 @@ fn base_alignment(structs: &[Definition<'_>], base: Base) -> u64
     }
 }
 
+/// The alignment of what is inside arrays, a pointer or what a type has innermost, in bytes.
+fn alignment_inside(structs: &[Definition<'_>], base: Base, is_pointer: bool) -> u64
+    ensures { result ≡ innermost_alignment (structs_of structs.now) base is_pointer }
+{
+    if is_pointer {
+        POINTER_WIDTH as u64 / 8
+    } else {
+        base_alignment(structs, base)
+    }
+}
+
 /// The alignment of a type, in bytes.
-#[tactic(auto, unfolding(crate::specs::Types::type_of, c_type_spec::specs::Types::alignment_of))]
+#[tactic(auto, unfolding(crate::specs::Types::type_of))]
 pub fn alignment(structs: &[Definition<'_>], of: &CType) -> u64
     ensures { result ≡ tree.alignment_of (structs_of structs.now) (type_of of.now) }
 {
-    let mut layers = &of.layers;
-    loop {
-        match layers {
-            Layers::Nothing => return base_alignment(structs, of.base),
-            Layers::Pointer(_) => return POINTER_WIDTH as u64 / 8,
-            Layers::Array(_, element) => layers = element,
-        }
-    }
+    let extent = of.extent();
+    alignment_inside(structs, of.base, extent.of_pointers)
 }
 
 /// The member of a name.

@@ -3,13 +3,16 @@
 ghost use Rattle.std.specs.Prelude.{◌≡◌, IfOk, option_map};
 ghost use Rattle.c_type_spec.specs.Types as tree;
 ghost use Rattle.c_type_spec.specs.Operands as rule;
+ghost use Rattle.c_type_layout.specs.Extents.{extent_of, AreCounted};
 ghost use Rattle.c_type_layout.specs.Types as specs;
 ghost use Rattle.c_type_layout.specs.Types.{type_of, base_of, outer_of, target_of, element_of};
 ghost use Rattle.c_type_layout.specs.Types.{wrapped};
 
+use crate::extents::Extent;
 use attempt::attempt;
 use c_type_spec::{POINTER_WIDTH, Scalar, WIDE_WIDTH};
 use std::alloc::{AllocError, Global};
+use std::marker::Model;
 use std::rc::Rc;
 
 /// The type of a pointer's value, and of `sizeof`.
@@ -35,8 +38,9 @@ pub enum Layers {
     Nothing,
     /// A pointer, and what it points to.
     Pointer(Rc<Layers>),
-    /// An array with its length or without, and its elements.
-    Array(Option<u64>, Rc<Layers>),
+    /// An array with its length or without, the extent of it and of the arrays directly inside it,
+    /// and its elements.
+    Array(Option<u64>, Extent, Rc<Layers>),
 }
 
 impl Drop for Layers {
@@ -48,7 +52,7 @@ impl Drop for Layers {
                     Some(layers) => self = layers,
                     None => return,
                 },
-                Layers::Array(_, rest) => match Rc::into_inner(rest) {
+                Layers::Array(_, _, rest) => match Rc::into_inner(rest) {
                     Some(layers) => self = layers,
                     None => return,
                 },
@@ -72,6 +76,27 @@ pub enum Outer {
     Array(Option<u64>),
 }
 
+/// Layers whose arrays have their extents. A contract sees the layers.
+#[derive(Drop)]
+pub struct Counted {
+    layers: Layers,
+}
+
+impl Model for Counted {
+    ghost use Rattle.std.specs.Coded.{codes};
+    ghost use Rattle.c_type_layout.specs.declared.types.Layers.{Layers};
+    ghost use Rattle.c_type_layout.specs.contracts.types.Layers as layers_row;
+    ghost use Rattle.c_type_layout.specs.Extents.{AreCounted};
+
+    ghost Value = { Layers };
+
+    ghost coded = { Prim.hlevel (codes, layers_row.the_row.coded) };
+
+    ghost view = { λ c. c.layers };
+
+    ghost invariant = { λ c. AreCounted c.layers };
+}
+
 /// A type. A copy shares the pointers and arrays.
 #[derive(Drop)]
 pub struct CType {
@@ -79,13 +104,31 @@ pub struct CType {
     /// What it has innermost.
     pub(crate) base: Base,
     /// The pointers and arrays round it.
-    pub(crate) layers: Layers,
+    pub(crate) layers: Counted,
 }
 
 impl Layers {
+    /// What the outermost arrays have.
+    fn extent(&self) -> Extent
+        ensures { result ≡ extent_of self.now }
+    {
+        match self {
+            Layers::Nothing => Extent {
+                count: Some(1),
+                of_pointers: false,
+            },
+            Layers::Pointer(_) => Extent {
+                count: Some(1),
+                of_pointers: true,
+            },
+            Layers::Array(_, extent, _) => *extent,
+        }
+    }
+
     /// The same layers.
     fn share(&self) -> Result<Layers, AllocError>
-        ensures { IfOk result (λ l. (b : Base) → wrapped l b ≡ wrapped self.now b) }
+        ensures same { IfOk result (λ l. (b : Base) → wrapped l b ≡ wrapped self.now b) }
+        ensures counted { IfOk result (λ l. AreCounted self.now → AreCounted l) }
     {
         match self {
             Layers::Nothing => Ok(Layers::Nothing),
@@ -93,11 +136,21 @@ impl Layers {
                 let shared = attempt!(rest.clone());
                 Ok(Layers::Pointer(shared))
             }
-            Layers::Array(length, rest) => {
+            Layers::Array(length, extent, rest) => {
                 let shared = attempt!(rest.clone());
-                Ok(Layers::Array(*length, shared))
+                Ok(Layers::Array(*length, *extent, shared))
             }
         }
+    }
+}
+
+impl Counted {
+    /// The layers.
+    fn get(&self) -> &Layers
+        ensures layers { result.now ≡ self.now }
+        ensures counted { AreCounted result.now }
+    {
+        &self.layers
     }
 }
 
@@ -121,7 +174,9 @@ impl CType {
         CType {
             alloc,
             base,
-            layers: Layers::Nothing,
+            layers: Counted {
+                layers: Layers::Nothing,
+            },
         }
     }
 
@@ -130,11 +185,11 @@ impl CType {
     pub fn copy(&self, alloc: Global) -> Result<CType, AllocError>
         ensures { IfOk result (λ t. type_of t ≡ type_of self.now) }
     {
-        let layers = attempt!(self.layers.share());
+        let layers = attempt!(self.layers.get().share());
         Ok(CType {
             alloc,
             base: self.base,
-            layers,
+            layers: Counted { layers },
         })
     }
 
@@ -143,10 +198,10 @@ impl CType {
     pub fn outer(&self) -> Outer
         ensures { result ≡ outer_of (type_of self.now) }
     {
-        match &self.layers {
+        match self.layers.get() {
             Layers::Nothing => plain_outer(self.base),
             Layers::Pointer(_) => Outer::Pointer,
-            Layers::Array(length, _) => Outer::Array(*length),
+            Layers::Array(length, _, _) => Outer::Array(*length),
         }
     }
 
@@ -198,9 +253,9 @@ impl CType {
     pub fn points_to_void(&self) -> bool
         ensures { result ≡ specs.void_pointer (type_of self.now) }
     {
-        match &self.layers {
+        match self.layers.get() {
             Layers::Pointer(target) => is_void(self.base, target),
-            Layers::Nothing | Layers::Array(_, _) => false,
+            Layers::Nothing | Layers::Array(_, _, _) => false,
         }
     }
 
@@ -214,11 +269,13 @@ impl CType {
             base,
             layers,
         } = self;
-        let target = Rc::new(alloc, layers)?;
+        let target = Rc::new(alloc, layers.layers)?;
         Ok(CType {
             alloc,
             base,
-            layers: Layers::Pointer(target),
+            layers: Counted {
+                layers: Layers::Pointer(target),
+            },
         })
     }
 
@@ -232,11 +289,14 @@ impl CType {
             base,
             layers,
         } = self;
-        let element = Rc::new(alloc, layers)?;
+        let extent = layers.layers.extent().of_array(length);
+        let element = Rc::new(alloc, layers.layers)?;
         Ok(CType {
             alloc,
             base,
-            layers: Layers::Array(length, element),
+            layers: Counted {
+                layers: Layers::Array(length, extent, element),
+            },
         })
     }
 
@@ -245,16 +305,16 @@ impl CType {
     pub fn target(&self) -> Result<Option<CType>, AllocError>
         ensures { IfOk result (λ t. option_map type_of t ≡ target_of (type_of self.now)) }
     {
-        match &self.layers {
+        match self.layers.get() {
             Layers::Pointer(target) => {
                 let layers = attempt!(target.share());
                 Ok(Some(CType {
                     alloc: self.alloc,
                     base: self.base,
-                    layers,
+                    layers: Counted { layers },
                 }))
             }
-            Layers::Nothing | Layers::Array(_, _) => Ok(None),
+            Layers::Nothing | Layers::Array(_, _, _) => Ok(None),
         }
     }
 
@@ -263,13 +323,13 @@ impl CType {
     pub fn element(&self) -> Result<Option<CType>, AllocError>
         ensures { IfOk result (λ t. option_map type_of t ≡ element_of (type_of self.now)) }
     {
-        match &self.layers {
-            Layers::Array(_, element) => {
+        match self.layers.get() {
+            Layers::Array(_, _, element) => {
                 let layers = attempt!(element.share());
                 Ok(Some(CType {
                     alloc: self.alloc,
                     base: self.base,
-                    layers,
+                    layers: Counted { layers },
                 }))
             }
             Layers::Nothing | Layers::Pointer(_) => Ok(None),
@@ -285,6 +345,14 @@ impl CType {
             Base::Integer(scalar) => scalar.width == WIDE_WIDTH,
             Base::Void | Base::Struct(_) => false,
         }
+    }
+
+    /// What the outermost arrays have.
+    pub(crate) fn extent(&self) -> Extent
+        ensures extent { result ≡ extent_of self.now.layers }
+        ensures counted { AreCounted self.now.layers }
+    {
+        self.layers.get().extent()
     }
 }
 
@@ -303,7 +371,7 @@ fn is_void(base: Base, layers: &Layers) -> bool
 {
     match layers {
         Layers::Nothing => is_void_base(base),
-        Layers::Pointer(_) | Layers::Array(_, _) => false,
+        Layers::Pointer(_) | Layers::Array(_, _, _) => false,
     }
 }
 
@@ -352,7 +420,7 @@ fn same_layers(a: &Layers, b: &Layers) -> bool
                 left = s;
                 right = t;
             }
-            (Layers::Array(m, s), Layers::Array(n, t)) => {
+            (Layers::Array(m, _, s), Layers::Array(n, _, t)) => {
                 if !same_length(*m, *n) {
                     return false;
                 }
@@ -360,11 +428,11 @@ fn same_layers(a: &Layers, b: &Layers) -> bool
                 right = t;
             }
             (Layers::Nothing, Layers::Pointer(_)) => return false,
-            (Layers::Nothing, Layers::Array(_, _)) => return false,
+            (Layers::Nothing, Layers::Array(_, _, _)) => return false,
             (Layers::Pointer(_), Layers::Nothing) => return false,
-            (Layers::Pointer(_), Layers::Array(_, _)) => return false,
-            (Layers::Array(_, _), Layers::Nothing) => return false,
-            (Layers::Array(_, _), Layers::Pointer(_)) => return false,
+            (Layers::Pointer(_), Layers::Array(_, _, _)) => return false,
+            (Layers::Array(_, _, _), Layers::Nothing) => return false,
+            (Layers::Array(_, _, _), Layers::Pointer(_)) => return false,
         }
     }
 }
@@ -374,5 +442,5 @@ fn same_layers(a: &Layers, b: &Layers) -> bool
 pub fn same_type(a: &CType, b: &CType) -> bool
     ensures { result ≡ tree.same_type (type_of a.now) (type_of b.now) }
 {
-    same_base(a.base, b.base) && same_layers(&a.layers, &b.layers)
+    same_base(a.base, b.base) && same_layers(a.layers.get(), b.layers.get())
 }

@@ -1,5 +1,6 @@
 -- What it means that a function gives what a definition does.
 use Rattle.std.specs.Prelude.{◌≡◌, ◌<◌, ◌≤◌, ℕ, ℤ, Result, Ok, Err}
+use Rattle.memory_spec.specs.Memory as stored
 use Rattle.c_type_spec.specs.declared.Scalar.{Scalar}
 use Rattle.c_meaning_spec.specs.Setting.{Broken}
 use Rattle.c_meaning_spec.specs.Accesses.{size_of}
@@ -14,6 +15,11 @@ Gives view (Err Memory) given = Unit {0}
 
 abbrev pub GivesValue : Result ℤ Stop → Result ℤ Broken → Type 0
 GivesValue result given = Gives (λ v. v) result given
+
+-- where a guard is broken nothing is written
+abbrev pub IsKept : (old new : stored.Memory) → Result (Unit {0}) Stop → Type 0
+IsKept old new (Err (Broke guard offset)) = new ≡ old
+IsKept old new other = Unit {0}
 
 -- so many bytes are those of an object of the type, which is one that the program computes with
 pub record IsSize (type : Scalar) (size : ℕ) : Type 0 where

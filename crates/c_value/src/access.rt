@@ -7,7 +7,7 @@ ghost use Rattle.memory_spec.specs.Viewed.{runs_of};
 ghost use Rattle.c_type_spec.specs.Values as rule;
 ghost use Rattle.c_meaning_spec.specs.Accesses as spec;
 ghost use Rattle.c_value.specs.Settings.{setting_of, zone_of};
-ghost use Rattle.c_value.specs.Gives.{Gives, GivesValue, IsSize};
+ghost use Rattle.c_value.specs.Gives.{Gives, GivesValue, IsKept, IsSize};
 
 use crate::setting::{Setting, Stop, Zone, is_fixed, is_in_zone};
 use attempt::attempt;
@@ -188,7 +188,7 @@ pub fn object_value(
     }
 }
 
-/// Stores a value in the object at an address.
+/// Stores a value in the object at an address. Where a guard is broken nothing is written.
 #[tactic(auto, unfolding(c_meaning_spec::specs::Accesses::stored))]
 pub fn store_object(
     setting: &Setting<'_, '_>,
@@ -198,17 +198,21 @@ pub fn store_object(
     value: i128,
     offset: usize,
 ) -> Result<(), Stop>
-    ensures { Gives (λ _. memory.new) result (spec.stored (setting_of setting.now) memory.old of
+    ensures exact { Gives (λ _. memory.new) result (spec.stored (setting_of setting.now) memory.old of
         address value offset) }
+    ensures kept { IsKept memory.old memory.new result }
 {
     let Some(size) = size_of(of) else {
         return Err(Stop::Memory);
     };
     match write_guard(setting, size, address) {
         Some(guard) => Err(Stop::Broke(guard, offset)),
-        None => {
-            let bits = attempt!(bits_of(of, value));
-            store_bytes(size, memory, address, bits)
-        }
+        None => match bits_of(of, value) {
+            Ok(bits) => match store_bytes(size, memory, address, bits) {
+                Ok(()) => Ok(()),
+                Err(_) => Err(Stop::Memory),
+            },
+            Err(_) => Err(Stop::Memory),
+        },
     }
 }

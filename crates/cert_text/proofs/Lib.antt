@@ -3,3 +3,4 @@ pub mod Additions
 pub mod Inverses
 pub mod Texts
 pub mod Spellings
+pub mod Prefixes

@@ -58,8 +58,8 @@ fn push_next(
     }
 }
 
-// Adds the lines, each with its literals and hints.
-fn push_lines(
+/// Adds the lines, each with its literals and hints.
+pub(crate) fn push_lines(
     alloc: Global,
     out: &mut Vec<u8>,
     lines: &[Line],

@@ -42,7 +42,7 @@ use Rattle.proof_laws.proofs.Functions.{is_pair, functions_valid}
 use Rattle.cert_spec.specs.Lines.{Line}
 use Rattle.check_spec.specs.Verdict.{Listed, IsProof, with_test}
 use Rattle.check_laws.specs.Closed.{IsClosedGoal, IsClosed, leaf, case}
-use Rattle.check_laws.specs.Statements.{AreLines, listed_of, IsFile, AreFunctions}
+use Rattle.check_laws.specs.Statements.{AreLines, listed_of, IsFile, AreFunctions, ClosedIsValid}
 use Rattle.check_laws.proofs.Good.{IsPlain, IsTest, AreTests, not_good}
 use Rattle.check_laws.proofs.Conditions.{IsGoodNode, IsGoodGraph}
 use Rattle.check_laws.proofs.Entry.{premises_good, binary_state_good, source_state_good, returns_good, byte_good}
@@ -211,3 +211,9 @@ module _ (q : Pair) where
     pub proofs_give_validity : (g : Function) → Contains functions g → function_named q.image g.body.name ≡ One g.entry → IsStack q.image g.entry g.stack
         → IsValid q.image q.unit g.body.name g.stack
     proofs_give_validity g among named stack = functions_valid q functions sides all_proved g among named stack
+
+-- ---- a function alone
+
+pub closed_is_valid : ClosedIsValid
+closed_is_valid q g sides file function small closed named stack =
+    functions_valid q (g ∷ []) sides (one_more [] g none (function_proved q g sides file function small [] closed)) g (0, omega arith, refl) named stack

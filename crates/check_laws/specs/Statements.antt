@@ -11,7 +11,7 @@ use Rattle.claim_spec.specs.Claim.{IsValid}
 use Rattle.agreement_laws.specs.EntryFrame.{Pair, entry_frame, entry_opening}
 use Rattle.proof_laws.specs.Derivation.{Function, pair_for, no_zone, stated, AreSides, IsFunction}
 use Rattle.check_spec.specs.Verdict.{Listed, IsProof}
-use Rattle.check_laws.specs.Closed.{HasPart}
+use Rattle.check_laws.specs.Closed.{IsClosed, HasPart}
 
 -- lines that are expected one after the other, as those of every certificate are
 abbrev pub AreLines : List Line → Type 0
@@ -51,3 +51,9 @@ abbrev pub ProofsGiveValidity : Type 0
 ProofsGiveValidity = (q : Pair) (functions : List Function) (lines : List Line) → AreSides q → IsFile q → AreFunctions q functions → AreLines lines
     → IsProof (map (listed_of q) functions) lines → (g : Function) → Contains functions g → function_named q.image g.body.name ≡ One g.entry
     → IsStack q.image g.entry g.stack → IsValid q.image q.unit g.body.name g.stack
+
+-- a function whose frame at the entry has a proof by Leaf and Case, each obligation of which is closed, is valid, where
+-- the file has it at its name and it takes this much stack
+abbrev pub ClosedIsValid : Type 0
+ClosedIsValid = (q : Pair) (g : Function) → AreSides q → IsFile q → IsFunction q g → g.stack < 2 ^ 32 → IsClosed (listed_of q g) (listed_of q g).frame
+    → function_named q.image g.body.name ≡ One g.entry → IsStack q.image g.entry g.stack → IsValid q.image q.unit g.body.name g.stack

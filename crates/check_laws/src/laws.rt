@@ -1,6 +1,6 @@
 //! The laws of checked certificates: each function's clause is one law, and its body is empty.
 
-ghost use Rattle.check_laws.specs.Statements.{PartsAreClosed, ProofsGiveValidity};
+ghost use Rattle.check_laws.specs.Statements.{ClosedIsValid, PartsAreClosed, ProofsGiveValidity};
 
 /// Of a certificate no line of which breaks a rule, each listed function has a part, and each
 /// obligation of that part is closed.
@@ -12,4 +12,9 @@ pub fn parts_are_closed()
 /// and that takes this much stack, the code agrees with the source.
 pub fn proofs_give_validity()
     ensures { ProofsGiveValidity }
+{}
+
+/// A function with a proof by Leaf and Case, each obligation of which is closed, is valid.
+pub fn closed_is_valid()
+    ensures { ClosedIsValid }
 {}

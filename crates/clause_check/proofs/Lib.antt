@@ -4,3 +4,4 @@ mod Indices
 mod More
 mod Propagation
 mod Keeping
+mod Passing

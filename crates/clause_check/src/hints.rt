@@ -1,10 +1,11 @@
 ghost use Rattle.std.specs.Prelude.{◌≡◌, ◌+◌, ◌-◌, ◌++◌, ◌∷◌, ℕ, [], List, Option, Bool, length};
-ghost use Rattle.std.specs.Prelude.{map, replicate, true, None, Some, IsTrue};
+ghost use Rattle.std.specs.Prelude.{map, replicate, true, None, Some, IsTrue, drop, not};
+ghost use Rattle.std.specs.Prelude.{◌≤◌, slice_get, false};
 ghost use Rattle.std.specs.List.{list_all};
 ghost use Rattle.clause_spec.specs.Clause as spec;
 ghost use Rattle.clause_spec.specs.Step as step;
 ghost use Rattle.clause_spec.specs.declared.Literal.{Literal as Lit};
-ghost use Rattle.clause_check.specs.Signs.{Reports};
+ghost use Rattle.clause_check.specs.Signs.{Reports, is_sign, sign_of};
 ghost use Rattle.clause_check.specs.Answers.{reported, outcome_of, outcome_after, IsOpen};
 ghost use Rattle.clause_check.specs.Answers.{IsOpenAfter};
 
@@ -54,8 +55,8 @@ fn with_open(seen: Finding, literal: Literal) -> Finding
     }
 }
 
-/// The status of a clause.
-fn found_in(clause: &[Literal], stamps: &Stamps) -> Finding
+/// The status of a clause, from literal to literal.
+fn found_by_each(clause: &[Literal], stamps: &Stamps) -> Finding
     requires { list_all (spec.is_of (length stamps.now)) clause.now ≡ true }
     ensures reported { (truths : List Lit) → Reports stamps.now truths
         → reported result ≡ step.finding truths clause.now }
@@ -72,6 +73,106 @@ fn found_in(clause: &[Literal], stamps: &Stamps) -> Finding
         seen = with_open(seen, *literal);
     }
     seen
+}
+
+/// The index of the first literal from an index on that isn't false; the length where there is
+/// none.
+fn next_open(clause: &[Literal], stamps: &Stamps, start: usize) -> usize
+    requires named { list_all (spec.is_of (length stamps.now)) clause.now ≡ true }
+    requires within { start ≤ length clause.now }
+    ensures within { result ≤ length clause.now }
+    ensures passed { (truths front : List Lit) → Reports stamps.now truths
+        → step.finding truths (front ++ drop start clause.now)
+        ≡ step.finding truths (front ++ drop result clause.now) }
+    ensures open { (l : Lit) → slice_get clause.now result ≡ Some l
+        → is_sign (sign_of stamps.now l) (not l.is_negated) ≡ false }
+{
+    let mut index = start;
+    while index < clause.len() {
+        if !stamps.is_false(clause[index]) {
+            return index;
+        }
+        index += 1;
+    }
+    index
+}
+
+/// The index of the first literal that isn't false, mostly one of the first two; the length where
+/// there is none.
+fn first_open(clause: &[Literal], stamps: &Stamps) -> usize
+    requires { list_all (spec.is_of (length stamps.now)) clause.now ≡ true }
+    ensures within { result ≤ length clause.now }
+    ensures passed { (truths : List Lit) → Reports stamps.now truths
+        → step.finding truths clause.now ≡ step.finding truths (drop result clause.now) }
+    ensures open { (l : Lit) → slice_get clause.now result ≡ Some l
+        → is_sign (sign_of stamps.now l) (not l.is_negated) ≡ false }
+{
+    if clause.len() < 2 {
+        return next_open(clause, stamps, 0);
+    }
+    if !stamps.is_false(clause[0]) {
+        return 0;
+    }
+    if !stamps.is_false(clause[1]) {
+        return 1;
+    }
+    next_open(clause, stamps, 2)
+}
+
+/// The status of a literal that isn't false, alone.
+fn found_alone(literal: Literal, stamps: &Stamps) -> Finding
+    requires named { spec.is_of (length stamps.now) literal ≡ true }
+    requires not_false { is_sign (sign_of stamps.now literal) (not literal.is_negated) ≡ false }
+    ensures reported { (truths : List Lit) → Reports stamps.now truths
+        → reported result ≡ step.finding truths (literal ∷ []) }
+    ensures open { IsOpen stamps.now result }
+{
+    if stamps.is_true(literal) {
+        return Finding::Holds;
+    }
+    Finding::Forces(literal)
+}
+
+/// The status of a clause of two literals.
+fn found_in_pair(clause: &[Literal], stamps: &Stamps) -> Finding
+    requires named { list_all (spec.is_of (length stamps.now)) clause.now ≡ true }
+    requires pair { length clause.now ≡ 2 }
+    ensures reported { (truths : List Lit) → Reports stamps.now truths
+        → reported result ≡ step.finding truths clause.now }
+    ensures open { IsOpen stamps.now result }
+{
+    let first = clause[0];
+    let second = clause[1];
+    if stamps.is_false(first) {
+        if stamps.is_false(second) {
+            return Finding::Fails;
+        }
+        return found_alone(second, stamps);
+    }
+    if stamps.is_false(second) {
+        return found_alone(first, stamps);
+    }
+    found_by_each(clause, stamps)
+}
+
+/// The status of a clause. That one literal isn't false, or none, is the common case.
+fn found_in(clause: &[Literal], stamps: &Stamps) -> Finding
+    requires { list_all (spec.is_of (length stamps.now)) clause.now ≡ true }
+    ensures reported { (truths : List Lit) → Reports stamps.now truths
+        → reported result ≡ step.finding truths clause.now }
+    ensures open { IsOpen stamps.now result }
+{
+    if clause.len() == 2 {
+        return found_in_pair(clause, stamps);
+    }
+    let first = first_open(clause, stamps);
+    if first == clause.len() {
+        return Finding::Fails;
+    }
+    if next_open(clause, stamps, first + 1) < clause.len() {
+        return found_by_each(clause, stamps);
+    }
+    found_alone(clause[first], stamps)
 }
 
 /// The status of the clause of a number.

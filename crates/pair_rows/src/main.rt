@@ -6,10 +6,11 @@
 //! A part `ADDRESS:FLAGS` begins a segment, a word of eight digits lies in it, `NAME@ADDRESS+SIZE`
 //! is a FUNC symbol and `NAME%ADDRESS+SIZE` an OBJECT symbol; all numbers are hexadecimal. A list is
 //! names separated by blanks. A row `chain COUNT LISTED` is of so many functions, each of which calls
-//! the next one, the first so many of them listed; `wide COUNT` of so many that only return, all of
-//! them listed; `long WORDS STATEMENTS` of one with so many instructions and statements before it
-//! returns. Of many functions the first and the last one are written. A line that begins with `#`
-//! says where the outcomes of the rows after it come from.
+//! the next one, the first so many of them listed; `back COUNT` of the same, all listed, the last one
+//! first; `wide COUNT` of so many that only return, all of them listed; `long WORDS STATEMENTS` of
+//! one with so many instructions and statements before it returns. Of many functions the first and
+//! the last one are written. A line that begins with `#` says where the outcomes of the rows after
+//! it come from.
 #![tactic(auto)]
 
 mod answers;
@@ -53,6 +54,10 @@ fn put_outcome(alloc: Global, row: &str, out: &mut Out) -> Result<(), AllocError
     let (first, second) = split(rest, ' ');
     if asked == "chain" {
         let row = sources::chain(alloc, number(first), number(second))?;
+        return put_made(alloc, &row, out);
+    }
+    if asked == "back" {
+        let row = sources::back(alloc, number(first))?;
         return put_made(alloc, &row, out);
     }
     if asked == "wide" {

@@ -30,6 +30,15 @@ fn put_list(list: &mut String, count: usize) -> Result<(), AllocError> {
     Ok(())
 }
 
+/// The same, the last one first.
+fn put_list_back(list: &mut String, count: usize) -> Result<(), AllocError> {
+    for k in 0..count {
+        let i = count.saturating_sub(k).saturating_sub(1);
+        write!(list, " f{i}")?;
+    }
+    Ok(())
+}
+
 /// The code of functions that each call the next one: a frame of 16 bytes, the call, and the way
 /// back.
 fn put_chain_code(parts: &mut String, count: usize) -> Result<(), AllocError> {
@@ -63,8 +72,8 @@ fn put_chain_text(text: &mut String, count: usize) -> Result<(), AllocError> {
     Ok(())
 }
 
-/// So many functions, each of which calls the next one; the first so many are listed.
-pub(crate) fn chain(alloc: Global, count: usize, listed: usize) -> Result<Row, AllocError> {
+/// So many functions, each of which calls the next one; none is listed.
+fn chained(alloc: Global, count: usize) -> Result<Row, AllocError> {
     let mut row = Row {
         parts: String::new(alloc),
         list: String::new(alloc),
@@ -72,8 +81,21 @@ pub(crate) fn chain(alloc: Global, count: usize, listed: usize) -> Result<Row, A
     };
     put_chain_code(&mut row.parts, count)?;
     put_symbols(&mut row.parts, count, 24)?;
-    put_list(&mut row.list, listed)?;
     put_chain_text(&mut row.text, count)?;
+    Ok(row)
+}
+
+/// So many functions, each of which calls the next one; the first so many are listed.
+pub(crate) fn chain(alloc: Global, count: usize, listed: usize) -> Result<Row, AllocError> {
+    let mut row = chained(alloc, count)?;
+    put_list(&mut row.list, listed)?;
+    Ok(row)
+}
+
+/// The same, with all of them listed, each after the one that it calls.
+pub(crate) fn back(alloc: Global, count: usize) -> Result<Row, AllocError> {
+    let mut row = chained(alloc, count)?;
+    put_list_back(&mut row.list, count)?;
     Ok(row)
 }
 

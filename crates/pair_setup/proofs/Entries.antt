@@ -2,7 +2,7 @@
 use Rattle.std.proofs.Common.{◌≡◌, ◌⊎◌, ◌∙◌, ℕ, ◌+◌, ◌-◌, ◌<◌, ◌≤◌, List, [], ◌∷◌, ◌++◌, length, take, drop, get_or, refl, sym, ap, subst, inl, inr, arith}
 use Rattle.std.specs.Prelude.{All, Contains, IfOk, OnOk, IsSome, Some, Result, Ok, Err, slice_get}
 use Rattle.std.proofs.lemmas.List.{get_or_append_left, get_or-append_right, length-append}
-use Rattle.std.proofs.lemmas.List.Elements.{All-from_get_or, Contains-append_left, Contains-append_cases, Contains-push}
+use Rattle.std.proofs.lemmas.List.Elements.{All-from_get_or, Contains-append_left, Contains-append_cases}
 use Rattle.std.proofs.lemmas.Option.{slice_get_within, slice_get-get_or}
 use Rattle.std.proofs.lemmas.Bool.{cases_lt}
 use Rattle.elf_spec.specs.Image.{Image, function_named, size_at}
@@ -16,7 +16,8 @@ use Rattle.call_graph.specs.Graph.{Grows}
 use Rattle.code_reach.specs.Found.{IsReach}
 use Rattle.pair_outcome_spec.specs.Code.{HasSoundCode, IsSoundCode, of_reach}
 use Rattle.pair_outcome_spec.specs.Outcome.{IsReached}
-use Rattle.pair_setup.specs.Codes.{AreSound, AddsSound, AddsNamed, AreCoded, IsReachErrorAt, IsCodeErrorAt, IsFirstCodeError}
+use Rattle.pair_setup.specs.Codes.{AreSound, AddsSound, AddsNamed, AreCodedOf, IsReachErrorAt, IsCodeErrorAt, IsFirstCodeError}
+use Rattle.pair_setup.specs.Walks.{AreSoundOf}
 use Rattle.pair_setup.specs.declared.outcome.PairError.{PairError}
 use Rattle.pair_setup.specs.declared.outcome.PairError.TheVariants.{Refused, Code, Nodes, NoMemory}
 use Rattle.pair_setup.proofs.Added.{none_contained, only_contained}
@@ -98,18 +99,21 @@ module _ (image : Image) where
 
   -- ---- a list
 
-  pub coded-none : AreCoded image [] [] []
-  coded-none = record {
+  pub coded-start : (whole : List (List ℕ)) (entries : List ℕ) → AreSoundOf image whole entries → AreCodedOf image whole [] [] entries
+  coded-start whole entries are = record {
     long = refl;
     firsts_are = λ index name there. absurd (let below = slice_get_within [] index name there in omega (arith, below));
-    are_sound = sound-none;
-    only = λ entry among. absurd (none_contained entry among);
+    are_sound = are.are_sound;
+    only = are.only;
     all = λ entry r. absurd (none_contained r.listed r.is_listed);
   }
 
-  pub coded-more : (list : List (List ℕ)) (name : List ℕ) (firsts old new : List ℕ) (entry : ℕ) → AreCoded image list firsts old → AddsNamed image name old new entry
-      → AreCoded image (list ++ name ∷ []) (firsts ++ entry ∷ []) new
-  coded-more list name firsts old new entry so_far one = record {
+  pub none-sound-of : (whole : List (List ℕ)) → AreSoundOf image whole []
+  none-sound-of whole = record { are_sound = sound-none; only = λ entry among. absurd (none_contained entry among) }
+
+  pub coded-more : (whole list : List (List ℕ)) (name : List ℕ) (firsts old new : List ℕ) (entry : ℕ) → Contains whole name → AreCodedOf image whole list firsts old
+      → AddsNamed image name old new entry → AreCodedOf image whole (list ++ name ∷ []) (firsts ++ entry ∷ []) new
+  coded-more whole list name firsts old new entry is_listed so_far one = record {
     long = omega (arith, length-append list (name ∷ []), length-append firsts (entry ∷ []), so_far.long);
     firsts_are = firsts_are;
     are_sound = one.adds.are_sound;
@@ -143,11 +147,10 @@ module _ (image : Image) where
               let is_entry : get_or (firsts ++ entry ∷ []) index 0 ≡ entry = get_or-append_right firsts (entry ∷ []) (length firsts) index 0 refl (omega (arith, from, long)) ∙ zero_first in
               subst (HasSoundCode image other) (sym is_entry) (subst (λ x. HasSoundCode image x entry) is_name here)
 
-      only : (other : ℕ) → Contains new other → IsReached image (list ++ name ∷ []) other
+      only : (other : ℕ) → Contains new other → IsReached image whole other
       only other among = elim (one.adds.only other among) [
-        | inl before ↦ (let r = so_far.only other before in
-            record { listed = r.listed; is_listed = Contains-append_left list (name ∷ []) r.listed r.is_listed; from = r.from; from_is = r.from_is; reached = r.reached })
-        | inr reaches ↦ record { listed = name; is_listed = Contains-push list name; from = entry; from_is = one.entry_is; reached = reaches }
+        | inl before ↦ so_far.only other before
+        | inr reaches ↦ record { listed = name; is_listed = is_listed; from = entry; from_is = one.entry_is; reached = reaches }
       ]
 
       all : (other : ℕ) → IsReached image (list ++ name ∷ []) other → Contains new other
@@ -162,8 +165,8 @@ module _ (image : Image) where
               let both : One r.from ≡ One entry = sym named ∙ one.entry_is in cc
 
   -- all listed functions have sound code
-  pub coded-sound : (list : List (List ℕ)) (firsts entries : List ℕ) → AreCoded image list firsts entries → All (IsSoundCode image) list
-  coded-sound list firsts entries are =
+  pub coded-sound : (whole list : List (List ℕ)) (firsts entries : List ℕ) → AreCodedOf image whole list firsts entries → All (IsSoundCode image) list
+  coded-sound whole list firsts entries are =
       All-from_get_or (IsSoundCode image) list [] (λ i below. (get_or firsts i 0, are.firsts_are i (get_or list i []) (slice_get-get_or list i [] below)))
 
   pub first-code-error : (list : List (List ℕ)) (i : ℕ) (name : List ℕ) (error : PairError) → slice_get list i ≡ Some name → All (IsSoundCode image) (take i list)

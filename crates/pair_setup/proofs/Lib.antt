@@ -10,6 +10,9 @@ mod Placing
 mod Marks
 mod Listed
 mod Entries
+mod Totals
+mod Walking
+mod Acyclic
 mod Shallow
 mod Lengths
 mod Large

@@ -77,7 +77,7 @@ module _ (image : Image) (unit : Typed) (names list : List (List ℕ)) where
       → AreCoded image list firsts entries → AreFunctions image unit list functions → AreChecked image unit names list functions numbers entries
   are-checked graph marks functions numbers firsts entries passed coded are = record {
     names_are = passed.no_faults;
-    code_is = coded-sound image list firsts entries coded;
+    code_is = coded-sound image list list firsts entries coded;
     functions_are = are;
     numbers_are = passed.reached;
     entries_are = λ entry. (coded.only entry, coded.all entry);

@@ -32,13 +32,18 @@ pub record AddsNamed (image : Image) (name : List ℕ) (old new : List ℕ) (ent
   pub entry_is : function_named image name ≡ One entry
   pub adds : AddsSound image entry old new
 
--- the code of the listed functions, at these entries, has no fault, and these are all entries that they reach
-pub record AreCoded (image : Image) (list : List (List ℕ)) (firsts entries : List ℕ) : Type 0 where
+-- the code of functions that are listed, at these entries, has no fault, and all entries that they reach are there, but
+-- no others than those that the whole list reaches
+pub record AreCodedOf (image : Image) (whole list : List (List ℕ)) (firsts entries : List ℕ) : Type 0 where
   pub long : length firsts ≡ length list
   pub firsts_are : (index : ℕ) (name : List ℕ) → slice_get list index ≡ Some name → HasSoundCode image name (get_or firsts index 0)
   pub are_sound : AreSound image entries
-  pub only : (entry : ℕ) → Contains entries entry → IsReached image list entry
+  pub only : (entry : ℕ) → Contains entries entry → IsReached image whole entry
   pub all : (entry : ℕ) → IsReached image list entry → Contains entries entry
+
+-- the code of the listed functions has no fault, and these are all entries that they reach
+abbrev pub AreCoded : Image → (list : List (List ℕ)) → (firsts entries : List ℕ) → Type 0
+AreCoded image list firsts entries = AreCodedOf image list list firsts entries
 
 -- ---- faults
 

@@ -2,6 +2,9 @@ pub mod Globals
 pub mod Surveys
 pub mod Names
 pub mod Codes
+pub mod Walks
+pub mod Calling
+pub mod Stacks
 pub mod Depths
 pub mod Sizes
 pub mod Answers

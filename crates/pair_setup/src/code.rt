@@ -9,8 +9,10 @@ ghost use Rattle.code_reach.specs.Found.{IsReachError};
 ghost use Rattle.c_reach.specs.Names.{texts_of};
 ghost use Rattle.pair_setup.specs.Codes.{AddsNamed, AddsSound, AreCoded, AreSound};
 ghost use Rattle.pair_setup.specs.Codes.{IsCodeErrorAt, IsFirstCodeError, IsReachErrorAt};
+ghost use Rattle.pair_setup.specs.Walks.{AreSoundOf};
 
 use crate::outcome::PairError;
+use crate::walk::add_sound;
 use attempt::attempt;
 use code_reach::{CodeError, CodeFault, reach};
 use code_spec::CodeKind;
@@ -19,7 +21,7 @@ use indexmap::IndexSet;
 use std::alloc::{AllocError, Global};
 
 /// Adds an entry, last, unless it is there.
-fn add(entries: &mut IndexSet<u32>, entry: u32) -> Result<(), AllocError>
+pub(crate) fn add(entries: &mut IndexSet<u32>, entry: u32) -> Result<(), AllocError>
     ensures { OnOk result (Grows (λ t. t ≡ entry) entries.old.keys entries.new.keys) }
 {
     entries.insert(entry)?;
@@ -129,7 +131,8 @@ fn add_named(
 }
 
 /// Adds the entries of the listed functions, and those of all that their code reaches, where
-/// nothing of it has a fault; or else the fault of the first function that has one.
+/// nothing of it has a fault; or else the fault of the first function that has one. Some of them may
+/// be there.
 fn add_listed(
     alloc: Global,
     firsts: &mut Vec<u32>,
@@ -139,7 +142,7 @@ fn add_listed(
 ) -> Result<(), PairError>
     requires symbols { All (λ name. function_named image.now name ≢ Absent) (texts_of list.now) }
     requires no_firsts { firsts.old.items ≡ [] }
-    requires none { entries.old.keys ≡ [] }
+    requires sound { AreSoundOf image.now (texts_of list.now) entries.old.keys }
     ensures coded { OnOk result (AreCoded image.now (texts_of list.now) firsts.new.items
         entries.new.keys) }
     ensures fault { IfErr result (IsFirstCodeError image.now (texts_of list.now)) }
@@ -165,6 +168,7 @@ pub(crate) fn sound_entries(
         entries.new.keys) }
     ensures fault { IfErr result (IsFirstCodeError image.now (texts_of list.now)) }
 {
+    attempt!(add_sound(alloc, entries, image, list), PairError::NoMemory);
     let mut firsts = Vec::new(alloc);
     attempt!(add_listed(alloc, &mut firsts, entries, image, list));
     Ok(firsts)

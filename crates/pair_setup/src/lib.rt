@@ -3,6 +3,7 @@
 //! large. Which answer a list has is defined in `pair_outcome_spec` (`specs/Outcome.antt` there).
 #![tactic(auto)]
 
+mod calling;
 mod code;
 mod globals;
 mod names;
@@ -10,7 +11,9 @@ mod nodes;
 mod outcome;
 mod pairing;
 mod reach;
+mod stacks;
 mod survey;
+mod walk;
 
 pub use outcome::{Function, Named, PairError, Pairs};
 pub use pairing::pair;

@@ -1,7 +1,9 @@
 //! Cycles, and the stack of listed functions.
 
-ghost use Rattle.std.specs.Prelude.{◌≡◌, ◌↔◌, ℕ, List, [], All, get_or, length, nat_lt, slice_get, None};
+ghost use Rattle.std.specs.Prelude.{◌≡◌, ◌↔◌, ℕ, List, [], All, get_or, length, nat_eq, nat_lt, None};
 ghost use Rattle.std.specs.Prelude.{if◌then◌else◌, IfErr, IfOk, IfSome, IsSome, IsTrue, OnOk, Some};
+ghost use Rattle.std.specs.Prelude.{slice_get};
+ghost use Rattle.indexmap.specs.IndexMap.{get};
 ghost use Rattle.elf_spec.specs.Image.{size_at};
 ghost use Rattle.code_spec.specs.Code as code;
 ghost use Rattle.code_reach.specs.Found.{IsDepth};
@@ -15,15 +17,18 @@ ghost use Rattle.pair_setup.specs.Surveys.{AreAcyclic, IsSurvey};
 ghost use Rattle.pair_setup.specs.Names.{IsDeclaredAt};
 ghost use Rattle.pair_setup.specs.Depths.{AreFunctions, IsDepthErrorAt, IsDepthOf};
 ghost use Rattle.pair_setup.specs.Depths.{IsFirstDepthError, IsSoundFunction};
+ghost use Rattle.pair_setup.specs.Stacks.{AreStacks};
 
 use crate::names::function_number;
 use crate::outcome::{Function, Named, PairError};
+use crate::stacks::add_stacks;
 use crate::survey::Survey;
 use attempt::attempt;
 use c_types::typed::Typed;
 use call_graph::is_cyclic;
 use code_reach::stack;
 use elf_read::Image;
+use indexmap::IndexMap;
 use pair_spec::{MAX_STACK, PairKind};
 use std::alloc::{AllocError, Global};
 
@@ -77,7 +82,7 @@ fn reaches_cycle(
 }
 
 /// The stack of the function at an entry whose code has no fault; none where a cycle is reached.
-fn stack_of(alloc: Global, image: &Image<'_>, entry: u32) -> Result<Option<u64>, AllocError>
+fn reached_stack(alloc: Global, image: &Image<'_>, entry: u32) -> Result<Option<u64>, AllocError>
     requires { IsSome (size_at image.now entry) }
     ensures found { IfOk result (IsDepth image.now entry) }
     ensures acyclic { IfOk result (λ depth. IfSome depth (λ _. code.IsCyclic image.now entry
@@ -89,6 +94,25 @@ fn stack_of(alloc: Global, image: &Image<'_>, entry: u32) -> Result<Option<u64>,
     }
 }
 
+/// The same, where some stacks are known.
+fn stack_of(
+    alloc: Global,
+    image: &Image<'_>,
+    known: &IndexMap<u32, u64>,
+    entry: u32,
+) -> Result<Option<u64>, AllocError>
+    requires sized { IsSome (size_at image.now entry) }
+    requires stacks { AreStacks image.now (get nat_eq known.now) }
+    ensures found { IfOk result (IsDepth image.now entry) }
+    ensures acyclic { IfOk result (λ depth. IfSome depth (λ _. code.IsCyclic image.now entry
+        → ⊥)) }
+{
+    match known.get(&entry).copied() {
+        Some(stack) => Ok(Some(stack)),
+        None => reached_stack(alloc, image, entry),
+    }
+}
+
 /// The stack of a listed function whose names and code have no fault, or the fault of what it
 /// reaches.
 fn depth_of(
@@ -96,11 +120,13 @@ fn depth_of(
     image: &Image<'_>,
     unit: &Typed<'_>,
     survey: &Survey,
+    known: &IndexMap<u32, u64>,
     start: usize,
     entry: u32,
 ) -> Result<Depth, AllocError>
     requires typed { IsTypedUnit (typed_of unit.now) }
     requires survey { IsSurvey image.now (typed_of unit.now) (names_of unit.now) survey.now }
+    requires stacks { AreStacks image.now (get nat_eq known.now) }
     requires sized { IsSome (size_at image.now entry) }
     ensures { IfOk result (λ depth. (name : List ℕ) → IsDeclaredAt (typed_of unit.now) (names_of
         unit.now) name start → IsDepthOf image.now (typed_of unit.now) name entry depth) }
@@ -109,7 +135,7 @@ fn depth_of(
     if attempt!(reaches_cycle(alloc, graph, depths, start)) {
         return Ok(Depth::Fault(PairKind::Recursive));
     }
-    match attempt!(stack_of(alloc, image, entry)) {
+    match attempt!(stack_of(alloc, image, known, entry)) {
         Some(stack) => Ok(within(stack)),
         None => Ok(Depth::Fault(PairKind::Recursive)),
     }
@@ -121,12 +147,14 @@ fn listed_function(
     image: &Image<'_>,
     unit: &Typed<'_>,
     survey: &Survey,
+    known: &IndexMap<u32, u64>,
     name: &[u8],
     entry: u32,
     index: usize,
 ) -> Result<Function, PairError>
     requires typed { IsTypedUnit (typed_of unit.now) }
     requires survey { IsSurvey image.now (typed_of unit.now) (names_of unit.now) survey.now }
+    requires stacks { AreStacks image.now (get nat_eq known.now) }
     requires names { HasNames image.now (typed_of unit.now) name.now }
     requires code { HasSoundCode image.now name.now entry }
     ensures function { IfOk result (IsSoundFunction image.now (typed_of unit.now) name.now) }
@@ -136,7 +164,7 @@ fn listed_function(
     let start = function_number(unit, name).unwrap_or(0);
     let size = image.size_at(entry).unwrap_or(0);
     match attempt!(
-        depth_of(alloc, image, unit, survey, start, entry),
+        depth_of(alloc, image, unit, survey, known, start, entry),
         PairError::NoMemory
     ) {
         Depth::Stack(stack) => Ok(Function { entry, size, stack }),
@@ -152,11 +180,13 @@ fn add_functions(
     image: &Image<'_>,
     unit: &Typed<'_>,
     survey: &Survey,
+    known: &IndexMap<u32, u64>,
     list: &[&[u8]],
     firsts: &[u32],
 ) -> Result<(), PairError>
     requires typed { IsTypedUnit (typed_of unit.now) }
     requires survey { IsSurvey image.now (typed_of unit.now) (names_of unit.now) survey.now }
+    requires stacks { AreStacks image.now (get nat_eq known.now) }
     requires names { All (HasNames image.now (typed_of unit.now)) (texts_of list.now) }
     requires long { length firsts.now ≡ length (texts_of list.now) }
     requires code { (index : ℕ) (name : List ℕ) → slice_get (texts_of list.now) index ≡ Some name
@@ -168,7 +198,9 @@ fn add_functions(
         (texts_of list.now)) }
 {
     for i in 0..list.len() {
-        let found = attempt!(listed_function(alloc, image, unit, survey, list[i], firsts[i], i));
+        let found = attempt!(listed_function(
+            alloc, image, unit, survey, known, list[i], firsts[i], i
+        ));
         attempt!(functions.push(found), PairError::NoMemory);
     }
     Ok(())
@@ -194,7 +226,21 @@ pub(crate) fn functions(
     ensures fault { IfErr result (IsFirstDepthError image.now (typed_of unit.now)
         (texts_of list.now)) }
 {
+    let mut known = IndexMap::new(alloc);
+    attempt!(
+        add_stacks(alloc, &mut known, image, firsts),
+        PairError::NoMemory
+    );
     let mut functions = Vec::new(alloc);
-    attempt!(add_functions(alloc, &mut functions, image, unit, survey, list, firsts));
+    attempt!(add_functions(
+        alloc,
+        &mut functions,
+        image,
+        unit,
+        survey,
+        &known,
+        list,
+        firsts
+    ));
     Ok(functions)
 }

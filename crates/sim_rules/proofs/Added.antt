@@ -1,5 +1,5 @@
 -- The marks of a side, and the walks that they make.
-use Rattle.std.proofs.Common.{◌≡◌, ◌∙◌, ℕ, ◌+◌, ◌<◌, List, [], ◌∷◌, ◌++◌, length, map, take, get_or, refl, sym, ap, append_assoc, append-nil}
+use Rattle.std.proofs.Common.{◌≡◌, ◌∙◌, ℕ, ◌+◌, ◌<◌, List, [], ◌∷◌, ◌++◌, length, map, take, get_or, sym, ap, append_assoc, append-nil}
 use Rattle.std.proofs.lemmas.List.{take_more, map-append}
 use Rattle.std.proofs.lemmas.Simd.{map-map}
 use Rattle.visit_spec.specs.declared.Mark.{Mark as VisitMark}
@@ -8,7 +8,6 @@ use Rattle.visit_spec.specs.Visits.{Walk}
 use Rattle.proof_spec.specs.declared.Mark.{Mark}
 use Rattle.proof_spec.specs.Frames as spec
 use Rattle.proof_tree.specs.declared.frame.Frame.{Frame}
-use Rattle.proof_tree.specs.declared.frame.Goal.{Goal}
 use Rattle.proof_tree.specs.Frames.{frame_of, goal_of, mark_of}
 use Rattle.rule_spec.specs.Rules.{Opening}
 use Rattle.rule_spec.specs.Sides.{visit_mark}

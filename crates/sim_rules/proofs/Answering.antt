@@ -1,7 +1,8 @@
 -- A rule's answer, by what its obligations are of.
-use Rattle.std.proofs.Common.{◌≡◌, ℕ, List, [], ◌∷◌, sym, subst, refl}
+use Rattle.std.proofs.Common.{◌≡◌, ◌<◌, ℕ, List, [], ◌∷◌, All, length, sym, subst, refl}
 use Rattle.std.specs.Prelude.{Result, Ok, Err, Vec, IfOk, IfErr, OnOk}
 use Rattle.std.specs.Global.{Global}
+use Rattle.std.proofs.lemmas.List.Elements.{All-nil}
 use Rattle.std.proofs.lemmas.Result.{IfOk-weaker, IfErr-weaker, on_ok_weaker}
 use Rattle.term_spec.specs.Term.{Term}
 use Rattle.proof_spec.specs.Frames.{Frame}
@@ -31,6 +32,9 @@ Reply = Result (Vec ℕ Global) RuleFault
 none_left : (trees : List Term) (c : Convention) (o : Opening) (f : Frame) (rule : Rule) (ids : List ℕ) → spec.AreObligations c o f rule [] → ids ≡ [] → AreObligations trees c o f rule ids
 none_left trees c o f rule ids are e = record { terms = []; are = are; held = subst (λ (l : List ℕ). AreHeld trees l []) (sym e) tt }
 
+none_within : (trees : List Term) (ids : List ℕ) → ids ≡ [] → All (λ (id : ℕ). id < length trees) ids
+none_within trees ids e = subst (λ (l : List ℕ). All (λ (id : ℕ). id < length trees) l) (sym e) (All-nil (λ (id : ℕ). id < length trees))
+
 no_bad : (setting : Setting) (path : List ℕ) (lines : List Term) → AreLines setting path lines → (index : ℕ) → IsNoLine setting path lines index → ⊥
 no_bad setting path lines are index n = n.none (are index n.line n.there)
 
@@ -45,6 +49,7 @@ module _ (trees : List Term) (s : Setup) (r : Reply) (none : IfOk r (λ ids. ids
   pub of_term : (test : Term) → OnOk r (AreLines f.setting f.start.path (test ∷ [])) → IfErr r (IsLineFault f.setting f.start.path (test ∷ [])) → IsAnswer trees trees s (spec.Case test) r
   of_term test lines fault = record {
     terms = λ c o is. IfOk-weaker r (λ ids. ids.items ≡ []) (λ ids. AreObligations trees c o f (spec.Case test) ids.items) (λ ids e. none_left trees c o f (spec.Case test) ids.items refl e) none;
+    within = IfOk-weaker r (λ ids. ids.items ≡ []) (λ ids. All (λ (id : ℕ). id < length trees) ids.items) (λ ids e. none_within trees ids.items e) none;
     lines = on_ok_weaker r (no_bad f.setting f.start.path (test ∷ [])) lines;
     few = λ o. always (HasFewVisits o f s.maximum (spec.Case test)) (λ count h. h) r;
     fault = λ o. IfErr-weaker r (IsLineFault f.setting f.start.path (test ∷ [])) (IsRuleFault o f s.maximum (spec.Case test)) (bad o) fault;
@@ -59,6 +64,7 @@ module _ (trees : List Term) (s : Setup) (r : Reply) (none : IfOk r (λ ids. ids
   pub of_lines : (path : List ℕ) (lines : List Term) → OnOk r (AreLines f.setting path lines) → IfErr r (IsLineFault f.setting path lines) → IsAnswer trees trees s (spec.Cut path lines) r
   of_lines path lines are fault = record {
     terms = λ c o is. IfOk-weaker r (λ ids. ids.items ≡ []) (λ ids. AreObligations trees c o f (spec.Cut path lines) ids.items) (λ ids e. none_left trees c o f (spec.Cut path lines) ids.items refl e) none;
+    within = IfOk-weaker r (λ ids. ids.items ≡ []) (λ ids. All (λ (id : ℕ). id < length trees) ids.items) (λ ids e. none_within trees ids.items e) none;
     lines = on_ok_weaker r (no_bad f.setting path lines) are;
     few = λ o. always (HasFewVisits o f s.maximum (spec.Cut path lines)) (λ count h. h) r;
     fault = λ o. IfErr-weaker r (IsLineFault f.setting path lines) (IsRuleFault o f s.maximum (spec.Cut path lines)) (bad o) fault;
@@ -80,6 +86,6 @@ no_lines f (Wait hold) = λ index h. h
 
 module _ (before now : List Term) (s : Setup) (rule : Walking) where
   pub of_walks : (r : Reply) → ((c : Convention) (o : Opening) → IsSetup before c o s → IfOk r (λ ids. AreObligations now c o (frame_of s.frame.now) (walking_of rule) ids.items))
-      → ((o : Opening) → IsRuleAnswer o (frame_of s.frame.now) s.maximum (walking_of rule) r) → IsAnswer before now s (walking_of rule) r
-  of_walks (Ok ids) terms walks = record { terms = terms; lines = no_lines (frame_of s.frame.now) rule; few = walks; fault = λ o. tt }
-  of_walks (Err fault) terms walks = record { terms = terms; lines = tt; few = λ o. tt; fault = walks }
+      → IfOk r (λ ids. All (λ (id : ℕ). id < length now) ids.items) → ((o : Opening) → IsRuleAnswer o (frame_of s.frame.now) s.maximum (walking_of rule) r) → IsAnswer before now s (walking_of rule) r
+  of_walks (Ok ids) terms within walks = record { terms = terms; within = within; lines = no_lines (frame_of s.frame.now) rule; few = walks; fault = λ o. tt }
+  of_walks (Err fault) terms within walks = record { terms = terms; within = within; lines = tt; few = λ o. tt; fault = walks }

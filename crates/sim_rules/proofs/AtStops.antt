@@ -1,21 +1,18 @@
 -- What is to be shown where both sides stop, from their parts.
-use Rattle.std.proofs.Common.{◌≡◌, ◌∙◌, ℕ, ◌<◌, ◌&&◌, Bool, true, false, if◌then◌else◌, List, [], ◌∷◌, ◌++◌, length, map, Option, Some, None, refl, sym, ap, ap₂, subst, inl, inr, arith}
-use Rattle.std.specs.HashMap.{get}
-use Rattle.std.specs.List.{list_any}
+use Rattle.std.proofs.Common.{◌≡◌, ◌∙◌, ℕ, ◌<◌, ◌&&◌, Bool, true, false, if◌then◌else◌, List, [], ◌∷◌, ◌++◌, length, map, sym, ap, ap₂, arith}
 use Rattle.std.proofs.lemmas.Option.{slice_get_within}
-use Rattle.term_spec.specs.Same.{same_variable}
 use Rattle.term_spec.specs.Term.{Term, truth}
 use Rattle.term_spec.specs.Substitution.{substituted}
 use Rattle.term_bank.specs.Nodes.{Extends}
 use Rattle.term_bank.proofs.Growth.{length-Extends}
 use Rattle.term_bank.proofs.Substitution.{kept}
 use Rattle.visit_spec.specs.Visits.{Visit}
-use Rattle.rule_spec.specs.Points.{Convention, with_memory}
-use Rattle.rule_spec.specs.Rules.{Stop, all_of, terms_at, related, related_if}
+use Rattle.rule_spec.specs.Rules.{Stop, all_of, terms_at}
 use Rattle.rule_spec.specs.Sides.{Way, visits_where}
 use Rattle.rule_terms.specs.declared.sight.Part.{Part}
 use Rattle.rule_terms.specs.Ways.{IsPart}
-use Rattle.rule_terms.proofs.Later.{below_later, part_later, sight_later}
+use Rattle.rule_terms.proofs.Later.{part_later, sight_later}
+use Rattle.sim_rules.specs.Compared.{Compared, related, related_if}
 use Rattle.sim_rules.specs.declared.point.Meeting.{Meeting}
 use Rattle.sim_rules.specs.Stops.{ArePartsIn, CanMeet, IsMet, IsMeeting}
 
@@ -31,7 +28,7 @@ parts_in trees a d v w p_test q_test p q of_p of_q = record {
   source_below = of_q.terms.below;
 }
 
-pub met_later : (before now : List Term) → Extends before now → (c : Convention) (a d : Way) (v w : List Visit) (s : Stop) (memory : Term) (lines : List Term) (p q : Part)
+pub met_later : (before now : List Term) → Extends before now → (c : Compared) (a d : Way) (v w : List Visit) (s : Stop) (memory : Term) (lines : List Term) (p q : Part)
     → IsMet before c a d v w s memory lines p q → IsMet now c a d v w s memory lines p q
 met_later before now e c a d v w s memory lines p q is = record {
   memory_is = is.memory_is;
@@ -40,7 +37,7 @@ met_later before now e c a d v w s memory lines p q is = record {
   of_source = part_later before now e d w s.source q is.of_source;
 }
 
-module _ (trees : List Term) (c : Convention) (a d : Way) (v w : List Visit) (s : Stop) (memory : Term) (lines : List Term) (p q : Part) (is : IsMet trees c a d v w s memory lines p q) where
+module _ (trees : List Term) (c : Compared) (a d : Way) (v w : List Visit) (s : Stop) (memory : Term) (lines : List Term) (p q : Part) (is : IsMet trees c a d v w s memory lines p q) where
   pub related_is : all_of (map (substituted (terms_at (visits_where a v s.binary).state (visits_where d w s.source).state)) (lines ++ memory ∷ [])) ≡ related c a d v w s
   related_is = ap (λ (l : List Term). all_of (map (substituted (terms_at (visits_where a v s.binary).state (visits_where d w s.source).state)) l))
       (sym (ap₂ (λ (l : List Term) (m : Term). l ++ m ∷ []) is.lines_are is.memory_is))
@@ -52,7 +49,7 @@ module _ (trees : List Term) (c : Convention) (a d : Way) (v w : List Visit) (s 
   if_not none = sym (ap₂ (λ (x y : Bool). if x && y then related c a d v w s else truth true) (sym is.of_binary.some) (sym is.of_source.some)
       ∙ ap (λ (x : Bool). if x then related c a d v w s else truth true) none)
 
-pub meeting_later : (before now : List Term) → Extends before now → (t : Term) (c : Convention) (a d : Way) (m : Meeting) → IsMeeting before t c a d m → IsMeeting now t c a d m
+pub meeting_later : (before now : List Term) → Extends before now → (t : Term) (c : Compared) (a d : Way) (m : Meeting) → IsMeeting before t c a d m → IsMeeting now t c a d m
 meeting_later before now e t c a d m is = record {
   of_binary = sight_later before now e a m.binary is.of_binary;
   of_source = sight_later before now e d m.source is.of_source;

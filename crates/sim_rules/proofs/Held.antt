@@ -1,5 +1,7 @@
 -- Lists of ids of terms.
-use Rattle.std.proofs.Common.{◌≡◌, ℕ, List, [], ◌∷◌, ◌++◌, sym, subst, append_assoc, append-nil}
+use Rattle.std.proofs.Common.{◌≡◌, ◌<◌, ℕ, List, [], ◌∷◌, ◌++◌, All, length, sym, subst, append_assoc, append-nil}
+use Rattle.std.proofs.lemmas.List.Elements.{All-cons, All-nil}
+use Rattle.std.proofs.lemmas.Option.{slice_get_within}
 use Rattle.term_spec.specs.Term.{Term}
 use Rattle.term_bank.specs.Nodes.{Holds, Extends}
 use Rattle.term_bank.proofs.Substitution.{kept}
@@ -10,6 +12,12 @@ held_later before now e [] [] h = tt
 held_later before now e [] (t ∷ ts) h = h
 held_later before now e (i ∷ ids) [] h = h
 held_later before now e (i ∷ ids) (t ∷ ts) h = (kept before now i t e h.0, held_later before now e ids ts h.1)
+
+-- ids of terms are in the bank
+pub held_within : (trees : List Term) (ids : List ℕ) (ts : List Term) → AreHeld trees ids ts → All (λ (id : ℕ). id < length trees) ids
+held_within trees [] ts h = All-nil (λ (id : ℕ). id < length trees)
+held_within trees (i ∷ ids) [] h = absurd h
+held_within trees (i ∷ ids) (t ∷ ts) h = All-cons (λ (id : ℕ). id < length trees) i ids (slice_get_within trees i t h.0) (held_within trees ids ts h.1)
 
 held_append : (trees : List Term) (ids more : List ℕ) (ts us : List Term) → AreHeld trees ids ts → AreHeld trees more us → AreHeld trees (ids ++ more) (ts ++ us)
 held_append trees [] more [] us h g = g

@@ -11,11 +11,12 @@ use Rattle.visit_spec.specs.Visits.{Visit}
 use Rattle.rule_spec.specs.Points.{Convention}
 use Rattle.rule_spec.specs.Rules.{Stop, under, comes_too, ends_alike, leaf_goals}
 use Rattle.rule_spec.specs.Sides.{Way, condition_where, fails}
+use Rattle.sim_rules.specs.Compared.{compared_by}
 use Rattle.sim_rules.specs.Terms.{denial, stop_terms}
 
 -- what a Leaf leaves to show under premises
 pub leaf_list_is : (premises : List Term) (c : Convention) (a d : Way) (v w : List Visit) (all : List Stop)
-    → or_term (denial premises) (not_term (condition_where a v fails)) ∷ stop_terms (denial premises) c a d v w all ≡ map (under premises) (leaf_goals c a d v w all)
+    → or_term (denial premises) (not_term (condition_where a v fails)) ∷ stop_terms (denial premises) (compared_by c) a d v w all ≡ map (under premises) (leaf_goals c a d v w all)
 leaf_list_is premises c a d v w all =
     let u : Term → Term = under premises in
     ap (λ (l : List Term). u (not_term (condition_where a v fails)) ∷ l)

@@ -1,10 +1,11 @@
 -- Ways that were made for a side of a frame, and their walks, as a bank grows.
-use Rattle.std.proofs.Common.{◌≡◌, ◌∙◌, ℕ, List, Option, sym, subst, refl, length}
+use Rattle.std.proofs.Common.{ℕ, List, [], Option, sym, subst, refl, length}
 use Rattle.std.specs.Prelude.{Result, Ok, Err, IfOk, IfErr}
 use Rattle.std.specs.HashMap.{get}
 use Rattle.term_spec.specs.declared.Variable.{Variable}
 use Rattle.term_spec.specs.Same.{same_variable}
 use Rattle.term_spec.specs.Term.{Term}
+use Rattle.term_core.specs.Trees.{term_of}
 use Rattle.term_bank.specs.Nodes.{Extends}
 use Rattle.term_substitution.specs.States.{AreBelow, state_of}
 use Rattle.graph_core.specs.Graphs.{graph_of}
@@ -13,8 +14,8 @@ use Rattle.visit_spec.specs.Visits.{Walk}
 use Rattle.visit_walk.specs.Found.{IsWalkFault}
 use Rattle.visit_walk.specs.declared.found.WalkFault.{WalkFault}
 use Rattle.path_cond.specs.States.{IsMapOf}
-use Rattle.proof_tree.specs.Frames.{frame_of}
-use Rattle.rule_spec.specs.Points.{Convention}
+use Rattle.proof_tree.specs.Frames.{frame_of, terms_of}
+use Rattle.rule_spec.specs.Points.{Convention, all_hold}
 use Rattle.rule_spec.specs.Rules.{Opening}
 use Rattle.rule_spec.specs.Sides as sides
 use Rattle.rule_terms.specs.declared.points.Opening.{Opening as CodeOpening}
@@ -30,7 +31,8 @@ use Rattle.sim_rules.specs.declared.plan.Change.TheVariants.{Plain, Holding, Res
 use Rattle.sim_rules.specs.declared.walked.Walked.{Walked}
 use Rattle.sim_rules.specs.Faults.{IsOutcome}
 use Rattle.sim_rules.specs.Made.{IsMade, changed}
-use Rattle.sim_rules.specs.Setups.{IsSetup}
+use Rattle.sim_rules.specs.Compared.{Compared, compared_by}
+use Rattle.sim_rules.specs.Setups.{IsSetup, IsSetupOver}
 use Rattle.sim_rules.specs.Sides.{ids_at, terms_at, way_at}
 use Rattle.sim_rules.specs.Walks.{IsWalked}
 
@@ -73,8 +75,36 @@ module _ (before now : List Term) (e : Extends before now) where
   pub walked_later : (w : sides.Way) (x : Walked) → IsWalked before w x → IsWalked now w x
   walked_later w x is = record { is_way = way_later w x.way.now is.is_way; maximum = is.maximum; outcome = is.outcome }
 
-  pub setup_later : (c : Convention) (o : Opening) (s : Setup) → IsSetup before c o s → IsSetup now c o s
-  setup_later c o s is = record { convention_is = is.convention_is; opening_is = opening_later before now e o s.opening is.opening_is }
+  pub setup_later : (c : Compared) (o : Opening) (s : Setup) → IsSetupOver before c o s → IsSetupOver now c o s
+  setup_later c o s is = record { compared_are = is.compared_are; opening_is = opening_later before now e o s.opening is.opening_is }
+
+-- ---- the terms that are compared, and those of the opening
+
+pub by_convention : (trees : List Term) (c : Convention) (o : Opening) (s : Setup) → IsSetup trees c o s → IsSetupOver trees (compared_by c) o s
+by_convention trees c o s is = record {
+  compared_are = record { returns_are = is.convention_is.returns_are; memory_is = is.convention_is.memory_is };
+  opening_is = is.opening_is;
+}
+
+-- without a convention of the definitions
+abbrev pub own_compared : Setup → Compared
+own_compared s = record { memory = term_of s.convention.now.memory.value; returns = terms_of s.convention.now.returns.now }
+
+abbrev pub own_opening : List Term → Setup → Opening
+own_opening trees s = record {
+  binary = state_of trees (get same_variable s.opening.binary.now);
+  source = state_of trees (get same_variable s.opening.source.now);
+  known = all_hold [];
+}
+
+pub own_setup : (trees : List Term) (s : Setup) → IsOpeningIn (length trees) s.opening → IsSetupOver trees (own_compared s) (own_opening trees s) s
+own_setup trees s is = record {
+  compared_are = record { returns_are = refl; memory_is = refl };
+  opening_is = record {
+    of_binary = record { current = λ v. refl; below = is.binary_below };
+    of_source = record { current = λ v. refl; below = is.source_below };
+  };
+}
 
 -- ---- what a walk gives
 

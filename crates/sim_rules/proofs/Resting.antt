@@ -2,15 +2,15 @@
 use Rattle.std.proofs.Common.{◌≡◌, ℕ, List, [], Option, Some, None, ◌⊎◌, inl, inr, OnOk, Result, refl, sym, subst}
 use Rattle.term_spec.specs.Term.{Term}
 use Rattle.visit_spec.specs.Visits.{Visit}
-use Rattle.rule_spec.specs.Points.{Convention}
 use Rattle.rule_spec.specs.Rules.{Stop}
 use Rattle.rule_spec.specs.Sides.{Way}
 use Rattle.rule_terms.proofs.Later.{itself}
+use Rattle.sim_rules.specs.Compared.{Compared}
 use Rattle.sim_rules.specs.Held.{HasAdded}
 use Rattle.sim_rules.specs.Terms.{stop_terms, stop_terms_if}
 use Rattle.sim_rules.proofs.Held.{added_none}
 
-module _ (t : Term) (c : Convention) (a d : Way) (x y : Option (List Visit)) (all : List Stop) where
+module _ (t : Term) (c : Compared) (a d : Way) (x y : Option (List Visit)) (all : List Stop) where
   pub met_if : (before now : List Term) (old new : List ℕ) {E : Type 0} (r : Result (Unit {0}) E) (v w : List Visit) → x ≡ Some v → y ≡ Some w
       → OnOk r (HasAdded before now (stop_terms t c a d v w all) old new) → OnOk r (HasAdded before now (stop_terms_if t c a d x y all) old new)
   met_if before now old new r v w p q h =

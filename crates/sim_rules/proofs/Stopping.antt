@@ -1,16 +1,16 @@
 -- Claims at stops, one stop after the other.
-use Rattle.std.proofs.Common.{◌≡◌, ◌∙◌, ℕ, ◌+◌, ◌<◌, suc, List, [], ◌∷◌, ◌++◌, length, map, take, get_or, refl, sym, ap, subst, arith}
+use Rattle.std.proofs.Common.{◌≡◌, ◌∙◌, ℕ, ◌+◌, ◌<◌, suc, List, [], ◌∷◌, ◌++◌, length, map, take, get_or, sym, ap, subst, arith}
 use Rattle.std.proofs.lemmas.List.{take_more, map-append, length-map, length-take-le}
 use Rattle.term_spec.specs.Term.{Term}
 use Rattle.visit_spec.specs.Visits.{Visit}
 use Rattle.proof_spec.specs.Frames as spec
 use Rattle.proof_tree.specs.declared.frame.Goal.{Goal}
 use Rattle.proof_tree.specs.Frames.{goal_of}
-use Rattle.rule_spec.specs.Points.{Convention}
 use Rattle.rule_spec.specs.Rules.{Stop, goal_stops}
 use Rattle.rule_spec.specs.Sides.{Way}
 use Rattle.sim_rules.specs.declared.point.Claim.{Claim}
 use Rattle.sim_rules.specs.declared.point.Claim.TheVariants.{ComesToo, EndsAlike}
+use Rattle.sim_rules.specs.Compared.{Compared}
 use Rattle.sim_rules.specs.Held.{HasAdded}
 use Rattle.sim_rules.specs.Stops.{goal_stop, shown_term, shown_terms}
 use Rattle.sim_rules.specs.Terms.{stop_terms}
@@ -32,7 +32,7 @@ goal_stops-more goals i d less =
     ∙ goal_stops-append 0 (map goal_of (take i goals)) (goal_of (get_or goals i d))
     ∙ ap (λ (n : ℕ). goal_stops 0 (map goal_of (take i goals)) ++ goal_stop n (goal_of (get_or goals i d)) ∷ []) index
 
-module _ (claim : Claim) (denied : Term) (c : Convention) (a d : Way) (v w : List Visit) where
+module _ (claim : Claim) (denied : Term) (c : Compared) (a d : Way) (v w : List Visit) where
   -- one goal more
   pub shown_more : (first second third : List Term) (goals : List Goal) (i : ℕ) (g : Goal) (s : Stop) (old mid new : List ℕ) → i < length goals
       → g ≡ get_or goals i g → s ≡ goal_stop i (goal_of g)
@@ -49,7 +49,7 @@ module _ (claim : Claim) (denied : Term) (c : Convention) (a d : Way) (v w : Lis
       subst (λ (l : List Term). HasAdded first third l old new) same (added_then first second third (map f before) (f s ∷ []) old mid new p q)
 
 -- both claims
-pub both_claims : (denied : Term) (c : Convention) (a d : Way) (v w : List Visit) (all : List Stop) (first second third : List Term) (old mid new : List ℕ)
+pub both_claims : (denied : Term) (c : Compared) (a d : Way) (v w : List Visit) (all : List Stop) (first second third : List Term) (old mid new : List ℕ)
     → HasAdded first second (shown_terms ComesToo denied c a d v w all) old mid → HasAdded second third (shown_terms EndsAlike denied c a d v w all) mid new
     → HasAdded first third (stop_terms denied c a d v w all) old new
 both_claims denied c a d v w all first second third old mid new p q =

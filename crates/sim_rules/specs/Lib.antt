@@ -4,6 +4,7 @@ pub mod Plans
 pub mod Made
 pub mod Faults
 pub mod Walks
+pub mod Compared
 pub mod Setups
 pub mod Held
 pub mod Terms

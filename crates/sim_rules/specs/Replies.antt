@@ -1,5 +1,5 @@
 -- What a rule's answer says: its obligations, or why it has none.
-use Rattle.std.specs.Prelude.{ℕ, List, Result, Vec, IfOk, IfErr, OnOk}
+use Rattle.std.specs.Prelude.{ℕ, ◌<◌, List, length, All, Result, Vec, IfOk, IfErr, OnOk}
 use Rattle.std.specs.Global.{Global}
 use Rattle.term_spec.specs.Term.{Term}
 use Rattle.proof_tree.specs.Frames.{frame_of}
@@ -13,6 +13,7 @@ use Rattle.sim_rules.specs.Setups.{IsSetup}
 
 pub record IsAnswer (before now : List Term) (s : Setup) (rule : Rule) (r : Result (Vec ℕ Global) RuleFault) : Type 0 where
   pub terms : (c : Convention) (o : Opening) → IsSetup before c o s → IfOk r (λ ids. AreObligations now c o (frame_of s.frame.now) rule ids.items)
+  pub within : IfOk r (λ ids. All (λ (id : ℕ). id < length now) ids.items)
   pub lines : OnOk r (HasLines (frame_of s.frame.now) rule)
   pub few : (o : Opening) → OnOk r (HasFewVisits o (frame_of s.frame.now) s.maximum rule)
   pub fault : (o : Opening) → IfErr r (IsRuleFault o (frame_of s.frame.now) s.maximum rule)

@@ -5,9 +5,9 @@ use Rattle.term_spec.specs.Term.{Term, truth, not_term, and_term, or_term}
 use Rattle.visit_spec.specs.Visits.{Visit}
 use Rattle.proof_spec.specs.Frames.{Frame, Hold}
 use Rattle.proof_tree.specs.Frames.{hold_of, mark_of}
-use Rattle.rule_spec.specs.Points.{Convention}
-use Rattle.rule_spec.specs.Rules.{Opening, Seen, Stop, premise_terms, wait_premises, stops, comes_too, ends_alike, comes_to, held_there}
+use Rattle.rule_spec.specs.Rules.{Opening, Seen, Stop, premise_terms, wait_premises, comes_to}
 use Rattle.rule_spec.specs.Sides.{Way, condition_where, visits_where, visit_mark, breaks, fails}
+use Rattle.sim_rules.specs.Compared.{Compared, stops, comes_too, ends_alike, held_there}
 use Rattle.sim_rules.specs.Plans.{plan_for}
 use Rattle.sim_rules.specs.declared.side.Side.{Side}
 use Rattle.sim_rules.specs.declared.side.Side.TheVariants.{Binary, Source}
@@ -58,32 +58,32 @@ first_for denied f rule a d =
 -- ---- and then
 
 -- at the stops: that the binary comes there too, and then what holds there
-abbrev pub stop_terms : (denied : Term) → Convention → (a d : Way) → (v w : List Visit) → List Stop → List Term
+abbrev pub stop_terms : (denied : Term) → Compared → (a d : Way) → (v w : List Visit) → List Stop → List Term
 stop_terms denied c a d v w all =
     map (λ (s : Stop). or_term denied (comes_too c a d v w s)) all ++ map (λ (s : Stop). or_term denied (ends_alike c a d v w s)) all
 
-abbrev pub stop_terms_if : (denied : Term) → Convention → (a d : Way) → (v w : Option (List Visit)) → List Stop → List Term
+abbrev pub stop_terms_if : (denied : Term) → Compared → (a d : Way) → (v w : Option (List Visit)) → List Stop → List Term
 stop_terms_if denied c a d None w all = []
 stop_terms_if denied c a d (Some v) None all = []
 stop_terms_if denied c a d (Some v) (Some w) all = stop_terms denied c a d v w all
 
 -- at a hold: that the binary comes there, and what holds there
-abbrev pub held_terms : (denied : Term) → Convention → Opening → Way → List Visit → Hold → List Term
+abbrev pub held_terms : (denied : Term) → Compared → Opening → Way → List Visit → Hold → List Term
 held_terms denied c o w visits hold =
     let there = visits_where w visits (comes_to hold.nodes.binary) in
     or_term denied there.condition ∷ or_term denied (held_there c o there.state hold.relation) ∷ []
 
-abbrev pub held_terms_if : (denied : Term) → Convention → Opening → Way → Option (List Visit) → Hold → List Term
+abbrev pub held_terms_if : (denied : Term) → Compared → Opening → Way → Option (List Visit) → Hold → List Term
 held_terms_if denied c o w None hold = []
 held_terms_if denied c o w (Some visits) hold = held_terms denied c o w visits hold
 
-abbrev pub rest_for : (denied : Term) → Convention → Opening → Frame → Walking → (binary source : Seen) → List Term
+abbrev pub rest_for : (denied : Term) → Compared → Opening → Frame → Walking → (binary source : Seen) → List Term
 rest_for denied c o f Leaf a d = stop_terms_if denied c a.way d.way a.visits d.visits (stops c f)
 rest_for denied c o f (RestrictBinary bound) a d = []
 rest_for denied c o f (RestrictSource bound) a d = []
 rest_for denied c o f (Wait hold) a d = held_terms_if denied c o a.way a.visits (hold_of hold)
 
 -- all of it
-abbrev pub terms_for : Convention → Opening → Frame → Walking → (binary source : Seen) → List Term
+abbrev pub terms_for : Compared → Opening → Frame → Walking → (binary source : Seen) → List Term
 terms_for c o f rule a d =
     first_for (denial (premises_for o f rule a d)) f rule a d ++ rest_for (denial (premises_for o f rule a d)) c o f rule a d

@@ -8,10 +8,10 @@ use Rattle.condition_spec.specs.Junctions.{junctions}
 use Rattle.path_cond.specs.declared.found.Conditions.{Conditions}
 use Rattle.path_cond.specs.Result.{AreConditions}
 use Rattle.proof_spec.specs.Frames.{Frame}
-use Rattle.rule_spec.specs.Points.{Convention}
 use Rattle.rule_spec.specs.Rules.{Opening, Seen}
 use Rattle.rule_spec.specs.Sides.{Way, AreVisitsIf}
 use Rattle.rule_terms.specs.Ways.{IsWay}
+use Rattle.sim_rules.specs.Compared.{Compared}
 use Rattle.sim_rules.specs.declared.plan.Walking.{Walking}
 use Rattle.sim_rules.specs.declared.walked.Walked.{Walked}
 use Rattle.sim_rules.specs.Faults.{IsOutcome}
@@ -46,7 +46,7 @@ pub record AreKnown (needed : Bool) (w : Walk) (visits : Option (List Visit)) : 
   pub there : needed ≡ true → (v : List Visit) × (visits ≡ Some v)
 
 -- the ids are of what a rule leaves to show of these ways
-pub record AreOfWays (trees : List Term) (c : Convention) (o : Opening) (f : Frame) (rule : Walking) (a d : Way) (ids : List ℕ) : Type 0 where
+pub record AreOfWays (trees : List Term) (c : Compared) (o : Opening) (f : Frame) (rule : Walking) (a d : Way) (ids : List ℕ) : Type 0 where
   pub binary : Option (List Visit)
   pub source : Option (List Visit)
   pub binary_are : AreKnown (plan_for rule).needs_binary a.walk binary

@@ -9,13 +9,13 @@ ghost use Rattle.term_bank.specs.Nodes.{Extends, Holds};
 ghost use Rattle.term_substitution.specs.States.{AreBelow, IsAt};
 ghost use Rattle.path_cond.specs.States.{IsMapOf};
 ghost use Rattle.proof_tree.specs.Frames.{hold_of, terms_of};
-ghost use Rattle.rule_spec.specs.Points as points;
 ghost use Rattle.rule_spec.specs.Rules as rules;
 ghost use Rattle.rule_spec.specs.Sides as sides;
 ghost use Rattle.rule_terms.specs.Openings.{IsOpeningIn};
 ghost use Rattle.rule_terms.specs.Ways.{IsSight};
+ghost use Rattle.sim_rules.specs.Compared.{Compared, held_there};
 ghost use Rattle.sim_rules.specs.Held.{HasAdded};
-ghost use Rattle.sim_rules.specs.Setups.{IsSetup};
+ghost use Rattle.sim_rules.specs.Setups.{IsSetupOver};
 ghost use Rattle.sim_rules.specs.Terms.{held_terms};
 
 use crate::setup::Setup;
@@ -38,10 +38,10 @@ fn related(
     requires denied { denied < length bank.old }
     requires opening { IsOpeningIn (length bank.old) setup.now.opening }
     requires binary { AreBelow (length bank.old) (get same_variable binary.now) }
-    ensures tree { (c : points.Convention) (o : rules.Opening) (t : tree.Term) (s : Terms)
-        → IsSetup bank.old c o setup.now → Holds bank.old denied t
+    ensures tree { (c : Compared) (o : rules.Opening) (t : tree.Term) (s : Terms)
+        → IsSetupOver bank.old c o setup.now → Holds bank.old denied t
         → IsMapOf bank.old (get same_variable binary.now) s → IsAt bank.new result
-        (tree.or_term t (rules.held_there c o s (terms_of lines.now))) }
+        (tree.or_term t (held_there c o s (terms_of lines.now))) }
     ensures extends { Extends bank.old bank.new }
 {
     let memory: &Term = &setup.convention.memory;
@@ -72,8 +72,8 @@ pub(crate) fn add_held(
     requires denied { denied < length bank.old }
     requires opening { IsOpeningIn (length bank.old) setup.now.opening }
     requires main { (w : sides.Way) × IsSight bank.old w main.now }
-    ensures added { (c : points.Convention) (o : rules.Opening) (t : tree.Term) (w : sides.Way)
-        → IsSetup bank.old c o setup.now → Holds bank.old denied t → IsSight bank.old w main.now
+    ensures added { (c : Compared) (o : rules.Opening) (t : tree.Term) (w : sides.Way)
+        → IsSetupOver bank.old c o setup.now → Holds bank.old denied t → IsSight bank.old w main.now
         → OnOk result (HasAdded bank.old bank.new (held_terms t c o w main.now.visits.now.visits
         (hold_of hold.now)) ids.old.items ids.new.items) }
     ensures extends { Extends bank.old bank.new }

@@ -7,9 +7,10 @@ ghost use Rattle.term_bank.specs.Nodes.{Extends, Holds};
 ghost use Rattle.term_substitution.specs.States.{IsAt, IsFound};
 ghost use Rattle.proof_tree.specs.Frames.{goal_of, terms_of};
 ghost use Rattle.visit_spec.specs.Visits.{Visit};
-ghost use Rattle.rule_spec.specs.Points as points;
 ghost use Rattle.rule_spec.specs.Rules as rules;
 ghost use Rattle.rule_spec.specs.Sides as sides;
+ghost use Rattle.sim_rules.specs.Compared as over;
+ghost use Rattle.sim_rules.specs.Compared.{Compared};
 ghost use Rattle.sim_rules.specs.Stops.{ArePartsIn, CanMeet, IsMeeting, IsMet, binary_visits};
 ghost use Rattle.sim_rules.specs.Stops.{goal_stop, shown_term, source_visits, stop_at};
 
@@ -74,9 +75,9 @@ fn comes_too(
     point: &Point<'_>,
 ) -> Result<TermId, AllocError>
     requires { CanMeet bank.old meeting.now }
-    ensures tree { (t : tree.Term) (c : points.Convention) (a d : sides.Way)
+    ensures tree { (t : tree.Term) (c : Compared) (a d : sides.Way)
         → IsMeeting bank.old t c a d meeting.now → IsAt bank.new result (tree.or_term t
-        (rules.comes_too c a d (binary_visits meeting.now) (source_visits meeting.now)
+        (over.comes_too c a d (binary_visits meeting.now) (source_visits meeting.now)
         (stop_at a d point.now))) }
     ensures extends { Extends bank.old bank.new }
 {
@@ -95,9 +96,9 @@ fn related_if(
     lines: &[Box<Term>],
 ) -> Result<TermId, AllocError>
     requires { ArePartsIn (length bank.old) binary.now source.now }
-    ensures tree { (c : points.Convention) (a d : sides.Way) (v w : List Visit) (s : rules.Stop)
+    ensures tree { (c : Compared) (a d : sides.Way) (v w : List Visit) (s : rules.Stop)
         → IsMet bank.old c a d v w s (term_of memory.now) (terms_of lines.now) binary.now source.now
-        → IsAt bank.new result (rules.related_if c a d v w s) }
+        → IsAt bank.new result (over.related_if c a d v w s) }
     ensures within { IsFound bank.new result }
     ensures extends { Extends bank.old bank.new }
     ensures longer { length bank.old ≤ length bank.new }
@@ -119,11 +120,11 @@ fn alike(
 ) -> Result<TermId, AllocError>
     requires denied { meeting.now.denied < length bank.old }
     requires parts { ArePartsIn (length bank.old) binary.now source.now }
-    ensures tree { (t : tree.Term) (c : points.Convention) (a d : sides.Way) (v w : List Visit)
+    ensures tree { (t : tree.Term) (c : Compared) (a d : sides.Way) (v w : List Visit)
         (s : rules.Stop) → Holds bank.old meeting.now.denied t
         → IsMet bank.old c a d v w s (term_of meeting.now.memory.now) (terms_of lines.now)
         binary.now source.now
-        → IsAt bank.new result (tree.or_term t (rules.ends_alike c a d v w s)) }
+        → IsAt bank.new result (tree.or_term t (over.ends_alike c a d v w s)) }
     ensures extends { Extends bank.old bank.new }
 {
     let related = attempt!(related_if(bank, meeting.memory, binary, source, lines));
@@ -140,9 +141,9 @@ fn ends_alike(
     point: &Point<'_>,
 ) -> Result<TermId, AllocError>
     requires { CanMeet bank.old meeting.now }
-    ensures tree { (t : tree.Term) (c : points.Convention) (a d : sides.Way)
+    ensures tree { (t : tree.Term) (c : Compared) (a d : sides.Way)
         → IsMeeting bank.old t c a d meeting.now → IsAt bank.new result (tree.or_term t
-        (rules.ends_alike c a d (binary_visits meeting.now) (source_visits meeting.now)
+        (over.ends_alike c a d (binary_visits meeting.now) (source_visits meeting.now)
         (stop_at a d point.now))) }
     ensures extends { Extends bank.old bank.new }
 {
@@ -160,7 +161,7 @@ pub(crate) fn shown(
     claim: Claim,
 ) -> Result<TermId, AllocError>
     requires { CanMeet bank.old meeting.now }
-    ensures tree { (t : tree.Term) (c : points.Convention) (a d : sides.Way)
+    ensures tree { (t : tree.Term) (c : Compared) (a d : sides.Way)
         → IsMeeting bank.old t c a d meeting.now → IsAt bank.new result
         (shown_term claim t c a d (binary_visits meeting.now) (source_visits meeting.now)
         (stop_at a d point.now)) }

@@ -1,6 +1,6 @@
 //! The rules of a proof, and their obligations.
 
-ghost use Rattle.std.specs.Prelude.{◌≡◌, ◌∷◌, [], IfErr, IfOk, OnOk, length};
+ghost use Rattle.std.specs.Prelude.{◌≡◌, ◌<◌, ◌∷◌, [], All, IfErr, IfOk, OnOk, length};
 ghost use Rattle.term_core.specs.Trees.{term_of};
 ghost use Rattle.term_bank.specs.Nodes.{Extends};
 ghost use Rattle.proof_tree.specs.Frames.{frame_of, terms_of};
@@ -148,6 +148,7 @@ pub fn obligations(
     ensures terms { (c : points.Convention) (o : rules.Opening) → IsSetup bank.old c o setup.now
         → IfOk result (λ ids. AreObligations bank.new c o (frame_of setup.now.frame.now)
         (rule_of rule.entry) ids.items) }
+    ensures within { IfOk result (λ ids. All (λ id. id < length bank.new) ids.items) }
     ensures lines { OnOk result (HasLines (frame_of setup.now.frame.now) (rule_of rule.entry)) }
     ensures few { (o : rules.Opening) → OnOk result (HasFewVisits o (frame_of setup.now.frame.now)
         setup.now.maximum (rule_of rule.entry)) }

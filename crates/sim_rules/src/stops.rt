@@ -4,10 +4,10 @@ ghost use Rattle.std.specs.Prelude.{◌≡◌, ◌∷◌, [], OnOk, map};
 ghost use Rattle.term_spec.specs.Term as tree;
 ghost use Rattle.term_bank.specs.Nodes.{Extends};
 ghost use Rattle.proof_tree.specs.Frames.{frame_of, goal_of};
-ghost use Rattle.rule_spec.specs.Points as points;
 ghost use Rattle.rule_spec.specs.Rules as rules;
 ghost use Rattle.rule_spec.specs.Sides as sides;
-ghost use Rattle.rule_terms.specs.Conventions.{IsConventionOf};
+ghost use Rattle.sim_rules.specs.Compared as over;
+ghost use Rattle.sim_rules.specs.Compared.{AreCompared, Compared};
 ghost use Rattle.sim_rules.specs.Held.{HasAdded};
 ghost use Rattle.sim_rules.specs.Stops.{CanMeet, IsMeeting, binary_visits, shown_terms};
 ghost use Rattle.sim_rules.specs.Stops.{source_visits, stop_at};
@@ -31,7 +31,7 @@ fn add_shown(
     ids: &mut Vec<TermId>,
 ) -> Result<(), AllocError>
     requires { CanMeet bank.old meeting.now }
-    ensures added { (t : tree.Term) (c : points.Convention) (a d : sides.Way)
+    ensures added { (t : tree.Term) (c : Compared) (a d : sides.Way)
         → IsMeeting bank.old t c a d meeting.now → OnOk result (HasAdded bank.old bank.new
         (shown_terms claim t c a d (binary_visits meeting.now) (source_visits meeting.now)
         (stop_at a d point.now ∷ [])) ids.old.items ids.new.items) }
@@ -52,7 +52,7 @@ fn add_goals(
     ids: &mut Vec<TermId>,
 ) -> Result<(), AllocError>
     requires { CanMeet bank.old meeting.now }
-    ensures added { (t : tree.Term) (c : points.Convention) (a d : sides.Way)
+    ensures added { (t : tree.Term) (c : Compared) (a d : sides.Way)
         → IsMeeting bank.old t c a d meeting.now → OnOk result (HasAdded bank.old bank.new
         (shown_terms claim t c a d (binary_visits meeting.now) (source_visits meeting.now)
         (rules.goal_stops 0 (map goal_of goals.now))) ids.old.items ids.new.items) }
@@ -75,11 +75,11 @@ fn add_stops(
     ids: &mut Vec<TermId>,
 ) -> Result<(), AllocError>
     requires { CanMeet bank.old meeting.now }
-    ensures added { (t : tree.Term) (c : points.Convention) (a d : sides.Way)
-        → IsMeeting bank.old t c a d meeting.now → IsConventionOf setup.now.convention.now c
+    ensures added { (t : tree.Term) (c : Compared) (a d : sides.Way)
+        → IsMeeting bank.old t c a d meeting.now → AreCompared setup.now.convention.now c
         → OnOk result (HasAdded bank.old bank.new
         (shown_terms claim t c a d (binary_visits meeting.now) (source_visits meeting.now)
-        (rules.stops c (frame_of setup.now.frame.now))) ids.old.items ids.new.items) }
+        (over.stops c (frame_of setup.now.frame.now))) ids.old.items ids.new.items) }
     ensures extends { Extends bank.old bank.new }
 {
     let point = Point {
@@ -108,11 +108,11 @@ pub(crate) fn add_met(
     ids: &mut Vec<TermId>,
 ) -> Result<(), AllocError>
     requires { CanMeet bank.old meeting.now }
-    ensures added { (t : tree.Term) (c : points.Convention) (a d : sides.Way)
-        → IsMeeting bank.old t c a d meeting.now → IsConventionOf setup.now.convention.now c
+    ensures added { (t : tree.Term) (c : Compared) (a d : sides.Way)
+        → IsMeeting bank.old t c a d meeting.now → AreCompared setup.now.convention.now c
         → OnOk result (HasAdded bank.old bank.new
         (stop_terms t c a d (binary_visits meeting.now) (source_visits meeting.now)
-        (rules.stops c (frame_of setup.now.frame.now))) ids.old.items ids.new.items) }
+        (over.stops c (frame_of setup.now.frame.now))) ids.old.items ids.new.items) }
     ensures extends { Extends bank.old bank.new }
 {
     attempt!(add_stops(alloc, bank, setup, meeting, Claim::ComesToo, ids));

@@ -4,13 +4,12 @@ ghost use Rattle.std.specs.Prelude.{◌≡◌, [], ◌<◌, List, length, OnOk};
 ghost use Rattle.term_spec.specs.Term as tree;
 ghost use Rattle.term_bank.specs.Nodes.{Extends, Holds};
 ghost use Rattle.proof_tree.specs.Frames.{frame_of};
-ghost use Rattle.rule_spec.specs.Points as points;
 ghost use Rattle.rule_spec.specs.Rules as rules;
-ghost use Rattle.rule_terms.specs.Conventions.{IsConventionOf};
 ghost use Rattle.rule_terms.specs.Openings.{IsOpeningIn};
 ghost use Rattle.rule_terms.specs.Seen.{IsSeen};
+ghost use Rattle.sim_rules.specs.Compared.{AreCompared, Compared};
 ghost use Rattle.sim_rules.specs.Held.{AreHeld, HasAdded};
-ghost use Rattle.sim_rules.specs.Setups.{IsSetup};
+ghost use Rattle.sim_rules.specs.Setups.{IsSetupOver};
 ghost use Rattle.sim_rules.specs.Stops.{CanMeetIf, IsMeetingIf};
 ghost use Rattle.sim_rules.specs.Terms.{rest_for, terms_for};
 
@@ -32,8 +31,8 @@ fn meeting_of<'a>(
     binary: Option<Sight<'a>>,
     source: Option<Sight<'a>>,
 ) -> Option<Meeting<'a>>
-    ensures is { (trees : List tree.Term) (t : tree.Term) (c : points.Convention)
-        (a d : rules.Seen) → IsConventionOf setup.now.convention.now c
+    ensures is { (trees : List tree.Term) (t : tree.Term) (c : Compared)
+        (a d : rules.Seen) → AreCompared setup.now.convention.now c
         → IsSeen trees a binary.entry → IsSeen trees d source.entry → Holds trees denied t
         → IsMeetingIf trees t c a d result }
     ensures can { (trees : List tree.Term) (a d : rules.Seen) → IsSeen trees a binary.entry
@@ -68,8 +67,8 @@ fn add_rest(
     requires opening { IsOpeningIn (length bank.old) setup.now.opening }
     requires binary { (s : rules.Seen) × IsSeen bank.old s binary }
     requires source { (s : rules.Seen) × IsSeen bank.old s source }
-    ensures added { (c : points.Convention) (o : rules.Opening) (a d : rules.Seen) (t : tree.Term)
-        → IsSetup bank.old c o setup.now → IsSeen bank.old a binary.entry
+    ensures added { (c : Compared) (o : rules.Opening) (a d : rules.Seen) (t : tree.Term)
+        → IsSetupOver bank.old c o setup.now → IsSeen bank.old a binary.entry
         → IsSeen bank.old d source.entry → Holds bank.old denied t
         → OnOk result (HasAdded bank.old bank.new (rest_for t c o (frame_of setup.now.frame.now)
         rule.now a d) ids.old.items ids.new.items) }
@@ -103,8 +102,8 @@ pub(crate) fn add_terms(
     requires binary { (s : rules.Seen) × IsSeen bank.old s binary }
     requires source { (s : rules.Seen) × IsSeen bank.old s source }
     requires ids { ids.old.items ≡ [] }
-    ensures terms { (c : points.Convention) (o : rules.Opening) (a d : rules.Seen)
-        → IsSetup bank.old c o setup.now → IsSeen bank.old a binary.entry
+    ensures terms { (c : Compared) (o : rules.Opening) (a d : rules.Seen)
+        → IsSetupOver bank.old c o setup.now → IsSeen bank.old a binary.entry
         → IsSeen bank.old d source.entry
         → OnOk result (AreHeld bank.new ids.new.items (terms_for c o (frame_of setup.now.frame.now)
         rule.now a d)) }

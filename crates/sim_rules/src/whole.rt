@@ -1,6 +1,6 @@
 //! A rule's obligations, of both sides' walks.
 
-ghost use Rattle.std.specs.Prelude.{◌≡◌, ℕ, [], IfOk, OnOk, length};
+ghost use Rattle.std.specs.Prelude.{◌≡◌, ◌<◌, ℕ, [], All, IfOk, OnOk, length};
 ghost use Rattle.term_bank.specs.Nodes.{Extends};
 ghost use Rattle.graph_core.specs.Graphs.{graph_of};
 ghost use Rattle.graph_spec.specs.Graph as nodes;
@@ -12,12 +12,13 @@ ghost use Rattle.rule_terms.specs.Openings.{IsOpeningIn};
 ghost use Rattle.rule_terms.specs.Seen.{IsSeen};
 ghost use Rattle.rule_terms.specs.Ways.{IsWay, walk_on};
 ghost use Rattle.visit_spec.specs.Visits.{Walk};
+ghost use Rattle.sim_rules.specs.Compared.{Compared};
 ghost use Rattle.sim_rules.specs.Faults.{IsOutcome, IsPlanAnswer};
 ghost use Rattle.sim_rules.specs.Held.{AreHeld};
 ghost use Rattle.sim_rules.specs.Outcome.{AreObligations, IsRuleAnswer};
 ghost use Rattle.sim_rules.specs.Plans.{plan_for};
 ghost use Rattle.sim_rules.specs.Rules.{walking_of};
-ghost use Rattle.sim_rules.specs.Setups.{IsSetup};
+ghost use Rattle.sim_rules.specs.Setups.{IsSetup, IsSetupOver};
 ghost use Rattle.sim_rules.specs.Terms.{terms_for};
 ghost use Rattle.sim_rules.specs.Walks.{AreOfWays, IsWalked, seen_by};
 
@@ -48,8 +49,8 @@ fn add_of_source(
     requires binary { (s : rules.Seen) × IsSeen bank.old s binary }
     requires source { (w : sides.Way) × IsWalked bank.old w source.now }
     requires ids { ids.old.items ≡ [] }
-    ensures terms { (c : points.Convention) (o : rules.Opening) (a : rules.Seen) (d : sides.Way)
-        → IsSetup bank.old c o setup.now → IsSeen bank.old a binary.entry
+    ensures terms { (c : Compared) (o : rules.Opening) (a : rules.Seen) (d : sides.Way)
+        → IsSetupOver bank.old c o setup.now → IsSeen bank.old a binary.entry
         → IsWalked bank.old d source.now
         → OnOk result (AreHeld bank.new ids.new.items (terms_for c o (frame_of setup.now.frame.now)
         rule.now a (seen_by d source.now.visits.now))) }
@@ -74,8 +75,8 @@ fn add_of_walks(
     requires binary { (w : sides.Way) × IsWalked bank.old w binary.now }
     requires source { (w : sides.Way) × IsWalked bank.old w source.now }
     requires ids { ids.old.items ≡ [] }
-    ensures terms { (c : points.Convention) (o : rules.Opening) (a d : sides.Way)
-        → IsSetup bank.old c o setup.now → IsWalked bank.old a binary.now
+    ensures terms { (c : Compared) (o : rules.Opening) (a d : sides.Way)
+        → IsSetupOver bank.old c o setup.now → IsWalked bank.old a binary.now
         → IsWalked bank.old d source.now
         → OnOk result (AreHeld bank.new ids.new.items (terms_for c o (frame_of setup.now.frame.now)
         rule.now (seen_by a binary.now.visits.now) (seen_by d source.now.visits.now))) }
@@ -100,8 +101,8 @@ fn add_if_walked(
     requires binary { (w : sides.Way) × IsWalked bank.old w binary.now }
     requires source { (w : sides.Way) × IsWalked bank.old w source.now }
     requires ids { ids.old.items ≡ [] }
-    ensures terms { (c : points.Convention) (o : rules.Opening) (a d : sides.Way) (maximum : ℕ)
-        → IsSetup bank.old c o setup.now → IsWay bank.old a binary.now.way.now
+    ensures terms { (c : Compared) (o : rules.Opening) (a d : sides.Way) (maximum : ℕ)
+        → IsSetupOver bank.old c o setup.now → IsWay bank.old a binary.now.way.now
         → IsWay bank.old d source.now.way.now → IsOutcome a.walk maximum binary.now.visits.now
         → IsOutcome d.walk maximum source.now.visits.now
         → OnOk result (AreOfWays bank.new c o (frame_of setup.now.frame.now) rule.now a d
@@ -141,8 +142,9 @@ fn add_of_ways(
     requires binary { (w : sides.Way) × IsWay bank.old w binary.now }
     requires source { (w : sides.Way) × IsWay bank.old w source.now }
     requires ids { ids.old.items ≡ [] }
-    ensures terms { (c : points.Convention) (o : rules.Opening) (a d : sides.Way)
-        → IsSetup bank.old c o setup.now → IsWay bank.old a binary.now → IsWay bank.old d source.now
+    ensures terms { (c : Compared) (o : rules.Opening) (a d : sides.Way)
+        → IsSetupOver bank.old c o setup.now → IsWay bank.old a binary.now
+        → IsWay bank.old d source.now
         → OnOk result (AreOfWays bank.new c o (frame_of setup.now.frame.now) rule.now a d
         ids.new.items) }
     ensures walks { IsPlanAnswer (plan_for rule.now) (walk_on binary.now) (walk_on source.now)
@@ -177,6 +179,7 @@ fn add_whole(
     ensures terms { (c : points.Convention) (o : rules.Opening) → IsSetup bank.old c o setup.now
         → OnOk result (AreObligations bank.new c o (frame_of setup.now.frame.now)
         (walking_of rule.now) ids.new.items) }
+    ensures within { OnOk result (All (λ id. id < length bank.new) ids.new.items) }
     ensures walks { (o : rules.Opening) → IsRuleAnswer o (frame_of setup.now.frame.now)
         setup.now.maximum (walking_of rule.now) result }
     ensures extends { Extends bank.old bank.new }
@@ -204,6 +207,7 @@ pub(crate) fn whole(
     ensures terms { (c : points.Convention) (o : rules.Opening) → IsSetup bank.old c o setup.now
         → IfOk result (λ ids. AreObligations bank.new c o (frame_of setup.now.frame.now)
         (walking_of rule.now) ids.items) }
+    ensures within { IfOk result (λ ids. All (λ id. id < length bank.new) ids.items) }
     ensures walks { (o : rules.Opening) → IsRuleAnswer o (frame_of setup.now.frame.now)
         setup.now.maximum (walking_of rule.now) result }
     ensures extends { Extends bank.old bank.new }

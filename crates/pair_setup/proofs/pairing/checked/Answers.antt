@@ -31,7 +31,7 @@ returns-3-clause-error c =
     if-err c.functions.result (IsFirstDepthError c.args.image.now (typed_of c.args.unit.now) (texts_of c.args.list.now))
     (IsPairError c.args.image.now (typed_of c.args.unit.now) (names_of c.args.unit.now) (texts_of c.args.list.now))
     (λ error h. depth-fault c.args.image.now (typed_of c.args.unit.now) (names_of c.args.unit.now) (texts_of c.args.list.now) c.in-Ok-attempt.ensures.passed.no_faults
-    (coded-sound c.args.image.now (texts_of c.args.list.now) c.in-Ok-attempt-firsts.field-0.items c.sound_entries.new.entries.keys c.in-Ok-attempt-firsts.ensures.coded) error h)
+    (coded-sound c.args.image.now (texts_of c.args.list.now) (texts_of c.args.list.now) c.in-Ok-attempt-firsts.field-0.items c.sound_entries.new.entries.keys c.in-Ok-attempt-firsts.ensures.coded) error h)
     c.functions.ensures.fault
 
 pub returns-3-clause-checked : goal.returns-3-clause-checked

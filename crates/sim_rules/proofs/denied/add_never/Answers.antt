@@ -1,4 +1,4 @@
-use Rattle.std.proofs.Common.{◌≡◌, List, Option, sym, subst}
+use Rattle.std.proofs.Common.{List, Option, sym, subst}
 use Rattle.visit_spec.specs.Visits.{Visit}
 use Rattle.rule_terms.specs.Seen.{IsSeen}
 use Rattle.rule_terms.specs.Which.{test_of}

@@ -1,4 +1,4 @@
-use Rattle.std.proofs.Common.{◌≡◌, ◌∙◌, List, [], ◌∷◌, ◌++◌, map, sym, ap, subst}
+use Rattle.std.proofs.Common.{◌∙◌, [], ◌∷◌, ◌++◌, map, sym, ap, subst}
 use Rattle.term_spec.specs.Term.{Term, or_term}
 use Rattle.term_spec.specs.Substitution.{substituted}
 use Rattle.term_core.specs.Trees.{term_of}
@@ -14,6 +14,6 @@ returns-2-clause-tree c = λ k o t s is h of_s.
     let b0 = c.args.bank.now in
     let b1 = c.relation.new.bank in
     let related = c.in-Ok-attempt.ensures.tree s o.source of_s is.opening_is.of_source in
-    let same = ap (λ (x : CodeTerm). term_of x) c.deref-memory.ensures ∙ sym is.convention_is.memory_is in
+    let same = ap (λ (x : CodeTerm). term_of x) c.deref-memory.ensures ∙ sym is.compared_are.memory_is in
     subst (λ (m : Term). IsAt c.either.new.bank c.either.result (or_term t (all_of (map (substituted (terms_at s o.source)) (terms_of c.args.lines.now ++ m ∷ []))))) same
     (c.either.ensures.tree t _ (kept b0 b1 c.args.denied t c.relation.ensures.extends h) related)

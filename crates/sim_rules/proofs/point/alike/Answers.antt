@@ -1,4 +1,3 @@
-use Rattle.term_spec.specs.Term.{and_term}
 use Rattle.term_bank.proofs.Substitution.{kept, extends_through}
 use Rattle.sim_rules.proofs.AtStops.{within_later}
 use Rattle.sim_rules.proofs.point.alike.Goals as goal

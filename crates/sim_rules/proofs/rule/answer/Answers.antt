@@ -1,4 +1,4 @@
-use Rattle.std.proofs.Common.{◌≡◌, ◌∙◌, sym, ap, subst}
+use Rattle.std.proofs.Common.{◌∙◌, sym, ap, subst}
 use Rattle.term_core.specs.Trees.{term_of}
 use Rattle.proof_tree.specs.Frames.{terms_of}
 use Rattle.rule_spec.specs.Obligations.{Rule}
@@ -30,4 +30,4 @@ returns-in-OfWalks-clause-answer c =
     let s = c.args.setup.now in
     let r = c.whole.result in
     subst (λ (rule : Rule). IsAnswer b now s rule r) (ap rule_by (sym c.in-OfWalks.is) ∙ c.kind_of.ensures)
-    (of_walks b now s c.in-OfWalks.walking r c.whole.ensures.terms c.whole.ensures.walks)
+    (of_walks b now s c.in-OfWalks.walking r c.whole.ensures.terms c.whole.ensures.within c.whole.ensures.walks)

@@ -3,6 +3,9 @@ use Rattle.sim_rules.proofs.rule.obligations.Goals as goal
 pub returns-clause-terms : goal.returns-clause-terms
 returns-clause-terms c = c.answer.ensures.answer.terms
 
+pub returns-clause-within : goal.returns-clause-within
+returns-clause-within c = c.answer.ensures.answer.within
+
 pub returns-clause-lines : goal.returns-clause-lines
 returns-clause-lines c = c.answer.ensures.answer.lines
 

@@ -1,4 +1,4 @@
-use Rattle.std.proofs.Common.{◌≡◌, List, map, take, subst}
+use Rattle.std.proofs.Common.{List, map, subst}
 use Rattle.std.proofs.lemmas.List.{take_all}
 use Rattle.term_bank.proofs.Substitution.{extends_through}
 use Rattle.proof_tree.specs.declared.frame.Goal.{Goal}

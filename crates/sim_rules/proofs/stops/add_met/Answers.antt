@@ -1,6 +1,6 @@
 use Rattle.std.proofs.lemmas.Result.{on_ok_weaker}
 use Rattle.proof_tree.specs.Frames.{frame_of}
-use Rattle.rule_spec.specs.Rules.{stops}
+use Rattle.sim_rules.specs.Compared.{stops}
 use Rattle.sim_rules.specs.Stops.{binary_visits, source_visits}
 use Rattle.sim_rules.proofs.AtStops.{can_meet_later, meeting_later}
 use Rattle.sim_rules.proofs.Stopping.{both_claims}

@@ -1,9 +1,9 @@
-use Rattle.std.proofs.Common.{◌≡◌, List, [], ◌∷◌, map, sym, subst}
+use Rattle.std.proofs.Common.{List, [], ◌∷◌, map, sym, subst}
 use Rattle.std.proofs.lemmas.Result.{on_ok_weaker}
 use Rattle.term_spec.specs.Term.{Term}
 use Rattle.proof_tree.specs.declared.frame.Goal.{Goal}
-use Rattle.proof_tree.specs.Frames.{frame_of, goal_of}
-use Rattle.rule_spec.specs.Rules.{Stop, goal_stops, stops}
+use Rattle.proof_tree.specs.Frames.{goal_of}
+use Rattle.rule_spec.specs.Rules.{Stop, goal_stops}
 use Rattle.rule_spec.specs.Sides.{returns}
 use Rattle.sim_rules.specs.Held.{HasAdded}
 use Rattle.sim_rules.specs.Stops.{binary_visits, shown_terms, source_visits}

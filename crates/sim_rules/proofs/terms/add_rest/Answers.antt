@@ -1,13 +1,13 @@
-use Rattle.std.proofs.Common.{◌≡◌, List, [], Option, OnOk, ◌⊎◌, sym, subst}
+use Rattle.std.proofs.Common.{List, Option, OnOk, sym, subst}
 use Rattle.visit_spec.specs.Visits.{Visit}
 use Rattle.proof_tree.specs.Frames.{frame_of, hold_of}
-use Rattle.rule_spec.specs.Rules.{Seen, stops}
 use Rattle.rule_terms.specs.Seen.{IsSeen}
 use Rattle.rule_terms.proofs.Later.{itself}
 use Rattle.sim_rules.specs.declared.plan.Walking.{Walking}
+use Rattle.sim_rules.specs.Compared.{stops}
 use Rattle.sim_rules.specs.Held.{HasAdded}
 use Rattle.sim_rules.specs.Stops.{CanMeetIf, IsMeetingIf}
-use Rattle.sim_rules.specs.Terms.{held_terms_if, rest_for, stop_terms_if}
+use Rattle.sim_rules.specs.Terms.{held_terms_if, rest_for}
 use Rattle.sim_rules.proofs.Held.{added_none}
 use Rattle.sim_rules.proofs.Resting.{met_if, unmet}
 use Rattle.sim_rules.proofs.terms.add_rest.Goals as goal
@@ -27,16 +27,16 @@ returns-in-Some-clause-added c = λ k o a d t is of_a of_d h.
     let b0 = c.args.bank.now in
     let b1 = c.add_met.new.bank in
     let f = frame_of c.args.setup.now.frame.now in
-    let meeting = subst (IsMeetingIf b0 t k a d) c.in-Some.is (c.meeting_of.ensures.is b0 t k a d is.convention_is of_a of_d h) in
+    let meeting = subst (IsMeetingIf b0 t k a d) c.in-Some.is (c.meeting_of.ensures.is b0 t k a d is.compared_are of_a of_d h) in
     subst (λ (r : Walking). OnOk c.add_met.result (HasAdded b0 b1 (rest_for t k o f r a d) c.args.ids.now.items c.add_met.new.ids.items)) (sym c.in-Leaf.is)
     (met_if t k a.way d.way a.visits d.visits (stops k f) b0 b1 c.args.ids.now.items c.add_met.new.ids.items c.add_met.result _ _ meeting.0 meeting.1
-    (c.add_met.ensures.added t k a.way d.way meeting.2 is.convention_is))
+    (c.add_met.ensures.added t k a.way d.way meeting.2 is.compared_are))
 
 pub returns-in-None-clause-added : goal.returns-in-None-clause-added
 returns-in-None-clause-added c = λ k o a d t is of_a of_d h.
     let b0 = c.args.bank.now in
     let f = frame_of c.args.setup.now.frame.now in
-    let none = subst (IsMeetingIf b0 t k a d) c.in-None.is (c.meeting_of.ensures.is b0 t k a d is.convention_is of_a of_d h) in
+    let none = subst (IsMeetingIf b0 t k a d) c.in-None.is (c.meeting_of.ensures.is b0 t k a d is.compared_are of_a of_d h) in
     subst (λ (r : Walking). HasAdded b0 b0 (rest_for t k o f r a d) c.args.ids.now.items c.args.ids.now.items) (sym c.in-Leaf.is)
     (unmet t k a.way d.way a.visits d.visits (stops k f) b0 c.args.ids.now.items none)
 

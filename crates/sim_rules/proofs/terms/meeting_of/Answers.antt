@@ -1,4 +1,4 @@
-use Rattle.std.proofs.Common.{◌≡◌, ◌∙◌, inl, inr, sym, ap, subst}
+use Rattle.std.proofs.Common.{◌∙◌, inl, inr, sym, ap, subst}
 use Rattle.term_core.specs.Trees.{term_of}
 use Rattle.term_core.specs.declared.term.Term.{Term as CodeTerm}
 use Rattle.rule_terms.specs.Seen.{IsSeen}

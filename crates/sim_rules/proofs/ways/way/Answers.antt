@@ -1,5 +1,4 @@
-use Rattle.std.proofs.Common.{◌≡◌, ◌∙◌, List, map, sym, ap, subst}
-use Rattle.proof_spec.specs.declared.Mark.{Mark}
+use Rattle.std.proofs.Common.{◌∙◌, List, map, sym, ap}
 use Rattle.proof_tree.specs.declared.frame.Goal.{Goal}
 use Rattle.proof_tree.specs.Frames.{frame_of}
 use Rattle.rule_spec.specs.Sides.{graph_at, visit_mark}

@@ -1,8 +1,0 @@
-use Rattle.std.proofs.Common.{◌≡◌}
-use Rattle.c_type_spec.specs.Types as tree
-use Rattle.c_type_layout.specs.Types.{type_of, wrapped}
-use Rattle.c_type_layout.specs.Structs.{structs_of}
-use Rattle.c_type_layout.proofs.structs.alignment.Given as goal
-
-abbrev pub invariant-loop-layers : goal.invariant-loop-layers
-invariant-loop-layers l = tree.alignment_of (structs_of l.structs) (wrapped l.layers l.of.base) ≡ tree.alignment_of (structs_of l.structs) (type_of l.of)

@@ -1,0 +1,10 @@
+pub mod Pushed
+pub mod Standing
+pub mod Leaving
+pub mod InPart
+pub mod Opened
+pub mod Picked
+pub mod Walked
+pub mod Entered
+pub mod Placed
+pub mod Names

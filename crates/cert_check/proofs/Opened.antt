@@ -1,0 +1,41 @@
+-- A part as it begins.
+use Rattle.std.proofs.Common.{◌≡◌, ◌∙◌, Vec, Global, List, [], ◌∷◌, ◌++◌, length, sym, ap, subst}
+use Rattle.std.specs.HashMap.{get}
+use Rattle.term_spec.specs.Same.{same_variable}
+use Rattle.term_spec.specs.Term.{Term}
+use Rattle.term_bank.specs.Nodes.{Extends}
+use Rattle.path_cond.specs.States.{IsMapOf}
+use Rattle.rule_terms.proofs.Later.{map_later}
+use Rattle.proof_spec.specs.Frames.{Frame}
+use Rattle.cert_spec.specs.Certificates.{TheParts, BinaryInlines}
+use Rattle.check_spec.specs.Verdict as spec
+use Rattle.cert_frames.specs.declared.jobs.Branch.{Branch}
+use Rattle.cert_frames.specs.declared.jobs.Job.TheVariants.{Prove}
+use Rattle.cert_frames.specs.declared.listed.Listed.{Listed}
+use Rattle.cert_check.specs.declared.walk.Walk.{Walk}
+use Rattle.cert_frames.specs.Listed.{frame_at, terms_given}
+use Rattle.cert_frames.specs.Jobs.{frame_with, premises_at, AreInside}
+use Rattle.cert_check.specs.Jobs.{job_of}
+use Rattle.cert_check.specs.Stands.{of_binary, no_job, a_proof}
+use Rattle.cert_check.specs.Walks.{IsOpened}
+use Rattle.cert_check.proofs.Pushed.{jobs_top, no_jobs, with_none, inside_pushed, no_inside, no_below}
+
+-- ---- a part begins
+
+-- one proof is expected, of the frame at the entry
+pub opened : (function : Listed) (old now : Walk) (first : List Term) (premises : Vec Branch Global) → now.parts ≡ old.parts → premises.items ≡ []
+    → now.jobs.items ≡ [] ++ Prove premises ∷ [] → IsMapOf first (get same_variable now.binary) (terms_given function.binary_terms.now) → Extends first now.bank
+    → IsMapOf now.bank (get same_variable now.source) (terms_given function.source_terms.now) → IsOpened function old now
+opened function old now first premises same none is known grows known_after = record {
+  parts = same;
+  kept = record {
+    opened = (map_later first now.bank grows (get same_variable now.binary) (terms_given function.binary_terms.now) known, known_after);
+    inside = subst (AreInside (length now.bank)) (sym is)
+        (inside_pushed (length now.bank) [] (Prove premises) (no_inside (length now.bank)) (no_below (length now.bank) premises.items none));
+  };
+  stands = a_proof BinaryInlines (TheParts ∷ []) [] now.jobs.items premises of_binary no_job is;
+  jobs =
+      jobs_top now.bank (frame_at function) now.jobs.items [] (Prove premises) is
+      ∙ ap (λ (jobs : List spec.Job). job_of now.bank (frame_at function) (Prove premises) ∷ jobs) (no_jobs now.bank (frame_at function))
+      ∙ ap (λ (frame : Frame). spec.Prove frame ∷ []) (ap (λ (list : List Branch). frame_with (frame_at function) (premises_at now.bank list)) none ∙ with_none now.bank (frame_at function));
+}

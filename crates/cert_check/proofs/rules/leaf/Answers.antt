@@ -1,0 +1,60 @@
+use Rattle.std.proofs.Common.{◌≡◌, ◌∙◌, ◌++◌, ℕ, List, Ok, Err, length, sym, ap, subst, arith}
+use Rattle.cert_spec.specs.Lines.{Leaf}
+use Rattle.check_spec.specs.Verdict.{Inside, Passes}
+use Rattle.path_cond.proofs.Banks.{extends_itself}
+use Rattle.cert_frames.specs.declared.jobs.Job.TheVariants.{Prove}
+use Rattle.cert_frames.specs.Listed.{frame_at}
+use Rattle.cert_frames.specs.Jobs.{AreBelow, AreInside, logs_last}
+use Rattle.cert_check.specs.Jobs.{jobs_of}
+use Rattle.cert_check.proofs.Pushed.{inside_top}
+use Rattle.cert_check.proofs.Standing.{leaf_top, leaf_stands}
+use Rattle.cert_check.proofs.InPart.{leaf_passes, leaf_fails, logs_fail, goals_for}
+use Rattle.cert_check.proofs.Leaving.{first_inside, leaf_kept}
+use Rattle.cert_check.proofs.rules.leaf.Goals as goal
+
+pub take_proof-premises-requires : goal.take_proof-premises-requires
+take_proof-premises-requires c = leaf_top c.args.logs c.args.jobs.now.items c.requires.next
+
+pub leaf_goals-requires-clause-below : goal.leaf_goals-requires-clause-below
+leaf_goals-requires-clause-below c =
+    subst (AreBelow (length c.args.bank.now)) (sym c.as_slice.ensures.value)
+    (first_inside c.args.function.now c.args.bank.now c.args.bank.now _ _ c.args.jobs.now.items c.take_proof-premises.new.jobs.items (Prove c.take_proof-premises.result) c.requires.kept
+    (extends_itself c.args.bank.now) c.take_proof-premises.ensures)
+
+-- no obligations
+pub returns-clause-step : goal.returns-clause-step
+returns-clause-step c = λ listed parts f is.
+    leaf_fails listed parts c.args.function.now f is c.args.bank.now c.leaf_goals.new.bank c.args.jobs.now.items c.take_proof-premises.new.jobs.items c.take_proof-premises.new.jobs.items
+    c.take_proof-premises.result c.args.logs c.in-Err-attempt.field-0 c.take_proof-premises.ensures
+    (goals_for f c.leaf_goals.new.bank c.args.bank.now c.as_slice.result.now c.take_proof-premises.result.items (Err c.in-Err-attempt.field-0) c.as_slice.ensures.value (c.in-Err-attempt.ensures.goals f is))
+
+-- another number
+pub returns-then-len-logs-clause-step : goal.returns-then-len-logs-clause-step
+returns-then-len-logs-clause-step c = λ listed parts f is.
+    logs_fail listed parts c.args.function.now f is c.args.bank.now c.leaf_goals.new.bank c.args.jobs.now.items c.take_proof-premises.new.jobs.items c.take_proof-premises.result c.args.logs
+    c.in-Ok-attempt.field-0 c.take_proof-premises.ensures
+    (goals_for f c.leaf_goals.new.bank c.args.bank.now c.as_slice.result.now c.take_proof-premises.result.items (Ok c.in-Ok-attempt.field-0) c.as_slice.ensures.value (c.in-Ok-attempt.ensures.goals f is))
+    (λ same. c.if-len-logs.true (omega (arith, same, c.in-Ok-attempt.field-0.ok.0)))
+
+pub returns-3-clause-step : goal.returns-3-clause-step
+returns-3-clause-step c = λ listed parts f is.
+    let inside = inside_top (length c.args.bank.now) c.take_proof-premises.new.jobs.items _ (subst (AreInside (length c.args.bank.now)) c.take_proof-premises.ensures c.requires.kept.inside) in
+    let count : length c.in-Ok-attempt.field-0.items ≡ c.args.logs = omega (arith, c.in-Ok-attempt.field-0.ok.0, c.if-len-logs.false) in
+    subst (λ (n : ℕ). Passes listed (Inside parts f (jobs_of c.args.bank.now (frame_at c.args.function.now) c.args.jobs.now.items)) (Leaf n)
+    (Inside parts f (jobs_of c.leaf_goals.new.bank (frame_at c.args.function.now) c.push_goals.new.jobs.items))) count
+    (leaf_passes listed parts c.args.function.now f is c.args.bank.now c.leaf_goals.new.bank c.args.jobs.now.items c.take_proof-premises.new.jobs.items c.push_goals.new.jobs.items
+    c.take_proof-premises.result c.in-Ok-attempt.field-0 c.leaf_goals.ensures.extends c.take_proof-premises.ensures inside.0
+    (c.in-Ok-attempt-2.ensures ∙ ap (λ (l : List ℕ). c.take_proof-premises.new.jobs.items ++ logs_last l) c.as_slice-2.ensures.value)
+    (goals_for f c.leaf_goals.new.bank c.args.bank.now c.as_slice.result.now c.take_proof-premises.result.items (Ok c.in-Ok-attempt.field-0) c.as_slice.ensures.value (c.in-Ok-attempt.ensures.goals f is)))
+
+pub returns-3-clause-kept : goal.returns-3-clause-kept
+returns-3-clause-kept c =
+    leaf_kept c.args.function.now c.args.bank.now c.leaf_goals.new.bank _ _ c.args.jobs.now.items c.take_proof-premises.new.jobs.items (Prove c.take_proof-premises.result) c.requires.kept
+    c.leaf_goals.ensures.extends c.take_proof-premises.ensures c.push_goals.new.jobs.items c.in-Ok-attempt.field-0.items c.in-Ok-attempt.ensures.within
+    (c.in-Ok-attempt-2.ensures ∙ ap (λ (l : List ℕ). c.take_proof-premises.new.jobs.items ++ logs_last l) c.as_slice-2.ensures.value)
+
+pub returns-3-clause-stands : goal.returns-3-clause-stands
+returns-3-clause-stands c =
+    leaf_stands c.args.logs c.args.jobs.now.items c.take_proof-premises.new.jobs.items c.push_goals.new.jobs.items c.take_proof-premises.result c.in-Ok-attempt.field-0.items
+    c.take_proof-premises.ensures (omega (arith, c.in-Ok-attempt.field-0.ok.0, c.if-len-logs.false))
+    (c.in-Ok-attempt-2.ensures ∙ ap (λ (l : List ℕ). c.take_proof-premises.new.jobs.items ++ logs_last l) c.as_slice-2.ensures.value)

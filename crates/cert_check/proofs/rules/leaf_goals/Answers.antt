@@ -1,0 +1,23 @@
+use Rattle.std.proofs.Common.{◌≡◌, ◌∙◌, map, ap, subst}
+use Rattle.graph_core.specs.Graphs.{boxed_term}
+use Rattle.proof_spec.specs.Frames.{Frame}
+use Rattle.cert_frames.specs.Jobs.{tests_at}
+use Rattle.cert_check.specs.Steps.{AreGoalsOf}
+use Rattle.cert_check.proofs.Leaving.{opened_setup, opened_in, frame_there}
+use Rattle.cert_frames.proofs.Made.{same_count}
+use Rattle.cert_check.proofs.rules.leaf_goals.Goals as goal
+
+pub frame-requires : goal.frame-requires
+frame-requires c =
+    let are : map boxed_term c.as_slice.result.now ≡ tests_at c.args.bank.now c.args.premises.now = ap (map boxed_term) c.as_slice.ensures.value ∙ c.in-Ok-attempt.ensures in
+    same_count c.args.bank.now c.args.premises.now c.as_slice.result.now are
+
+pub frame_goals-requires : goal.frame_goals-requires
+frame_goals-requires c = opened_in c.args.function.now c.args.bank.now c.args.opening c.requires.opened
+
+pub returns-3-clause-goals : goal.returns-3-clause-goals
+returns-3-clause-goals c = λ f is.
+    let are : map boxed_term c.as_slice.result.now ≡ tests_at c.args.bank.now c.args.premises.now = ap (map boxed_term) c.as_slice.ensures.value ∙ c.in-Ok-attempt.ensures in
+    let same = frame_there c.args.function.now f is c.args.bank.now c.args.premises.now c.as_slice.result.now are c.in-Ok-attempt-frame.field-0 c.in-Ok-attempt-frame.ensures in
+    subst (λ (frame : Frame). AreGoalsOf f.convention f.opening frame c.frame_goals.new.bank c.frame_goals.result) same
+    (c.frame_goals.ensures.goals f.convention f.opening is.convention_is (opened_setup c.args.function.now f is c.args.bank.now c.args.opening c.requires.opened))

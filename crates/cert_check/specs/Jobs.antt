@@ -1,0 +1,21 @@
+-- What is expected inside a part, of the program as the definitions have it.
+use Rattle.cert_frames.specs.Jobs.{premises_at, frame_with}
+use Rattle.std.specs.Prelude.{List, [], ◌∷◌}
+use Rattle.term_spec.specs.Term.{Term}
+use Rattle.term_bank.specs.Nodes.{tree_at}
+use Rattle.proof_spec.specs.Frames.{Frame}
+use Rattle.check_spec.specs.Verdict as spec
+use Rattle.cert_frames.specs.declared.jobs.Job.{Job}
+use Rattle.cert_frames.specs.declared.jobs.Job.TheVariants.{Prove, Close}
+
+abbrev pub job_of : (trees : List Term) → Frame → Job → spec.Job
+job_of trees f (Prove premises) = spec.Prove (frame_with f (premises_at trees premises.items))
+job_of trees f (Close goal) = spec.Close (tree_at trees goal)
+
+-- jobs, before those below
+unfoldable pub stacked : (trees : List Term) → Frame → (below : List spec.Job) → List Job → List spec.Job
+stacked trees f below [] = below
+stacked trees f below (job ∷ jobs) = stacked trees f (job_of trees f job ∷ below) jobs
+
+abbrev pub jobs_of : (trees : List Term) → Frame → List Job → List spec.Job
+jobs_of trees f jobs = stacked trees f [] jobs

@@ -1,0 +1,5 @@
+pub mod Jobs
+pub mod Stands
+pub mod Steps
+pub mod Walks
+pub mod Outcomes

@@ -1,0 +1,69 @@
+-- What the check of a certificate answers.
+use Rattle.std.specs.Prelude.{◌≡◌, ℕ, ◌<◌, List, length, take, Option, Some, None, option_map, option_and_then, slice_get, Result, Ok, Err}
+use Rattle.std.specs.Borrow.{Bor}
+use Rattle.cert_lines.specs.declared.lines.Line.{Line}
+use Rattle.cert_lines.specs.declared.lines.Line.TheVariants as code
+use Rattle.cert_text.specs.declared.certificates.Cert.{Cert}
+use Rattle.cert_text.specs.Certificates.{certificate_of, text_of}
+use Rattle.check_spec.specs.Verdict as spec
+use Rattle.check_spec.specs.Verdict.{IsProof, IsFault}
+use Rattle.cert_check.specs.declared.fault.Named.{Named}
+use Rattle.cert_check.specs.declared.fault.Named.TheVariants as named
+use Rattle.cert_check.specs.declared.fault.Fault.{Fault}
+use Rattle.cert_check.specs.declared.fault.Fault.TheVariants as fault
+use Rattle.cert_check.specs.declared.fault.CheckFault.{CheckFault}
+use Rattle.cert_check.specs.declared.fault.CheckFault.TheVariants.{NotProof, Limit, NoMemory}
+use Rattle.cert_frames.specs.declared.listed.Listed.{Listed}
+use Rattle.cert_frames.specs.Listed.{AreListed}
+
+-- ---- names
+
+abbrev pub part_name : Line → Option (List ℕ)
+part_name (code.Function part) = Some part.value.name.items
+part_name line = None
+
+-- the name of the function that is named
+abbrev pub name_in : List Listed → List Line → Named → Option (List ℕ)
+name_in codes lines (named.Listed k) = option_map (λ (f : Listed). f.name.now) (slice_get codes k)
+name_in codes lines (named.Line n) = option_and_then part_name (slice_get lines n)
+
+-- this name, if there is one
+abbrev pub HasName : Option (List ℕ) → Option (Bor (List ℕ)) → Type 0
+HasName name found = option_map (λ (n : Bor (List ℕ)). n.now) found ≡ name
+
+-- ---- the whole
+
+-- where the line of an index begins
+abbrev pub offset_of : Cert → (line : ℕ) → ℕ
+offset_of cert line = length (text_of (take line (certificate_of cert)))
+
+-- the line of an index is the first that breaks a rule or a limit: this
+abbrev pub IsFaultAt : List Listed → Cert → (listed : List spec.Listed) → (line : ℕ) → Fault → Type 0
+IsFaultAt codes cert listed line (fault.Broken function rule) =
+    (name : List ℕ) × (name_in codes cert.lines.items function ≡ Some name)
+    × IsFault listed (certificate_of cert) (offset_of cert line) (spec.NotProof name rule)
+IsFaultAt codes cert listed line (fault.Above quantity) = IsFault listed (certificate_of cert) (offset_of cert line) (spec.Limit quantity)
+IsFaultAt codes cert listed line fault.NoMemory = Unit {0}
+
+abbrev pub IsChecked : List Listed → Cert → Result (Unit {0}) (ℕ × Fault) → Type 0
+IsChecked codes cert (Ok done) = (listed : List spec.Listed) → AreListed codes listed → IsProof listed (certificate_of cert)
+IsChecked codes cert (Err first) =
+    (first.0 < length cert.lines.items) × ((listed : List spec.Listed) → AreListed codes listed → IsFaultAt codes cert listed first.0 first.1)
+
+-- a fault with the offset of its line; out of memory may come there too
+abbrev pub IsPlaced : Cert → (line : ℕ) → Fault → CheckFault → Type 0
+IsPlaced cert line f (NotProof function offset rule) = (f ≡ fault.Broken function rule) × (offset ≡ offset_of cert line)
+IsPlaced cert line f (Limit quantity) = f ≡ fault.Above quantity
+IsPlaced cert line f NoMemory = Unit {0}
+
+-- No line breaks a rule or a limit; or the first that does is at this offset, and this is what it breaks. Out of memory may
+-- come at any time
+abbrev pub IsVerdictOf : List Listed → Cert → (listed : List spec.Listed) → Result (Unit {0}) CheckFault → Type 0
+IsVerdictOf codes cert listed (Ok done) = IsProof listed (certificate_of cert)
+IsVerdictOf codes cert listed (Err (NotProof function offset rule)) =
+    (name : List ℕ) × (name_in codes cert.lines.items function ≡ Some name) × IsFault listed (certificate_of cert) offset (spec.NotProof name rule)
+IsVerdictOf codes cert listed (Err (Limit quantity)) = (offset : ℕ) × IsFault listed (certificate_of cert) offset (spec.Limit quantity)
+IsVerdictOf codes cert listed (Err NoMemory) = Unit {0}
+
+abbrev pub IsVerdict : List Listed → Cert → Result (Unit {0}) CheckFault → Type 0
+IsVerdict codes cert result = (listed : List spec.Listed) → AreListed codes listed → IsVerdictOf codes cert listed result

@@ -1,0 +1,42 @@
+-- What the grammar of certificates expects where these are the jobs of a part.
+use Rattle.std.specs.Prelude.{◌≡◌, ℕ, Bool, true, false, Vec, List, [], ◌∷◌, ◌++◌}
+use Rattle.std.specs.Global.{Global}
+use Rattle.cert_spec.specs.Lines.{Line, InlineBinary, InlineSource, RestrictBinary, RestrictSource, Split, Call}
+use Rattle.cert_spec.specs.Certificates.{Expected, TheParts, BinaryInlines, SourceInlines, AProof, ALog, after, can_stand}
+use Rattle.cert_frames.specs.declared.jobs.Branch.{Branch}
+use Rattle.cert_frames.specs.declared.jobs.Job.{Job}
+use Rattle.cert_frames.specs.declared.jobs.Job.TheVariants.{Prove, Close}
+
+-- a proof is expected, perhaps after calls that are inlined
+pub data IsOfProof : Expected → Type 0 where
+  of_binary : IsOfProof BinaryInlines
+  of_source : IsOfProof SourceInlines
+  of_proof : (room : ℕ) → IsOfProof (AProof room)
+
+-- the first job is the last of the list; after all of them, the next part
+pub data AreOf : List Expected → List Job → Type 0 where
+  no_job : AreOf (TheParts ∷ []) []
+  a_proof : (e : Expected) (others : List Expected) (below all : List Job) (premises : Vec Branch Global) → IsOfProof e → AreOf others below
+      → all ≡ below ++ Prove premises ∷ [] → AreOf (e ∷ others) all
+  a_log : (others : List Expected) (below all : List Job) (goal : ℕ) → AreOf others below → all ≡ below ++ Close goal ∷ [] → AreOf (ALog ∷ others) all
+
+-- a line can be the next
+pub record IsNext (jobs : List Job) (line : Line) : Type 0 where
+  pub expected : Expected
+  pub others : List Expected
+  pub are : AreOf (expected ∷ others) jobs
+  pub stands : can_stand expected line ≡ true
+
+-- after the line these are the jobs
+abbrev pub StandsAfter : (before : List Job) → Line → (now : List Job) → Type 0
+StandsAfter before line now = (e : Expected) (others : List Expected) → AreOf (e ∷ others) before → can_stand e line ≡ true → AreOf (after e line ++ others) now
+
+-- the line is of a rule that isn't checked yet, or inlines a call
+abbrev pub is_unchecked : Line → Bool
+is_unchecked (InlineBinary p) = true
+is_unchecked (InlineSource p) = true
+is_unchecked (RestrictBinary p count) = true
+is_unchecked (RestrictSource p count) = true
+is_unchecked (Split p enter step relations) = true
+is_unchecked (Call p counts before after) = true
+is_unchecked line = false

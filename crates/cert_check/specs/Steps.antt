@@ -1,0 +1,126 @@
+-- What a line does inside the part of a function.
+use Rattle.std.specs.Prelude.{◌≡◌, ℕ, ◌<◌, Vec, List, [], length, Option, Result, Ok, Err}
+use Rattle.std.specs.Global.{Global}
+use Rattle.std.specs.HashMap.{get}
+use Rattle.memory_spec.specs.Runs.{Run}
+use Rattle.term_spec.specs.declared.Variable.{Variable}
+use Rattle.term_spec.specs.Same.{same_variable}
+use Rattle.term_spec.specs.Term.{Term}
+use Rattle.path_cond.specs.States.{IsMapOf}
+use Rattle.rule_spec.specs.Points.{Convention}
+use Rattle.rule_spec.specs.Rules as rules
+use Rattle.rule_terms.specs.declared.points.Opening.{Opening}
+use Rattle.proof_spec.specs.Frames.{Frame}
+use Rattle.rule_spec.specs.Obligations as rule
+use Rattle.rule_spec.specs.Obligations.{IsCyclicRule, IsLargeRule}
+use Rattle.sim_rules.specs.Outcome.{AreObligations, HasFewVisits}
+use Rattle.sim_rules.specs.declared.fault.RuleFault.{RuleFault as RuleError}
+use Rattle.sim_rules.specs.declared.fault.RuleFault.TheVariants as obligation
+use Rattle.cert_spec.specs.declared.Symbol.{Symbol}
+use Rattle.cert_spec.specs.Lines.{Line}
+use Rattle.closing_spec.specs.Closing.{Closes, IsLarge, Unclosed, closing}
+use Rattle.closing_spec.specs.declared.GoalQuantity.TheVariants as above
+use Rattle.discharge.specs.declared.error.CloseError.{CloseError}
+use Rattle.discharge.specs.declared.error.CloseError.TheVariants as close
+use Rattle.tv_base.specs.declared.limits.TheConstants.{MAX_VISITS}
+use Rattle.check_spec.specs.declared.RuleFault.TheVariants as fault
+use Rattle.check_spec.specs.declared.Quantity.TheVariants as quantity
+use Rattle.check_spec.specs.Verdict as spec
+use Rattle.check_spec.specs.Verdict.{Inside, Passes, Fails, NotProof, Limit, IsTest}
+use Rattle.cert_check.specs.declared.fault.PartFault.{PartFault}
+use Rattle.cert_check.specs.declared.fault.PartFault.TheVariants.{Broken, Above, NoMemory}
+use Rattle.cert_frames.specs.declared.jobs.Job.{Job}
+use Rattle.cert_frames.specs.declared.listed.Listed.{Listed}
+use Rattle.cert_frames.specs.Listed.{IsListed, frame_at, terms_given}
+use Rattle.cert_frames.specs.Jobs.{AreInside, frame_with}
+use Rattle.cert_check.specs.Jobs.{jobs_of}
+use Rattle.term_bank.specs.Nodes.{tree_at}
+
+-- ---- the bank of a part
+
+-- the maps have the terms of the function's entry
+abbrev pub AreOpenedBy : Listed → (trees : List Term) → (binary source : Variable → Option ℕ) → Type 0
+AreOpenedBy f trees binary source = IsMapOf trees binary (terms_given f.binary_terms.now) × IsMapOf trees source (terms_given f.source_terms.now)
+
+abbrev pub AreOpened : Listed → (trees : List Term) → Opening → Type 0
+AreOpened f trees o = AreOpenedBy f trees (get same_variable o.binary.now) (get same_variable o.source.now)
+
+-- and the jobs' ids are of its bank
+pub record IsKeptBy (f : Listed) (trees : List Term) (binary source : Variable → Option ℕ) (jobs : List Job) : Type 0 where
+  pub opened : AreOpenedBy f trees binary source
+  pub inside : AreInside (length trees) jobs
+
+abbrev pub IsKept : Listed → (trees : List Term) → Opening → List Job → Type 0
+IsKept f trees o jobs = IsKeptBy f trees (get same_variable o.binary.now) (get same_variable o.source.now) jobs
+
+-- ---- a line
+
+-- the line breaks no rule, and leaves these jobs; or this is what it breaks
+abbrev pub Comes : (listed parts : List spec.Listed) → (f : spec.Listed) → (before after : List spec.Job) → Line → Result (Unit {0}) PartFault → Type 0
+Comes listed parts f before after line (Ok done) = Passes listed (Inside parts f before) line (Inside parts f after)
+Comes listed parts f before after line (Err (Broken broken)) = Fails listed (Inside parts f before) line (NotProof f.name broken)
+Comes listed parts f before after line (Err (Above q)) = Fails listed (Inside parts f before) line (Limit q)
+Comes listed parts f before after line (Err NoMemory) = Unit {0}
+
+abbrev pub IsStep : Listed → (old new : List Term) → (before after : List Job) → Line → Result (Unit {0}) PartFault → Type 0
+IsStep code old new before after line result =
+    (listed parts : List spec.Listed) (f : spec.Listed) → IsListed code f
+    → Comes listed parts f (jobs_of old (frame_at code) before) (jobs_of new (frame_at code) after) line result
+
+-- ---- its parts
+
+-- both walks of a Leaf end, with not too many visits, and the ids are those of its obligations
+pub record HasLeaf (c : Convention) (o : rules.Opening) (frame : Frame) (trees : List Term) (goals : List ℕ) : Type 0 where
+  pub acyclic : (node : ℕ) → IsCyclicRule o frame rule.Leaf node → ⊥
+  pub small : HasFewVisits o frame MAX_VISITS rule.Leaf
+  pub are : AreObligations trees c o frame rule.Leaf goals
+
+-- the obligations of a Leaf at a frame, or why it has none
+abbrev pub AreGoalsOf : Convention → rules.Opening → Frame → List Term → Result (Vec ℕ Global) PartFault → Type 0
+AreGoalsOf c o frame trees (Ok goals) = HasLeaf c o frame trees goals.items
+AreGoalsOf c o frame trees (Err (Broken fault.Cyclic)) = (node : ℕ) × IsCyclicRule o frame rule.Leaf node
+AreGoalsOf c o frame trees (Err (Broken other)) = ⊥
+AreGoalsOf c o frame trees (Err (Above quantity.Visits)) = (count : ℕ) × IsLargeRule o frame MAX_VISITS rule.Leaf count
+AreGoalsOf c o frame trees (Err (Above other)) = ⊥
+AreGoalsOf c o frame trees (Err NoMemory) = Unit {0}
+
+-- where the frame at the entry has these further premises
+abbrev pub AreGoals : spec.Listed → List Term → (premises : List Term) → Result (Vec ℕ Global) PartFault → Type 0
+AreGoals f trees premises result = AreGoalsOf f.convention f.opening (frame_with f.frame premises) trees result
+
+abbrev pub HasGoals : Listed → List Term → (premises : List Term) → Result (Vec ℕ Global) PartFault → Type 0
+HasGoals code trees premises result = (f : spec.Listed) → IsListed code f → AreGoals f trees premises result
+
+abbrev pub goal_fault_of : RuleError → PartFault
+goal_fault_of (obligation.Sort index) = Broken fault.Sort
+goal_fault_of (obligation.Cyclic node) = Broken fault.Cyclic
+goal_fault_of (obligation.Large count) = Above quantity.Visits
+goal_fault_of obligation.NoMemory = NoMemory
+
+-- the id of the test that the symbols spell, or there is none
+abbrev pub IsTestAt : spec.Listed → List Symbol → List Term → Result ℕ PartFault → Type 0
+IsTestAt f symbols trees (Ok id) = (id < length trees) × IsTest f.frame symbols (tree_at trees id)
+IsTestAt f symbols trees (Err (Broken fault.Sort)) = (test : Term) → IsTest f.frame symbols test → ⊥
+IsTestAt f symbols trees (Err (Broken other)) = ⊥
+IsTestAt f symbols trees (Err (Above q)) = ⊥
+IsTestAt f symbols trees (Err NoMemory) = Unit {0}
+
+abbrev pub IsTested : Listed → List Symbol → List Term → Result ℕ PartFault → Type 0
+IsTested code symbols trees result = (f : spec.Listed) → IsListed code f → IsTestAt f symbols trees result
+
+-- what the log without steps comes to
+abbrev pub IsClosed : List Run → Term → Result (Unit {0}) PartFault → Type 0
+IsClosed runs goal (Ok done) = closing runs goal [] ≡ Closes
+IsClosed runs goal (Err (Broken fault.Unclosed)) = closing runs goal [] ≡ Unclosed
+IsClosed runs goal (Err (Broken other)) = ⊥
+IsClosed runs goal (Err (Above quantity.Terms)) = closing runs goal [] ≡ IsLarge above.Terms
+IsClosed runs goal (Err (Above quantity.Variables)) = closing runs goal [] ≡ IsLarge above.Variables
+IsClosed runs goal (Err (Above quantity.Visits)) = ⊥
+IsClosed runs goal (Err NoMemory) = Unit {0}
+
+abbrev pub log_fault_of : CloseError → PartFault
+log_fault_of (close.Large above.Terms count) = Above quantity.Terms
+log_fault_of (close.Large above.Variables count) = Above quantity.Variables
+log_fault_of (close.Step number) = Broken fault.Unclosed
+log_fault_of close.Unclosed = Broken fault.Unclosed
+log_fault_of close.NoMemory = NoMemory

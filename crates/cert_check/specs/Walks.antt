@@ -1,0 +1,156 @@
+-- What a line does to a walk along the lines of a certificate.
+use Rattle.std.specs.Prelude.{◌≡◌, ◌⊎◌, ℕ, ◌<◌, Bool, true, false, List, [], ◌∷◌, ◌++◌, length, Some, None, slice_get, Result, Ok, Err, OnOk}
+use Rattle.std.specs.HashMap.{get}
+use Rattle.term_spec.specs.Same.{same_variable}
+use Rattle.cert_lines.specs.declared.lines.Line.{Line as CodeLine}
+use Rattle.cert_lines.specs.declared.lines.Line.TheVariants as code
+use Rattle.cert_spec.specs.Lines.{Line, Function, End}
+use Rattle.cert_spec.specs.Certificates.{Expected, AHeader, TheParts, BinaryInlines, after, can_stand}
+use Rattle.check_spec.specs.Verdict as spec
+use Rattle.check_spec.specs.Verdict.{State, Between, Inside, Passes, Fails, NotProof, Limit}
+use Rattle.check_spec.specs.declared.RuleFault.TheVariants as fault
+use Rattle.cert_check.specs.declared.fault.Named.{Named}
+use Rattle.cert_check.specs.declared.fault.Named.TheVariants as named
+use Rattle.cert_check.specs.declared.fault.Fault.{Fault}
+use Rattle.cert_check.specs.declared.fault.Fault.TheVariants.{Broken, Above, NoMemory}
+use Rattle.cert_check.specs.declared.fault.PartFault.{PartFault}
+use Rattle.cert_check.specs.declared.fault.PartFault.TheVariants as part
+use Rattle.cert_frames.specs.declared.listed.Listed.{Listed}
+use Rattle.cert_check.specs.declared.walk.Walk.{Walk}
+use Rattle.cert_frames.specs.Listed.{AreListed, IsListed, frame_at}
+use Rattle.cert_check.specs.Jobs.{jobs_of}
+use Rattle.cert_check.specs.Stands.{AreOf, IsNext, StandsAfter}
+use Rattle.cert_check.specs.Steps.{IsKeptBy}
+use Rattle.cert_frames.specs.Parts.{AreIndices, IsNamed, IsMissingAt}
+
+-- ---- where a walk is
+
+-- the listed functions of these indices
+pub data ArePicked (listed : List spec.Listed) : List ℕ → List spec.Listed → Type 0 where
+  no_pick : ArePicked listed [] []
+  one_pick : (k : ℕ) (f : spec.Listed) (others : List ℕ) (rest : List spec.Listed) → slice_get listed k ≡ Some f → ArePicked listed others rest
+      → ArePicked listed (k ∷ others) (f ∷ rest)
+
+-- the state of the definition, but after the last line
+pub data IsState (codes : List Listed) (listed : List spec.Listed) (walk : Walk) : State → Type 0 where
+  between : walk.parts.items ≡ [] → IsState codes listed walk (Between [])
+  inside : (before : List ℕ) (k : ℕ) (function : Listed) (f : spec.Listed) (parts : List spec.Listed) → walk.parts.items ≡ before ++ k ∷ []
+      → slice_get codes k ≡ Some function → slice_get listed k ≡ Some f → ArePicked listed before parts
+      → IsState codes listed walk (Inside parts f (jobs_of walk.bank (frame_at function) walk.jobs.items))
+
+-- what the grammar expects there
+pub data Standing (walk : Walk) : List Expected → Type 0 where
+  at_header : walk.parts.items ≡ [] → Standing walk (AHeader ∷ [])
+  at_first : walk.parts.items ≡ [] → Standing walk (TheParts ∷ [])
+  in_part : (expected : List Expected) → 0 < length walk.parts.items → AreOf expected walk.jobs.items → Standing walk expected
+  at_end : Standing walk []
+
+-- a part of the function is kept in its bank
+abbrev pub Keeps : Listed → Walk → Type 0
+Keeps function walk = IsKeptBy function walk.bank (get same_variable walk.binary) (get same_variable walk.source) walk.jobs.items
+
+-- parts are of listed functions, and the last is kept
+pub record IsSound (codes : List Listed) (walk : Walk) : Type 0 where
+  pub indices : AreIndices (length codes) walk.parts.items
+  pub kept : (before : List ℕ) (k : ℕ) (function : Listed) → walk.parts.items ≡ before ++ k ∷ [] → slice_get codes k ≡ Some function → Keeps function walk
+
+-- the line can be the next
+pub record IsWalk (codes : List Listed) (walk : Walk) (line : Line) : Type 0 where
+  pub sound : IsSound codes walk
+  pub expected : Expected
+  pub others : List Expected
+  pub standing : Standing walk (expected ∷ others)
+  pub stands : can_stand expected line ≡ true
+
+-- ---- faults
+
+-- the function of this name is named, at the line of an index
+abbrev pub IsFaultName : List Listed → Line → (index : ℕ) → Named → (name : List ℕ) → Type 0
+IsFaultName codes line index (named.Listed k) name = IsNamed codes k name
+IsFaultName codes line index (named.Line n) name = (n ≡ index) × (stack : ℕ) × (line ≡ Function name stack)
+
+abbrev pub named_fault : (index : ℕ) → PartFault → Fault
+named_fault index (part.Broken rule) = Broken (named.Listed index) rule
+named_fault index (part.Above q) = Above q
+named_fault index part.NoMemory = NoMemory
+
+-- ---- a line
+
+-- the line of an index breaks no rule and leaves the walk there, unless it is the last; or this is what it breaks
+abbrev pub StepsTo : List Listed → (listed : List spec.Listed) → (now : Walk) → State → Line → (index : ℕ) → Result (Unit {0}) Fault → Type 0
+StepsTo codes listed now s line index (Ok done) = (next : State) × Passes listed s line next × ((line ≡ End) ⊎ IsState codes listed now next)
+StepsTo codes listed now s line index (Err (Broken function rule)) = (name : List ℕ) × IsFaultName codes line index function name × Fails listed s line (NotProof name rule)
+StepsTo codes listed now s line index (Err (Above q)) = Fails listed s line (Limit q)
+StepsTo codes listed now s line index (Err NoMemory) = Unit {0}
+
+abbrev pub WalkStands : (old now : Walk) → Line → Type 0
+WalkStands old now line = (e : Expected) (others : List Expected) → Standing old (e ∷ others) → can_stand e line ≡ true → Standing now (after e line ++ others)
+
+pub record Goes (codes : List Listed) (old now : Walk) (line : Line) (index : ℕ) (result : Result (Unit {0}) Fault) : Type 0 where
+  pub sound : OnOk result (IsSound codes now)
+  pub stands : OnOk result (WalkStands old now line)
+  pub step : (listed : List spec.Listed) → AreListed codes listed → (s : State) → IsState codes listed old s → StepsTo codes listed now s line index result
+
+-- ---- inside a part
+
+-- a line that is neither the version, nor begins a part, nor is the last
+abbrev pub is_inside : CodeLine → Bool
+is_inside code.Header = false
+is_inside (code.Function f) = false
+is_inside code.End = false
+is_inside line = true
+
+abbrev pub IsInside : CodeLine → Type 0
+IsInside line = is_inside line ≡ true
+
+-- the part of the function of this index is kept, and the line can be the next
+pub record StandsAt (codes : List Listed) (walk : Walk) (index : ℕ) (line : Line) : Type 0 where
+  pub kept : (function : Listed) → slice_get codes index ≡ Some function → Keeps function walk
+  pub next : IsNext walk.jobs.items line
+
+-- in the part of the function of an index
+abbrev pub ComesAt : (listed parts : List spec.Listed) → (f : spec.Listed) → (before after : List spec.Job) → Line → (index : ℕ) → Result (Unit {0}) Fault → Type 0
+ComesAt listed parts f before after line index (Ok done) = Passes listed (Inside parts f before) line (Inside parts f after)
+ComesAt listed parts f before after line index (Err (Broken (named.Listed k) rule)) = (k ≡ index) × Fails listed (Inside parts f before) line (NotProof f.name rule)
+ComesAt listed parts f before after line index (Err (Broken (named.Line n) rule)) = ⊥
+ComesAt listed parts f before after line index (Err (Above q)) = Fails listed (Inside parts f before) line (Limit q)
+ComesAt listed parts f before after line index (Err NoMemory) = Unit {0}
+
+pub record IsInPart (function : Listed) (old now : Walk) (line : Line) (index : ℕ) (result : Result (Unit {0}) Fault) : Type 0 where
+  pub step : (listed parts : List spec.Listed) (f : spec.Listed) → IsListed function f
+      → ComesAt listed parts f (jobs_of old.bank (frame_at function) old.jobs.items) (jobs_of now.bank (frame_at function) now.jobs.items) line index result
+  pub kept : OnOk result (Keeps function now)
+  pub stands : OnOk result (StandsAfter old.jobs.items line now.jobs.items)
+  pub parts : now.parts ≡ old.parts
+
+abbrev pub GoesInside : List Listed → (old now : Walk) → (index : ℕ) → Line → Result (Unit {0}) Fault → Type 0
+GoesInside codes old now index line result = (function : Listed) → slice_get codes index ≡ Some function → IsInPart function old now line index result
+
+-- ---- parts
+
+-- a proof of the function's frame is expected, and nothing else; the parts are not changed
+pub record IsOpened (function : Listed) (old now : Walk) : Type 0 where
+  pub parts : now.parts ≡ old.parts
+  pub kept : Keeps function now
+  pub stands : AreOf (BinaryInlines ∷ TheParts ∷ []) now.jobs.items
+  pub jobs : jobs_of now.bank (frame_at function) now.jobs.items ≡ spec.Prove (frame_at function) ∷ []
+
+-- the part of the function of this index has begun, or its stack is another
+abbrev pub BeginsAt : Listed → (old now : Walk) → (index stack : ℕ) → Result (Unit {0}) Fault → Type 0
+BeginsAt function old now index stack (Ok done) =
+    (opened : Walk) × IsOpened function old opened × (function.stack ≡ stack) × (now.parts.items ≡ old.parts.items ++ index ∷ []) × (now ≡ record opened { parts = now.parts })
+BeginsAt function old now index stack (Err (Broken (named.Listed k) fault.Stack)) = (k ≡ index) × (function.stack ≡ stack → ⊥)
+BeginsAt function old now index stack (Err (Broken other rule)) = ⊥
+BeginsAt function old now index stack (Err (Above q)) = ⊥
+BeginsAt function old now index stack (Err NoMemory) = Unit {0}
+
+abbrev pub Begins : List Listed → (old now : Walk) → (index stack : ℕ) → Result (Unit {0}) Fault → Type 0
+Begins codes old now index stack result = (function : Listed) → slice_get codes index ≡ Some function → BeginsAt function old now index stack result
+
+-- each listed function has a part, or the first that has none is named
+abbrev pub Ends : List Listed → (parts : List ℕ) → Result (Unit {0}) Fault → Type 0
+Ends codes parts (Ok done) = IsMissingAt codes parts None
+Ends codes parts (Err (Broken (named.Listed k) fault.Missing)) = IsMissingAt codes parts (Some k)
+Ends codes parts (Err (Broken other rule)) = ⊥
+Ends codes parts (Err (Above q)) = ⊥
+Ends codes parts (Err NoMemory) = ⊥

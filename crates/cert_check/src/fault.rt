@@ -1,0 +1,87 @@
+//! What is wrong with a certificate.
+
+ghost use Rattle.cert_check.specs.Outcomes as outcomes;
+ghost use Rattle.cert_check.specs.Outcomes.{HasName, name_in};
+
+use cert_frames::Listed;
+use cert_lines::Line;
+use cert_text::Cert;
+use check_spec::{Quantity, RuleFault};
+
+/// The function that a fault names.
+#[derive(Clone, Copy)]
+pub enum Named {
+    /// the listed one of this index
+    Listed(usize),
+    /// the one on the certificate's line of this index
+    Line(usize),
+}
+
+/// Why a certificate is no proof.
+#[derive(Clone, Copy)]
+pub enum CheckFault {
+    /// A line breaks a rule.
+    NotProof {
+        /// the function in whose part it is
+        function: Named,
+        /// where the line begins in the text, in bytes
+        offset: usize,
+        /// the rule
+        rule: RuleFault,
+    },
+    /// A quantity is above its maximum.
+    Limit {
+        /// the quantity
+        quantity: Quantity,
+    },
+    /// Out of memory.
+    NoMemory,
+}
+
+/// What is wrong at a line.
+#[derive(Clone, Copy)]
+pub(crate) enum Fault {
+    /// It breaks a rule in the part of a function.
+    Broken(Named, RuleFault),
+    /// A quantity is above its maximum.
+    Above(Quantity),
+    /// Out of memory.
+    NoMemory,
+}
+
+/// What is wrong at a line of a part.
+#[derive(Clone, Copy)]
+pub(crate) enum PartFault {
+    /// It breaks a rule.
+    Broken(RuleFault),
+    /// A quantity is above its maximum.
+    Above(Quantity),
+    /// Out of memory.
+    NoMemory,
+}
+
+// The name of the function whose part begins at a line, if one does.
+fn part_name(line: &Line) -> Option<&[u8]>
+    ensures { HasName (outcomes.part_name line.now) result }
+{
+    match line {
+        Line::Function(part) => Some(part.name.as_slice()),
+        _ => None,
+    }
+}
+
+/// The name of the function that a fault names, if there is one.
+pub fn name<'a>(listed: &[Listed<'a>], cert: &'a Cert, named: Named) -> Option<&'a [u8]>
+    ensures { HasName (name_in listed.now cert.now.lines.items named) result }
+{
+    match named {
+        Named::Listed(index) => match listed.get(index) {
+            Some(function) => Some(function.name),
+            None => None,
+        },
+        Named::Line(index) => match cert.lines.get(index) {
+            Some(line) => part_name(line),
+            None => None,
+        },
+    }
+}

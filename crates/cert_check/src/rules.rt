@@ -1,0 +1,223 @@
+//! The lines inside a part: Leaf, Case, and the log of an obligation.
+
+ghost use Rattle.std.specs.Prelude.{◌≡◌, ◌<◌, All, IfOk, OnOk, length};
+ghost use Rattle.memory_spec.specs.Viewed.{runs_of};
+ghost use Rattle.term_bank.specs.Nodes.{Extends, tree_at};
+ghost use Rattle.cert_spec.specs.Lines as spec;
+ghost use Rattle.cert_frames.specs.Jobs.{AreBelow, premises_at};
+ghost use Rattle.cert_check.specs.Stands.{IsNext, StandsAfter};
+ghost use Rattle.rule_spec.specs.Points as points;
+ghost use Rattle.rule_spec.specs.Rules as opened;
+ghost use Rattle.rule_terms.specs.Conventions.{IsConventionOf};
+ghost use Rattle.rule_terms.specs.Openings.{IsOpening, IsOpeningIn};
+ghost use Rattle.proof_tree.specs.Frames.{frame_of};
+ghost use Rattle.cert_check.specs.Steps.{AreGoalsOf, AreOpened, HasGoals, IsClosed, IsKept, IsStep};
+ghost use Rattle.cert_check.specs.Steps.{IsTested, goal_fault_of, log_fault_of};
+
+use crate::fault::PartFault;
+use attempt::attempt;
+use cert_frames::{
+    Branch, Job, Listed, frame, push_branches, push_goals, take_goal, take_proof, tests,
+};
+use cert_spec::Symbol;
+use cert_terms::{TermFault, read_line};
+use check_spec::{Quantity, RuleFault};
+use closing_spec::GoalQuantity;
+use discharge::{CloseError, close};
+use memory_spec::Run;
+use proof_tree::Frame;
+use rule_terms::{Convention, Opening};
+use sat_log::Step;
+use sim_rules::{Rule, Setup, obligations};
+use std::alloc::Global;
+use term_bank::{Bank, TermId};
+use tv_base::limits::MAX_VISITS;
+
+// ---- Leaf
+
+// Why a Leaf has no obligations. It has no line, so none is ill-sorted.
+fn leaf_fault(fault: sim_rules::RuleFault) -> PartFault
+    ensures { result ≡ goal_fault_of fault }
+{
+    match fault {
+        sim_rules::RuleFault::Sort(_) => PartFault::Broken(RuleFault::Sort),
+        sim_rules::RuleFault::Cyclic(_) => PartFault::Broken(RuleFault::Cyclic),
+        sim_rules::RuleFault::Large(_) => PartFault::Above(Quantity::Visits),
+        sim_rules::RuleFault::NoMemory => PartFault::NoMemory,
+    }
+}
+
+// The obligations of a Leaf at a frame.
+fn frame_goals(
+    alloc: Global,
+    frame: &Frame<'_>,
+    convention: &Convention<'_>,
+    opening: Opening<'_>,
+    bank: &mut Bank,
+) -> Result<Vec<TermId>, PartFault>
+    requires { IsOpeningIn (length bank.old) opening }
+    ensures goals { (c : points.Convention) (o : opened.Opening) → IsConventionOf convention.now c
+        → IsOpening bank.old o opening.entry
+        → AreGoalsOf c o (frame_of frame.now) bank.new result }
+    ensures within { IfOk result (λ goals. All (λ goal. goal < length bank.new) goals.items) }
+    ensures extends { Extends bank.old bank.new }
+{
+    let setup = Setup {
+        frame: &*frame,
+        convention: &*convention,
+        opening: Opening {
+            binary: &*opening.binary,
+            source: &*opening.source,
+        },
+        maximum: MAX_VISITS,
+    };
+    match obligations(alloc, &setup, Rule::Leaf, bank) {
+        Ok(goals) => Ok(goals),
+        Err(fault) => Err(leaf_fault(fault)),
+    }
+}
+
+// The obligations of a Leaf where the frame has these further premises.
+fn leaf_goals(
+    alloc: Global,
+    function: &Listed<'_>,
+    opening: Opening<'_>,
+    bank: &mut Bank,
+    premises: &[Branch],
+) -> Result<Vec<TermId>, PartFault>
+    requires opened { AreOpened function.now bank.old opening }
+    requires below { AreBelow (length bank.old) premises.now }
+    ensures goals { HasGoals function.now bank.new (premises_at bank.old premises.now) result }
+    ensures within { IfOk result (λ goals. All (λ goal. goal < length bank.new) goals.items) }
+    ensures extends { Extends bank.old bank.new }
+{
+    let tests = attempt!(tests(alloc, bank, premises), PartFault::NoMemory);
+    let frame = attempt!(
+        frame(alloc, &*function, premises, tests.as_slice()),
+        PartFault::NoMemory
+    );
+    frame_goals(alloc, &frame, function.convention, opening, bank)
+}
+
+/// `leaf N`: the frame's obligations are as many as the logs that follow.
+pub(crate) fn leaf(
+    alloc: Global,
+    function: &Listed<'_>,
+    opening: Opening<'_>,
+    bank: &mut Bank,
+    jobs: &mut Vec<Job>,
+    logs: u32,
+) -> Result<(), PartFault>
+    requires kept { IsKept function.now bank.old opening jobs.old.items }
+    requires next { IsNext jobs.old.items (spec.Leaf logs) }
+    ensures step { IsStep function.now bank.old bank.new jobs.old.items jobs.new.items
+        (spec.Leaf logs) result }
+    ensures kept { OnOk result (IsKept function.now bank.new opening.entry jobs.new.items) }
+    ensures stands { OnOk result (StandsAfter jobs.old.items (spec.Leaf logs) jobs.new.items) }
+{
+    let premises = take_proof(jobs);
+    let goals = attempt!(leaf_goals(alloc, function, opening, bank, premises.as_slice()));
+    if goals.len() != logs as usize {
+        return Err(PartFault::Broken(RuleFault::Logs));
+    }
+    attempt!(push_goals(jobs, goals.as_slice()), PartFault::NoMemory);
+    Ok(())
+}
+
+// ---- Case
+
+// The test of a Case.
+fn test(
+    alloc: Global,
+    function: &Listed<'_>,
+    bank: &mut Bank,
+    symbols: &[Symbol],
+) -> Result<TermId, PartFault>
+    ensures test { IsTested function.now symbols.now bank.new result }
+    ensures within { IfOk result (λ test. test < length bank.new) }
+    ensures extends { Extends bank.old bank.new }
+{
+    match read_line(alloc, function.setting, function.path, symbols, bank) {
+        Ok(test) => Ok(test),
+        Err(TermFault::Sort) => Err(PartFault::Broken(RuleFault::Sort)),
+        Err(TermFault::NoMemory) => Err(PartFault::NoMemory),
+    }
+}
+
+/// `case TERM`: a proof where the term holds, and one where it doesn't.
+pub(crate) fn case(
+    alloc: Global,
+    function: &Listed<'_>,
+    opening: Opening<'_>,
+    bank: &mut Bank,
+    jobs: &mut Vec<Job>,
+    symbols: &[Symbol],
+) -> Result<(), PartFault>
+    requires kept { IsKept function.now bank.old opening jobs.old.items }
+    requires next { IsNext jobs.old.items (spec.Case symbols.now) }
+    ensures step { IsStep function.now bank.old bank.new jobs.old.items jobs.new.items
+        (spec.Case symbols.now) result }
+    ensures kept { OnOk result (IsKept function.now bank.new opening.entry jobs.new.items) }
+    ensures stands { OnOk result (StandsAfter jobs.old.items (spec.Case symbols.now)
+        jobs.new.items) }
+{
+    let _ = opening;
+    let test = attempt!(test(alloc, function, bank, symbols));
+    let premises = take_proof(jobs);
+    attempt!(
+        push_branches(alloc, jobs, premises.as_slice(), test),
+        PartFault::NoMemory
+    );
+    Ok(())
+}
+
+// ---- logs
+
+// Why the log without steps doesn't close an obligation. It has no step that doesn't follow.
+fn goal_fault(error: CloseError) -> PartFault
+    ensures { result ≡ log_fault_of error }
+{
+    match error {
+        CloseError::Large(GoalQuantity::Terms, _) => PartFault::Above(Quantity::Terms),
+        CloseError::Large(GoalQuantity::Variables, _) => PartFault::Above(Quantity::Variables),
+        CloseError::Step(_) | CloseError::Unclosed => PartFault::Broken(RuleFault::Unclosed),
+        CloseError::NoMemory => PartFault::NoMemory,
+    }
+}
+
+// Whether the log without steps closes an obligation.
+fn close_goal(alloc: Global, bank: &mut Bank, goal: TermId, runs: &[Run]) -> Result<(), PartFault>
+    requires { goal < length bank.old }
+    ensures closed { IsClosed (runs_of runs.now) (tree_at bank.old goal) result }
+    ensures extends { Extends bank.old bank.new }
+{
+    let steps: Vec<Step> = Vec::new(alloc);
+    match close(alloc, bank, goal, &steps, runs) {
+        Ok(()) => Ok(()),
+        Err(error) => Err(goal_fault(error)),
+    }
+}
+
+/// `log N`: the obligation is closed by the log without steps.
+pub(crate) fn log(
+    alloc: Global,
+    function: &Listed<'_>,
+    opening: Opening<'_>,
+    bank: &mut Bank,
+    jobs: &mut Vec<Job>,
+    steps: u32,
+) -> Result<(), PartFault>
+    requires kept { IsKept function.now bank.old opening jobs.old.items }
+    requires next { IsNext jobs.old.items (spec.Log steps) }
+    ensures step { IsStep function.now bank.old bank.new jobs.old.items jobs.new.items
+        (spec.Log steps) result }
+    ensures kept { OnOk result (IsKept function.now bank.new opening.entry jobs.new.items) }
+    ensures stands { OnOk result (StandsAfter jobs.old.items (spec.Log steps) jobs.new.items) }
+{
+    let _ = opening;
+    if steps != 0 {
+        return Err(PartFault::Broken(RuleFault::Later));
+    }
+    let goal = take_goal(jobs);
+    close_goal(alloc, bank, goal, function.runs)
+}

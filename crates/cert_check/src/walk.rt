@@ -1,0 +1,285 @@
+//! The walk along the lines of a certificate.
+
+ghost use Rattle.std.specs.Prelude.{◌≡◌, ℕ, ◌<◌, [], OnOk, length};
+ghost use Rattle.cert_lines.specs.Views.{line_of};
+ghost use Rattle.cert_text.specs.Certificates.{certificate_of};
+ghost use Rattle.cert_text.specs.Laws.{AreLines};
+ghost use Rattle.cert_spec.specs.Lines as spec;
+ghost use Rattle.cert_check.specs.Outcomes.{IsChecked, IsPlaced, IsVerdict};
+ghost use Rattle.cert_frames.specs.Parts.{AreIndices};
+ghost use Rattle.cert_check.specs.Stands as stands;
+ghost use Rattle.cert_check.specs.Stands.{IsNext, StandsAfter};
+ghost use Rattle.cert_check.specs.Steps.{IsKept, IsStep};
+ghost use Rattle.cert_check.specs.Walks.{Begins, Ends, Goes, GoesInside, IsInside, IsOpened};
+ghost use Rattle.cert_check.specs.Walks.{IsSound, IsWalk, StandsAt, named_fault};
+
+use crate::fault::{CheckFault, Fault, Named, PartFault};
+use crate::rules::{case, leaf, log};
+use attempt::attempt;
+use cert_frames::{Job, Listed, free, known, missing, push_proof};
+use cert_lines::{Line, Part};
+use cert_text::{Cert, offset};
+use check_spec::RuleFault;
+use rule_terms::{Known, Opening};
+use std::alloc::{AllocError, Global};
+use std::collections::HashMap;
+use term_bank::Bank;
+
+/// Where a walk is: the functions whose parts have begun, and the part of the last of them.
+#[derive(Drop)]
+pub(crate) struct Walk {
+    /// The functions, by their indices among the listed ones.
+    pub parts: Vec<usize>,
+    /// What is expected in the part, the first of it last.
+    pub jobs: Vec<Job>,
+    /// The terms of the part.
+    pub bank: Bank,
+    /// The terms of the binary's variables at the function's entry.
+    pub binary: Known,
+    /// The terms of the source's.
+    pub source: Known,
+}
+
+// ---- parts
+
+// The part of a function begins: a proof of its frame is expected.
+fn open(alloc: Global, function: &Listed<'_>, walk: &mut Walk) -> Result<(), AllocError>
+    ensures { OnOk result (IsOpened function.now walk.old walk.new) }
+{
+    walk.bank = Bank::new(alloc);
+    walk.jobs.clear();
+    walk.binary = attempt!(known(alloc, &mut walk.bank, function.binary_terms));
+    walk.source = attempt!(known(alloc, &mut walk.bank, function.source_terms));
+    push_proof(&mut walk.jobs, Vec::new(alloc))
+}
+
+// The part of the listed function of an index, where its stack is this.
+fn enter(
+    alloc: Global,
+    listed: &[Listed<'_>],
+    walk: &mut Walk,
+    index: usize,
+    stack: u32,
+) -> Result<(), Fault>
+    requires { index < length listed.now }
+    ensures { Begins listed.now walk.old walk.new index stack result }
+{
+    let function = &listed[index];
+    if function.stack != stack {
+        return Err(Fault::Broken(Named::Listed(index), RuleFault::Stack));
+    }
+    attempt!(open(alloc, function, walk), Fault::NoMemory);
+    attempt!(walk.parts.push(index), Fault::NoMemory);
+    Ok(())
+}
+
+// `function NAME stack N`, the line of an index.
+fn begin(
+    alloc: Global,
+    listed: &[Listed<'_>],
+    walk: &mut Walk,
+    part: &Part,
+    line: usize,
+) -> Result<(), Fault>
+    requires { IsSound listed.now walk.old }
+    ensures { Goes listed.now walk.old walk.new (spec.Function part.now.name.items part.now.stack)
+        line result }
+{
+    match free(listed, walk.parts.as_slice(), part.name.as_slice()) {
+        Some(index) => enter(alloc, listed, walk, index, part.stack),
+        None => Err(Fault::Broken(Named::Line(line), RuleFault::Stranger)),
+    }
+}
+
+// `end`
+fn end(listed: &[Listed<'_>], parts: &[usize]) -> Result<(), Fault>
+    requires { AreIndices (length listed.now) parts.now }
+    ensures { Ends listed.now parts.now result }
+{
+    match missing(listed, parts) {
+        Some(index) => Err(Fault::Broken(Named::Listed(index), RuleFault::Missing)),
+        None => Ok(()),
+    }
+}
+
+// ---- inside a part
+
+// Whether a line is of a rule that isn't checked yet, or inlines a call.
+fn is_unchecked(line: &Line) -> bool
+    ensures { result ≡ stands.is_unchecked (line_of line.now) }
+{
+    matches!(
+        line,
+        Line::InlineBinary(_)
+            | Line::InlineSource(_)
+            | Line::RestrictBinary(_)
+            | Line::RestrictSource(_)
+            | Line::Split(_)
+            | Line::Call(_)
+    )
+}
+
+// A line inside the part of a function.
+fn part_line(
+    alloc: Global,
+    function: &Listed<'_>,
+    opening: Opening<'_>,
+    bank: &mut Bank,
+    jobs: &mut Vec<Job>,
+    line: &Line,
+) -> Result<(), PartFault>
+    requires kept { IsKept function.now bank.old opening jobs.old.items }
+    requires next { IsNext jobs.old.items (line_of line.now) }
+    requires inside { IsInside line.now }
+    ensures step { IsStep function.now bank.old bank.new jobs.old.items jobs.new.items
+        (line_of line.now) result }
+    ensures kept { OnOk result (IsKept function.now bank.new opening.entry jobs.new.items) }
+    ensures stands { OnOk result (StandsAfter jobs.old.items (line_of line.now) jobs.new.items) }
+{
+    if is_unchecked(line) {
+        return Err(PartFault::Broken(RuleFault::Later));
+    }
+    match line {
+        Line::Leaf(logs) => leaf(alloc, function, opening, bank, jobs, *logs),
+        Line::Case(test) => case(alloc, function, opening, bank, jobs, test.as_slice()),
+        Line::Log(steps) => log(alloc, function, opening, bank, jobs, *steps),
+        _ => unreachable!(),
+    }
+}
+
+// What is wrong in the part of the listed function of an index.
+fn named(index: usize, fault: PartFault) -> Fault
+    ensures { result ≡ named_fault index fault }
+{
+    match fault {
+        PartFault::Broken(rule) => Fault::Broken(Named::Listed(index), rule),
+        PartFault::Above(quantity) => Fault::Above(quantity),
+        PartFault::NoMemory => Fault::NoMemory,
+    }
+}
+
+// A line inside the part of the listed function of an index.
+fn inside(
+    alloc: Global,
+    listed: &[Listed<'_>],
+    walk: &mut Walk,
+    index: usize,
+    line: &Line,
+) -> Result<(), Fault>
+    requires index { index < length listed.now }
+    requires stands { StandsAt listed.now walk.old index (line_of line.now) }
+    requires inside { IsInside line.now }
+    ensures { GoesInside listed.now walk.old walk.new index (line_of line.now) result }
+{
+    let opening = Opening {
+        binary: &walk.binary,
+        source: &walk.source,
+    };
+    match part_line(
+        alloc,
+        &listed[index],
+        opening,
+        &mut walk.bank,
+        &mut walk.jobs,
+        line,
+    ) {
+        Ok(()) => Ok(()),
+        Err(fault) => Err(named(index, fault)),
+    }
+}
+
+// ---- all lines
+
+// A line inside the part that has begun last.
+fn inside_last(
+    alloc: Global,
+    listed: &[Listed<'_>],
+    walk: &mut Walk,
+    line: &Line,
+) -> Result<(), Fault>
+    requires walk { IsWalk listed.now walk.old (line_of line.now) }
+    requires inside { IsInside line.now }
+    ensures { (index : ℕ) → Goes listed.now walk.old walk.new (line_of line.now) index result }
+{
+    let part = walk.parts[walk.parts.len() - 1];
+    inside(alloc, listed, walk, part, line)
+}
+
+// A line, of an index.
+fn step(
+    alloc: Global,
+    listed: &[Listed<'_>],
+    walk: &mut Walk,
+    line: &Line,
+    index: usize,
+) -> Result<(), Fault>
+    requires { IsWalk listed.now walk.old (line_of line.now) }
+    ensures { Goes listed.now walk.old walk.new (line_of line.now) index result }
+{
+    match line {
+        Line::Header => Ok(()),
+        Line::Function(part) => begin(alloc, listed, walk, part, index),
+        Line::End => end(listed, walk.parts.as_slice()),
+        _ => inside_last(alloc, listed, walk, line),
+    }
+}
+
+// The first line that breaks a rule or a limit, by its index, and what it breaks.
+fn first_fault(
+    alloc: Global,
+    listed: &[Listed<'_>],
+    cert: &Cert,
+    walk: &mut Walk,
+) -> Result<(), (usize, Fault)>
+    requires lines { AreLines (certificate_of cert.now) }
+    requires nothing { walk.old.parts.items ≡ [] }
+    ensures { IsChecked listed.now cert.now result }
+{
+    for index in 0..cert.lines.len() {
+        match step(alloc, listed, walk, &cert.lines[index], index) {
+            Ok(()) => {}
+            Err(fault) => return Err((index, fault)),
+        }
+    }
+    Ok(())
+}
+
+// A fault at the line of an index, with the offset at which the line begins.
+fn placed(alloc: Global, cert: &Cert, line: usize, fault: Fault) -> CheckFault
+    requires { line < length cert.now.lines.items }
+    ensures { IsPlaced cert.now line fault result }
+{
+    match fault {
+        Fault::Broken(function, rule) => match offset(alloc, cert, line) {
+            Ok(offset) => CheckFault::NotProof {
+                function,
+                offset,
+                rule,
+            },
+            Err(_) => CheckFault::NoMemory,
+        },
+        Fault::Above(quantity) => CheckFault::Limit { quantity },
+        Fault::NoMemory => CheckFault::NoMemory,
+    }
+}
+
+/// Whether a certificate, as it was read, is a proof of the listed functions, and else the first
+/// rule or limit that a line breaks. Each listed function needs a part, in any order; a part is
+/// checked in a bank of its own. Work is linear in the certificate beside what its obligations
+/// take, and in its parts times the listed functions.
+pub fn check(alloc: Global, listed: &[Listed<'_>], cert: &Cert) -> Result<(), CheckFault>
+    requires { AreLines (certificate_of cert.now) }
+    ensures { IsVerdict listed.now cert.now result }
+{
+    let mut walk = Walk {
+        parts: Vec::new(alloc),
+        jobs: Vec::new(alloc),
+        bank: Bank::new(alloc),
+        binary: HashMap::new(alloc),
+        source: HashMap::new(alloc),
+    };
+    match first_fault(alloc, listed, cert, &mut walk) {
+        Ok(()) => Ok(()),
+        Err((line, fault)) => Err(placed(alloc, cert, line, fault)),
+    }
+}

@@ -1,0 +1,11 @@
+mod Rising
+pub mod Listing
+pub mod Apart
+mod Steps
+pub mod Once
+mod Sides
+mod Words
+pub mod Valid
+pub mod Written
+pub mod Alone
+mod FileWords

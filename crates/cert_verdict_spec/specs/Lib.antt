@@ -1,0 +1,3 @@
+pub mod Files
+pub mod Verdict
+pub mod Laws

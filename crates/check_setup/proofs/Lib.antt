@@ -1,0 +1,4 @@
+mod Grown
+mod Locals
+mod Opened
+mod Framed

@@ -1,0 +1,11 @@
+mod Files
+mod Numbered
+mod Coded
+mod Placing
+mod Named
+mod Bodies
+mod Ready
+mod Sound
+mod Listing
+mod Whole
+mod Valid

@@ -1,0 +1,4 @@
+pub mod Sides
+pub mod Made
+pub mod Placed
+pub mod Entries

@@ -1,0 +1,105 @@
+//! The frames at the entries of listed functions.
+
+ghost use Rattle.std.specs.Prelude.{◌≡◌, ◌<◌, ◌^◌, [], length, IfOk, IsSome, OnOk};
+ghost use Rattle.std.specs.List.Sorted.{IsStrictlyIncreasing};
+ghost use Rattle.decompile.specs.Answer.{number_in};
+ghost use Rattle.c_graph_spec.specs.SourceGraph.{body_number};
+ghost use Rattle.c_types.specs.Typed.{typed_of};
+ghost use Rattle.c_reach.specs.Names.{texts_of};
+ghost use Rattle.pair_spec.specs.SourceReach.{body_of};
+ghost use Rattle.check_sides.specs.Entries.{AreEntriesFor, AreReady, IsEntryFor};
+
+use attempt::attempt;
+use c_types::typed::Typed;
+use check_setup::{Entry, File, Numbers};
+use pair_setup::{Function, Pairs};
+use std::alloc::{AllocError, Global};
+
+/// The number of the graph of the function at an entry: its index among the entries.
+fn graph_number(entries: &[u32], entry: u32) -> usize
+    requires { IsStrictlyIncreasing entries.now }
+    ensures { result ≡ number_in entries.now entry }
+{
+    match entries.binary_search(&entry) {
+        Ok(index) => index,
+        Err(_) => entries.len(),
+    }
+}
+
+/// The number of the graph of a function of the source: the index of its body.
+#[tactic(auto, using(crate::proofs::Bodies::numbers))]
+fn source_number(unit: &Typed<'_>, name: &[u8]) -> usize
+    ensures { result ≡ body_number name.now (typed_of unit.now).bodies }
+{
+    match unit.bodies.get_index_of(name) {
+        Some(number) => number,
+        None => unit.bodies.len(),
+    }
+}
+
+/// The entry of the function of a name.
+fn entry_of<'a>(
+    alloc: Global,
+    unit: &Typed<'_>,
+    file: File<'_>,
+    entries: &[u32],
+    name: &'a [u8],
+    function: &Function,
+) -> Result<Entry<'a>, AllocError>
+    requires rising { IsStrictlyIncreasing entries.now }
+    requires body { IsSome (body_of (typed_of unit.now) name.now) }
+    requires small { function.now.stack < 2 ^ 32 }
+    ensures { IfOk result (IsEntryFor (typed_of unit.now) entries.now file.entry name.now
+        function.now) }
+{
+    let body = unit.body(name).unwrap();
+    let numbers = Numbers {
+        code: graph_number(entries, function.entry),
+        body: source_number(unit, name),
+        first: 0,
+    };
+    Entry::new(alloc, name, body, function.stack as u32, numbers, file)
+}
+
+/// Adds the entries of the functions of a list.
+fn add_entries<'a>(
+    alloc: Global,
+    made: &mut Vec<Entry<'a>>,
+    unit: &Typed<'_>,
+    file: File<'_>,
+    list: &[&'a [u8]],
+    pairs: &Pairs,
+) -> Result<(), AllocError>
+    requires none { made.old.items ≡ [] }
+    requires rising { IsStrictlyIncreasing pairs.now.entries.items }
+    requires ready { AreReady (typed_of unit.now) (texts_of list.now) pairs.now.functions.items }
+    ensures { OnOk result (AreEntriesFor (typed_of unit.now) pairs.now.entries.items file.entry
+        (texts_of list.now) pairs.now.functions.items (length list.now) made.new.items) }
+{
+    let entries = pairs.entries.as_slice();
+    let functions = pairs.functions.as_slice();
+    for index in 0..list.len() {
+        let function = &functions[index];
+        let entry = attempt!(entry_of(alloc, unit, file, entries, list[index], function));
+        attempt!(made.push(entry), AllocError);
+    }
+    Ok(())
+}
+
+/// The entries of the functions of a list.
+pub(crate) fn entries<'a>(
+    alloc: Global,
+    unit: &Typed<'_>,
+    file: File<'_>,
+    list: &[&'a [u8]],
+    pairs: &Pairs,
+) -> Result<Vec<Entry<'a>>, AllocError>
+    requires rising { IsStrictlyIncreasing pairs.now.entries.items }
+    requires ready { AreReady (typed_of unit.now) (texts_of list.now) pairs.now.functions.items }
+    ensures { IfOk result (λ made. AreEntriesFor (typed_of unit.now) pairs.now.entries.items
+        file.entry (texts_of list.now) pairs.now.functions.items (length list.now) made.items) }
+{
+    let mut made = Vec::new(alloc);
+    attempt!(add_entries(alloc, &mut made, unit, file, list, pairs));
+    Ok(made)
+}

@@ -1,0 +1,8 @@
+use Rattle.std.proofs.Common.{take}
+use Rattle.call_graph.specs.Graph.{Grows}
+use Rattle.pair_setup.specs.Names.{IsOf}
+use Rattle.pair_setup.specs.Walks.{IsCalled}
+use Rattle.pair_setup.proofs.walk.add_callees.Given as goal
+
+abbrev pub invariant-loop-word : goal.invariant-loop-word
+invariant-loop-word l = Grows (IsOf IsCalled (take l.word-index l.words)) l.initial.entries.keys l.entries.keys

@@ -1,0 +1,9 @@
+use Rattle.std.proofs.Common.{take}
+use Rattle.call_graph.specs.Graph.{Grows}
+use Rattle.c_reach.specs.Names.{texts_of}
+use Rattle.pair_setup.specs.Names.{IsOf}
+use Rattle.pair_setup.specs.Walks.{IsEntry}
+use Rattle.pair_setup.proofs.walk.add_roots.Given as goal
+
+abbrev pub invariant-loop-name : goal.invariant-loop-name
+invariant-loop-name l = Grows (IsOf (IsEntry l.image) (texts_of (take l.name-index l.list))) l.initial.entries.keys l.entries.keys
