@@ -11,7 +11,7 @@ use Rattle.graph_spec.specs.Graph.{Graph, Node}
 use Rattle.code_graph_spec.specs.Blocks.{Setting}
 use Rattle.code_graph_spec.specs.CodeGraph.{IsCodeGraph}
 use Rattle.code_graph_laws.specs.Layout.{Item, AreItems}
-use Rattle.decompile.specs.Answer.{setting}
+use Rattle.decompile.specs.Answer.{AreFirsts, setting}
 use Rattle.decompile.specs.Counts.{numbered}
 use Rattle.c_type_spec.specs.Core.{Typed}
 use Rattle.pair_spec.specs.SourceReach.{body_of}
@@ -20,7 +20,7 @@ use Rattle.pair_outcome_spec.specs.Outcome.{IsPaired, IsFunction}
 use Rattle.pair_outcome_spec.proofs.Stacks.{one_stack}
 use Rattle.proof_laws.specs.Derivation.{Function}
 use Rattle.check_laws.specs.Statements.{listed_of}
-use Rattle.cert_verdict_spec.specs.Files.{AreFirsts, CodeSide, IsSide, AreSides, sides_of, IsFunctionOf, AreFunctionsOf}
+use Rattle.cert_verdict_spec.specs.Files.{CodeSide, IsSide, AreSides, sides_of, IsFunctionOf, AreFunctionsOf}
 use Rattle.cert_verdict_spec.specs.Laws.{ListsHaveOnePairing, FilesHaveOneList}
 use Rattle.cert_verdict_spec.proofs.Rising.{same_list, same_numbers}
 

@@ -3,13 +3,12 @@
 -- in each the landing node at the entry comes first, and the nodes of the instructions follow by address.
 use Rattle.std.specs.Prelude.{◌≡◌, ◌<◌, ◌^◌, ◌+◌, ◌≤◌, ℕ, ⊤, List, [], ◌∷◌, length, map, get_or, All, Some, None}
 use Rattle.memory_spec.specs.Runs.{Run}
-use Rattle.elf_spec.specs.Image.{Image, Segment, Symbol, size_at}
+use Rattle.elf_spec.specs.Image.{Image, Segment, Symbol}
 use Rattle.elf_spec.specs.Runs.{AreRuns, HasBytes}
 use Rattle.graph_spec.specs.Graph.{Graph, empty}
-use Rattle.code_graph_laws.specs.Layout.{Item, AreItems, numbers_by}
+use Rattle.code_graph_laws.specs.Layout.{numbers_by}
 use Rattle.code_graph_laws.specs.Together.{Numbering}
-use Rattle.decompile.specs.Answer.{IsFunctionGraph, number_in, first_in}
-use Rattle.decompile.specs.Counts.{numbered}
+use Rattle.decompile.specs.Answer.{AreFirsts, IsFunctionGraph, number_in, first_in}
 use Rattle.c_type_spec.specs.Core.{Body, Typed, Skip}
 use Rattle.pair_spec.specs.SourceReach.{body_of}
 use Rattle.pair_outcome_spec.specs.Outcome as outcome
@@ -19,17 +18,6 @@ use Rattle.check_spec.specs.Verdict.{Listed}
 use Rattle.check_laws.specs.Statements.{listed_of}
 
 -- ---- the graphs of code
-
--- the instructions that the function at an entry reaches, each with the number of its first node: the nodes of an
--- instruction follow those of the one before it
-pub record AreFirsts (image : Image) (entry : ℕ) (firsts : List (ℕ × ℕ)) : Type 0 where
-  pub size : ℕ
-  pub size_is : size_at image entry ≡ Some size
-  pub runs : List Run
-  pub runs_are : AreRuns image runs
-  pub items : List Item
-  pub items_are : AreItems image entry size items
-  pub numbers : firsts ≡ numbered (length runs) 1 items
 
 -- a graph, and the first node of each of its instructions
 pub record CodeSide : Type 0 where

@@ -7,8 +7,8 @@ use Rattle.std.proofs.lemmas.Option.{slice_get-get_or, slice_get_within, get_or_
 use Rattle.term_bank.proofs.Growth.{slice_get-front, slice_get-seam}
 use Rattle.elf_spec.specs.Image.{Image}
 use Rattle.graph_spec.specs.Graph.{Graph}
-use Rattle.decompile.specs.Answer.{IsFunctionGraph}
-use Rattle.check_sides.specs.Made.{AreCodeOf, IsCodeOf}
+use Rattle.cert_verdict_spec.specs.Files.{IsSide}
+use Rattle.check_sides.specs.Made.{AreCodeOf, IsCodeOf, side_with}
 
 pub none_coded : (image : Image) (entries : List ℕ) (graphs : List Graph) → graphs ≡ [] → AreCodeOf image entries 0 graphs
 none_coded image entries graphs e = record {
@@ -54,10 +54,10 @@ one_coded image entries n graphs entry graph are at is = record {
     firsts = are.firsts ++ is.firsts ∷ []
 
     each : (k other : ℕ) (g : Graph) → slice_get entries k ≡ Some other → slice_get (graphs ++ graph ∷ []) k ≡ Some g
-        → IsFunctionGraph image other entries g (get_or firsts k [])
+        → IsSide image entries other (side_with g (get_or firsts k []))
     each k other g there read = elim (cases_lt k n) [
       | inl earlier ↦
-          subst (λ (f : List (ℕ × ℕ)). IsFunctionGraph image other entries g f)
+          subst (λ (f : List (ℕ × ℕ)). IsSide image entries other (side_with g f))
           (sym (default_before are.firsts is.firsts [] k (omega (arith, earlier, are.first_count))))
           (are.each k other g there (read_before graphs graph g k (omega (arith, earlier, are.graph_count)) read))
       | inr later ↦
@@ -68,7 +68,7 @@ one_coded image entries n graphs entry graph are at is = record {
           let same_entry : entry ≡ other = same_Some entry other (sym at ∙ ap (slice_get entries) (sym here) ∙ there) in
           let same_firsts : is.firsts ≡ get_or firsts k [] =
           sym (ap (λ (i : ℕ). get_or firsts i []) (here ∙ sym are.first_count) ∙ default_last are.firsts is.firsts []) in
-          subst (λ (e : ℕ). IsFunctionGraph image e entries g (get_or firsts k [])) same_entry
-          (subst (λ (h : Graph). IsFunctionGraph image entry entries h (get_or firsts k [])) same_graph
-          (subst (λ (f : List (ℕ × ℕ)). IsFunctionGraph image entry entries graph f) same_firsts is.graph_is))
+          subst (λ (e : ℕ). IsSide image entries e (side_with g (get_or firsts k []))) same_entry
+          (subst (λ (h : Graph). IsSide image entries entry (side_with h (get_or firsts k []))) same_graph
+          (subst (λ (f : List (ℕ × ℕ)). IsSide image entries entry (side_with graph f)) same_firsts is.side_is))
     ]

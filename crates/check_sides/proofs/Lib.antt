@@ -8,4 +8,5 @@ mod Ready
 mod Sound
 mod Listing
 mod Whole
+mod Listed
 mod Valid

@@ -89,7 +89,7 @@ module _ (image : Image) (unit : Typed) (list : List (List ℕ)) (pairs : Pairs)
 
     at_entry : (k entry : ℕ) (graph : Graph) → slice_get pairs.entries k ≡ Some entry → slice_get graphs k ≡ Some graph → IsAt entry graph
     at_entry k entry graph there given =
-        let is = code.each k entry graph there given in
+        let is = (code.each k entry graph there given).graph_is in
         let same_runs : is.runs ≡ runs = sym (is.only_runs runs are_runs) in
         let number : number_in pairs.entries entry ≡ k = number_at pairs.entries paired.rising entry k there in
         let first : IsCodeGraph image (answer.setting entry is.size runs pairs.entries (get_or code.firsts k [])) graph =

@@ -4,8 +4,8 @@ use Rattle.elf_spec.specs.Image.{Image, size_at}
 use Rattle.code_spec.specs.Faults.{HasNoFault}
 use Rattle.graph_spec.specs.Graph.{Graph}
 use Rattle.code_graph_spec.specs.CodeGraph.{IsCall}
-use Rattle.decompile.specs.Answer.{IsFunctionGraph}
 use Rattle.pair_outcome_spec.specs.Nodes.{IsLargeCode}
+use Rattle.cert_verdict_spec.specs.Files.{CodeSide, IsSide}
 
 -- the function at an entry has no fault and no graph that is too large, and what it calls is among the entries
 pub record IsSound (image : Image) (entries : List ℕ) (entry : ℕ) : Type 0 where
@@ -14,10 +14,14 @@ pub record IsSound (image : Image) (entries : List ℕ) (entry : ℕ) : Type 0 w
   pub closed : (size address callee : ℕ) → size_at image entry ≡ Some size → IsCall image entry size address callee → Contains entries callee
   pub small : IsLargeCode image entry → ⊥
 
--- one of some functions, for some first nodes of its instructions
+-- a graph, with the first nodes of its instructions
+abbrev pub side_with : Graph → (firsts : List (ℕ × ℕ)) → CodeSide
+side_with graph firsts = record { graph = graph; firsts = firsts }
+
+-- one of some functions, with the first nodes of its instructions
 pub record IsCodeOf (image : Image) (entries : List ℕ) (entry : ℕ) (graph : Graph) : Type 0 where
   pub firsts : List (ℕ × ℕ)
-  pub graph_is : IsFunctionGraph image entry entries graph firsts
+  pub side_is : IsSide image entries entry (side_with graph firsts)
 
 -- the graphs of the first n functions, each with the first nodes of its instructions
 pub record AreCodeOf (image : Image) (entries : List ℕ) (n : ℕ) (graphs : List Graph) : Type 0 where
@@ -25,4 +29,4 @@ pub record AreCodeOf (image : Image) (entries : List ℕ) (n : ℕ) (graphs : Li
   pub graph_count : length graphs ≡ n
   pub first_count : length firsts ≡ n
   pub each : (k entry : ℕ) (graph : Graph) → slice_get entries k ≡ Some entry → slice_get graphs k ≡ Some graph
-      → IsFunctionGraph image entry entries graph (get_or firsts k [])
+      → IsSide image entries entry (side_with graph (get_or firsts k []))

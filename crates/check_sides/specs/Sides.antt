@@ -18,6 +18,7 @@ use Rattle.agreement_laws.specs.EntryFrame.{Pair}
 use Rattle.proof_laws.specs.Derivation.{Function, AreSides}
 use Rattle.check_spec.specs.Verdict.{IsProof}
 use Rattle.check_laws.specs.Statements.{AreFunctions, AreLines, IsFile, listed_of}
+use Rattle.cert_verdict_spec.specs.Files.{AreListed}
 use Rattle.check_setup.specs.Entries.{AreEntries, AreGraphs}
 use Rattle.check_sides.specs.declared.sides.Sides.{Sides}
 
@@ -64,12 +65,13 @@ pub record AreSidesOf (image : Image) (unit : Typed) (pairs : Pairs) (q : Pair) 
   pub file : IsFile q
   pub functions_are : AreFunctions q (functions_in unit pairs)
 
--- what was made is of two sides of the functions of these pairs
+-- what was made is of two sides of the functions of these pairs, which are listed so
 pub record HasSides (image : Image) (unit : Typed) (pairs : Pairs) (s : Sides) : Type 0 where
   pub pair : Pair
   pub are : AreSidesOf image unit pairs pair
   pub graphs : AreGraphs pair s.code.items s.source.items s.runs.items
   pub entries : AreEntries pair (functions_in unit pairs) s.entries.items
+  pub listed : AreListed image unit pairs (map (listed_of pair) (functions_in unit pairs))
 
 -- the image is that of a file of bytes
 pub record IsRead (image : Image) : Type 0 where

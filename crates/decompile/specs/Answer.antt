@@ -1,5 +1,5 @@
 -- The graph of a function of an executable, as it is answered.
-use Rattle.std.specs.Prelude.{◌≡◌, ◌==◌, ℕ, List, Some, nat_eq, unwrap_or, Contains}
+use Rattle.std.specs.Prelude.{◌≡◌, ◌==◌, ℕ, List, length, Some, nat_eq, unwrap_or, Contains}
 use Rattle.std.specs.List.{position_or_len}
 use Rattle.std.specs.Map.{lookup}
 use Rattle.elf_spec.specs.Image.{Image, size_at}
@@ -9,7 +9,8 @@ use Rattle.code_spec.specs.Faults.{HasNoFault}
 use Rattle.graph_spec.specs.Graph.{Graph, IsValid}
 use Rattle.code_graph_spec.specs.Blocks.{Setting}
 use Rattle.code_graph_spec.specs.CodeGraph.{IsCodeGraph, AreFirstNodes, IsCall}
-use Rattle.code_graph_laws.specs.Layout.{numbers_by}
+use Rattle.code_graph_laws.specs.Layout.{Item, AreItems, numbers_by}
+use Rattle.decompile.specs.Counts.{numbered}
 
 -- the number of a function's graph is the index of its entry in a list; where it isn't there, the list's length
 abbrev pub number_in : List ℕ → (callee : ℕ) → ℕ
@@ -41,3 +42,14 @@ pub record IsFunctionGraph (image : Image) (entry : ℕ) (entries : List ℕ) (g
   pub graph_is : IsCodeGraph image (setting entry size runs entries firsts) graph
   pub firsts_are : AreFirstNodes image (setting entry size runs entries firsts) firsts
   pub valid : IsValid graph
+
+-- the instructions that the function at an entry reaches, each with the number of its first node: the nodes of an
+-- instruction follow those of the one before it
+pub record AreFirsts (image : Image) (entry : ℕ) (firsts : List (ℕ × ℕ)) : Type 0 where
+  pub size : ℕ
+  pub size_is : size_at image entry ≡ Some size
+  pub runs : List Run
+  pub runs_are : AreRuns image runs
+  pub items : List Item
+  pub items_are : AreItems image entry size items
+  pub numbers : firsts ≡ numbered (length runs) 1 items

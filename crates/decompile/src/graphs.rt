@@ -4,7 +4,7 @@ ghost use Rattle.std.specs.Prelude.{◌≡◌, ◌≤◌, ◌-◌, ◌^◌, ℕ,
 ghost use Rattle.std.specs.List.Sorted.{IsStrictlyIncreasing};
 ghost use Rattle.elf_spec.specs.Image.{size_at};
 ghost use Rattle.graph_core.specs.Graphs.{graph_of};
-ghost use Rattle.decompile.specs.Answer.{IsFunctionGraph};
+ghost use Rattle.decompile.specs.Answer.{AreFirsts, IsFunctionGraph};
 ghost use Rattle.decompile.specs.Callees.{IsListed};
 ghost use Rattle.decompile.specs.Errors.{IsGraphError};
 ghost use Rattle.decompile.specs.Items.{AreInstructions};
@@ -108,6 +108,7 @@ pub fn decompile_within(
     requires rising { IsStrictlyIncreasing entries.now }
     ensures graph { IfOk result (λ found. IsFunctionGraph image.now entry entries.now
         (graph_of found.graph) found.firsts.entries) }
+    ensures firsts { IfOk result (λ found. AreFirsts image.now entry found.firsts.entries) }
     ensures within { IfOk result (λ found. length (graph_of found.graph).nodes ≤ maximum) }
     ensures error { IfErr result (IsGraphError image.now entry entries.now maximum) }
 {
@@ -141,6 +142,7 @@ pub fn decompile(
     requires rising { IsStrictlyIncreasing entries.now }
     ensures graph { IfOk result (λ found. IsFunctionGraph image.now entry entries.now
         (graph_of found.graph) found.firsts.entries) }
+    ensures firsts { IfOk result (λ found. AreFirsts image.now entry found.firsts.entries) }
     ensures error { IfErr result (IsGraphError image.now entry entries.now (2 ^ 64 - 1)) }
 {
     let found = attempt!(decompile_within(alloc, image, entry, entries, usize::MAX));

@@ -2,7 +2,10 @@ use Rattle.check_sides.proofs.Sound.{only_memory}
 use Rattle.check_sides.proofs.code.code_graph.Goals as goal
 
 pub returns-in-Ok : goal.returns-in-Ok
-returns-in-Ok c = record { firsts = c.in-Ok.found.firsts.entries; graph_is = c.in-Ok.ensures.graph }
+returns-in-Ok c = record {
+  firsts = c.in-Ok.found.firsts.entries;
+  side_is = record { graph_is = c.in-Ok.ensures.graph; firsts_are = c.in-Ok.ensures.firsts };
+}
 
 pub decompile-requires : goal.decompile-requires
 decompile-requires c = record { function = c.requires.sound.sized; rising = c.requires.rising }

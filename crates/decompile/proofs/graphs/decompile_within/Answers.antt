@@ -10,7 +10,9 @@ use Rattle.decompile.specs.declared.items.Item.{Item}
 use Rattle.decompile.specs.Items.{item_of}
 use Rattle.decompile.specs.Answer.{setting}
 use Rattle.decompile.specs.Counts.{numbered, counted, IsTooMany}
-use Rattle.decompile.specs.Settings.{run_of, Stays}
+use Rattle.memory_spec.specs.Runs.{Run}
+use Rattle.std.proofs.lemmas.List.{length-map}
+use Rattle.decompile.specs.Settings.{blanked, run_of, Stays}
 use Rattle.decompile.proofs.Answered.{answered, answered_size, too_many}
 use Rattle.decompile.proofs.Whole.{rising_items, all_stay, sized, in_space}
 use Rattle.decompile.proofs.graphs.decompile_within.Goals as goal
@@ -88,3 +90,23 @@ returns-clause-within c =
     let size = answered_size c.args.image.now c.args.entry c.unwrap-size.result c.args.entries.now c.in_ok-items.items.items c.in_ok-runs.runs.items size_is c.in_ok-items.ensures.found
     c.in_ok-runs.ensures c.in_ok-firsts.firsts.entries (graph_of c.in_ok-graph.graph) numbers made in
     omega (arith, size, total, c.in_ok-count_nodes.ensures.count.1)
+
+pub returns-clause-firsts : goal.returns-clause-firsts
+returns-clause-firsts c =
+    let size_is : size_at c.args.image.now c.args.entry ≡ Some c.unwrap-size.result = search rules in
+    let count : c.len-2.result ≡ length c.in_ok-runs.runs.items = omega arith in
+    let numbers : c.in_ok-firsts.firsts.entries ≡ numbered (length c.in_ok-runs.runs.items) 1 (map item_of c.in_ok-items.items.items) =
+    c.in_ok-firsts.ensures ∙ ap (λ (n : ℕ). numbered n 1 (map item_of c.as_slice-2.result.now)) count
+    ∙ ap (λ (items : List Item). numbered (length c.in_ok-runs.runs.items) 1 (map item_of items)) c.as_slice-2.ensures.value in
+    let have = c.in_ok-runs.ensures in
+    let long : length c.in_ok-runs.runs.items ≡ length have.runs =
+    sym (length-map c.in_ok-runs.runs.items run_of) ∙ (ap (λ (runs : List Run). length runs) have.same ∙ length-map have.runs blanked) in
+    record {
+      size = c.unwrap-size.result;
+      size_is = size_is;
+      runs = have.runs;
+      runs_are = have.are_runs;
+      items = map item_of c.in_ok-items.items.items;
+      items_are = (sized c.args.image.now c.args.entry c.unwrap-size.result c.in_ok-items.items.items c.in_ok-items.ensures.found.0 size_is).1;
+      numbers = numbers ∙ ap (λ (n : ℕ). numbered n 1 (map item_of c.in_ok-items.items.items)) long;
+    }

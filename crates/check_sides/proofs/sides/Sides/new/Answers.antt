@@ -16,6 +16,7 @@ use Rattle.check_setup.specs.declared.entries.File.{File}
 use Rattle.check_sides.specs.Entries.{AreEntriesFor}
 use Rattle.check_sides.specs.Made.{AreCodeOf, IsSound}
 use Rattle.check_sides.specs.Sides.{functions_in, numbering_by, pair_with}
+use Rattle.check_sides.proofs.Listed.{are_listed}
 use Rattle.check_sides.proofs.Listing.{are_entries, texts_long}
 use Rattle.check_sides.proofs.Ready.{enough_functions, ready}
 use Rattle.check_sides.proofs.Sound.{sound_entries}
@@ -68,4 +69,5 @@ returns-5 c = λ read.
           c.as_slice-3.ensures.value
           (are_entries unit pairs.entries file list c.args.pairs.now.functions.items image coded.firsts graphs (sym c.global_pointer.ensures)
           (enough_functions list c.args.pairs.now.functions.items c.requires.paired.listed) made entries);
+      listed = are_listed image unit list pairs c.requires.paired runs graphs c.in-Ok-attempt.ensures.runs coded;
     }
