@@ -8,9 +8,8 @@ use Rattle.std.proofs.lemmas.Result.{on_ok_weaker}
 use Rattle.cert_lines.specs.declared.lines.Line.{Line as CodeLine}
 use Rattle.cert_lines.specs.declared.lines.Line.TheVariants as code
 use Rattle.cert_lines.specs.Views.{line_of}
-use Rattle.clause_spec.specs.Log.{Step}
 use Rattle.cert_spec.specs.declared.Symbol.{Symbol}
-use Rattle.cert_spec.specs.Lines.{Line, Header, Function, Relation, LogStep, End}
+use Rattle.cert_spec.specs.Lines.{Line, Header, Function, Relation, End}
 use Rattle.cert_spec.specs.Certificates.{Expected, AHeader, TheParts, BinaryInlines, SourceInlines, AProof, ARelation, ALog, AStep, after, can_stand, is_header, is_part}
 use Rattle.proof_spec.specs.Frames.{Frame}
 use Rattle.check_spec.specs.Verdict as spec
@@ -29,7 +28,7 @@ use Rattle.cert_check.specs.Jobs.{jobs_of}
 use Rattle.cert_check.specs.Stands.{IsOfProof, of_binary, of_source, of_proof, AreOf, no_job, a_proof, a_log, IsNext, StandsAfter, is_unchecked}
 use Rattle.cert_check.specs.Steps.{Comes, IsStep}
 use Rattle.cert_frames.specs.Parts.{AreIndices, IsNamed, HasPart, IsFreeAt, IsMissingAt}
-use Rattle.cert_check.specs.Walks.{ArePicked, IsState, between, inside, Standing, at_header, at_first, in_part, at_end, Keeps, IsSound, IsWalk, StepsTo, WalkStands, Goes, IsInside, ComesAt, IsInPart, GoesInside, BeginsAt, Begins, Ends, named_fault}
+use Rattle.cert_check.specs.Walks.{ArePicked, IsState, between, inside, Standing, at_header, at_first, in_part, at_end, Keeps, IsSound, IsWalk, StepsTo, WalkStands, Goes, IsInside, IsPlain, ComesAt, IsInPart, GoesInside, BeginsAt, Begins, Ends, named_fault}
 use Rattle.cert_frames.proofs.Indexed.{one_item}
 use Rattle.cert_check.proofs.Picked.{listed_there, state_picked, is_free, never_free, is_missing, none_missing}
 use Rattle.cert_check.proofs.Walked.{ends}
@@ -87,7 +86,7 @@ at_version walk _ _ (at_header empty) is = (empty, refl)
 at_version walk _ _ (at_first empty) is = absurd (cc)
 at_version walk e others (in_part _ some are) is = absurd (header_of e others walk.jobs.items are is)
 
-no_item : {X : Type 0} (xs before : List X) (x : X) → xs ≡ [] → xs ≡ before ++ x ∷ [] → ⊥
+pub no_item : {X : Type 0} (xs before : List X) (x : X) → xs ≡ [] → xs ≡ before ++ x ∷ [] → ⊥
 no_item xs before x empty is = absurd (omega (arith, ap length empty, ap length is, length-append before (x ∷ [])))
 
 pub some_item : {X : Type 0} (xs before : List X) (x : X) → xs ≡ before ++ x ∷ [] → 0 < length xs
@@ -104,12 +103,12 @@ header_goes codes walk index at =
           let is = only_header e stands in
           let here = at_version walk e others standing is in
           subst (Standing walk) (sym (ap (λ (x : Expected). after x Header ++ others) is ∙ ap (λ (l : List Expected). TheParts ∷ l) here.1)) (at_first here.0);
-      step = λ listed are s state. by listed s state version.0;
+      step = λ listed ahead are s state. by listed ahead s state version.0;
     }
   where
-    by : (listed : List spec.Listed) (s : State) → IsState codes listed walk s → walk.parts.items ≡ [] → StepsTo codes listed walk s Header index (Ok (tt {0}))
-    by listed _ (between empty) none = (Between [], spec.header, inr (between empty))
-    by listed _ (inside before k function f parts is there at picked) none = absurd (no_item walk.parts.items before k none is)
+    by : (listed : List spec.Listed) (ahead : List Line) (s : State) → IsState codes listed walk s → walk.parts.items ≡ [] → StepsTo codes listed ahead walk s Header index (Ok (tt {0}))
+    by listed ahead _ (between empty) none = (Between [], spec.header, inr (between empty))
+    by listed ahead _ (inside before k function f parts is there at picked) none = absurd (no_item walk.parts.items before k none is)
 
 -- ---- a part begins
 
@@ -141,15 +140,15 @@ module _ (codes : List Listed) (old now : Walk) (name : List ℕ) (stack line in
   stays : BeginsAt is_named.function old now index stack (Ok (tt {0})) → jobs_of now.bank (frame_at is_named.function) now.jobs.items ≡ spec.Prove (frame_at is_named.function) ∷ []
   stays begins = ap (λ (w : Walk). jobs_of w.bank (frame_at is_named.function) w.jobs.items) begins.4 ∙ begins.1.jobs
 
-  begins_step : BeginsAt is_named.function old now index stack (Ok (tt {0})) → (listed : List spec.Listed) → AreListed codes listed → (s : State) → IsState codes listed old s
-      → StepsTo codes listed now s (Function name stack) line (Ok (tt {0}))
-  begins_step begins listed are s state =
+  begins_step : BeginsAt is_named.function old now index stack (Ok (tt {0})) → (listed : List spec.Listed) (ahead : List Line) → AreListed codes listed → (s : State) → IsState codes listed old s
+      → StepsTo codes listed ahead now s (Function name stack) line (Ok (tt {0}))
+  begins_step begins listed ahead are s state =
       let found = listed_there codes listed are index is_named.function is_named.there in
       let f = found.0 in
       let is = found.2 in
-      let passes : Passes listed s (Function name stack) (Inside (begun s) f (spec.Prove f.frame ∷ [])) =
-      subst (λ (n : List ℕ). Passes listed s (Function n stack) (Inside (begun s) f (spec.Prove f.frame ∷ []))) (is.named ∙ is_named.named)
-      (subst (λ (n : ℕ). Passes listed s (Function f.name n) (Inside (begun s) f (spec.Prove f.frame ∷ []))) (is.stack_is ∙ begins.2)
+      let passes : Passes listed ahead s (Function name stack) (Inside (begun s) f (spec.Prove f.frame ∷ [])) =
+      subst (λ (n : List ℕ). Passes listed ahead s (Function n stack) (Inside (begun s) f (spec.Prove f.frame ∷ []))) (is.named ∙ is_named.named)
+      (subst (λ (n : ℕ). Passes listed ahead s (Function f.name n) (Inside (begun s) f (spec.Prove f.frame ∷ []))) (is.stack_is ∙ begins.2)
       (spec.function s f (free_at listed are s state f found.1 is))) in
       let jobs : jobs_of now.bank (frame_at is_named.function) now.jobs.items ≡ spec.Prove f.frame ∷ [] =
       stays begins ∙ ap (λ (frame : Frame). spec.Prove frame ∷ []) (sym is.frame_is) in
@@ -157,9 +156,9 @@ module _ (codes : List Listed) (old now : Walk) (name : List ℕ) (stack line in
       inside old.parts.items index is_named.function f (begun s) begins.3 is_named.there found.1 (state_picked codes listed old s state) in
       (Inside (begun s) f (spec.Prove f.frame ∷ []), passes, inr (subst (λ (js : List spec.Job). IsState codes listed now (Inside (begun s) f js)) jobs at))
 
-  other_stack : (function_stack : is_named.function.stack ≡ stack → ⊥) → (listed : List spec.Listed) → AreListed codes listed → (s : State) → IsState codes listed old s
-      → StepsTo codes listed now s (Function name stack) line (Err (Broken (named.Listed index) fault.Stack))
-  other_stack apart listed are s state =
+  other_stack : (function_stack : is_named.function.stack ≡ stack → ⊥) → (listed : List spec.Listed) (ahead : List Line) → AreListed codes listed → (s : State) → IsState codes listed old s
+      → StepsTo codes listed ahead now s (Function name stack) line (Err (Broken (named.Listed index) fault.Stack))
+  other_stack apart listed ahead are s state =
       let found = listed_there codes listed are index is_named.function is_named.there in
       let f = found.0 in
       let is = found.2 in
@@ -183,15 +182,16 @@ module _ (codes : List Listed) (old now : Walk) (name : List ℕ) (stack line in
   begun_goes (Err (Broken (named.Listed k) fault.Stack)) begins = record {
     sound = tt;
     stands = tt;
-    step = λ listed are s state.
-        subst (λ (n : ℕ). StepsTo codes listed now s (Function name stack) line (Err (Broken (named.Listed n) fault.Stack))) (sym begins.0) (other_stack begins.1 listed are s state);
+    step = λ listed ahead are s state.
+        subst (λ (n : ℕ). StepsTo codes listed ahead now s (Function name stack) line (Err (Broken (named.Listed n) fault.Stack))) (sym begins.0) (other_stack begins.1 listed ahead are s state);
   }
-  begun_goes (Err NoMemory) begins = record { sound = tt; stands = tt; step = λ listed are s state. tt }
+  begun_goes (Err NoMemory) begins = record { sound = tt; stands = tt; step = λ listed ahead are s state. tt }
   begun_goes (Err (Broken (named.Listed k) fault.Later)) begins = absurd begins
   begun_goes (Err (Broken (named.Listed k) fault.Stranger)) begins = absurd begins
   begun_goes (Err (Broken (named.Listed k) fault.Sort)) begins = absurd begins
   begun_goes (Err (Broken (named.Listed k) fault.Cyclic)) begins = absurd begins
   begun_goes (Err (Broken (named.Listed k) fault.Logs)) begins = absurd begins
+  begun_goes (Err (Broken (named.Listed k) fault.Step)) begins = absurd begins
   begun_goes (Err (Broken (named.Listed k) fault.Unclosed)) begins = absurd begins
   begun_goes (Err (Broken (named.Listed k) fault.Missing)) begins = absurd begins
   begun_goes (Err (Broken (named.Line n) rule)) begins = absurd begins
@@ -215,7 +215,7 @@ pub stranger_goes : (codes : List Listed) (old now : Walk) (name : List ℕ) (st
 stranger_goes codes old now name stack line none = record {
   sound = tt;
   stands = tt;
-  step = λ listed are s state. (
+  step = λ listed ahead are s state. (
     name,
     (refl, stack, refl),
     spec.stranger s name stack (never_free codes listed are old.parts.items (begun s) (state_picked codes listed old s state) name none),
@@ -228,9 +228,9 @@ module _ (codes : List Listed) (walk : Walk) (at : IsWalk codes walk End) (index
   end_stands : WalkStands walk walk End
   end_stands = λ e others standing stands. subst (Standing walk) (sym (ends walk e others standing stands)) at_end
 
-  missing_step : (k : ℕ) → IsMissingAt codes walk.parts.items (Some k) → (listed : List spec.Listed) → AreListed codes listed → (s : State) → IsState codes listed walk s
-      → StepsTo codes listed walk s End index (Err (Broken (named.Listed k) fault.Missing))
-  missing_step k missing listed are s state =
+  missing_step : (k : ℕ) → IsMissingAt codes walk.parts.items (Some k) → (listed : List spec.Listed) (ahead : List Line) → AreListed codes listed → (s : State) → IsState codes listed walk s
+      → StepsTo codes listed ahead walk s End index (Err (Broken (named.Listed k) fault.Missing))
+  missing_step k missing listed ahead are s state =
       let found = listed_there codes listed are k missing.0 missing.1 in (
         found.0.name,
         record { function = missing.0; there = missing.1; named = sym found.2.named },
@@ -241,7 +241,7 @@ module _ (codes : List Listed) (walk : Walk) (at : IsWalk codes walk End) (index
   end_goes (Ok done) all = record {
     sound = at.sound;
     stands = end_stands;
-    step = λ listed are s state. (
+    step = λ listed ahead are s state. (
       Between (begun s),
       spec.last s (none_missing codes listed are walk.parts.items (begun s) (state_picked codes listed walk s state) all),
       inl refl,
@@ -255,6 +255,7 @@ module _ (codes : List Listed) (walk : Walk) (at : IsWalk codes walk End) (index
   end_goes (Err (Broken (named.Listed k) fault.Sort)) missing = absurd missing
   end_goes (Err (Broken (named.Listed k) fault.Cyclic)) missing = absurd missing
   end_goes (Err (Broken (named.Listed k) fault.Logs)) missing = absurd missing
+  end_goes (Err (Broken (named.Listed k) fault.Step)) missing = absurd missing
   end_goes (Err (Broken (named.Listed k) fault.Unclosed)) missing = absurd missing
   end_goes (Err (Broken (named.Line n) rule)) missing = absurd missing
   end_goes (Err (Above q)) missing = absurd missing
@@ -331,7 +332,7 @@ part_below n xs i x indices is within = subst (λ (k : ℕ). k < n) (sym is) (in
 
 module _ (codes : List Listed) (old now : Walk) (line : CodeLine) (index part : ℕ) (before : List ℕ) (at : IsWalk codes old (line_of line)) (is_inside : IsInside line)
     (last : old.parts.items ≡ before ++ part ∷ []) (function : Listed) (function_there : slice_get codes part ≡ Some function) where
-  kept_inside : now.parts ≡ old.parts → Keeps function now → IsSound codes now
+  pub kept_inside : now.parts ≡ old.parts → Keeps function now → IsSound codes now
   kept_inside same keeps = record {
     indices = subst (λ (list : Vec ℕ Global). AreIndices (length codes) list.items) (sym same) at.sound.indices;
     kept = λ first k other is there.
@@ -340,7 +341,7 @@ module _ (codes : List Listed) (old now : Walk) (line : CodeLine) (index part : 
         subst (λ (g : Listed). Keeps g now) equal keeps;
   }
 
-  some_now : now.parts ≡ old.parts → 0 < length now.parts.items
+  pub some_now : now.parts ≡ old.parts → 0 < length now.parts.items
   some_now same = some_item now.parts.items before part (ap (λ (list : Vec ℕ Global). list.items) same ∙ last)
 
   stands_inside : now.parts ≡ old.parts → ((e : Expected) (others : List Expected) → AreOf (e ∷ others) old.jobs.items → can_stand e (line_of line) ≡ true
@@ -352,38 +353,38 @@ module _ (codes : List Listed) (old now : Walk) (line : CodeLine) (index part : 
       by _ _ (at_first empty) stands = absurd (no_item old.parts.items before part empty last)
       by e others (in_part _ some are) stands = in_part (after e (line_of line) ++ others) (some_now same) (after_line e others are stands)
 
-  steps_inside : (result : Result (Unit {0}) Fault) → now.parts ≡ old.parts → (listed parts : List spec.Listed) (f : spec.Listed) (first : List ℕ) → IsListed function f
+  steps_inside : (result : Result (Unit {0}) Fault) → now.parts ≡ old.parts → (listed : List spec.Listed) (ahead : List Line) (parts : List spec.Listed) (f : spec.Listed) (first : List ℕ) → IsListed function f
       → old.parts.items ≡ first ++ part ∷ [] → slice_get listed part ≡ Some f → ArePicked listed first parts
-      → ComesAt listed parts f (jobs_of old.bank (frame_at function) old.jobs.items) (jobs_of now.bank (frame_at function) now.jobs.items) (line_of line) part result
-      → StepsTo codes listed now (Inside parts f (jobs_of old.bank (frame_at function) old.jobs.items)) (line_of line) index result
-  steps_inside (Ok done) same listed parts f first is split there picked comes =
+      → ComesAt listed ahead parts f (jobs_of old.bank (frame_at function) old.jobs.items) (jobs_of now.bank (frame_at function) now.jobs.items) (line_of line) part result
+      → StepsTo codes listed ahead now (Inside parts f (jobs_of old.bank (frame_at function) old.jobs.items)) (line_of line) index result
+  steps_inside (Ok done) same listed ahead parts f first is split there picked comes =
       let at : IsState codes listed now (Inside parts f (jobs_of now.bank (frame_at function) now.jobs.items)) =
       inside first part function f parts (ap (λ (list : Vec ℕ Global). list.items) same ∙ split) function_there there picked in
       (Inside parts f (jobs_of now.bank (frame_at function) now.jobs.items), comes, inr at)
-  steps_inside (Err (Broken (named.Listed k) rule)) same listed parts f first is split there picked comes =
+  steps_inside (Err (Broken (named.Listed k) rule)) same listed ahead parts f first is split there picked comes =
       let here : IsNamed codes part f.name = record { function = function; there = function_there; named = sym is.named } in
       (f.name, subst (λ (n : ℕ). IsNamed codes n f.name) (sym comes.0) here, comes.1)
-  steps_inside (Err (Broken (named.Line n) rule)) same listed parts f first is split there picked comes = absurd comes
-  steps_inside (Err (Above q)) same listed parts f first is split there picked comes = comes
-  steps_inside (Err NoMemory) same listed parts f first is split there picked comes = tt
+  steps_inside (Err (Broken (named.Line n) rule)) same listed ahead parts f first is split there picked comes = absurd comes
+  steps_inside (Err (Above q)) same listed ahead parts f first is split there picked comes = comes
+  steps_inside (Err NoMemory) same listed ahead parts f first is split there picked comes = tt
 
   pub inside_goes : (result : Result (Unit {0}) Fault) → IsInPart function old now (line_of line) part result → Goes codes old now (line_of line) index result
   inside_goes result goes = record {
     sound = on_ok_weaker result (kept_inside goes.parts) goes.kept;
     stands = on_ok_weaker result (stands_inside goes.parts) goes.stands;
-    step = λ listed are s state. by listed are s state;
+    step = λ listed ahead are s state. by listed ahead are s state;
   }
     where
-      by : (listed : List spec.Listed) → AreListed codes listed → (s : State) → IsState codes listed old s → StepsTo codes listed now s (line_of line) index result
-      by listed are _ (between empty) = absurd (no_item old.parts.items before part empty last)
-      by listed are _ (inside first k found f parts split there at picked) =
+      by : (listed : List spec.Listed) (ahead : List Line) → AreListed codes listed → (s : State) → IsState codes listed old s → StepsTo codes listed ahead now s (line_of line) index result
+      by listed ahead are _ (between empty) = absurd (no_item old.parts.items before part empty last)
+      by listed ahead are _ (inside first k found f parts split there at picked) =
           let ends_so = same_from_push before first part k (sym last ∙ split) in
           let equal : function ≡ found = one_item codes k function found (ap (slice_get codes) (sym ends_so.1) ∙ function_there) there in
           let here : slice_get listed part ≡ Some f = ap (slice_get listed) ends_so.1 ∙ at in
           let is = are.each part function f function_there here in
           let split_here : old.parts.items ≡ first ++ part ∷ [] = split ∙ ap (λ (n : ℕ). first ++ n ∷ []) (sym ends_so.1) in
-          subst (λ (g : Listed). StepsTo codes listed now (Inside parts f (jobs_of old.bank (frame_at g) old.jobs.items)) (line_of line) index result) equal
-          (steps_inside result goes.parts listed parts f first is split_here here picked (goes.step listed parts f is))
+          subst (λ (g : Listed). StepsTo codes listed ahead now (Inside parts f (jobs_of old.bank (frame_at g) old.jobs.items)) (line_of line) index result) equal
+          (steps_inside result goes.parts listed ahead parts f first is split_here here picked (goes.step listed ahead parts f is))
 
 no_relation : (e : Expected) → IsOfProof e → (t : List Symbol) → can_stand e (Relation t) ≡ true → ⊥
 no_relation _ of_binary t h = absurd (cc)
@@ -395,41 +396,31 @@ never_relation t _ _ _ no_job h = absurd (cc)
 never_relation t e others jobs (a_proof _ _ below _ premises of are same) h = no_relation e of t h
 never_relation t _ others jobs (a_log _ below _ goal are same) h = absurd (cc)
 
-no_log_step : (e : Expected) → IsOfProof e → (step : Step) → can_stand e (LogStep step) ≡ true → ⊥
-no_log_step _ of_binary step h = absurd (cc)
-no_log_step _ of_source step h = absurd (cc)
-no_log_step _ (of_proof room) step h = absurd (cc)
-
-never_log_step : (step : Step) (e : Expected) (others : List Expected) (jobs : List Job) → AreOf (e ∷ others) jobs → can_stand e (LogStep step) ≡ true → ⊥
-never_log_step step _ _ _ no_job h = absurd (cc)
-never_log_step step e others jobs (a_proof _ _ below _ premises of are same) h = no_log_step e of step h
-never_log_step step _ others jobs (a_log _ below _ goal are same) h = absurd (cc)
-
 -- a line that is no log, Leaf or Case and no rule that isn't checked yet can't be next
 pub no_other_line : (line : CodeLine) (jobs : List Job) → IsNext jobs (line_of line) → IsInside line → is_unchecked (line_of line) ≡ false → ((n : ℕ) → line ≡ code.Leaf n → ⊥)
-    → ((t : _) → line ≡ code.Case t → ⊥) → ((n : ℕ) → line ≡ code.Log n → ⊥) → ⊥
-no_other_line code.Header jobs next is checked no_leaf no_case no_log = absurd (cc)
-no_other_line (code.Function part) jobs next is checked no_leaf no_case no_log = absurd (cc)
-no_other_line (code.InlineBinary p) jobs next is checked no_leaf no_case no_log = absurd (cc)
-no_other_line (code.InlineSource p) jobs next is checked no_leaf no_case no_log = absurd (cc)
-no_other_line (code.Leaf n) jobs next is checked no_leaf no_case no_log = no_leaf n refl
-no_other_line (code.Case t) jobs next is checked no_leaf no_case no_log = no_case t refl
-no_other_line (code.RestrictBinary r) jobs next is checked no_leaf no_case no_log = absurd (cc)
-no_other_line (code.RestrictSource r) jobs next is checked no_leaf no_case no_log = absurd (cc)
-no_other_line (code.Split s) jobs next is checked no_leaf no_case no_log = absurd (cc)
-no_other_line (code.Call c) jobs next is checked no_leaf no_case no_log = absurd (cc)
-no_other_line (code.Relation t) jobs next is checked no_leaf no_case no_log = never_relation t.value.items next.expected next.others jobs next.are next.stands
-no_other_line (code.Log n) jobs next is checked no_leaf no_case no_log = no_log n refl
-no_other_line (code.Step k h) jobs next is checked no_leaf no_case no_log = never_log_step (record { literals = []; hints = [] }) next.expected next.others jobs next.are next.stands
-no_other_line code.End jobs next is checked no_leaf no_case no_log = absurd (cc)
+    → ((t : _) → line ≡ code.Case t → ⊥) → IsPlain line → ⊥
+no_other_line code.Header jobs next is checked no_leaf no_case plain = absurd (cc)
+no_other_line (code.Function part) jobs next is checked no_leaf no_case plain = absurd (cc)
+no_other_line (code.InlineBinary p) jobs next is checked no_leaf no_case plain = absurd (cc)
+no_other_line (code.InlineSource p) jobs next is checked no_leaf no_case plain = absurd (cc)
+no_other_line (code.Leaf n) jobs next is checked no_leaf no_case plain = no_leaf n refl
+no_other_line (code.Case t) jobs next is checked no_leaf no_case plain = no_case t refl
+no_other_line (code.RestrictBinary r) jobs next is checked no_leaf no_case plain = absurd (cc)
+no_other_line (code.RestrictSource r) jobs next is checked no_leaf no_case plain = absurd (cc)
+no_other_line (code.Split s) jobs next is checked no_leaf no_case plain = absurd (cc)
+no_other_line (code.Call c) jobs next is checked no_leaf no_case plain = absurd (cc)
+no_other_line (code.Relation t) jobs next is checked no_leaf no_case plain = never_relation t.value.items next.expected next.others jobs next.are next.stands
+no_other_line (code.Log n) jobs next is checked no_leaf no_case plain = absurd (cc)
+no_other_line (code.Step k h) jobs next is checked no_leaf no_case plain = absurd (cc)
+no_other_line code.End jobs next is checked no_leaf no_case plain = absurd (cc)
 
 -- ---- the outcome of a line inside a part
 
-comes_named : (listed parts : List spec.Listed) (f : spec.Listed) (before after : List spec.Job) (line : Line) (index : ℕ) (broken : PartFault)
-    → Comes listed parts f before after line (Err broken) → ComesAt listed parts f before after line index (Err (named_fault index broken))
-comes_named listed parts f before after line index (inner.Broken rule) comes = (refl, comes)
-comes_named listed parts f before after line index (inner.Above q) comes = comes
-comes_named listed parts f before after line index inner.NoMemory comes = tt
+comes_named : (listed : List spec.Listed) (ahead : List Line) (parts : List spec.Listed) (f : spec.Listed) (before after : List spec.Job) (line : Line) (index : ℕ) (broken : PartFault)
+    → Comes listed ahead parts f before after line (Err broken) → ComesAt listed ahead parts f before after line index (Err (named_fault index broken))
+comes_named listed ahead parts f before after line index (inner.Broken rule) comes = (refl, comes)
+comes_named listed ahead parts f before after line index (inner.Above q) comes = comes
+comes_named listed ahead parts f before after line index inner.NoMemory comes = tt
 
 module _ (codes : List Listed) (old now : Walk) (line : Line) (index : ℕ) (function : Listed) (there : slice_get codes index ≡ Some function) (same : now.parts ≡ old.parts) where
   for_each : (result : Result (Unit {0}) Fault) → IsInPart function old now line index result → GoesInside codes old now index line result
@@ -439,7 +430,7 @@ module _ (codes : List Listed) (old now : Walk) (line : Line) (index : ℕ) (fun
   pub passes_inside : IsStep function old.bank now.bank old.jobs.items now.jobs.items line (Ok (tt {0})) → Keeps function now → StandsAfter old.jobs.items line now.jobs.items
       → GoesInside codes old now index line (Ok (tt {0}))
   passes_inside step keeps stands = for_each (Ok (tt {0})) (record {
-    step = λ listed parts f is. step listed parts f is;
+    step = λ listed ahead parts f is. step listed ahead parts f is;
     kept = keeps;
     stands = stands;
     parts = same;
@@ -449,9 +440,9 @@ module _ (codes : List Listed) (old now : Walk) (line : Line) (index : ℕ) (fun
       → IsStep function old.bank now.bank old.jobs.items now.jobs.items line (Err broken) → GoesInside codes old now index line (Err answer)
   fails_inside broken answer is step = subst (λ (x : Fault). GoesInside codes old now index line (Err x)) (sym is)
       (for_each (Err (named_fault index broken)) (record {
-        step = λ listed parts f listed_so.
-            comes_named listed parts f (jobs_of old.bank (frame_at function) old.jobs.items) (jobs_of now.bank (frame_at function) now.jobs.items) line index broken
-            (step listed parts f listed_so);
+        step = λ listed ahead parts f listed_so.
+            comes_named listed ahead parts f (jobs_of old.bank (frame_at function) old.jobs.items) (jobs_of now.bank (frame_at function) now.jobs.items) line index broken
+            (step listed ahead parts f listed_so);
         kept = tt;
         stands = tt;
         parts = same;

@@ -1,10 +1,9 @@
 -- Lines inside a part, as the definition's walk takes them.
-use Rattle.std.proofs.Common.{◌≡◌, ◌∙◌, inl, inr, ◌&&◌, if◌then◌else◌, nat_le, ℕ, ◌<◌, Bool, true, false, Vec, Global, List, [], ◌∷◌, ◌++◌, length, map, Result, Ok, Err, refl, sym, ap, subst}
+use Rattle.std.proofs.Common.{◌≡◌, ◌∙◌, inl, inr, ℕ, ◌<◌, true, Vec, Global, List, [], ◌∷◌, ◌++◌, length, map, Result, Ok, Err, refl, sym, ap, subst}
 use Rattle.std.specs.Prelude.{All}
 use Rattle.std.proofs.lemmas.List.{length-map}
 use Rattle.std.proofs.lemmas.List.Elements.{All-nil, All-cons}
 use Rattle.std.proofs.lemmas.Option.{get_or_from_slice_get, slice_get_within}
-use Rattle.memory_spec.specs.Runs.{Run}
 use Rattle.term_spec.specs.Term.{Term, not_term}
 use Rattle.term_bank.specs.Nodes.{tree_at, Extends}
 use Rattle.proof_spec.specs.Frames.{Frame}
@@ -19,19 +18,9 @@ use Rattle.visit_spec.proofs.Order.{acyclic}
 use Rattle.sim_rules.specs.Outcome.{AreObligations, IsRuleFault, HasFewVisits}
 use Rattle.sim_rules.specs.declared.fault.RuleFault.{RuleFault as RuleError}
 use Rattle.sim_rules.specs.declared.fault.RuleFault.TheVariants as obligation
-use Rattle.clause_spec.specs.Log.{Step}
-use Rattle.discharge.specs.Answers.{Answers}
-use Rattle.discharge.specs.declared.error.CloseError.{CloseError}
-use Rattle.discharge.specs.declared.error.CloseError.TheVariants as close
 use Rattle.cert_spec.specs.declared.Symbol.{Symbol}
 use Rattle.cert_spec.specs.Lines.{Line, Header, Function, InlineBinary, InlineSource, Leaf, Case, RestrictBinary, RestrictSource, Split, Call, Relation, Log, LogStep, End}
-use Rattle.closing_spec.specs.Closing.{Closes, IsLarge, Fails as FailsStep, closing, closing_of_form, closing_of_clauses, checked, is_truth, has_no_step}
-use Rattle.normal_spec.specs.Normal.{normal}
-use Rattle.blast_spec.specs.Goal.{cnf_of}
-use Rattle.clause_spec.specs.Clause.{Clause, Cnf}
-use Rattle.term_spec.specs.Subterms.{subterm_count}
-use Rattle.tv_base.specs.declared.limits.TheConstants.{MAX_TERMS, MAX_VARIABLES, MAX_VISITS}
-use Rattle.closing_spec.specs.declared.GoalQuantity.TheVariants as above
+use Rattle.tv_base.specs.declared.limits.TheConstants.{MAX_VISITS}
 use Rattle.check_spec.specs.declared.RuleFault.TheVariants as fault
 use Rattle.check_spec.specs.declared.Quantity.TheVariants as quantity
 use Rattle.check_spec.specs.Terms.{IsTermOf}
@@ -44,13 +33,13 @@ use Rattle.cert_check.specs.declared.fault.PartFault.{PartFault}
 use Rattle.cert_check.specs.declared.fault.PartFault.TheVariants.{Broken, Above, NoMemory}
 use Rattle.cert_frames.specs.declared.jobs.Branch.{Branch}
 use Rattle.cert_frames.specs.declared.jobs.Job.{Job}
-use Rattle.cert_frames.specs.declared.jobs.Job.TheVariants.{Prove, Close}
+use Rattle.cert_frames.specs.declared.jobs.Job.TheVariants.{Prove}
 use Rattle.cert_frames.specs.declared.listed.Listed.{Listed}
 use Rattle.cert_frames.specs.Listed.{IsListed, frame_at}
 use Rattle.cert_frames.specs.Jobs.{premises_at, frame_with, logs_last, AreInside, HasBranches}
 use Rattle.cert_check.specs.Jobs.{jobs_of}
 use Rattle.cert_check.specs.Stands.{is_unchecked}
-use Rattle.cert_check.specs.Steps.{Comes, AreGoals, AreGoalsOf, HasLeaf, IsTestAt, IsClosed, goal_fault_of, log_fault_of}
+use Rattle.cert_check.specs.Steps.{Comes, AreGoals, AreGoalsOf, HasLeaf, IsTestAt, goal_fault_of}
 use Rattle.cert_check.proofs.Pushed.{jobs_top, jobs_logs, branches_jobs, same_jobs}
 
 -- ---- ids of terms
@@ -78,12 +67,12 @@ frame_jobs trees code f is jobs = ap (λ (frame : Frame). jobs_of trees frame jo
 
 -- ---- Leaf
 
-module _ (listed parts : List spec.Listed) (code : Listed) (f : spec.Listed) (is : IsListed code f) where
+module _ (listed : List spec.Listed) (ahead : List Line) (parts : List spec.Listed) (code : Listed) (f : spec.Listed) (is : IsListed code f) where
   -- a Leaf whose frame is first passes, where there are as many logs as obligations
   pub leaf_passes : (old new : List Term) (before below after : List Job) (premises : Vec Branch Global) (goals : Vec ℕ Global) → Extends old new
       → before ≡ below ++ Prove premises ∷ [] → AreInside (length old) below → after ≡ below ++ logs_last goals.items
       → HasLeaf f.convention f.opening (frame_with f.frame (premises_at old premises.items)) new goals.items
-      → Passes listed (Inside parts f (jobs_of old (frame_at code) before)) (Leaf (length goals.items)) (Inside parts f (jobs_of new (frame_at code) after))
+      → Passes listed ahead (Inside parts f (jobs_of old (frame_at code) before)) (Leaf (length goals.items)) (Inside parts f (jobs_of new (frame_at code) after))
   leaf_passes old new before below after premises goals extends first inside now has =
       let frame = frame_with f.frame (premises_at old premises.items) in
       let rest = jobs_of old (frame_at code) below in
@@ -97,17 +86,17 @@ module _ (listed parts : List spec.Listed) (code : Listed) (f : spec.Listed) (is
       ∙ ap (λ (jobs : List spec.Job). map spec.Close (map (tree_at new) goals.items) ++ jobs) (same_jobs old new extends (frame_at code) below inside)
       ∙ ap (λ (list : List Term). map spec.Close list ++ rest) terms in
       let count : length are.terms ≡ length goals.items = ap length (sym terms) ∙ length-map goals.items (tree_at new) in
-      subst (λ (jobs : List spec.Job). Passes listed (Inside parts f jobs) (Leaf (length goals.items)) (Inside parts f (jobs_of new (frame_at code) after))) (sym was)
-      (subst (λ (jobs : List spec.Job). Passes listed (Inside parts f (spec.Prove frame ∷ rest)) (Leaf (length goals.items)) (Inside parts f jobs)) (sym will)
-      (subst (λ (n : ℕ). Passes listed (Inside parts f (spec.Prove frame ∷ rest)) (Leaf n) (Inside parts f (map spec.Close are.terms ++ rest))) count
+      subst (λ (jobs : List spec.Job). Passes listed ahead (Inside parts f jobs) (Leaf (length goals.items)) (Inside parts f (jobs_of new (frame_at code) after))) (sym was)
+      (subst (λ (jobs : List spec.Job). Passes listed ahead (Inside parts f (spec.Prove frame ∷ rest)) (Leaf (length goals.items)) (Inside parts f jobs)) (sym will)
+      (subst (λ (n : ℕ). Passes listed ahead (Inside parts f (spec.Prove frame ∷ rest)) (Leaf n) (Inside parts f (map spec.Close are.terms ++ rest))) count
       (spec.leaf parts f frame rest are.terms has.acyclic has.small are.are)))
 
   -- what a line breaks where a proof is first
   at_proof : (old : List Term) (before below : List Job) (premises : Vec Branch Global) (line : Line) (broken : spec.Fault) → before ≡ below ++ Prove premises ∷ []
-      → Fails listed (Inside parts f (spec.Prove (frame_with f.frame (premises_at old premises.items)) ∷ jobs_of old (frame_at code) below)) line broken
-      → Fails listed (Inside parts f (jobs_of old (frame_at code) before)) line broken
+      → Fails listed ahead (Inside parts f (spec.Prove (frame_with f.frame (premises_at old premises.items)) ∷ jobs_of old (frame_at code) below)) line 0 broken
+      → Fails listed ahead (Inside parts f (jobs_of old (frame_at code) before)) line 0 broken
   at_proof old before below premises line broken first fails =
-      subst (λ (jobs : List spec.Job). Fails listed (Inside parts f jobs) line broken)
+      subst (λ (jobs : List spec.Job). Fails listed ahead (Inside parts f jobs) line 0 broken)
       (sym (jobs_top old (frame_at code) before below (Prove premises) first
       ∙ ap (λ (g : Frame). spec.Prove (frame_with g (premises_at old premises.items)) ∷ jobs_of old (frame_at code) below) (sym is.frame_is)))
       fails
@@ -117,7 +106,7 @@ module _ (listed parts : List spec.Listed) (code : Listed) (f : spec.Listed) (is
   pub case_passes : (old new : List Term) (before below after : List Job) (premises : Vec Branch Global) (symbols : List Symbol) (test : ℕ) → Extends old new
       → before ≡ below ++ Prove premises ∷ [] → AreInside (length old) below → premises_at new premises.items ≡ premises_at old premises.items
       → HasBranches below after premises.items test → IsTestAt f symbols new (Ok test)
-      → Passes listed (Inside parts f (jobs_of old (frame_at code) before)) (Case symbols) (Inside parts f (jobs_of new (frame_at code) after))
+      → Passes listed ahead (Inside parts f (jobs_of old (frame_at code) before)) (Case symbols) (Inside parts f (jobs_of new (frame_at code) after))
   case_passes old new before below after premises symbols test extends first inside same has tested =
       let frame = frame_with f.frame (premises_at old premises.items) in
       let rest = jobs_of old (frame_at code) below in
@@ -130,13 +119,13 @@ module _ (listed parts : List spec.Listed) (code : Listed) (f : spec.Listed) (is
       ∙ ap (λ (terms : List Term). both (frame_with (frame_at code) terms) (jobs_of new (frame_at code) below)) same
       ∙ ap (λ (g : Frame). both (frame_with g (premises_at old premises.items)) (jobs_of new (frame_at code) below)) (sym is.frame_is)
       ∙ ap (λ (jobs : List spec.Job). both frame jobs) (same_jobs old new extends (frame_at code) below inside) in
-      subst (λ (jobs : List spec.Job). Passes listed (Inside parts f jobs) (Case symbols) (Inside parts f (jobs_of new (frame_at code) after))) (sym was)
-      (subst (λ (jobs : List spec.Job). Passes listed (Inside parts f (spec.Prove frame ∷ rest)) (Case symbols) (Inside parts f jobs)) (sym will)
+      subst (λ (jobs : List spec.Job). Passes listed ahead (Inside parts f jobs) (Case symbols) (Inside parts f (jobs_of new (frame_at code) after))) (sym was)
+      (subst (λ (jobs : List spec.Job). Passes listed ahead (Inside parts f (spec.Prove frame ∷ rest)) (Case symbols) (Inside parts f jobs)) (sym will)
       (spec.case parts f frame rest symbols (tree_at new test)
       (record { spelled = tested.1.spelled; line = tested.1.line })))
 
   pub case_fails : (old : List Term) (before below : List Job) (premises : Vec Branch Global) (symbols : List Symbol) → before ≡ below ++ Prove premises ∷ []
-      → ((test : Term) → IsTest f.frame symbols test → ⊥) → Fails listed (Inside parts f (jobs_of old (frame_at code) before)) (Case symbols) (NotProof f.name fault.Sort)
+      → ((test : Term) → IsTest f.frame symbols test → ⊥) → Fails listed ahead (Inside parts f (jobs_of old (frame_at code) before)) (Case symbols) 0 (NotProof f.name fault.Sort)
   case_fails old before below premises symbols first none =
       at_proof old before below premises (Case symbols) (NotProof f.name fault.Sort) first
       (spec.sort parts f (frame_with f.frame (premises_at old premises.items)) (jobs_of old (frame_at code) below) symbols
@@ -144,7 +133,7 @@ module _ (listed parts : List spec.Listed) (code : Listed) (f : spec.Listed) (is
 
   -- what a Case fails for, where its test isn't read
   pub test_fails : (old new : List Term) (before below after : List Job) (premises : Vec Branch Global) (symbols : List Symbol) (broken : PartFault) → before ≡ below ++ Prove premises ∷ []
-      → IsTestAt f symbols new (Err broken) → Comes listed parts f (jobs_of old (frame_at code) before) (jobs_of new (frame_at code) after) (Case symbols) (Err broken)
+      → IsTestAt f symbols new (Err broken) → Comes listed ahead parts f (jobs_of old (frame_at code) before) (jobs_of new (frame_at code) after) (Case symbols) (Err broken)
   test_fails old new before below after premises symbols (Broken fault.Sort) first none = case_fails old before below premises symbols first none
   test_fails old new before below after premises symbols NoMemory first none = tt
   test_fails old new before below after premises symbols (Broken fault.Later) first none = absurd none
@@ -152,6 +141,7 @@ module _ (listed parts : List spec.Listed) (code : Listed) (f : spec.Listed) (is
   test_fails old new before below after premises symbols (Broken fault.Stack) first none = absurd none
   test_fails old new before below after premises symbols (Broken fault.Cyclic) first none = absurd none
   test_fails old new before below after premises symbols (Broken fault.Logs) first none = absurd none
+  test_fails old new before below after premises symbols (Broken fault.Step) first none = absurd none
   test_fails old new before below after premises symbols (Broken fault.Unclosed) first none = absurd none
   test_fails old new before below after premises symbols (Broken fault.Missing) first none = absurd none
   test_fails old new before below after premises symbols (Above q) first none = absurd none
@@ -167,7 +157,7 @@ module _ (listed parts : List spec.Listed) (code : Listed) (f : spec.Listed) (is
 
   pub leaf_fails : (old new : List Term) (before below after : List Job) (premises : Vec Branch Global) (logs : ℕ) (broken : PartFault) → before ≡ below ++ Prove premises ∷ []
       → AreGoals f new (premises_at old premises.items) (Err broken)
-      → Comes listed parts f (jobs_of old (frame_at code) before) (jobs_of new (frame_at code) after) (Leaf logs) (Err broken)
+      → Comes listed ahead parts f (jobs_of old (frame_at code) before) (jobs_of new (frame_at code) after) (Leaf logs) (Err broken)
   leaf_fails old new before below after premises logs (Broken fault.Cyclic) first has =
       at_proof old before below premises (Leaf logs) (NotProof f.name fault.Cyclic) first
       (spec.cyclic parts f (frame_with f.frame (premises_at old premises.items)) (jobs_of old (frame_at code) below) logs has.0 has.1)
@@ -181,6 +171,7 @@ module _ (listed parts : List spec.Listed) (code : Listed) (f : spec.Listed) (is
   leaf_fails old new before below after premises logs (Broken fault.Stack) first has = absurd has
   leaf_fails old new before below after premises logs (Broken fault.Sort) first has = absurd has
   leaf_fails old new before below after premises logs (Broken fault.Logs) first has = absurd has
+  leaf_fails old new before below after premises logs (Broken fault.Step) first has = absurd has
   leaf_fails old new before below after premises logs (Broken fault.Unclosed) first has = absurd has
   leaf_fails old new before below after premises logs (Broken fault.Missing) first has = absurd has
   leaf_fails old new before below after premises logs (Above quantity.Terms) first has = absurd has
@@ -189,7 +180,7 @@ module _ (listed parts : List spec.Listed) (code : Listed) (f : spec.Listed) (is
   -- another number of logs
   pub logs_fail : (old new : List Term) (before below : List Job) (premises : Vec Branch Global) (logs : ℕ) (goals : Vec ℕ Global) → before ≡ below ++ Prove premises ∷ []
       → HasLeaf f.convention f.opening (frame_with f.frame (premises_at old premises.items)) new goals.items → (length goals.items ≡ logs → ⊥)
-      → Fails listed (Inside parts f (jobs_of old (frame_at code) before)) (Leaf logs) (NotProof f.name fault.Logs)
+      → Fails listed ahead (Inside parts f (jobs_of old (frame_at code) before)) (Leaf logs) 0 (NotProof f.name fault.Logs)
   logs_fail old new before below premises logs goals first has other =
       let are = has.are in
       let count : length are.terms ≡ length goals.items = ap length (sym (trees_held new goals.items are.terms are.held)) ∙ length-map goals.items (tree_at new) in
@@ -197,43 +188,9 @@ module _ (listed parts : List spec.Listed) (code : Listed) (f : spec.Listed) (is
       (spec.logs parts f (frame_with f.frame (premises_at old premises.items)) (jobs_of old (frame_at code) below) logs are.terms has.acyclic has.small are.are
       (λ same. other (sym (same ∙ count))))
 
-  -- ---- logs
-
-  -- the obligation that is first
-  at_goal : (old : List Term) (before below : List Job) (goal : ℕ) → before ≡ below ++ Close goal ∷ []
-      → spec.Close (tree_at old goal) ∷ jobs_of old (frame_at code) below ≡ jobs_of old (frame_at code) before
-  at_goal old before below goal first = sym (jobs_top old (frame_at code) before below (Close goal) first)
-
-  pub log_comes : (old new : List Term) (before below : List Job) (goal : ℕ) (result : Result (Unit {0}) PartFault) → Extends old new → before ≡ below ++ Close goal ∷ []
-      → AreInside (length old) below → IsClosed f.runs (tree_at old goal) result
-      → Comes listed parts f (jobs_of old (frame_at code) before) (jobs_of new (frame_at code) below) (Log 0) result
-  log_comes old new before below goal (Ok done) extends first inside closes =
-      subst (λ (jobs : List spec.Job). Passes listed (Inside parts f jobs) (Log 0) (Inside parts f (jobs_of new (frame_at code) below))) (at_goal old before below goal first)
-      (subst (λ (jobs : List spec.Job). Passes listed (Inside parts f (spec.Close (tree_at old goal) ∷ jobs_of old (frame_at code) below)) (Log 0) (Inside parts f jobs))
-      (sym (same_jobs old new extends (frame_at code) below inside))
-      (spec.log parts f (tree_at old goal) (jobs_of old (frame_at code) below) closes))
-  log_comes old new before below goal (Err (Broken fault.Unclosed)) extends first inside open_goal =
-      subst (λ (jobs : List spec.Job). Fails listed (Inside parts f jobs) (Log 0) (NotProof f.name fault.Unclosed)) (at_goal old before below goal first)
-      (spec.unclosed parts f (tree_at old goal) (jobs_of old (frame_at code) below) open_goal)
-  log_comes old new before below goal (Err (Above quantity.Terms)) extends first inside large =
-      subst (λ (jobs : List spec.Job). Fails listed (Inside parts f jobs) (Log 0) (Limit quantity.Terms)) (at_goal old before below goal first)
-      (spec.terms parts f (tree_at old goal) (jobs_of old (frame_at code) below) large)
-  log_comes old new before below goal (Err (Above quantity.Variables)) extends first inside large =
-      subst (λ (jobs : List spec.Job). Fails listed (Inside parts f jobs) (Log 0) (Limit quantity.Variables)) (at_goal old before below goal first)
-      (spec.variables parts f (tree_at old goal) (jobs_of old (frame_at code) below) large)
-  log_comes old new before below goal (Err NoMemory) extends first inside has = tt
-  log_comes old new before below goal (Err (Broken fault.Later)) extends first inside has = absurd has
-  log_comes old new before below goal (Err (Broken fault.Stranger)) extends first inside has = absurd has
-  log_comes old new before below goal (Err (Broken fault.Stack)) extends first inside has = absurd has
-  log_comes old new before below goal (Err (Broken fault.Sort)) extends first inside has = absurd has
-  log_comes old new before below goal (Err (Broken fault.Cyclic)) extends first inside has = absurd has
-  log_comes old new before below goal (Err (Broken fault.Logs)) extends first inside has = absurd has
-  log_comes old new before below goal (Err (Broken fault.Missing)) extends first inside has = absurd has
-  log_comes old new before below goal (Err (Above quantity.Visits)) extends first inside has = absurd has
-
   -- ---- rules that aren't checked yet
 
-  pub later_fails : (jobs : List spec.Job) (line : Line) → is_unchecked line ≡ true → Fails listed (Inside parts f jobs) line (NotProof f.name fault.Later)
+  pub later_fails : (jobs : List spec.Job) (line : Line) → is_unchecked line ≡ true → Fails listed ahead (Inside parts f jobs) line 0 (NotProof f.name fault.Later)
   later_fails jobs (InlineBinary p) is = spec.later parts f jobs (InlineBinary p) (spec.later_binary_inline p)
   later_fails jobs (InlineSource p) is = spec.later parts f jobs (InlineSource p) (spec.later_source_inline p)
   later_fails jobs (RestrictBinary p n) is = spec.later parts f jobs (RestrictBinary p n) (spec.later_binary_restriction p n)
@@ -249,30 +206,7 @@ module _ (listed parts : List spec.Listed) (code : Listed) (f : spec.Listed) (is
   later_fails jobs (LogStep t) is = absurd (cc)
   later_fails jobs End is = absurd (cc)
 
-  pub steps_fail : (jobs : List spec.Job) (steps : ℕ) → 0 < steps → Fails listed (Inside parts f jobs) (Log steps) (NotProof f.name fault.Later)
-  steps_fail jobs steps some = spec.later parts f jobs (Log steps) (spec.later_log steps some)
-
 -- ---- the parts of a line
-
--- a log without steps has no step that doesn't follow
-after_checked : (variables : ℕ) (clauses : List Clause) (n : ℕ) → checked variables clauses false 1 [] ≡ FailsStep n → ⊥
-unfolding checked
-after_checked variables clauses n is = absurd (cc)
-
-pub never_step : (runs : List Run) (goal : Term) (n : ℕ) → closing runs goal [] ≡ FailsStep n → ⊥
-never_step runs goal n is = by_size (nat_le (subterm_count goal) MAX_TERMS) is
-  where
-    by_clauses : (t : Bool) (cnf : Cnf) → (if t then checked cnf.variables cnf.clauses false 1 [] else IsLarge above.Variables) ≡ FailsStep n → ⊥
-    by_clauses true cnf is = after_checked cnf.variables cnf.clauses n is
-    by_clauses false cnf is = absurd (cc)
-
-    by_form : (t : Bool) (cnf : Cnf) → (if t then Closes else closing_of_clauses cnf []) ≡ FailsStep n → ⊥
-    by_form true cnf is = absurd (cc)
-    by_form false cnf is = by_clauses (nat_le cnf.variables MAX_VARIABLES) cnf is
-
-    by_size : (t : Bool) → (if t then closing_of_form (normal runs goal) [] else IsLarge above.Terms) ≡ FailsStep n → ⊥
-    by_size true is = by_form (is_truth (normal runs goal) && has_no_step []) (cnf_of (normal runs goal)) is
-    by_size false is = absurd (cc)
 
 -- the test that was read
 pub test_read : (code : Listed) (f : spec.Listed) → IsListed code f → (symbols : List Symbol) (trees : List Term) (id : ℕ)
@@ -294,20 +228,6 @@ no_test code f is symbols trees none = λ test is_test.
     let apart = subst (λ (frame : Frame). AreApart frame.setting.bodies) is.frame_is is.apart in
     let here = subst (λ (frame : Frame). IsTest frame symbols test) is.frame_is is_test in
     none apart test here.spelled here.line
-
--- what closing by no step answers, as the fault of a line
-pub closed_by : (runs : List Run) (goal : Term) (error : CloseError) (f : PartFault) → f ≡ log_fault_of error → {steps : List Step} → steps ≡ []
-    → Answers {A = Unit {0}} (closing runs goal steps) (Err error) → IsClosed runs goal (Err f)
-closed_by runs goal error f is none answers =
-    subst (λ (x : PartFault). IsClosed runs goal (Err x)) (sym is)
-    (by error (subst (λ (s : List Step). Answers {A = Unit {0}} (closing runs goal s) (Err error)) none answers))
-  where
-    by : (error : CloseError) → Answers {A = Unit {0}} (closing runs goal []) (Err error) → IsClosed runs goal (Err (log_fault_of error))
-    by (close.Large above.Terms count) answers = answers
-    by (close.Large above.Variables count) answers = answers
-    by (close.Step number) answers = absurd (never_step runs goal number answers)
-    by close.Unclosed answers = answers
-    by close.NoMemory answers = tt
 
 -- why there are no obligations, as the fault of a line
 pub goals_fail : (c : Convention) (o : Opening) (frame : Frame) (trees : List Term) (error : RuleError) → IsRuleFault o frame MAX_VISITS rule.Leaf error

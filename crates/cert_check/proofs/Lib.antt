@@ -1,3 +1,4 @@
+pub mod Taking
 pub mod Pushed
 pub mod Standing
 pub mod Leaving
@@ -5,6 +6,8 @@ pub mod InPart
 pub mod Opened
 pub mod Picked
 pub mod Walked
+pub mod Turns
 pub mod Entered
+pub mod LogLines
 pub mod Placed
 pub mod Names

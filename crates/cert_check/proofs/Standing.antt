@@ -91,11 +91,13 @@ case_stands symbols old below new premises branches test is has = λ e others ar
     (a_proof (AProof room.0) (AProof room.0 ∷ others) (below ++ Prove has.fails ∷ []) new has.holds (of_proof room.0)
     (a_proof (AProof room.0) others below (below ++ Prove has.fails ∷ []) has.fails (of_proof room.0) proof.1 refl) has.now)
 
-pub log_stands : (old new : List Job) (goal : ℕ) → old ≡ new ++ Close goal ∷ [] → StandsAfter old (Log 0) new
-log_stands old new goal is = λ e others are stands. by e others old are stands is
-  where
-    by : (e : Expected) (others : List Expected) (all : List Job) → AreOf (e ∷ others) all → can_stand e (Log 0) ≡ true → all ≡ new ++ Close goal ∷ []
-        → AreOf (after e (Log 0) ++ others) new
-    by _ _ _ no_job stands is = false_stands stands
-    by e others all (a_proof _ _ below _ premises of are same) stands is = absurd (never_log e of 0 stands)
-    by _ others all (a_log _ below _ g are same) stands is = subst (AreOf others) (same_from_push below new (Close g) (Close goal) (sym same ∙ is)).0 are
+never_a_log : (e : Expected) → IsOfProof e → e ≡ ALog → ⊥
+never_a_log _ of_binary is = absurd (cc)
+never_a_log _ of_source is = absurd (cc)
+never_a_log _ (of_proof room) is = absurd (cc)
+
+-- below the obligation that is on top
+pub log_below : (old new : List Job) (goal : ℕ) → old ≡ new ++ Close goal ∷ [] → (e : Expected) (others : List Expected) → e ≡ ALog → AreOf (e ∷ others) old → AreOf others new
+log_below _ new goal is _ _ of no_job = absurd (cc)
+log_below old new goal is e others of (a_proof _ _ below _ premises proof are same) = absurd (never_a_log e proof of)
+log_below old new goal is _ others of (a_log _ below _ g are same) = subst (AreOf others) (same_from_push below new (Close g) (Close goal) (sym same ∙ is)).0 are

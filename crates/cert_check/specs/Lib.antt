@@ -1,4 +1,5 @@
 pub mod Jobs
+pub mod Logs
 pub mod Stands
 pub mod Steps
 pub mod Walks

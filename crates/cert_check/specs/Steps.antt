@@ -2,7 +2,6 @@
 use Rattle.std.specs.Prelude.{◌≡◌, ℕ, ◌<◌, Vec, List, [], length, Option, Result, Ok, Err}
 use Rattle.std.specs.Global.{Global}
 use Rattle.std.specs.HashMap.{get}
-use Rattle.memory_spec.specs.Runs.{Run}
 use Rattle.term_spec.specs.declared.Variable.{Variable}
 use Rattle.term_spec.specs.Same.{same_variable}
 use Rattle.term_spec.specs.Term.{Term}
@@ -18,10 +17,6 @@ use Rattle.sim_rules.specs.declared.fault.RuleFault.{RuleFault as RuleError}
 use Rattle.sim_rules.specs.declared.fault.RuleFault.TheVariants as obligation
 use Rattle.cert_spec.specs.declared.Symbol.{Symbol}
 use Rattle.cert_spec.specs.Lines.{Line}
-use Rattle.closing_spec.specs.Closing.{Closes, IsLarge, Unclosed, closing}
-use Rattle.closing_spec.specs.declared.GoalQuantity.TheVariants as above
-use Rattle.discharge.specs.declared.error.CloseError.{CloseError}
-use Rattle.discharge.specs.declared.error.CloseError.TheVariants as close
 use Rattle.tv_base.specs.declared.limits.TheConstants.{MAX_VISITS}
 use Rattle.check_spec.specs.declared.RuleFault.TheVariants as fault
 use Rattle.check_spec.specs.declared.Quantity.TheVariants as quantity
@@ -56,16 +51,18 @@ IsKept f trees o jobs = IsKeptBy f trees (get same_variable o.binary.now) (get s
 -- ---- a line
 
 -- the line breaks no rule, and leaves these jobs; or this is what it breaks
-abbrev pub Comes : (listed parts : List spec.Listed) → (f : spec.Listed) → (before after : List spec.Job) → Line → Result (Unit {0}) PartFault → Type 0
-Comes listed parts f before after line (Ok done) = Passes listed (Inside parts f before) line (Inside parts f after)
-Comes listed parts f before after line (Err (Broken broken)) = Fails listed (Inside parts f before) line (NotProof f.name broken)
-Comes listed parts f before after line (Err (Above q)) = Fails listed (Inside parts f before) line (Limit q)
-Comes listed parts f before after line (Err NoMemory) = Unit {0}
+abbrev pub Comes : (listed : List spec.Listed) → (ahead : List Line) → (parts : List spec.Listed) → (f : spec.Listed) → (before after : List spec.Job) → Line
+    → Result (Unit {0}) PartFault → Type 0
+Comes listed ahead parts f before after line (Ok done) = Passes listed ahead (Inside parts f before) line (Inside parts f after)
+Comes listed ahead parts f before after line (Err (Broken broken)) = Fails listed ahead (Inside parts f before) line 0 (NotProof f.name broken)
+Comes listed ahead parts f before after line (Err (Above q)) = Fails listed ahead (Inside parts f before) line 0 (Limit q)
+Comes listed ahead parts f before after line (Err NoMemory) = Unit {0}
 
+-- whatever lines are after it
 abbrev pub IsStep : Listed → (old new : List Term) → (before after : List Job) → Line → Result (Unit {0}) PartFault → Type 0
 IsStep code old new before after line result =
-    (listed parts : List spec.Listed) (f : spec.Listed) → IsListed code f
-    → Comes listed parts f (jobs_of old (frame_at code) before) (jobs_of new (frame_at code) after) line result
+    (listed : List spec.Listed) (ahead : List Line) (parts : List spec.Listed) (f : spec.Listed) → IsListed code f
+    → Comes listed ahead parts f (jobs_of old (frame_at code) before) (jobs_of new (frame_at code) after) line result
 
 -- ---- its parts
 
@@ -107,20 +104,3 @@ IsTestAt f symbols trees (Err NoMemory) = Unit {0}
 
 abbrev pub IsTested : Listed → List Symbol → List Term → Result ℕ PartFault → Type 0
 IsTested code symbols trees result = (f : spec.Listed) → IsListed code f → IsTestAt f symbols trees result
-
--- what the log without steps comes to
-abbrev pub IsClosed : List Run → Term → Result (Unit {0}) PartFault → Type 0
-IsClosed runs goal (Ok done) = closing runs goal [] ≡ Closes
-IsClosed runs goal (Err (Broken fault.Unclosed)) = closing runs goal [] ≡ Unclosed
-IsClosed runs goal (Err (Broken other)) = ⊥
-IsClosed runs goal (Err (Above quantity.Terms)) = closing runs goal [] ≡ IsLarge above.Terms
-IsClosed runs goal (Err (Above quantity.Variables)) = closing runs goal [] ≡ IsLarge above.Variables
-IsClosed runs goal (Err (Above quantity.Visits)) = ⊥
-IsClosed runs goal (Err NoMemory) = Unit {0}
-
-abbrev pub log_fault_of : CloseError → PartFault
-log_fault_of (close.Large above.Terms count) = Above quantity.Terms
-log_fault_of (close.Large above.Variables count) = Above quantity.Variables
-log_fault_of (close.Step number) = Broken fault.Unclosed
-log_fault_of close.Unclosed = Broken fault.Unclosed
-log_fault_of close.NoMemory = NoMemory

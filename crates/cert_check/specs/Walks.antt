@@ -1,13 +1,19 @@
 -- What a line does to a walk along the lines of a certificate.
-use Rattle.std.specs.Prelude.{◌≡◌, ◌⊎◌, ℕ, ◌<◌, Bool, true, false, List, [], ◌∷◌, ◌++◌, length, Some, None, slice_get, Result, Ok, Err, OnOk}
+use Rattle.std.specs.Prelude.{◌≡◌, ◌⊎◌, ℕ, ◌+◌, ◌<◌, ◌≤◌, Bool, true, false, List, [], ◌∷◌, ◌++◌, length, replicate, Some, None, slice_get, Result, Ok, Err, OnOk, IfErr}
 use Rattle.std.specs.HashMap.{get}
 use Rattle.term_spec.specs.Same.{same_variable}
 use Rattle.cert_lines.specs.declared.lines.Line.{Line as CodeLine}
 use Rattle.cert_lines.specs.declared.lines.Line.TheVariants as code
-use Rattle.cert_spec.specs.Lines.{Line, Function, End}
-use Rattle.cert_spec.specs.Certificates.{Expected, AHeader, TheParts, BinaryInlines, after, can_stand}
+use Rattle.memory_spec.specs.Viewed.{runs_of}
+use Rattle.term_bank.specs.Nodes.{Extends, tree_at}
+use Rattle.clause_spec.specs.Log.{Step}
+use Rattle.closing_spec.specs.Closing.{closing}
+use Rattle.discharge.specs.Answers.{Answers}
+use Rattle.discharge.specs.declared.error.CloseError.{CloseError}
+use Rattle.cert_spec.specs.Lines.{Line, Function, Log, End}
+use Rattle.cert_spec.specs.Certificates.{Expected, AHeader, TheParts, BinaryInlines, ALog, after, can_stand}
 use Rattle.check_spec.specs.Verdict as spec
-use Rattle.check_spec.specs.Verdict.{State, Between, Inside, Passes, Fails, NotProof, Limit}
+use Rattle.check_spec.specs.Verdict.{State, Between, Inside, AreSteps, Passes, Fails, NotProof, Limit}
 use Rattle.check_spec.specs.declared.RuleFault.TheVariants as fault
 use Rattle.cert_check.specs.declared.fault.Named.{Named}
 use Rattle.cert_check.specs.declared.fault.Named.TheVariants as named
@@ -15,6 +21,7 @@ use Rattle.cert_check.specs.declared.fault.Fault.{Fault}
 use Rattle.cert_check.specs.declared.fault.Fault.TheVariants.{Broken, Above, NoMemory}
 use Rattle.cert_check.specs.declared.fault.PartFault.{PartFault}
 use Rattle.cert_check.specs.declared.fault.PartFault.TheVariants as part
+use Rattle.cert_frames.specs.declared.jobs.Job.TheVariants.{Close}
 use Rattle.cert_frames.specs.declared.listed.Listed.{Listed}
 use Rattle.cert_check.specs.declared.walk.Walk.{Walk}
 use Rattle.cert_frames.specs.Listed.{AreListed, IsListed, frame_at}
@@ -74,14 +81,15 @@ named_fault index (part.Broken rule) = Broken (named.Listed index) rule
 named_fault index (part.Above q) = Above q
 named_fault index part.NoMemory = NoMemory
 
--- ---- a line
+-- ---- a line that is no log and no step
 
 -- the line of an index breaks no rule and leaves the walk there, unless it is the last; or this is what it breaks
-abbrev pub StepsTo : List Listed → (listed : List spec.Listed) → (now : Walk) → State → Line → (index : ℕ) → Result (Unit {0}) Fault → Type 0
-StepsTo codes listed now s line index (Ok done) = (next : State) × Passes listed s line next × ((line ≡ End) ⊎ IsState codes listed now next)
-StepsTo codes listed now s line index (Err (Broken function rule)) = (name : List ℕ) × IsFaultName codes line index function name × Fails listed s line (NotProof name rule)
-StepsTo codes listed now s line index (Err (Above q)) = Fails listed s line (Limit q)
-StepsTo codes listed now s line index (Err NoMemory) = Unit {0}
+abbrev pub StepsTo : List Listed → (listed : List spec.Listed) → (ahead : List Line) → (now : Walk) → State → Line → (index : ℕ) → Result (Unit {0}) Fault → Type 0
+StepsTo codes listed ahead now s line index (Ok done) = (next : State) × Passes listed ahead s line next × ((line ≡ End) ⊎ IsState codes listed now next)
+StepsTo codes listed ahead now s line index (Err (Broken function rule)) =
+    (name : List ℕ) × IsFaultName codes line index function name × Fails listed ahead s line 0 (NotProof name rule)
+StepsTo codes listed ahead now s line index (Err (Above q)) = Fails listed ahead s line 0 (Limit q)
+StepsTo codes listed ahead now s line index (Err NoMemory) = Unit {0}
 
 abbrev pub WalkStands : (old now : Walk) → Line → Type 0
 WalkStands old now line = (e : Expected) (others : List Expected) → Standing old (e ∷ others) → can_stand e line ≡ true → Standing now (after e line ++ others)
@@ -89,7 +97,7 @@ WalkStands old now line = (e : Expected) (others : List Expected) → Standing o
 pub record Goes (codes : List Listed) (old now : Walk) (line : Line) (index : ℕ) (result : Result (Unit {0}) Fault) : Type 0 where
   pub sound : OnOk result (IsSound codes now)
   pub stands : OnOk result (WalkStands old now line)
-  pub step : (listed : List spec.Listed) → AreListed codes listed → (s : State) → IsState codes listed old s → StepsTo codes listed now s line index result
+  pub step : (listed : List spec.Listed) (ahead : List Line) → AreListed codes listed → (s : State) → IsState codes listed old s → StepsTo codes listed ahead now s line index result
 
 -- ---- inside a part
 
@@ -103,28 +111,74 @@ is_inside line = true
 abbrev pub IsInside : CodeLine → Type 0
 IsInside line = is_inside line ≡ true
 
+-- a line that is no log, and no step of one
+abbrev pub is_plain : CodeLine → Bool
+is_plain (code.Log steps) = false
+is_plain (code.Step literals hints) = false
+is_plain line = true
+
+abbrev pub IsPlain : CodeLine → Type 0
+IsPlain line = is_plain line ≡ true
+
 -- the part of the function of this index is kept, and the line can be the next
 pub record StandsAt (codes : List Listed) (walk : Walk) (index : ℕ) (line : Line) : Type 0 where
   pub kept : (function : Listed) → slice_get codes index ≡ Some function → Keeps function walk
   pub next : IsNext walk.jobs.items line
 
 -- in the part of the function of an index
-abbrev pub ComesAt : (listed parts : List spec.Listed) → (f : spec.Listed) → (before after : List spec.Job) → Line → (index : ℕ) → Result (Unit {0}) Fault → Type 0
-ComesAt listed parts f before after line index (Ok done) = Passes listed (Inside parts f before) line (Inside parts f after)
-ComesAt listed parts f before after line index (Err (Broken (named.Listed k) rule)) = (k ≡ index) × Fails listed (Inside parts f before) line (NotProof f.name rule)
-ComesAt listed parts f before after line index (Err (Broken (named.Line n) rule)) = ⊥
-ComesAt listed parts f before after line index (Err (Above q)) = Fails listed (Inside parts f before) line (Limit q)
-ComesAt listed parts f before after line index (Err NoMemory) = Unit {0}
+abbrev pub ComesAt : (listed : List spec.Listed) → (ahead : List Line) → (parts : List spec.Listed) → (f : spec.Listed) → (before after : List spec.Job) → Line → (index : ℕ) → Result (Unit {0}) Fault → Type 0
+ComesAt listed ahead parts f before after line index (Ok done) = Passes listed ahead (Inside parts f before) line (Inside parts f after)
+ComesAt listed ahead parts f before after line index (Err (Broken (named.Listed k) rule)) = (k ≡ index) × Fails listed ahead (Inside parts f before) line 0 (NotProof f.name rule)
+ComesAt listed ahead parts f before after line index (Err (Broken (named.Line n) rule)) = ⊥
+ComesAt listed ahead parts f before after line index (Err (Above q)) = Fails listed ahead (Inside parts f before) line 0 (Limit q)
+ComesAt listed ahead parts f before after line index (Err NoMemory) = Unit {0}
 
 pub record IsInPart (function : Listed) (old now : Walk) (line : Line) (index : ℕ) (result : Result (Unit {0}) Fault) : Type 0 where
-  pub step : (listed parts : List spec.Listed) (f : spec.Listed) → IsListed function f
-      → ComesAt listed parts f (jobs_of old.bank (frame_at function) old.jobs.items) (jobs_of now.bank (frame_at function) now.jobs.items) line index result
+  pub step : (listed : List spec.Listed) (ahead : List Line) (parts : List spec.Listed) (f : spec.Listed) → IsListed function f
+      → ComesAt listed ahead parts f (jobs_of old.bank (frame_at function) old.jobs.items) (jobs_of now.bank (frame_at function) now.jobs.items) line index result
   pub kept : OnOk result (Keeps function now)
   pub stands : OnOk result (StandsAfter old.jobs.items line now.jobs.items)
   pub parts : now.parts ≡ old.parts
 
 abbrev pub GoesInside : List Listed → (old now : Walk) → (index : ℕ) → Line → Result (Unit {0}) Fault → Type 0
 GoesInside codes old now index line result = (function : Listed) → slice_get codes index ≡ Some function → IsInPart function old now line index result
+
+-- ---- logs
+
+-- the state where so many steps of a log are expected first
+abbrev pub with_steps : ℕ → State → State
+with_steps count (Between parts) = Between parts
+with_steps count (Inside parts f jobs) = Inside parts f (replicate count spec.Checked ++ jobs)
+
+-- what the steps that are left of a log come to for the first obligation of the part of a function
+pub record ClosesFirst (function : Listed) (old now : Walk) (steps : List Step) (result : Result (Unit {0}) CloseError) : Type 0 where
+  pub parts : now.parts ≡ old.parts
+  pub kept : OnOk result (Keeps function now)
+  pub goal : ℕ
+  pub first : old.jobs.items ≡ now.jobs.items ++ Close goal ∷ []
+  pub extends : Extends old.bank now.bank
+  pub answers : Answers (closing (runs_of function.runs.now) (tree_at old.bank goal) steps) result
+
+-- the log of so many steps at the line of an index breaks no rule, and leaves the walk there but for its steps; or this is
+-- what it breaks, and at which line
+abbrev pub LogFails : List Listed → (listed : List spec.Listed) → (ahead : List Line) → State → (count index line : ℕ) → Fault → Type 0
+LogFails codes listed ahead s count index line (Broken (named.Listed k) rule) =
+    (after : ℕ) × (line ≡ index + after) × (name : List ℕ) × IsNamed codes k name × Fails listed ahead s (Log count) after (NotProof name rule)
+LogFails codes listed ahead s count index line (Broken (named.Line n) rule) = ⊥
+LogFails codes listed ahead s count index line (Above q) = (line ≡ index) × Fails listed ahead s (Log count) 0 (Limit q)
+LogFails codes listed ahead s count index line NoMemory = Unit {0}
+
+abbrev pub LogComes : List Listed → (listed : List spec.Listed) → (ahead : List Line) → (now : Walk) → State → (count index : ℕ) → Result (Unit {0}) (ℕ × Fault) → Type 0
+LogComes codes listed ahead now s count index (Ok done) = (next : State) × Passes listed ahead s (Log count) (with_steps count next) × IsState codes listed now next
+LogComes codes listed ahead now s count index (Err first) = LogFails codes listed ahead s count index first.0 first.1
+
+pub record GoesLog (codes : List Listed) (old now : Walk) (count : ℕ) (steps : List Step) (index : ℕ) (result : Result (Unit {0}) (ℕ × Fault)) : Type 0 where
+  pub sound : OnOk result (IsSound codes now)
+  pub stands : OnOk result ((others : List Expected) → Standing old (ALog ∷ others) → Standing now others)
+  pub begun : OnOk result (0 < length now.parts.items)
+  pub within : IfErr result (λ first. first.0 ≤ index + count)
+  pub step : (listed : List spec.Listed) (ahead : List Line) → AreSteps ahead count steps → AreListed codes listed → (s : State) → IsState codes listed old s
+      → LogComes codes listed ahead now s count index result
 
 -- ---- parts
 

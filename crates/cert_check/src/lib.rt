@@ -8,6 +8,7 @@
 #![tactic(auto)]
 
 mod fault;
+mod logs;
 mod rules;
 mod walk;
 

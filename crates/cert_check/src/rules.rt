@@ -1,8 +1,7 @@
-//! The lines inside a part: Leaf, Case, and the log of an obligation.
+//! The rules inside a part: Leaf and Case.
 
 ghost use Rattle.std.specs.Prelude.{◌≡◌, ◌<◌, All, IfOk, OnOk, length};
-ghost use Rattle.memory_spec.specs.Viewed.{runs_of};
-ghost use Rattle.term_bank.specs.Nodes.{Extends, tree_at};
+ghost use Rattle.term_bank.specs.Nodes.{Extends};
 ghost use Rattle.cert_spec.specs.Lines as spec;
 ghost use Rattle.cert_frames.specs.Jobs.{AreBelow, premises_at};
 ghost use Rattle.cert_check.specs.Stands.{IsNext, StandsAfter};
@@ -11,23 +10,17 @@ ghost use Rattle.rule_spec.specs.Rules as opened;
 ghost use Rattle.rule_terms.specs.Conventions.{IsConventionOf};
 ghost use Rattle.rule_terms.specs.Openings.{IsOpening, IsOpeningIn};
 ghost use Rattle.proof_tree.specs.Frames.{frame_of};
-ghost use Rattle.cert_check.specs.Steps.{AreGoalsOf, AreOpened, HasGoals, IsClosed, IsKept, IsStep};
-ghost use Rattle.cert_check.specs.Steps.{IsTested, goal_fault_of, log_fault_of};
+ghost use Rattle.cert_check.specs.Steps.{AreGoalsOf, AreOpened, HasGoals, IsKept, IsStep};
+ghost use Rattle.cert_check.specs.Steps.{IsTested, goal_fault_of};
 
 use crate::fault::PartFault;
 use attempt::attempt;
-use cert_frames::{
-    Branch, Job, Listed, frame, push_branches, push_goals, take_goal, take_proof, tests,
-};
+use cert_frames::{Branch, Job, Listed, frame, push_branches, push_goals, take_proof, tests};
 use cert_spec::Symbol;
 use cert_terms::{TermFault, read_line};
 use check_spec::{Quantity, RuleFault};
-use closing_spec::GoalQuantity;
-use discharge::{CloseError, close};
-use memory_spec::Run;
 use proof_tree::Frame;
 use rule_terms::{Convention, Opening};
-use sat_log::Step;
 use sim_rules::{Rule, Setup, obligations};
 use std::alloc::Global;
 use term_bank::{Bank, TermId};
@@ -169,55 +162,4 @@ pub(crate) fn case(
         PartFault::NoMemory
     );
     Ok(())
-}
-
-// ---- logs
-
-// Why the log without steps doesn't close an obligation. It has no step that doesn't follow.
-fn goal_fault(error: CloseError) -> PartFault
-    ensures { result ≡ log_fault_of error }
-{
-    match error {
-        CloseError::Large(GoalQuantity::Terms, _) => PartFault::Above(Quantity::Terms),
-        CloseError::Large(GoalQuantity::Variables, _) => PartFault::Above(Quantity::Variables),
-        CloseError::Step(_) | CloseError::Unclosed => PartFault::Broken(RuleFault::Unclosed),
-        CloseError::NoMemory => PartFault::NoMemory,
-    }
-}
-
-// Whether the log without steps closes an obligation.
-fn close_goal(alloc: Global, bank: &mut Bank, goal: TermId, runs: &[Run]) -> Result<(), PartFault>
-    requires { goal < length bank.old }
-    ensures closed { IsClosed (runs_of runs.now) (tree_at bank.old goal) result }
-    ensures extends { Extends bank.old bank.new }
-{
-    let steps: Vec<Step> = Vec::new(alloc);
-    match close(alloc, bank, goal, &steps, runs) {
-        Ok(()) => Ok(()),
-        Err(error) => Err(goal_fault(error)),
-    }
-}
-
-/// `log N`: the obligation is closed by the log without steps.
-pub(crate) fn log(
-    alloc: Global,
-    function: &Listed<'_>,
-    opening: Opening<'_>,
-    bank: &mut Bank,
-    jobs: &mut Vec<Job>,
-    steps: u32,
-) -> Result<(), PartFault>
-    requires kept { IsKept function.now bank.old opening jobs.old.items }
-    requires next { IsNext jobs.old.items (spec.Log steps) }
-    ensures step { IsStep function.now bank.old bank.new jobs.old.items jobs.new.items
-        (spec.Log steps) result }
-    ensures kept { OnOk result (IsKept function.now bank.new opening.entry jobs.new.items) }
-    ensures stands { OnOk result (StandsAfter jobs.old.items (spec.Log steps) jobs.new.items) }
-{
-    let _ = opening;
-    if steps != 0 {
-        return Err(PartFault::Broken(RuleFault::Later));
-    }
-    let goal = take_goal(jobs);
-    close_goal(alloc, bank, goal, function.runs)
 }

@@ -1,25 +1,30 @@
 //! The walk along the lines of a certificate.
 
-ghost use Rattle.std.specs.Prelude.{◌≡◌, ℕ, ◌<◌, [], OnOk, length};
+ghost use Rattle.std.specs.Prelude.{◌≡◌, ℕ, ◌+◌, ◌<◌, ◌^◌, [], OnOk, length};
 ghost use Rattle.cert_lines.specs.Views.{line_of};
 ghost use Rattle.cert_text.specs.Certificates.{certificate_of};
 ghost use Rattle.cert_text.specs.Laws.{AreLines};
 ghost use Rattle.cert_spec.specs.Lines as spec;
 ghost use Rattle.cert_check.specs.Outcomes.{IsChecked, IsPlaced, IsVerdict};
+ghost use Rattle.cert_frames.specs.Jobs.{IsGoalOnTop};
 ghost use Rattle.cert_frames.specs.Parts.{AreIndices};
 ghost use Rattle.cert_check.specs.Stands as stands;
 ghost use Rattle.cert_check.specs.Stands.{IsNext, StandsAfter};
 ghost use Rattle.cert_check.specs.Steps.{IsKept, IsStep};
-ghost use Rattle.cert_check.specs.Walks.{Begins, Ends, Goes, GoesInside, IsInside, IsOpened};
-ghost use Rattle.cert_check.specs.Walks.{IsSound, IsWalk, StandsAt, named_fault};
+ghost use Rattle.cert_check.specs.Logs.{steps_of};
+ghost use Rattle.cert_check.specs.Walks.{Begins, ClosesFirst, Ends, Goes, GoesInside, GoesLog};
+ghost use Rattle.cert_check.specs.Walks.{IsInside, IsOpened, IsPlain, IsSound, IsWalk, Keeps};
+ghost use Rattle.cert_check.specs.Walks.{StandsAt, named_fault};
 
 use crate::fault::{CheckFault, Fault, Named, PartFault};
-use crate::rules::{case, leaf, log};
+use crate::logs::{LogSteps, front, log_fault, rest};
+use crate::rules::{case, leaf};
 use attempt::attempt;
-use cert_frames::{Job, Listed, free, known, missing, push_proof};
+use cert_frames::{Job, Listed, free, known, missing, push_proof, take_goal};
 use cert_lines::{Line, Part};
 use cert_text::{Cert, offset};
 use check_spec::RuleFault;
+use discharge::{CloseError, close};
 use rule_terms::{Known, Opening};
 use std::alloc::{AllocError, Global};
 use std::collections::HashMap;
@@ -131,6 +136,7 @@ fn part_line(
     requires kept { IsKept function.now bank.old opening jobs.old.items }
     requires next { IsNext jobs.old.items (line_of line.now) }
     requires inside { IsInside line.now }
+    requires plain { IsPlain line.now }
     ensures step { IsStep function.now bank.old bank.new jobs.old.items jobs.new.items
         (line_of line.now) result }
     ensures kept { OnOk result (IsKept function.now bank.new opening.entry jobs.new.items) }
@@ -142,7 +148,6 @@ fn part_line(
     match line {
         Line::Leaf(logs) => leaf(alloc, function, opening, bank, jobs, *logs),
         Line::Case(test) => case(alloc, function, opening, bank, jobs, test.as_slice()),
-        Line::Log(steps) => log(alloc, function, opening, bank, jobs, *steps),
         _ => unreachable!(),
     }
 }
@@ -169,6 +174,7 @@ fn inside(
     requires index { index < length listed.now }
     requires stands { StandsAt listed.now walk.old index (line_of line.now) }
     requires inside { IsInside line.now }
+    requires plain { IsPlain line.now }
     ensures { GoesInside listed.now walk.old walk.new index (line_of line.now) result }
 {
     let opening = Opening {
@@ -199,13 +205,14 @@ fn inside_last(
 ) -> Result<(), Fault>
     requires walk { IsWalk listed.now walk.old (line_of line.now) }
     requires inside { IsInside line.now }
+    requires plain { IsPlain line.now }
     ensures { (index : ℕ) → Goes listed.now walk.old walk.new (line_of line.now) index result }
 {
     let part = walk.parts[walk.parts.len() - 1];
     inside(alloc, listed, walk, part, line)
 }
 
-// A line, of an index.
+// A line that is no log and no step of one, of an index.
 fn step(
     alloc: Global,
     listed: &[Listed<'_>],
@@ -213,7 +220,8 @@ fn step(
     line: &Line,
     index: usize,
 ) -> Result<(), Fault>
-    requires { IsWalk listed.now walk.old (line_of line.now) }
+    requires walk { IsWalk listed.now walk.old (line_of line.now) }
+    requires plain { IsPlain line.now }
     ensures { Goes listed.now walk.old walk.new (line_of line.now) index result }
 {
     match line {
@@ -221,6 +229,42 @@ fn step(
         Line::Function(part) => begin(alloc, listed, walk, part, index),
         Line::End => end(listed, walk.parts.as_slice()),
         _ => inside_last(alloc, listed, walk, line),
+    }
+}
+
+// Whether steps close the obligation that comes first in the part of a function.
+fn close_first(
+    alloc: Global,
+    function: &Listed<'_>,
+    walk: &mut Walk,
+    steps: &mut LogSteps<'_>,
+) -> Result<(), CloseError>
+    requires kept { Keeps function.now walk.old }
+    requires next { IsGoalOnTop walk.old.jobs.items }
+    ensures { ClosesFirst function.now walk.old walk.new
+        (steps_of steps.old.lines.now steps.old.literals.now steps.old.hints.now) result }
+{
+    let goal = take_goal(&mut walk.jobs);
+    close(alloc, &mut walk.bank, goal, steps, function.runs)
+}
+
+// A log of these steps, at the line of an index. A fault comes with the index of its line.
+fn log(
+    alloc: Global,
+    listed: &[Listed<'_>],
+    walk: &mut Walk,
+    steps: &mut LogSteps<'_>,
+    index: usize,
+) -> Result<(), (usize, Fault)>
+    requires walk { IsWalk listed.now walk.old (spec.Log (length steps.old.lines.now)) }
+    requires room { index + length steps.old.lines.now < 2 ^ 64 }
+    ensures { GoesLog listed.now walk.old walk.new (length steps.old.lines.now)
+        (steps_of steps.old.lines.now steps.old.literals.now steps.old.hints.now) index result }
+{
+    let part = walk.parts[walk.parts.len() - 1];
+    match close_first(alloc, &listed[part], walk, steps) {
+        Ok(()) => Ok(()),
+        Err(error) => Err(log_fault(part, index, error)),
     }
 }
 
@@ -235,10 +279,27 @@ fn first_fault(
     requires nothing { walk.old.parts.items ≡ [] }
     ensures { IsChecked listed.now cert.now result }
 {
+    let mut literals = cert.logs.literals.as_slice();
+    let mut hints = cert.logs.hints.as_slice();
     for index in 0..cert.lines.len() {
-        match step(alloc, listed, walk, &cert.lines[index], index) {
-            Ok(()) => {}
-            Err(fault) => return Err((index, fault)),
+        match &cert.lines[index] {
+            Line::Step(literal_count, hint_count) => {
+                literals = rest(literals, *literal_count);
+                hints = rest(hints, *hint_count);
+            }
+            Line::Log(count) => {
+                let lines = front(&cert.lines[index + 1..], *count as usize);
+                let mut steps = LogSteps {
+                    lines,
+                    literals,
+                    hints,
+                };
+                attempt!(log(alloc, listed, walk, &mut steps, index));
+            }
+            line => match step(alloc, listed, walk, line, index) {
+                Ok(()) => {}
+                Err(fault) => return Err((index, fault)),
+            },
         }
     }
     Ok(())

@@ -6,6 +6,5 @@ pub mod Once
 mod Sides
 mod Words
 pub mod Valid
-pub mod Written
-pub mod Alone
-mod FileWords
+pub mod Logged
+pub mod FileWords

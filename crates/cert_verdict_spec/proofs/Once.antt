@@ -1,6 +1,6 @@
 -- A certificate has one verdict at most.
-use Rattle.std.proofs.Common.{◌≡◌, ◌≢◌, ◌∙◌, ◌+◌, ℕ, suc, Bool, true, false, List, [], ◌∷◌, ◌++◌, length, map, Some, refl, sym, ap, ap₂, subst, arith}
-use Rattle.std.specs.Prelude.{All, Contains}
+use Rattle.std.proofs.Common.{◌≡◌, ◌≢◌, ◌∙◌, ◌+◌, ℕ, zero, suc, Bool, true, false, List, [], ◌∷◌, ◌++◌, length, map, take, Some, refl, sym, ap, ap₂, subst, arith}
+use Rattle.std.specs.Prelude.{All, Contains, flat_map, replicate}
 use Rattle.std.proofs.lemmas.List.Elements.{All-contains}
 use Rattle.term_spec.specs.Term.{Term, not_term}
 use Rattle.visit_spec.proofs.Order.{one_list}
@@ -9,6 +9,7 @@ use Rattle.proof_spec.specs.Frames.{Frame}
 use Rattle.rule_spec.specs.Points.{Convention}
 use Rattle.rule_spec.specs.Sides.{binary_way, source_way}
 use Rattle.rule_spec.specs.Rules.{Opening, AreOfLeaf, leaf_terms}
+use Rattle.clause_spec.specs.Log as clauses
 use Rattle.cert_spec.specs.declared.Symbol.{Symbol}
 use Rattle.cert_spec.specs.Lines.{Line, Header, Function, InlineBinary, InlineSource, Leaf, Case, RestrictBinary, RestrictSource, Split, Call, Relation, Log, LogStep, End, line_text}
 use Rattle.cert_spec.specs.Certificates.{IsCertificate}
@@ -22,10 +23,10 @@ use Rattle.check_spec.specs.declared.RuleFault.{RuleFault}
 use Rattle.check_spec.specs.declared.RuleFault.TheVariants as fault
 use Rattle.check_spec.specs.declared.Quantity.{Quantity}
 use Rattle.check_spec.specs.Verdict as walk
-use Rattle.check_spec.specs.Verdict.{Listed, Job, Prove, Close, State, Between, Inside, begun, Fault, IsFree, IsMissing, IsTest, with_test, Passes, Fails, Proves, Refutes, IsProof}
+use Rattle.check_spec.specs.Verdict.{Listed, Job, Prove, Close, Checked, State, Between, Inside, begun, Fault, IsFree, IsMissing, IsTest, with_test, AreSteps, Passes, Fails, Proves, Refutes, IsProof}
 use Rattle.cert_verdict_spec.specs.Verdict.{Outcome, Unread, Broken, Above, IsOutcome, unread, broken, above, proof}
 use Rattle.cert_verdict_spec.specs.Laws.{AreToldApart, HasOneVerdict}
-use Rattle.cert_verdict_spec.proofs.Steps.{Step, Goes, Stops, FunctionStep, begins, a_stranger, another_stack, LeafStep, leaves, goes_round, too_many, other_logs, CaseStep, cases, no_test, OnProof, closed_by, LogsStep, with_steps, without, EndStep, ends, lacks, UncheckedStep, Means, passes_means, fails_means}
+use Rattle.cert_verdict_spec.proofs.Steps.{Step, Goes, Stops, FunctionStep, begins, a_stranger, another_stack, LeafStep, leaves, goes_round, too_many, other_logs, CaseStep, cases, no_test, OnProof, closed_by, LogsStep, CheckedStep, EndStep, ends, lacks, UncheckedStep, Means, passes_means, fails_means}
 
 one_certificate : (bytes : List ℕ) (one two : List Line) → IsCertificate bytes one → IsCertificate bytes two → one ≡ two
 one_certificate bytes one two x y = same_lines one two (read_certificate bytes) (only bytes one x) (only bytes two y)
@@ -52,11 +53,13 @@ abbrev top_frame : Frame → List Job → Frame
 top_frame other [] = other
 top_frame other (Prove frame ∷ jobs) = frame
 top_frame other (Close goal ∷ jobs) = other
+top_frame other (Checked ∷ jobs) = other
 
 abbrev top_goal : Term → List Job → Term
 top_goal other [] = other
 top_goal other (Prove frame ∷ jobs) = other
 top_goal other (Close goal ∷ jobs) = goal
+top_goal other (Checked ∷ jobs) = other
 
 abbrev under_top : List Job → List Job
 under_top [] = []
@@ -77,6 +80,7 @@ HaveSetting : Setting → List Job → Type 0
 HaveSetting s [] = Unit {0}
 HaveSetting s (Prove frame ∷ jobs) = (frame.setting ≡ s) × HaveSetting s jobs
 HaveSetting s (Close goal ∷ jobs) = HaveSetting s jobs
+HaveSetting s (Checked ∷ jobs) = HaveSetting s jobs
 
 abbrev IsGood : List Listed → State → Type 0
 IsGood listed (Between parts) = Unit {0}
@@ -87,14 +91,20 @@ unfolding HaveSetting
 logs_good s [] jobs good = good
 logs_good s (t ∷ terms) jobs good = logs_good s terms jobs good
 
-good_next : (listed : List Listed) (s : State) (line : Line) (next : State) → Passes listed s line next → IsGood listed s → IsGood listed next
+steps_good : (s : Setting) (count : ℕ) (jobs : List Job) → HaveSetting s jobs → HaveSetting s (replicate count Checked ++ jobs)
 unfolding HaveSetting
-good_next listed _ _ _ walk.header good = tt
-good_next listed _ _ _ (walk.function s f free) good = (free.is_listed, (refl, tt))
-good_next listed _ _ _ (walk.leaf parts f frame jobs terms acyclic small are) good = (good.0, logs_good f.frame.setting terms jobs good.1.1)
-good_next listed _ _ _ (walk.case parts f frame jobs symbols test is) good = (good.0, (good.1.0, (good.1.0, good.1.1)))
-good_next listed _ _ _ (walk.log parts f goal jobs closes) good = (good.0, good.1)
-good_next listed _ _ _ (walk.last s free) good = tt
+steps_good s zero jobs good = good
+steps_good s (suc count) jobs good = steps_good s count jobs good
+
+good_next : (listed : List Listed) (ahead : List Line) (s : State) (line : Line) (next : State) → Passes listed ahead s line next → IsGood listed s → IsGood listed next
+unfolding HaveSetting
+good_next listed ahead _ _ _ walk.header good = tt
+good_next listed ahead _ _ _ (walk.function s f free) good = (free.is_listed, (refl, tt))
+good_next listed ahead _ _ _ (walk.leaf parts f frame jobs terms acyclic small are) good = (good.0, logs_good f.frame.setting terms jobs good.1.1)
+good_next listed ahead _ _ _ (walk.case parts f frame jobs symbols test is) good = (good.0, (good.1.0, (good.1.0, good.1.1)))
+good_next listed ahead _ _ _ (walk.log parts f goal jobs count steps are closes) good = (good.0, steps_good f.frame.setting count jobs good.1)
+good_next listed ahead _ _ _ (walk.step parts f jobs one) good = (good.0, good.1)
+good_next listed ahead _ _ _ (walk.last s free) good = tt
 
 top_setting : (s : Setting) (jobs below : List Job) (frame : Frame) → HaveSetting s jobs → jobs ≡ Prove frame ∷ below → frame.setting ≡ s
 unfolding HaveSetting
@@ -149,13 +159,51 @@ case_step parts f frame below symbols _ _ apart (cases test is) (no_test none) =
 case_step parts f frame below symbols _ _ apart (no_test none) (cases other is2) = absurd (none other is2)
 case_step parts f frame below symbols _ _ apart (no_test none) (no_test again) = refl
 
-logs_step : (parts : List Listed) (f : Listed) (jobs : List Job) (steps : ℕ) (one two : Step) → LogsStep parts f jobs steps one → LogsStep parts f jobs steps two → one ≡ two
-logs_step parts f jobs steps _ _ (with_steps some) (with_steps again) = refl
-logs_step parts f jobs steps _ _ (with_steps some) (without goal below is e) = absurd (omega (arith, some, e))
-logs_step parts f jobs steps _ _ (without goal below is e) (with_steps some) = absurd (omega (arith, some, e))
-logs_step parts f jobs steps _ _ (without goal below is e) (without other under is2 h) =
-    let both : Close goal ∷ below ≡ Close other ∷ under = sym is ∙ is2 in
-    ap₂ (λ (t : Term) (rest : List Job). closed_by parts f rest (closing f.runs t [])) (same_goal goal other below under both) (same_below (Close goal) (Close other) below under both)
+-- ---- logs
+
+abbrev step_of : clauses.Step → Line → clauses.Step
+step_of other (LogStep step) = step
+step_of other line = other
+
+abbrev rest_of : List Line → List Line
+rest_of [] = []
+rest_of (line ∷ lines) = lines
+
+abbrev step_in : clauses.Step → List Line → clauses.Step
+step_in other [] = other
+step_in other (line ∷ lines) = step_of other line
+
+same_steps : (one two : List clauses.Step) (rest more : List Line) → length one ≡ length two → map LogStep one ++ rest ≡ map LogStep two ++ more → one ≡ two
+same_steps [] [] rest more long same = refl
+same_steps [] (y ∷ two) rest more long same = absurd (omega (arith, long))
+same_steps (x ∷ one) [] rest more long same = absurd (omega (arith, long))
+same_steps (x ∷ one) (y ∷ two) rest more long same =
+    let first : x ≡ y = ap (step_in x) same in
+    let others : one ≡ two = same_steps one two rest more (omega (arith, long)) (ap rest_of same) in
+    ap (λ (s : clauses.Step). s ∷ one) first ∙ ap (λ (steps : List clauses.Step). y ∷ steps) others
+
+steps_once : (ahead : List Line) (count : ℕ) (one two : List clauses.Step) → AreSteps ahead count one → AreSteps ahead count two → one ≡ two
+steps_once ahead count one two x y = same_steps one two x.rest y.rest (x.counted ∙ sym y.counted) (sym x.cut ∙ y.cut)
+
+same_outcome : (parts : List Listed) (f : Listed) (count : ℕ) (below under : List Job) (goal other : Term) (one two : List clauses.Step) → below ≡ under → goal ≡ other → one ≡ two
+    → closed_by parts f below count (closing f.runs goal one) ≡ closed_by parts f under count (closing f.runs other two)
+same_outcome parts f count below under goal other one two jobs goals steps =
+    ap (λ (rest : List Job). closed_by parts f rest count (closing f.runs goal one)) jobs
+    ∙ (ap (λ (t : Term). closed_by parts f under count (closing f.runs t one)) goals
+    ∙ ap (λ (log : List clauses.Step). closed_by parts f under count (closing f.runs other log)) steps)
+
+logs_step : (ahead : List Line) (parts : List Listed) (f : Listed) (jobs : List Job) (count : ℕ) (one two : Step) → LogsStep ahead parts f jobs count one
+    → LogsStep ahead parts f jobs count two → one ≡ two
+logs_step ahead parts f jobs count one two x y =
+    let both : Close x.goal ∷ x.below ≡ Close y.goal ∷ y.below = sym x.top ∙ y.top in
+    x.is
+    ∙ (same_outcome parts f count x.below y.below x.goal y.goal x.steps y.steps (same_below (Close x.goal) (Close y.goal) x.below y.below both)
+    (same_goal x.goal y.goal x.below y.below both) (steps_once ahead count x.steps y.steps x.are y.are)
+    ∙ sym y.is)
+
+checked_step : (parts : List Listed) (f : Listed) (jobs : List Job) (one two : Step) → CheckedStep parts f jobs one → CheckedStep parts f jobs two → one ≡ two
+checked_step parts f jobs one two x y =
+    x.is ∙ (ap (λ (rest : List Job). Goes (Inside parts f rest)) (same_below Checked Checked x.below y.below (sym x.top ∙ y.top)) ∙ sym y.is)
 
 -- the same frame is expected
 on_proof : (P Q : Frame → List Job → Type 0) (jobs : List Job) {X : Type 0} → ((frame : Frame) (below : List Job) → jobs ≡ Prove frame ∷ below → P frame below → Q frame below → X)
@@ -190,7 +238,7 @@ end_step listed s _ _ (ends none) (ends again) = refl
 end_step listed s _ _ (ends none) (lacks f is) = absurd (none f is)
 end_step listed s _ _ (lacks f is) (ends none) = absurd (none f is)
 end_step listed s _ _ (lacks f is) (lacks g other) =
-    ap (λ (h : Listed). Stops (walk.NotProof h.name fault.Missing))
+    ap (λ (h : Listed). Stops 0 (walk.NotProof h.name fault.Missing))
     (first_missing (begun s) is.before other.before is.after other.after f g (sym is.cut ∙ other.cut) is.none other.none is.others other.others)
 
 -- ---- a line
@@ -205,71 +253,86 @@ module _ (listed : List Listed) (apart : AreToldApart listed) where
       subst (λ (s : Setting). AreApart s.bodies) (sym (top_setting f.frame.setting jobs below frame good top))
       (All-contains (λ (g : Listed). AreApart g.frame.setting.bodies) listed f apart.bodies among)
 
-  one_step : (s : State) (line : Line) (one two : Step) → IsGood listed s → Means listed s line one → Means listed s line two → one ≡ two
-  one_step s Header one two good x y = x.1 ∙ sym y.1
-  one_step s (Function name stack) one two good x y = functions_step listed apart s name stack one two x y
-  one_step s (InlineBinary p) one two good x y = unchecked s one two x y
-  one_step s (InlineSource p) one two good x y = unchecked s one two x y
-  one_step (Between parts) (Leaf logs) one two good x y = absurd x
-  one_step (Inside parts f jobs) (Leaf logs) one two good x y =
+  one_step : (ahead : List Line) (s : State) (line : Line) (one two : Step) → IsGood listed s → Means listed ahead s line one → Means listed ahead s line two → one ≡ two
+  one_step ahead s Header one two good x y = x.1 ∙ sym y.1
+  one_step ahead s (Function name stack) one two good x y = functions_step listed apart s name stack one two x y
+  one_step ahead s (InlineBinary p) one two good x y = unchecked s one two x y
+  one_step ahead s (InlineSource p) one two good x y = unchecked s one two x y
+  one_step ahead (Between parts) (Leaf logs) one two good x y = absurd x
+  one_step ahead (Inside parts f jobs) (Leaf logs) one two good x y =
       on_proof (λ frame below. LeafStep parts f frame below logs one) (λ frame below. LeafStep parts f frame below logs two) jobs
       (λ frame below top a b. leaf_step parts f frame below logs one two a b) x y
-  one_step (Between parts) (Case symbols) one two good x y = absurd x
-  one_step (Inside parts f jobs) (Case symbols) one two good x y =
+  one_step ahead (Between parts) (Case symbols) one two good x y = absurd x
+  one_step ahead (Inside parts f jobs) (Case symbols) one two good x y =
       on_proof (λ frame below. CaseStep parts f frame below symbols one) (λ frame below. CaseStep parts f frame below symbols two) jobs
       (λ frame below top a b. case_step parts f frame below symbols one two (bodies_apart f jobs below frame good.0 good.1 top) a b) x y
-  one_step s (RestrictBinary p count) one two good x y = unchecked s one two x y
-  one_step s (RestrictSource p count) one two good x y = unchecked s one two x y
-  one_step s (Split p enter after lines) one two good x y = unchecked s one two x y
-  one_step s (Call p counts before after) one two good x y = unchecked s one two x y
-  one_step s (Relation t) one two good x y = absurd x
-  one_step (Between parts) (Log steps) one two good x y = absurd x
-  one_step (Inside parts f jobs) (Log steps) one two good x y = logs_step parts f jobs steps one two x y
-  one_step s (LogStep l) one two good x y = absurd x
-  one_step s End one two good x y = end_step listed s one two x y
+  one_step ahead s (RestrictBinary p count) one two good x y = unchecked s one two x y
+  one_step ahead s (RestrictSource p count) one two good x y = unchecked s one two x y
+  one_step ahead s (Split p enter after lines) one two good x y = unchecked s one two x y
+  one_step ahead s (Call p counts before after) one two good x y = unchecked s one two x y
+  one_step ahead s (Relation t) one two good x y = absurd x
+  one_step ahead (Between parts) (Log steps) one two good x y = absurd x
+  one_step ahead (Inside parts f jobs) (Log steps) one two good x y = logs_step ahead parts f jobs steps one two x y
+  one_step ahead (Between parts) (LogStep l) one two good x y = absurd x
+  one_step ahead (Inside parts f jobs) (LogStep l) one two good x y = checked_step parts f jobs one two x y
+  one_step ahead s End one two good x y = end_step listed s one two x y
 
   -- ---- lines
 
   abbrev next_of : State → Step → State
   next_of other (Goes s) = s
-  next_of other (Stops f) = other
+  next_of other (Stops after f) = other
 
   abbrev fault_of : Fault → Step → Fault
   fault_of other (Goes s) = other
-  fault_of other (Stops f) = f
+  fault_of other (Stops after f) = f
+
+  abbrev after_of : ℕ → Step → ℕ
+  after_of other (Goes s) = other
+  after_of other (Stops after f) = after
 
   abbrev is_going : Step → Bool
   is_going (Goes s) = true
-  is_going (Stops f) = false
+  is_going (Stops after f) = false
 
-  one_next : (s : State) (line : Line) (a b : State) → IsGood listed s → Passes listed s line a → Passes listed s line b → a ≡ b
-  one_next s line a b good x y = ap (next_of a) (one_step s line (Goes a) (Goes b) good (passes_means listed s line a x) (passes_means listed s line b y))
+  one_next : (ahead : List Line) (s : State) (line : Line) (a b : State) → IsGood listed s → Passes listed ahead s line a → Passes listed ahead s line b → a ≡ b
+  one_next ahead s line a b good x y =
+      ap (next_of a) (one_step ahead s line (Goes a) (Goes b) good (passes_means listed ahead s line a x) (passes_means listed ahead s line b y))
 
-  one_failure : (s : State) (line : Line) (a b : Fault) → IsGood listed s → Fails listed s line a → Fails listed s line b → a ≡ b
-  one_failure s line a b good x y = ap (fault_of a) (one_step s line (Stops a) (Stops b) good (fails_means listed s line a x) (fails_means listed s line b y))
+  one_failure : (ahead : List Line) (s : State) (line : Line) (m n : ℕ) (a b : Fault) → IsGood listed s → Fails listed ahead s line m a → Fails listed ahead s line n b
+      → (m ≡ n) × (a ≡ b)
+  one_failure ahead s line m n a b good x y =
+      let same = one_step ahead s line (Stops m a) (Stops n b) good (fails_means listed ahead s line m a x) (fails_means listed ahead s line n b y) in
+      (ap (after_of m) same, ap (fault_of a) same)
 
-  not_both : (s : State) (line : Line) (next : State) (f : Fault) → IsGood listed s → Passes listed s line next → Fails listed s line f → ⊥
-  not_both s line next f good x y =
-      let bad : true ≡ false = ap is_going (one_step s line (Goes next) (Stops f) good (passes_means listed s line next x) (fails_means listed s line f y)) in
+  not_both : (ahead : List Line) (s : State) (line : Line) (next : State) (n : ℕ) (f : Fault) → IsGood listed s → Passes listed ahead s line next → Fails listed ahead s line n f → ⊥
+  not_both ahead s line next n f good x y =
+      let bad : true ≡ false =
+      ap is_going (one_step ahead s line (Goes next) (Stops n f) good (passes_means listed ahead s line next x) (fails_means listed ahead s line n f y)) in
       absurd (cc)
 
   proof_or_fault : (s : State) (at : ℕ) (lines : List Line) (offset : ℕ) (f : Fault) → IsGood listed s → Proves listed s lines → Refutes listed s at lines offset f → ⊥
   proof_or_fault _ _ _ _ _ good (walk.none _) refutes = elim refutes [ ]
-  proof_or_fault s at _ _ f good (walk.some _ next line lines passes rest) (walk.here _ _ _ _ _ fails) = not_both s line next f good passes fails
+  proof_or_fault s at _ _ f good (walk.some _ next line lines passes rest) (walk.here _ _ _ _ n _ fails) = not_both lines s line next n f good passes fails
   proof_or_fault s at _ offset f good (walk.some _ next line lines passes rest) (walk.there _ other _ _ _ _ _ passes2 later) =
-      let good2 = good_next listed s line other passes2 good in
+      let good2 = good_next listed lines s line other passes2 good in
       proof_or_fault other (at + length (line_text line)) lines offset f good2
-      (subst (λ (t : State). Proves listed t lines) (one_next s line next other good passes passes2) rest) later
+      (subst (λ (t : State). Proves listed t lines) (one_next lines s line next other good passes passes2) rest) later
+
+  abbrev place_of : (at : ℕ) → List Line → ℕ → ℕ
+  place_of at lines n = at + length (flat_map line_text (take n lines))
 
   one_refutation : (s : State) (at : ℕ) (lines : List Line) (offset place : ℕ) (f g : Fault) → IsGood listed s → Refutes listed s at lines offset f
       → Refutes listed s at lines place g → (offset ≡ place) × (f ≡ g)
-  one_refutation s at _ _ _ f g good (walk.here _ _ line lines _ x) (walk.here _ _ _ _ _ y) = (refl, one_failure s line f g good x y)
-  one_refutation s at _ _ place f g good (walk.here _ _ line lines _ x) (walk.there _ next _ _ _ _ _ passes later) = absurd (not_both s line next f good passes x)
-  one_refutation s at _ offset _ f g good (walk.there _ next _ line lines _ _ passes later) (walk.here _ _ _ _ _ y) = absurd (not_both s line next g good passes y)
+  one_refutation s at _ _ _ f g good (walk.here _ _ line lines m _ x) (walk.here _ _ _ _ n _ y) =
+      let same = one_failure lines s line m n f g good x y in
+      (ap (place_of at (line ∷ lines)) same.0, same.1)
+  one_refutation s at _ _ place f g good (walk.here _ _ line lines m _ x) (walk.there _ next _ _ _ _ _ passes later) = absurd (not_both lines s line next m f good passes x)
+  one_refutation s at _ offset _ f g good (walk.there _ next _ line lines _ _ passes later) (walk.here _ _ _ _ n _ y) = absurd (not_both lines s line next n g good passes y)
   one_refutation s at _ offset place f g good (walk.there _ next _ line lines _ _ passes later) (walk.there _ other _ _ _ _ _ passes2 later2) =
-      let good2 = good_next listed s line next passes good in
+      let good2 = good_next listed lines s line next passes good in
       one_refutation next (at + length (line_text line)) lines offset place f g good2 later
-      (subst (λ (t : State). Refutes listed t (at + length (line_text line)) lines place g) (one_next s line other next good passes2 passes) later2)
+      (subst (λ (t : State). Refutes listed t (at + length (line_text line)) lines place g) (one_next lines s line other next good passes2 passes) later2)
 
 -- a certificate that is a proof has no fault
 pub proof_and_fault : (listed : List Listed) (lines : List Line) (offset : ℕ) (f : Fault) → AreToldApart listed → IsProof listed lines

@@ -2,7 +2,7 @@
 use Rattle.std.proofs.Common.{◌≡◌, ◌∙◌, ◌<◌, ◌^◌, ℕ, zero, suc, List, [], ◌∷◌, length, map, get_or, Option, Some, None, refl, sym, ap, subst, arith}
 use Rattle.std.specs.Prelude.{All, Contains, IsSome}
 use Rattle.std.proofs.lemmas.List.{get_or_default}
-use Rattle.std.proofs.lemmas.List.Elements.{All-map, All-contains}
+use Rattle.std.proofs.lemmas.List.Elements.{All-nil, All-cons, All-map, All-contains}
 use Rattle.elf_spec.specs.Image.{Image, function_named, size_at}
 use Rattle.elf_spec.specs.declared.SymbolValues.TheVariants.{One}
 use Rattle.code_spec.specs.Code as code
@@ -14,19 +14,25 @@ use Rattle.c_meaning_spec.specs.Calls.{body_named}
 use Rattle.pair_spec.specs.SourceReach as source
 use Rattle.pair_spec.specs.SourceReach.{body_of}
 use Rattle.pair_outcome_spec.specs.Outcome as outcome
-use Rattle.pair_outcome_spec.specs.Outcome.{IsPaired, HasNoFault}
+use Rattle.pair_outcome_spec.specs.Outcome.{HasNoFault}
 use Rattle.claim_spec.specs.Claim.{IsValid}
 use Rattle.agreement_laws.specs.EntryFrame.{Pair}
 use Rattle.proof_laws.specs.Derivation as proofs
 use Rattle.proof_laws.specs.Derivation.{Function, IsFunction}
+use Rattle.memory_spec.specs.Runs.{Run}
+use Rattle.term_spec.specs.Term.{Term}
+use Rattle.clause_spec.specs.Log as clauses
 use Rattle.cert_spec.specs.Lines.{Line}
 use Rattle.check_spec.specs.Verdict.{Listed, IsProof}
-use Rattle.check_laws.specs.Closed.{IsClosed, leaf}
+use Rattle.check_laws.specs.Closed.{IsClosedGoal, IsClosed, leaf}
 use Rattle.check_laws.specs.Statements.{AreLines, listed_of, IsFile, AreFunctions}
 use Rattle.check_laws.proofs.Functions.{proofs_give_validity, closed_is_valid}
+use Rattle.trail_laws.specs.Laws.{IsSorted}
+use Rattle.trail_laws.proofs.Truths.{have_truths}
 use Rattle.cert_verdict_spec.specs.Files.{sides_of}
-use Rattle.cert_verdict_spec.specs.Verdict.{proof, HasLeaf}
-use Rattle.cert_verdict_spec.specs.Laws.{AreOfFiles, ProofsAreValid, LeavesAreValid}
+use Rattle.trail_spec.specs.Proofs.{AreClosedBy}
+use Rattle.cert_verdict_spec.specs.Verdict.{proof}
+use Rattle.cert_verdict_spec.specs.Laws.{AreOfFiles, ListedAreSorted, ProofsAreValid, LoggedLeavesAreValid}
 use Rattle.cert_verdict_spec.proofs.Apart.{mapped_from, HasPair, has_pair, its_name, same_by_name}
 use Rattle.cert_verdict_spec.proofs.Sides.{code_of, graph_there}
 use Rattle.cert_verdict_spec.proofs.Words.{pointer_small, is_place}
@@ -139,6 +145,9 @@ module _ (image : Image) (unit : Typed) (list : List (List ℕ)) (pairs : outcom
       there : (k : ℕ) (d : Function) → k < length functions → Contains functions (get_or functions k d)
       there k d below = (k, below, get_or_default functions k (get_or functions k d) d below)
 
+  all_sorted : All IsSorted listed
+  all_sorted = subst (All IsSorted) (sym of.are.listed_are) (have_truths q functions sides file are_functions)
+
   abbrev IsValidHere : Listed → Type 0
   IsValidHere f = IsValid image unit f.name f.stack
 
@@ -153,15 +162,26 @@ module _ (image : Image) (unit : Typed) (list : List (List ℕ)) (pairs : outcom
       proofs_give_validity q functions lines sides file are_functions spelled (subst (λ (l : List Listed). IsProof l lines) of.are.listed_are proves) g among (named g p)
       (stack_there g p))))
 
-  leaf_valid : (f : Listed) → Contains listed f → HasLeaf f → IsValidHere f
-  leaf_valid f among has =
+  closed_valid : (f : Listed) → Contains listed f → IsClosed f f.frame → IsValidHere f
+  closed_valid f among has =
       let (g, inside, same) = mapped_from (listed_of q) functions f (subst (λ (l : List Listed). Contains l f) of.are.listed_are among) in
       let p = pair g inside in
-      let closed : IsClosed (listed_of q g) (listed_of q g).frame = subst (λ (h : Listed). IsClosed h h.frame) (sym same) (leaf f.frame has.terms has.are has.closed) in
+      let closed : IsClosed (listed_of q g) (listed_of q g).frame = subst (λ (h : Listed). IsClosed h h.frame) (sym same) has in
       subst IsValidHere same (closed_is_valid q g sides file (is_function g p) (small g p) closed (named g p) (stack_there g p))
+
+pub listed_are_sorted : ListedAreSorted
+listed_are_sorted image unit list pairs listed of = all_sorted image unit list pairs listed of
 
 pub proofs_are_valid : ProofsAreValid
 proofs_are_valid image unit list pairs listed bytes of (proof lines certificate proves) = all_valid image unit list pairs listed of lines certificate.derives proves
 
-pub leaves_are_valid : LeavesAreValid
-leaves_are_valid image unit list pairs listed f of among has = leaf_valid image unit list pairs listed of f among has
+all_closed : (runs : List Run) (terms : List Term) (logs : List (List clauses.Step)) → AreClosedBy runs terms logs → All (IsClosedGoal runs) terms
+unfolding AreClosedBy
+all_closed runs [] [] closed = All-nil (IsClosedGoal runs)
+all_closed runs [] (log ∷ logs) closed = absurd closed
+all_closed runs (t ∷ terms) [] closed = absurd closed
+all_closed runs (t ∷ terms) (log ∷ logs) closed = All-cons (IsClosedGoal runs) t terms (log, closed.0) (all_closed runs terms logs closed.1)
+
+pub logged_leaves_are_valid : LoggedLeavesAreValid
+logged_leaves_are_valid image unit list pairs listed f logs of among has =
+    closed_valid image unit list pairs listed of f among (leaf f.frame has.terms has.are (all_closed f.runs has.terms logs has.closed))

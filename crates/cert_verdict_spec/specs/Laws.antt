@@ -1,5 +1,5 @@
 -- What follows from the definitions of verdicts on certificates.
-use Rattle.std.specs.Prelude.{◌≡◌, ◌<◌, ◌^◌, ℕ, true, List, [], ◌∷◌, map, All, Contains, bytes_eq}
+use Rattle.std.specs.Prelude.{◌≡◌, ◌<◌, ◌^◌, ℕ, true, List, length, map, flat_map, All, Contains, bytes_eq}
 use Rattle.std.specs.List.{IsDistinct}
 use Rattle.elf_spec.specs.Image.{Image}
 use Rattle.elf_spec.specs.File.{IsElf}
@@ -9,12 +9,14 @@ use Rattle.c_graph_spec.specs.Sizes.{UnitSizes}
 use Rattle.pair_outcome_spec.specs.Outcome as outcome
 use Rattle.pair_outcome_spec.specs.Outcome.{IsPaired}
 use Rattle.claim_spec.specs.Claim.{IsValid}
-use Rattle.cert_spec.specs.Lines.{is_name}
+use Rattle.clause_spec.specs.Log as clauses
+use Rattle.cert_spec.specs.Lines.{IsStep, is_name, line_text}
 use Rattle.cert_terms.specs.Variables.{AreApart}
-use Rattle.report_spec.specs.Certificate.{certificate_of}
-use Rattle.check_spec.specs.Verdict.{Listed, Fault, IsProof, IsFault}
+use Rattle.check_spec.specs.Verdict.{Listed}
 use Rattle.cert_verdict_spec.specs.Files.{AreListed, HasWords}
-use Rattle.cert_verdict_spec.specs.Verdict.{Outcome, IsOutcome, Proof, HasLeaf, valid_judgement, leaf_lines}
+use Rattle.trail_spec.specs.Proofs.{HasProof}
+use Rattle.trail_laws.specs.Laws.{IsSorted}
+use Rattle.cert_verdict_spec.specs.Verdict.{Outcome, IsOutcome, Proof, Part, written_lines}
 
 -- ---- one list
 
@@ -54,27 +56,30 @@ pub record AreOfFiles (image : Image) (unit : Typed) (list : List (List ℕ)) (p
   pub paired : IsPaired image unit list pairs
   pub are : AreListed image unit pairs listed
 
+-- the obligations of the listed functions of two files are truth values, and what their fixed runs have are bytes
+abbrev pub ListedAreSorted : Type 0
+ListedAreSorted = (image : Image) (unit : Typed) (list : List (List ℕ)) (pairs : outcome.Pairs) (listed : List Listed) → AreOfFiles image unit list pairs listed
+    → All IsSorted listed
+
 abbrev pub ProofsAreValid : Type 0
 ProofsAreValid = (image : Image) (unit : Typed) (list : List (List ℕ)) (pairs : outcome.Pairs) (listed : List Listed) (bytes : List ℕ) → AreOfFiles image unit list pairs listed
     → IsOutcome listed bytes Proof → All (λ (f : Listed). IsValid image unit f.name f.stack) listed
 
-abbrev pub LeavesAreValid : Type 0
-LeavesAreValid = (image : Image) (unit : Typed) (list : List (List ℕ)) (pairs : outcome.Pairs) (listed : List Listed) (f : Listed) → AreOfFiles image unit list pairs listed
-    → Contains listed f → HasLeaf f → IsValid image unit f.name f.stack
+abbrev pub LoggedLeavesAreValid : Type 0
+LoggedLeavesAreValid = (image : Image) (unit : Typed) (list : List (List ℕ)) (pairs : outcome.Pairs) (listed : List Listed) (f : Listed) (logs : List (List clauses.Step))
+    → AreOfFiles image unit list pairs listed → Contains listed f → HasProof f logs → IsValid image unit f.name f.stack
 
 -- ---- what is written
 
--- the certificate of functions with names, no two alike, each of which a Leaf without steps proves, is a proof of them
-abbrev pub WrittenIsProof : Type 0
-WrittenIsProof = (image : Image) (unit : Typed) (list : List (List ℕ)) (pairs : outcome.Pairs) (listed : List Listed) → IsPaired image unit list pairs → AreListed image unit pairs listed
-    → IsDistinct bytes_eq list → All HasLeaf listed → All (λ (f : Listed). is_name f.name ≡ true) listed → IsOutcome listed (certificate_of (map valid_judgement listed)) Proof
+-- its name is one of certificates, and its numbers are
+pub record CanWrite (p : Part) : Type 0 where
+  pub named : is_name p.function.name ≡ true
+  pub small : p.function.stack < 2 ^ 32
+  pub counted : length p.logs < 2 ^ 32
+  pub sizes : All (λ (log : List clauses.Step). length log < 2 ^ 32) p.logs
+  pub each : All (λ (log : List clauses.Step). All IsStep log) p.logs
 
--- a function whose frame has no goals is proved by a Leaf without steps exactly where the certificate of that Leaf is a proof
--- of it; where a line of this certificate breaks a rule or a limit, it is not
-pub record LeafIsProof (f : Listed) : Type 0 where
-  pub proves : HasLeaf f → IsProof (f ∷ []) (leaf_lines (f ∷ []))
-  pub proved : IsProof (f ∷ []) (leaf_lines (f ∷ [])) → HasLeaf f
-  pub refuted : (offset : ℕ) (broken : Fault) → IsFault (f ∷ []) (leaf_lines (f ∷ [])) offset broken → HasLeaf f → ⊥
-
-abbrev pub LeavesAreProofs : Type 0
-LeavesAreProofs = (f : Listed) → f.frame.goals ≡ [] → AreApart f.frame.setting.bodies → LeafIsProof f
+-- the certificate of functions with names, no two alike, each of which a Leaf with its logs proves, is a proof of them
+abbrev pub LoggedIsProof : Type 0
+LoggedIsProof = (parts : List Part) → IsDistinct bytes_eq (map (λ (p : Part). p.function.name) parts) → All (λ (p : Part). HasProof p.function p.logs) parts → All CanWrite parts
+    → IsOutcome (map (λ (p : Part). p.function) parts) (flat_map line_text (written_lines parts)) Proof

@@ -1,11 +1,7 @@
--- The verdict on the bytes of a certificate, and what a Leaf without steps proves.
-use Rattle.std.specs.Prelude.{◌≡◌, ℕ, true, false, List, [], ◌∷◌, ◌++◌, All, IsTrue}
-use Rattle.term_spec.specs.Term.{Term}
-use Rattle.rule_spec.specs.Obligations.{AreObligations, IsCyclicRule, IsLargeRule}
-use Rattle.rule_spec.specs.Obligations as rule
-use Rattle.tv_base.specs.declared.limits.TheConstants.{MAX_VISITS}
-use Rattle.closing_spec.specs.Closing.{Closes, closing}
-use Rattle.cert_spec.specs.Lines.{Line, Header, Function, Leaf, Log, End}
+-- The verdict on the bytes of a certificate, and what is written of functions that are proved.
+use Rattle.std.specs.Prelude.{ℕ, true, List, [], ◌∷◌, ◌++◌, length, map, flat_map}
+use Rattle.clause_spec.specs.Log as clauses
+use Rattle.cert_spec.specs.Lines.{Line, Header, Function, Leaf, Log, LogStep, End}
 use Rattle.cert_spec.specs.Certificates.{IsCertificate, IsFault}
 use Rattle.check_spec.specs.declared.RuleFault.{RuleFault}
 use Rattle.check_spec.specs.declared.Quantity.{Quantity}
@@ -34,42 +30,27 @@ pub data IsOutcome (listed : List Listed) (bytes : List ℕ) : Outcome → Type 
       → check.IsFault listed lines offset (check.Limit quantity) → IsOutcome listed bytes (Above quantity)
   proof : (lines : List Line) → IsCertificate bytes lines → IsProof listed lines → IsOutcome listed bytes Proof
 
--- ---- a Leaf without steps
-
--- it is a proof of the function: no walk goes round or has too many visits, and the log without steps closes each
--- obligation
-pub record HasLeaf (f : Listed) : Type 0 where
-  pub acyclic : (node : ℕ) → IsCyclicRule f.opening f.frame rule.Leaf node → ⊥
-  pub small : (count : ℕ) → IsLargeRule f.opening f.frame MAX_VISITS rule.Leaf count → ⊥
-  pub terms : List Term
-  pub are : AreObligations f.convention f.opening f.frame rule.Leaf terms
-  pub closed : All (λ (goal : Term). closing f.runs goal [] ≡ Closes) terms
-
--- the judgement on a listed function: valid exactly where a Leaf without steps proves it, and then with its stack
-pub record IsJudged (f : Listed) (j : Judgement) : Type 0 where
-  pub named : j.name ≡ f.name
-  pub proved : IsTrue j.valid → HasLeaf f
-  pub unproved : j.valid ≡ false → HasLeaf f → ⊥
-  pub stack : IsTrue j.valid → j.stack ≡ f.stack
-  pub no_stack : j.valid ≡ false → j.stack ≡ 0
-
-unfoldable pub AreJudged : List Listed → List Judgement → Type 0
-AreJudged [] [] = Unit {0}
-AreJudged (f ∷ listed) (j ∷ judgements) = IsJudged f j × AreJudged listed judgements
-AreJudged listed judgements = ⊥
+-- ---- functions that are proved
 
 -- the judgement that a function is valid
 abbrev pub valid_judgement : Listed → Judgement
 valid_judgement f = record { name = f.name; valid = true; stack = f.stack }
 
--- the lines of the certificate of functions by a Leaf each: of the entry's frame, whose only stop is the return, there
--- are three obligations
-abbrev pub part_lines : Listed → List Line
-part_lines f = Function f.name f.stack ∷ Leaf 3 ∷ Log 0 ∷ Log 0 ∷ Log 0 ∷ []
+-- a function, and the logs of its Leaf
+pub record Part : Type 0 where
+  pub function : Listed
+  pub logs : List (List clauses.Step)
 
-unfoldable pub parts_lines : List Listed → List Line
-parts_lines [] = End ∷ []
-parts_lines (f ∷ listed) = part_lines f ++ parts_lines listed
+abbrev pub log_lines : List clauses.Step → List Line
+log_lines log = Log (length log) ∷ map LogStep log
 
-abbrev pub leaf_lines : List Listed → List Line
-leaf_lines listed = Header ∷ parts_lines listed
+abbrev pub proof_lines : Part → List Line
+proof_lines p = Function p.function.name p.function.stack ∷ Leaf (length p.logs) ∷ flat_map log_lines p.logs
+
+unfoldable pub proofs_lines : List Part → List Line
+proofs_lines [] = End ∷ []
+proofs_lines (p ∷ parts) = proof_lines p ++ proofs_lines parts
+
+-- the lines of the certificate of these parts
+abbrev pub written_lines : List Part → List Line
+written_lines parts = Header ∷ proofs_lines parts

@@ -1,9 +1,10 @@
 //! The laws of verdicts on certificates: each function's clause is one law, and its body is empty.
 
 ghost use Rattle.cert_verdict_spec.specs.Laws.{FilesHaveOneList, FilesHaveWords};
-ghost use Rattle.cert_verdict_spec.specs.Laws.{FunctionsAreToldApart};
-ghost use Rattle.cert_verdict_spec.specs.Laws.{HasOneVerdict, LeavesAreProofs, LeavesAreValid};
-ghost use Rattle.cert_verdict_spec.specs.Laws.{ListsHaveOnePairing, ProofsAreValid, WrittenIsProof};
+ghost use Rattle.cert_verdict_spec.specs.Laws.{FunctionsAreToldApart, HasOneVerdict};
+ghost use Rattle.cert_verdict_spec.specs.Laws.{ListedAreSorted, ListsHaveOnePairing};
+ghost use Rattle.cert_verdict_spec.specs.Laws.{LoggedIsProof, LoggedLeavesAreValid};
+ghost use Rattle.cert_verdict_spec.specs.Laws.{ProofsAreValid};
 
 /// A list of names has one pairing at most.
 pub fn lists_have_one_pairing()
@@ -30,22 +31,23 @@ pub fn files_have_words()
     ensures { FilesHaveWords }
 {}
 
+/// The obligations of the listed functions of two files are truth values, and what their fixed runs
+/// have are bytes.
+pub fn listed_are_sorted()
+    ensures { ListedAreSorted }
+{}
+
 /// Where a certificate is a proof of the listed functions of two files, each is valid.
 pub fn proofs_are_valid()
     ensures { ProofsAreValid }
 {}
 
-/// A listed function that a Leaf without steps proves is valid.
-pub fn leaves_are_valid()
-    ensures { LeavesAreValid }
+/// A listed function that a Leaf proves with its logs is valid.
+pub fn logged_leaves_are_valid()
+    ensures { LoggedLeavesAreValid }
 {}
 
-/// The certificate of functions each of which a Leaf without steps proves is a proof of them.
-pub fn written_is_proof()
-    ensures { WrittenIsProof }
-{}
-
-/// A Leaf without steps proves a function exactly where its certificate is a proof of it alone.
-pub fn leaves_are_proofs()
-    ensures { LeavesAreProofs }
+/// The certificate of functions each of which a Leaf proves with its logs is a proof of them.
+pub fn logged_is_proof()
+    ensures { LoggedIsProof }
 {}

@@ -71,4 +71,4 @@ module _ (c : Convention) (runs : List Run) (bytes : AreBytes runs) (fixed : (at
   goal_true goal good closed a sorted has =
       ap is_truth
       (value-occurs a (alone a) goal (λ v o. sym (same_alone a v (good.plain v o)))
-      ∙ closed_is_true runs bytes goal [] good.sorted closed (alone a) (alone_sorted a sorted) (alone_fixed a sorted has))
+      ∙ closed_is_true runs bytes goal closed.0 good.sorted closed.1 (alone a) (alone_sorted a sorted) (alone_fixed a sorted has))

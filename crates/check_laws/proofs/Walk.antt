@@ -1,5 +1,5 @@
 -- The walk along the lines of a certificate, by what its grammar expects.
-use Rattle.std.proofs.Common.{◌≡◌, ℕ, ◌+◌, ◌-◌, true, false, List, [], ◌∷◌, ◌++◌, length, map, refl, sym, subst, append_assoc, append-nil}
+use Rattle.std.proofs.Common.{◌≡◌, ℕ, zero, suc, ◌+◌, ◌-◌, true, false, List, [], ◌∷◌, ◌++◌, length, map, refl, sym, subst, append_assoc, append-nil}
 use Rattle.std.specs.Prelude.{All, Contains, replicate}
 use Rattle.std.proofs.lemmas.List.Elements.{All-nil, All-cons, All-contains}
 use Rattle.term_spec.specs.Term.{Term, not_term}
@@ -8,9 +8,9 @@ use Rattle.cert_spec.specs.declared.Symbol.{Symbol}
 use Rattle.cert_spec.specs.Derivation as derivation
 use Rattle.cert_spec.specs.Derivation.{Derives}
 use Rattle.cert_spec.specs.Lines.{Line, Function, Leaf, Case, End}
-use Rattle.cert_spec.specs.Certificates.{Expected, AHeader, TheParts, BinaryInlines, SourceInlines, AProof, ALog, Fits, after, can_stand, root_room}
+use Rattle.cert_spec.specs.Certificates.{Expected, AHeader, TheParts, BinaryInlines, SourceInlines, AProof, ALog, AStep, Fits, after, can_stand, root_room}
 use Rattle.check_spec.specs.Verdict as walk
-use Rattle.check_spec.specs.Verdict.{Listed, Job, Prove, Close, State, Between, Inside, begun, with_test, IsMissing, Passes, Proves, IsProof}
+use Rattle.check_spec.specs.Verdict.{Listed, Job, Prove, Close, Checked, State, Between, Inside, begun, with_test, IsMissing, Passes, Proves, IsProof}
 use Rattle.check_laws.specs.Closed.{IsClosedGoal, IsClosed, leaf, case, HasPart}
 use Rattle.check_laws.specs.Statements.{AreLines}
 use Rattle.check_laws.proofs.Parts.{IsNamed, all_named}
@@ -23,6 +23,7 @@ false_stands e = absurd (cc)
 abbrev IsDone : Listed → Job → Type 0
 IsDone f (Prove frame) = IsClosed f frame
 IsDone f (Close goal) = IsClosedGoal f.runs goal
+IsDone f Checked = Unit {0}
 
 abbrev AreDone : Listed → List Job → Type 0
 AreDone f [] = Unit {0}
@@ -38,6 +39,10 @@ logs_done f (t ∷ terms) jobs done =
     let rest = logs_done f terms jobs done.1 in
     (All-cons (IsClosedGoal f.runs) t terms done.0 rest.0, rest.1)
 
+steps_done : (f : Listed) (count : ℕ) (jobs : List Job) → AreDone f (replicate count Checked ++ jobs) → AreDone f jobs
+steps_done f zero jobs done = done
+steps_done f (suc count) jobs done = steps_done f count jobs done.1
+
 -- ---- what is expected for jobs
 
 data IsOfProof : Expected → Type 0 where
@@ -50,10 +55,15 @@ data AreOfJobs : List Expected → List Job → Type 0 where
   no_job : AreOfJobs (TheParts ∷ []) []
   a_proof : (e : Expected) (others : List Expected) (frame : Frame) (jobs : List Job) → IsOfProof e → AreOfJobs others jobs → AreOfJobs (e ∷ others) (Prove frame ∷ jobs)
   a_log : (others : List Expected) (goal : Term) (jobs : List Job) → AreOfJobs others jobs → AreOfJobs (ALog ∷ others) (Close goal ∷ jobs)
+  a_step : (others : List Expected) (jobs : List Job) → AreOfJobs others jobs → AreOfJobs (AStep ∷ others) (Checked ∷ jobs)
 
 logs_of : (terms : List Term) (others : List Expected) (jobs : List Job) → AreOfJobs others jobs → AreOfJobs (replicate (length terms) ALog ++ others) (map Close terms ++ jobs)
 logs_of [] others jobs are = are
 logs_of (t ∷ terms) others jobs are = a_log (replicate (length terms) ALog ++ others) t (map Close terms ++ jobs) (logs_of terms others jobs are)
+
+steps_of : (count : ℕ) (others : List Expected) (jobs : List Job) → AreOfJobs others jobs → AreOfJobs (replicate count AStep ++ others) (replicate count Checked ++ jobs)
+steps_of zero others jobs are = are
+steps_of (suc count) others jobs are = a_step (replicate count AStep ++ others) (replicate count Checked ++ jobs) (steps_of count others jobs are)
 
 -- where a proof is expected no part begins, and the certificate doesn't end; and what is expected after a rule
 never_function : (e : Expected) → IsOfProof e → (name : List ℕ) (stack : ℕ) → can_stand e (Function name stack) ≡ true → false ≡ true
@@ -127,7 +137,7 @@ module _ (listed : List Listed) where
   Later lines = (s : State) (expected : List Expected) → IsState s expected → Derives Fits after expected lines → Proves listed s lines → Shows s
 
   part_line : (lines : List Line) → Later lines → (s : State) → StateDone s → (line : Line) (next : State) → can_stand TheParts line ≡ true
-      → Derives Fits after (after TheParts line ++ []) lines → Passes listed s line next → Proves listed next lines → Shows s
+      → Derives Fits after (after TheParts line ++ []) lines → Passes listed lines s line next → Proves listed next lines → Shows s
   part_line lines later s done _ _ stands derives (walk.function _ f free) proves =
       with_part s f free.is_listed
       (later (Inside (begun s) f (Prove f.frame ∷ [])) (BinaryInlines ∷ TheParts ∷ [])
@@ -137,11 +147,12 @@ module _ (listed : List Listed) where
   part_line lines later _ done _ _ stands derives walk.header proves = false_stands stands
   part_line lines later _ done _ _ stands derives (walk.leaf parts f frame jobs terms acyclic small are) proves = false_stands stands
   part_line lines later _ done _ _ stands derives (walk.case parts f frame jobs symbols test is) proves = false_stands stands
-  part_line lines later _ done _ _ stands derives (walk.log parts f goal jobs closes) proves = false_stands stands
+  part_line lines later _ done _ _ stands derives (walk.log parts f goal jobs count steps are closes) proves = false_stands stands
+  part_line lines later _ done _ _ stands derives (walk.step parts f jobs one) proves = false_stands stands
 
   proof_line : (lines : List Line) → Later lines → (parts : List Listed) (f : Listed) (frame : Frame) (jobs : List Job) (e : Expected) (others : List Expected) (line : Line) (next : State)
       → IsOfProof e → AreOfJobs others jobs → can_stand e line ≡ true → Derives Fits after (after e line ++ others) lines
-      → Passes listed (Inside parts f (Prove frame ∷ jobs)) line next → Proves listed next lines → Shows (Inside parts f (Prove frame ∷ jobs))
+      → Passes listed lines (Inside parts f (Prove frame ∷ jobs)) line next → Proves listed next lines → Shows (Inside parts f (Prove frame ∷ jobs))
   proof_line lines later parts f frame jobs e others _ _ of are stands derives (walk.function _ g free) proves = false_stands (never_function e of g.name g.stack stands)
   proof_line lines later parts f frame jobs e others _ _ of are stands derives (walk.last _ free) proves = false_stands (never_end e of stands)
   proof_line lines later parts f frame jobs e others _ _ of are stands derives (walk.leaf _ _ _ _ terms acyclic small obligations) proves =
@@ -162,25 +173,36 @@ module _ (listed : List Listed) where
 
   log_line : (lines : List Line) → Later lines → (parts : List Listed) (f : Listed) (goal : Term) (jobs : List Job) (others : List Expected) (line : Line) (next : State)
       → AreOfJobs others jobs → can_stand ALog line ≡ true → Derives Fits after (after ALog line ++ others) lines
-      → Passes listed (Inside parts f (Close goal ∷ jobs)) line next → Proves listed next lines → Shows (Inside parts f (Close goal ∷ jobs))
+      → Passes listed lines (Inside parts f (Close goal ∷ jobs)) line next → Proves listed next lines → Shows (Inside parts f (Close goal ∷ jobs))
   log_line lines later parts f goal jobs others _ _ are stands derives (walk.function _ g free) proves = false_stands stands
   log_line lines later parts f goal jobs others _ _ are stands derives (walk.last _ free) proves = false_stands stands
-  log_line lines later parts f goal jobs others _ _ are stands derives (walk.log _ _ _ _ closes) proves =
+  log_line lines later parts f goal jobs others _ _ are stands derives (walk.log _ _ _ _ count steps ahead closes) proves =
+      let shows = later (Inside parts f (replicate count Checked ++ jobs)) (replicate count AStep ++ others)
+      (inside parts f (replicate count Checked ++ jobs) (replicate count AStep ++ others) (steps_of count others jobs are)) derives proves in
+      with_done parts f (Close goal ∷ jobs) (replicate count Checked ++ jobs) shows ((steps, closes), steps_done f count jobs shows.done)
+
+  step_line : (lines : List Line) → Later lines → (parts : List Listed) (f : Listed) (jobs : List Job) (others : List Expected) (line : Line) (next : State)
+      → AreOfJobs others jobs → can_stand AStep line ≡ true → Derives Fits after (after AStep line ++ others) lines
+      → Passes listed lines (Inside parts f (Checked ∷ jobs)) line next → Proves listed next lines → Shows (Inside parts f (Checked ∷ jobs))
+  step_line lines later parts f jobs others _ _ are stands derives (walk.function _ g free) proves = false_stands stands
+  step_line lines later parts f jobs others _ _ are stands derives (walk.last _ free) proves = false_stands stands
+  step_line lines later parts f jobs others _ _ are stands derives (walk.step _ _ _ one) proves =
       let shows = later (Inside parts f jobs) others (inside parts f jobs others are) derives proves in
-      with_done parts f (Close goal ∷ jobs) jobs shows (closes, shows.done)
+      with_done parts f (Checked ∷ jobs) jobs shows (tt, shows.done)
 
   -- ---- all lines that are left
 
   one_line : (line : Line) (lines : List Line) → Later lines → (s next : State) (n : Expected) (others : List Expected) → IsState s (n ∷ others) → can_stand n line ≡ true
-      → Derives Fits after (after n line ++ others) lines → Passes listed s line next → Proves listed next lines → Shows s
+      → Derives Fits after (after n line ++ others) lines → Passes listed lines s line next → Proves listed next lines → Shows s
   one_line line lines later _ next _ _ (outside parts) stands derives passes proves = part_line lines later (Between parts) tt line next stands derives passes proves
   one_line line lines later _ next n others (inside parts f jobs _ are) stands derives passes proves = by jobs n others are stands derives passes
     where
       by : (jobs : List Job) (n : Expected) (others : List Expected) → AreOfJobs (n ∷ others) jobs → can_stand n line ≡ true → Derives Fits after (after n line ++ others) lines
-          → Passes listed (Inside parts f jobs) line next → Shows (Inside parts f jobs)
+          → Passes listed lines (Inside parts f jobs) line next → Shows (Inside parts f jobs)
       by _ _ _ no_job stands derives passes = part_line lines later (Inside parts f []) tt line next stands derives passes proves
       by _ n others (a_proof _ _ frame jobs of are) stands derives passes = proof_line lines later parts f frame jobs n others line next of are stands derives passes proves
       by _ _ others (a_log _ goal jobs are) stands derives passes = log_line lines later parts f goal jobs others line next are stands derives passes proves
+      by _ _ others (a_step _ jobs are) stands derives passes = step_line lines later parts f jobs others line next are stands derives passes proves
 
   shown : (lines : List Line) → Later lines
   shown [] s _ is derivation.none proves = absurd (never_nothing s is)
@@ -201,7 +223,7 @@ module _ (listed : List Listed) where
   from_header _ (derivation.some _ _ line lines fits derives) (walk.some _ next _ _ passes proves) = first line next lines fits.stands derives passes proves
     where
       first : (line : Line) (next : State) (lines : List Line) → can_stand AHeader line ≡ true → Derives Fits after (after AHeader line ++ []) lines
-          → Passes listed (Between []) line next → Proves listed next lines → Shows (Between [])
+          → Passes listed lines (Between []) line next → Proves listed next lines → Shows (Between [])
       first _ _ lines stands derives walk.header proves = shown lines (Between []) (TheParts ∷ []) (outside []) derives proves
       first _ _ lines stands derives (walk.function _ f free) proves = false_stands stands
       first _ _ lines stands derives (walk.last _ free) proves = false_stands stands

@@ -1,18 +1,19 @@
 -- What a part of a certificate shows: a tree of Leaf and Case at the frame of its function, each of whose obligations is
--- closed by the log without steps.
-use Rattle.std.specs.Prelude.{◌≡◌, List, [], All, Contains}
+-- closed by a log.
+use Rattle.std.specs.Prelude.{◌≡◌, List, All, Contains}
 use Rattle.memory_spec.specs.Runs.{Run}
 use Rattle.term_spec.specs.Term.{Term, not_term}
 use Rattle.proof_spec.specs.Frames.{Frame}
 use Rattle.proof_spec.specs.Scope.{IsLine}
 use Rattle.rule_spec.specs.Obligations.{AreObligations}
 use Rattle.rule_spec.specs.Obligations as rule
+use Rattle.clause_spec.specs.Log.{Step}
 use Rattle.closing_spec.specs.Closing.{Closes, closing}
 use Rattle.check_spec.specs.Verdict.{Listed, with_test}
 
--- the log without steps closes the goal
+-- a log closes the goal
 abbrev pub IsClosedGoal : List Run → Term → Type 0
-IsClosedGoal runs goal = closing runs goal [] ≡ Closes
+IsClosedGoal runs goal = (log : List Step) × (closing runs goal log ≡ Closes)
 
 -- the frame has a proof by Leaf and Case in the part of the function
 pub data IsClosed (f : Listed) : Frame → Type 0 where

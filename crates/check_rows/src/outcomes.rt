@@ -19,6 +19,7 @@ fn word(rule: RuleFault) -> &'static str {
         RuleFault::Sort => "Sort",
         RuleFault::Cyclic => "Cyclic",
         RuleFault::Logs => "Logs",
+        RuleFault::Step => "Step",
         RuleFault::Unclosed => "Unclosed",
         RuleFault::Missing => "Missing",
     }

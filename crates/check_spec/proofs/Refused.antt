@@ -14,7 +14,7 @@ only f g (suc k) l e = absurd (omega arith)
 pub refused_stranger : StrangerIsRefused
 refused_stranger f named rest =
     there (Between []) (Between []) 0 Header (Function (codes "h") 0 ∷ rest) 10 (NotProof (codes "h") fault.Stranger) header
-    (here (Between []) 10 (Function (codes "h") 0) rest (NotProof (codes "h") fault.Stranger) (stranger (Between []) (codes "h") 0 none))
+    (here (Between []) 10 (Function (codes "h") 0) rest 0 (NotProof (codes "h") fault.Stranger) (stranger (Between []) (codes "h") 0 none))
   where
     none : (g : Listed) → IsFree (f ∷ []) [] (codes "h") g → ⊥
     none g i =
@@ -25,12 +25,12 @@ refused_stranger f named rest =
 pub refused_stack : OtherStackIsRefused
 refused_stack f named none rest =
     there (Between []) (Between []) 0 Header (Function (codes "f") 16 ∷ rest) 10 (NotProof (codes "f") fault.Stack) header
-    (here (Between []) 10 (Function (codes "f") 16) rest (NotProof (codes "f") fault.Stack)
+    (here (Between []) 10 (Function (codes "f") 16) rest 0 (NotProof (codes "f") fault.Stack)
     (stack (Between []) (codes "f") 16 f (record { is_listed = (0, omega arith, refl); named = named; free = All-nil _ }) (λ e. omega (arith, e, none))))
 
 pub refused_missing : MissingIsRefused
 refused_missing f named =
     subst (λ name. IsFault (f ∷ []) (Header ∷ End ∷ []) 10 (NotProof name fault.Missing)) named
     (there (Between []) (Between []) 0 Header (End ∷ []) 10 (NotProof f.name fault.Missing) header
-    (here (Between []) 10 End [] (NotProof f.name fault.Missing)
+    (here (Between []) 10 End [] 0 (NotProof f.name fault.Missing)
     (missing (Between []) f (record { before = []; after = []; cut = refl; none = All-nil _; others = All-nil _ }))))

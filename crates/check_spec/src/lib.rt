@@ -3,8 +3,8 @@
 //!
 //! `specs/Terms.antt` has the terms of certificates as terms over the variables of a proof,
 //! `specs/Verdict.antt` the walk along the lines. Of the rules it has Leaf and Case; at the lines of
-//! the others, and at logs with steps, the fault is [`RuleFault::Later`]. Of the crate only the
-//! types below run.
+//! the others the fault is [`RuleFault::Later`]. A log is checked as a whole at its line; a step that
+//! doesn't follow is a fault at the step's own line. Of the crate only the types below run.
 #![tactic(auto)]
 
 pub mod samples;
@@ -24,7 +24,9 @@ pub enum RuleFault {
     Cyclic,
     /// There are not so many obligations.
     Logs,
-    /// The goal isn't closed.
+    /// A step of a log doesn't follow by its hints.
+    Step,
+    /// Every step of a log follows, and the goal isn't closed.
     Unclosed,
     /// A listed function has no part.
     Missing,

@@ -7,7 +7,7 @@ use Rattle.std.proofs.Math.Seq.{get_or-append_seam}
 use Rattle.std.proofs.lemmas.Bool.{le-leb}
 use Rattle.std.proofs.lemmas.List.{append_assoc, append-nil}
 use Rattle.std.specs.Prelude.{◌&&◌, ◌≤◌, if◌then◌else◌, Result, Ok, Err}
-use Rattle.std.specs.Prelude.{OnOk, nat_le, ◌<◌}
+use Rattle.std.specs.Prelude.{OnOk, nat_le, ◌<◌, ◌↔◌}
 use Rattle.memory_spec.specs.Runs.{Run}
 use Rattle.term_spec.specs.Term.{Term}
 use Rattle.term_spec.specs.Subterms.{subterm_count}
@@ -25,6 +25,8 @@ use Rattle.closing_spec.specs.Closing.{IsLarge, has_no_step, is_truth, closing_o
 use Rattle.closing_spec.specs.declared.GoalQuantity.{GoalQuantity}
 use Rattle.closing_spec.specs.declared.GoalQuantity.TheVariants.{Terms, Variables}
 use Rattle.clause_check.specs.Logged.{Logged, clauses_of}
+use Rattle.clause_check.specs.declared.log.StepError.{StepError}
+use Rattle.clause_check.specs.declared.log.StepError.TheVariants.{Fault, NoMemory}
 use Rattle.blast_spec.specs.Goal.{cnf_of}
 use Rattle.sat_spec.specs.Logs.{Lean, Spent}
 use Rattle.discharge.specs.declared.error.CloseError.{CloseError}
@@ -33,33 +35,22 @@ use Rattle.discharge.specs.declared.error.SeekError.{SeekError}
 use Rattle.discharge.specs.declared.error.SeekError.TheVariants as seek
 use Rattle.discharge.specs.declared.seeking.Sought.{Sought}
 use Rattle.discharge.specs.declared.seeking.Sought.TheVariants.{Valid, Refuted, Limit}
-use Rattle.discharge.specs.Answers.{Adds, Answers, CountsVariables, IsAbove, SeeksForm, Seeks, is_empty_some, ends_empty}
+use Rattle.discharge.specs.Answers.{TakesFirst, refusal, Answers, CountsVariables, IsAbove, SeeksForm, Seeks, is_empty_some, ends_empty}
 
--- the rest of a log from the step of an index on
-pub rest_from : (variables : ℕ) (clauses : List Clause) (is_closed : Bool) (number : ℕ) (steps : List Step) (i : ℕ) (literals : List Literal) (hints : List ℕ)
-    → option_map (λ s. s.literals) (slice_get steps i) ≡ Some literals → option_map (λ s. s.hints) (slice_get steps i) ≡ Some hints
-    → checked variables clauses is_closed number (drop i steps)
-    ≡ after (outcome variables clauses literals hints) number
-    (checked variables (clauses ++ literals ∷ []) (is_empty literals) (number + 1) (drop (suc i) steps))
+-- a log by its first step
+pub rest_of : (variables : ℕ) (clauses : List Clause) (is_closed : Bool) (number : ℕ) (steps : List Step) (step : Step) (others : List Step) → steps ≡ step ∷ others
+    → checked variables clauses is_closed number steps
+    ≡ after (outcome variables clauses step.literals step.hints) number
+    (checked variables (clauses ++ step.literals ∷ []) (is_empty step.literals) (number + 1) others)
 unfolding checked
-rest_from variables clauses is_closed number [] i literals hints e f = cc
-rest_from variables clauses is_closed number (step ∷ steps) zero literals hints e f = rw (sym (some_is step.literals literals e), sym (some_hints step.hints hints f)) refl
-  where
-    some_is : (a b : List Literal) → Some a ≡ Some b → a ≡ b
-    some_is a b e = cc
-
-    some_hints : (a b : List ℕ) → Some a ≡ Some b → a ≡ b
-    some_hints a b e = cc
-rest_from variables clauses is_closed number (step ∷ steps) (suc i) literals hints e f = rest_from variables clauses is_closed number steps i literals hints e f
+rest_of variables clauses is_closed number steps step others is = ap (checked variables clauses is_closed number) is
 
 -- at the end of a log
-pub rest_none : (variables : ℕ) (clauses : List Clause) (is_closed : Bool) (number : ℕ) (steps : List Step) (i : ℕ) → length steps ≡ i
-    → checked variables clauses is_closed number (drop i steps) ≡ at_end is_closed
+pub rest_none : (variables : ℕ) (clauses : List Clause) (is_closed : Bool) (number : ℕ) (steps : List Step) → length steps ≡ 0
+    → checked variables clauses is_closed number steps ≡ at_end is_closed
 unfolding checked
-rest_none variables clauses is_closed number [] zero e = refl
-rest_none variables clauses is_closed number [] (suc i) e = cc
-rest_none variables clauses is_closed number (step ∷ steps) zero e = cc
-rest_none variables clauses is_closed number (step ∷ steps) (suc i) e = rest_none variables clauses is_closed number steps i (omega (arith, e))
+rest_none variables clauses is_closed number [] e = refl
+rest_none variables clauses is_closed number (step ∷ steps) e = absurd (omega (arith, e))
 
 pub ends_by_last : (clauses : List Clause) (literals : Clause) → ends_empty (clauses ++ literals ∷ []) ≡ is_empty literals
 ends_by_last clauses literals =
@@ -109,55 +100,58 @@ refuted_closes cnf steps refutes =
 
 -- before the first
 pub begins : (old : Logged) (steps : List Step) → old.added ≡ []
-    → checked old.cnf.variables old.cnf.clauses false 1 steps ≡ checked old.cnf.variables (clauses_of old) (ends_empty old.added) (0 + 1) (drop 0 steps)
+    → checked old.cnf.variables old.cnf.clauses false 1 steps ≡ checked old.cnf.variables (clauses_of old) (ends_empty old.added) (0 + 1) steps
 begins old steps e = sym (rw (e, append-nil old.cnf.clauses) refl)
 
 -- a step that doesn't follow
-pub failed_at : (variables : ℕ) (clauses : List Clause) (is_closed : Bool) (number : ℕ) (steps : List Step) (i : ℕ) (literals : List Literal) (hints : List ℕ)
-    → option_map (λ s. s.literals) (slice_get steps i) ≡ Some literals → option_map (λ s. s.hints) (slice_get steps i) ≡ Some hints
-    → (hint : ℕ) (kind : StepFaultKind) → outcome variables clauses literals hints ≡ Refused hint kind
-    → checked variables clauses is_closed number (drop i steps) ≡ Fails number
-failed_at variables clauses is_closed number steps i literals hints e f hint kind refused =
-    rest_from variables clauses is_closed number steps i literals hints e f
-    ∙ ap (λ o. after o number (checked variables (clauses ++ literals ∷ []) (is_empty literals) (number + 1) (drop (suc i) steps))) refused
+refused_answers : (A : Type 0) (verdict : Closing) (before after : List Step) (old new : Logged) (is_closed : Bool) (number : ℕ) (error : StepError)
+    → verdict ≡ checked old.cnf.variables (clauses_of old) is_closed number before → TakesFirst before after old new (Err error)
+    → Answers {A = A} verdict (Err (refusal error number))
+refused_answers A verdict before left old new is_closed number (Fault fault) is (step, others, first, hint, kind, refused) =
+    is
+    ∙ rest_of old.cnf.variables (clauses_of old) is_closed number before step others first
+    ∙ ap (λ o. after o number (checked old.cnf.variables (clauses_of old ++ step.literals ∷ []) (is_empty step.literals) (number + 1) others)) refused
+refused_answers A verdict before left old new is_closed number NoMemory is takes = tt
 
-pub error_answers : (A B : Type 0) (verdict : Closing) (old new : Logged) (literals : List Literal) (hints : List ℕ) (number : ℕ) (error : CloseError)
-    → Adds {A = A} old new literals hints number (Err error)
-    → ((hint : ℕ) (kind : StepFaultKind) → outcome old.cnf.variables (clauses_of old) literals hints ≡ Refused hint kind → verdict ≡ Fails number)
-    → Answers {A = B} verdict (Err error)
-error_answers A B verdict old new literals hints number (close.Step n) adds fails = fails adds.1 adds.2 adds.3 ∙ ap Fails (sym adds.0)
-error_answers A B verdict old new literals hints number close.NoMemory adds fails = tt
-error_answers A B verdict old new literals hints number close.Unclosed adds fails = absurd adds
-error_answers A B verdict old new literals hints number (close.Large quantity count) adds fails = absurd adds
+pub error_answers : (A : Type 0) (verdict : Closing) (before after : List Step) (old new : Logged) (is_closed : Bool) (number : ℕ) (error : StepError) (answer : CloseError)
+    → answer ≡ refusal error number → verdict ≡ checked old.cnf.variables (clauses_of old) is_closed number before → TakesFirst before after old new (Err error)
+    → Answers {A = A} verdict (Err answer)
+error_answers A verdict before left old new is_closed number error answer same is takes =
+    subst (λ (e : CloseError). Answers {A = A} verdict (Err e)) (sym same) (refused_answers A verdict before left old new is_closed number error is takes)
 
 -- a step that follows
-pub goes_on : (old new : Logged) (steps : List Step) (i : ℕ) (literals : List Literal) (hints : List ℕ)
-    → option_map (λ s. s.literals) (slice_get steps i) ≡ Some literals → option_map (λ s. s.hints) (slice_get steps i) ≡ Some hints
-    → outcome old.cnf.variables (clauses_of old) literals hints ≡ Follows
-    → new.cnf ≡ old.cnf → new.added ≡ old.added ++ literals ∷ []
-    → (is_closed : Bool) (number : ℕ)
-    → checked old.cnf.variables (clauses_of old) is_closed number (drop i steps)
-    ≡ checked new.cnf.variables (clauses_of new) (ends_empty new.added) (number + 1) (drop (i + 1) steps)
-goes_on old new steps i literals hints e f follows cnf_is added_is is_closed number =
-    rest_from old.cnf.variables (clauses_of old) is_closed number steps i literals hints e f
-    ∙ ap (λ o. after o number (checked old.cnf.variables (clauses_of old ++ literals ∷ []) (is_empty literals) (number + 1) (drop (suc i) steps))) follows
-    ∙ sym (rw (cnf_is, added_is, ends_by_last old.added literals, next_is, append_assoc old.cnf.clauses old.added (literals ∷ [])) refl)
-  where
-    next_is : i + 1 ≡ suc i
-    next_is = omega arith
+pub goes_on : (old new : Logged) (before after : List Step) → TakesFirst before after old new (Ok tt) → (is_closed : Bool) (number : ℕ)
+    → checked old.cnf.variables (clauses_of old) is_closed number before ≡ checked new.cnf.variables (clauses_of new) (ends_empty new.added) (number + 1) after
+goes_on old new before left (step, first, follows, cnf_is, added_is) is_closed number =
+    rest_of old.cnf.variables (clauses_of old) is_closed number before step left first
+    ∙ ap (λ o. after o number (checked old.cnf.variables (clauses_of old ++ step.literals ∷ []) (is_empty step.literals) (number + 1) left)) follows
+    ∙ sym (rw (cnf_is, added_is, ends_by_last old.added step.literals, append_assoc old.cnf.clauses old.added (step.literals ∷ [])) refl)
+
+-- the first of some steps, which has these literals and hints for the checker
+pub step_taken : (before left : List Step) (s : Step) → before ≡ s ∷ left → (old new : Logged) (literals : List Literal) (hints : List ℕ)
+    → outcome old.cnf.variables (clauses_of old) literals hints ≡ outcome old.cnf.variables (clauses_of old) s.literals s.hints
+    → (outcome old.cnf.variables (clauses_of old) s.literals s.hints ≡ Follows → literals ≡ s.literals)
+    → (result : Result (Unit {0}) StepError) → OnOk result (outcome old.cnf.variables (clauses_of old) literals hints ≡ Follows)
+    → ((hint : ℕ) (kind : StepFaultKind) → (result ≡ Err (Fault (record { hint = hint; kind = kind }))) ↔ (outcome old.cnf.variables (clauses_of old) literals hints ≡ Refused hint kind))
+    → new.cnf ≡ old.cnf → OnOk result (new.added ≡ old.added ++ literals ∷ []) → TakesFirst before left old new result
+step_taken before left s first old new literals hints same kept (Ok done) follows fault cnf added =
+    let real = sym same ∙ follows in
+    (s, first, real, cnf, added ∙ ap (λ (list : List Literal). old.added ++ list ∷ []) (kept real))
+step_taken before left s first old new literals hints same kept (Err (Fault f)) follows fault cnf added = (s, left, first, f.hint, f.kind, sym same ∙ (fault f.hint f.kind).0 refl)
+step_taken before left s first old new literals hints same kept (Err NoMemory) follows fault cnf added = tt
 
 -- at the end
-pub at_end_closed : (variables : ℕ) (clauses added : List Clause) (number : ℕ) (steps : List Step) (i : ℕ) → length steps ≡ i
+pub at_end_closed : (variables : ℕ) (clauses added : List Clause) (number : ℕ) (steps : List Step) → length steps ≡ 0
     → slice_get added (length added - 1) ≡ Some []
-    → checked variables clauses (ends_empty added) number (drop i steps) ≡ Closes
-at_end_closed variables clauses added number steps i e last =
-    rest_none variables clauses (ends_empty added) number steps i e ∙ ap at_end (ends_true (slice_get added (length added - 1)) last)
+    → checked variables clauses (ends_empty added) number steps ≡ Closes
+at_end_closed variables clauses added number steps e last =
+    rest_none variables clauses (ends_empty added) number steps e ∙ ap at_end (ends_true (slice_get added (length added - 1)) last)
 
-pub at_end_open : (variables : ℕ) (clauses added : List Clause) (number : ℕ) (steps : List Step) (i : ℕ) → length steps ≡ i
+pub at_end_open : (variables : ℕ) (clauses added : List Clause) (number : ℕ) (steps : List Step) → length steps ≡ 0
     → (slice_get added (length added - 1) ≡ Some [] → ⊥)
-    → checked variables clauses (ends_empty added) number (drop i steps) ≡ Unclosed
-at_end_open variables clauses added number steps i e last =
-    rest_none variables clauses (ends_empty added) number steps i e ∙ ap at_end (ends_false (slice_get added (length added - 1)) last)
+    → checked variables clauses (ends_empty added) number steps ≡ Unclosed
+at_end_open variables clauses added number steps e last =
+    rest_none variables clauses (ends_empty added) number steps e ∙ ap at_end (ends_false (slice_get added (length added - 1)) last)
 
 -- ---- a goal in normal form
 

@@ -5,11 +5,13 @@ use Rattle.term_spec.specs.Term.{Term}
 use Rattle.term_spec.specs.Value.{Truth, value}
 use Rattle.term_core.specs.Assignment.{assignment_of}
 use Rattle.normal_spec.specs.Normal.{normal}
-use Rattle.clause_spec.specs.declared.Literal.{Literal}
 use Rattle.clause_spec.specs.declared.StepFaultKind.{StepFaultKind}
 use Rattle.clause_spec.specs.Clause.{Clause, Cnf}
+use Rattle.clause_spec.specs.Log.{Step}
 use Rattle.clause_spec.specs.Step.{Follows, Refused, outcome}
 use Rattle.clause_check.specs.Logged.{Logged, clauses_of}
+use Rattle.clause_check.specs.declared.log.StepError.{StepError}
+use Rattle.clause_check.specs.declared.log.StepError.TheVariants.{Fault, NoMemory}
 use Rattle.blast_spec.specs.Goal.{cnf_of}
 use Rattle.sat_spec.specs.Logs.{Spent, Lean}
 use Rattle.closing_spec.specs.declared.GoalQuantity.{GoalQuantity}
@@ -45,15 +47,20 @@ CountsVariables form (Err (close.Large quantity count)) =
     (quantity ≡ Variables) × (MAX_VARIABLES < count) × (count ≤ (cnf_of form).variables)
 CountsVariables form other = Unit {0}
 
--- one step, of a number, added to a log
-abbrev pub Adds : {A : Type 0} → (old new : Logged) → List Literal → List ℕ → (number : ℕ) → Result A CloseError → Type 0
-Adds old new literals hints number (Ok done) =
-    (outcome old.cnf.variables (clauses_of old) literals hints ≡ Follows) × (new.cnf ≡ old.cnf) × (new.added ≡ old.added ++ literals ∷ [])
-Adds old new literals hints number (Err (close.Step n)) =
-    (n ≡ number) × (hint : ℕ) × (kind : StepFaultKind) × (outcome old.cnf.variables (clauses_of old) literals hints ≡ Refused hint kind)
-Adds old new literals hints number (Err close.NoMemory) = Unit {0}
-Adds old new literals hints number (Err close.Unclosed) = ⊥
-Adds old new literals hints number (Err (close.Large quantity count)) = ⊥
+-- what adding the first of some steps to a log comes to
+abbrev pub TakesFirst : (before after : List Step) → (old new : Logged) → Result (Unit {0}) StepError → Type 0
+TakesFirst before after old new (Ok done) =
+    (step : Step) × (before ≡ step ∷ after) × (outcome old.cnf.variables (clauses_of old) step.literals step.hints ≡ Follows) × (new.cnf ≡ old.cnf)
+    × (new.added ≡ old.added ++ step.literals ∷ [])
+TakesFirst before after old new (Err (Fault fault)) =
+    (step : Step) × (others : List Step) × (before ≡ step ∷ others) × (hint : ℕ) × (kind : StepFaultKind)
+    × (outcome old.cnf.variables (clauses_of old) step.literals step.hints ≡ Refused hint kind)
+TakesFirst before after old new (Err NoMemory) = Unit {0}
+
+-- why a log with it doesn't close a goal, where it is the step of a number
+abbrev pub refusal : StepError → (number : ℕ) → CloseError
+refusal (Fault fault) number = close.Step number
+refusal NoMemory number = close.NoMemory
 
 -- whether a clause is there and has no literal
 abbrev pub is_empty_some : Option Clause → Bool

@@ -8,7 +8,7 @@ ghost use Rattle.term_spec.specs.Value as term_value;
 ghost use Rattle.normal_spec.specs.Fixed.{HoldsFixed};
 ghost use Rattle.term_bank.specs.Nodes.{tree_at, Extends};
 ghost use Rattle.closing_spec.specs.Closing as spec;
-ghost use Rattle.discharge.specs.Answers.{Adds, Answers, CountsLarge, CountsVariables};
+ghost use Rattle.discharge.specs.Answers.{Answers, CountsLarge, CountsVariables, refusal};
 
 use crate::error::CloseError;
 use crate::limits::is_within;
@@ -16,7 +16,7 @@ use crate::steps::Steps;
 use bit_blast::{BlastError, Blasted, blast};
 use clause_check::{Log, StepError};
 use closing_spec::GoalQuantity;
-use cnf_core::{Cnf, Literal};
+use cnf_core::{Cnf, MAX_VARIABLE};
 use memory_spec::Run;
 use std::alloc::Global;
 use term_bank::{Bank, TermId, TermNode};
@@ -35,33 +35,28 @@ pub fn is_truth(bank: &Bank, form: TermId) -> bool
     }
 }
 
-/// Adds the step of a number.
-fn add_step(
-    checker: &mut Log,
-    literals: &[Literal],
-    hints: &[usize],
-    number: usize,
-) -> Result<(), CloseError>
-    ensures { Adds checker.old checker.new literals.now hints.now number result }
+/// Why the step of a number doesn't follow.
+fn step_error(error: StepError, number: usize) -> CloseError
+    ensures { result ≡ refusal error number }
 {
-    match checker.step(literals, hints) {
-        Ok(()) => Ok(()),
-        Err(StepError::Fault(_)) => Err(CloseError::Step(number)),
-        Err(StepError::NoMemory) => Err(CloseError::NoMemory),
+    match error {
+        StepError::Fault(_) => CloseError::Step(number),
+        StepError::NoMemory => CloseError::NoMemory,
     }
 }
 
 /// Adds the steps of a log to a checker that has none.
-fn add_steps<L: Steps>(checker: &mut Log, log: &L) -> Result<(), CloseError>
-    requires { checker.old.added ≡ [] }
+fn add_steps<L: Steps>(alloc: Global, checker: &mut Log, log: &mut L) -> Result<(), CloseError>
+    requires none { checker.old.added ≡ [] }
+    requires variables { checker.old.cnf.variables ≤ MAX_VARIABLE }
     ensures { Answers (spec.checked checker.old.cnf.variables checker.old.cnf.clauses false 1
-        (L.steps log.now)) result }
+        (L.left log.old)) result }
 {
     let count = log.count();
     for index in 0..count {
-        match add_step(checker, log.literals(index), log.hints(index), index + 1) {
+        match log.add_first(alloc, checker) {
             Ok(()) => {}
-            Err(error) => return Err(error),
+            Err(error) => return Err(step_error(error, index + 1)),
         }
     }
     if checker.is_closed() {
@@ -72,19 +67,25 @@ fn add_steps<L: Steps>(checker: &mut Log, log: &L) -> Result<(), CloseError>
 }
 
 /// Checks a log over clauses.
-fn close_clauses<L: Steps>(alloc: Global, cnf: Cnf, log: &L) -> Result<(), CloseError>
-    ensures { Answers (spec.checked cnf.variables cnf.clauses false 1 (L.steps log.now)) result }
+fn close_clauses<L: Steps>(alloc: Global, cnf: Cnf, log: &mut L) -> Result<(), CloseError>
+    requires { cnf.variables ≤ MAX_VARIABLE }
+    ensures { Answers (spec.checked cnf.variables cnf.clauses false 1 (L.left log.old)) result }
 {
     match Log::new(alloc, cnf) {
-        Ok(mut checker) => add_steps(&mut checker, log),
+        Ok(mut checker) => add_steps(alloc, &mut checker, log),
         Err(_) => Err(CloseError::NoMemory),
     }
 }
 
 /// Closes a goal in normal form.
-fn close_form<L: Steps>(alloc: Global, bank: &Bank, form: TermId, log: &L) -> Result<(), CloseError>
+fn close_form<L: Steps>(
+    alloc: Global,
+    bank: &Bank,
+    form: TermId,
+    log: &mut L,
+) -> Result<(), CloseError>
     requires { form < length bank.now }
-    ensures answers { Answers (spec.closing_of_form (tree_at bank.now form) (L.steps log.now))
+    ensures answers { Answers (spec.closing_of_form (tree_at bank.now form) (L.left log.old))
         result }
     ensures large { CountsVariables (tree_at bank.now form) result }
 {
@@ -98,18 +99,19 @@ fn close_form<L: Steps>(alloc: Global, bank: &Bank, form: TermId, log: &L) -> Re
     }
 }
 
-/// Whether the log closes the goal, whose memories of the source hold the runs. Work is linear in
-/// the log beside what the normal form and its clauses take; the bank grows by the normal form.
+/// Whether the steps that are left of a log close the goal, whose memories of the source hold the
+/// runs. Work is linear in the log beside what the normal form and its clauses take; the bank grows
+/// by the normal form.
 pub fn close<L: Steps>(
     alloc: Global,
     bank: &mut Bank,
     goal: TermId,
-    log: &L,
+    log: &mut L,
     runs: &[Run],
 ) -> Result<(), CloseError>
     requires { goal < length bank.old }
     ensures answers { Answers (spec.closing (runs_of runs.now) (tree_at bank.old goal)
-        (L.steps log.now)) result }
+        (L.left log.old)) result }
     ensures large { CountsLarge (runs_of runs.now) (tree_at bank.old goal) result }
 
     // A goal that is closed is true wherever the memories of the source hold the runs.

@@ -19,4 +19,4 @@ pub use error::{CloseError, SeekError};
 pub use laws::closed_goals_are_true;
 pub use memory_spec::Run;
 pub use seeking::{Sought, seek};
-pub use steps::Steps;
+pub use steps::{Listing, Steps};

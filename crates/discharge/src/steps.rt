@@ -1,44 +1,51 @@
 //! Logs as their checker sees them.
 
-ghost use Rattle.std.specs.Prelude.{◌≡◌, ◌<◌, length, List, Some, slice_get};
-ghost use Rattle.std.specs.Option.{option_map};
+ghost use Rattle.std.specs.Prelude.{◌≡◌, ◌<◌, ◌≤◌, length, List};
 ghost use Rattle.clause_spec.specs.Log.{Step as step};
+ghost use Rattle.discharge.specs.Answers.{TakesFirst};
 
-use cnf_core::Literal;
+use clause_check::{Log, StepError};
+use cnf_core::MAX_VARIABLE;
 use sat_log::Step;
+use std::alloc::Global;
 
-/// The steps of a log, wherever their literals and hints lie.
+/// The steps of a log that are left, wherever their literals and hints lie.
 pub trait Steps {
     // The steps, in order.
-    ghost steps: { Self → List step };
+    ghost left: { Self → List step };
 
     /// How many there are.
     fn count(&self) -> usize
-        ensures { result ≡ length (steps self.now) };
+        ensures { result ≡ length (left self.now) };
 
-    /// The literals of the clause that a step adds; the first step has index 0.
-    fn literals(&self, index: usize) -> &[Literal]
-        requires { index < length (steps self.now) }
-        ensures { option_map (λ s. s.literals) (slice_get (steps self.now) index) ≡ Some result.now };
-
-    /// The numbers of the clauses that a step follows from, counted from 1.
-    fn hints(&self, index: usize) -> &[usize]
-        requires { index < length (steps self.now) }
-        ensures { option_map (λ s. s.hints) (slice_get (steps self.now) index) ≡ Some result.now };
+    /// Takes the first step, and adds it to a checker if it follows.
+    fn add_first(&mut self, alloc: Global, checker: &mut Log) -> Result<(), StepError>
+        requires some { 0 < length (left self.old) }
+        requires variables { checker.old.cnf.variables ≤ MAX_VARIABLE }
+        ensures { TakesFirst (left self.old) (left self.new) checker.old checker.new result };
 }
 
-impl Steps for Vec<Step> {
-    ghost steps = { λ v. v.items };
+/// The steps of a list.
+#[derive(Drop)]
+pub struct Listing<'a> {
+    /// The steps that are left.
+    pub steps: &'a [Step],
+}
+
+impl<'a> Steps for Listing<'a> {
+    ghost left = { λ listing. listing.steps.now };
 
     fn count(&self) -> usize {
-        self.len()
+        self.steps.len()
     }
 
-    fn literals(&self, index: usize) -> &[Literal] {
-        self[index].literals()
-    }
-
-    fn hints(&self, index: usize) -> &[usize] {
-        self[index].hints()
+    fn add_first(&mut self, _: Global, checker: &mut Log) -> Result<(), StepError> {
+        match self.steps.split_first() {
+            Some((step, left)) => {
+                self.steps = left;
+                checker.step(step.literals(), step.hints())
+            }
+            None => unreachable!(),
+        }
     }
 }

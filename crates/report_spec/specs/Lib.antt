@@ -1,4 +1,3 @@
 pub mod Verdict
 pub mod Words
 pub mod Report
-pub mod Certificate

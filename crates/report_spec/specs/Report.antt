@@ -2,8 +2,8 @@
 use Rattle.std.specs.Prelude.{ℕ, not, if◌then◌else◌, List, [], ◌∷◌, ◌++◌, flat_map, count_by, codes, decimal}
 use Rattle.std.specs.Int.{w32, to_be_bytes}
 use Rattle.hex.specs.Hex.{encode_lower}
-use Rattle.report_spec.specs.Verdict.{Judgement, Shown, Verdict, RefusedWords, TooLarge, RefusedElf, RefusedC, RefusedPair, RefusedCode, Judged, Showed, maximum_of}
-use Rattle.report_spec.specs.Words.{quantity_word, elf_word, source_word, pair_word, code_word}
+use Rattle.report_spec.specs.Verdict.{Judgement, Shown, Verdict, RefusedWords, TooLarge, RefusedElf, RefusedC, RefusedPair, RefusedCode, RefusedCertificate, NotProof, Checked, Judged, Showed, maximum_of}
+use Rattle.report_spec.specs.Words.{quantity_word, elf_word, source_word, pair_word, code_word, rule_word}
 
 -- a line feed at its end
 abbrev pub line : List ℕ → List ℕ
@@ -54,5 +54,8 @@ report_of (RefusedC kind offset) = line (codes "refused c " ++ source_word kind 
 report_of (RefusedPair kind name) = line (codes "refused pair " ++ pair_word kind ++ codes " " ++ name)
 report_of (RefusedCode kind name address) =
     line (codes "refused code " ++ code_word kind ++ codes " " ++ name ++ codes " at " ++ encode_lower (to_be_bytes w32 address))
+report_of (RefusedCertificate offset) = line (codes "cert refused at " ++ decimal offset)
+report_of (NotProof name offset rule) = line (codes "not a proof " ++ name ++ codes " at " ++ decimal offset ++ codes " " ++ rule_word rule)
+report_of (Checked judgements) = judgements_text judgements
 report_of (Judged judgements) = judgements_text judgements
 report_of (Showed shown) = show_text shown

@@ -15,9 +15,11 @@ use Rattle.c_type_spec.specs.declared.TypeFaultKind.TheVariants as typing
 use Rattle.code_spec.specs.declared.CodeKind.{CodeKind}
 use Rattle.code_spec.specs.declared.CodeKind.TheVariants.{NoFunction, Ambiguous, Empty, Writable, Misplaced, Undecoded, Indirect, Leaves, Overlap}
 use Rattle.report_spec.specs.declared.Quantity.{Quantity}
-use Rattle.report_spec.specs.declared.Quantity.TheVariants.{Elf, C, Functions, Nodes}
+use Rattle.report_spec.specs.declared.Quantity.TheVariants.{Elf, C, Functions, Nodes, Certificate, Visits, Terms, Variables}
 use Rattle.report_spec.specs.declared.SourceKind.{SourceKind}
 use Rattle.report_spec.specs.declared.SourceKind.TheVariants.{Token, Syntax, Typing}
+use Rattle.check_spec.specs.declared.RuleFault.{RuleFault}
+use Rattle.check_spec.specs.declared.RuleFault.TheVariants as rule
 use Rattle.pair_spec.specs.declared.PairKind.{PairKind}
 use Rattle.pair_spec.specs.declared.PairKind.TheVariants.{NothingListed, NoSource, NoSymbol, ObjectSize, Recursive, StackTooDeep}
 
@@ -26,6 +28,10 @@ quantity_word Elf = codes "elf"
 quantity_word C = codes "c"
 quantity_word Functions = codes "functions"
 quantity_word Nodes = codes "nodes"
+quantity_word Certificate = codes "cert"
+quantity_word Visits = codes "visits"
+quantity_word Terms = codes "terms"
+quantity_word Variables = codes "variables"
 
 abbrev pub elf_word : ElfKind → List ℕ
 elf_word file.Short = codes "Short"
@@ -113,3 +119,14 @@ code_word Undecoded = codes "Undecoded"
 code_word Indirect = codes "Indirect"
 code_word Leaves = codes "Leaves"
 code_word Overlap = codes "Overlap"
+
+abbrev pub rule_word : RuleFault → List ℕ
+rule_word rule.Later = codes "Later"
+rule_word rule.Stranger = codes "Stranger"
+rule_word rule.Stack = codes "Stack"
+rule_word rule.Sort = codes "Sort"
+rule_word rule.Cyclic = codes "Cyclic"
+rule_word rule.Logs = codes "Logs"
+rule_word rule.Step = codes "Step"
+rule_word rule.Unclosed = codes "Unclosed"
+rule_word rule.Missing = codes "Missing"

@@ -1,6 +1,6 @@
-//! The verdicts of a run (`specs/Verdict.antt`), and what is written of each, byte for byte: its
-//! report (`specs/Report.antt`) and its certificate (`specs/Certificate.antt`). Definitions alone,
-//! but for the enums of refusals, which run: [`Quantity`] and [`SourceKind`].
+//! The verdicts of a run (`specs/Verdict.antt`), and the report of each, byte for byte
+//! (`specs/Report.antt`). Definitions alone, but for the enums of refusals, which run:
+//! [`Quantity`] and [`SourceKind`].
 #![tactic(auto)]
 
 use c_grammar_spec::ParseFaultKind;
@@ -18,6 +18,14 @@ pub enum Quantity {
     Functions,
     /// Nodes of a graph.
     Nodes,
+    /// Bytes of the certificate.
+    Certificate,
+    /// Visits of one side.
+    Visits,
+    /// Distinct subterms of an obligation.
+    Terms,
+    /// Variables of the clauses of an obligation.
+    Variables,
 }
 
 /// Why the C source is refused.

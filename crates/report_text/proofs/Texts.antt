@@ -1,34 +1,24 @@
 -- Texts and counts of judgements, over those of the program.
-use Rattle.std.proofs.Common.{◌≡◌, ℕ, ◌+◌, ◌<◌, Bool, true, false, cond, List, [], ◌∷◌, ◌++◌, length, get_or, take, refl, ap, append_assoc, ◌∙◌, sym}
+use Rattle.std.proofs.Common.{◌≡◌, ℕ, ◌+◌, ◌<◌, Bool, cond, List, [], ◌∷◌, ◌++◌, length, get_or, take, refl, ap, append_assoc, ◌∙◌, sym}
 use Rattle.std.specs.Prelude.{sum_by}
 use Rattle.std.specs.List.{list_all}
 use Rattle.std.proofs.lemmas.List.Folds.{list_all-map}
-use Rattle.std.specs.Prelude.{flat_map, filter, count_by, if◌then◌else◌}
+use Rattle.std.specs.Prelude.{flat_map, count_by, if◌then◌else◌}
 use Rattle.std.proofs.lemmas.List.{append-nil, flat_map_more, take_more}
 use Rattle.std.proofs.lemmas.List.Sums.{sum_by-cons}
 use Rattle.report_spec.specs.Verdict as spec
 use Rattle.report_spec.specs.Report as texts
-use Rattle.report_spec.specs.Certificate as certificate
 use Rattle.report_text.specs.declared.verdicts.Judgement.{Judgement}
 use Rattle.std.specs.Prelude.{Vec}
 use Rattle.std.specs.declared.alloc.Global.{Global}
 use Rattle.report_text.specs.declared.verdicts.Verdict.{Verdict}
 use Rattle.report_text.specs.declared.verdicts.Verdict.TheVariants.{Judged}
 use Rattle.report_text.specs.Verdicts.{verdict_of}
-use Rattle.report_text.specs.Judgements.{judgement_of, judgements_of, part_if_valid}
+use Rattle.report_text.specs.Judgements.{judgement_of, judgements_of}
 
 pub lines_are : (js : List Judgement) → flat_map texts.judgement_line (judgements_of js) ≡ flat_map (λ j. texts.judgement_line (judgement_of j)) js
 lines_are [] = refl
 lines_are (j ∷ js) = ap (λ rest. texts.judgement_line (judgement_of j) ++ rest) (lines_are js)
-
-part_first : (j : Judgement) (valid : Bool) (rest : List spec.Judgement) → j.valid ≡ valid
-    → flat_map certificate.part_text (cond valid (judgement_of j ∷ rest) rest) ≡ (if valid then certificate.part_text (judgement_of j) else []) ++ flat_map certificate.part_text rest
-part_first j true rest e = refl
-part_first j false rest e = refl
-
-pub parts_are : (js : List Judgement) → flat_map certificate.part_text (filter (λ j. j.valid) (judgements_of js)) ≡ flat_map part_if_valid js
-parts_are [] = refl
-parts_are (j ∷ js) = part_first j j.valid (filter (λ j. j.valid) (judgements_of js)) refl ∙ ap (λ rest. part_if_valid j ++ rest) (parts_are js)
 
 sums_are : (f : spec.Judgement → ℕ) (js : List Judgement) → sum_by f (judgements_of js) ≡ sum_by (λ j. f (judgement_of j)) js
 sums_are f [] = refl
@@ -54,6 +44,11 @@ line_of_two old a b = simp append_assoc
 pub line_of_four : (old a b c d x y : List ℕ) → x ≡ b → y ≡ d → old ++ (a ++ (x ++ (c ++ (y ++ 10 ∷ [])))) ≡ old ++ texts.line (a ++ b ++ c ++ d)
 line_of_four old a b c d x y e f = rw (e, f) (simp append_assoc)
 
+-- six, of which two are of the program, added in three steps
+pub line_of_six : (old a b c d e f x y one two : List ℕ) → one ≡ old ++ (a ++ (b ++ (c ++ []))) → two ≡ one ++ (x ++ (e ++ [])) → x ≡ d → y ≡ f
+    → two ++ (y ++ 10 ∷ []) ≡ old ++ texts.line (a ++ b ++ c ++ d ++ e ++ f)
+line_of_six old a b c d e f x y one two first second is of = rw (second, first, is, of) (simp (append_assoc, append-nil))
+
 -- a text, a word, a blank, a name and another text
 pub words_are : (old a b c d e : List ℕ) → old ++ (a ++ (b ++ (c ++ (d ++ (e ++ []))))) ≡ old ++ (a ++ b ++ c ++ d ++ e)
 words_are old a b c d e = simp (append_assoc, append-nil)
@@ -62,11 +57,6 @@ words_are old a b c d e = simp (append_assoc, append-nil)
 pub line_added : (old begin end first second whole : List ℕ) → first ≡ old ++ begin → second ≡ first ++ end → whole ≡ second ++ 10 ∷ []
     → whole ≡ old ++ texts.line (begin ++ end)
 line_added old begin end first second whole e f g = rw (g, f, e) (simp append_assoc)
-
--- the same, with a line and three equal ones after it
-pub part_of_four : (old a b c d x y r s : List ℕ) → x ≡ b → y ≡ d
-    → old ++ (a ++ (x ++ (c ++ (y ++ 10 ∷ (r ++ (s ++ (s ++ s))))))) ≡ old ++ (texts.line (a ++ b ++ c ++ d) ++ r ++ s ++ s ++ s)
-part_of_four old a b c d x y r s e f = rw (e, f) (simp append_assoc)
 
 -- whether all are valid
 pub all_valid_are : (js : List Judgement) (whole : Bool) → whole ≡ list_all (λ j. j.valid) js → spec.all_valid (judgements_of js) ≡ whole

@@ -12,13 +12,17 @@ use attempt::attempt;
 use c_grammar_spec::{LeftOut, ParseFaultKind};
 use c_spec::token::TokenFaultKind;
 use c_type_spec::{LeftOut as TypeLeftOut, TypeFaultKind};
+use check_spec::RuleFault;
 use code_spec::CodeKind;
 use elf_spec::ElfKind;
 use itoa::Buffer;
 use pair_spec::PairKind;
 use report_spec::{Quantity, SourceKind};
 use std::alloc::{AllocError, Global};
-use tv_base::limits::{MAX_C_BYTES, MAX_ELF_BYTES, MAX_FUNCTIONS, MAX_NODES};
+use tv_base::limits::{
+    MAX_C_BYTES, MAX_CERTIFICATE_BYTES, MAX_ELF_BYTES, MAX_FUNCTIONS, MAX_NODES, MAX_TERMS,
+    MAX_VARIABLES, MAX_VISITS,
+};
 
 /// `limit QUANTITY MAXIMUM`
 fn push_maximum(out: &mut Vec<u8>, word: &[u8], maximum: usize) -> Result<(), AllocError>
@@ -40,6 +44,10 @@ fn push_limit(out: &mut Vec<u8>, quantity: Quantity) -> Result<(), AllocError>
         Quantity::C => push_maximum(out, b"c", MAX_C_BYTES),
         Quantity::Functions => push_maximum(out, b"functions", MAX_FUNCTIONS),
         Quantity::Nodes => push_maximum(out, b"nodes", MAX_NODES),
+        Quantity::Certificate => push_maximum(out, b"cert", MAX_CERTIFICATE_BYTES),
+        Quantity::Visits => push_maximum(out, b"visits", MAX_VISITS),
+        Quantity::Terms => push_maximum(out, b"terms", MAX_TERMS),
+        Quantity::Variables => push_maximum(out, b"variables", MAX_VARIABLES),
     }
 }
 
@@ -248,6 +256,50 @@ fn push_refused_code(
     Ok(())
 }
 
+/// `cert refused at OFFSET`
+fn push_refused_certificate(out: &mut Vec<u8>, offset: usize) -> Result<(), AllocError>
+    ensures { OnOk result (out.new.items
+        ≡ out.old.items ++ texts.report_of (spec.RefusedCertificate offset)) }
+{
+    let mut buffer = Buffer::new();
+    let number = digits(&mut buffer, offset as u64);
+    push_all(out, &[b"cert refused at ", number, b"\n"])
+}
+
+/// The word of a rule of certificates.
+fn rule_word(rule: RuleFault) -> &'static [u8]
+    ensures { result.now ≡ words.rule_word rule }
+{
+    match rule {
+        RuleFault::Later => b"Later",
+        RuleFault::Stranger => b"Stranger",
+        RuleFault::Stack => b"Stack",
+        RuleFault::Sort => b"Sort",
+        RuleFault::Cyclic => b"Cyclic",
+        RuleFault::Logs => b"Logs",
+        RuleFault::Step => b"Step",
+        RuleFault::Unclosed => b"Unclosed",
+        RuleFault::Missing => b"Missing",
+    }
+}
+
+/// `not a proof NAME at OFFSET RULE`
+fn push_not_proof(
+    out: &mut Vec<u8>,
+    name: &[u8],
+    offset: usize,
+    rule: RuleFault,
+) -> Result<(), AllocError>
+    ensures { OnOk result (out.new.items
+        ≡ out.old.items ++ texts.report_of (spec.NotProof name.now offset rule)) }
+{
+    push_all(out, &[b"not a proof ", name, b" at "])?;
+    let mut buffer = Buffer::new();
+    let number = digits(&mut buffer, offset as u64);
+    push_all(out, &[number, b" "])?;
+    push_all(out, &[rule_word(rule), b"\n"])
+}
+
 /// `valid NAME stack=S` or `unproved NAME`
 fn push_judged(out: &mut Vec<u8>, judgement: &Judgement) -> Result<(), AllocError>
     ensures { OnOk result (out.new.items
@@ -328,6 +380,11 @@ fn push_report(alloc: Global, out: &mut Vec<u8>, verdict: &Verdict) -> Result<()
             name,
             address,
         } => push_refused_code(alloc, out, *kind, name.as_slice(), *address),
+        Verdict::RefusedCertificate { offset } => push_refused_certificate(out, *offset),
+        Verdict::NotProof { name, offset, rule } => {
+            push_not_proof(out, name.as_slice(), *offset, *rule)
+        }
+        Verdict::Checked(judgements) => push_all_judged(out, judgements.as_slice()),
         Verdict::Judged(judgements) => push_all_judged(out, judgements.as_slice()),
         Verdict::Showed(shown) => push_shown(alloc, out, shown),
     }

@@ -4,6 +4,7 @@ ghost use Rattle.report_spec.specs.Verdict.{status_of};
 ghost use Rattle.report_text.specs.Verdicts.{verdict_of};
 
 use crate::showing::Shown;
+use check_spec::RuleFault;
 use code_spec::CodeKind;
 use elf_spec::ElfKind;
 use pair_spec::PairKind;
@@ -50,6 +51,20 @@ pub enum Verdict {
         name: Bytes,
         address: u32,
     },
+    /// The third file is no certificate. The offset is the length of its longest prefix that begins
+    /// one.
+    RefusedCertificate {
+        offset: usize,
+    },
+    /// The certificate is no proof: the line at this offset of it breaks a rule, in the part of the
+    /// function of this name.
+    NotProof {
+        name: Bytes,
+        offset: usize,
+        rule: RuleFault,
+    },
+    /// The certificate is a proof: each listed function is valid, in the order of the list.
+    Checked(Vec<Judgement>),
     /// Each listed function has its judgement, in the order of the list.
     Judged(Vec<Judgement>),
     /// A function is shown.
@@ -64,7 +79,7 @@ fn all_valid(judgements: &[Judgement]) -> bool
 }
 
 /// The exit status: 0 where all listed functions are valid or one is shown, 1 where some aren't
-/// valid, 2 for the words, 3 for the inputs, 7 for a limit.
+/// valid, 2 for the words, 3 for the inputs, 6 for the certificate, 7 for a limit.
 pub fn status(verdict: &Verdict) -> u8
     ensures { result ≡ status_of (verdict_of verdict.now) }
 {
@@ -75,6 +90,8 @@ pub fn status(verdict: &Verdict) -> u8
         | Verdict::RefusedC { .. }
         | Verdict::RefusedPair { .. }
         | Verdict::RefusedCode { .. } => 3,
+        Verdict::RefusedCertificate { .. } | Verdict::NotProof { .. } => 6,
+        Verdict::Checked(_) => 0,
         Verdict::Judged(judgements) => { if all_valid(judgements) { 0 } else { 1 } }
         Verdict::Showed(_) => 0,
     }

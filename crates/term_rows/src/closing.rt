@@ -10,7 +10,7 @@ ghost use Rattle.std.specs.Prelude.{◌<◌, length};
 
 use crate::logs::add_steps;
 use attempt::attempt;
-use discharge::{CloseError, SeekError, Sought, close, seek};
+use discharge::{CloseError, Listing, SeekError, Sought, close, seek};
 use row_io::Out;
 use sat_log::Step;
 use std::alloc::{AllocError, Global};
@@ -34,12 +34,12 @@ fn put_closed(
     alloc: Global,
     bank: &mut Bank,
     id: TermId,
-    log: &Vec<Step>,
+    log: &[Step],
     out: &mut Out,
 ) -> Result<(), AllocError>
     requires { id < length bank.old }
 {
-    match close(alloc, bank, id, log, &[]) {
+    match close(alloc, bank, id, &mut Listing { steps: log }, &[]) {
         Ok(()) => out.put("closed"),
         Err(error) => return put_close_error(error, out),
     }
@@ -58,7 +58,7 @@ pub(crate) fn put_close(
 {
     let mut log = Vec::new(alloc);
     attempt!(add_steps(alloc, &mut log, steps));
-    put_closed(alloc, bank, id, &log, out)
+    put_closed(alloc, bank, id, log.as_slice(), out)
 }
 
 /// Answers what a search for a log finds.
@@ -75,7 +75,7 @@ pub(crate) fn put_sought(
     match seek(alloc, bank, id, limit as usize, &[]) {
         Ok(Sought::Valid(log)) => {
             out.put("valid, ");
-            put_closed(alloc, bank, id, &log, out)
+            put_closed(alloc, bank, id, log.as_slice(), out)
         }
         Ok(Sought::Refuted(assignment)) => {
             *values = assignment;

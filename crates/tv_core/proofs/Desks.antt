@@ -1,5 +1,5 @@
 -- What calls leave of a desk, one after the other.
-use Rattle.std.proofs.Common.{◌≡◌, ◌+◌, ◌≤◌, ℕ, List, Option, take, drop, Ok, Err, arith, refl, sym, ap, ◌∙◌, subst, inl, inr}
+use Rattle.std.proofs.Common.{◌≡◌, ◌+◌, ℕ, List, Option, take, drop, Ok, Err, arith, ap, ◌∙◌, subst, inr}
 use Rattle.std.specs.Prelude.{Vec, Result, IfSome, IfOk, OnOk, OnErr, IsErrOf, option_map}
 use Rattle.std.specs.Global.{Global}
 use Rattle.std.proofs.lemmas.Result.{IfOk-weaker}
@@ -9,7 +9,7 @@ use Rattle.tv_base.specs.Faults.{HasCause}
 use Rattle.tv_base.specs.Reading.{with_name, IsTaken, IsPartlyTaken}
 use Rattle.tv_core.specs.Objects.{Contents, DeskState}
 use Rattle.tv_core.specs.Ends.{TakesAtMost}
-use Rattle.tv_core.specs.Files.{KeepsDesk, AreOf, ReadsFile}
+use Rattle.tv_core.specs.Files.{KeepsDesk, AreOf, BeginsFile, ReadsFile}
 
 always : {T E : Type 0} (r : Result T E) (P : Type 0) → P → OnOk r P
 always (Ok x) P p = p
@@ -63,3 +63,7 @@ read_begun name maximum before now left opened r begun named same taken part = r
   opened = always r (now.opened ≡ with_name before.opened name) (same ∙ named);
   opened_part = inr (same ∙ named);
 }
+
+-- of a file that is read, what it takes of the desk
+pub begins : (name : List ℕ) (maximum : ℕ) (before now : DeskState) (r : Result (Vec ℕ Global) OutsideFault) → ReadsFile name maximum before now r → BeginsFile name maximum before now
+begins name maximum before now r h = record { taken = h.taken; opened = h.opened_part }

@@ -1,46 +1,50 @@
 -- The ends of a run, from its outcome.
 use Rattle.std.proofs.Common.{◌≡◌, ◌≢◌, ◌⊎◌, ◌≤◌, ℕ, Bool, true, false, List, Option, Some, None, Ok, Err, refl, arith, ap, sym, ◌∙◌, subst, inl, inr}
-use Rattle.std.specs.Prelude.{◌↔◌, if◌then◌else◌, Result, IfOk}
-use Rattle.report_spec.specs.Verdict.{Verdict, RefusedWords, TooLarge, RefusedElf, RefusedC, RefusedPair, RefusedCode, Judged, Showed, Judgement, Shown, status_of}
-use Rattle.report_spec.specs.Certificate.{certificate_of}
+use Rattle.std.specs.Prelude.{◌↔◌, if◌then◌else◌, IfSome, Result, IfOk, OnErr}
+use Rattle.elf_spec.specs.Image.{Image}
+use Rattle.c_type_spec.specs.Core.{Typed}
+use Rattle.report_spec.specs.Verdict.{Verdict, RefusedWords, TooLarge, RefusedElf, RefusedC, RefusedPair, RefusedCode, RefusedCertificate, NotProof, Checked, Judged, Showed, Judgement, Shown, status_of}
 use Rattle.tv_base.specs.declared.faults.OutsideFault.{OutsideFault}
 use Rattle.tv_base.specs.declared.faults.OutsideFault.TheVariants.{Failed, NoMemory}
-use Rattle.tv_words.specs.Commands.{Command, Prove, Show, IsCommand}
-use Rattle.verdict_spec.specs.Listing.{Judge, Display}
-use Rattle.tv_core.specs.Tasks.{Asked, asked_of}
+use Rattle.tv_words.specs.Commands.{Command, Prove, Check, Show, IsCommand}
+use Rattle.verdict_spec.specs.Decisions.{Decision, Trails, no_trails, plain}
+use Rattle.verdict_spec.specs.Laws.{OneVerdict}
+use Rattle.verdict_spec.specs.Listing.{Judge, Verify, names_of}
+use Rattle.verdict_spec.specs.Verdicts.{IsVerdict, IsSound, AreSound}
+use Rattle.tv_core.specs.Tasks.{asked_of, task_of}
 use Rattle.tv_words.proofs.Commands.{same_command}
-use Rattle.verdict_spec.proofs.Once.{one-verdict}
-use Rattle.tv_core.specs.Objects.{Contents, Outputs}
-use Rattle.tv_core.specs.Ends.{AskFor, IsUsageError, IsOfCommand, IsVerdictOn, IsOutcome, usage_error, commanded, Becomes, LeavesUnder, Reports, certificate_name, Publishes, EndsBy, EndsWith, EndsAsDecided, EndsValid, EndsShown}
+use Rattle.tv_core.specs.Objects.{Contents, Outputs, State}
+use Rattle.tv_core.specs.Ends.{AskFor, IsUsageError, CheckDecides, ShowDecides, ProveDecides, IsOfCommand, IsText, HasText, IsVerdictOn, IsOutcome, usage_error, commanded, Becomes, LeavesText, LeavesUnder, Reports, certificate_name, Publishes, EndsBy, EndsWith, EndsAsDecided, EndsValid, EndsChecked, EndsShown, HandsOut, EndsPartly, Ends, RunsTo}
+use Rattle.tv_core.proofs.HandedOut.{GoesWith, command_goes, usage_goes}
 
 -- ---- outcomes
 
-pub outcome_of_some : (words : List (List ℕ)) (files : Contents) (asked : Option Command) (command : Command) (verdict : Verdict) → asked ≡ Some command
-    → AskFor words asked → IsOfCommand (asked_of command) verdict → IsVerdictOn files (asked_of command) verdict → IsOutcome words files (certificate_name asked) verdict
-outcome_of_some words files asked command verdict e is of_command on =
-    subst (λ o. IsOutcome words files (certificate_name o) verdict) (sym e) (commanded command verdict (subst (AskFor words) e is) of_command on)
+pub outcome_of_some : (words : List (List ℕ)) (files : Contents) (asked : Option Command) (command : Command) (decision : Decision) → asked ≡ Some command
+    → AskFor words asked → IsOfCommand command decision → IsVerdictOn files command decision → IsOutcome words files (certificate_name asked) decision
+outcome_of_some words files asked command decision e is of_command on =
+    subst (λ o. IsOutcome words files (certificate_name o) decision) (sym e) (commanded command decision (subst (AskFor words) e is) of_command on)
 
 pub outcome_of_none : (words : List (List ℕ)) (files : Contents) (asked : Option Command) → asked ≡ None → AskFor words asked
-    → IsOutcome words files (certificate_name asked) RefusedWords
+    → IsOutcome words files (certificate_name asked) (plain RefusedWords)
 outcome_of_none words files asked e none =
-    subst (λ o. IsOutcome words files (certificate_name o) RefusedWords) (sym e) (usage_error (subst (AskFor words) e none))
+    subst (λ o. IsOutcome words files (certificate_name o) (plain RefusedWords)) (sym e) (usage_error (subst (AskFor words) e none))
 
 abbrev is_usage : Verdict → Bool
 is_usage RefusedWords = true
 is_usage verdict = false
 
 -- an outcome of a command, unless it is that of a usage error
-record OfJob (words : List (List ℕ)) (files : Contents) (name : List ℕ) (verdict : Verdict) : Type 0 where
+record OfJob (words : List (List ℕ)) (files : Contents) (name : List ℕ) (decision : Decision) : Type 0 where
   command : Command
   command_is : IsCommand words command
   name_is : name ≡ (asked_of command).certificate
-  of_command : IsOfCommand (asked_of command) verdict
-  on : IsVerdictOn files (asked_of command) verdict
+  of_command : IsOfCommand command decision
+  on : IsVerdictOn files command decision
 
-of_job : (words : List (List ℕ)) (files : Contents) (name : List ℕ) (verdict : Verdict) → IsOutcome words files name verdict
-    → (verdict ≡ RefusedWords) ⊎ OfJob words files name verdict
+of_job : (words : List (List ℕ)) (files : Contents) (name : List ℕ) (decision : Decision) → IsOutcome words files name decision
+    → (decision.verdict ≡ RefusedWords) ⊎ OfJob words files name decision
 of_job words files _ _ (usage_error none) = inl refl
-of_job words files _ _ (commanded command verdict is of_command on) =
+of_job words files _ _ (commanded command decision is of_command on) =
     inr (record { command = command; command_is = is; name_is = refl; of_command = of_command; on = on })
 
 -- ---- the validity theorem
@@ -54,9 +58,9 @@ called_valid true e = refl
 called_valid false e = absurd (omega arith)
 
 abbrev Succeeds : Verdict → Type 0
-Succeeds verdict = ((js : List Judgement) × (verdict ≡ Judged js)) ⊎ ((shown : Shown) × (verdict ≡ Showed shown))
+Succeeds verdict = ((js : List Judgement) × (verdict ≡ Judged js)) ⊎ (((js : List Judgement) × (verdict ≡ Checked js)) ⊎ ((shown : Shown) × (verdict ≡ Showed shown)))
 
--- status 0 is that of judgements, or of a function that is shown
+-- status 0 is that of judgements, of a proof, or of a function that is shown
 success_in : (verdict : Verdict) → status_of verdict ≡ 0 → Succeeds verdict
 success_in RefusedWords zero = absurd (omega arith)
 success_in (TooLarge quantity) zero = absurd (omega arith)
@@ -64,138 +68,286 @@ success_in (RefusedElf fault offset) zero = absurd (omega arith)
 success_in (RefusedC kind offset) zero = absurd (omega arith)
 success_in (RefusedPair kind name) zero = absurd (omega arith)
 success_in (RefusedCode kind name address) zero = absurd (omega arith)
+success_in (RefusedCertificate offset) zero = absurd (omega arith)
+success_in (NotProof name offset rule) zero = absurd (omega arith)
+success_in (Checked js) zero = inr (inl (js, refl))
 success_in (Judged js) zero = inl (js, refl)
-success_in (Showed shown) zero = inr (shown, refl)
+success_in (Showed shown) zero = inr (inr (shown, refl))
 
-module _ (words : List (List ℕ)) (files : Contents) (before now : Outputs) where
-  valid_of_job : (name : List ℕ) (js : List Judgement) (command : Command) → IsCommand words command → name ≡ (asked_of command).certificate
-      → IsOfCommand (asked_of command) (Judged js) → IsVerdictOn files (asked_of command) (Judged js) → status_of (Judged js) ≡ 0
-      → Reports (Judged js) before.report now.report → LeavesUnder name (Judged js) before.store.held now.store.held → EndsValid words files before now
-  valid_of_job name js (Prove job) is named of_command on zero reported stored = record {
+-- ---- a certificate that is a proof
+
+list_of_check : (functions : Option (List (List ℕ))) (text : List ℕ) (image : Image) (unit : Typed)
+    → names_of (Verify functions text) image unit ≡ names_of (Judge functions) image unit
+list_of_check None text image unit = refl
+list_of_check (Some names) text image unit = refl
+
+-- what is sound of the list with a certificate is sound of the list
+judged_sound : (elf c : List ℕ) (functions : Option (List (List ℕ))) (text : List ℕ) (js : List Judgement) → AreSound elf c (Verify functions text) js
+    → AreSound elf c (Judge functions) js
+judged_sound elf c functions text js h = record {
+  image = h.image;
+  unit = h.unit;
+  is_elf = h.is_elf;
+  is_c = h.is_c;
+  names = h.names ∙ list_of_check functions text h.image h.unit;
+  valid = h.valid;
+}
+
+module _ (words : List (List ℕ)) (files : Contents) (before now : Outputs) (name : List ℕ) (decision : Decision) where
+  -- the store is as before, where no certificate is written
+  kept_store : decision ≡ plain decision.verdict → LeavesUnder name decision before.store.held now.store.held → now.store.held ≡ before.store.held
+  kept_store alone stored = subst (λ text. LeavesText name text before.store.held now.store.held) (ap (λ (d : Decision). d.certificate) alone) stored
+
+  valid_of_job : (js : List Judgement) (command : Command) → decision.verdict ≡ Judged js → IsCommand words command → name ≡ (asked_of command).certificate
+      → IsOfCommand command decision → IsVerdictOn files command decision → status_of (Judged js) ≡ 0
+      → Reports (Judged js) before.report now.report → LeavesUnder name decision before.store.held now.store.held → EndsValid words files before now
+  valid_of_job js (Prove job) e is named of_command on zero reported stored =
+      let searched = subst (λ v. ProveDecides v decision) e of_command in
+      record {
+        job = job;
+        job_is = is;
+        judgements = js;
+        claim = record {
+          some = searched.some;
+          all_called_valid = called_valid _ zero;
+          valid = λ elf c f g. subst (IsSound elf c (Judge job.functions)) e (on.1 elf c f g).3;
+          reported = reported;
+        };
+        certificate = searched.text;
+        proves = λ elf c f g. record { decision = decision; decided = (on.1 elf c f g).2; judged = e; certificate_is = searched.written };
+        stored = subst (λ n. Becomes before.store.held n searched.text now.store.held) named
+            (subst (λ text. LeavesText name text before.store.held now.store.held) searched.written stored);
+      }
+  valid_of_job js (Check job) e is named of_command on zero reported stored = absurd (subst CheckDecides e of_command.0)
+  valid_of_job js (Show job) e is named of_command on zero reported stored = absurd (subst (ShowDecides job.function) e of_command.0)
+
+  checked_of_job : (js : List Judgement) (command : Command) → decision.verdict ≡ Checked js → IsCommand words command
+      → IsOfCommand command decision → IsVerdictOn files command decision → Reports (Checked js) before.report now.report
+      → LeavesUnder name decision before.store.held now.store.held → EndsChecked words files before now
+  checked_of_job js (Prove job) e is of_command on reported stored = absurd (subst (λ v. ProveDecides v decision) e of_command)
+  checked_of_job js (Check job) e is of_command on reported stored =
+      let found = subst CheckDecides e of_command.0 in
+      record {
+        job = job;
+        job_is = is;
+        judgements = js;
+        claim = record {
+          some = found.0;
+          all_called_valid = found.1;
+          valid = λ elf c f g.
+              let h = on.1 elf c f g in
+              judged_sound elf c job.functions h.0 js (subst (IsSound elf c (Verify job.functions h.0)) e h.3);
+          reported = reported;
+        };
+        stored = kept_store of_command.1 stored;
+      }
+  checked_of_job js (Show job) e is of_command on reported stored = absurd (subst (ShowDecides job.function) e of_command.0)
+
+  shown_of_job : (shown : Shown) (command : Command) → decision.verdict ≡ Showed shown → IsCommand words command → IsOfCommand command decision
+      → Reports (Showed shown) before.report now.report → LeavesUnder name decision before.store.held now.store.held → EndsShown words before now
+  shown_of_job shown (Prove job) e is of_command reported stored = absurd (subst (λ v. ProveDecides v decision) e of_command)
+  shown_of_job shown (Check job) e is of_command reported stored = absurd (subst CheckDecides e of_command.0)
+  shown_of_job shown (Show job) e is of_command reported stored = record {
     job = job;
     job_is = is;
-    judgements = js;
-    claim = record {
-      some = of_command.1;
-      all_called_valid = called_valid _ zero;
-      valid = λ elf c e f. (on.1 elf c e f).1;
-      reported = reported;
-    };
-    stored = subst (λ n. Becomes before.store.held n (certificate_of js) now.store.held) named stored;
+    shown = shown;
+    name_is = subst (ShowDecides job.function) e of_command.0;
+    reported = reported;
+    stored = kept_store of_command.1 stored;
   }
-  valid_of_job name js (Show job) is named of_command on zero reported stored = let e = of_command.0.1 in absurd (cc)
 
-  shown_of_job : (shown : Shown) (command : Command) → IsCommand words command → IsOfCommand (asked_of command) (Showed shown)
-      → Reports (Showed shown) before.report now.report → now.store.held ≡ before.store.held → EndsShown words before now
-  shown_of_job shown (Prove job) is of_command reported stored = absurd (cc)
-  shown_of_job shown (Show job) is of_command reported stored =
-      record { job = job; job_is = is; shown = shown; name_is = cc; reported = reported; stored = stored }
+  job_of : (verdict : Verdict) → IsOutcome words files name decision → decision.verdict ≡ verdict → is_usage verdict ≡ false → OfJob words files name decision
+  job_of verdict outcome e not =
+      elim (of_job words files name decision outcome) [ inl usage ↦ let apart : false ≡ true = sym not ∙ ap is_usage (sym e ∙ usage) in absurd (cc) | inr of ↦ of ]
 
-  valid_of : (name : List ℕ) (js : List Judgement) → IsOutcome words files name (Judged js) → status_of (Judged js) ≡ 0
-      → Reports (Judged js) before.report now.report → LeavesUnder name (Judged js) before.store.held now.store.held → EndsValid words files before now
-  valid_of name js outcome zero reported stored =
-      elim (of_job words files name (Judged js) outcome) [
-        | inl e ↦ let apart : false ≡ true = ap is_usage e in absurd (cc)
-        | inr of ↦ valid_of_job name js of.command of.command_is of.name_is of.of_command of.on zero reported stored
+  ends_by : IsOutcome words files name decision → status_of decision.verdict ≡ 0 → Reports decision.verdict before.report now.report
+      → LeavesUnder name decision before.store.held now.store.held → EndsValid words files before now ⊎ (EndsChecked words files before now ⊎ EndsShown words before now)
+  ends_by outcome zero reported stored =
+      elim (success_in decision.verdict zero) [
+        | inl found ↦ (let of = job_of (Judged found.0) outcome found.1 refl in
+            inl (valid_of_job found.0 of.command found.1 of.command_is of.name_is of.of_command of.on (subst (λ v. status_of v ≡ 0) found.1 zero)
+            (subst (λ v. Reports v before.report now.report) found.1 reported) stored))
+        | inr others ↦ inr (elim others [
+          | inl found ↦ (let of = job_of (Checked found.0) outcome found.1 refl in
+              inl (checked_of_job found.0 of.command found.1 of.command_is of.of_command of.on
+              (subst (λ v. Reports v before.report now.report) found.1 reported) stored))
+          | inr found ↦ (let of = job_of (Showed found.0) outcome found.1 refl in
+              inr (shown_of_job found.0 of.command found.1 of.command_is of.of_command (subst (λ v. Reports v before.report now.report) found.1 reported) stored))
+        ])
       ]
 
-  shown_of : (name : List ℕ) (shown : Shown) → IsOutcome words files name (Showed shown) → Reports (Showed shown) before.report now.report
-      → now.store.held ≡ before.store.held → EndsShown words before now
-  shown_of name shown outcome reported stored =
-      elim (of_job words files name (Showed shown) outcome) [
-        | inl e ↦ let apart : false ≡ true = ap is_usage e in absurd (cc)
-        | inr of ↦ shown_of_job shown of.command of.command_is of.of_command reported stored
-      ]
-
-  pub ends_valid : (code : ℕ) → EndsWith words files code before now → code ≡ 0 → EndsValid words files before now ⊎ EndsShown words before now
-  ends_valid code ends none =
-      let zero : status_of ends.verdict ≡ 0 = sym ends.ends.status_is ∙ none in
-      elim (success_in ends.verdict zero) [
-        | inl found ↦ inl (valid_of ends.name found.0 (subst (IsOutcome words files ends.name) found.1 ends.outcome)
-            (subst (λ v. status_of v ≡ 0) found.1 zero) (subst (λ v. Reports v before.report now.report) found.1 ends.ends.reported)
-            (subst (λ v. LeavesUnder ends.name v before.store.held now.store.held) found.1 ends.ends.stored))
-        | inr found ↦ inr (shown_of ends.name found.0 (subst (IsOutcome words files ends.name) found.1 ends.outcome)
-            (subst (λ v. Reports v before.report now.report) found.1 ends.ends.reported)
-            (subst (λ v. LeavesUnder ends.name v before.store.held now.store.held) found.1 ends.ends.stored))
-      ]
+module _ (words : List (List ℕ)) (files : Contents) (before now : Outputs) (trails : Trails) where
+  pub ends_valid : (code : ℕ) → EndsWith words files code before now trails → code ≡ 0
+      → EndsValid words files before now ⊎ (EndsChecked words files before now ⊎ EndsShown words before now)
+  ends_valid code ends none = ends_by words files before now ends.name ends.decision ends.outcome (sym ends.ends.status_is ∙ none) ends.ends.reported ends.ends.stored
 
   -- ---- the causes
 
-  decided_by : (name : List ℕ) (verdict : Verdict) (code : ℕ) → IsOutcome words files name verdict → EndsBy name verdict code before now
-      → EndsAsDecided words files code before now
-  decided_by _ _ code (usage_error none) ends = λ command elf c other is e f has. absurd (none command is)
-  decided_by _ _ code (commanded command verdict is of_command on) ends =
-      λ wanted elf c other wanted_is e f has.
+  -- of a certificate that contracts see there is one text
+  text_seen : (seen : Option (List ℕ)) (one other : List ℕ) → IfSome seen (λ s. s ≡ one) → seen ≡ Some other → one ≡ other
+  text_seen seen one other h e = let there = subst (λ o. IfSome o (λ s. s ≡ one)) e h in sym there
+
+  -- a command has one task with all texts that its certificate may have
+  same_task : (command : Command) (one other : List ℕ) → IsText files (asked_of command).given one → HasText files (asked_of command).given other
+      → task_of command one ≡ task_of command other
+  same_task (Prove job) one other is has = refl
+  same_task (Check job) one other is has = ap (Verify job.functions) (text_seen (files job.certificate) one other is has)
+  same_task (Show job) one other is has = refl
+
+  decided_by : OneVerdict → (name : List ℕ) (decision : Decision) (code : ℕ) → IsOutcome words files name decision → EndsBy name decision code before now trails
+      → EndsAsDecided words files code before now trails
+  decided_by law _ _ code (usage_error none) ends = λ command elf c text other is e f has decided. absurd (none command is)
+  decided_by law _ _ code (commanded command decision is of_command on) ends =
+      λ wanted elf c text other wanted_is e f has decided.
       let same : command ≡ wanted = same_command words command wanted is wanted_is in
-      let on_wanted = subst (λ j. IsVerdictOn files (asked_of j) verdict) same on in
-      let one : verdict ≡ other = one-verdict elf c (asked_of wanted).task verdict other (on_wanted.1 elf c e f).0 has in
-      subst (λ v. EndsBy (asked_of wanted).certificate v code before now) one
-      (subst (λ j. EndsBy (asked_of j).certificate verdict code before now) same ends)
+      let on_wanted = subst (λ j. IsVerdictOn files j decision) same on in
+      let h = on_wanted.1 elf c e f in
+      let task : task_of wanted h.0 ≡ task_of wanted text = same_task wanted h.0 text h.1 has in
+      let mine : IsVerdict elf c (task_of wanted text) decision = subst (λ t. IsVerdict elf c t decision) task h.2 in
+      record {
+        other = decision;
+        alike = law elf c (task_of wanted text) other decision decided mine;
+        ends = subst (λ j. EndsBy (asked_of j).certificate decision code before now trails) same ends;
+      }
 
-  -- it ends by whatever verdict the files have
-  pub ends_as_decided : (code : ℕ) → EndsWith words files code before now → EndsAsDecided words files code before now
-  ends_as_decided code ends = decided_by ends.name ends.verdict code ends.outcome ends.ends
+  -- it ends by whatever is decided of the files
+  pub ends_as_decided : OneVerdict → (code : ℕ) → EndsWith words files code before now trails → EndsAsDecided words files code before now trails
+  ends_as_decided law code ends = decided_by law ends.name ends.decision code ends.outcome ends.ends
 
-of_command_not_usage : (asked : Asked) (verdict : Verdict) → IsOfCommand asked verdict → status_of verdict ≢ 2
-of_command_not_usage asked RefusedWords of = absurd of
-of_command_not_usage asked (TooLarge quantity) of = λ e. omega (arith, e)
-of_command_not_usage asked (RefusedElf fault offset) of = λ e. omega (arith, e)
-of_command_not_usage asked (RefusedC kind offset) of = λ e. omega (arith, e)
-of_command_not_usage asked (RefusedPair kind name) of = λ e. omega (arith, e)
-of_command_not_usage asked (RefusedCode kind name address) of = λ e. omega (arith, e)
-of_command_not_usage asked (Judged js) of = not_two _
-  where
-    not_two : (all : Bool) → code_of all ≢ 2
-    not_two true = λ e. omega (arith, e)
-    not_two false = λ e. omega (arith, e)
-of_command_not_usage asked (Showed shown) of = λ e. omega (arith, e)
+not_two : (all : Bool) → code_of all ≢ 2
+not_two true = λ e. omega (arith, e)
+not_two false = λ e. omega (arith, e)
 
-refused_words : (words : List (List ℕ)) (files : Contents) (name : List ℕ) (verdict : Verdict) (code : ℕ) → IsOutcome words files name verdict
-    → code ≡ status_of verdict → code ≡ 2 ↔ IsUsageError words
+not_usage : (verdict : Verdict) → verdict ≢ RefusedWords → status_of verdict ≢ 2
+not_usage RefusedWords of = absurd (of refl)
+not_usage (TooLarge quantity) of = λ e. omega (arith, e)
+not_usage (RefusedElf fault offset) of = λ e. omega (arith, e)
+not_usage (RefusedC kind offset) of = λ e. omega (arith, e)
+not_usage (RefusedPair kind name) of = λ e. omega (arith, e)
+not_usage (RefusedCode kind name address) of = λ e. omega (arith, e)
+not_usage (RefusedCertificate offset) of = λ e. omega (arith, e)
+not_usage (NotProof name offset rule) of = λ e. omega (arith, e)
+not_usage (Checked js) of = λ e. omega (arith, e)
+not_usage (Judged js) of = not_two _
+not_usage (Showed shown) of = λ e. omega (arith, e)
+
+of_command_not_usage : (command : Command) (decision : Decision) → IsOfCommand command decision → status_of decision.verdict ≢ 2
+of_command_not_usage (Prove job) decision of = not_usage decision.verdict (λ e. absurd (subst (λ v. ProveDecides v decision) e of))
+of_command_not_usage (Check job) decision of = not_usage decision.verdict (λ e. absurd (subst CheckDecides e of.0))
+of_command_not_usage (Show job) decision of = not_usage decision.verdict (λ e. absurd (subst (ShowDecides job.function) e of.0))
+
+refused_words : (words : List (List ℕ)) (files : Contents) (name : List ℕ) (decision : Decision) (code : ℕ) → IsOutcome words files name decision
+    → code ≡ status_of decision.verdict → code ≡ 2 ↔ IsUsageError words
 refused_words words files _ _ code (usage_error none) e = (λ two. none, λ again. e)
-refused_words words files _ _ code (commanded command verdict is of_command on) e =
-    (λ two. absurd (of_command_not_usage (asked_of command) verdict of_command (sym e ∙ two)), λ none. absurd (none command is))
+refused_words words files _ _ code (commanded command decision is of_command on) e =
+    (λ two. absurd (of_command_not_usage command decision of_command (sym e ∙ two)), λ none. absurd (none command is))
 
 code_small : (all : Bool) → code_of all ≤ 3
 code_small true = omega arith
 code_small false = omega arith
 
-status_small : (verdict : Verdict) → (status_of verdict ≤ 3) ⊎ (status_of verdict ≡ 7)
+status_small : (verdict : Verdict) → (status_of verdict ≤ 3) ⊎ (6 ≤ status_of verdict)
 status_small RefusedWords = inl (omega arith)
-status_small (TooLarge quantity) = inr refl
+status_small (TooLarge quantity) = inr (omega arith)
 status_small (RefusedElf fault offset) = inl (omega arith)
 status_small (RefusedC kind offset) = inl (omega arith)
 status_small (RefusedPair kind name) = inl (omega arith)
 status_small (RefusedCode kind name address) = inl (omega arith)
+status_small (RefusedCertificate offset) = inr (omega arith)
+status_small (NotProof name offset rule) = inr (omega arith)
+status_small (Checked js) = inl (omega arith)
 status_small (Judged js) = inl (code_small _)
 status_small (Showed shown) = inl (omega arith)
 
-module _ (words : List (List ℕ)) (files : Contents) (before now : Outputs) where
+-- what is handed out by an outcome goes with its status
+outcome_goes : (words : List (List ℕ)) (files : Contents) (name : List ℕ) (decision : Decision) → IsOutcome words files name decision
+    → GoesWith (status_of decision.verdict) decision.trails
+outcome_goes words files _ _ (usage_error none) = usage_goes
+outcome_goes words files _ _ (commanded command decision is of_command on) = command_goes command decision of_command
+
+module _ (words : List (List ℕ)) (files : Contents) (before now : Outputs) (trails : Trails) where
   -- it ends with 2 exactly with a usage error
-  pub ends_by_usage : (code : ℕ) → EndsWith words files code before now → code ≡ 2 ↔ IsUsageError words
-  ends_by_usage code ends = refused_words words files ends.name ends.verdict code ends.outcome ends.ends.status_is
+  pub ends_by_usage : (code : ℕ) → EndsWith words files code before now trails → code ≡ 2 ↔ IsUsageError words
+  ends_by_usage code ends = refused_words words files ends.name ends.decision code ends.outcome ends.ends.status_is
 
   -- and not with 4 or 5
-  pub not_cut : {A : Type 0} (code : ℕ) → EndsWith words files code before now → (code ≡ 4) ⊎ (code ≡ 5) → A
+  pub not_cut : {A : Type 0} (code : ℕ) → EndsWith words files code before now trails → (code ≡ 4) ⊎ (code ≡ 5) → A
   not_cut code ends cut =
       let e = ends.ends.status_is in
-      elim (status_small ends.verdict) [
+      elim (status_small ends.decision.verdict) [
         | inl small ↦ elim cut [ inl four ↦ absurd (omega (arith, small, e, four)) | inr five ↦ absurd (omega (arith, small, e, five)) ]
-        | inr seven ↦ elim cut [ inl four ↦ absurd (omega (arith, seven, e, four)) | inr five ↦ absurd (omega (arith, seven, e, five)) ]
+        | inr large ↦ elim cut [ inl four ↦ absurd (omega (arith, large, e, four)) | inr five ↦ absurd (omega (arith, large, e, five)) ]
       ]
 
--- ---- a verdict that is published
+  pub hands_out : (code : ℕ) → EndsWith words files code before now trails → HandsOut code trails
+  hands_out code ends =
+      let goes : GoesWith code trails =
+      subst (λ t. GoesWith code t) (sym ends.ends.trails_are)
+      (subst (λ n. GoesWith n ends.decision.trails) (sym ends.ends.status_is) (outcome_goes words files ends.name ends.decision ends.outcome)) in
+      record { unproved = goes.unproved; over = goes.over; cut_off = not_cut code ends }
 
-pub ended_by : (words : List (List ℕ)) (files : Contents) (name : List ℕ) (verdict : Verdict) (before now : Outputs) (r : Result ℕ OutsideFault)
-    → IsOutcome words files name verdict → IfOk r (λ code. code ≡ status_of verdict) → Publishes name verdict before now r
-    → IfOk r (λ code. EndsWith words files code before now)
-ended_by words files name verdict before now (Ok code) outcome is published =
-    record { name = name; verdict = verdict; outcome = outcome; ends = record { status_is = is; reported = published.reported; stored = published.stored } }
-ended_by words files name verdict before now (Err fault) outcome is published = tt
+-- where a run was cut off nothing is handed out
+pub hands_out_nothing : (code : ℕ) (trails : Trails) → (code ≡ 4) ⊎ (code ≡ 5) → trails ≡ no_trails → HandsOut code trails
+hands_out_nothing code trails cut none = record {
+  unproved = (
+    λ one. elim cut [ inl four ↦ absurd (omega (arith, one, four)) | inr five ↦ absurd (omega (arith, one, five)) ],
+    λ some. absurd (some (ap (λ (t : Trails). t.failures) none)),
+  );
+  over = λ lines e. let is : None ≡ Some lines = sym (ap (λ (t : Trails). t.over) none) ∙ e in absurd (cc);
+  cut_off = λ again. none;
+}
+
+-- ---- a run that was cut off
+
+module _ (words : List (List ℕ)) (before now : State) (trails_before trails : Trails) (r : Result ℕ OutsideFault) (h : RunsTo words before now trails_before trails r)
+    (none : trails_before ≡ no_trails) where
+  emptied : (fault : OutsideFault) → r ≡ Err fault → trails ≡ no_trails
+  emptied fault is = (let kept = subst (λ x. OnErr x (trails ≡ trails_before)) is h.trails_kept in kept ∙ none)
+
+  pub ends_failed : r ≡ Err Failed → Ends words before now trails 4
+  ends_failed is = record {
+    valid = λ e. absurd (omega (arith, e));
+    ended = λ four five. absurd (four refl);
+    usage = λ four five. absurd (four refl);
+    decided = λ four five. absurd (four refl);
+    handed_out = hands_out_nothing 4 trails (inl refl) (emptied Failed is);
+    part = λ cut. subst (λ x. OnErr x (EndsPartly words before.desk.files before.outputs now.outputs)) is h.part;
+    store_part = h.store_part;
+    taken = h.taken;
+    opened = h.opened;
+    safely = record { fault = λ four. h.failed is; counts = λ other. absurd (other refl); store_first = h.store_first; same_files = h.same_files };
+  }
+
+  pub ends_without_memory : r ≡ Err NoMemory → Ends words before now trails 5
+  ends_without_memory is = record {
+    valid = λ e. absurd (omega (arith, e));
+    ended = λ four five. absurd (five refl);
+    usage = λ four five. absurd (five refl);
+    decided = λ four five. absurd (five refl);
+    handed_out = hands_out_nothing 5 trails (inr refl) (emptied NoMemory is);
+    part = λ cut. subst (λ x. OnErr x (EndsPartly words before.desk.files before.outputs now.outputs)) is h.part;
+    store_part = h.store_part;
+    taken = h.taken;
+    opened = h.opened;
+    safely = record { fault = λ four. absurd (omega (arith, four)); counts = λ other. h.no_memory is; store_first = h.store_first; same_files = h.same_files };
+  }
+
+-- ---- a decision that is published
+
+pub ended_by : (words : List (List ℕ)) (files : Contents) (name : List ℕ) (decision : Decision) (before now : Outputs) (trails : Trails) (r : Result ℕ OutsideFault)
+    → IsOutcome words files name decision → IfOk r (λ code. (code ≡ status_of decision.verdict) × (trails ≡ decision.trails)) → Publishes name decision before now r
+    → IfOk r (λ code. EndsWith words files code before now trails)
+ended_by words files name decision before now trails (Ok code) outcome is published = record {
+  name = name;
+  decision = decision;
+  outcome = outcome;
+  ends = record { status_is = is.0; reported = published.reported; stored = published.stored; trails_are = is.1 };
+}
+ended_by words files name decision before now trails (Err fault) outcome is published = tt
 
 -- the same up to its status
-pub as_status : {T : Type 0} (x : T) (name : List ℕ) (verdict : Verdict) (before now : Outputs) (code : ℕ) → Publishes {T = T} name verdict before now (Ok x) → Publishes {T = ℕ} name verdict before now (Ok code)
-as_status x name verdict before now code p = record {
+pub as_status : {T : Type 0} (x : T) (name : List ℕ) (decision : Decision) (before now : Outputs) (code : ℕ) → Publishes {T = T} name decision before now (Ok x) → Publishes {T = ℕ} name decision before now (Ok code)
+as_status x name decision before now code p = record {
   reported = p.reported;
   stored = p.stored;
   part = tt;
@@ -208,8 +360,8 @@ as_status x name verdict before now code p = record {
   no_memory = λ e. absurd cc;
 }
 
-pub as_fault : {T U : Type 0} (name : List ℕ) (verdict : Verdict) (before now : Outputs) (fault : OutsideFault) → Publishes {T = T} name verdict before now (Err fault) → Publishes {T = U} name verdict before now (Err fault)
-as_fault name verdict before now fault p = record {
+pub as_fault : {T U : Type 0} (name : List ℕ) (decision : Decision) (before now : Outputs) (fault : OutsideFault) → Publishes {T = T} name decision before now (Err fault) → Publishes {T = U} name decision before now (Err fault)
+as_fault name decision before now fault p = record {
   reported = tt;
   stored = tt;
   part = p.part;

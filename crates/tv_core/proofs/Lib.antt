@@ -1,10 +1,14 @@
 pub mod Desks
-pub mod Judging
 pub mod Stored
-mod TwoFiles
+mod Plain
+mod HandedOut
+mod Judging
+mod Aligned
+mod FilesRead
 mod Ending
 mod Naming
-mod Sound
 mod Paired
 mod Shown
 mod Judged
+mod Made
+mod Lists

@@ -8,8 +8,7 @@ use Rattle.elf_spec.specs.declared.SymbolValues.TheVariants.{Absent, One, Two}
 use Rattle.c_type_spec.specs.Core as core
 use Rattle.c_types.specs.declared.typed.Body.{Body}
 use Rattle.c_types.specs.declared.typed.Typed.{Typed}
-use Rattle.c_types.specs.Typed.{bodies_of}
-use Rattle.straight_code.specs.Units.{unit_of}
+use Rattle.c_types.specs.Typed.{bodies_of, typed_of}
 use Rattle.verdict_spec.specs.Listing.{is_present, has_symbol, listed}
 
 present : (named : SymbolValues) → named ≢ Absent → is_present named ≡ true
@@ -39,6 +38,6 @@ bodies_are : (entries : List (Bor (List ℕ) × Body)) → map (λ (b : core.Bod
 bodies_are [] = refl
 bodies_are (entry ∷ entries) = ap (λ rest. entry.0.now ∷ rest) (bodies_are entries)
 
-pub listed_are : (image : Image) (unit : Typed) → listed image (unit_of unit) ≡ filter (has_symbol image) (names_in (map (λ entry. entry.0) unit.bodies.entries))
-unfolding listed unit_of
+pub listed_are : (image : Image) (unit : Typed) → listed image (typed_of unit) ≡ filter (has_symbol image) (names_in (map (λ entry. entry.0) unit.bodies.entries))
+unfolding listed
 listed_are image unit = ap (filter (has_symbol image)) (bodies_are unit.bodies.entries)

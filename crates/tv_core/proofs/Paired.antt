@@ -1,9 +1,8 @@
 -- The functions of a list that has pairs.
-use Rattle.std.proofs.Common.{◌≡◌, ◌<◌, ◌≤◌, ℕ, zero, suc, List, [], ◌∷◌, length, get_or, map, All, Option, Some, None, refl, ap, sym, subst, arith}
+use Rattle.std.proofs.Common.{◌≡◌, ◌≢◌, ◌<◌, ◌≤◌, ℕ, zero, suc, List, [], ◌∷◌, length, get_or, map, All, Option, Some, None, refl, ap, sym, subst, arith}
 use Rattle.std.specs.Borrow.{Bor}
 use Rattle.std.specs.Prelude.{IsSome}
-use Rattle.elf_spec.specs.Image.{Image, function_named}
-use Rattle.elf_spec.specs.declared.SymbolValues.TheVariants.{One}
+use Rattle.elf_spec.specs.Image.{Image}
 use Rattle.c_type_spec.specs.Core.{Body, Typed}
 use Rattle.pair_spec.specs.SourceReach.{body_of, itself}
 use Rattle.pair_spec.specs.Faults.{LacksBody}
@@ -12,12 +11,8 @@ use Rattle.pair_outcome_spec.specs.Outcome as outcome
 use Rattle.pair_outcome_spec.specs.Outcome.{HasNoFault, IsFunction, IsPaired}
 use Rattle.pair_setup.specs.declared.outcome.Function.{Function}
 use Rattle.pair_setup.specs.declared.outcome.Pairs.{Pairs}
-use Rattle.pair_setup.specs.declared.outcome.PairError.{PairError}
-use Rattle.pair_setup.specs.Answers.{functions_of, pairs_of, IsPairError}
+use Rattle.pair_setup.specs.Answers.{functions_of, pairs_of}
 use Rattle.c_reach.specs.Names.{texts_of}
-use Rattle.c_types.specs.declared.typed.Typed as program
-use Rattle.c_types.specs.Typed.{typed_of}
-use Rattle.straight_code.specs.Units.{unit_of}
 use Rattle.tv_core.specs.Functions.{IsListed, ArePaired}
 
 some_body : (image : Image) (unit : Typed) (name : List ℕ) (found : Option Body) → body_of unit name ≡ found → (LacksBody unit name name → ⊥) → IsSome found
@@ -56,7 +51,7 @@ pairs_each image unit (name ∷ list) (f ∷ functions) e sound each =
 
 -- ---- over the program's list and unit
 
-texts_length : (list : List (Bor (List ℕ))) → length (texts_of list) ≡ length list
+pub texts_length : (list : List (Bor (List ℕ))) → length (texts_of list) ≡ length list
 texts_length [] = refl
 texts_length (text ∷ list) = ap suc (texts_length list)
 
@@ -77,19 +72,18 @@ pub listed_at : (image : Image) (unit : Typed) (list : List (Bor (List ℕ))) (f
 listed_at image unit list functions i d f paired below =
     subst (λ name. IsListed image unit name (get_or functions i f)) (texts_at list i d [] below) (paired.each i [] f (texts_below list i below))
 
-pub same_pairs : (image : Image) (unit : program.Typed) (list : List (List ℕ)) (pairs : outcome.Pairs) → IsPaired image (typed_of unit) list pairs
-    → IsPaired image (unit_of unit) list pairs
-unfolding unit_of
-same_pairs image unit list pairs paired = paired
+pub are_paired : (image : Image) (unit : Typed) (list : List (List ℕ)) (pairs : Pairs) → IsPaired image unit list (pairs_of list pairs)
+    → ArePaired image unit list pairs.functions.items
+are_paired image unit list pairs paired = pairs_each image unit list pairs.functions.items paired.listed paired.no_fault paired.functions_are
 
-pub same_error : (image : Image) (unit : program.Typed) (names list : List (List ℕ)) (error : PairError) → IsPairError image (typed_of unit) names list error
-    → IsPairError image (unit_of unit) names list error
-unfolding unit_of
-same_error image unit names list error h = h
+-- the list isn't longer than the functions of its pairs
+pub enough : (image : Image) (unit : Typed) (list : List (Bor (List ℕ))) (pairs : Pairs) (functions : List Function) → functions ≡ pairs.functions.items
+    → IsPaired image unit (texts_of list) (pairs_of (texts_of list) pairs) → length list ≤ length functions
+enough image unit list pairs functions e paired =
+    let h = (are_paired image unit (texts_of list) pairs paired).enough in
+    subst (λ n. n ≤ length functions) (texts_length list) (subst (λ fs. length (texts_of list) ≤ length fs) (sym e) h)
 
-pub are_paired : (image : Image) (unit : program.Typed) (list : List (List ℕ)) (pairs : Pairs) (functions : List Function) → functions ≡ pairs.functions.items
-    → IsPaired image (typed_of unit) list (pairs_of list pairs) → ArePaired image (unit_of unit) list functions
-are_paired image unit list pairs functions e paired =
-    let same = same_pairs image unit list (pairs_of list pairs) paired in
-    subst (ArePaired image (unit_of unit) list) (sym e)
-    (pairs_each image (unit_of unit) list pairs.functions.items same.listed same.no_fault same.functions_are)
+-- a list with pairs isn't empty
+pub not_empty : (list : List (Bor (List ℕ))) → texts_of list ≢ [] → 0 < length list
+not_empty [] some = absurd (some refl)
+not_empty (text ∷ list) some = omega arith

@@ -1,6 +1,6 @@
 -- What is shown of a listed function.
 use Rattle.std.proofs.Common.{◌≡◌, ℕ, List, length, Option, Some, None, Err, refl, ap, sym, ◌∙◌, subst}
-use Rattle.std.specs.Prelude.{IsSome, IfErr, Result, is_some, option_map}
+use Rattle.std.specs.Prelude.{IsSome, IfErr, Result, option_map}
 use Rattle.elf_spec.specs.Image.{Image, function_named}
 use Rattle.elf_spec.specs.declared.SymbolValues.TheVariants.{One}
 use Rattle.code_spec.specs.Faults.{ReachesNoFault, of_function, itself}
@@ -14,8 +14,6 @@ use Rattle.c_types.specs.declared.typed.Typed.{Typed}
 use Rattle.c_types.specs.Typed.{body_in, counts_in, counts_of, typed_of}
 use Rattle.pair_spec.specs.SourceReach.{body_of}
 use Rattle.pair_setup.specs.declared.outcome.Function.{Function}
-use Rattle.straight_code.specs.Units.{unit_of}
-use Rattle.report_spec.specs.Verdict.{Shown}
 use Rattle.verdict_spec.specs.Verdicts.{IsShown}
 use Rattle.tv_core.specs.Functions.{IsListed}
 
@@ -31,8 +29,7 @@ no_code_fault image entry result error fault h is as_fault sound =
 abbrev Finds : Typed → (name : List ℕ) → Option Counts → Type 0
 Finds unit name found = option_map counts_of found ≡ option_map counts_in (body_in (typed_of unit).bodies name)
 
-same_body : (unit : Typed) (name : List ℕ) → body_in (typed_of unit).bodies name ≡ body_of (unit_of unit) name
-unfolding unit_of
+same_body : (unit : Typed) (name : List ℕ) → body_in (typed_of unit).bodies name ≡ body_of (typed_of unit) name
 same_body unit name = refl
 
 by_found : (body : Option core.Body) (found : Option Counts) → option_map counts_of found ≡ option_map counts_in body → IsSome body → IsSome found
@@ -40,9 +37,9 @@ by_found None found e there = absurd (cc)
 by_found (Some body) None e there = absurd (cc)
 by_found (Some body) (Some counts) e there = refl
 
-pub counts_there : (unit : Typed) (name : List ℕ) (found : Option Counts) → Finds unit name found → IsSome (body_of (unit_of unit) name) → IsSome found
+pub counts_there : (unit : Typed) (name : List ℕ) (found : Option Counts) → Finds unit name found → IsSome (body_of (typed_of unit) name) → IsSome found
 counts_there unit name found e there =
-    by_found (body_of (unit_of unit) name) found (e ∙ ap (option_map counts_in) (same_body unit name)) there
+    by_found (body_of (typed_of unit) name) found (e ∙ ap (option_map counts_in) (same_body unit name)) there
 
 -- the body, and its numbers
 record Counted (unit : core.Typed) (name : List ℕ) (counts : Counts) : Type 0 where
@@ -60,14 +57,14 @@ by_body unit name counts (Some body) is e =
     record { body = body; body_is = is; params_are = ap (λ c. c.0) same; loops_are = ap (λ c. c.1) same; calls_are = ap (λ c. c.2) same }
 
 counted : (unit : Typed) (name : List ℕ) (found : Option Counts) (counts : Counts) → Finds unit name found → found ≡ Some counts
-    → Counted (unit_of unit) name counts
+    → Counted (typed_of unit) name counts
 counted unit name found counts e is =
-    by_body (unit_of unit) name counts (body_of (unit_of unit) name) refl
+    by_body (typed_of unit) name counts (body_of (typed_of unit) name) refl
     (sym (ap (option_map counts_of) is) ∙ e ∙ ap (option_map counts_in) (same_body unit name))
 
 pub shows : (image : Image) (unit : Typed) (name given : List ℕ) (f : Function) (words : List (ℕ × ℕ)) (found : Option Counts) (counts : Counts)
-    → IsListed image (unit_of unit) name f → IsCode image f.entry words → Finds unit name found → found ≡ Some counts → given ≡ name
-    → (given ≡ name) × IsShown image (unit_of unit) (record {
+    → IsListed image (typed_of unit) name f → IsCode image f.entry words → Finds unit name found → found ≡ Some counts → given ≡ name
+    → (given ≡ name) × IsShown image (typed_of unit) (record {
       name = given;
       entry = f.entry;
       size = f.size;
@@ -86,7 +83,7 @@ shows image unit name given f words found counts listed code finds is same =
         stack_is = listed.stack_is;
         words_are = code;
         body = of_body.body;
-        body_is = subst (λ n. body_of (unit_of unit) n ≡ Some of_body.body) (sym same) of_body.body_is;
+        body_is = subst (λ n. body_of (typed_of unit) n ≡ Some of_body.body) (sym same) of_body.body_is;
         params_are = of_body.params_are;
         loops_are = of_body.loops_are;
         calls_are = of_body.calls_are;

@@ -1,12 +1,12 @@
 -- A text that is written under a name.
-use Rattle.std.proofs.Common.{◌≡◌, ◌++◌, ℕ, List, [], Option, None, Some, Ok, Err, length, take, take_all, arith, refl, sym, ap, ◌∙◌, subst, inl, inr}
+use Rattle.std.proofs.Common.{◌≡◌, ◌++◌, ℕ, List, [], Option, None, Some, Ok, Err, length, take, take_all, arith, refl, sym, ap, ◌∙◌, subst, inr}
 use Rattle.std.specs.Prelude.{Result, OnOk, OnErr, IsErrOf, option_map}
 use Rattle.tv_base.specs.declared.faults.OutsideFault.{OutsideFault}
-use Rattle.tv_base.specs.declared.faults.OutsideFault.TheVariants.{Failed, NoMemory}
+use Rattle.tv_base.specs.declared.faults.OutsideFault.TheVariants.{NoMemory}
 use Rattle.tv_base.specs.Faults.{HasCause}
 use Rattle.tv_base.specs.Writing.{Grows, GrowsPartly, IsEmptied}
 use Rattle.tv_core.specs.Objects.{Contents, SinkState}
-use Rattle.tv_core.specs.Ends.{Becomes, Stores}
+use Rattle.tv_core.specs.Ends.{Becomes, BecomesPartly, LeavesText, LeavesTextPartly, Stores}
 
 cleared : (held : Option (List ℕ)) (text : List ℕ) → option_map (λ h. h ++ text) (option_map (λ (h : List ℕ). []) held) ≡ option_map (λ (h : List ℕ). text) held
 cleared None text = refl
@@ -40,5 +40,19 @@ stored {T = T} name text before now held begun faults (Err f) empty same as_befo
   no_memory = λ e. memory e ∙ as_before;
 }
 
-pub stores_as : {T : Type 0} (name s t : List ℕ) (before now : SinkState) (r : Result T OutsideFault) → s ≡ t → Stores name s before now r → Stores name t before now r
-stores_as {T = T} name s t before now r e h = subst (λ x. Stores {T = T} name x before now r) e h
+-- the text of a certificate, if there is one
+pub leaves_text : {T : Type 0} (name s t : List ℕ) (given : Option (List ℕ)) (before now : SinkState) (r : Result T OutsideFault) → given ≡ Some t → s ≡ t
+    → Stores name s before now r → OnOk r (LeavesText name given before.held now.held)
+leaves_text name s t given before now r e same h =
+    subst (λ g. OnOk r (LeavesText name g before.held now.held)) (sym e) (subst (λ x. OnOk r (Becomes before.held name x now.held)) same h.ok)
+
+pub leaves_partly : {T : Type 0} (name s t : List ℕ) (given : Option (List ℕ)) (before now : SinkState) (r : Result T OutsideFault) → given ≡ Some t → s ≡ t
+    → Stores name s before now r → LeavesTextPartly name given before.held now.held
+leaves_partly name s t given before now r e same h =
+    subst (λ g. LeavesTextPartly name g before.held now.held) (sym e) (subst (λ x. BecomesPartly before.held name x now.held) same h.part)
+
+pub leaves_nothing : (name : List ℕ) (given : Option (List ℕ)) (held : Contents) → given ≡ None → LeavesText name given held held
+leaves_nothing name given held e = subst (λ g. LeavesText name g held held) (sym e) refl
+
+pub leaves_nothing_partly : (name : List ℕ) (given : Option (List ℕ)) (held : Contents) → given ≡ None → LeavesTextPartly name given held held
+leaves_nothing_partly name given held e = subst (λ g. LeavesTextPartly name g held held) (sym e) refl

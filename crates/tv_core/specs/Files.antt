@@ -1,22 +1,24 @@
 -- What is read of the files of a job, and what a call leaves of a desk.
-use Rattle.std.specs.Prelude.{◌≡◌, ◌≤◌, ◌<◌, ◌+◌, ◌⊎◌, ℕ, List, length, take, Option, IfSome, Vec, Result, Ok, Err, IfOk, OnOk, IsErrOf}
+use Rattle.std.specs.Prelude.{◌≡◌, ◌≤◌, ◌<◌, ◌+◌, ◌⊎◌, ℕ, List, length, take, Some, IfSome, Vec, Result, IfOk, OnOk, IsErrOf}
 use Rattle.std.specs.Global.{Global}
 use Rattle.elf_spec.specs.Image.{Image}
 use Rattle.elf_spec.specs.File.{IsElf}
 use Rattle.report_spec.specs.declared.Quantity.TheVariants.{C}
-use Rattle.report_spec.specs.Verdict.{Verdict, TooLarge}
-use Rattle.report_text.specs.Verdicts.{verdict_of}
-use Rattle.report_text.specs.declared.verdicts.Verdict.{Verdict as CodeVerdict}
-use Rattle.tv_base.specs.declared.limits.TheConstants.{MAX_ELF_BYTES, MAX_C_BYTES}
+use Rattle.report_spec.specs.Verdict.{TooLarge}
+use Rattle.tv_base.specs.declared.limits.TheConstants.{MAX_ELF_BYTES, MAX_C_BYTES, MAX_CERTIFICATE_BYTES}
 use Rattle.tv_base.specs.declared.faults.OutsideFault.{OutsideFault}
 use Rattle.tv_base.specs.declared.faults.OutsideFault.TheVariants.{NoMemory}
 use Rattle.tv_base.specs.Faults.{HasCause}
 use Rattle.tv_base.specs.Reading.{with_name}
-use Rattle.verdict_spec.specs.Verdicts.{IsSound, Judges}
-use Rattle.verdict_spec.specs.Listing.{Task}
-use Rattle.tv_core.specs.Tasks.{Asked}
+use Rattle.c_type_spec.specs.Core.{Typed}
+use Rattle.tv_words.specs.Commands.{Command}
+use Rattle.verdict_spec.specs.Decisions.{Decision, plain}
+use Rattle.verdict_spec.specs.Verdicts.{Pairs, IsSound, Judges}
+use Rattle.tv_core.specs.Tasks.{asked_of, task_of}
 use Rattle.tv_core.specs.Objects.{Contents, DeskState}
-use Rattle.tv_core.specs.Ends.{IsOfCommand, IsVerdictOn, TakesAtMost, TakesOfTwo, OpensOfTwo, TakesLittle, OpensInOrder}
+use Rattle.tv_core.specs.Decisions.{decision_of}
+use Rattle.tv_core.specs.declared.decision.Decision.{Decision as CodeDecision}
+use Rattle.tv_core.specs.Ends.{IsText, IsOfCommand, IsVerdictOn, TakesAtMost, NeedsCertificate, TakesOfFiles, OpensOfFiles, TakesLittle, OpensInOrder}
 
 -- a call keeps the files of a desk, and its count of faults rises exactly with a failure
 pub record KeepsDesk {T : Type 0} (before now : DeskState) (result : Result T OutsideFault) : Type 0 where
@@ -36,30 +38,69 @@ pub record ReadsFile (name : List ℕ) (maximum : ℕ) (before now : DeskState) 
   pub opened : OnOk result (now.opened ≡ with_name before.opened name)
   pub opened_part : (now.opened ≡ before.opened) ⊎ (now.opened ≡ with_name before.opened name)
 
--- the verdict on the bytes that were read of a source, where the executable is within its maximum
-abbrev pub JudgesRead : (elf c : List ℕ) → Task → Verdict → Type 0
-JudgesRead elf c task verdict =
-    ((MAX_C_BYTES < length c) × (verdict ≡ TooLarge C)) ⊎ ((length c ≤ MAX_C_BYTES) × Judges elf c task verdict × IsSound elf c task verdict)
+-- the same of its desk alone
+pub record BeginsFile (name : List ℕ) (maximum : ℕ) (before now : DeskState) : Type 0 where
+  pub taken : TakesAtMost before.files name (maximum + 1) before.left now.left
+  pub opened : (now.opened ≡ before.opened) ⊎ (now.opened ≡ with_name before.opened name)
 
--- the verdict on an image of an executable and a source; or there is no memory
-abbrev pub JudgesBy : Image → (c : List ℕ) → Task → Result CodeVerdict OutsideFault → Type 0
-JudgesBy image c task (Ok verdict) =
-    (elf : List ℕ) → IsElf elf image → Judges elf c task (verdict_of verdict) × IsSound elf c task (verdict_of verdict)
-JudgesBy image c task (Err fault) = fault ≡ NoMemory
+-- ---- decisions
 
--- the verdict on the two files of a desk
-abbrev pub JudgesFiles : Contents → Asked → Verdict → Type 0
-JudgesFiles files job verdict = IsVerdictOn files job verdict × IsOfCommand job verdict
+-- what is decided by a command of an executable and a source, for some text of the certificate that is read, which is the
+-- file's where contracts see it; and what it calls valid is valid
+abbrev pub JudgesWith : Contents → (elf c : List ℕ) → Command → Decision → Type 0
+JudgesWith files elf c command decision =
+    (text : List ℕ) × IsText files (asked_of command).given text × Judges elf c (task_of command text) decision × IsSound elf c (task_of command text) decision.verdict
 
--- the source is read, if the executable, of which these bytes were read, is within its maximum
-pub record ReadsSource (name elf : List ℕ) (before now : DeskState) : Type 0 where
-  pub taken : TakesAtMost before.files name (MAX_C_BYTES + 1) before.left now.left
-  pub opened : (now.opened ≡ before.opened) ⊎ ((now.opened ≡ with_name before.opened name) × (length elf ≤ MAX_ELF_BYTES))
+-- of the bytes that were read of a source, where the executable is within its maximum
+abbrev pub JudgesRead : Contents → (elf c : List ℕ) → Command → Decision → Type 0
+JudgesRead files elf c command decision =
+    ((MAX_C_BYTES < length c) × (decision ≡ plain (TooLarge C))) ⊎ ((length c ≤ MAX_C_BYTES) × JudgesWith files elf c command decision)
 
--- the executable is read, and then the source
-pub record ReadsTwo (job : Asked) (before now : DeskState) : Type 0 where
-  pub taken : TakesOfTwo before.files job.elf job.source before.left now.left
-  pub opened : OpensOfTwo before.files job.elf job.source before.opened now.opened
+-- of the files of a desk
+abbrev pub JudgesFiles : Contents → Command → Decision → Type 0
+JudgesFiles files command decision = IsVerdictOn files command decision × IsOfCommand command decision
+
+-- ---- the certificate
+
+-- both files are accepted, and the functions of the command have pairs
+abbrev pub IsLeftToRead : (elf c : List ℕ) → Command → Type 0
+IsLeftToRead elf c command = (image : Image) × (unit : Typed) × (names : List (List ℕ)) × ((text : List ℕ) → Pairs elf c (task_of command text) image unit names)
+
+-- a certificate isn't begun, or it is, where nothing else is left to read; and so much of it is read
+pub record ReadsCertificate (elf c : List ℕ) (command : Command) (before now : DeskState) : Type 0 where
+  pub taken : (now.left ≡ before.left)
+      ⊎ ((name : List ℕ) × ((asked_of command).given ≡ Some name) × TakesAtMost before.files name (MAX_CERTIFICATE_BYTES + 1) before.left now.left)
+  pub opened : (now.opened ≡ before.opened)
+      ⊎ ((name : List ℕ) × ((asked_of command).given ≡ Some name) × (now.opened ≡ with_name before.opened name) × IsLeftToRead elf c command)
+
+-- of an executable and a source, of which so many bytes were read: the certificate is read only where the source is within
+-- its maximum
+abbrev pub ReadsAfter : (elf c : List ℕ) → Command → (before now : DeskState) → Type 0
+ReadsAfter elf c command before now =
+    ((now.left ≡ before.left) × (now.opened ≡ before.opened)) ⊎ ((length c ≤ MAX_C_BYTES) × ReadsCertificate elf c command before now)
+
+-- what a command decides of an executable of this image and a source; its certificate is read, if it is needed
+pub record JudgesBy (image : Image) (c : List ℕ) (command : Command) (before now : DeskState) (result : Result CodeDecision OutsideFault) : Type 0 where
+  pub judged : IfOk result (λ decision. (elf : List ℕ) → IsElf elf image → JudgesWith before.files elf c command (decision_of decision))
+  pub reads : (elf : List ℕ) → IsElf elf image → ReadsCertificate elf c command before now
+  pub kept : KeepsDesk before now result
+
+-- ---- all files
+
+-- the source is read, if the executable, of which these bytes were read, is within its maximum, and then the certificate
+pub record ReadsSource (command : Command) (elf : List ℕ) (before now : DeskState) : Type 0 where
+  pub taken : TakesAtMost before.files (asked_of command).source (MAX_C_BYTES + 1) before.left now.left
+      ⊎ ((name : List ℕ) × ((asked_of command).given ≡ Some name) × TakesAtMost before.files name (MAX_CERTIFICATE_BYTES + 1) before.left now.left)
+  pub opened : (now.opened ≡ before.opened)
+      ⊎ ((length elf ≤ MAX_ELF_BYTES)
+      × ((now.opened ≡ with_name before.opened (asked_of command).source)
+      ⊎ ((name : List ℕ) × ((asked_of command).given ≡ Some name)
+      × (now.opened ≡ with_name (with_name before.opened (asked_of command).source) name) × NeedsCertificate before.files command)))
+
+-- the executable is read, then the source, and then the certificate
+pub record ReadsFiles (command : Command) (before now : DeskState) : Type 0 where
+  pub taken : TakesOfFiles before.files (asked_of command) before.left now.left
+  pub opened : OpensOfFiles before.files command before.opened now.opened
 
 -- what the words ask for is read
 abbrev pub ReadsAsked : List (List ℕ) → (before now : DeskState) → Type 0

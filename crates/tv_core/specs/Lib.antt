@@ -1,6 +1,7 @@
 pub mod Tasks
 pub mod Functions
-pub mod Listed
 pub mod Objects
+pub mod Decisions
 pub mod Ends
 pub mod Files
+pub mod Listed

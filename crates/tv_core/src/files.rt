@@ -1,13 +1,13 @@
-ghost use Rattle.std.specs.Prelude.{◌≡◌, ◌<◌, ◌^◌, IfOk, OnErr, IsErrOf};
-ghost use Rattle.tv_base.specs.declared.faults.OutsideFault.TheVariants.{NoMemory};
+ghost use Rattle.std.specs.Prelude.{◌≡◌, ◌<◌, ◌^◌, IfOk};
 ghost use Rattle.tv_base.specs.declared.limits.TheConstants.{MAX_ELF_BYTES as ELF_BYTES};
-ghost use Rattle.report_text.specs.Verdicts.{verdict_of};
 ghost use Rattle.tv_words.specs.Jobs.{job_of};
 ghost use Rattle.tv_core.specs.Tasks.{asked_of};
+ghost use Rattle.tv_core.specs.Decisions.{decision_of};
 ghost use Rattle.tv_core.specs.Objects.{desk_state};
 ghost use Rattle.tv_core.specs.Files.{KeepsDesk, AreOf, ReadsFile, JudgesRead, JudgesFiles};
-ghost use Rattle.tv_core.specs.Files.{ReadsSource, ReadsTwo};
+ghost use Rattle.tv_core.specs.Files.{ReadsAfter, ReadsFiles, ReadsSource};
 
+use crate::decision::{Decision, plain};
 use crate::judge::judge;
 use report_spec::Quantity;
 use report_text::Verdict;
@@ -22,6 +22,7 @@ fn elf_name<'a>(job: &Job<'a>) -> &'a str
 {
     match job {
         Job::Prove(job) => job.elf,
+        Job::Check(job) => job.elf,
         Job::Show(job) => job.elf,
     }
 }
@@ -32,12 +33,13 @@ fn source_name<'a>(job: &Job<'a>) -> &'a str
 {
     match job {
         Job::Prove(job) => job.source,
+        Job::Check(job) => job.source,
         Job::Show(job) => job.source,
     }
 }
 
 /// The bytes of a file, or the first ones of it: one more than this number where it has more.
-fn read_file<D: Desk>(
+pub(crate) fn read_file<D: Desk>(
     alloc: Global,
     desk: &mut D,
     name: &str,
@@ -60,20 +62,27 @@ fn read_file<D: Desk>(
 }
 
 /// The verdict on what was read of two files, of which the executable is within its maximum.
-fn judge_read(
+fn judge_read<D: Desk>(
     alloc: Global,
     job: &Job<'_>,
     elf: &[u8],
     source: &[u8],
-) -> Result<Verdict, OutsideFault>
-    ensures judged { IfOk result (λ verdict. JudgesRead elf.now source.now
-        (asked_of (job_of job.now)).task (verdict_of verdict)) }
-    ensures memory { OnErr result (IsErrOf result NoMemory) }
+    desk: &mut D,
+) -> Result<Decision, OutsideFault>
+    ensures judged { IfOk result (λ decision. JudgesRead (D.bytes desk.old) elf.now source.now
+        (job_of job.now) (decision_of decision)) }
+    ensures reads { ReadsAfter elf.now source.now (job_of job.now)
+        (desk_state (D.bytes desk.old) (D.left desk.old) (D.opened desk.old) (D.faults desk.old))
+        (desk_state (D.bytes desk.new) (D.left desk.new) (D.opened desk.new) (D.faults desk.new)) }
+    ensures kept { KeepsDesk
+        (desk_state (D.bytes desk.old) (D.left desk.old) (D.opened desk.old) (D.faults desk.old))
+        (desk_state (D.bytes desk.new) (D.left desk.new) (D.opened desk.new) (D.faults desk.new))
+        result }
 {
     if source.len() > MAX_C_BYTES {
-        return Ok(Verdict::TooLarge(Quantity::C));
+        return Ok(plain(alloc, Verdict::TooLarge(Quantity::C)));
     }
-    judge(alloc, elf, source, job)
+    judge(alloc, elf, source, job, desk)
 }
 
 /// The verdict on the files of a job, of which the executable is read. It reads the source.
@@ -82,11 +91,11 @@ fn judge_with_elf<D: Desk>(
     job: &Job<'_>,
     desk: &mut D,
     elf: &[u8],
-) -> Result<Verdict, OutsideFault>
+) -> Result<Decision, OutsideFault>
     requires { AreOf (D.bytes desk.old) (asked_of (job_of job.now)).elf ELF_BYTES elf.now }
-    ensures judged { IfOk result (λ verdict. JudgesFiles (D.bytes desk.old) (asked_of (job_of job.now))
-        (verdict_of verdict)) }
-    ensures reads { ReadsSource (asked_of (job_of job.now)).source elf.now
+    ensures judged { IfOk result (λ decision. JudgesFiles (D.bytes desk.old) (job_of job.now)
+        (decision_of decision)) }
+    ensures reads { ReadsSource (job_of job.now) elf.now
         (desk_state (D.bytes desk.old) (D.left desk.old) (D.opened desk.old) (D.faults desk.old))
         (desk_state (D.bytes desk.new) (D.left desk.new) (D.opened desk.new)
         (D.faults desk.new)) }
@@ -96,10 +105,10 @@ fn judge_with_elf<D: Desk>(
         result }
 {
     if elf.len() > MAX_ELF_BYTES {
-        return Ok(Verdict::TooLarge(Quantity::Elf));
+        return Ok(plain(alloc, Verdict::TooLarge(Quantity::Elf)));
     }
     match read_file(alloc, desk, source_name(job), MAX_C_BYTES) {
-        Ok(source) => judge_read(alloc, job, elf, source.as_slice()),
+        Ok(source) => judge_read(alloc, job, elf, source.as_slice(), desk),
         Err(fault) => Err(fault),
     }
 }
@@ -109,10 +118,10 @@ pub(crate) fn judge_files<D: Desk>(
     alloc: Global,
     job: &Job<'_>,
     desk: &mut D,
-) -> Result<Verdict, OutsideFault>
-    ensures judged { IfOk result (λ verdict. JudgesFiles (D.bytes desk.old) (asked_of (job_of job.now))
-        (verdict_of verdict)) }
-    ensures reads { ReadsTwo (asked_of (job_of job.now))
+) -> Result<Decision, OutsideFault>
+    ensures judged { IfOk result (λ decision. JudgesFiles (D.bytes desk.old) (job_of job.now)
+        (decision_of decision)) }
+    ensures reads { ReadsFiles (job_of job.now)
         (desk_state (D.bytes desk.old) (D.left desk.old) (D.opened desk.old) (D.faults desk.old))
         (desk_state (D.bytes desk.new) (D.left desk.new) (D.opened desk.new)
         (D.faults desk.new)) }

@@ -1,104 +1,265 @@
-ghost use Rattle.std.specs.Prelude.{◌≡◌, ◌≤◌, ◌<◌, ℕ, List, Some, IfOk, IsTrue, OnErr};
-ghost use Rattle.std.specs.Prelude.{IsErrOf, get_or, length};
-ghost use Rattle.elf_spec.specs.Image.{size_at};
-ghost use Rattle.claim_spec.specs.Claim.{IsValid};
-ghost use Rattle.code_spec.specs.Code.{IsStack};
+ghost use Rattle.std.specs.Prelude.{◌≡◌, ◌≤◌, ◌<◌, ◌+◌, ℕ, true, List, Some, IfOk, OnErr};
+ghost use Rattle.std.specs.Prelude.{IsErrOf, length, map};
 ghost use Rattle.c_type_spec.specs.HasType.{IsTypedUnit};
+ghost use Rattle.c_graph_spec.specs.Sizes.{UnitSizes};
 ghost use Rattle.c_types.specs.Typed.{typed_of};
 ghost use Rattle.c_reach.specs.Names.{names_of, texts_of};
-ghost use Rattle.pair_outcome_spec.specs.Code.{HasSoundCode};
-ghost use Rattle.pair_setup.specs.Answers.{IsNamed, IsPairError};
-ghost use Rattle.straight_code.specs.Units.{unit_of};
-ghost use Rattle.report_text.specs.Judgements.{judgement_of};
+ghost use Rattle.pair_setup.specs.Answers.{IsNamed, IsPairError, pairs_of};
+ghost use Rattle.report_text.specs.Judgements.{judgement_of, judgements_of};
 ghost use Rattle.report_text.specs.Verdicts.{verdict_of};
+ghost use Rattle.tv_base.specs.declared.faults.OutsideFault.TheVariants.{NoMemory};
+ghost use Rattle.tv_base.specs.declared.limits.TheConstants.{
+  MAX_CERTIFICATE_BYTES as CERTIFICATE_BYTES,
+};
+ghost use Rattle.check_sides.specs.Sides.{IsRead};
+ghost use Rattle.cert_run.specs.Runs.{CanRun};
 ghost use Rattle.verdict_spec.specs.Verdicts as spec;
-ghost use Rattle.verdict_spec.specs.Verdicts.{IsJudgement};
 ghost use Rattle.tv_words.specs.Jobs.{job_of};
-ghost use Rattle.tv_core.specs.Tasks.{asked_of};
-ghost use Rattle.tv_core.specs.Listed.{AnswersList, AreJudgements, IsAnswer, IsRefusal, Shows};
-ghost use Rattle.tv_core.specs.Functions.{ArePaired, IsListed};
+ghost use Rattle.tv_core.specs.Objects.{desk_state};
+ghost use Rattle.tv_core.specs.Files.{AreOf, BeginsFile, KeepsDesk};
+ghost use Rattle.tv_core.specs.Decisions.{decision_of, trails_of};
+ghost use Rattle.tv_core.specs.Listed.{AnswersPaired, IsCertificateDecision};
+ghost use Rattle.tv_core.specs.Listed.{IsCertificateVerdict, IsOfOutcome, IsRefusal, JudgesAll};
+ghost use Rattle.tv_core.specs.Listed.{JudgesList, Shows, decided, decided_by, judged};
+ghost use Rattle.tv_core.specs.Listed.{judgement_on};
+ghost use Rattle.tv_core.specs.Functions.{IsListed};
 
+use crate::decision::{Decision, from_memory, plain, plain_from_memory};
+use crate::files::read_file;
 use attempt::attempt;
 use c_reach::name_at;
 use c_types::typed::Typed;
+use cert_run::{Outcome, Search, check, prove};
+use check_spec::Quantity as CheckQuantity;
 use code_reach::{CodeError, code};
 use elf_read::Image;
-use pair_setup::{Function, Named, PairError, pair};
+use pair_setup::{Function, Named, PairError, Pairs, pair};
+use prove_run::Trails;
 use report_spec::Quantity;
 use report_text::{Judgement, Shown, Verdict};
 use std::alloc::{AllocError, Global};
-use straight_code::{decide, first_not_straight};
-use tv_base::limits::MAX_FUNCTIONS;
+use tv_base::limits::{MAX_CERTIFICATE_BYTES, MAX_FUNCTIONS};
+use tv_base::{Desk, OutsideFault};
 use tv_bytes::Bytes;
 use tv_words::Job;
 
-/// Whether the code of the function of a name is straight-line, and is accepted.
-fn is_proved(
+/// The judgement on a function.
+fn judgement(
     alloc: Global,
-    image: &Image<'_>,
-    unit: &Typed<'_>,
     name: &[u8],
-    entry: u32,
-    size: u32,
-) -> Result<bool, AllocError>
-    requires sound { HasSoundCode image.now name.now entry }
-    requires sized { size_at image.now entry ≡ Some size }
-    ensures decided { IfOk result (λ valid. valid
-        ≡ spec.is_proved image.now (unit_of unit.now) name.now entry size) }
-    ensures stack { IfOk result (λ valid. IsTrue valid → IsStack image.now entry 0) }
-    ensures sound { IfOk result (λ valid. IsTrue valid
-        → IsValid image.now (unit_of unit.now) name.now 0) }
-{
-    if first_not_straight(image, entry, size).is_some() {
-        return Ok(false);
-    }
-    let valid = decide(alloc, image, unit, name, entry, size)?;
-    Ok(valid)
-}
-
-/// The judgement on the function of a name, which has sound code.
-fn judge_function(
-    alloc: Global,
-    image: &Image<'_>,
-    unit: &Typed<'_>,
-    name: &[u8],
+    valid: bool,
     function: &Function,
 ) -> Result<Judgement, AllocError>
-    requires sound { HasSoundCode image.now name.now function.now.entry }
-    requires sized { size_at image.now function.now.entry ≡ Some function.now.size }
-    ensures judged { IfOk result (λ judgement. IsJudgement image.now (unit_of unit.now)
-        (judgement_of judgement)) }
-    ensures named { IfOk result (λ judgement. judgement.name ≡ name.now) }
-    ensures sound { IfOk result (λ judgement. IsTrue judgement.valid
-        → IsValid image.now (unit_of unit.now) judgement.name judgement.stack) }
+    ensures { IfOk result (λ made. judgement_of made ≡ judgement_on name.now valid function.now) }
 {
-    let valid = attempt!(is_proved(alloc, image, unit, name, function.entry, function.size,));
     let name = attempt!(Bytes::copied(alloc, name));
-    Ok(Judgement {
-        name,
-        valid,
-        stack: 0,
-    })
+    if valid {
+        let stack = function.stack;
+        return Ok(Judgement { name, valid, stack });
+    }
+    let stack = 0;
+    Ok(Judgement { name, valid, stack })
 }
 
-/// The judgements on the functions of a list, which have pairs.
+/// The judgements on the functions of a list, each of which is valid where it was found so.
+fn judgements(
+    alloc: Global,
+    list: &[&[u8]],
+    functions: &[Function],
+    found: &[bool],
+) -> Result<Vec<Judgement>, AllocError>
+    requires many { length found.now ≡ length list.now }
+    requires enough { length list.now ≤ length functions.now }
+    ensures { IfOk result (λ made. judgements_of made.items
+        ≡ judged (texts_of list.now) functions.now found.now) }
+{
+    let mut made = Vec::new(alloc);
+    'names: for i in 0..list.len() {
+        let judgement = attempt!(judgement(alloc, list[i], found[i], &functions[i]));
+        made.push(judgement)?;
+    }
+    Ok(made)
+}
+
+/// What a search of the functions of a list decides, where the certificate is within its maximum.
+fn judge_searched(
+    alloc: Global,
+    list: &[&[u8]],
+    functions: &[Function],
+    valid: &[bool],
+    certificate: Vec<u8>,
+    trails: Trails,
+) -> Result<Decision, AllocError>
+    requires many { length valid.now ≡ length list.now }
+    requires enough { length list.now ≤ length functions.now }
+    ensures { IfOk result (λ decision. decision_of decision ≡ decided (judged
+        (texts_of list.now) functions.now valid.now) (Some certificate.items) (trails_of trails)) }
+{
+    match judgements(alloc, list, functions, valid) {
+        Ok(judgements) => Ok(Decision {
+            verdict: Verdict::Judged(judgements),
+            certificate: Some(certificate),
+            trails,
+        }),
+        Err(error) => Err(error),
+    }
+}
+
+/// What a search of the functions of a list decides.
+fn decide(
+    alloc: Global,
+    list: &[&[u8]],
+    functions: &[Function],
+    search: Search,
+) -> Result<Decision, AllocError>
+    requires many { length search.valid.items ≡ length list.now }
+    requires enough { length list.now ≤ length functions.now }
+    ensures { IfOk result (λ decision. decision_of decision ≡ decided_by (texts_of list.now)
+        functions.now search) }
+{
+    let Search {
+        valid,
+        certificate,
+        trails,
+    } = search;
+    match certificate {
+        Some(text) => judge_searched(alloc, list, functions, valid.as_slice(), text, trails),
+        None => Ok(Decision {
+            verdict: Verdict::TooLarge(Quantity::Certificate),
+            certificate: None,
+            trails,
+        }),
+    }
+}
+
+/// What `prove` decides of the functions of a list with pairs: a function is valid where a search
+/// finds a proof of it.
 fn judge_all(
     alloc: Global,
     image: &Image<'_>,
     unit: &Typed<'_>,
     list: &[&[u8]],
-    functions: &[Function],
-) -> Result<Verdict, AllocError>
-    requires { ArePaired image.now (unit_of unit.now) (texts_of list.now) functions.now }
-    ensures { IfOk result (λ verdict. AreJudgements image.now (unit_of unit.now)
-        (texts_of list.now) (verdict_of verdict)) }
+    pairs: &Pairs,
+) -> Result<Decision, AllocError>
+    requires { CanRun image.now (typed_of unit.now) (texts_of list.now)
+        (pairs_of (texts_of list.now) pairs.now) }
+    ensures { IfOk result (JudgesAll image.now (typed_of unit.now) (texts_of list.now)
+        (pairs_of (texts_of list.now) pairs.now)) }
 {
-    let mut judgements = Vec::new(alloc);
-    'names: for i in 0..list.len() {
-        let judgement = attempt!(judge_function(alloc, image, unit, list[i], &functions[i]));
-        judgements.push(judgement)?;
+    let search = attempt!(prove(alloc, image, unit, list, pairs));
+    decide(alloc, list, pairs.functions.as_slice(), search)
+}
+
+/// The quantity of a run.
+fn quantity_of(quantity: CheckQuantity) -> Quantity
+    ensures { result ≡ spec.quantity_of quantity }
+{
+    match quantity {
+        CheckQuantity::Visits => Quantity::Visits,
+        CheckQuantity::Terms => Quantity::Terms,
+        CheckQuantity::Variables => Quantity::Variables,
     }
-    Ok(Verdict::Judged(judgements))
+}
+
+/// The judgements that all functions of a list are valid.
+fn all_valid(
+    alloc: Global,
+    list: &[&[u8]],
+    functions: &[Function],
+) -> Result<Vec<Judgement>, AllocError>
+    requires { length list.now ≤ length functions.now }
+    ensures { IfOk result (λ made. judgements_of made.items
+        ≡ judged (texts_of list.now) functions.now (map (λ f. true) functions.now)) }
+{
+    let mut made = Vec::new(alloc);
+    'names: for i in 0..list.len() {
+        let judgement = attempt!(judgement(alloc, list[i], true, &functions[i]));
+        made.push(judgement)?;
+    }
+    Ok(made)
+}
+
+/// The verdict of an outcome of a certificate.
+fn certificate_verdict(
+    alloc: Global,
+    list: &[&[u8]],
+    functions: &[Function],
+    outcome: Outcome,
+) -> Result<Verdict, AllocError>
+    requires { length list.now ≤ length functions.now }
+    ensures { IfOk result (IsOfOutcome (texts_of list.now) functions.now outcome) }
+{
+    match outcome {
+        Outcome::Unread(offset) => Ok(Verdict::RefusedCertificate { offset }),
+        Outcome::Broken {
+            function,
+            offset,
+            rule,
+        } => Ok(Verdict::NotProof {
+            name: function,
+            offset,
+            rule,
+        }),
+        Outcome::Above(quantity) => Ok(Verdict::TooLarge(quantity_of(quantity))),
+        Outcome::Proof => {
+            let judgements = attempt!(all_valid(alloc, list, functions));
+            Ok(Verdict::Checked(judgements))
+        }
+    }
+}
+
+/// The verdict on the bytes that were read of a certificate.
+fn check_bytes(
+    alloc: Global,
+    image: &Image<'_>,
+    unit: &Typed<'_>,
+    list: &[&[u8]],
+    pairs: &Pairs,
+    certificate: &[u8],
+) -> Result<Verdict, AllocError>
+    requires { CanRun image.now (typed_of unit.now) (texts_of list.now)
+        (pairs_of (texts_of list.now) pairs.now) }
+    ensures { IfOk result (λ verdict. IsCertificateVerdict image.now (typed_of unit.now)
+        (pairs_of (texts_of list.now) pairs.now) certificate.now (verdict_of verdict)) }
+{
+    if certificate.len() > MAX_CERTIFICATE_BYTES {
+        return Ok(Verdict::TooLarge(Quantity::Certificate));
+    }
+    let outcome = attempt!(check(alloc, image, unit, list, pairs, certificate));
+    certificate_verdict(alloc, list, pairs.functions.as_slice(), outcome)
+}
+
+/// The verdict of `check`, which reads the certificate.
+fn check_all<D: Desk>(
+    alloc: Global,
+    image: &Image<'_>,
+    unit: &Typed<'_>,
+    list: &[&[u8]],
+    pairs: &Pairs,
+    name: &str,
+    desk: &mut D,
+) -> Result<Decision, OutsideFault>
+    requires { CanRun image.now (typed_of unit.now) (texts_of list.now)
+        (pairs_of (texts_of list.now) pairs.now) }
+    ensures judged { IfOk result (λ decision. (bytes : List ℕ) × AreOf (D.bytes desk.old) name.now
+        CERTIFICATE_BYTES bytes × IsCertificateDecision image.now (typed_of unit.now)
+        (pairs_of (texts_of list.now) pairs.now) bytes (decision_of decision)) }
+    ensures begins { BeginsFile name.now CERTIFICATE_BYTES
+        (desk_state (D.bytes desk.old) (D.left desk.old) (D.opened desk.old) (D.faults desk.old))
+        (desk_state (D.bytes desk.new) (D.left desk.new) (D.opened desk.new)
+        (D.faults desk.new)) }
+    ensures kept { KeepsDesk
+        (desk_state (D.bytes desk.old) (D.left desk.old) (D.opened desk.old) (D.faults desk.old))
+        (desk_state (D.bytes desk.new) (D.left desk.new) (D.opened desk.new) (D.faults desk.new))
+        result }
+{
+    match read_file(alloc, desk, name, MAX_CERTIFICATE_BYTES) {
+        Ok(bytes) => plain_from_memory(
+            alloc,
+            check_bytes(alloc, image, unit, list, pairs, bytes.as_slice()),
+        ),
+        Err(fault) => Err(fault),
+    }
 }
 
 /// What is shown of the function of a name: its code, and the numbers of its source.
@@ -109,8 +270,8 @@ fn show_function(
     name: &[u8],
     function: &Function,
 ) -> Result<Verdict, AllocError>
-    requires { IsListed image.now (unit_of unit.now) name.now function.now }
-    ensures { IfOk result (λ verdict. Shows image.now (unit_of unit.now) name.now
+    requires { IsListed image.now (typed_of unit.now) name.now function.now }
+    ensures { IfOk result (λ verdict. Shows image.now (typed_of unit.now) name.now
         (verdict_of verdict)) }
 {
     let words = match code(alloc, image, function.entry) {
@@ -133,22 +294,31 @@ fn show_function(
 }
 
 /// The verdict on the functions of a list, which have pairs.
-fn judge_paired(
+fn judge_paired<D: Desk>(
     alloc: Global,
     image: &Image<'_>,
     unit: &Typed<'_>,
     job: &Job<'_>,
     list: &[&[u8]],
-    functions: &[Function],
-) -> Result<Verdict, AllocError>
-    requires paired { ArePaired image.now (unit_of unit.now) (texts_of list.now) functions.now }
+    pairs: &Pairs,
+    desk: &mut D,
+) -> Result<Decision, OutsideFault>
+    requires run { CanRun image.now (typed_of unit.now) (texts_of list.now)
+        (pairs_of (texts_of list.now) pairs.now) }
     requires some { 0 < length list.now }
-    ensures { IfOk result (λ verdict. IsAnswer image.now (unit_of unit.now)
-        (asked_of (job_of job.now)).task (texts_of list.now) (verdict_of verdict)) }
+    ensures { AnswersPaired image.now (typed_of unit.now) (job_of job.now) (texts_of list.now)
+        (pairs_of (texts_of list.now) pairs.now)
+        (desk_state (D.bytes desk.old) (D.left desk.old) (D.opened desk.old) (D.faults desk.old))
+        (desk_state (D.bytes desk.new) (D.left desk.new) (D.opened desk.new) (D.faults desk.new))
+        result }
 {
     match job {
-        Job::Prove(_) => judge_all(alloc, image, unit, list, functions),
-        Job::Show(_) => show_function(alloc, image, unit, list[0], &functions[0]),
+        Job::Prove(_) => from_memory(judge_all(alloc, image, unit, list, pairs)),
+        Job::Check(job) => check_all(alloc, image, unit, list, pairs, job.certificate, desk),
+        Job::Show(_) => plain_from_memory(
+            alloc,
+            show_function(alloc, image, unit, list[0], &pairs.functions[0]),
+        ),
     }
 }
 
@@ -177,9 +347,9 @@ fn refused(
     list: &[&[u8]],
     error: PairError,
 ) -> Result<Verdict, AllocError>
-    requires { IsPairError image.now (unit_of unit.now) (names_of unit.now) (texts_of list.now)
+    requires { IsPairError image.now (typed_of unit.now) (names_of unit.now) (texts_of list.now)
         error }
-    ensures { IfOk result (λ verdict. IsRefusal image.now (unit_of unit.now) (texts_of list.now)
+    ensures { IfOk result (λ verdict. IsRefusal image.now (typed_of unit.now) (texts_of list.now)
         (verdict_of verdict)) }
 {
     match error {
@@ -201,21 +371,26 @@ fn refused(
 }
 
 /// The verdict on a list within its limit.
-fn judge_list(
+fn judge_list<D: Desk>(
     alloc: Global,
     image: &Image<'_>,
     unit: &Typed<'_>,
     job: &Job<'_>,
     list: &[&[u8]],
-) -> Result<Verdict, AllocError>
+    desk: &mut D,
+) -> Result<Decision, OutsideFault>
+    requires read { IsRead image.now }
     requires typed { IsTypedUnit (typed_of unit.now) }
+    requires sizes { UnitSizes (typed_of unit.now) }
     requires few { length (texts_of list.now) ≤ MAX_FUNCTIONS }
-    ensures { IfOk result (λ verdict. AnswersList image.now (unit_of unit.now)
-        (asked_of (job_of job.now)).task (texts_of list.now) (verdict_of verdict)) }
+    ensures { JudgesList image.now (typed_of unit.now) (job_of job.now) (texts_of list.now)
+        (desk_state (D.bytes desk.old) (D.left desk.old) (D.opened desk.old) (D.faults desk.old))
+        (desk_state (D.bytes desk.new) (D.left desk.new) (D.opened desk.new) (D.faults desk.new))
+        result }
 {
     match pair(alloc, image, unit, list) {
-        Ok(pairs) => judge_paired(alloc, image, unit, job, list, pairs.functions.as_slice()),
-        Err(error) => refused(alloc, image, unit, list, error),
+        Ok(pairs) => judge_paired(alloc, image, unit, job, list, &pairs, desk),
+        Err(error) => plain_from_memory(alloc, refused(alloc, image, unit, list, error)),
     }
 }
 
@@ -231,20 +406,25 @@ fn texts<'n>(alloc: Global, names: &'n [Bytes]) -> Result<Vec<&'n [u8]>, AllocEr
 }
 
 /// The verdict on an image, a unit and the names that a job lists.
-pub(crate) fn judge_names(
+pub(crate) fn judge_names<D: Desk>(
     alloc: Global,
     image: &Image<'_>,
     unit: &Typed<'_>,
     job: &Job<'_>,
     names: &[Bytes],
-) -> Result<Verdict, AllocError>
-    requires { IsTypedUnit (typed_of unit.now) }
-    ensures { IfOk result (λ verdict. AnswersList image.now (unit_of unit.now)
-        (asked_of (job_of job.now)).task names.now (verdict_of verdict)) }
+    desk: &mut D,
+) -> Result<Decision, OutsideFault>
+    requires read { IsRead image.now }
+    requires typed { IsTypedUnit (typed_of unit.now) }
+    requires sizes { UnitSizes (typed_of unit.now) }
+    ensures { JudgesList image.now (typed_of unit.now) (job_of job.now) names.now
+        (desk_state (D.bytes desk.old) (D.left desk.old) (D.opened desk.old) (D.faults desk.old))
+        (desk_state (D.bytes desk.new) (D.left desk.new) (D.opened desk.new) (D.faults desk.new))
+        result }
 {
     if names.len() > MAX_FUNCTIONS {
-        return Ok(Verdict::TooLarge(Quantity::Functions));
+        return Ok(plain(alloc, Verdict::TooLarge(Quantity::Functions)));
     }
-    let list = attempt!(texts(alloc, names));
-    judge_list(alloc, image, unit, job, list.as_slice())
+    let list = attempt!(texts(alloc, names), OutsideFault::NoMemory);
+    judge_list(alloc, image, unit, job, list.as_slice(), desk)
 }

@@ -5,7 +5,9 @@ ghost use Rattle.elf_read.specs.Refusal as file;
 ghost use Rattle.tv_base.specs.declared.faults.OutsideFault.TheVariants.{NoMemory};
 ghost use Rattle.report_text.specs.Verdicts.{verdict_of};
 ghost use Rattle.tv_words.specs.Jobs.{job_of};
-ghost use Rattle.tv_core.specs.Tasks.{asked_of};
+ghost use Rattle.tv_core.specs.Decisions.{decision_of};
+ghost use Rattle.tv_core.specs.Objects.{desk_state};
+ghost use Rattle.verdict_spec.specs.Decisions.{plain};
 ghost use Rattle.verdict_spec.specs.Listing.{Task};
 ghost use Rattle.verdict_spec.specs.Verdicts.{Judges, IsSound};
 ghost use Rattle.c_spec.specs.Lexical.{AreTokens};
@@ -16,121 +18,151 @@ ghost use Rattle.c_type_spec.specs.Units.{typed};
 ghost use Rattle.c_type_spec.specs.HasType.{IsTypedUnit};
 ghost use Rattle.c_types.specs.Typed.{IsChecked, typed_of};
 ghost use Rattle.claim_spec.specs.Source.{IsC};
-ghost use Rattle.straight_code.specs.Units.{unit_of};
+ghost use Rattle.c_graph_spec.specs.Sizes.{UnitSizes};
+ghost use Rattle.check_sides.specs.Sides.{IsRead};
 ghost use Rattle.c_parse_token.specs.Lists.{list_of};
 ghost use Rattle.c_parse.specs.Refused as syntax;
 ghost use Rattle.c_token.specs.Refused as token;
-ghost use Rattle.tv_core.specs.Files.{JudgesBy};
+ghost use Rattle.tv_core.specs.Files.{JudgesBy, JudgesWith, KeepsDesk, ReadsCertificate};
 
+use crate::decision::{Decision, plainly};
 use crate::functions::judge_names;
 use crate::listing::names;
 use attempt::attempt;
-use c_core_laws::laws::cores_of_units_are_typed;
+use c_core_laws::laws::{cores_have_small_sizes, cores_of_units_are_typed};
 use c_parse::{ParseError, parse};
 use c_syntax::unit::TranslationUnit;
 use c_token::{Token, TokenError, tokens};
 use c_types::typed::{TypeError, Typed};
 use c_types::unit::check;
+use check_sides::image_is_read;
 use elf_read::{ElfError, Image};
 use report_spec::SourceKind;
 use report_text::Verdict;
 use std::alloc::Global;
-use tv_base::OutsideFault;
+use tv_base::{Desk, OutsideFault};
 use tv_words::Job;
 
 /// The verdict on an executable and a source within their limits. It fails only out of memory.
-pub(crate) fn judge(
+pub(crate) fn judge<D: Desk>(
     alloc: Global,
     elf: &[u8],
     source: &[u8],
     job: &Job<'_>,
-) -> Result<Verdict, OutsideFault>
-    ensures exact { IfOk result (λ verdict. Judges elf.now source.now (asked_of (job_of job.now)).task
-        (verdict_of verdict)) }
-    ensures sound { IfOk result (λ verdict. IsSound elf.now source.now
-        (asked_of (job_of job.now)).task (verdict_of verdict)) }
-    ensures memory { OnErr result (IsErrOf result NoMemory) }
+    desk: &mut D,
+) -> Result<Decision, OutsideFault>
+    ensures judged { IfOk result (λ decision. JudgesWith (D.bytes desk.old) elf.now source.now
+        (job_of job.now) (decision_of decision)) }
+    ensures reads { ReadsCertificate elf.now source.now (job_of job.now)
+        (desk_state (D.bytes desk.old) (D.left desk.old) (D.opened desk.old) (D.faults desk.old))
+        (desk_state (D.bytes desk.new) (D.left desk.new) (D.opened desk.new) (D.faults desk.new)) }
+    ensures kept { KeepsDesk
+        (desk_state (D.bytes desk.old) (D.left desk.old) (D.opened desk.old) (D.faults desk.old))
+        (desk_state (D.bytes desk.new) (D.left desk.new) (D.opened desk.new) (D.faults desk.new))
+        result }
 {
     match elf_read::read(alloc, elf) {
-        Ok(image) => judge_source(alloc, &image, source, job),
-        Err(error) => refused_elf(error),
+        Ok(image) => {
+            // a law, of which nothing runs
+            image_is_read(elf, &image);
+            judge_source(alloc, &image, source, job, desk)
+        }
+        Err(error) => plainly(alloc, refused_elf(error)),
     }
 }
 
 /// The verdict on an image and a source.
-fn judge_source(
+fn judge_source<D: Desk>(
     alloc: Global,
     image: &Image<'_>,
     source: &[u8],
     job: &Job<'_>,
-) -> Result<Verdict, OutsideFault>
-    ensures { JudgesBy image.now source.now (asked_of (job_of job.now)).task result }
+    desk: &mut D,
+) -> Result<Decision, OutsideFault>
+    requires { IsRead image.now }
+    ensures { JudgesBy image.now source.now (job_of job.now)
+        (desk_state (D.bytes desk.old) (D.left desk.old) (D.opened desk.old) (D.faults desk.old))
+        (desk_state (D.bytes desk.new) (D.left desk.new) (D.opened desk.new) (D.faults desk.new))
+        result }
 {
     match tokens(alloc, source) {
-        Ok(lexed) => judge_tokens(alloc, image, source, lexed.as_slice(), job),
-        Err(error) => without_tokens(error),
+        Ok(lexed) => judge_tokens(alloc, image, source, lexed.as_slice(), job, desk),
+        Err(error) => plainly(alloc, without_tokens(error)),
     }
 }
 
 /// The verdict on an image and a source, of which these are the tokens.
-fn judge_tokens(
+fn judge_tokens<D: Desk>(
     alloc: Global,
     image: &Image<'_>,
     source: &[u8],
     lexed: &[Token<'_>],
     job: &Job<'_>,
-) -> Result<Verdict, OutsideFault>
-    requires { AreTokens source.now (list_of lexed.now) }
-    ensures { JudgesBy image.now source.now (asked_of (job_of job.now)).task result }
+    desk: &mut D,
+) -> Result<Decision, OutsideFault>
+    requires read { IsRead image.now }
+    requires lexes { AreTokens source.now (list_of lexed.now) }
+    ensures { JudgesBy image.now source.now (job_of job.now)
+        (desk_state (D.bytes desk.old) (D.left desk.old) (D.opened desk.old) (D.faults desk.old))
+        (desk_state (D.bytes desk.new) (D.left desk.new) (D.opened desk.new) (D.faults desk.new))
+        result }
 {
     match parse(alloc, lexed) {
-        Ok(tree) => judge_tree(alloc, image, source, &tree, job),
-        Err(error) => without_unit(error, lexed, source),
+        Ok(tree) => judge_tree(alloc, image, source, &tree, job, desk),
+        Err(error) => plainly(alloc, without_unit(error, lexed, source)),
     }
 }
 
 /// The verdict on an image and a source, whose tree this is.
-fn judge_tree(
+fn judge_tree<D: Desk>(
     alloc: Global,
     image: &Image<'_>,
     source: &[u8],
     tree: &TranslationUnit<'_>,
     job: &Job<'_>,
-) -> Result<Verdict, OutsideFault>
-    requires { HasTree source.now (tree_of tree.now) }
-    ensures { JudgesBy image.now source.now (asked_of (job_of job.now)).task result }
+    desk: &mut D,
+) -> Result<Decision, OutsideFault>
+    requires read { IsRead image.now }
+    requires derives { HasTree source.now (tree_of tree.now) }
+    ensures { JudgesBy image.now source.now (job_of job.now)
+        (desk_state (D.bytes desk.old) (D.left desk.old) (D.opened desk.old) (D.faults desk.old))
+        (desk_state (D.bytes desk.new) (D.left desk.new) (D.opened desk.new) (D.faults desk.new))
+        result }
 {
-    // a law, of which nothing runs
+    // laws, of which nothing runs
     cores_of_units_are_typed();
+    cores_have_small_sizes();
     match check(alloc, tree) {
-        Ok(unit) => judge_unit(alloc, image, &unit, job),
-        Err(error) => without_types(error),
+        Ok(unit) => judge_unit(alloc, image, &unit, job, desk),
+        Err(error) => plainly(alloc, without_types(error)),
     }
 }
 
 /// The verdict on an image and a source of this typed core.
-fn judge_unit(
+fn judge_unit<D: Desk>(
     alloc: Global,
     image: &Image<'_>,
     unit: &Typed<'_>,
     job: &Job<'_>,
-) -> Result<Verdict, OutsideFault>
-    requires { IsTypedUnit (typed_of unit.now) }
-    ensures { (c : List ℕ) → IsC c (unit_of unit.now)
-        → JudgesBy image.now c (asked_of (job_of job.now)).task result }
+    desk: &mut D,
+) -> Result<Decision, OutsideFault>
+    requires read { IsRead image.now }
+    requires typed { IsTypedUnit (typed_of unit.now) }
+    requires sizes { UnitSizes (typed_of unit.now) }
+    ensures { (c : List ℕ) → IsC c (typed_of unit.now) → JudgesBy image.now c (job_of job.now)
+        (desk_state (D.bytes desk.old) (D.left desk.old) (D.opened desk.old) (D.faults desk.old))
+        (desk_state (D.bytes desk.new) (D.left desk.new) (D.opened desk.new) (D.faults desk.new))
+        result }
 {
     let names = attempt!(names(alloc, job, image, unit), OutsideFault::NoMemory);
-    match judge_names(alloc, image, unit, job, names.as_slice()) {
-        Ok(verdict) => Ok(verdict),
-        Err(_) => Err(OutsideFault::NoMemory),
-    }
+    judge_names(alloc, image, unit, job, names.as_slice(), desk)
 }
 
 /// The verdict where there is an image and the source has no tokens.
 fn without_tokens(error: TokenError) -> Result<Verdict, OutsideFault>
     ensures exact { (elf c : List ℕ) (task : Task) (image : elf_image)
         → IsElf elf image → token.IsFaultOf c error
-        → IfOk result (λ verdict. Judges elf c task (verdict_of verdict)) }
+        → IfOk result (λ verdict. Judges elf c task (plain (verdict_of verdict))) }
     ensures sound { (elf c : List ℕ) (task : Task)
         → IfOk result (λ verdict. IsSound elf c task (verdict_of verdict)) }
     ensures memory { OnErr result (IsErrOf result NoMemory) }
@@ -153,7 +185,7 @@ fn without_unit(
     ensures exact { (elf : List ℕ) (task : Task) (image : elf_image)
         → IsElf elf image → AreTokens source.now (list_of tokens.now)
         → syntax.IsFaultOf (list_of tokens.now) error
-        → IfOk result (λ verdict. Judges elf source.now task (verdict_of verdict)) }
+        → IfOk result (λ verdict. Judges elf source.now task (plain (verdict_of verdict))) }
     ensures sound { (elf c : List ℕ) (task : Task)
         → IfOk result (λ verdict. IsSound elf c task (verdict_of verdict)) }
     ensures memory { OnErr result (IsErrOf result NoMemory) }
@@ -170,7 +202,7 @@ fn without_unit(
 /// The verdict where there is no image.
 fn refused_elf(error: ElfError) -> Result<Verdict, OutsideFault>
     ensures exact { (elf c : List ℕ) (task : Task) → file.IsRefusal elf error
-        → IfOk result (λ verdict. Judges elf c task (verdict_of verdict)) }
+        → IfOk result (λ verdict. Judges elf c task (plain (verdict_of verdict))) }
     ensures sound { (elf c : List ℕ) (task : Task)
         → IfOk result (λ verdict. IsSound elf c task (verdict_of verdict)) }
     ensures memory { OnErr result (IsErrOf result NoMemory) }
@@ -189,7 +221,7 @@ fn without_types(error: TypeError) -> Result<Verdict, OutsideFault>
     ensures exact { (elf c : List ℕ) (task : Task) (image : elf_image)
         (tree : translation_unit) → IsElf elf image → HasTree c tree
         → IsChecked (Err error) (typed tree)
-        → IfOk result (λ verdict. Judges elf c task (verdict_of verdict)) }
+        → IfOk result (λ verdict. Judges elf c task (plain (verdict_of verdict))) }
     ensures sound { (elf c : List ℕ) (task : Task)
         → IfOk result (λ verdict. IsSound elf c task (verdict_of verdict)) }
     ensures memory { OnErr result (IsErrOf result NoMemory) }

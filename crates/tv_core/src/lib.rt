@@ -1,9 +1,10 @@
-//! The whole of a run: words, two files, a verdict, a certificate and a report. [`run`] is the one
-//! entry. Its contract (`specs/Ends.antt`) says what a run claims and what it leaves, over any
-//! objects of input and output: at status 0 the validity theorem (`claim_spec`), at every other end
-//! the cause (`verdict_spec`).
+//! The whole of a run: words, two files, a verdict, a certificate, a report and trails. [`run`] is
+//! the one entry. Its contract (`specs/Ends.antt`) says what a run claims, what it leaves and what
+//! it hands out, over any objects of input and output: at status 0 the validity theorem
+//! (`claim_spec`), at every other end the cause (`verdict_spec`, `trail_spec`).
 #![tactic(auto)]
 
+mod decision;
 mod files;
 mod functions;
 mod judge;

@@ -1,7 +1,7 @@
 ghost use Rattle.std.specs.Prelude.{◌≡◌, ◌++◌, ◌∷◌, [], filter, map, IfOk, OnOk};
-ghost use Rattle.straight_code.specs.Units.{unit_of};
+ghost use Rattle.c_types.specs.Typed.{typed_of};
 ghost use Rattle.tv_words.specs.Jobs.{job_of};
-ghost use Rattle.tv_core.specs.Tasks.{asked_of};
+ghost use Rattle.tv_core.specs.Tasks.{task_of};
 ghost use Rattle.verdict_spec.specs.Listing as spec;
 
 use attempt::attempt;
@@ -46,7 +46,7 @@ fn listed_names(
     image: &Image<'_>,
     unit: &Typed<'_>,
 ) -> Result<Vec<Bytes>, AllocError>
-    ensures { IfOk result (λ names. names.items ≡ spec.listed image.now (unit_of unit.now)) }
+    ensures { IfOk result (λ names. names.items ≡ spec.listed image.now (typed_of unit.now)) }
 {
     let mut names = Vec::new(alloc);
     for name in unit.bodies.keys() {
@@ -72,10 +72,14 @@ pub(crate) fn names(
     unit: &Typed<'_>,
 ) -> Result<Vec<Bytes>, AllocError>
     ensures { IfOk result (λ names. names.items
-        ≡ spec.names_of (asked_of (job_of job.now)).task image.now (unit_of unit.now)) }
+        ≡ spec.names_of (task_of (job_of job.now) []) image.now (typed_of unit.now)) }
 {
     match job {
         Job::Prove(job) => match &job.functions {
+            Some(functions) => given_names(alloc, functions.as_slice()),
+            None => listed_names(alloc, image, unit),
+        },
+        Job::Check(job) => match &job.functions {
             Some(functions) => given_names(alloc, functions.as_slice()),
             None => listed_names(alloc, image, unit),
         },

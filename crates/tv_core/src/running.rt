@@ -1,21 +1,23 @@
 ghost use Rattle.std.specs.Prelude.{◌≡◌, ℕ, List, IfOk, OnErr, IsErrOf, map};
 ghost use Rattle.std.specs.Prelude.{option_map, string_bytes};
 ghost use Rattle.tv_base.specs.declared.faults.OutsideFault.TheVariants.{NoMemory};
-ghost use Rattle.report_text.specs.Verdicts.{verdict_of};
 ghost use Rattle.tv_words.specs.Jobs.{job_of};
-ghost use Rattle.tv_core.specs.Tasks.{asked_of};
 ghost use Rattle.report_spec.specs.Verdict.{status_of};
+ghost use Rattle.tv_core.specs.Decisions.{decision_of, trails_of};
 ghost use Rattle.tv_core.specs.Objects.{state_of, desk_state, outputs_of, sink_state};
 ghost use Rattle.tv_core.specs.Ends.{AskFor, IsOutcome, certificate_name, Publishes, RunsTo};
 ghost use Rattle.tv_core.specs.Ends.{Ends};
 ghost use Rattle.tv_core.specs.Files.{KeepsDesk, ReadsAsked};
 
+use crate::decision::{Decision, plain};
 use crate::files::judge_files;
 use crate::publish::publish;
+use prove_run::Trails;
 use report_text::{Verdict, status};
 use std::alloc::Global;
 use tv_base::{Desk, OutsideFault, Sink, Store};
 use tv_words::{Job, WordsError, command};
+use verdict_spec::one_verdict;
 
 /// What the words ask for, or `None` where they are no command.
 fn asked(alloc: Global, words: &[String]) -> Result<Option<Job<'_>>, OutsideFault>
@@ -35,11 +37,11 @@ fn outcome<D: Desk>(
     alloc: Global,
     job: &Option<Job<'_>>,
     desk: &mut D,
-) -> Result<Verdict, OutsideFault>
-    ensures exact { IfOk result (λ verdict. (words : List (List ℕ))
+) -> Result<Decision, OutsideFault>
+    ensures exact { IfOk result (λ decision. (words : List (List ℕ))
         → AskFor words (option_map job_of job.now)
         → IsOutcome words (D.bytes desk.old) (certificate_name (option_map job_of job.now))
-        (verdict_of verdict)) }
+        (decision_of decision)) }
     ensures reads { (words : List (List ℕ)) → AskFor words (option_map job_of job.now)
         → ReadsAsked words
         (desk_state (D.bytes desk.old) (D.left desk.old) (D.opened desk.old) (D.faults desk.old))
@@ -52,7 +54,7 @@ fn outcome<D: Desk>(
 {
     match job {
         Some(job) => judge_files(alloc, job, desk),
-        None => Ok(Verdict::RefusedWords),
+        None => Ok(plain(alloc, Verdict::RefusedWords)),
     }
 }
 
@@ -62,29 +64,38 @@ fn name_of<'a>(job: &Option<Job<'a>>) -> &'a str
 {
     match job {
         Some(Job::Prove(job)) => job.certificate,
+        Some(Job::Check(_)) => "",
         Some(Job::Show(_)) => "",
         None => "",
     }
 }
 
-/// Gives the certificate and the report of a verdict, and answers its status.
+/// Gives the certificate and the report of what is decided, and then the trails, and answers the
+/// status.
 fn give<R: Sink, K: Store>(
     alloc: Global,
     name: &str,
-    verdict: &Verdict,
+    decision: Decision,
     report: &mut R,
     certificate: &mut K,
+    trails: &mut Trails,
 ) -> Result<u8, OutsideFault>
-    ensures published { Publishes name.now (verdict_of verdict.now)
+    ensures published { Publishes name.now (decision_of decision)
         (outputs_of (sink_state (R.held report.old) (R.begun report.old) (R.faults report.old))
         (sink_state (K.held certificate.old) (K.begun certificate.old) (K.faults certificate.old)))
         (outputs_of (sink_state (R.held report.new) (R.begun report.new) (R.faults report.new))
         (sink_state (K.held certificate.new) (K.begun certificate.new) (K.faults certificate.new)))
         result }
-    ensures status { IfOk result (λ code. code ≡ status_of (verdict_of verdict.now)) }
+    ensures status { IfOk result (λ code. (code ≡ status_of (decision_of decision).verdict)
+        × (trails_of trails.new ≡ (decision_of decision).trails)) }
+    ensures kept { OnErr result (trails_of trails.new ≡ trails_of trails.old) }
 {
-    match publish(alloc, name, verdict, report, certificate) {
-        Ok(()) => Ok(status(verdict)),
+    match publish(alloc, name, &decision, report, certificate) {
+        Ok(()) => {
+            let code = status(&decision.verdict);
+            *trails = decision.trails;
+            Ok(code)
+        }
         Err(fault) => Err(fault),
     }
 }
@@ -96,6 +107,7 @@ fn run_job<D: Desk, R: Sink, K: Store>(
     desk: &mut D,
     report: &mut R,
     certificate: &mut K,
+    trails: &mut Trails,
 ) -> Result<u8, OutsideFault>
     ensures { (words : List (List ℕ)) → AskFor words (option_map job_of job.now)
         → RunsTo words
@@ -107,10 +119,10 @@ fn run_job<D: Desk, R: Sink, K: Store>(
         (D.faults desk.new))
         (sink_state (R.held report.new) (R.begun report.new) (R.faults report.new))
         (sink_state (K.held certificate.new) (K.begun certificate.new) (K.faults certificate.new)))
-        result }
+        (trails_of trails.old) (trails_of trails.new) result }
 {
     match outcome(alloc, job, desk) {
-        Ok(verdict) => give(alloc, name_of(job), &verdict, report, certificate),
+        Ok(decision) => give(alloc, name_of(job), decision, report, certificate, trails),
         Err(fault) => Err(fault),
     }
 }
@@ -122,6 +134,7 @@ fn try_run<D: Desk, R: Sink, K: Store>(
     desk: &mut D,
     report: &mut R,
     certificate: &mut K,
+    trails: &mut Trails,
 ) -> Result<u8, OutsideFault>
     ensures { RunsTo (map string_bytes words.now)
         (state_of (desk_state (D.bytes desk.old) (D.left desk.old) (D.opened desk.old)
@@ -132,18 +145,22 @@ fn try_run<D: Desk, R: Sink, K: Store>(
         (D.faults desk.new))
         (sink_state (R.held report.new) (R.begun report.new) (R.faults report.new))
         (sink_state (K.held certificate.new) (K.begun certificate.new) (K.faults certificate.new)))
-        result }
+        (trails_of trails.old) (trails_of trails.new) result }
 {
     match asked(alloc, words) {
-        Ok(job) => run_job(alloc, &job, desk, report, certificate),
+        Ok(job) => run_job(alloc, &job, desk, report, certificate, trails),
         Err(fault) => Err(fault),
     }
 }
 
 /// A run of the program on these words: it reads the two files that they name from `desk`, judges
 /// the listed functions, writes the certificate of the valid ones to `certificate` under the name
-/// that the words give, and then its report to `report`; or it reports the code of one function
-/// (`show`), and writes no certificate. The answer is the exit status:
+/// that the words give, and then its report to `report`; or it reads a third file, a certificate of
+/// the listed functions, and reports whether it is a proof (`check`); or it reports the code of one
+/// function (`show`). The last two write no certificate. At status 0 and 1 `trails` has the
+/// unproved functions in the order of the list, each with why no proof of it was found; where the
+/// certificate is longer than its maximum (status 7) it has that certificate; at every other end it
+/// is empty. The answer is the exit status:
 ///
 /// | Status | Meaning |
 /// |---|---|
@@ -153,13 +170,14 @@ fn try_run<D: Desk, R: Sink, K: Store>(
 /// | 3 | an input is refused |
 /// | 4 | a read or a write failed |
 /// | 5 | out of memory |
-/// | 7 | a file is longer, the list has more functions, or a graph more nodes, than the maximum |
+/// | 6 | the certificate is none, or no proof |
+/// | 7 | a file or a certificate is too long, the list too large, or a graph |
 ///
 /// The order of refusals is: the words; reading the executable, then its length; reading the
 /// source, then its length; the executable; the source: its tokens, its grammar, its types; the
 /// length of the list; for each function in its turn the names that it needs, then for each its
-/// code, then for each cycles and the depth of the stack; the nodes of graphs. Memory may run out
-/// at any growth.
+/// code, then for each cycles and the depth of the stack; the nodes of graphs; reading the
+/// certificate, then its length; its grammar; its lines. Memory may run out at any growth.
 ///
 /// The contract is [`Ends`](../specs/Ends.antt): its field `valid` is the validity theorem, and
 /// the others give the cause of every status and what was written.
@@ -169,6 +187,7 @@ pub fn run<D: Desk, R: Sink, K: Store>(
     desk: &mut D,
     report: &mut R,
     certificate: &mut K,
+    trails: &mut Trails,
 ) -> u8
     ensures { Ends (map string_bytes words.now)
         (state_of (desk_state (D.bytes desk.old) (D.left desk.old) (D.opened desk.old)
@@ -179,9 +198,12 @@ pub fn run<D: Desk, R: Sink, K: Store>(
         (D.faults desk.new))
         (sink_state (R.held report.new) (R.begun report.new) (R.faults report.new))
         (sink_state (K.held certificate.new) (K.begun certificate.new) (K.faults certificate.new)))
-        result }
+        (trails_of trails.new) result }
 {
-    match try_run(alloc, words, desk, report, certificate) {
+    // a law, of which nothing runs
+    one_verdict();
+    *trails = Trails::new(alloc);
+    match try_run(alloc, words, desk, report, certificate, trails) {
         Ok(code) => code,
         Err(OutsideFault::Failed) => 4,
         Err(OutsideFault::NoMemory) => 5,

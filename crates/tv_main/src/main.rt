@@ -4,6 +4,7 @@
 //! with, and exits with its answer. All that is claimed of a run is a clause of that call.
 #![tactic(auto)]
 
+use prove_run::Trails;
 use std::process::ExitCode;
 use std::rt::Env;
 use std::{env, io};
@@ -16,12 +17,20 @@ fn words(rt: &(impl Env + AllocGlobal)) -> io::Result<Vec<String>> {
     Ok(words)
 }
 
-/// A run on these words, over the real outside.
+/// A run on these words, over the real outside. Why functions are unproved is not printed.
 fn status(rt: HostRuntime, words: &[String]) -> u8 {
     let mut desk = FileDesk::new(rt);
     let mut report = OutSink::new(rt);
     let mut certificate = FileStore::new(rt);
-    run(rt.alloc(), words, &mut desk, &mut report, &mut certificate)
+    let mut trails = Trails::new(rt.alloc());
+    run(
+        rt.alloc(),
+        words,
+        &mut desk,
+        &mut report,
+        &mut certificate,
+        &mut trails,
+    )
 }
 
 /// Words that are not text are no command.

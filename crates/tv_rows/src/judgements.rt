@@ -1,6 +1,6 @@
-//! The text, the certificate and the status of judgements.
+//! The text and the status of judgements.
 
-use report_text::{Judgement, Verdict, certificate, report, status};
+use report_text::{Judgement, Verdict, report, status};
 use row_io::{Out, decimal, split};
 use std::alloc::{AllocError, Global};
 use tv_bytes::Bytes;
@@ -30,7 +30,6 @@ fn put_report(alloc: Global, verdict: &Verdict, out: &mut Out) -> Result<(), All
     out.show(&status(verdict));
     out.put(" ");
     out.bytes(report(alloc, verdict)?.as_slice());
-    out.put(" ");
     Ok(())
 }
 
@@ -38,8 +37,5 @@ fn put_report(alloc: Global, verdict: &Verdict, out: &mut Out) -> Result<(), All
 pub(crate) fn put_judged(alloc: Global, row: &str, out: &mut Out) -> Result<(), AllocError> {
     let mut judgements = Vec::new(alloc);
     read_judgements(alloc, row, &mut judgements)?;
-    let text = certificate(alloc, judgements.as_slice())?;
-    put_report(alloc, &Verdict::Judged(judgements), out)?;
-    out.bytes(text.as_slice());
-    Ok(())
+    put_report(alloc, &Verdict::Judged(judgements), out)
 }

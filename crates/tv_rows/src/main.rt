@@ -5,13 +5,18 @@
 //! - `elf HEX`, `zeros SIZE`, `c TEXT`, `pad SIZE`: the pair of the rows after it, the files `e`
 //!   and `c`: the bytes of the executable, or as many zeros; the source, where `\n` is a line feed,
 //!   or that source with blanks up to a size
+//! - `cert TEXT`, `long SIZE`: the file `k` of the rows after it: the certificate, where `|` is a
+//!   line feed, or that certificate with blanks up to a size
 //! - `run WORDS`: the status, how many calls failed on each object, the report and the certificate,
 //!   a `|` for each line feed
+//! - `proved WORDS`: the status, the faults and the report; and then, in place of the certificate,
+//!   whose steps only the search knows, the status of `check` of it
+//! - `trails WORDS`: the status, and each unproved function with why
 //! - `fail OBJECT CALL MOST WORDS`: the same where this call fails on one object, and a call takes
 //!   at most so many bytes
 //! - `steady WORDS`: the same, without the count, over objects that never fail
-//! - `words WORDS`: the job of the words; `report NAME=STACK..`: the status, report and certificate
-//!   of judgements, of which those without a stack are unproved; `files`: what is written to a file
+//! - `words WORDS`: the job of the words; `report NAME=STACK..`: the status and the report of
+//!   judgements, of which those without a stack are unproved; `files`: what is written to a file
 //!   and read from it
 //!
 //! A line that begins with `#` says where the outcomes of the rows after it come from.
@@ -20,6 +25,7 @@
 mod files;
 mod judgements;
 mod runs;
+mod trails;
 mod words;
 
 use crate::runs::Pair;
@@ -34,6 +40,8 @@ fn read_pair(alloc: Global, asked: &str, rest: &str, pair: &mut Pair) -> Result<
         "zeros" => runs::read_zeros(rest, pair)?,
         "c" => runs::read_source(rest, pair)?,
         "pad" => runs::pad_source(rest, pair)?,
+        "cert" => runs::read_certificate(rest, pair)?,
+        "long" => runs::pad_certificate(rest, pair)?,
         _ => return Ok(false),
     }
     Ok(true)
@@ -47,6 +55,8 @@ fn put_outcome(alloc: Global, row: &str, pair: &mut Pair, out: &mut Out) -> Resu
     }
     match asked {
         "run" => runs::put_whole(alloc, rest, pair, out),
+        "proved" => runs::put_proved(alloc, rest, pair, out),
+        "trails" => runs::put_trails(alloc, rest, pair, out),
         "fail" => runs::put_failing(alloc, rest, pair, out),
         "steady" => runs::put_steady(alloc, rest, pair, out),
         "words" => words::put_command(alloc, rest, out),
@@ -82,6 +92,7 @@ fn main(rt: HostRuntime) -> io::Result<()> {
     let mut pair = Pair {
         elf: Vec::new(rt.alloc()),
         source: Vec::new(rt.alloc()),
+        certificate: Vec::new(rt.alloc()),
     };
     print_rows(rt, rows.as_str(), &mut pair)
 }

@@ -2,8 +2,10 @@
 
 ghost use Rattle.std.specs.Prelude.{◌≢◌};
 
+use crate::trails;
 use crate::words::read_words;
 use attempt::attempt;
+use prove_run::Trails;
 use row_io::{Out, decimal, split};
 use std::alloc::{AllocError, Global};
 use tv_core::run;
@@ -12,16 +14,17 @@ use tv_outside::{GivenFile, MemDesk, MemSink, MemStore, SteadyDesk, SteadySink, 
 /// More bytes than any call is asked for.
 const ALL: usize = 100_000_000;
 
-/// An executable and its source.
+/// An executable, its source, and a certificate.
 #[derive(Drop)]
 pub(crate) struct Pair {
     pub(crate) elf: Vec<u8>,
     pub(crate) source: Vec<u8>,
+    pub(crate) certificate: Vec<u8>,
 }
 
 impl Pair {
-    /// The two files of the commands.
-    fn files(&self) -> [GivenFile<'_>; 2] {
+    /// The three files of the commands.
+    fn files(&self) -> [GivenFile<'_>; 3] {
         let elf = GivenFile {
             name: "e",
             bytes: self.elf.as_slice(),
@@ -30,7 +33,11 @@ impl Pair {
             name: "c",
             bytes: self.source.as_slice(),
         };
-        [elf, source]
+        let certificate = GivenFile {
+            name: "k",
+            bytes: self.certificate.as_slice(),
+        };
+        [elf, source, certificate]
     }
 }
 
@@ -56,6 +63,19 @@ pub(crate) fn read_source(text: &str, pair: &mut Pair) -> Result<(), AllocError>
         attempt!(pair.source.extend_from_slice(part.as_bytes()));
     }
     Ok(())
+}
+
+pub(crate) fn read_certificate(text: &str, pair: &mut Pair) -> Result<(), AllocError> {
+    pair.certificate.clear();
+    for byte in text.bytes() {
+        pair.certificate
+            .push(if byte == b'|' { b'\n' } else { byte })?;
+    }
+    Ok(())
+}
+
+pub(crate) fn pad_certificate(text: &str, pair: &mut Pair) -> Result<(), AllocError> {
+    pair.certificate.resize(decimal(text) as usize, b' ')
 }
 
 pub(crate) fn pad_source(text: &str, pair: &mut Pair) -> Result<(), AllocError> {
@@ -95,7 +115,15 @@ fn put_outcome(
     let mut desk = MemDesk::new(alloc, files, mishaps.desk, mishaps.most);
     let mut report = MemSink::new(alloc, mishaps.report, mishaps.most);
     let mut store = MemStore::new(alloc, mishaps.store, mishaps.most);
-    out.show(&run(alloc, words, &mut desk, &mut report, &mut store));
+    let mut trails = Trails::new(alloc);
+    out.show(&run(
+        alloc,
+        words,
+        &mut desk,
+        &mut report,
+        &mut store,
+        &mut trails,
+    ));
     out.put(" ");
     out.show(&(desk.faults(), report.faults(), store.faults()));
     out.put(" ");
@@ -120,6 +148,79 @@ pub(crate) fn put_whole(
         most: ALL,
     };
     put_run(alloc, row, pair, none, out)
+}
+
+/// The status, faults and report of a run on these words; what it stored is kept.
+fn put_reported(
+    alloc: Global,
+    words: &[String],
+    files: &[GivenFile<'_>],
+    stored: &mut Vec<u8>,
+    out: &mut Out,
+) -> Result<(), AllocError> {
+    let mut desk = MemDesk::new(alloc, files, &[], ALL);
+    let mut report = MemSink::new(alloc, &[], ALL);
+    let mut store = MemStore::new(alloc, &[], ALL);
+    let mut trails = Trails::new(alloc);
+    out.show(&run(
+        alloc,
+        words,
+        &mut desk,
+        &mut report,
+        &mut store,
+        &mut trails,
+    ));
+    out.put(" ");
+    out.show(&(desk.faults(), report.faults(), store.faults()));
+    out.put(" ");
+    out.bytes(report.text());
+    stored.extend_from_slice(store.text())
+}
+
+/// The status of a run on these words, and why functions are unproved.
+fn put_unproved(alloc: Global, words: &[String], files: &[GivenFile<'_>], out: &mut Out) {
+    let mut desk = MemDesk::new(alloc, files, &[], ALL);
+    let mut report = MemSink::new(alloc, &[], ALL);
+    let mut store = MemStore::new(alloc, &[], ALL);
+    let mut trails = Trails::new(alloc);
+    out.show(&run(
+        alloc,
+        words,
+        &mut desk,
+        &mut report,
+        &mut store,
+        &mut trails,
+    ));
+    trails::put_trails(&trails, out);
+}
+
+/// The outcome of a row `trails`.
+pub(crate) fn put_trails(
+    alloc: Global,
+    row: &str,
+    pair: &Pair,
+    out: &mut Out,
+) -> Result<(), AllocError> {
+    let mut words = Vec::new(alloc);
+    attempt!(read_words(alloc, row, &mut words));
+    put_unproved(alloc, words.as_slice(), &pair.files(), out);
+    Ok(())
+}
+
+/// The outcome of a row `proved`: of a run, and then the status of `check` of what it stored.
+pub(crate) fn put_proved(
+    alloc: Global,
+    row: &str,
+    pair: &mut Pair,
+    out: &mut Out,
+) -> Result<(), AllocError> {
+    let mut words = Vec::new(alloc);
+    let mut stored = Vec::new(alloc);
+    attempt!(read_words(alloc, row, &mut words));
+    attempt!(put_reported(alloc, words.as_slice(), &pair.files(), &mut stored, out));
+    pair.certificate = stored;
+    out.put(" ");
+    put_trails(alloc, "tv/check/e/c/k", pair, out)
 }
 
 /// The outcome of a row `fail`.
@@ -149,10 +250,11 @@ fn run_steadily(
     desk: &mut SteadyDesk<'_>,
     report: &mut SteadySink,
     store: &mut SteadyStore,
+    trails: &mut Trails,
 ) -> u8
     ensures { result ≢ 4 }
 {
-    run(alloc, words, desk, report, store)
+    run(alloc, words, desk, report, store, trails)
 }
 
 /// The outcome of a row `steady`.
@@ -168,7 +270,16 @@ pub(crate) fn put_steady(
     let mut desk = SteadyDesk::new(&files);
     let mut report = SteadySink::new(alloc);
     let mut store = SteadyStore::new(alloc);
-    out.show(&run_steadily(alloc, words.as_slice(), &mut desk, &mut report, &mut store));
+    let mut trails = Trails::new(alloc);
+    let words = words.as_slice();
+    out.show(&run_steadily(
+        alloc,
+        words,
+        &mut desk,
+        &mut report,
+        &mut store,
+        &mut trails,
+    ));
     out.put(" ");
     out.bytes(report.text());
     out.put(" ");

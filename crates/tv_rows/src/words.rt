@@ -2,7 +2,7 @@
 
 use row_io::{Out, decimal};
 use std::alloc::{AllocError, Global};
-use tv_words::{Job, Proving, Showing, WordsError, command};
+use tv_words::{Checking, Job, Proving, Showing, WordsError, command};
 
 /// So many names, parted by commas.
 fn put_names(count: u64, names: &mut String) -> Result<(), AllocError> {
@@ -53,6 +53,23 @@ fn put_job(job: &Proving<'_>, out: &mut Out) {
     }
 }
 
+/// A job of `check`: the word, three files between `|`, and each name of a list after a blank.
+fn put_checked(job: &Checking<'_>, out: &mut Out) {
+    out.put("check ");
+    out.put(job.elf);
+    out.put("|");
+    out.put(job.source);
+    out.put("|");
+    out.put(job.certificate);
+    if let Some(names) = &job.functions {
+        out.put("|");
+        for name in names {
+            out.put(" ");
+            out.put(name);
+        }
+    }
+}
+
 /// A job of `show`: the word, two files between `|`, and the function.
 fn put_shown(job: &Showing<'_>, out: &mut Out) {
     out.put("show ");
@@ -69,6 +86,7 @@ pub(crate) fn put_command(alloc: Global, row: &str, out: &mut Out) -> Result<(),
     read_words(alloc, row, &mut words)?;
     match command(alloc, words.as_slice()) {
         Ok(Job::Prove(job)) => put_job(&job, out),
+        Ok(Job::Check(job)) => put_checked(&job, out),
         Ok(Job::Show(job)) => put_shown(&job, out),
         Err(WordsError::Words) => out.put("no command"),
         Err(WordsError::NoMemory) => out.fail(),

@@ -10,7 +10,7 @@ use Rattle.clap.specs.declared.error.kind.ErrorKind.TheVariants.{OutOfMemory}
 use Rattle.tv_words.specs.declared.WordsError.{WordsError}
 use Rattle.tv_words.specs.declared.WordsError.TheVariants.{Words, NoMemory}
 use Rattle.tv_words.specs.Commands as spec
-use Rattle.tv_words.specs.Commands.{AreListed, AsksFor, IsCommand, IsProving, IsShowing, program, is_prove, is_show}
+use Rattle.tv_words.specs.Commands.{AreListed, AsksFor, IsCommand, IsProving, IsChecking, IsShowing, program, is_prove, is_check, is_show}
 use Rattle.tv_words.proofs.Lists.{parts_of_list}
 
 pub program_is_plain : is_simple_and_free program ≡ true
@@ -48,6 +48,14 @@ same_proving given a b x y =
     let functions = same_lists _ a.functions b.functions x.functions_are y.functions_are in
     λ i. record { elf = elf i; source = source i; certificate = certificate i; functions = functions i }
 
+same_checking : (given : List Row) (a b : spec.Checking) → IsChecking given a → IsChecking given b → a ≡ b
+same_checking given a b x y =
+    let elf = un_some a.elf b.elf (sym x.elf_is ∙ y.elf_is) in
+    let source = un_some a.source b.source (sym x.source_is ∙ y.source_is) in
+    let certificate = un_some a.certificate b.certificate (sym x.certificate_is ∙ y.certificate_is) in
+    let functions = same_lists _ a.functions b.functions x.functions_are y.functions_are in
+    λ i. record { elf = elf i; source = source i; certificate = certificate i; functions = functions i }
+
 same_showing : (given : List Row) (a b : spec.Showing) → IsShowing given a → IsShowing given b → a ≡ b
 same_showing given a b x y =
     let elf = un_some a.elf b.elf (sym x.elf_is ∙ y.elf_is) in
@@ -59,6 +67,16 @@ same_showing given a b x y =
 apart : codes "prove" ≢ codes "show"
 apart e = let first : 112 ≡ 115 = ap (λ l. get_or l 0 0) e in omega (arith, first)
 
+prove_or_check : codes "prove" ≢ codes "check"
+prove_or_check e = let first : 112 ≡ 99 = ap (λ l. get_or l 0 0) e in omega (arith, first)
+
+check_or_show : codes "check" ≢ codes "show"
+check_or_show e = let first : 99 ≡ 115 = ap (λ l. get_or l 0 0) e in omega (arith, first)
+
+-- of two subcommands that were found the words are one
+same_verb : (words : List Text) (one two : Text) (given given2 : List Row) → spec.Gives words one given → spec.Gives words two given2 → one ≡ two
+same_verb words one two given given2 x y = ap (λ p. p.0) (un_some (one, given) (two, given2) (sym x.found ∙ y.found))
+
 pub same_command : (words : List Text) (a b : spec.Command) → IsCommand words a → IsCommand words b → a ≡ b
 same_command words a b (is_prove given job gives proving) (is_prove given2 job2 gives2 proving2) =
     let found = un_some (codes "prove", given) (codes "prove", given2) (sym gives.found ∙ gives2.found) in
@@ -68,10 +86,22 @@ same_command words a b (is_show given job gives showing) (is_show given2 job2 gi
     let found = un_some (codes "show", given) (codes "show", given2) (sym gives.found ∙ gives2.found) in
     let rows : given ≡ given2 = ap (λ p. p.1) found in
     ap (λ (j : spec.Showing). spec.Show j) (same_showing given job job2 showing (subst (λ (r : List Row). IsShowing r job2) (sym rows) showing2))
+same_command words a b (is_check given job gives checking) (is_check given2 job2 gives2 checking2) =
+    let found = un_some (codes "check", given) (codes "check", given2) (sym gives.found ∙ gives2.found) in
+    let rows : given ≡ given2 = ap (λ p. p.1) found in
+    ap (λ (j : spec.Checking). spec.Check j) (same_checking given job job2 checking (subst (λ (r : List Row). IsChecking r job2) (sym rows) checking2))
 same_command words a b (is_prove given job gives proving) (is_show given2 job2 gives2 showing2) =
-    absurd (apart (ap (λ p. p.0) (un_some (codes "prove", given) (codes "show", given2) (sym gives.found ∙ gives2.found))))
+    absurd (apart (same_verb words (codes "prove") (codes "show") given given2 gives gives2))
 same_command words a b (is_show given job gives showing) (is_prove given2 job2 gives2 proving2) =
-    absurd (apart (ap (λ p. p.0) (un_some (codes "prove", given2) (codes "show", given) (sym gives2.found ∙ gives.found))))
+    absurd (apart (same_verb words (codes "prove") (codes "show") given2 given gives2 gives))
+same_command words a b (is_prove given job gives proving) (is_check given2 job2 gives2 checking2) =
+    absurd (prove_or_check (same_verb words (codes "prove") (codes "check") given given2 gives gives2))
+same_command words a b (is_check given job gives checking) (is_prove given2 job2 gives2 proving2) =
+    absurd (prove_or_check (same_verb words (codes "prove") (codes "check") given2 given gives2 gives))
+same_command words a b (is_check given job gives checking) (is_show given2 job2 gives2 showing2) =
+    absurd (check_or_show (same_verb words (codes "check") (codes "show") given given2 gives gives2))
+same_command words a b (is_show given job gives showing) (is_check given2 job2 gives2 checking2) =
+    absurd (check_or_show (same_verb words (codes "check") (codes "show") given2 given gives2 gives))
 
 -- ---- the subcommand that was met, by its name and by its rows
 
@@ -87,22 +117,25 @@ module _ {X : Type 0} (f : X → Text) (g : X → Text × List Row) (tied : (x :
   name_of_row None name rows r = cc
   name_of_row (Some x) name rows r = ap (λ (n : Text). Some n) (sym (tied x) ∙ ap (λ p. p.0) (un_some _ _ r))
 
--- where it isn't `prove`, the rows of the subcommand that is asked for are those of `show`
-pub asked_rows : (found : Option (Text × List Row)) (command : spec.Command) → ((given : List Row) → found ≢ Some (codes "prove", given)) → AsksFor found command
-    → (given : List Row) × (found ≡ Some (codes "show", given))
-asked_rows found (spec.Prove job) never asks = absurd (never asks.0 asks.1)
-asked_rows found (spec.Show job) never asks = (asks.0, asks.1)
+-- where it is neither `prove` nor `check`, the rows of the subcommand that is asked for are those of `show`
+pub asked_rows : (found : Option (Text × List Row)) (command : spec.Command) → ((given : List Row) → found ≢ Some (codes "prove", given))
+    → ((given : List Row) → found ≢ Some (codes "check", given)) → AsksFor found command → (given : List Row) × (found ≡ Some (codes "show", given))
+asked_rows found (spec.Prove job) never nor asks = absurd (never asks.0 asks.1)
+asked_rows found (spec.Check job) never nor asks = absurd (nor asks.0 asks.1)
+asked_rows found (spec.Show job) never nor asks = (asks.0, asks.1)
 
 -- words that `clap` accepts are the command that their subcommand asks for
 pub commanded : (words : List Text) (found : Option (Text × List Row)) (command : spec.Command) → fault_of program words ≡ []
     → found ≡ subcommand_of program words → AsksFor found command → IsCommand words command
 commanded words found (spec.Prove job) taken same asks = is_prove asks.0 job (record { taken = taken; found = sym same ∙ asks.1 }) asks.2
+commanded words found (spec.Check job) taken same asks = is_check asks.0 job (record { taken = taken; found = sym same ∙ asks.1 }) asks.2
 commanded words found (spec.Show job) taken same asks = is_show asks.0 job (record { taken = taken; found = sym same ∙ asks.1 }) asks.2
 
 -- and what their subcommand asks for is the command that they are
 pub asked_by : (words : List Text) (found : Option (Text × List Row)) (command : spec.Command)
     → found ≡ subcommand_of program words → IsCommand words command → AsksFor found command
 asked_by words found command same (is_prove given job gives proving) = (given, same ∙ gives.found, proving)
+asked_by words found command same (is_check given job gives checking) = (given, same ∙ gives.found, checking)
 asked_by words found command same (is_show given job gives showing) = (given, same ∙ gives.found, showing)
 
 module _ {J E : Type 0} (view : J → spec.Command) (words : List Text) (found : Option (Text × List Row))

@@ -1,5 +1,5 @@
--- Which words are a command, and what it is to do: `prove ELF C --cert OUT [--functions NAME,..]`, or
--- `show ELF C --function NAME`.
+-- Which words are a command, and what it is to do: `prove ELF C --cert OUT [--functions NAME,..]`,
+-- `check ELF C CERT [--functions NAME,..]`, or `show ELF C --function NAME`.
 use Rattle.std.specs.Prelude.{◌≡◌, Bool, true, false, List, [], codes, Option, Some, None, ⊤}
 use Rattle.clap.specs.Walk.{Row, Rule, Text, first_of}
 use Rattle.clap.specs.Simple.{App, Shape, app_of, new_app, new_rule, on_top, subcommand_of, with_rule, with_subcommand}
@@ -26,12 +26,16 @@ with_files name = with_rule (with_rule (new_app name) (file (codes "elf"))) (fil
 abbrev pub prove : App
 prove = with_rule (with_rule (with_files (codes "prove")) (option (codes "cert") true)) (option (codes "functions") false)
 
+abbrev pub check : App
+check = with_rule (with_rule (with_files (codes "check")) (file (codes "certificate"))) (option (codes "functions") false)
+
 abbrev pub show : App
 show = with_rule (with_files (codes "show")) (option (codes "function") true)
 
 -- the program's name, and its subcommands, of which one is required
 unfoldable pub program : App
-program = with_subcommand (with_subcommand (on_top (λ (s : Shape). record s { subcommand_required = true }) (new_app (codes "tv"))) prove.top) show.top
+program =
+    with_subcommand (with_subcommand (with_subcommand (on_top (λ (s : Shape). record s { subcommand_required = true }) (new_app (codes "tv"))) prove.top) check.top) show.top
 
 -- a command that `clap` sees as this one, with no global argument
 abbrev pub IsCommandOf : ClapCommand → App → Type 0
@@ -46,6 +50,13 @@ pub record Proving : Type 0 where
   pub certificate : Text
   pub functions : Option (List Text)
 
+-- the files and the functions of `check`: three files to read, and the list if there is one
+pub record Checking : Type 0 where
+  pub elf : Text
+  pub source : Text
+  pub certificate : Text
+  pub functions : Option (List Text)
+
 -- the files and the function of `show`
 pub record Showing : Type 0 where
   pub elf : Text
@@ -54,6 +65,7 @@ pub record Showing : Type 0 where
 
 pub data Command : Type 0 where
   Prove : (job : Proving) → Command
+  Check : (job : Checking) → Command
   Show : (job : Showing) → Command
 
 -- a list that is given is one of names
@@ -70,6 +82,13 @@ pub record IsProving (given : List Row) (job : Proving) : Type 0 where
   pub certificate_is : first_of (codes "cert") given ≡ Some job.certificate
   pub functions_are : AreListed (first_of (codes "functions") given) job.functions
 
+-- the values that were given to the arguments of `check`
+pub record IsChecking (given : List Row) (job : Checking) : Type 0 where
+  pub elf_is : first_of (codes "elf") given ≡ Some job.elf
+  pub source_is : first_of (codes "source") given ≡ Some job.source
+  pub certificate_is : first_of (codes "certificate") given ≡ Some job.certificate
+  pub functions_are : AreListed (first_of (codes "functions") given) job.functions
+
 -- the values that were given to the arguments of `show`; the function has a name
 pub record IsShowing (given : List Row) (job : Showing) : Type 0 where
   pub elf_is : first_of (codes "elf") given ≡ Some job.elf
@@ -80,6 +99,7 @@ pub record IsShowing (given : List Row) (job : Showing) : Type 0 where
 -- a subcommand and the values that were given to it ask for this
 abbrev pub AsksFor : Option (Text × List Row) → Command → Type 0
 AsksFor found (Prove job) = (given : List Row) × (found ≡ Some (codes "prove", given)) × IsProving given job
+AsksFor found (Check job) = (given : List Row) × (found ≡ Some (codes "check", given)) × IsChecking given job
 AsksFor found (Show job) = (given : List Row) × (found ≡ Some (codes "show", given)) × IsShowing given job
 
 -- `clap` finds no fault in the words, of which the first is the program's name, and they give these values
@@ -91,4 +111,5 @@ pub record Gives (words : List Text) (verb : Text) (given : List Row) : Type 0 w
 -- the words are this command
 pub data IsCommand (words : List Text) : Command → Type 0 where
   is_prove : (given : List Row) (job : Proving) → Gives words (codes "prove") given → IsProving given job → IsCommand words (Prove job)
+  is_check : (given : List Row) (job : Checking) → Gives words (codes "check") given → IsChecking given job → IsCommand words (Check job)
   is_show : (given : List Row) (job : Showing) → Gives words (codes "show") given → IsShowing given job → IsCommand words (Show job)

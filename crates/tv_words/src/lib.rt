@@ -14,7 +14,7 @@ ghost use Rattle.clap.specs.Simple.{subcommand_rows_of};
 ghost use Rattle.clap.specs.Values.{kind_of};
 ghost use Rattle.clap.specs.declared.error.kind.ErrorKind.TheVariants.{OutOfMemory};
 ghost use Rattle.tv_words.specs.Commands as spec;
-ghost use Rattle.tv_words.specs.Jobs.{job_of, names_of, proving_of, showing_of};
+ghost use Rattle.tv_words.specs.Jobs.{checking_of, job_of, names_of, proving_of, showing_of};
 ghost use Rattle.tv_words.specs.declared.WordsError.TheVariants.{Words, NoMemory};
 
 use attempt::attempt;
@@ -30,6 +30,8 @@ use thiserror::Error;
 pub enum Job<'a> {
     /// To look for a proof of some functions, and to write the certificate of those that have one.
     Prove(Proving<'a>),
+    /// To check a certificate of some functions.
+    Check(Checking<'a>),
     /// To print the code of a function.
     Show(Showing<'a>),
 }
@@ -42,6 +44,19 @@ pub struct Proving<'a> {
     /// The name of the C source.
     pub source: &'a str,
     /// The name of the certificate that is written.
+    pub certificate: &'a str,
+    /// The names of the functions in the order given, or `None` where the words list none.
+    pub functions: Option<Vec<&'a str>>,
+}
+
+/// The files and the functions of `check`.
+#[derive(Drop)]
+pub struct Checking<'a> {
+    /// The name of the executable.
+    pub elf: &'a str,
+    /// The name of the C source.
+    pub source: &'a str,
+    /// The name of the certificate that is read.
     pub certificate: &'a str,
     /// The names of the functions in the order given, or `None` where the words list none.
     pub functions: Option<Vec<&'a str>>,
@@ -113,13 +128,33 @@ fn found_job<'a>(alloc: Global, matches: &ArgMatches<'a>) -> Result<Job<'a>, Wor
             let job = prove_job(alloc, found)?;
             Ok(Job::Prove(job))
         }
-        None => shown_job(matches),
+        None => checked_job(alloc, matches),
     }
 }
 
 /// The job of the subcommand that was found, which isn't `prove`.
-fn shown_job<'a>(matches: &ArgMatches<'a>) -> Result<Job<'a>, WordsError>
+fn checked_job<'a>(alloc: Global, matches: &ArgMatches<'a>) -> Result<Job<'a>, WordsError>
     requires { (given : List Row) → subcommand_rows_of matches.now ≢ Some (codes "prove", given) }
+    ensures found { IfOk result (λ job. spec.AsksFor (subcommand_rows_of matches.now)
+        (job_of job)) }
+    ensures only { IfErr result (λ error. (other : spec.Command)
+        → spec.AsksFor (subcommand_rows_of matches.now) other → error ≡ NoMemory) }
+{
+    match matches.subcommand_matches("check") {
+        Some(found) => {
+            let job = check_job(alloc, found)?;
+            Ok(Job::Check(job))
+        }
+        None => shown_job(matches),
+    }
+}
+
+/// The job of the subcommand that was found, which is neither `prove` nor `check`.
+fn shown_job<'a>(matches: &ArgMatches<'a>) -> Result<Job<'a>, WordsError>
+    requires no_prove { (given : List Row)
+        → subcommand_rows_of matches.now ≢ Some (codes "prove", given) }
+    requires no_check { (given : List Row)
+        → subcommand_rows_of matches.now ≢ Some (codes "check", given) }
     ensures found { IfOk result (λ job. spec.AsksFor (subcommand_rows_of matches.now)
         (job_of job)) }
     ensures only { IfErr result (λ error. (other : spec.Command)
@@ -164,6 +199,25 @@ fn prove_job<'a>(alloc: Global, found: &ArgMatches<'a>) -> Result<Proving<'a>, W
     let certificate = needed(found, "cert")?;
     let functions = listed(alloc, given(found, "functions"))?;
     Ok(Proving {
+        elf,
+        source,
+        certificate,
+        functions,
+    })
+}
+
+/// The job of `check`, from what was found after that word.
+fn check_job<'a>(alloc: Global, found: &ArgMatches<'a>) -> Result<Checking<'a>, WordsError>
+    ensures found { IfOk result (λ job. spec.IsChecking (rows_of (found_of found.now))
+        (checking_of job)) }
+    ensures only { IfErr result (λ error. (other : spec.Checking)
+        → spec.IsChecking (rows_of (found_of found.now)) other → error ≡ NoMemory) }
+{
+    let elf = needed(found, "elf")?;
+    let source = needed(found, "source")?;
+    let certificate = needed(found, "certificate")?;
+    let functions = listed(alloc, given(found, "functions"))?;
+    Ok(Checking {
         elf,
         source,
         certificate,

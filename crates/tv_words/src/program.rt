@@ -50,6 +50,16 @@ fn prove<'a>(alloc: Global) -> Result<Command<'a>, AllocError>
     Ok(command)
 }
 
+/// The subcommand `check ELF C CERT [--functions NAME,..]`.
+fn check<'a>(alloc: Global) -> Result<Command<'a>, AllocError>
+    ensures { IfOk result (λ check. spec.IsCommandOf check spec.check) }
+{
+    let files = attempt!(with_files(alloc, "check"));
+    let certified = attempt!(files.arg(file(alloc, "certificate")));
+    let command = attempt!(certified.arg(option(alloc, "functions", false)));
+    Ok(command)
+}
+
 /// The subcommand `show ELF C --function NAME`.
 fn show<'a>(alloc: Global) -> Result<Command<'a>, AllocError>
     ensures { IfOk result (λ show. spec.IsCommandOf show spec.show) }
@@ -65,13 +75,15 @@ fn program<'a>(alloc: Global) -> Result<Command<'a>, AllocError>
     ensures { IfOk result (λ program. app_of program ≡ spec.program) }
 {
     let prove = attempt!(prove(alloc));
+    let check = attempt!(check(alloc));
     let show = attempt!(show(alloc));
     let first = attempt!(
         Command::new(alloc, "tv")
             .subcommand_required(true)
             .subcommand(prove)
     );
-    let command = attempt!(first.subcommand(show));
+    let second = attempt!(first.subcommand(check));
+    let command = attempt!(second.subcommand(show));
     Ok(command)
 }
 

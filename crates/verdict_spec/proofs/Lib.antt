@@ -6,4 +6,7 @@ mod Firsts
 mod Codes
 mod Pairings
 mod Shown
-pub mod Once
+mod Once
+pub mod Alike
+mod Steps
+mod Written

@@ -1,5 +1,6 @@
--- Two files have one verdict at most.
-use Rattle.std.proofs.Common.{◌≡◌, ◌<◌, ◌≤◌, ℕ, Bool, true, false, List, [], ◌∷◌, length, map, All, Option, refl, ap, sym, ◌∙◌, subst, arith}
+-- Two files have one verdict at most, where that of a search is the one that calls each function valid: its judgements are
+-- left aside.
+use Rattle.std.proofs.Common.{◌≡◌, ◌<◌, ◌≤◌, ℕ, Bool, true, false, List, [], ◌∷◌, length, map, Option, refl, ap, sym, ◌∙◌, subst, arith}
 use Rattle.elf_spec.specs.Image.{Image}
 use Rattle.elf_spec.specs.File.{IsElf, IsRefusedFile}
 use Rattle.elf_spec.specs.declared.ElfKind.{ElfKind}
@@ -9,41 +10,94 @@ use Rattle.claim_spec.specs.Source.{IsC}
 use Rattle.code_spec.specs.declared.CodeKind.{CodeKind}
 use Rattle.pair_spec.specs.declared.PairKind.{PairKind}
 use Rattle.pair_outcome_spec.specs.Outcome as outcome
-use Rattle.pair_outcome_spec.specs.Outcome.{IsPairFault, IsCodeFault, IsTooLarge, IsPaired, HasNoFault}
+use Rattle.pair_outcome_spec.specs.Outcome.{IsPairFault, IsCodeFault, IsTooLarge, IsPaired}
 use Rattle.pair_outcome_spec.specs.Nodes.{HasLargeGraph}
 use Rattle.report_spec.specs.declared.SourceKind.{SourceKind}
-use Rattle.report_spec.specs.declared.Quantity.TheVariants.{Functions, Nodes}
-use Rattle.report_spec.specs.Verdict.{Verdict, TooLarge, RefusedElf, RefusedC, RefusedPair, RefusedCode, Judged, Showed, Judgement, Shown, maximum_of}
+use Rattle.report_spec.specs.declared.Quantity.TheVariants.{Functions, Nodes, Certificate}
+use Rattle.report_spec.specs.Verdict.{Verdict, TooLarge, RefusedElf, RefusedC, RefusedPair, RefusedCode, Judged, Showed, Shown, maximum_of}
 use Rattle.verdict_spec.specs.Source.{Source, Accepted, Refused, CVerdict, accepted as c_accepted}
-use Rattle.verdict_spec.specs.Listing.{Task, Judge, Display, names_of}
-use Rattle.verdict_spec.specs.Verdicts.{IsJudgement, IsShown, Lists, ListsFew, Pairs, Judges, elf_refused, c_refused, too_many, pair_refused, code_refused, too_large, judged, showed, IsVerdict, elf_large, c_large, within}
-use Rattle.verdict_spec.specs.Laws.{OneVerdict}
+use Rattle.verdict_spec.specs.Decisions.{Decision}
+use Rattle.verdict_spec.specs.Listing.{Task, Judge, Verify, Display, names_of}
+use Rattle.check_spec.specs.Verdict as check
+use Rattle.cert_verdict_spec.specs.Files.{AreListed}
+use Rattle.cert_verdict_spec.specs.Verdict.{Outcome, IsOutcome, valid_judgement}
+use Rattle.cert_verdict_spec.proofs.Listing.{one_list, one_pairing}
+use Rattle.cert_verdict_spec.proofs.Apart.{told_apart}
+use Rattle.cert_verdict_spec.proofs.Once.{one_verdict as one_verdict_of}
+use Rattle.verdict_spec.specs.Verdicts.{IsShown, Lists, Pairs, verdict_of_outcome, Judges, elf_refused, c_refused, too_many, pair_refused, code_refused, too_large, judged, over, certificate_large, checked, showed}
 use Rattle.verdict_spec.proofs.Sources.{one-source}
-use Rattle.verdict_spec.proofs.Codes.{one_judged, one_first, Same}
+use Rattle.verdict_spec.proofs.Codes.{one_first, Same}
 use Rattle.verdict_spec.proofs.Pairings.{IsFaultless, one_pair_fault, pair_or_code, faultless_or_pair, faultless_or_code, large_faultless}
 use Rattle.verdict_spec.proofs.Shown.{one_shown}
 
 -- ---- names that have pairs
 
--- what a task asks for of a list
-data Done (image : Image) (unit : Typed) (task : Task) (list : List (List ℕ)) : Verdict → Type 0 where
-  judgements : (functions : Option (List (List ℕ))) (each : List Judgement) → task ≡ Judge functions → map (λ j. j.name) each ≡ list
-      → All (IsJudgement image unit) each → Done image unit task list (Judged each)
-  shown : (shown : Shown) → task ≡ Display shown.name → IsShown image unit shown → Done image unit task list (Showed shown)
+-- what stands for the verdict of any search of these functions
+abbrev pub all_valid_of : List check.Listed → Verdict
+all_valid_of listed = Judged (map valid_judgement listed)
+
+-- what a task asks for of a list with pairs
+data Done (image : Image) (unit : Typed) (task : Task) (list : List (List ℕ)) (pairs : outcome.Pairs) : Verdict → Type 0 where
+  searched : (functions : Option (List (List ℕ))) (listed : List check.Listed) → task ≡ Judge functions → AreListed image unit pairs listed
+      → Done image unit task list pairs (all_valid_of listed)
+  too_long : (functions : Option (List (List ℕ))) (certificate : List ℕ) → task ≡ Verify functions certificate → maximum_of Certificate < length certificate
+      → Done image unit task list pairs (TooLarge Certificate)
+  outcome_is : (functions : Option (List (List ℕ))) (certificate : List ℕ) (listed : List check.Listed) (o : Outcome) → task ≡ Verify functions certificate
+      → length certificate ≤ maximum_of Certificate → AreListed image unit pairs listed → IsOutcome listed certificate o
+      → Done image unit task list pairs (verdict_of_outcome listed o)
+  shown : (shown : Shown) → task ≡ Display shown.name → IsShown image unit shown → Done image unit task list pairs (Showed shown)
+
+abbrev certificate_in : Task → List ℕ
+certificate_in (Judge functions) = []
+certificate_in (Verify functions certificate) = certificate
+certificate_in (Display name) = []
+
+judges_or_verifies : (task : Task) (functions others : Option (List (List ℕ))) (certificate : List ℕ) → task ≡ Judge functions → task ≡ Verify others certificate → ⊥
+judges_or_verifies task functions others certificate x y = absurd (cc)
 
 judges_or_shows : (task : Task) (functions : Option (List (List ℕ))) (name : List ℕ) → task ≡ Judge functions → task ≡ Display name → ⊥
 judges_or_shows task functions name x y = absurd (cc)
 
+verifies_or_shows : (task : Task) (functions : Option (List (List ℕ))) (certificate name : List ℕ) → task ≡ Verify functions certificate → task ≡ Display name → ⊥
+verifies_or_shows task functions certificate name x y = absurd (cc)
+
 one_name : (task : Task) (one two : List ℕ) → task ≡ Display one → task ≡ Display two → one ≡ two
 one_name task one two x y = cc
 
-one_done : (image : Image) (unit : Typed) (task : Task) (list : List (List ℕ)) (one two : Verdict) → Done image unit task list one
-    → Done image unit task list two → one ≡ two
-one_done image unit task list _ _ (judgements functions ones x e each) (judgements others twos y f all) =
-    ap Judged (one_judged image unit list ones twos e f each all)
-one_done image unit task list _ _ (judgements functions ones x e each) (shown s y is) = absurd (judges_or_shows task functions s.name x y)
-one_done image unit task list _ _ (shown s x is) (judgements functions ones y e each) = absurd (judges_or_shows task functions s.name y x)
-one_done image unit task list _ _ (shown s x is) (shown t y other) = ap Showed (one_shown image unit s t is other (one_name task s.name t.name x y))
+module _ (image : Image) (unit : Typed) (task : Task) (list : List (List ℕ)) (pairs : outcome.Pairs) (paired : IsPaired image unit list pairs) where
+  one_text : (functions others : Option (List (List ℕ))) (certificate text : List ℕ) → task ≡ Verify functions certificate → task ≡ Verify others text → certificate ≡ text
+  one_text functions others certificate text x y = ap certificate_in (sym x ∙ y)
+
+  one_outcome : (listed others : List check.Listed) (certificate text : List ℕ) (o p : Outcome) → certificate ≡ text → AreListed image unit pairs listed
+      → AreListed image unit pairs others → IsOutcome listed certificate o → IsOutcome others text p → verdict_of_outcome listed o ≡ verdict_of_outcome others p
+  one_outcome listed others certificate text o p same are are_too x y =
+      let listed_is = one_list image unit pairs others listed are_too are in
+      let here = subst (λ (l : List check.Listed). IsOutcome l certificate p) listed_is (subst (λ (t : List ℕ). IsOutcome others t p) (sym same) y) in
+      ap (verdict_of_outcome listed) (one_verdict_of listed certificate o p (told_apart image unit list pairs listed paired are) x here)
+      ∙ ap (λ (l : List check.Listed). verdict_of_outcome l p) (sym listed_is)
+
+  one_done : (one two : Verdict) → Done image unit task list pairs one → Done image unit task list pairs two → one ≡ two
+  one_done _ _ (searched functions listed x are) (searched others again y are_too) = ap all_valid_of (one_list image unit pairs listed again are are_too)
+  one_done _ _ (searched functions listed x are) (too_long others certificate y long) = absurd (judges_or_verifies task functions others certificate x y)
+  one_done _ _ (searched functions listed x are) (outcome_is others certificate again p y short are_too is) =
+      absurd (judges_or_verifies task functions others certificate x y)
+  one_done _ _ (searched functions listed x are) (shown s y is) = absurd (judges_or_shows task functions s.name x y)
+  one_done _ _ (too_long functions certificate x long) (searched others again y are_too) = absurd (judges_or_verifies task others functions certificate y x)
+  one_done _ _ (too_long functions certificate x long) (too_long others text y longer) = refl
+  one_done _ _ (too_long functions certificate x long) (outcome_is others text again p y short are_too is) =
+      absurd (omega (arith, long, short, ap (λ (t : List ℕ). length t) (one_text functions others certificate text x y)))
+  one_done _ _ (too_long functions certificate x long) (shown s y is) = absurd (verifies_or_shows task functions certificate s.name x y)
+  one_done _ _ (outcome_is functions certificate listed o x short are is) (searched others again y are_too) =
+      absurd (judges_or_verifies task others functions certificate y x)
+  one_done _ _ (outcome_is functions certificate listed o x short are is) (too_long others text y long) =
+      absurd (omega (arith, long, short, ap (λ (t : List ℕ). length t) (one_text functions others certificate text x y)))
+  one_done _ _ (outcome_is functions certificate listed o x short are is) (outcome_is others text again p y shorter are_too other) =
+      one_outcome listed again certificate text o p (one_text functions others certificate text x y) are are_too is other
+  one_done _ _ (outcome_is functions certificate listed o x short are is) (shown s y other) = absurd (verifies_or_shows task functions certificate s.name x y)
+  one_done _ _ (shown s x is) (searched functions listed y are) = absurd (judges_or_shows task functions s.name y x)
+  one_done _ _ (shown s x is) (too_long functions certificate y long) = absurd (verifies_or_shows task functions certificate s.name y x)
+  one_done _ _ (shown s x is) (outcome_is functions certificate listed o y short are other) = absurd (verifies_or_shows task functions certificate s.name y x)
+  one_done _ _ (shown s x is) (shown t y other) = ap Showed (one_shown image unit s t is other (one_name task s.name t.name x y))
 
 -- ---- a list
 
@@ -55,7 +109,7 @@ data Listed (image : Image) (unit : Typed) (task : Task) (list : List (List ℕ)
       → Listed image unit task list (RefusedCode kind name address)
   large : length list ≤ maximum_of Functions → IsTooLarge image unit list → Listed image unit task list (TooLarge Nodes)
   paired : (verdict : Verdict) (pairs : outcome.Pairs) → length list ≤ maximum_of Functions → IsPaired image unit list pairs
-      → Done image unit task list verdict → Listed image unit task list verdict
+      → Done image unit task list pairs verdict → Listed image unit task list verdict
 
 faultless : (image : Image) (unit : Typed) (list : List (List ℕ)) (pairs : outcome.Pairs) → IsPaired image unit list pairs → IsFaultless image unit list
 faultless image unit list pairs x = record { some = x.some; each = x.no_fault }
@@ -103,13 +157,15 @@ module _ (image : Image) (unit : Typed) (task : Task) (list : List (List ℕ)) w
 
   -- one that has pairs
   after_pairs : (one two : Verdict) (pairs : outcome.Pairs) → length list ≤ maximum_of Functions → IsPaired image unit list pairs
-      → Done image unit task list one → Listed image unit task list two → one ≡ two
+      → Done image unit task list pairs one → Listed image unit task list two → one ≡ two
   after_pairs one _ pairs few x done (many y) = absurd (omega (arith, y, few))
   after_pairs one _ pairs few x done (pair_fault kind name fewer y) = absurd (faultless_or_pair image unit list (faultless image unit list pairs x) kind name y)
   after_pairs one _ pairs few x done (code_fault kind name address fewer y) =
       absurd (faultless_or_code image unit list (faultless image unit list pairs x) kind name address y)
   after_pairs one _ pairs few x done (large fewer y) = absurd (large_or_paired image unit list pairs y x)
-  after_pairs one _ pairs few x done (paired two others fewer y again) = one_done image unit task list one two done again
+  after_pairs one _ pairs few x done (paired two others fewer y again) =
+      one_done image unit task list pairs x one two done
+      (subst (λ (p : outcome.Pairs). Done image unit task list p two) (one_pairing image unit list others pairs y x) again)
 
   few_or_many : (two : Verdict) → maximum_of Functions < length list → Listed image unit task list two → TooLarge Functions ≡ two
   few_or_many _ x (many y) = refl
@@ -158,7 +214,7 @@ one_refusal c one two offset place x y =
     let same = one-source c (Refused one offset) (Refused two place) x y in
     (ap (kind_in one) same, ap offset_in same)
 
-one_unit : (c : List ℕ) (one two : Typed) → IsC c one → IsC c two → one ≡ two
+pub one_unit : (c : List ℕ) (one two : Typed) → IsC c one → IsC c two → one ≡ two
 one_unit c one two x y = ap (unit_in one) (one-source c (Accepted one) (Accepted two) (c_accepted one x) (c_accepted two y))
 
 one_sourced : (image : Image) (c : List ℕ) (task : Task) (one two : Verdict) → Sourced image c task one → Sourced image c task two → one ≡ two
@@ -193,11 +249,26 @@ listed elf c task image unit names verdict lists found =
     accepted image verdict lists.is_elf (typed unit verdict lists.is_c (subst (λ n. Listed image unit task n verdict) lists.listed found))
 
 with_pairs : (elf c : List ℕ) (task : Task) (image : Image) (unit : Typed) (names : List (List ℕ)) (verdict : Verdict)
-    → Pairs elf c task image unit names → Done image unit task names verdict → Filed elf c task verdict
+    (pairs : Pairs elf c task image unit names) → Done image unit task names pairs.pairs verdict → Filed elf c task verdict
 with_pairs elf c task image unit names verdict pairs done =
     listed elf c task image unit names verdict pairs.few.lists (paired verdict pairs.pairs pairs.few.within pairs.paired done)
 
-filed : (elf c : List ℕ) (task : Task) (verdict : Verdict) → Judges elf c task verdict → Filed elf c task verdict
+-- the verdict of a decision; of a search the one that stands for it
+unfoldable pub kernel : (elf c : List ℕ) (task : Task) (decision : Decision) → Judges elf c task decision → Verdict
+kernel elf c task _ (elf_refused kind offset x) = RefusedElf kind offset
+kernel elf c task _ (c_refused image kind offset is h) = RefusedC kind offset
+kernel elf c task _ (too_many image unit names lists above) = TooLarge Functions
+kernel elf c task _ (pair_refused image unit names kind name few fault) = RefusedPair kind name
+kernel elf c task _ (code_refused image unit names kind name address few fault) = RefusedCode kind name address
+kernel elf c task _ (too_large image unit names few h) = TooLarge Nodes
+kernel elf c task _ (judged functions image unit names listed found is framed are short) = all_valid_of listed
+kernel elf c task _ (over functions image unit names listed found is framed are long) = all_valid_of listed
+kernel elf c task _ (certificate_large functions certificate image unit names is pairs long) = TooLarge Certificate
+kernel elf c task _ (checked functions certificate image unit names listed o is short framed h) = verdict_of_outcome listed o
+kernel elf c task _ (showed image unit s is pairs h) = Showed s
+
+filed : (elf c : List ℕ) (task : Task) (decision : Decision) (x : Judges elf c task decision) → Filed elf c task (kernel elf c task decision x)
+unfolding kernel
 filed elf c task _ (elf_refused kind offset x) = refused kind offset x
 filed elf c task _ (c_refused image kind offset is h) = accepted image _ is (source_refused kind offset h)
 filed elf c task _ (too_many image unit names lists above) = listed elf c task image unit names _ lists (many above)
@@ -206,21 +277,18 @@ filed elf c task _ (pair_refused image unit names kind name few fault) =
 filed elf c task _ (code_refused image unit names kind name address few fault) =
     listed elf c task image unit names _ few.lists (code_fault kind name address few.within fault)
 filed elf c task _ (too_large image unit names few h) = listed elf c task image unit names _ few.lists (large few.within h)
-filed elf c task _ (judged functions image unit each is pairs all) =
-    with_pairs elf c task image unit (map (λ j. j.name) each) _ pairs (judgements functions each is refl all)
+filed elf c task _ (judged functions image unit names listed found is framed are short) =
+    with_pairs elf c task image unit names _ framed.pairs (searched functions listed is framed.listed_are)
+filed elf c task _ (over functions image unit names listed found is framed are long) =
+    with_pairs elf c task image unit names _ framed.pairs (searched functions listed is framed.listed_are)
+filed elf c task _ (certificate_large functions certificate image unit names is pairs long) =
+    with_pairs elf c task image unit names _ pairs (too_long functions certificate is long)
+filed elf c task _ (checked functions certificate image unit names listed o is short framed h) =
+    with_pairs elf c task image unit names _ framed.pairs (outcome_is functions certificate listed o is short framed.listed_are h)
 filed elf c task _ (showed image unit s is pairs h) = with_pairs elf c task image unit (s.name ∷ []) _ pairs (shown s is h)
 
-once : (elf c : List ℕ) (task : Task) (one two : Verdict) → IsVerdict elf c task one → IsVerdict elf c task two → one ≡ two
-once elf c task _ _ (elf_large x) (elf_large y) = refl
-once elf c task _ _ (elf_large x) (c_large small y) = absurd (omega (arith, x, small))
-once elf c task _ _ (elf_large x) (within verdict small little y) = absurd (omega (arith, x, small))
-once elf c task _ _ (c_large small x) (elf_large y) = absurd (omega (arith, y, small))
-once elf c task _ _ (c_large small x) (c_large less y) = refl
-once elf c task _ _ (c_large small x) (within verdict less little y) = absurd (omega (arith, x, little))
-once elf c task _ _ (within verdict small little x) (elf_large y) = absurd (omega (arith, y, small))
-once elf c task _ _ (within verdict small little x) (c_large less y) = absurd (omega (arith, y, little))
-once elf c task _ _ (within one small little x) (within two less few y) =
-    one_filed elf c task one two (filed elf c task one x) (filed elf c task two y)
-
-pub one-verdict : OneVerdict
-one-verdict = once
+-- two decisions within the limits have one such verdict
+pub one_kernel : (elf c : List ℕ) (task : Task) (one two : Decision) (x : Judges elf c task one) (y : Judges elf c task two)
+    → kernel elf c task one x ≡ kernel elf c task two y
+one_kernel elf c task one two x y =
+    one_filed elf c task (kernel elf c task one x) (kernel elf c task two y) (filed elf c task one x) (filed elf c task two y)

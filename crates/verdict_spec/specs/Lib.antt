@@ -1,4 +1,5 @@
 pub mod Source
 pub mod Listing
+pub mod Decisions
 pub mod Verdicts
 pub mod Laws

@@ -9,6 +9,8 @@ use Rattle.c_type_spec.specs.Core.{Body, Typed}
 pub data Task : Type 0 where
   -- a judgement on each of these functions, or on all that can be listed
   Judge : (functions : Option (List (List ℕ))) → Task
+  -- whether this certificate is a proof of each of these functions, or of all that can be listed
+  Verify : (functions : Option (List (List ℕ))) → (certificate : List ℕ) → Task
   -- the code of this function
   Display : (function : List ℕ) → Task
 
@@ -33,4 +35,6 @@ listed image unit = filter (has_symbol image) (bodies unit)
 abbrev pub names_of : Task → Image → Typed → List (List ℕ)
 names_of (Judge (Some names)) image unit = names
 names_of (Judge None) image unit = listed image unit
+names_of (Verify (Some names) certificate) image unit = names
+names_of (Verify None certificate) image unit = listed image unit
 names_of (Display function) image unit = function ∷ []

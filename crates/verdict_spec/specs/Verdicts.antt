@@ -1,5 +1,5 @@
--- Which verdict two files have, and that what it calls valid is valid.
-use Rattle.std.specs.Prelude.{◌≡◌, ◌<◌, ◌≤◌, ◌&&◌, not, is_some, ℕ, Bool, false, List, [], ◌∷◌, length, map, All, IsTrue, Option, Some, ⊤}
+-- What is decided of two files, and that what its verdict calls valid is valid.
+use Rattle.std.specs.Prelude.{◌≡◌, ◌<◌, ◌≤◌, ◌^◌, ◌⊎◌, ℕ, true, List, [], ◌∷◌, length, map, slice_get, All, IsTrue, Option, Some, ⊤}
 use Rattle.elf_spec.specs.Image.{Image, function_named, size_at}
 use Rattle.elf_spec.specs.File.{IsElf, IsRefusedFile}
 use Rattle.elf_spec.specs.declared.ElfKind.{ElfKind}
@@ -10,34 +10,26 @@ use Rattle.code_spec.specs.Code.{IsStack}
 use Rattle.code_reach.specs.Found.{IsCode}
 use Rattle.pair_spec.specs.declared.PairKind.{PairKind}
 use Rattle.pair_spec.specs.SourceReach.{body_of}
-use Rattle.pair_outcome_spec.specs.Code.{HasSoundCode}
 use Rattle.pair_outcome_spec.specs.Outcome as outcome
 use Rattle.pair_outcome_spec.specs.Outcome.{IsPairFault, IsCodeFault, IsTooLarge, IsPaired}
 use Rattle.claim_spec.specs.Source.{IsC}
 use Rattle.claim_spec.specs.Claim.{IsValid}
-use Rattle.report_spec.specs.declared.Quantity.TheVariants.{Elf, C, Functions, Nodes}
+use Rattle.report_spec.specs.declared.Quantity.{Quantity}
+use Rattle.report_spec.specs.declared.Quantity.TheVariants.{Elf, C, Functions, Nodes, Certificate, Visits, Terms, Variables}
 use Rattle.report_spec.specs.declared.SourceKind.{SourceKind}
-use Rattle.report_spec.specs.Verdict.{Verdict, TooLarge, RefusedElf, RefusedC, RefusedPair, RefusedCode, Judged, Showed, Judgement, Shown, maximum_of}
+use Rattle.report_spec.specs.Verdict.{Verdict, TooLarge, RefusedElf, RefusedC, RefusedPair, RefusedCode, RefusedCertificate, NotProof, Checked, Judged, Showed, Judgement, Shown, maximum_of}
+use Rattle.trail_spec.specs.Trails.{Found, Proved, Unproved, AreFound}
+use Rattle.trail_laws.specs.Laws.{is_spent}
 use Rattle.verdict_spec.specs.Source.{CVerdict, Refused}
-use Rattle.verdict_spec.specs.Listing.{Task, Judge, Display, names_of}
-use Rattle.straight_code.specs.Straight.{not_straight_at}
-use Rattle.straight_code.specs.Decision.{accepts}
+use Rattle.verdict_spec.specs.Decisions.{Decision, plain, text_by, judged_by, over_by}
+use Rattle.verdict_spec.specs.Listing.{Task, Judge, Verify, Display, names_of}
+use Rattle.check_spec.specs.declared.Quantity.{Quantity as CheckQuantity}
+use Rattle.check_spec.specs.declared.Quantity.TheVariants as check
+use Rattle.check_spec.specs.Verdict.{Listed}
+use Rattle.cert_verdict_spec.specs.Files.{AreListed}
+use Rattle.cert_verdict_spec.specs.Verdict.{Outcome, Unread, Broken, Above, Proof, IsOutcome, valid_judgement}
 
 -- ---- a function
-
--- the code of the function of a name, at its entry, is straight-line, and it is accepted
-abbrev pub is_proved : Image → Typed → (name : List ℕ) → (entry size : ℕ) → Bool
-is_proved image unit name entry size = not (is_some (not_straight_at image entry size)) && accepts image unit name entry size
-
--- the judgement on a function with sound code; that on a function that isn't valid gives stack 0
-pub record IsJudgement (image : Image) (unit : Typed) (judgement : Judgement) : Type 0 where
-  pub entry : ℕ
-  pub size : ℕ
-  pub code : HasSoundCode image judgement.name entry
-  pub sized : size_at image entry ≡ Some size
-  pub decided : judgement.valid ≡ is_proved image unit judgement.name entry size
-  pub stack : IsTrue judgement.valid → IsStack image entry judgement.stack
-  pub no_stack : judgement.valid ≡ false → judgement.stack ≡ 0
 
 -- what is shown of a function: of its code, and of its source
 pub record IsShown (image : Image) (unit : Typed) (shown : Shown) : Type 0 where
@@ -70,29 +62,100 @@ pub record Pairs (elf c : List ℕ) (task : Task) (image : Image) (unit : Typed)
   pub pairs : outcome.Pairs
   pub paired : IsPaired image unit names pairs
 
--- the verdict on two files within their limits: the first refusal in this order, or what is asked for
-pub data Judges (elf c : List ℕ) (task : Task) : Verdict → Type 0 where
-  elf_refused : (kind : ElfKind) (offset : ℕ) → IsRefusedFile elf kind offset → Judges elf c task (RefusedElf kind offset)
-  c_refused : (image : Image) (kind : SourceKind) (offset : ℕ) → IsElf elf image → CVerdict c (Refused kind offset) → Judges elf c task (RefusedC kind offset)
-  too_many : (image : Image) (unit : Typed) (names : List (List ℕ)) → Lists elf c task image unit names → maximum_of Functions < length names
-      → Judges elf c task (TooLarge Functions)
-  pair_refused : (image : Image) (unit : Typed) (names : List (List ℕ)) (kind : PairKind) (name : List ℕ) → ListsFew elf c task image unit names
-      → IsPairFault image unit names kind name → Judges elf c task (RefusedPair kind name)
-  code_refused : (image : Image) (unit : Typed) (names : List (List ℕ)) (kind : CodeKind) (name : List ℕ) (address : ℕ) → ListsFew elf c task image unit names
-      → IsCodeFault image unit names kind name address → Judges elf c task (RefusedCode kind name address)
-  too_large : (image : Image) (unit : Typed) (names : List (List ℕ)) → ListsFew elf c task image unit names → IsTooLarge image unit names
-      → Judges elf c task (TooLarge Nodes)
-  judged : (functions : Option (List (List ℕ))) (image : Image) (unit : Typed) (judgements : List Judgement) → task ≡ Judge functions
-      → Pairs elf c task image unit (map (λ j. j.name) judgements) → All (IsJudgement image unit) judgements → Judges elf c task (Judged judgements)
-  showed : (image : Image) (unit : Typed) (shown : Shown) → task ≡ Display shown.name → Pairs elf c task image unit (shown.name ∷ [])
-      → IsShown image unit shown → Judges elf c task (Showed shown)
+-- and the listed functions of these pairs, with the frames at their entries
+pub record Framed (elf c : List ℕ) (task : Task) (image : Image) (unit : Typed) (names : List (List ℕ)) (listed : List Listed) : Type 0 where
+  pub pairs : Pairs elf c task image unit names
+  pub listed_are : AreListed image unit pairs.pairs listed
 
--- the verdict on two files: the limits come first
-pub data IsVerdict (elf c : List ℕ) (task : Task) : Verdict → Type 0 where
-  elf_large : maximum_of Elf < length elf → IsVerdict elf c task (TooLarge Elf)
-  c_large : length elf ≤ maximum_of Elf → maximum_of C < length c → IsVerdict elf c task (TooLarge C)
-  within : (verdict : Verdict) → length elf ≤ maximum_of Elf → length c ≤ maximum_of C → Judges elf c task verdict
-      → IsVerdict elf c task verdict
+-- ---- a certificate
+
+abbrev pub quantity_of : CheckQuantity → Quantity
+quantity_of check.Visits = Visits
+quantity_of check.Terms = Terms
+quantity_of check.Variables = Variables
+
+-- the verdict of an outcome of a certificate
+abbrev pub verdict_of_outcome : List Listed → Outcome → Verdict
+verdict_of_outcome listed (Unread offset) = RefusedCertificate offset
+verdict_of_outcome listed (Broken name offset rule) = NotProof name offset rule
+verdict_of_outcome listed (Above quantity) = TooLarge (quantity_of quantity)
+verdict_of_outcome listed Proof = Checked (map valid_judgement listed)
+
+-- ---- all files
+
+-- what is decided of two files within their limits: the first refusal in this order, or what is asked for; of a
+-- certificate first that it is too long. Which proofs a search finds is left to it: judgements are those of any proofs and
+-- trails of the listed functions
+pub data Judges (elf c : List ℕ) (task : Task) : Decision → Type 0 where
+  elf_refused : (kind : ElfKind) (offset : ℕ) → IsRefusedFile elf kind offset → Judges elf c task (plain (RefusedElf kind offset))
+  c_refused : (image : Image) (kind : SourceKind) (offset : ℕ) → IsElf elf image → CVerdict c (Refused kind offset) → Judges elf c task (plain (RefusedC kind offset))
+  too_many : (image : Image) (unit : Typed) (names : List (List ℕ)) → Lists elf c task image unit names → maximum_of Functions < length names
+      → Judges elf c task (plain (TooLarge Functions))
+  pair_refused : (image : Image) (unit : Typed) (names : List (List ℕ)) (kind : PairKind) (name : List ℕ) → ListsFew elf c task image unit names
+      → IsPairFault image unit names kind name → Judges elf c task (plain (RefusedPair kind name))
+  code_refused : (image : Image) (unit : Typed) (names : List (List ℕ)) (kind : CodeKind) (name : List ℕ) (address : ℕ) → ListsFew elf c task image unit names
+      → IsCodeFault image unit names kind name address → Judges elf c task (plain (RefusedCode kind name address))
+  too_large : (image : Image) (unit : Typed) (names : List (List ℕ)) → ListsFew elf c task image unit names → IsTooLarge image unit names
+      → Judges elf c task (plain (TooLarge Nodes))
+  judged : (functions : Option (List (List ℕ))) (image : Image) (unit : Typed) (names : List (List ℕ)) (listed : List Listed) (found : List Found)
+      → task ≡ Judge functions → Framed elf c task image unit names listed → AreFound listed found
+      → length (text_by listed found) ≤ maximum_of Certificate → Judges elf c task (judged_by listed found)
+  over : (functions : Option (List (List ℕ))) (image : Image) (unit : Typed) (names : List (List ℕ)) (listed : List Listed) (found : List Found)
+      → task ≡ Judge functions → Framed elf c task image unit names listed → AreFound listed found
+      → maximum_of Certificate < length (text_by listed found) → Judges elf c task (over_by listed found)
+  certificate_large : (functions : Option (List (List ℕ))) (certificate : List ℕ) (image : Image) (unit : Typed) (names : List (List ℕ)) → task ≡ Verify functions certificate
+      → Pairs elf c task image unit names → maximum_of Certificate < length certificate → Judges elf c task (plain (TooLarge Certificate))
+  checked : (functions : Option (List (List ℕ))) (certificate : List ℕ) (image : Image) (unit : Typed) (names : List (List ℕ)) (listed : List Listed) (outcome : Outcome)
+      → task ≡ Verify functions certificate → length certificate ≤ maximum_of Certificate → Framed elf c task image unit names listed → IsOutcome listed certificate outcome
+      → Judges elf c task (plain (verdict_of_outcome listed outcome))
+  showed : (image : Image) (unit : Typed) (shown : Shown) → task ≡ Display shown.name → Pairs elf c task image unit (shown.name ∷ [])
+      → IsShown image unit shown → Judges elf c task (plain (Showed shown))
+
+-- what is decided of two files: the limits come first
+pub data IsVerdict (elf c : List ℕ) (task : Task) : Decision → Type 0 where
+  elf_large : maximum_of Elf < length elf → IsVerdict elf c task (plain (TooLarge Elf))
+  c_large : length elf ≤ maximum_of Elf → maximum_of C < length c → IsVerdict elf c task (plain (TooLarge C))
+  within : (decision : Decision) → length elf ≤ maximum_of Elf → length c ≤ maximum_of C → Judges elf c task decision
+      → IsVerdict elf c task decision
+
+-- ---- two searches
+
+-- what one search proves no other refutes: its trail is that of a search that reached its limit
+abbrev pub Agree : (one other : Found) → Type 0
+Agree (Proved logs) (Unproved trail) = is_spent trail ≡ true
+Agree (Unproved trail) (Proved logs) = is_spent trail ≡ true
+Agree one other = ⊤
+
+pub record AllAgree (ones others : List Found) : Type 0 where
+  pub count : length ones ≡ length others
+  pub each : (k : ℕ) (one other : Found) → slice_get ones k ≡ Some one → slice_get others k ≡ Some other → Agree one other
+
+-- the decision by what was found, whether or not its certificate is too large
+abbrev pub IsDecided : List Listed → List Found → Decision → Type 0
+IsDecided listed found decision = (decision ≡ judged_by listed found) ⊎ (decision ≡ over_by listed found)
+
+-- both are decisions by what searches found of the same functions, and in a file of bytes the searches agree
+pub record AreSearches (elf c : List ℕ) (task : Task) (one other : Decision) : Type 0 where
+  pub functions : Option (List (List ℕ))
+  pub task_is : task ≡ Judge functions
+  pub image : Image
+  pub unit : Typed
+  pub names : List (List ℕ)
+  pub listed : List Listed
+  pub framed : Framed elf c task image unit names listed
+  pub ones : List Found
+  pub others : List Found
+  pub ones_are : AreFound listed ones
+  pub others_are : AreFound listed others
+  pub one_is : IsDecided listed ones one
+  pub other_is : IsDecided listed others other
+  pub agree : All (λ b. b < 2 ^ 8) elf → AllAgree ones others
+
+-- they are the same, or those of two searches
+abbrev pub AreAlike : (elf c : List ℕ) (task : Task) (one other : Decision) → Type 0
+AreAlike elf c task one other = (one ≡ other) ⊎ AreSearches elf c task one other
+
+-- ---- validity
 
 -- the listed functions have these judgements, and each that is called valid is valid
 pub record AreSound (elf c : List ℕ) (task : Task) (judgements : List Judgement) : Type 0 where
@@ -105,4 +168,5 @@ pub record AreSound (elf c : List ℕ) (task : Task) (judgements : List Judgemen
 
 abbrev pub IsSound : (elf c : List ℕ) (task : Task) → Verdict → Type 0
 IsSound elf c task (Judged judgements) = AreSound elf c task judgements
+IsSound elf c task (Checked judgements) = AreSound elf c task judgements
 IsSound elf c task verdict = ⊤

@@ -1,12 +1,14 @@
-//! Which verdict an executable and a source have (`specs/Verdicts.antt`): the first refusal in the
-//! order in which they are tried, or a judgement on each listed function; and what it means that
-//! those called valid are valid. `specs/Source.antt` has the verdict on a source. By
-//! [`one_verdict`], two files have one verdict at most.
+//! What is decided of an executable and a source (`specs/Verdicts.antt`): the first refusal in the
+//! order in which they are tried, or what a search finds of each listed function, a proof or a
+//! trail; and what it means that those called valid are valid. `specs/Decisions.antt` has what is
+//! decided: a verdict, a certificate and trails; `specs/Source.antt` the verdict on a source. By
+//! [`one_verdict`], one thing is decided of two files at most, but for what searches find.
 #![tactic(auto)]
 
-ghost use Rattle.verdict_spec.specs.Laws.{EachSource, OneSource, OneVerdict};
+ghost use Rattle.verdict_spec.specs.Laws.{EachSource, OneSource, OneVerdict, ProvedIsChecked};
 
-/// The law of verdicts: two files have one at most.
+/// The law of verdicts: two files have one at most, unless functions are searched; and what one
+/// search proves no other refutes.
 pub fn one_verdict()
     ensures { OneVerdict }
 {}
@@ -16,4 +18,10 @@ pub fn one_verdict()
 pub fn one_source()
     ensures one { OneSource }
     ensures each { EachSource }
+{}
+
+/// The law of certificates that are written: where all functions are judged valid, the certificate
+/// of them is a proof.
+pub fn proved_is_checked()
+    ensures { ProvedIsChecked }
 {}

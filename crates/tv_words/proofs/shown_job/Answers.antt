@@ -4,7 +4,7 @@ use Rattle.tv_words.proofs.shown_job.Goals as goal
 
 pub returns-in_default-clause-only : goal.returns-in_default-clause-only
 returns-in_default-clause-only c = λ other asks.
-    let rows = asked_rows _ other c.requires asks in
+    let rows = asked_rows _ other c.requires.no_prove c.requires.no_check asks in
     let bad = c.in_default.ensures.found.1 (name_of_row _ _ (λ x. refl) _ _ rows.0 rows.1) in
     cc
 

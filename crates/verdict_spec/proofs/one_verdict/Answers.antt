@@ -1,4 +1,4 @@
-use Rattle.verdict_spec.proofs.Once.{one-verdict}
+use Rattle.verdict_spec.proofs.Alike.{one-verdict}
 use Rattle.verdict_spec.proofs.one_verdict.Goals as goal
 
 pub returns : goal.returns

@@ -23,26 +23,26 @@ leaf_goals-requires-clause-below c =
 
 -- no obligations
 pub returns-clause-step : goal.returns-clause-step
-returns-clause-step c = λ listed parts f is.
-    leaf_fails listed parts c.args.function.now f is c.args.bank.now c.leaf_goals.new.bank c.args.jobs.now.items c.take_proof-premises.new.jobs.items c.take_proof-premises.new.jobs.items
+returns-clause-step c = λ listed ahead parts f is.
+    leaf_fails listed ahead parts c.args.function.now f is c.args.bank.now c.leaf_goals.new.bank c.args.jobs.now.items c.take_proof-premises.new.jobs.items c.take_proof-premises.new.jobs.items
     c.take_proof-premises.result c.args.logs c.in-Err-attempt.field-0 c.take_proof-premises.ensures
     (goals_for f c.leaf_goals.new.bank c.args.bank.now c.as_slice.result.now c.take_proof-premises.result.items (Err c.in-Err-attempt.field-0) c.as_slice.ensures.value (c.in-Err-attempt.ensures.goals f is))
 
 -- another number
 pub returns-then-len-logs-clause-step : goal.returns-then-len-logs-clause-step
-returns-then-len-logs-clause-step c = λ listed parts f is.
-    logs_fail listed parts c.args.function.now f is c.args.bank.now c.leaf_goals.new.bank c.args.jobs.now.items c.take_proof-premises.new.jobs.items c.take_proof-premises.result c.args.logs
+returns-then-len-logs-clause-step c = λ listed ahead parts f is.
+    logs_fail listed ahead parts c.args.function.now f is c.args.bank.now c.leaf_goals.new.bank c.args.jobs.now.items c.take_proof-premises.new.jobs.items c.take_proof-premises.result c.args.logs
     c.in-Ok-attempt.field-0 c.take_proof-premises.ensures
     (goals_for f c.leaf_goals.new.bank c.args.bank.now c.as_slice.result.now c.take_proof-premises.result.items (Ok c.in-Ok-attempt.field-0) c.as_slice.ensures.value (c.in-Ok-attempt.ensures.goals f is))
     (λ same. c.if-len-logs.true (omega (arith, same, c.in-Ok-attempt.field-0.ok.0)))
 
 pub returns-3-clause-step : goal.returns-3-clause-step
-returns-3-clause-step c = λ listed parts f is.
+returns-3-clause-step c = λ listed ahead parts f is.
     let inside = inside_top (length c.args.bank.now) c.take_proof-premises.new.jobs.items _ (subst (AreInside (length c.args.bank.now)) c.take_proof-premises.ensures c.requires.kept.inside) in
     let count : length c.in-Ok-attempt.field-0.items ≡ c.args.logs = omega (arith, c.in-Ok-attempt.field-0.ok.0, c.if-len-logs.false) in
-    subst (λ (n : ℕ). Passes listed (Inside parts f (jobs_of c.args.bank.now (frame_at c.args.function.now) c.args.jobs.now.items)) (Leaf n)
+    subst (λ (n : ℕ). Passes listed ahead (Inside parts f (jobs_of c.args.bank.now (frame_at c.args.function.now) c.args.jobs.now.items)) (Leaf n)
     (Inside parts f (jobs_of c.leaf_goals.new.bank (frame_at c.args.function.now) c.push_goals.new.jobs.items))) count
-    (leaf_passes listed parts c.args.function.now f is c.args.bank.now c.leaf_goals.new.bank c.args.jobs.now.items c.take_proof-premises.new.jobs.items c.push_goals.new.jobs.items
+    (leaf_passes listed ahead parts c.args.function.now f is c.args.bank.now c.leaf_goals.new.bank c.args.jobs.now.items c.take_proof-premises.new.jobs.items c.push_goals.new.jobs.items
     c.take_proof-premises.result c.in-Ok-attempt.field-0 c.leaf_goals.ensures.extends c.take_proof-premises.ensures inside.0
     (c.in-Ok-attempt-2.ensures ∙ ap (λ (l : List ℕ). c.take_proof-premises.new.jobs.items ++ logs_last l) c.as_slice-2.ensures.value)
     (goals_for f c.leaf_goals.new.bank c.args.bank.now c.as_slice.result.now c.take_proof-premises.result.items (Ok c.in-Ok-attempt.field-0) c.as_slice.ensures.value (c.in-Ok-attempt.ensures.goals f is)))

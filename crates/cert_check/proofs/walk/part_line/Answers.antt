@@ -10,7 +10,7 @@ use Rattle.cert_check.proofs.Entered.{no_other_line}
 use Rattle.cert_check.proofs.walk.part_line.Goals as goal
 
 pub returns-then-is_unchecked-clause-step : goal.returns-then-is_unchecked-clause-step
-returns-then-is_unchecked-clause-step c = λ listed parts f is. later_fails listed parts c.args.function.now f is _ _ (sym c.is_unchecked.ensures ∙ c.if-is_unchecked.true)
+returns-then-is_unchecked-clause-step c = λ listed ahead parts f is. later_fails listed ahead parts c.args.function.now f is _ _ (sym c.is_unchecked.ensures ∙ c.if-is_unchecked.true)
 
 pub leaf-requires-clause-next : goal.leaf-requires-clause-next
 leaf-requires-clause-next c = subst (λ l. IsNext c.args.jobs.now.items (line_of l)) c.in-Leaf.is c.requires.next
@@ -20,9 +20,6 @@ case-requires-clause-next c =
     subst (λ (t : List Symbol). IsNext c.args.jobs.now.items (Case t)) (sym c.as_slice.ensures.value)
     (subst (λ (t : Vec Symbol Global). IsNext c.args.jobs.now.items (Case t.items)) (sym c.deref.ensures)
     (subst (λ l. IsNext c.args.jobs.now.items (line_of l)) c.in-Case.is c.requires.next))
-
-pub log-requires-clause-next : goal.log-requires-clause-next
-log-requires-clause-next c = subst (λ l. IsNext c.args.jobs.now.items (line_of l)) c.in-Log.is c.requires.next
 
 pub returns-in-Leaf-clause-step : goal.returns-in-Leaf-clause-step
 returns-in-Leaf-clause-step c =
@@ -45,15 +42,7 @@ returns-in-Case-clause-stands c =
     (subst (λ (t : Vec Symbol Global). OnOk c.case.result (StandsAfter c.args.jobs.now.items (Case t.items) c.case.new.jobs.items)) c.deref.ensures
     (subst (λ (t : List Symbol). OnOk c.case.result (StandsAfter c.args.jobs.now.items (Case t) c.case.new.jobs.items)) c.as_slice.ensures.value c.case.ensures.stands))
 
-pub returns-in-Log-clause-step : goal.returns-in-Log-clause-step
-returns-in-Log-clause-step c =
-    subst (λ l. IsStep c.args.function.now c.args.bank.now c.log.new.bank c.args.jobs.now.items c.log.new.jobs.items (line_of l) c.log.result) (sym c.in-Log.is) c.log.ensures.step
-
-pub returns-in-Log-clause-stands : goal.returns-in-Log-clause-stands
-returns-in-Log-clause-stands c =
-    subst (λ l. OnOk c.log.result (StandsAfter c.args.jobs.now.items (line_of l) c.log.new.jobs.items)) (sym c.in-Log.is) c.log.ensures.stands
-
 pub unreachable-requires : goal.unreachable-requires
 unreachable-requires c =
     no_other_line c.args.line.now c.args.jobs.now.items c.requires.next c.requires.inside (sym c.is_unchecked.ensures ∙ c.if-is_unchecked.false) c.in_default.not-Leaf c.in_default.not-Case
-    c.in_default.not-Log
+    c.requires.plain

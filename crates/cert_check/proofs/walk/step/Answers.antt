@@ -9,7 +9,7 @@ use Rattle.cert_check.proofs.walk.step.Goals as goal
 pub returns-in-Header : goal.returns-in-Header
 returns-in-Header c =
     subst (λ l. Goes c.args.listed.now c.args.walk.now c.args.walk.now (line_of l) c.args.index _) (sym c.in-Header.is)
-    (header_goes c.args.listed.now c.args.walk.now c.args.index (subst (λ l. IsWalk c.args.listed.now c.args.walk.now (line_of l)) c.in-Header.is c.requires))
+    (header_goes c.args.listed.now c.args.walk.now c.args.index (subst (λ l. IsWalk c.args.listed.now c.args.walk.now (line_of l)) c.in-Header.is c.requires.walk))
 
 pub returns-in-Function : goal.returns-in-Function
 returns-in-Function c =
@@ -19,7 +19,7 @@ returns-in-Function c =
 pub returns-in-End : goal.returns-in-End
 returns-in-End c =
     subst (λ l. Goes c.args.listed.now c.args.walk.now c.args.walk.now (line_of l) c.args.index c.end.result) (sym c.in-End.is)
-    (end_goes c.args.listed.now c.args.walk.now (subst (λ l. IsWalk c.args.listed.now c.args.walk.now (line_of l)) c.in-End.is c.requires) c.args.index c.end.result
+    (end_goes c.args.listed.now c.args.walk.now (subst (λ l. IsWalk c.args.listed.now c.args.walk.now (line_of l)) c.in-End.is c.requires.walk) c.args.index c.end.result
     (subst (λ (parts : List ℕ). Ends c.args.listed.now parts c.end.result) c.as_slice.ensures.value c.end.ensures))
 
 pub returns-in_default : goal.returns-in_default

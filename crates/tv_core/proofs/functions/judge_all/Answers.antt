@@ -1,37 +1,31 @@
-use Rattle.std.proofs.Common.{◌<◌, ◌≤◌, [], length, get_or, rules, sym}
-use Rattle.straight_code.specs.Units.{unit_of}
+use Rattle.std.proofs.Common.{◌≡◌, ◌∙◌, sym, subst}
+use Rattle.std.proofs.lemmas.Result.{IfOk-weaker}
+use Rattle.c_types.specs.Typed.{typed_of}
 use Rattle.c_reach.specs.Names.{texts_of}
-use Rattle.tv_core.proofs.Judged.{one_more, all_judged}
-use Rattle.tv_core.proofs.Paired.{listed_at, texts_at, texts_below, texts_past}
+use Rattle.pair_setup.specs.Answers.{pairs_of}
+use Rattle.tv_core.specs.Decisions.{decision_of}
+use Rattle.tv_core.specs.Listed.{AreDecided, JudgesAll, decided_by}
+use Rattle.tv_core.proofs.Paired.{enough, texts_length}
+use Rattle.tv_core.proofs.Judged.{all_decided, as_many}
 use Rattle.tv_core.proofs.functions.judge_all.Goals as goal
 
-pub names-init : goal.names-init
-names-init c = record { of_names = search rules; each = search rules; sound = search rules }
+pub decide-requires-clause-many : goal.decide-requires-clause-many
+decide-requires-clause-many c =
+    as_many c.args.image.now (typed_of c.args.unit.now) (texts_of c.args.list.now) c.args.pairs.now c.as_slice.result.now c.as_slice.ensures.value
+    c.requires.paired c.in-Ok-attempt.field-0 c.in-Ok-attempt.ensures ∙ texts_length c.args.list.now
 
-pub judge_function-requires-clause-sound : goal.judge_function-requires-clause-sound
-judge_function-requires-clause-sound c =
-    let below : c.names.i < length c.args.list.now = search rules in
-    (listed_at c.args.image.now (unit_of c.args.unit.now) c.args.list.now c.args.functions.now c.names.i (record { ref_ptr = (0, 0); now = [] })
-    (record { entry = 0; size = 0; stack = 0 }) c.requires below).code
+pub decide-requires-clause-enough : goal.decide-requires-clause-enough
+decide-requires-clause-enough c =
+    enough c.args.image.now (typed_of c.args.unit.now) c.args.list.now c.args.pairs.now c.as_slice.result.now c.as_slice.ensures.value c.requires.paired
 
-pub judge_function-requires-clause-sized : goal.judge_function-requires-clause-sized
-judge_function-requires-clause-sized c =
-    let below : c.names.i < length c.args.list.now = search rules in
-    (listed_at c.args.image.now (unit_of c.args.unit.now) c.args.list.now c.args.functions.now c.names.i (record { ref_ptr = (0, 0); now = [] })
-    (record { entry = 0; size = 0; stack = 0 }) c.requires below).sized
-
-pub names-preserved : goal.names-preserved
-names-preserved c =
-    let list = c.args.list.now in
-    let i = c.names.i in
-    let below : i < length list = search rules in
-    let name = (get_or list i (record { ref_ptr = (0, 0); now = [] })).now in
-    one_more c.args.image.now (unit_of c.args.unit.now) (texts_of list) i name c.names.judgements.items c.push.new.self.items c.in-Ok-attempt.field-0
-    c.names.invariant (search rules) (sym (texts_at list i (record { ref_ptr = (0, 0); now = [] }) name below)) (texts_below list i below) (search rules) (search rules)
-    (search rules)
-
-pub returns : goal.returns
-returns c =
-    let past : length c.args.list.now ≤ c.names.i = search rules in
-    all_judged c.args.image.now (unit_of c.args.unit.now) (texts_of c.args.list.now) c.names.i _ c.names.invariant
-    (texts_past c.args.list.now c.names.i past)
+pub returns-2 : goal.returns-2
+returns-2 c =
+    let image = c.args.image.now in
+    let unit = typed_of c.args.unit.now in
+    let list = texts_of c.args.list.now in
+    let pairs = pairs_of list c.args.pairs.now in
+    let functions = c.as_slice.result.now in
+    let search = c.in-Ok-attempt.field-0 in
+    let decided = all_decided image unit list c.args.pairs.now functions c.as_slice.ensures.value c.requires.paired search c.in-Ok-attempt.ensures in
+    IfOk-weaker c.decide.result (λ d. decision_of d ≡ decided_by list functions search) (JudgesAll image unit list pairs)
+    (λ d e. subst (AreDecided image unit list pairs) (sym e) decided) c.decide.ensures

@@ -1,19 +1,28 @@
-use Rattle.std.proofs.Common.{rules, ◌∙◌, ap, subst}
-use Rattle.std.specs.Prelude.{IfOk}
-use Rattle.straight_code.specs.Units.{unit_of}
+use Rattle.std.proofs.Common.{rules, refl, sym, subst, ◌∙◌, ap}
+use Rattle.c_types.specs.Typed.{typed_of}
 use Rattle.c_reach.specs.Names.{texts_of}
-use Rattle.report_text.specs.Verdicts.{verdict_of}
 use Rattle.tv_words.specs.Jobs.{job_of}
-use Rattle.tv_core.specs.Tasks.{asked_of}
 use Rattle.tv_core.specs.Listed.{AnswersList}
 use Rattle.tv_core.proofs.Judged.{refused_many}
+use Rattle.tv_core.proofs.Lists.{judged_here, renamed_list}
 use Rattle.tv_core.proofs.functions.judge_names.Goals as goal
 
 pub returns-then-names-gt-MAX_FUNCTIONS : goal.returns-then-names-gt-MAX_FUNCTIONS
-returns-then-names-gt-MAX_FUNCTIONS c =
-    refused_many c.args.image.now (unit_of c.args.unit.now) (asked_of (job_of c.args.job.now)).task c.args.names.now (search rules)
+returns-then-names-gt-MAX_FUNCTIONS g c =
+    let image = c.args.image.now in
+    let unit = typed_of c.args.unit.now in
+    let command = job_of c.args.job.now in
+    let files = g.D.Desk.bytes c.args.desk.now in
+    judged_here image unit command c.args.names.now _ _
+    (subst (AnswersList files image unit command c.args.names.now) (sym c.plain.ensures) (refused_many files image unit command c.args.names.now (search rules))) tt
+
+pub judge_list-requires-clause-few : goal.judge_list-requires-clause-few
+judge_list-requires-clause-few g c = search rules
+
+pub returns : goal.returns
+returns g c = judged_here c.args.image.now (typed_of c.args.unit.now) (job_of c.args.job.now) c.args.names.now _ _ tt refl
 
 pub returns-2 : goal.returns-2
-returns-2 c =
-    subst (λ list. IfOk c.judge_list.result (λ verdict. AnswersList c.args.image.now (unit_of c.args.unit.now) (asked_of (job_of c.args.job.now)).task list (verdict_of verdict)))
+returns-2 g c =
+    renamed_list c.args.image.now (typed_of c.args.unit.now) (job_of c.args.job.now) _ _ _ _ c.judge_list.result
     (ap texts_of c.as_slice.ensures.value ∙ c.in-Ok-attempt.ensures) c.judge_list.ensures

@@ -1,6 +1,8 @@
-use Rattle.std.proofs.Common.{map, inl}
+use Rattle.std.proofs.Common.{◌∙◌, Err, map, inl, ap}
 use Rattle.std.specs.Prelude.{string_bytes}
-use Rattle.tv_core.proofs.Ending.{ends_valid, ends_as_decided, ends_by_usage, not_cut}
+use Rattle.tv_core.specs.Decisions.{trails_of}
+use Rattle.tv_core.proofs.Ending.{ends_valid, ends_as_decided, ends_by_usage, not_cut, hands_out, ends_failed, ends_without_memory}
+use Rattle.tv_core.proofs.Plain.{no_trails_of}
 use Rattle.tv_core.proofs.running.run.Goals as goal
 
 pub returns-in-Ok : goal.returns-in-Ok
@@ -8,20 +10,32 @@ returns-in-Ok g c =
     let words = map string_bytes c.args.words.now in
     let files = g.D.Desk.bytes c.args.desk.now in
     let code = c.in-Ok.code in
+    let trails = trails_of c.try_run.new.trails in
     let ends = c.in-Ok.ensures.ended in
     record {
-      valid = ends_valid words files _ _ code ends;
+      valid = ends_valid words files _ _ trails code ends;
       ended = λ four five. ends;
-      usage = λ four five. ends_by_usage words files _ _ code ends;
-      decided = λ four five. ends_as_decided words files _ _ code ends;
-      part = not_cut words files _ _ code ends;
+      usage = λ four five. ends_by_usage words files _ _ trails code ends;
+      decided = λ four five. ends_as_decided words files _ _ trails c.one_verdict.ensures code ends;
+      handed_out = hands_out words files _ _ trails code ends;
+      part = not_cut words files _ _ trails code ends;
       store_part = c.in-Ok.ensures.store_part;
       taken = c.in-Ok.ensures.taken;
       opened = c.in-Ok.ensures.opened;
       safely = record {
-        fault = λ four. not_cut words files _ _ code ends (inl four);
+        fault = λ four. not_cut words files _ _ trails code ends (inl four);
         counts = λ other. c.in-Ok.ensures.unfailing;
         store_first = c.in-Ok.ensures.store_first;
         same_files = c.in-Ok.ensures.same_files;
       };
     }
+
+pub returns-in-Err-Failed : goal.returns-in-Err-Failed
+returns-in-Err-Failed g c =
+    ends_failed _ _ _ _ _ c.try_run.result c.try_run.ensures (no_trails_of c.new.result c.new.ensures.unproved c.new.ensures.over)
+    (c.in-Err-Failed.is ∙ ap Err c.in-Err-Failed.field-0-is)
+
+pub returns-in-Err-NoMemory : goal.returns-in-Err-NoMemory
+returns-in-Err-NoMemory g c =
+    ends_without_memory _ _ _ _ _ c.try_run.result c.try_run.ensures (no_trails_of c.new.result c.new.ensures.unproved c.new.ensures.over)
+    (c.in-Err-NoMemory.is ∙ ap Err c.in-Err-NoMemory.field-0-is)

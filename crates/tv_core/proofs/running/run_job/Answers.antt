@@ -1,10 +1,7 @@
 use Rattle.std.proofs.Common.{refl, sym, inl, inr, subst}
-use Rattle.std.specs.Prelude.{option_map}
 use Rattle.std.proofs.lemmas.Result.{on_ok_weaker, on_err_weaker}
-use Rattle.report_text.specs.Verdicts.{verdict_of}
-use Rattle.tv_words.specs.Jobs.{job_of}
-use Rattle.tv_core.specs.Tasks.{asked_of}
-use Rattle.tv_core.specs.Ends.{certificate_name, IsOutcome}
+use Rattle.tv_core.specs.Decisions.{decision_of, trails_of}
+use Rattle.tv_core.specs.Ends.{IsOutcome}
 use Rattle.tv_core.proofs.Desks.{same_fault}
 use Rattle.tv_core.proofs.Ending.{ended_by}
 use Rattle.tv_core.proofs.running.run_job.Goals as goal
@@ -13,15 +10,16 @@ pub returns-in-Ok : goal.returns-in-Ok
 returns-in-Ok g c = λ words asked.
     let files = g.D.Desk.bytes c.args.desk.now in
     let name = c.name_of.result.now in
-    let verdict = verdict_of c.in-Ok.verdict in
-    let outcome : IsOutcome words files name verdict = subst (λ n. IsOutcome words files n verdict) (sym c.name_of.ensures) (c.in-Ok.ensures.exact words asked) in
+    let decision = decision_of c.in-Ok.decision in
+    let outcome : IsOutcome words files name decision = subst (λ n. IsOutcome words files n decision) (sym c.name_of.ensures) (c.in-Ok.ensures.exact words asked) in
     let read = c.in-Ok.ensures.reads words asked in
     let desk = c.in-Ok.ensures.kept in
     let out = c.give.ensures.published in
     record {
-      ended = ended_by words files name verdict _ _ c.give.result outcome c.give.ensures.status out;
-      part = on_err_weaker c.give.result (λ h. inr (name, verdict, outcome, h)) out.part;
-      store_part = inr (name, verdict, outcome, out.store_part);
+      ended = ended_by words files name decision _ _ (trails_of c.give.new.trails) c.give.result outcome c.give.ensures.status out;
+      trails_kept = c.give.ensures.kept;
+      part = on_err_weaker c.give.result (λ h. inr (name, decision, outcome, h)) out.part;
+      store_part = inr (name, decision, outcome, out.store_part);
       store_first = out.store_first;
       taken = read.0;
       opened = read.1;
@@ -37,6 +35,7 @@ returns-in-Err g c = λ words asked.
     let desk = same_fault _ _ c.in-Err.fault c.in-Err.ensures.kept in
     record {
       ended = tt;
+      trails_kept = refl;
       part = inl refl;
       store_part = inl refl;
       store_first = inl refl;

@@ -10,6 +10,7 @@ returns-in-Err g c =
     let memory = c.in-Err.ensures.memory in
     record {
       ended = tt;
+      trails_kept = refl;
       part = inl refl;
       store_part = inl refl;
       store_first = inl refl;

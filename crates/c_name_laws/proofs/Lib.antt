@@ -1,0 +1,4 @@
+pub mod Tokens
+pub mod Definitions
+pub mod Bodies
+pub mod Names

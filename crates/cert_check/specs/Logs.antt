@@ -1,0 +1,40 @@
+-- Logs, as the lines of their steps with the literals and hints from the first on.
+use Rattle.std.specs.Prelude.{ℕ, ◌+◌, nat_le, if◌then◌else◌, List, [], ◌∷◌, map, take, drop}
+use Rattle.clause_spec.specs.declared.Literal as clause
+use Rattle.clause_spec.specs.Log.{Step}
+use Rattle.cnf_core.specs.declared.literals.TheConstants.{MAX_VARIABLE}
+use Rattle.closing_spec.specs.declared.GoalQuantity.TheVariants as above
+use Rattle.discharge.specs.declared.error.CloseError.{CloseError}
+use Rattle.discharge.specs.declared.error.CloseError.TheVariants as close
+use Rattle.check_spec.specs.declared.RuleFault.TheVariants as fault
+use Rattle.check_spec.specs.declared.Quantity.TheVariants as quantity
+use Rattle.cert_lines.specs.declared.lines.Literal.{Literal}
+use Rattle.cert_lines.specs.declared.lines.Line.{Line}
+use Rattle.cert_lines.specs.Views.{literal_of, literals_in, hints_in}
+use Rattle.cert_check.specs.declared.fault.Named.TheVariants as named
+use Rattle.cert_check.specs.declared.fault.Fault.{Fault}
+use Rattle.cert_check.specs.declared.fault.Fault.TheVariants.{Broken, Above, NoMemory}
+
+-- the steps of these lines, where these literals and hints are next
+unfoldable pub steps_of : List Line → List Literal → List ℕ → List Step
+steps_of [] literals hints = []
+steps_of (line ∷ lines) literals hints =
+    record { literals = map literal_of (take (literals_in line) literals); hints = take (hints_in line) hints }
+    ∷ steps_of lines (drop (literals_in line) literals) (drop (hints_in line) hints)
+
+-- a literal; one of no variable where the number is above those that are kept
+abbrev pub clipped : clause.Literal → clause.Literal
+clipped l = if nat_le l.variable MAX_VARIABLE then l else record { variable = 0; is_negated = l.is_negated }
+
+-- the number of the step that doesn't follow
+abbrev pub number_in : CloseError → ℕ
+number_in (close.Step number) = number
+number_in other = 0
+
+-- where and for what a log fails that is at the line of an index, in the part of a listed function
+abbrev pub line_fault : (part index : ℕ) → CloseError → ℕ × Fault
+line_fault part index (close.Large above.Terms count) = (index, Above quantity.Terms)
+line_fault part index (close.Large above.Variables count) = (index, Above quantity.Variables)
+line_fault part index (close.Step number) = (index + number, Broken (named.Listed part) fault.Step)
+line_fault part index close.Unclosed = (index, Broken (named.Listed part) fault.Unclosed)
+line_fault part index close.NoMemory = (index, NoMemory)

@@ -1,0 +1,19 @@
+use Rattle.std.proofs.Common.{List, map, sym, subst}
+use Rattle.std.proofs.lemmas.Result.{IfOk-weaker}
+use Rattle.rule_terms.specs.declared.convention.Convention.{Convention}
+use Rattle.check_laws.specs.Statements.{listed_of}
+use Rattle.cert_frames.specs.declared.listed.Listed.{Listed}
+use Rattle.cert_frames.specs.Listed.{AreListed}
+use Rattle.check_setup.specs.Entries.{AreConventions}
+use Rattle.cert_run.proofs.runs.search_sides.Goals as goal
+
+pub returns-in-Ok-listed : goal.returns-in-Ok-listed
+returns-in-Ok-listed c =
+    IfOk-weaker c.find.result _ _
+    (λ made searches q functions entries graphs truths.
+    searches (map (listed_of q) functions)
+    (subst (λ (codes : List Listed). AreListed codes (map (listed_of q) functions)) (sym c.as_slice-in-Ok-listed.ensures.value)
+    (c.in-Ok-listed.ensures q functions entries
+    (subst (λ (made : List Convention). AreConventions q functions made) (sym c.as_slice.ensures.value) (c.in-Ok.ensures.are q functions entries)) graphs))
+    truths)
+    c.find.ensures

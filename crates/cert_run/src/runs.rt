@@ -1,0 +1,91 @@
+//! Certificates of the functions of a list with pairs.
+
+ghost use Rattle.std.specs.Prelude.{IfOk};
+ghost use Rattle.c_types.specs.Typed.{typed_of};
+ghost use Rattle.c_reach.specs.Names.{texts_of};
+ghost use Rattle.pair_setup.specs.Answers.{pairs_of};
+ghost use Rattle.cert_run.specs.Runs.{Answers, CanRun, Finds, IsOutcomeBy, SearchesSides};
+
+use crate::finding::{Search, find};
+use crate::outcome::{Outcome, verdict};
+use attempt::attempt;
+use c_types::typed::Typed;
+use cert_verdict_spec::laws::{files_have_words, logged_leaves_are_valid, proofs_are_valid};
+use check_sides::Sides;
+use elf_read::Image;
+use pair_setup::Pairs;
+use std::alloc::{AllocError, Global};
+use trail_laws::laws::functions_have_truths;
+
+// The verdict on the bytes of a certificate, of functions of both sides.
+fn outcome_of_sides(
+    alloc: Global,
+    sides: &Sides<'_>,
+    certificate: &[u8],
+) -> Result<Outcome, AllocError>
+    ensures { IfOk result (IsOutcomeBy sides.now certificate.now) }
+{
+    match sides.conventions(alloc) {
+        Ok(conventions) => match sides.listed(alloc, conventions.as_slice()) {
+            Ok(listed) => verdict(alloc, listed.as_slice(), certificate),
+            Err(error) => Err(error),
+        },
+        Err(error) => Err(error),
+    }
+}
+
+/// The verdict on the bytes of a certificate, for the functions of a list with pairs.
+pub fn check(
+    alloc: Global,
+    image: &Image<'_>,
+    unit: &Typed<'_>,
+    list: &[&[u8]],
+    pairs: &Pairs,
+    certificate: &[u8],
+) -> Result<Outcome, AllocError>
+    requires { CanRun image.now (typed_of unit.now) (texts_of list.now)
+        (pairs_of (texts_of list.now) pairs.now) }
+    ensures { IfOk result (Answers image.now (typed_of unit.now)
+        (pairs_of (texts_of list.now) pairs.now) certificate.now) }
+{
+    // laws, of which nothing runs
+    files_have_words();
+    proofs_are_valid();
+    let sides = attempt!(Sides::new(alloc, image, unit, list, pairs));
+    outcome_of_sides(alloc, &sides, certificate)
+}
+
+// What a search finds of the functions of both sides.
+fn search_sides(alloc: Global, sides: &Sides<'_>) -> Result<Search, AllocError>
+    ensures { IfOk result (SearchesSides sides.now) }
+{
+    match sides.conventions(alloc) {
+        Ok(conventions) => match sides.listed(alloc, conventions.as_slice()) {
+            Ok(listed) => find(alloc, listed.as_slice()),
+            Err(error) => Err(error),
+        },
+        Err(error) => Err(error),
+    }
+}
+
+/// What a search finds of the functions of a list with pairs: which it proves, each by a bare Leaf
+/// and logs, the certificate of these, and the trails of the others.
+pub fn prove(
+    alloc: Global,
+    image: &Image<'_>,
+    unit: &Typed<'_>,
+    list: &[&[u8]],
+    pairs: &Pairs,
+) -> Result<Search, AllocError>
+    requires { CanRun image.now (typed_of unit.now) (texts_of list.now)
+        (pairs_of (texts_of list.now) pairs.now) }
+    ensures { IfOk result (Finds image.now (typed_of unit.now)
+        (pairs_of (texts_of list.now) pairs.now)) }
+{
+    // laws, of which nothing runs
+    files_have_words();
+    functions_have_truths();
+    logged_leaves_are_valid();
+    let sides = attempt!(Sides::new(alloc, image, unit, list, pairs));
+    search_sides(alloc, &sides)
+}

@@ -1,0 +1,5 @@
+mod Walked
+mod Opened
+mod Searched
+mod Adding
+mod Listing

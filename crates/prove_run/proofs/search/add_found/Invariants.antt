@@ -1,0 +1,6 @@
+use Rattle.prove_run.proofs.Listing.{AreSoFar}
+use Rattle.prove_run.proofs.search.add_found.Given as goal
+
+-- what was found so far
+abbrev pub invariant-loop-index : goal.invariant-loop-index
+invariant-loop-index l = AreSoFar l.listed l.index l.all.items

@@ -1,0 +1,39 @@
+-- The obligations of a Leaf at a function's entry, in a bank.
+use Rattle.std.specs.Prelude.{ℕ, Vec, List, Result, Ok, Err}
+use Rattle.std.specs.Global.{Global}
+use Rattle.std.specs.HashMap.{get}
+use Rattle.term_spec.specs.Same.{same_variable}
+use Rattle.term_spec.specs.Term.{Term}
+use Rattle.path_cond.specs.States.{IsMapOf}
+use Rattle.proof_spec.specs.Frames.{Frame}
+use Rattle.rule_spec.specs.Points.{Convention}
+use Rattle.rule_spec.specs.Rules as rules
+use Rattle.rule_spec.specs.Obligations as rule
+use Rattle.rule_terms.specs.declared.points.Opening.{Opening}
+use Rattle.sim_rules.specs.Outcome.{AreObligations, HasFewVisits, IsRuleFault}
+use Rattle.sim_rules.specs.declared.fault.RuleFault.{RuleFault}
+use Rattle.sim_rules.specs.declared.fault.RuleFault.TheVariants.{Sort, Cyclic, Large, NoMemory}
+use Rattle.tv_base.specs.declared.limits.TheConstants.{MAX_VISITS}
+use Rattle.cert_frames.specs.declared.listed.Listed.{Listed}
+use Rattle.cert_frames.specs.Listed.{terms_given}
+
+-- the maps have the terms of the function's entry
+pub record AreOpened (f : Listed) (trees : List Term) (o : Opening) : Type 0 where
+  pub of_binary : IsMapOf trees (get same_variable o.binary.now) (terms_given f.binary_terms.now)
+  pub of_source : IsMapOf trees (get same_variable o.source.now) (terms_given f.source_terms.now)
+
+-- neither walk has too many visits, and the ids are those of a Leaf's obligations
+pub record HasGoals (c : Convention) (o : rules.Opening) (frame : Frame) (trees : List Term) (goals : List ℕ) : Type 0 where
+  pub few : HasFewVisits o frame MAX_VISITS rule.Leaf
+  pub are : AreObligations trees c o frame rule.Leaf goals
+
+abbrev pub AnswersGoals : Convention → rules.Opening → Frame → List Term → Result (Vec ℕ Global) RuleFault → Type 0
+AnswersGoals c o frame trees (Ok goals) = HasGoals c o frame trees goals.items
+AnswersGoals c o frame trees (Err fault) = IsRuleFault o frame MAX_VISITS rule.Leaf fault
+
+-- a Leaf has no line
+abbrev pub IsLeafFault : RuleFault → Type 0
+IsLeafFault (Sort index) = ⊥
+IsLeafFault (Cyclic node) = Unit {0}
+IsLeafFault (Large count) = Unit {0}
+IsLeafFault NoMemory = Unit {0}

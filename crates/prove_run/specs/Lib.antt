@@ -1,0 +1,6 @@
+pub mod Walks
+pub mod Goals
+pub mod Found
+pub mod Logs
+pub mod Written
+pub mod Trails

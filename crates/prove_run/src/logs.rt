@@ -1,0 +1,103 @@
+//! The search for the logs of obligations.
+
+ghost use Rattle.std.specs.Prelude.{◌≡◌, ◌<◌, ℕ, [], All, IfOk, List, Some, length, map};
+ghost use Rattle.memory_spec.specs.Runs as fixed;
+ghost use Rattle.memory_spec.specs.Viewed.{runs_of};
+ghost use Rattle.term_spec.specs.declared.Sort.TheVariants as sort;
+ghost use Rattle.term_spec.specs.Term.{Term};
+ghost use Rattle.term_spec.specs.Sort.{sort_of};
+ghost use Rattle.term_bank.specs.Nodes.{Extends, tree_at};
+ghost use Rattle.prove_run.specs.Found.{logs_of};
+ghost use Rattle.prove_run.specs.Logs.{AreTruths, HasLog, HaveLogs, IsLeanLog, IsSearched};
+
+use crate::trail::{Found, Trail};
+use attempt::attempt;
+use discharge::{SeekError, Sought, seek};
+use memory_spec::Run;
+use sat_log::Step;
+use std::alloc::{AllocError, Global};
+use term_bank::{Bank, TermId};
+use trail_spec::{Measure, SEARCH_LIMIT};
+
+// Adds a log; there is no trail.
+fn push_log(logs: &mut Vec<Vec<Step>>, log: Vec<Step>) -> Result<Option<Trail>, AllocError>
+    ensures { (runs : List fixed.Run) (goal : Term) (number : ℕ)
+        → IsLeanLog runs goal log.items
+        → IfOk result (HasLog runs goal number logs.old.items logs.new.items) }
+{
+    attempt!(logs.push(log), AllocError);
+    Ok(None)
+}
+
+// Adds the log of the obligation of a number, or gives the trail.
+fn add_log(
+    alloc: Global,
+    bank: &mut Bank,
+    goal: TermId,
+    number: usize,
+    runs: &[Run],
+    logs: &mut Vec<Vec<Step>>,
+) -> Result<Option<Trail>, AllocError>
+    requires { goal < length bank.old }
+    ensures log { sort_of (tree_at bank.old goal) ≡ Some sort.Truth
+        → IfOk result (HasLog (runs_of runs.now) (tree_at bank.old goal) number logs.old.items
+        logs.new.items) }
+    ensures extends { Extends bank.old bank.new }
+{
+    match seek(alloc, bank, goal, SEARCH_LIMIT, runs) {
+        Ok(Sought::Valid(log)) => push_log(logs, log),
+        Ok(Sought::Refuted(assignment)) => {
+            assignment.is_assignment();
+            Ok(Some(Trail::Refuted(number, assignment)))
+        }
+        Ok(Sought::Limit(log)) => Ok(Some(Trail::Spent(number, log))),
+        Err(SeekError::Large(quantity, count)) => {
+            let measure = Measure::Obligation(number, quantity);
+            Ok(Some(Trail::Large(measure, count)))
+        }
+        Err(SeekError::NoMemory) => Err(AllocError),
+    }
+}
+
+// Adds the log of each obligation, up to the first that has none: its trail.
+fn add_logs(
+    alloc: Global,
+    bank: &mut Bank,
+    goals: &[TermId],
+    runs: &[Run],
+    logs: &mut Vec<Vec<Step>>,
+) -> Result<Option<Trail>, AllocError>
+    requires within { All (λ goal. goal < length bank.old) goals.now }
+    requires nothing { logs.old.items ≡ [] }
+    ensures { AreTruths (map (tree_at bank.old) goals.now) → IfOk result (HaveLogs
+        (runs_of runs.now) (map (tree_at bank.old) goals.now) (logs_of logs.new.items)) }
+{
+    for index in 0..goals.len() {
+        let goal = goals[index];
+        match add_log(alloc, bank, goal, index, runs, logs) {
+            Ok(None) => {}
+            Ok(Some(trail)) => return Ok(Some(trail)),
+            Err(error) => return Err(error),
+        }
+    }
+    Ok(None)
+}
+
+/// The logs of obligations, or the trail of the first that has none.
+pub(crate) fn search(
+    alloc: Global,
+    bank: &mut Bank,
+    goals: &[TermId],
+    runs: &[Run],
+) -> Result<Found, AllocError>
+    requires { All (λ goal. goal < length bank.old) goals.now }
+    ensures { AreTruths (map (tree_at bank.old) goals.now) → IfOk result (IsSearched
+        (runs_of runs.now) (map (tree_at bank.old) goals.now)) }
+{
+    let mut logs = Vec::new(alloc);
+    match add_logs(alloc, bank, goals, runs, &mut logs) {
+        Ok(None) => Ok(Found::Proved(logs)),
+        Ok(Some(trail)) => Ok(Found::Unproved(trail)),
+        Err(error) => Err(error),
+    }
+}

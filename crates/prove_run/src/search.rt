@@ -1,0 +1,80 @@
+//! The search for proofs of functions.
+
+ghost use Rattle.std.specs.Prelude.{◌≡◌, [], All, IfOk, List, OnOk, length, map};
+ghost use Rattle.check_spec.specs.Verdict as spec;
+ghost use Rattle.cert_frames.specs.Listed.{AreListed, IsListed};
+ghost use Rattle.trail_spec.specs.Proofs.{HasTruths};
+ghost use Rattle.trail_spec.specs.Trails.{AreFound, IsFound};
+ghost use Rattle.prove_run.specs.Found.{found_of};
+ghost use Rattle.prove_run.specs.Goals.{AreOpened};
+
+use crate::goals::leaf_goals;
+use crate::logs::search;
+use crate::trail::Found;
+use crate::walks::why;
+use attempt::attempt;
+use cert_frames::{Listed, known};
+use rule_terms::Opening;
+use std::alloc::{AllocError, Global};
+use term_bank::Bank;
+
+// What the search finds of a function, the terms of whose variables at the entry are known.
+fn find_opened(
+    alloc: Global,
+    function: &Listed<'_>,
+    opening: Opening<'_>,
+    bank: &mut Bank,
+) -> Result<Found, AllocError>
+    requires { AreOpened function.now bank.old opening }
+    ensures { (f : spec.Listed) → IsListed function.now f → HasTruths f
+        → IfOk result (λ found. IsFound f (found_of found)) }
+{
+    match leaf_goals(alloc, function, opening, bank) {
+        Ok(goals) => search(alloc, bank, goals.as_slice(), function.runs),
+        Err(fault) => why(alloc, function, fault),
+    }
+}
+
+// What the search finds of a function.
+fn find(alloc: Global, function: &Listed<'_>) -> Result<Found, AllocError>
+    ensures { (f : spec.Listed) → IsListed function.now f → HasTruths f
+        → IfOk result (λ found. IsFound f (found_of found)) }
+{
+    let mut bank = Bank::new(alloc);
+    let binary = attempt!(known(alloc, &mut bank, function.binary_terms));
+    let source = attempt!(known(alloc, &mut bank, function.source_terms));
+    let opening = Opening {
+        binary: &binary,
+        source: &source,
+    };
+    find_opened(alloc, function, opening, &mut bank)
+}
+
+// Adds what the search finds of each function.
+fn add_found(alloc: Global, listed: &[Listed<'_>], all: &mut Vec<Found>) -> Result<(), AllocError>
+    requires { all.old.items ≡ [] }
+    ensures found { (functions : List spec.Listed) → AreListed listed.now functions
+        → All HasTruths functions
+        → OnOk result (AreFound functions (map found_of all.new.items)) }
+    ensures count { OnOk result (length all.new.items ≡ length listed.now) }
+{
+    for index in 0..listed.len() {
+        let found = attempt!(find(alloc, &listed[index]));
+        attempt!(all.push(found), AllocError);
+    }
+    Ok(())
+}
+
+/// What the search finds of each listed function, in their order: the logs of its obligations, or
+/// the trail of the first obligation that has none. Each function has a bank of its own, and each
+/// obligation a search that learns at most [`SEARCH_LIMIT`](trail_spec::SEARCH_LIMIT) clauses.
+pub fn prove(alloc: Global, listed: &[Listed<'_>]) -> Result<Vec<Found>, AllocError>
+    ensures found { (functions : List spec.Listed) → AreListed listed.now functions
+        → All HasTruths functions
+        → IfOk result (λ all. AreFound functions (map found_of all.items)) }
+    ensures count { IfOk result (λ all. length all.items ≡ length listed.now) }
+{
+    let mut all = Vec::new(alloc);
+    attempt!(add_found(alloc, listed, &mut all));
+    Ok(all)
+}

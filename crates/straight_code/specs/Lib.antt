@@ -1,5 +1,0 @@
-pub mod Straight
-pub mod Source
-pub mod Units
-pub mod Decision
-pub mod Terms
