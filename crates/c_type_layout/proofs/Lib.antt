@@ -1,5 +1,5 @@
 pub mod Wrapped
 pub mod Sizes
-pub mod Same
 pub mod Outers
 pub mod Members
+pub mod Pointed

@@ -46,7 +46,7 @@ module _ (structs : tree.Structs) (base : Base) where
   size-counted : (layers : Layers) → AreCounted layers → capped (tree.times (extent_of layers).count (innermost_size structs base (extent_of layers).of_pointers)) ≡ capped (tree.size_of structs (wrapped layers base))
   unfolding tree.size_of
   size-counted Nothing h = ap capped (single (tree.size_of structs (base_of base)))
-  size-counted (Pointer' p rest) h = ap capped (single (Some (POINTER_WIDTH / 8)))
+  size-counted (Pointer' further p rest) h = ap capped (single (Some (POINTER_WIDTH / 8)))
   size-counted (Array' length extent p rest) h =
       ap (λ e. capped (tree.times e.count (innermost_size structs base e.of_pointers))) h.0
       ∙ more-count length (extent_of rest).count (innermost_size structs base (extent_of rest).of_pointers)
@@ -62,7 +62,7 @@ module _ (structs : tree.Structs) (base : Base) where
   pub alignment-by_extent : (layers : Layers) → AreCounted layers → innermost_alignment structs base (extent_of layers).of_pointers ≡ tree.alignment_of structs (wrapped layers base)
   unfolding tree.alignment_of
   alignment-by_extent Nothing h = refl
-  alignment-by_extent (Pointer' p rest) h = refl
+  alignment-by_extent (Pointer' further p rest) h = refl
   alignment-by_extent (Array' length extent p rest) h = ap (λ e. innermost_alignment structs base e.of_pointers) h.0 ∙ alignment-by_extent rest h.1
 
 pub ruleset looked_up = (slice_get-map)

@@ -17,11 +17,11 @@ array_extent length extent = record { count = capped (tree.times length extent.c
 -- that of the outermost arrays, down to a pointer or to what has no layers
 abbrev pub extent_of : Layers → Extent
 extent_of Nothing = record { count = Some 1; of_pointers = false }
-extent_of (Pointer' p rest) = record { count = Some 1; of_pointers = true }
+extent_of (Pointer' further p rest) = record { count = Some 1; of_pointers = true }
 extent_of (Array' length extent p rest) = extent
 
 -- each array has its extent
 abbrev pub AreCounted : Layers → Type 0
 AreCounted Nothing = Unit {0}
-AreCounted (Pointer' p rest) = AreCounted rest
+AreCounted (Pointer' further p rest) = AreCounted rest
 AreCounted (Array' length extent p rest) = (extent ≡ array_extent length (extent_of rest)) × AreCounted rest

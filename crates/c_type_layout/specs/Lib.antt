@@ -1,3 +1,4 @@
 pub mod Extents
 pub mod Types
 pub mod Structs
+pub mod Comparison

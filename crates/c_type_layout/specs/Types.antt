@@ -1,5 +1,5 @@
 -- The type that a type of the program is.
-use Rattle.std.specs.Prelude.{◌&&◌, Bool, true, false, Option, Some, None}
+use Rattle.std.specs.Prelude.{◌≡◌, ℕ, zero, suc, Bool, true, false, Option, Some, None, option_map, IfSome}
 use Rattle.c_type_spec.specs.Types as tree
 use Rattle.c_type_layout.specs.declared.types.Base.{Base}
 use Rattle.c_type_layout.specs.declared.types.Base.TheVariants as base
@@ -14,10 +14,15 @@ base_of base.Void = tree.Void
 base_of (base.Integer scalar) = tree.Integer scalar
 base_of (base.Struct number) = tree.Struct number
 
+-- a type with so many pointers round it
+abbrev pub pointed : (pointers : ℕ) → tree.CType → tree.CType
+pointed zero type = type
+pointed (suc pointers) type = tree.Pointer (pointed pointers type)
+
 -- a type with layers round it, the outermost first
 abbrev pub wrapped : Layers → Base → tree.CType
 wrapped Nothing base = base_of base
-wrapped (Pointer' p rest) base = tree.Pointer (wrapped rest base)
+wrapped (Pointer' further p rest) base = tree.Pointer (pointed further (wrapped rest base))
 wrapped (Array' length extent p rest) base = tree.Array length (wrapped rest base)
 
 unfoldable pub type_of : CType → tree.CType
@@ -39,12 +44,13 @@ abbrev pub element_of : tree.CType → Option tree.CType
 element_of (tree.Array length element) = Some element
 element_of other = None
 
--- as many layers, each equal to the other's
-unfoldable pub same_layers : Layers → Layers → Bool
-same_layers Nothing Nothing = true
-same_layers (Pointer' p layers) (Pointer' q others) = same_layers layers others
-same_layers (Array' m e p layers) (Array' n f q others) = tree.same_length m n && same_layers layers others
-same_layers layers others = false
+-- if any, those of a pointer to what has these layers
+abbrev pub IsLonger : (found : Option Layers) → Layers → Type 0
+IsLonger found layers = IfSome found (λ l. (base : Base) → wrapped l base ≡ tree.Pointer (wrapped layers base))
+
+-- those of what a pointer points to; none where what has these layers is none
+abbrev pub IsTarget : (found : Option Layers) → Layers → Type 0
+IsTarget found layers = (base : Base) → option_map (λ l. wrapped l base) found ≡ target_of (wrapped layers base)
 
 abbrev pub void_pointer : tree.CType → Bool
 void_pointer (tree.Pointer target) = tree.is_void target

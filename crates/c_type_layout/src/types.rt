@@ -1,12 +1,13 @@
 //! Types.
 
-ghost use Rattle.std.specs.Prelude.{◌≡◌, IfOk, option_map};
+ghost use Rattle.std.specs.Prelude.{◌≡◌, ◌≤◌, IfOk, IfSome, option_map};
 ghost use Rattle.c_type_spec.specs.Types as tree;
 ghost use Rattle.c_type_spec.specs.Operands as rule;
 ghost use Rattle.c_type_layout.specs.Extents.{extent_of, AreCounted};
 ghost use Rattle.c_type_layout.specs.Types as specs;
 ghost use Rattle.c_type_layout.specs.Types.{type_of, base_of, outer_of, target_of, element_of};
-ghost use Rattle.c_type_layout.specs.Types.{wrapped};
+ghost use Rattle.c_type_layout.specs.Types.{wrapped, pointed, IsLonger, IsTarget};
+ghost use Rattle.c_type_layout.specs.Comparison.{inside, head_type};
 
 use crate::extents::Extent;
 use attempt::attempt;
@@ -36,8 +37,8 @@ pub enum Base {
 pub enum Layers {
     /// None of them.
     Nothing,
-    /// A pointer, and what it points to.
-    Pointer(Rc<Layers>),
+    /// A pointer, as many further pointers directly inside it, and what the last of them points to.
+    Pointer(u32, Rc<Layers>),
     /// An array with its length or without, the extent of it and of the arrays directly inside it,
     /// and its elements.
     Array(Option<u64>, Extent, Rc<Layers>),
@@ -48,7 +49,7 @@ impl Drop for Layers {
         loop {
             match self {
                 Layers::Nothing => return,
-                Layers::Pointer(rest) => match Rc::into_inner(rest) {
+                Layers::Pointer(_, rest) => match Rc::into_inner(rest) {
                     Some(layers) => self = layers,
                     None => return,
                 },
@@ -117,7 +118,7 @@ impl Layers {
                 count: Some(1),
                 of_pointers: false,
             },
-            Layers::Pointer(_) => Extent {
+            Layers::Pointer(_, _) => Extent {
                 count: Some(1),
                 of_pointers: true,
             },
@@ -132,14 +133,65 @@ impl Layers {
     {
         match self {
             Layers::Nothing => Ok(Layers::Nothing),
-            Layers::Pointer(rest) => {
+            Layers::Pointer(further, rest) => {
                 let shared = attempt!(rest.clone());
-                Ok(Layers::Pointer(shared))
+                Ok(Layers::Pointer(*further, shared))
             }
             Layers::Array(length, extent, rest) => {
                 let shared = attempt!(rest.clone());
                 Ok(Layers::Array(*length, *extent, shared))
             }
+        }
+    }
+
+    /// A pointer more, where they begin with a pointer that can count it.
+    fn longer(&self) -> Result<Option<Layers>, AllocError>
+        ensures same { IfOk result (λ found. IsLonger found self.now) }
+        ensures counted { IfOk result (λ found. AreCounted self.now → IfSome found AreCounted) }
+    {
+        match self {
+            Layers::Pointer(further, rest) => match further.checked_add(1) {
+                Some(more) => {
+                    let shared = attempt!(rest.clone());
+                    Ok(Some(Layers::Pointer(more, shared)))
+                }
+                None => Ok(None),
+            },
+            Layers::Nothing | Layers::Array(_, _, _) => Ok(None),
+        }
+    }
+
+    /// Those of a pointer to what has these.
+    fn pointer(self, alloc: Global) -> Result<Layers, AllocError>
+        ensures same { IfOk result (λ l. (b : Base) → wrapped l b ≡ tree.Pointer (wrapped self b)) }
+        ensures counted { IfOk result (λ l. AreCounted self → AreCounted l) }
+    {
+        match attempt!(self.longer()) {
+            Some(longer) => Ok(longer),
+            None => {
+                let target = Rc::new(alloc, self)?;
+                Ok(Layers::Pointer(0, target))
+            }
+        }
+    }
+
+    /// Those of what a pointer points to; none where they don't begin with a pointer.
+    fn target(&self) -> Result<Option<Layers>, AllocError>
+        ensures same { IfOk result (λ found. IsTarget found self.now) }
+        ensures counted { IfOk result (λ found. AreCounted self.now → IfSome found AreCounted) }
+    {
+        match self {
+            Layers::Pointer(further, rest) => match further.checked_sub(1) {
+                Some(fewer) => {
+                    let shared = attempt!(rest.clone());
+                    Ok(Some(Layers::Pointer(fewer, shared)))
+                }
+                None => {
+                    let target = attempt!(rest.share());
+                    Ok(Some(target))
+                }
+            },
+            Layers::Nothing | Layers::Array(_, _, _) => Ok(None),
         }
     }
 }
@@ -200,7 +252,7 @@ impl CType {
     {
         match self.layers.get() {
             Layers::Nothing => plain_outer(self.base),
-            Layers::Pointer(_) => Outer::Pointer,
+            Layers::Pointer(_, _) => Outer::Pointer,
             Layers::Array(length, _, _) => Outer::Array(*length),
         }
     }
@@ -254,7 +306,7 @@ impl CType {
         ensures { result ≡ specs.void_pointer (type_of self.now) }
     {
         match self.layers.get() {
-            Layers::Pointer(target) => is_void(self.base, target),
+            Layers::Pointer(further, rest) => is_void(self.base, *further, rest),
             Layers::Nothing | Layers::Array(_, _, _) => false,
         }
     }
@@ -269,13 +321,11 @@ impl CType {
             base,
             layers,
         } = self;
-        let target = Rc::new(alloc, layers.layers)?;
+        let layers = attempt!(layers.layers.pointer(alloc));
         Ok(CType {
             alloc,
             base,
-            layers: Counted {
-                layers: Layers::Pointer(target),
-            },
+            layers: Counted { layers },
         })
     }
 
@@ -305,16 +355,13 @@ impl CType {
     pub fn target(&self) -> Result<Option<CType>, AllocError>
         ensures { IfOk result (λ t. option_map type_of t ≡ target_of (type_of self.now)) }
     {
-        match self.layers.get() {
-            Layers::Pointer(target) => {
-                let layers = attempt!(target.share());
-                Ok(Some(CType {
-                    alloc: self.alloc,
-                    base: self.base,
-                    layers: Counted { layers },
-                }))
-            }
-            Layers::Nothing | Layers::Array(_, _, _) => Ok(None),
+        match attempt!(self.layers.get().target()) {
+            Some(layers) => Ok(Some(CType {
+                alloc: self.alloc,
+                base: self.base,
+                layers: Counted { layers },
+            })),
+            None => Ok(None),
         }
     }
 
@@ -332,7 +379,7 @@ impl CType {
                     layers: Counted { layers },
                 }))
             }
-            Layers::Nothing | Layers::Pointer(_) => Ok(None),
+            Layers::Nothing | Layers::Pointer(_, _) => Ok(None),
         }
     }
 
@@ -365,13 +412,16 @@ fn is_void_base(base: Base) -> bool
     }
 }
 
-/// A type with these layers is `void`.
-fn is_void(base: Base, layers: &Layers) -> bool
-    ensures { result ≡ tree.is_void (wrapped layers.now base) }
+/// A type with so many pointers, and these layers inside them, is `void`.
+fn is_void(base: Base, pointers: u32, layers: &Layers) -> bool
+    ensures { result ≡ tree.is_void (pointed pointers (wrapped layers.now base)) }
 {
+    if pointers > 0 {
+        return false;
+    }
     match layers {
         Layers::Nothing => is_void_base(base),
-        Layers::Pointer(_) | Layers::Array(_, _, _) => false,
+        Layers::Pointer(_, _) | Layers::Array(_, _, _) => false,
     }
 }
 
@@ -406,41 +456,113 @@ fn same_base(a: Base, b: Base) -> bool
     }
 }
 
-/// As many layers, each equal to the other's.
-#[tactic(auto, unfolding(crate::specs::Types::same_layers))]
-fn same_layers(a: &Layers, b: &Layers) -> bool
-    ensures { result ≡ specs.same_layers a.now b.now }
+/// What is inside some of the layers of a type.
+#[derive(Clone, Copy)]
+struct Inner<'a> {
+    /// How many pointers it begins with, besides those of `layers`.
+    pointers: u32,
+    /// The layers inside these pointers.
+    layers: &'a Layers,
+    /// What the type has innermost.
+    base: Base,
+}
+
+/// The outermost layer of a type, and what is inside it.
+#[derive(Clone, Copy)]
+enum Head<'a> {
+    /// There is none.
+    Base(Base),
+    /// A pointer, and what it points to.
+    Pointer(Inner<'a>),
+    /// An array, with its length or without, and its elements.
+    Array(Option<u64>, Inner<'a>),
+}
+
+impl<'a> Inner<'a> {
+    /// The outermost layer.
+    fn head(self) -> Head<'a>
+        ensures { head_type result ≡ inside self.entry }
+    {
+        let base = self.base;
+        if self.pointers > 0 {
+            return Head::Pointer(Inner {
+                pointers: self.pointers - 1,
+                layers: self.layers,
+                base,
+            });
+        }
+        match self.layers {
+            Layers::Nothing => Head::Base(base),
+            Layers::Pointer(further, rest) => Head::Pointer(Inner {
+                pointers: *further,
+                layers: rest,
+                base,
+            }),
+            Layers::Array(length, _, rest) => Head::Array(
+                *length,
+                Inner {
+                    pointers: 0,
+                    layers: rest,
+                    base,
+                },
+            ),
+        }
+    }
+
+    /// What is inside so many of its first pointers.
+    fn within(self, pointers: u32) -> Inner<'a>
+        requires { pointers ≤ self.pointers }
+        ensures { pointed pointers (inside result) ≡ inside self.entry }
+    {
+        Inner {
+            pointers: self.pointers - pointers,
+            layers: self.layers,
+            base: self.base,
+        }
+    }
+}
+
+/// The types are equal. A turn takes an array off both, or the shorter of their runs of pointers.
+#[tactic(auto, unfolding(c_type_spec::specs::Types::same_type))]
+fn same_inner(a: Inner, b: Inner) -> bool
+    ensures { result ≡ tree.same_type (inside a.entry) (inside b.entry) }
 {
     let mut left = a;
     let mut right = b;
     loop {
-        match (left, right) {
-            (Layers::Nothing, Layers::Nothing) => return true,
-            (Layers::Pointer(s), Layers::Pointer(t)) => {
-                left = s;
-                right = t;
+        match (left.head(), right.head()) {
+            (Head::Base(s), Head::Base(t)) => return same_base(s, t),
+            (Head::Pointer(s), Head::Pointer(t)) => {
+                let common = s.pointers.min(t.pointers);
+                left = s.within(common);
+                right = t.within(common);
             }
-            (Layers::Array(m, _, s), Layers::Array(n, _, t)) => {
-                if !same_length(*m, *n) {
+            (Head::Array(m, s), Head::Array(n, t)) => {
+                if !same_length(m, n) {
                     return false;
                 }
                 left = s;
                 right = t;
             }
-            (Layers::Nothing, Layers::Pointer(_)) => return false,
-            (Layers::Nothing, Layers::Array(_, _, _)) => return false,
-            (Layers::Pointer(_), Layers::Nothing) => return false,
-            (Layers::Pointer(_), Layers::Array(_, _, _)) => return false,
-            (Layers::Array(_, _, _), Layers::Nothing) => return false,
-            (Layers::Array(_, _, _), Layers::Pointer(_)) => return false,
+            _ => return false,
         }
     }
 }
 
 /// The types are equal.
-#[tactic(auto, unfolding(crate::specs::Types::type_of), using(crate::proofs::Same::same_parts))]
+#[tactic(auto, unfolding(crate::specs::Types::type_of))]
 pub fn same_type(a: &CType, b: &CType) -> bool
     ensures { result ≡ tree.same_type (type_of a.now) (type_of b.now) }
 {
-    same_base(a.base, b.base) && same_layers(a.layers.get(), b.layers.get())
+    let left = Inner {
+        pointers: 0,
+        layers: a.layers.get(),
+        base: a.base,
+    };
+    let right = Inner {
+        pointers: 0,
+        layers: b.layers.get(),
+        base: b.base,
+    };
+    same_inner(left, right)
 }

@@ -1,3 +1,4 @@
 mod Sides
+mod Numbers
 mod Searching
 mod Certified

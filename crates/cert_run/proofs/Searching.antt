@@ -1,6 +1,6 @@
 -- What is found, one function after the other, and the two ways to answer it.
 use Rattle.std.proofs.Common.{◌≡◌, ◌∙◌, ◌+◌, ◌<◌, ◌≤◌, ℕ, Bool, List, [], ◌∷◌, ◌++◌, length, get_or, take, inl, inr, sym, ap, subst}
-use Rattle.std.specs.Prelude.{IfOk, Err, None, Ok, Result, Some, Vec, map}
+use Rattle.std.specs.Prelude.{All, IfOk, Err, None, Ok, Result, Some, Vec, map}
 use Rattle.std.specs.Global.{Global}
 use Rattle.std.specs.declared.alloc.AllocError.{AllocError}
 use Rattle.std.proofs.lemmas.List.{take_more, map-append}
@@ -13,7 +13,8 @@ use Rattle.prove_run.specs.declared.trail.Found.{Found}
 use Rattle.prove_run.specs.Found.{found_of}
 use Rattle.prove_run.specs.Trails.{failures_of, over_in, unproved_in}
 use Rattle.tv_base.specs.declared.limits.TheConstants.{MAX_CERTIFICATE_BYTES}
-use Rattle.cert_run.specs.Searches.{IsSearch, is_proved, text_by}
+use Rattle.cert_verdict_spec.specs.Written.{text_by, HasSmallHints}
+use Rattle.cert_run.specs.Searches.{IsSearch, is_proved}
 use Rattle.cert_run.specs.declared.finding.Search.{Search}
 
 -- one more function after those so far
@@ -26,7 +27,7 @@ more_valid found i one old new valid inside is so_far here added =
     ∙ (ap (map is_proved) (map-append found_of (take i found) (one ∷ [])) ∙ map-append is_proved (map found_of (take i found)) (found_of one ∷ [])) in
     added ∙ (ap (λ (xs : List Bool). xs ++ valid ∷ []) so_far ∙ (ap (λ (v : Bool). map is_proved (map found_of (take i found)) ++ v ∷ []) here ∙ sym more))
 
-module _ (listed : List Listed) (found : List spec.Found) (cert : Cert) (lines : certificate_of cert ≡ proof_lines listed found) where
+module _ (listed : List Listed) (found : List spec.Found) (cert : Cert) (small : All HasSmallHints found) (lines : certificate_of cert ≡ proof_lines listed found) where
   text_is : (text : List ℕ) → text ≡ text_of (certificate_of cert) → text ≡ text_by listed found
   text_is text same = same ∙ ap text_of lines
 
@@ -35,6 +36,7 @@ module _ (listed : List Listed) (found : List spec.Found) (cert : Cert) (lines :
       → IsSearch listed found s
   is_within s text same short valid certificate trails = record {
     valid = valid;
+    small = small;
     rest = inl (record {
       short = subst (λ (t : List ℕ). length t ≤ MAX_CERTIFICATE_BYTES) (text_is text.items same) short;
       text = text;
@@ -57,6 +59,7 @@ module _ (listed : List Listed) (found : List spec.Found) (cert : Cert) (lines :
       → s.valid.items ≡ map is_proved found → over_in s.trails ≡ Some cert → unproved_in s.trails ≡ [] → s.certificate ≡ None → IsSearch listed found s
   is_over s text same long valid over none certificate = record {
     valid = valid;
+    small = small;
     rest = inr (record {
       long = subst (λ (t : List ℕ). MAX_CERTIFICATE_BYTES < length t) (text_is text same) long;
       cert = cert;

@@ -1,12 +1,12 @@
 -- What a search finds of functions, as the program answers it.
-use Rattle.std.specs.Prelude.{◌≡◌, ◌<◌, ◌≤◌, ◌⊎◌, Bool, true, false, ℕ, List, [], length, map, flat_map, All, Vec, Some, None}
+use Rattle.std.specs.Prelude.{◌≡◌, ◌<◌, ◌≤◌, ◌⊎◌, Bool, true, false, ℕ, List, [], length, map, All, Vec, Some, None}
 use Rattle.std.specs.Global.{Global}
-use Rattle.cert_spec.specs.Lines.{line_text}
 use Rattle.cert_text.specs.declared.certificates.Cert.{Cert}
 use Rattle.cert_text.specs.Certificates.{certificate_of}
 use Rattle.cert_frames.specs.declared.listed.Listed.{Listed as CodeListed}
 use Rattle.cert_frames.specs.Listed.{AreListed}
 use Rattle.check_spec.specs.Verdict.{Listed}
+use Rattle.cert_verdict_spec.specs.Written.{text_by, HasSmallHints}
 use Rattle.trail_spec.specs.Proofs.{HasTruths}
 use Rattle.trail_spec.specs.Trails.{Found, Proved, Unproved, AreFound}
 use Rattle.trail_spec.specs.Written.{failures, proof_lines}
@@ -17,10 +17,6 @@ use Rattle.cert_run.specs.declared.finding.Search.{Search}
 abbrev pub is_proved : Found → Bool
 is_proved (Proved logs) = true
 is_proved (Unproved trail) = false
-
--- the text of the certificate of the functions that are proved
-abbrev pub text_by : List Listed → List Found → List ℕ
-text_by listed found = flat_map line_text (proof_lines listed found)
 
 -- the certificate is within its maximum, and each unproved function has its trail
 pub record IsWithin (listed : List Listed) (found : List Found) (s : Search) : Type 0 where
@@ -40,9 +36,10 @@ pub record IsOver (listed : List Listed) (found : List Found) (s : Search) : Typ
   pub none_unproved : unproved_in s.trails ≡ []
   pub no_certificate : s.certificate ≡ None
 
--- what was found of the functions
+-- what was found of the functions, of which a certificate can be written
 pub record IsSearch (listed : List Listed) (found : List Found) (s : Search) : Type 0 where
   pub valid : s.valid.items ≡ map is_proved found
+  pub small : All HasSmallHints found
   pub rest : IsWithin listed found s ⊎ IsOver listed found s
 
 -- of functions that are listed so, whose obligations are truth values

@@ -1,7 +1,8 @@
 //! What the search for proofs of functions finds.
 
-ghost use Rattle.std.specs.Prelude.{◌≡◌, [], IfOk, List, None, Some};
+ghost use Rattle.std.specs.Prelude.{◌≡◌, [], All, IfOk, List, None, Some};
 ghost use Rattle.std.specs.Prelude.{length, map};
+ghost use Rattle.cert_spec.specs.Points.{IsNumber};
 ghost use Rattle.cert_text.specs.Certificates.{certificate_of};
 ghost use Rattle.cert_frames.specs.Listed.{AreListed};
 ghost use Rattle.check_spec.specs.Verdict as spec;
@@ -90,6 +91,11 @@ fn over(alloc: Global, valid: Vec<bool>, cert: Cert) -> Search
     }
 }
 
+// The hints of a certificate in memory are numbers of certificates.
+fn are_numbers(hints: &[u32])
+    ensures { All IsNumber hints.now }
+{}
+
 // What was found of each function, with the certificate of the proofs.
 fn search_of(
     alloc: Global,
@@ -104,6 +110,9 @@ fn search_of(
 {
     let valid = attempt!(valid_ones(alloc, found.as_slice()));
     let text = attempt!(write(alloc, &cert));
+    let hints = cert.logs.hints.as_slice();
+    // a law, of which nothing runs
+    are_numbers(hints);
     if text.len() > MAX_CERTIFICATE_BYTES {
         Ok(over(alloc, valid, cert))
     } else {

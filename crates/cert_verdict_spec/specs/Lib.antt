@@ -1,3 +1,4 @@
 pub mod Files
 pub mod Verdict
+pub mod Written
 pub mod Laws

@@ -1,3 +1,4 @@
+pub mod Initials
 pub mod Source
 pub mod Convention
 pub mod Claim

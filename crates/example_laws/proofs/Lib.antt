@@ -11,3 +11,4 @@ pub mod FaultsWorked
 pub mod CodeWorked
 mod Lexed
 mod SumRead
+mod InitialsRead

@@ -1,6 +1,6 @@
 //! The certificate of the functions that are proved.
 
-ghost use Rattle.std.specs.Prelude.{◌≡◌, ◌∷◌, ◌++◌, [], IfOk, List, OnOk, false, length, map};
+ghost use Rattle.std.specs.Prelude.{◌≡◌, ◌<◌, ◌∷◌, ◌++◌, [], IfErr, IfOk, List, OnOk, false, length, map};
 ghost use Rattle.cert_spec.specs.Lines as lines;
 ghost use Rattle.cert_lines.specs.Views.{is_step, line_of};
 ghost use Rattle.cert_text.specs.Certificates.{certificate_of};
@@ -21,7 +21,8 @@ use std::alloc::{AllocError, Global};
 
 // A number of a certificate. What has more than 2^32 - 1 parts doesn't fit in memory.
 fn number(count: usize) -> Result<u32, AllocError>
-    ensures { IfOk result (λ number. number ≡ count) }
+    ensures number { IfOk result (λ number. number ≡ count) }
+    ensures large { IfErr result (λ error. 4294967295 < count) }
 {
     if count <= u32::MAX as usize {
         Ok(count as u32)

@@ -1,5 +1,5 @@
 -- The answers of the search.
-use Rattle.std.specs.Prelude.{◌≡◌, ℕ, ◌+◌, ◌++◌, true, List, [], Option, Some, None, length}
+use Rattle.std.specs.Prelude.{◌≡◌, ℕ, ◌+◌, ◌<◌, ◌≤◌, ◌++◌, true, List, [], Option, Some, None, length}
 use Rattle.clause_spec.specs.Clause.{Clause, Cnf, satisfies}
 use Rattle.clause_spec.specs.Log.{Step, Refutes}
 use Rattle.cnf_core.specs.Bits.{valuation}
@@ -7,7 +7,7 @@ use Rattle.sat_spec.specs.Logs.{Spent, Lean, IsClosing}
 use Rattle.sat_spec.specs.Trail.{Trailed, IsSound, IsConflict}
 use Rattle.sat_spec.specs.Watches.{Watched, IsRunning}
 use Rattle.sat_search.specs.declared.search.Progress.{Progress}
-use Rattle.sat_search.specs.declared.search.Progress.TheVariants.{Learnt, Closed as Ended, Satisfied}
+use Rattle.sat_search.specs.declared.search.Progress.TheVariants.{Learnt, Closed as Ended, Satisfied, Refuted}
 use Rattle.sat_search.specs.Search.{IsSearching, AllHaveValue}
 use Rattle.sat_search.specs.declared.solution.Found.{Found}
 use Rattle.sat_search.specs.declared.solution.Found.TheVariants.{Closed, Model, Limit}
@@ -18,12 +18,22 @@ IsFound cnf limit (Closed log) = Refutes cnf log.items × Lean cnf log.items lim
 IsFound cnf limit (Model bits) = (length bits.items ≡ cnf.variables) × (satisfies (valuation bits.items) cnf.clauses ≡ true)
 IsFound cnf limit (Limit log) = Spent cnf log.items limit
 
--- a clause more was learnt, or the log is closed, or every variable has a value
-abbrev pub IsProgress : Cnf → List Clause → Trailed → Watched → List Step → (count : ℕ) → Progress → Type 0
-IsProgress cnf clauses trail watched log count Learnt = IsSearching cnf clauses trail watched log × (length log ≡ count + 1)
-IsProgress cnf clauses trail watched log count Ended = IsClosing cnf log × (length log ≡ count + 1)
-IsProgress cnf clauses trail watched log count Satisfied =
+-- a clause more was learnt, or the log is closed, or every variable has a value, or one of so many assumed literals is false
+abbrev pub IsProgress : Cnf → List Clause → Trailed → Watched → List Step → (count assumed : ℕ) → Progress → Type 0
+IsProgress cnf clauses trail watched log count assumed Learnt = IsSearching cnf clauses trail watched log × (length log ≡ count + 1)
+IsProgress cnf clauses trail watched log count assumed Ended = IsClosing cnf log × (length log ≡ count + 1)
+IsProgress cnf clauses trail watched log count assumed Satisfied =
     IsSearching cnf clauses trail watched log × (watched.head ≡ length trail.entries) × AllHaveValue trail trail.variables
+IsProgress cnf clauses trail watched log count assumed Refuted =
+    IsSearching cnf clauses trail watched log × (length log ≡ count) × (0 < assumed)
+
+-- so many clauses were learnt at most, and the search goes on, or the log is closed, or every variable has a value
+abbrev pub IsStage : Cnf → List Clause → Trailed → Watched → List Step → (limit : ℕ) → Progress → Type 0
+IsStage cnf clauses trail watched log limit Learnt = IsSearching cnf clauses trail watched log × (length log ≤ limit)
+IsStage cnf clauses trail watched log limit Ended = IsClosing cnf log × (length log ≤ limit)
+IsStage cnf clauses trail watched log limit Satisfied =
+    IsSearching cnf clauses trail watched log × (watched.head ≡ length trail.entries) × AllHaveValue trail trail.variables
+IsStage cnf clauses trail watched log limit Refuted = IsSearching cnf clauses trail watched log × (length log ≤ limit)
 
 -- the clauses so far are watched, or one of them is false before every decision
 abbrev pub IsLoaded : List Clause → Trailed → Watched → Option ℕ → Type 0

@@ -1,4 +1,4 @@
-ghost use Rattle.std.specs.Prelude.{◌≤◌, ◌+◌, IfSome, IfNone};
+ghost use Rattle.std.specs.Prelude.{◌≤◌, ◌<◌, ◌+◌, length, IsTrue, IfSome, IfNone};
 ghost use Rattle.sat_search.specs.Search.{IsUndecided, HasValue, AllHaveValue};
 
 use crate::order::Order;
@@ -6,7 +6,7 @@ use cnf_core::{Literal, MAX_VARIABLE, negation};
 use sat_trail::Trail;
 
 /// A literal of the variable, if it has no value.
-fn open_literal(trail: &Trail, variable: usize, is_negated: bool) -> Option<Literal>
+pub fn open_literal(trail: &Trail, variable: usize, is_negated: bool) -> Option<Literal>
     requires positive { 1 ≤ variable }
     requires within { variable ≤ trail.now.variables }
     requires small { trail.now.variables ≤ MAX_VARIABLE }
@@ -51,12 +51,60 @@ fn scanned(trail: &Trail) -> Option<Literal>
     None
 }
 
-/// The literal that is decided next; none where every variable has a value.
-pub fn pick(order: &mut Order, trail: &Trail) -> Option<Literal>
+/// Whether a literal is true; none where it has no value.
+fn value(trail: &Trail, literal: Literal) -> Option<bool>
+    ensures { IfNone result (IsUndecided trail.now literal) }
+{
+    if !literal.is_of(trail.variables()) {
+        return Some(false);
+    }
+    if trail.place(negation(literal)).is_some() {
+        return Some(false);
+    }
+    if trail.place(literal).is_some() {
+        return Some(true);
+    }
+    None
+}
+
+/// Whether an assumed literal is false, and those before it are true.
+pub fn are_refuted(trail: &Trail, assumed: &[Literal]) -> bool
+    ensures { IsTrue result → 0 < length assumed.now }
+{
+    if assumed.is_empty() {
+        return false;
+    }
+    for literal in assumed {
+        match value(trail, *literal) {
+            Some(true) => {}
+            Some(false) => return true,
+            None => return false,
+        }
+    }
+    false
+}
+
+/// The first assumed literal without value.
+fn first_assumed(trail: &Trail, assumed: &[Literal]) -> Option<Literal>
+    ensures { IfSome result (λ l. IsUndecided trail.now l) }
+{
+    for literal in assumed {
+        if value(trail, *literal).is_none() {
+            return Some(*literal);
+        }
+    }
+    None
+}
+
+/// The literal that is decided next, an assumed one first; none where every variable has a value.
+pub fn pick(order: &mut Order, trail: &Trail, assumed: &[Literal]) -> Option<Literal>
     requires { trail.now.variables ≤ MAX_VARIABLE }
     ensures found { IfSome result (λ l. IsUndecided trail.now l) }
     ensures nowhere { IfNone result (AllHaveValue trail.now trail.now.variables) }
 {
+    if let Some(literal) = first_assumed(trail, assumed) {
+        return Some(literal);
+    }
     match first_open(order, trail) {
         Some(literal) => Some(literal),
         None => scanned(trail),

@@ -16,6 +16,8 @@ pub struct Order {
     bumped: Vec<u64>,
     /// By variable: the sign that it had last.
     signs: Vec<bool>,
+    /// Whether a variable's sign is noted when it loses its value.
+    notes_signs: bool,
     heap: Vec<usize>,
     count: usize,
     /// What a bump adds.
@@ -67,6 +69,7 @@ impl Order {
             places: Vec::new(alloc),
             bumped: Vec::new(alloc),
             signs: Vec::new(alloc),
+            notes_signs: true,
             heap: Vec::new(alloc),
             count: variables,
             step: STEP,
@@ -204,10 +207,21 @@ impl Order {
         Some(first)
     }
 
-    /// The variable loses its value, which had this sign.
-    pub fn release(&mut self, variable: usize, is_negated: bool) {
+    fn set_sign(&mut self, variable: usize, is_negated: bool) {
         if let Some(sign) = self.signs.get_mut(variable) {
             *sign = is_negated;
+        }
+    }
+
+    /// Whether the signs of variables are noted from now on when they lose their values.
+    pub fn note_signs(&mut self, notes_signs: bool) {
+        self.notes_signs = notes_signs;
+    }
+
+    /// The variable loses its value, which had this sign.
+    pub fn release(&mut self, variable: usize, is_negated: bool) {
+        if self.notes_signs {
+            self.set_sign(variable, is_negated);
         }
         if self.place(variable) == ABSENT && self.count < self.heap.len() {
             let place = self.count;

@@ -4,7 +4,7 @@ ghost use Rattle.sat_spec.specs.Watches.{IsRunning};
 ghost use Rattle.sat_search.specs.Search.{IsSearching, IsUndecided, IsDecidedBy};
 ghost use Rattle.sat_search.specs.Found.{IsProgress};
 
-use crate::choice::pick;
+use crate::choice::{are_refuted, pick};
 use crate::learning::{learn, rewind};
 use crate::order::Order;
 use attempt::attempt;
@@ -35,10 +35,12 @@ pub enum Progress {
     Closed,
     /// All clauses are satisfied.
     Satisfied,
+    /// An assumed literal is false where those before it are true.
+    Refuted,
 }
 
 /// Makes a literal without value true, at a level of its own.
-fn decide(trail: &mut Trail, literal: Literal) -> Result<(), AllocError>
+pub fn decide(trail: &mut Trail, literal: Literal) -> Result<(), AllocError>
     requires { IsUndecided trail.old literal }
     ensures { OnOk result (IsDecidedBy trail.old trail.new literal) }
 {
@@ -58,7 +60,7 @@ fn settle(
     requires conflict { IsConflict search.old.clauses.clauses search.old.trail.entries conflict }
     ensures { IfOk result (λ progress. IsProgress cnf.now search.new.clauses.clauses
         search.new.trail
-        search.new.watches search.new.log.items (length search.old.log.items) progress) }
+        search.new.watches search.new.log.items (length search.old.log.items) 0 progress) }
 {
     if search.trail.level() == 0 {
         let step = close(alloc, &search.clauses, &search.trail, conflict)?;
@@ -70,14 +72,21 @@ fn settle(
     Ok(Progress::Learnt)
 }
 
-/// Decides and propagates until a clause is false or every variable has a value.
-pub fn run(alloc: Global, cnf: &Cnf, search: &mut Search) -> Result<Progress, AllocError>
+/// Decides and propagates until a clause is false, every variable has a value, or an assumed
+/// literal is false; what is assumed is decided first.
+pub fn run(
+    alloc: Global,
+    cnf: &Cnf,
+    search: &mut Search,
+    assumed: &[Literal],
+) -> Result<Progress, AllocError>
     requires searching { IsSearching cnf.now search.old.clauses.clauses search.old.trail
         search.old.watches search.old.log.items }
     requires small { cnf.now.variables ≤ MAX_VARIABLE }
     ensures { IfOk result (λ progress. IsProgress cnf.now search.new.clauses.clauses
         search.new.trail
-        search.new.watches search.new.log.items (length search.old.log.items) progress) }
+        search.new.watches search.new.log.items (length search.old.log.items)
+        (length assumed.now) progress) }
 {
     'deciding: loop {
         if let Some(conflict) = propagate(
@@ -87,10 +96,26 @@ pub fn run(alloc: Global, cnf: &Cnf, search: &mut Search) -> Result<Progress, Al
         )? {
             return settle(alloc, cnf, search, conflict);
         }
-        match pick(&mut search.order, &search.trail) {
+        if are_refuted(&search.trail, assumed) {
+            return Ok(Progress::Refuted);
+        }
+        match pick(&mut search.order, &search.trail, assumed) {
             Some(literal) => decide(&mut search.trail, literal)?,
             None => return Ok(Progress::Satisfied),
         }
+    }
+}
+
+/// Goes back before every decision.
+pub fn back(cnf: &Cnf, search: &mut Search)
+    requires searching { IsSearching cnf.now search.old.clauses.clauses search.old.trail
+        search.old.watches search.old.log.items }
+    ensures searching { IsSearching cnf.now search.new.clauses.clauses search.new.trail
+        search.new.watches search.new.log.items }
+    ensures log { search.new.log.items ≡ search.old.log.items }
+{
+    if search.trail.level() > 0 {
+        rewind(&mut search.trail, &mut search.watches, &mut search.order, 0);
     }
 }
 
@@ -102,7 +127,7 @@ pub fn restart(cnf: &Cnf, search: &mut Search)
         search.new.watches search.new.log.items }
     ensures log { search.new.log.items ≡ search.old.log.items }
 {
-    if search.order.is_restart() && search.trail.level() > 0 {
-        rewind(&mut search.trail, &mut search.watches, &mut search.order, 0);
+    if search.order.is_restart() {
+        back(cnf, search);
     }
 }

@@ -3,10 +3,11 @@ ghost use Rattle.sat_spec.specs.Logs.{IsClosing};
 ghost use Rattle.sat_search.specs.Search.{IsSearching, AllHaveValue};
 ghost use Rattle.sat_search.specs.Found.{IsFound, IsFresh, IsRefuted};
 
+use crate::equivalences::equate_variables;
 use crate::loading::load;
 use crate::models::bits_of;
 use crate::order::Order;
-use crate::search::{Progress, Search, restart, run};
+use crate::search::{Progress, Search, back, restart, run};
 use attempt::attempt;
 use cnf_core::{ClauseList, Cnf, MAX_VARIABLE};
 use sat_analysis::close;
@@ -83,7 +84,28 @@ fn refuted(
     closed(alloc, cnf, limit, search.log.as_slice())
 }
 
-/// Learns clauses until the search ends, at most so many.
+/// Learns clauses until the search ends, so many in all at most.
+fn finish(alloc: Global, cnf: &Cnf, limit: usize, search: &mut Search) -> Result<Found, AllocError>
+    requires searching { IsSearching cnf.now search.old.clauses.clauses search.old.trail
+        search.old.watches search.old.log.items }
+    requires within { length search.old.log.items ≤ limit }
+    requires small { cnf.now.variables ≤ MAX_VARIABLE }
+    ensures { IfOk result (IsFound cnf.now limit) }
+{
+    back(cnf, search);
+    for _count in search.log.len()..limit {
+        restart(cnf, search);
+        match run(alloc, cnf, search, &[])? {
+            Progress::Learnt => {}
+            Progress::Refuted => unreachable!(),
+            Progress::Closed => return closed(alloc, cnf, limit, search.log.as_slice()),
+            Progress::Satisfied => return satisfied(alloc, cnf, limit, search),
+        }
+    }
+    Ok(Found::Limit(mem::replace(&mut search.log, Vec::new(alloc))))
+}
+
+/// Learns clauses until the search ends, at most so many: those first that make variables equal.
 fn search_up_to(
     alloc: Global,
     cnf: &Cnf,
@@ -96,15 +118,12 @@ fn search_up_to(
     requires small { cnf.now.variables ≤ MAX_VARIABLE }
     ensures { IfOk result (IsFound cnf.now limit) }
 {
-    for _count in 0..limit {
-        restart(cnf, search);
-        match run(alloc, cnf, search)? {
-            Progress::Learnt => {}
-            Progress::Closed => return closed(alloc, cnf, limit, search.log.as_slice()),
-            Progress::Satisfied => return satisfied(alloc, cnf, limit, search),
-        }
+    match equate_variables(alloc, cnf, limit, search)? {
+        Progress::Learnt => finish(alloc, cnf, limit, search),
+        Progress::Refuted => finish(alloc, cnf, limit, search),
+        Progress::Closed => closed(alloc, cnf, limit, search.log.as_slice()),
+        Progress::Satisfied => satisfied(alloc, cnf, limit, search),
     }
-    Ok(Found::Limit(mem::replace(&mut search.log, Vec::new(alloc))))
 }
 
 /// Adds the clauses, and searches.

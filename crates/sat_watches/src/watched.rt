@@ -1,6 +1,6 @@
 ghost use Rattle.std.specs.Prelude.{◌≡◌, ◌+◌, ◌*◌, ◌<◌, ◌≤◌, ◌++◌, ◌∷◌, [], length, slice_get};
 ghost use Rattle.std.specs.Prelude.{slice_set};
-ghost use Rattle.std.specs.Prelude.{Some, IfOk, OnOk};
+ghost use Rattle.std.specs.Prelude.{Some, IfErr, IfOk, OnOk};
 ghost use Rattle.cnf_core.specs.Codes.{code_of};
 ghost use Rattle.sat_spec.specs.Watches.{list_of};
 ghost use Rattle.sat_watches.specs.Lists.{IsAdded, IsRemoved, IsAttached, IsBare};
@@ -13,7 +13,8 @@ use std::marker::Model;
 
 /// The index of a clause in 32 bits.
 fn narrow(index: usize) -> Result<u32, AllocError>
-    ensures { IfOk result (λ n. n ≡ index) }
+    ensures number { IfOk result (λ n. n ≡ index) }
+    ensures large { IfErr result (λ error. 4294967295 < index) }
 {
     if index <= u32::MAX as usize {
         Ok(index as u32)

@@ -1,14 +1,14 @@
 -- The ends of a run, from its outcome.
 use Rattle.std.proofs.Common.{◌≡◌, ◌≢◌, ◌⊎◌, ◌≤◌, ℕ, Bool, true, false, List, Option, Some, None, Ok, Err, refl, arith, ap, sym, ◌∙◌, subst, inl, inr}
-use Rattle.std.specs.Prelude.{◌↔◌, if◌then◌else◌, IfSome, Result, IfOk, OnErr}
+use Rattle.std.specs.Prelude.{◌↔◌, if◌then◌else◌, IfSome, IsTrue, Result, IfOk, OnErr, ⊤}
 use Rattle.elf_spec.specs.Image.{Image}
 use Rattle.c_type_spec.specs.Core.{Typed}
-use Rattle.report_spec.specs.Verdict.{Verdict, RefusedWords, TooLarge, RefusedElf, RefusedC, RefusedPair, RefusedCode, RefusedCertificate, NotProof, Checked, Judged, Showed, Judgement, Shown, status_of}
+use Rattle.report_spec.specs.Verdict.{Verdict, RefusedWords, TooLarge, RefusedElf, RefusedC, RefusedPair, RefusedCode, RefusedCertificate, NotProof, Checked, Judged, Showed, Judgement, Shown, all_valid, status_of}
 use Rattle.tv_base.specs.declared.faults.OutsideFault.{OutsideFault}
 use Rattle.tv_base.specs.declared.faults.OutsideFault.TheVariants.{Failed, NoMemory}
-use Rattle.tv_words.specs.Commands.{Command, Prove, Check, Show, IsCommand}
+use Rattle.tv_words.specs.Commands.{Command, Prove, Check, Show, AreListed, IsCommand, is_prove, is_check, is_show}
 use Rattle.verdict_spec.specs.Decisions.{Decision, Trails, no_trails, plain}
-use Rattle.verdict_spec.specs.Laws.{OneVerdict}
+use Rattle.verdict_spec.specs.Laws.{OneVerdict, GivesNoneTwice, ProvedIsChecked}
 use Rattle.verdict_spec.specs.Listing.{Judge, Verify, names_of}
 use Rattle.verdict_spec.specs.Verdicts.{IsVerdict, IsSound, AreSound}
 use Rattle.tv_core.specs.Tasks.{asked_of, task_of}
@@ -74,6 +74,24 @@ success_in (Checked js) zero = inr (inl (js, refl))
 success_in (Judged js) zero = inl (js, refl)
 success_in (Showed shown) zero = inr (inr (shown, refl))
 
+-- ---- the names that words give
+
+listed_once : (text : Option (List ℕ)) (functions : Option (List (List ℕ))) → AreListed text functions → GivesNoneTwice functions
+listed_once text None are = tt
+listed_once None (Some names) are = absurd are
+listed_once (Some text) (Some names) are = are.apart
+
+abbrev CommandGivesNoneTwice : Command → Type 0
+CommandGivesNoneTwice (Prove job) = GivesNoneTwice job.functions
+CommandGivesNoneTwice (Check job) = GivesNoneTwice job.functions
+CommandGivesNoneTwice (Show job) = ⊤
+
+-- a command gives no name twice
+command_gives_none_twice : (words : List (List ℕ)) (command : Command) → IsCommand words command → CommandGivesNoneTwice command
+command_gives_none_twice words _ (is_prove given job gives proving) = listed_once _ job.functions proving.functions_are
+command_gives_none_twice words _ (is_check given job gives checking) = listed_once _ job.functions checking.functions_are
+command_gives_none_twice words _ (is_show given job gives showing) = tt
+
 -- ---- a certificate that is a proof
 
 list_of_check : (functions : Option (List (List ℕ))) (text : List ℕ) (image : Image) (unit : Typed)
@@ -98,28 +116,38 @@ module _ (words : List (List ℕ)) (files : Contents) (before now : Outputs) (na
   kept_store : decision ≡ plain decision.verdict → LeavesUnder name decision before.store.held now.store.held → now.store.held ≡ before.store.held
   kept_store alone stored = subst (λ text. LeavesText name text before.store.held now.store.held) (ap (λ (d : Decision). d.certificate) alone) stored
 
-  valid_of_job : (js : List Judgement) (command : Command) → decision.verdict ≡ Judged js → IsCommand words command → name ≡ (asked_of command).certificate
+  valid_of_job : ProvedIsChecked → (js : List Judgement) (command : Command) → decision.verdict ≡ Judged js → IsCommand words command → name ≡ (asked_of command).certificate
       → IsOfCommand command decision → IsVerdictOn files command decision → status_of (Judged js) ≡ 0
       → Reports (Judged js) before.report now.report → LeavesUnder name decision before.store.held now.store.held → EndsValid words files before now
-  valid_of_job js (Prove job) e is named of_command on zero reported stored =
+  valid_of_job law js (Prove job) e is named of_command on zero reported stored =
       let searched = subst (λ v. ProveDecides v decision) e of_command in
+      let all : IsTrue (all_valid js) = called_valid (all_valid js) zero in
+      let once = command_gives_none_twice words (Prove job) is in
       record {
         job = job;
         job_is = is;
         judgements = js;
         claim = record {
           some = searched.some;
-          all_called_valid = called_valid _ zero;
+          all_called_valid = all;
           valid = λ elf c f g. subst (IsSound elf c (Judge job.functions)) e (on.1 elf c f g).3;
           reported = reported;
         };
         certificate = searched.text;
-        proves = λ elf c f g. record { decision = decision; decided = (on.1 elf c f g).2; judged = e; certificate_is = searched.written };
+        proves = λ elf c f g.
+            let decided = (on.1 elf c f g).2 in
+            record {
+              decision = decision;
+              decided = decided;
+              judged = e;
+              certificate_is = searched.written;
+              checked = law elf c job.functions js searched.text decision decided e searched.written all once;
+            };
         stored = subst (λ n. Becomes before.store.held n searched.text now.store.held) named
             (subst (λ text. LeavesText name text before.store.held now.store.held) searched.written stored);
       }
-  valid_of_job js (Check job) e is named of_command on zero reported stored = absurd (subst CheckDecides e of_command.0)
-  valid_of_job js (Show job) e is named of_command on zero reported stored = absurd (subst (ShowDecides job.function) e of_command.0)
+  valid_of_job law js (Check job) e is named of_command on zero reported stored = absurd (subst CheckDecides e of_command.0)
+  valid_of_job law js (Show job) e is named of_command on zero reported stored = absurd (subst (ShowDecides job.function) e of_command.0)
 
   checked_of_job : (js : List Judgement) (command : Command) → decision.verdict ≡ Checked js → IsCommand words command
       → IsOfCommand command decision → IsVerdictOn files command decision → Reports (Checked js) before.report now.report
@@ -160,12 +188,12 @@ module _ (words : List (List ℕ)) (files : Contents) (before now : Outputs) (na
   job_of verdict outcome e not =
       elim (of_job words files name decision outcome) [ inl usage ↦ let apart : false ≡ true = sym not ∙ ap is_usage (sym e ∙ usage) in absurd (cc) | inr of ↦ of ]
 
-  ends_by : IsOutcome words files name decision → status_of decision.verdict ≡ 0 → Reports decision.verdict before.report now.report
+  ends_by : ProvedIsChecked → IsOutcome words files name decision → status_of decision.verdict ≡ 0 → Reports decision.verdict before.report now.report
       → LeavesUnder name decision before.store.held now.store.held → EndsValid words files before now ⊎ (EndsChecked words files before now ⊎ EndsShown words before now)
-  ends_by outcome zero reported stored =
+  ends_by law outcome zero reported stored =
       elim (success_in decision.verdict zero) [
         | inl found ↦ (let of = job_of (Judged found.0) outcome found.1 refl in
-            inl (valid_of_job found.0 of.command found.1 of.command_is of.name_is of.of_command of.on (subst (λ v. status_of v ≡ 0) found.1 zero)
+            inl (valid_of_job law found.0 of.command found.1 of.command_is of.name_is of.of_command of.on (subst (λ v. status_of v ≡ 0) found.1 zero)
             (subst (λ v. Reports v before.report now.report) found.1 reported) stored))
         | inr others ↦ inr (elim others [
           | inl found ↦ (let of = job_of (Checked found.0) outcome found.1 refl in
@@ -177,9 +205,9 @@ module _ (words : List (List ℕ)) (files : Contents) (before now : Outputs) (na
       ]
 
 module _ (words : List (List ℕ)) (files : Contents) (before now : Outputs) (trails : Trails) where
-  pub ends_valid : (code : ℕ) → EndsWith words files code before now trails → code ≡ 0
+  pub ends_valid : ProvedIsChecked → (code : ℕ) → EndsWith words files code before now trails → code ≡ 0
       → EndsValid words files before now ⊎ (EndsChecked words files before now ⊎ EndsShown words before now)
-  ends_valid code ends none = ends_by words files before now ends.name ends.decision ends.outcome (sym ends.ends.status_is ∙ none) ends.ends.reported ends.ends.stored
+  ends_valid law code ends none = ends_by words files before now ends.name ends.decision law ends.outcome (sym ends.ends.status_is ∙ none) ends.ends.reported ends.ends.stored
 
   -- ---- the causes
 

@@ -10,7 +10,8 @@ use Rattle.report_spec.specs.Verdict.{Verdict, RefusedWords, TooLarge, RefusedEl
 use Rattle.trail_spec.specs.Trails.{Found, Proved, Unproved, AreFound}
 use Rattle.trail_spec.specs.Written.{Failure, failures, proof_lines}
 use Rattle.tv_words.specs.Commands.{Command, Prove, Check, Show}
-use Rattle.verdict_spec.specs.Decisions.{Decision, Trails, no_trails, plain, text_by, judgements_of, judged_by, over_by}
+use Rattle.cert_verdict_spec.specs.Written.{text_by}
+use Rattle.verdict_spec.specs.Decisions.{Decision, Trails, no_trails, plain, judgements_of, judged_by, over_by}
 use Rattle.tv_core.specs.Ends.{AnswersSearched, AnswersOver, CheckDecides, ShowDecides, ProveDecides, IsOfCommand}
 
 -- ---- the functions that are called unproved

@@ -9,6 +9,7 @@ use Rattle.pair_outcome_spec.specs.Outcome as outcome
 use Rattle.check_spec.specs.Verdict.{Listed}
 use Rattle.cert_verdict_spec.specs.Files.{AreListed}
 use Rattle.cert_verdict_spec.specs.Verdict as spec
+use Rattle.cert_verdict_spec.specs.Written.{text_by}
 use Rattle.cert_run.specs.Outcomes.{outcome_of}
 use Rattle.cert_run.specs.Runs.{Answers, Finds}
 use Rattle.cert_run.specs.Searches.{IsOver, IsWithin, is_proved}
@@ -25,7 +26,7 @@ use Rattle.report_spec.specs.Verdict.{Verdict, TooLarge, RefusedWords, RefusedEl
 use Rattle.report_text.specs.Verdicts.{verdict_of}
 use Rattle.tv_base.specs.declared.limits.TheConstants.{MAX_CERTIFICATE_BYTES}
 use Rattle.tv_words.specs.Commands.{Command, Prove, Proving, Check, Checking, Show, Showing}
-use Rattle.verdict_spec.specs.Decisions.{Decision, plain, text_by, judgements_of, judged_by, over_by}
+use Rattle.verdict_spec.specs.Decisions.{Decision, plain, judgements_of, judged_by, over_by}
 use Rattle.verdict_spec.specs.Listing.{Task, Judge, Verify, Display}
 use Rattle.verdict_spec.specs.Verdicts.{Lists, ListsFew, Pairs, Framed, Judges, judged, over, checked, certificate_large, showed, pair_refused, code_refused, too_large, too_many, IsSound, verdict_of_outcome}
 use Rattle.tv_core.specs.Tasks.{asked_of, task_of}
@@ -94,6 +95,7 @@ module _ (image : Image) (unit : Typed) (list : List (List ℕ)) (pairs : CodePa
       of_names = listed_names list functions finds.listed (in_order finds.listed finds.are);
       found = finds.found;
       found_are = finds.found_are;
+      small = finds.searched.small;
       decision_is = decided_as finds.searched.rest;
       valid = are_valid image unit finds.listed finds.found finds.valid;
     }
@@ -204,7 +206,7 @@ module _ (files : Contents) (image : Image) (unit : Typed) (list : List (List �
         | inl h ↦ subst (JudgesWith files elf c (Prove job)) (sym h.1) (
           [],
           tt,
-          judged job.functions image unit list are.listed are.found refl framed are.found_are h.0,
+          judged job.functions image unit list are.listed are.found refl framed are.found_are are.small h.0,
           record { image = image; unit = unit; is_elf = (lists []).is_elf; is_c = (lists []).is_c; names = names; valid = are.valid },
         )
         | inr h ↦ subst (JudgesWith files elf c (Prove job)) (sym h.1)

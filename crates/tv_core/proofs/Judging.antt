@@ -11,6 +11,7 @@ use Rattle.c_grammar_spec.specs.Faults.{IsUnit}
 use Rattle.c_grammar_spec.specs.Source.{HasTree}
 use Rattle.c_type_spec.specs.Core.{Typed}
 use Rattle.c_type_spec.specs.Units.{typed}
+use Rattle.claim_spec.specs.Initials.{DefinesIn, DefinesNothing, definition_in}
 use Rattle.claim_spec.specs.Source.{IsC}
 use Rattle.c_parse_token.specs.Lists.{list_of}
 use Rattle.report_text.specs.Verdicts.{verdict_of}
@@ -34,9 +35,16 @@ use Rattle.tv_core.proofs.Plain.{plainly_ok, plainly_memory}
 pub has_tree : (text : List ℕ) (lexed : List Token) (tree : TranslationUnit) → AreTokens text (list_of lexed) → IsUnit (list_of lexed) tree → HasTree text tree
 has_tree text lexed tree lexes parses = record { tokens = list_of lexed; lexes = lexes; parses = parses }
 
+-- what the tokens define within initial values
+pub defines_in : (text : List ℕ) (lexed : List Token) (offset : ℕ) → AreTokens text (list_of lexed) → definition_in (list_of lexed) ≡ Some offset → DefinesIn text offset
+defines_in text lexed offset lexes first = record { tokens = list_of lexed; lexes = lexes; first = first }
+
+pub defines_nothing : (text : List ℕ) (lexed : List Token) → AreTokens text (list_of lexed) → definition_in (list_of lexed) ≡ None → DefinesNothing text
+defines_nothing text lexed lexes nowhere = record { tokens = list_of lexed; lexes = lexes; nowhere = nowhere }
+
 -- the source of a tree that has types
-pub is_source : (text : List ℕ) (tree : TranslationUnit) (unit : Typed) → HasTree text tree → typed tree ≡ Ok unit → IsC text unit
-is_source text tree unit derives has_types = record { tree = tree; derives = derives; has_types = has_types }
+pub is_source : (text : List ℕ) (tree : TranslationUnit) (unit : Typed) → HasTree text tree → DefinesNothing text → typed tree ≡ Ok unit → IsC text unit
+is_source text tree unit derives defines has_types = record { tree = tree; derives = derives; defines_nothing = defines; has_types = has_types }
 
 -- ---- some text of the certificate
 

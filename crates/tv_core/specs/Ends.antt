@@ -13,7 +13,7 @@ use Rattle.tv_base.specs.Reading.{with_name}
 use Rattle.tv_base.specs.Writing.{Grows, GrowsPartly}
 use Rattle.tv_words.specs.Commands.{Command, Prove, Proving, Check, Checking, Show, Showing, IsCommand}
 use Rattle.verdict_spec.specs.Decisions.{Decision, Trails, no_trails, plain}
-use Rattle.verdict_spec.specs.Listing.{Task, Judge}
+use Rattle.verdict_spec.specs.Listing.{Task, Judge, Verify}
 use Rattle.verdict_spec.specs.Verdicts.{Pairs, IsVerdict, IsSound, AreSound, AreAlike}
 use Rattle.tv_core.specs.Tasks.{Asked, asked_of, task_of}
 use Rattle.tv_core.specs.Objects.{Contents, SinkState, Outputs, State, OutputsRose, AnyRose, SameOutputFaults, SameFaults}
@@ -288,12 +288,14 @@ pub record AreCalledValid (files : Contents) (elf_name source_name : List ℕ) (
   pub valid : (elf c : List ℕ) → files elf_name ≡ Some elf → files source_name ≡ Some c → AreSound elf c (Judge functions) judgements
   pub reported : Grows before.held before.begun (judgements_text judgements) now.held
 
--- this is the certificate of proofs that a search found of all functions
+-- this is the certificate of proofs that a search found of all functions, and what `check` decides of it with the same
+-- files is that each is valid
 pub record CertifiesAll (elf c : List ℕ) (functions : Option (List (List ℕ))) (judgements : List Judgement) (certificate : List ℕ) : Type 0 where
   pub decision : Decision
   pub decided : IsVerdict elf c (Judge functions) decision
   pub judged : decision.verdict ≡ Judged judgements
   pub certificate_is : decision.certificate ≡ Some certificate
+  pub checked : IsVerdict elf c (Verify functions certificate) (plain (Checked judgements))
 
 -- the words are a command to prove, its functions are called valid, and the store has their certificate
 pub record EndsValid (words : List (List ℕ)) (files : Contents) (before now : Outputs) : Type 0 where

@@ -11,6 +11,7 @@ use Rattle.report_spec.specs.Verdict.{Verdict, TooLarge, RefusedPair, RefusedCod
 use Rattle.check_spec.specs.Verdict.{Listed}
 use Rattle.cert_verdict_spec.specs.Files.{AreListed}
 use Rattle.cert_verdict_spec.specs.Verdict.{Outcome, IsOutcome}
+use Rattle.cert_verdict_spec.specs.Written.{text_by, HasSmallHints}
 use Rattle.trail_spec.specs.Trails.{Found, AreFound}
 use Rattle.cert_verdict_spec.specs.Verdict as spec
 use Rattle.cert_run.specs.declared.finding.Search.{Search}
@@ -23,7 +24,7 @@ use Rattle.tv_base.specs.declared.faults.OutsideFault.{OutsideFault}
 use Rattle.tv_base.specs.declared.limits.TheConstants.{MAX_CERTIFICATE_BYTES}
 use Rattle.tv_base.specs.Reading.{with_name}
 use Rattle.tv_words.specs.Commands.{Command, Prove, Check, Show}
-use Rattle.verdict_spec.specs.Decisions.{Decision, Trails, plain, text_by, judgements_of, judged_by, over_by}
+use Rattle.verdict_spec.specs.Decisions.{Decision, Trails, plain, judgements_of, judged_by, over_by}
 use Rattle.verdict_spec.specs.Verdicts.{IsShown, Lists, quantity_of, verdict_of_outcome}
 use Rattle.tv_core.specs.Tasks.{asked_of, task_of}
 use Rattle.tv_core.specs.Objects.{Contents, DeskState}
@@ -46,6 +47,7 @@ pub record AreDecided (image : Image) (unit : Typed) (list : List (List ℕ)) (p
   pub of_names : map (λ (f : Listed). f.name) listed ≡ list
   pub found : List Found
   pub found_are : AreFound listed found
+  pub small : All HasSmallHints found
   pub decision_is : ((length (text_by listed found) ≤ MAX_CERTIFICATE_BYTES) × (decision ≡ judged_by listed found))
       ⊎ ((MAX_CERTIFICATE_BYTES < length (text_by listed found)) × (decision ≡ over_by listed found))
   pub valid : All (λ (j : Judgement). IsTrue j.valid → IsValid image unit j.name j.stack) (judgements_of listed found)

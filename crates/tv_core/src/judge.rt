@@ -17,6 +17,7 @@ ghost use Rattle.c_syntax.specs.Units.{unit_of as tree_of};
 ghost use Rattle.c_type_spec.specs.Units.{typed};
 ghost use Rattle.c_type_spec.specs.HasType.{IsTypedUnit};
 ghost use Rattle.c_types.specs.Typed.{IsChecked, typed_of};
+ghost use Rattle.claim_spec.specs.Initials.{DefinesIn, DefinesNothing};
 ghost use Rattle.claim_spec.specs.Source.{IsC};
 ghost use Rattle.c_graph_spec.specs.Sizes.{UnitSizes};
 ghost use Rattle.check_sides.specs.Sides.{IsRead};
@@ -30,9 +31,11 @@ use crate::functions::judge_names;
 use crate::listing::names;
 use attempt::attempt;
 use c_core_laws::laws::{cores_have_small_sizes, cores_of_units_are_typed};
+use c_initial::definition_in;
 use c_parse::{ParseError, parse};
 use c_syntax::unit::TranslationUnit;
 use c_token::{Token, TokenError, tokens};
+use c_type_spec::{LeftOut, TypeFaultKind};
 use c_types::typed::{TypeError, Typed};
 use c_types::unit::check;
 use check_sides::image_is_read;
@@ -108,12 +111,37 @@ fn judge_tokens<D: Desk>(
         result }
 {
     match parse(alloc, lexed) {
-        Ok(tree) => judge_tree(alloc, image, source, &tree, job, desk),
+        Ok(tree) => judge_parsed(alloc, image, source, lexed, &tree, job, desk),
         Err(error) => plainly(alloc, without_unit(error, lexed, source)),
     }
 }
 
-/// The verdict on an image and a source, whose tree this is.
+/// The verdict on an image and a source, of which these are the tokens and the tree.
+fn judge_parsed<D: Desk>(
+    alloc: Global,
+    image: &Image<'_>,
+    source: &[u8],
+    lexed: &[Token<'_>],
+    tree: &TranslationUnit<'_>,
+    job: &Job<'_>,
+    desk: &mut D,
+) -> Result<Decision, OutsideFault>
+    requires read { IsRead image.now }
+    requires lexes { AreTokens source.now (list_of lexed.now) }
+    requires derives { HasTree source.now (tree_of tree.now) }
+    ensures { JudgesBy image.now source.now (job_of job.now)
+        (desk_state (D.bytes desk.old) (D.left desk.old) (D.opened desk.old) (D.faults desk.old))
+        (desk_state (D.bytes desk.new) (D.left desk.new) (D.opened desk.new) (D.faults desk.new))
+        result }
+{
+    match definition_in(lexed) {
+        Some(offset) => plainly(alloc, with_definition(offset)),
+        None => judge_tree(alloc, image, source, tree, job, desk),
+    }
+}
+
+/// The verdict on an image and a source, whose tree this is. The source defines nothing within
+/// initial values of globals.
 fn judge_tree<D: Desk>(
     alloc: Global,
     image: &Image<'_>,
@@ -124,6 +152,7 @@ fn judge_tree<D: Desk>(
 ) -> Result<Decision, OutsideFault>
     requires read { IsRead image.now }
     requires derives { HasTree source.now (tree_of tree.now) }
+    requires defines { DefinesNothing source.now }
     ensures { JudgesBy image.now source.now (job_of job.now)
         (desk_state (D.bytes desk.old) (D.left desk.old) (D.opened desk.old) (D.faults desk.old))
         (desk_state (D.bytes desk.new) (D.left desk.new) (D.opened desk.new) (D.faults desk.new))
@@ -199,6 +228,22 @@ fn without_unit(
     }
 }
 
+/// The verdict where there is an image and the source defines something within an initial value of
+/// a global, at this offset first.
+fn with_definition(offset: usize) -> Result<Verdict, OutsideFault>
+    ensures exact { (elf c : List ℕ) (task : Task) (image : elf_image)
+        (tree : translation_unit) → IsElf elf image → HasTree c tree → DefinesIn c offset
+        → IfOk result (λ verdict. Judges elf c task (plain (verdict_of verdict))) }
+    ensures sound { (elf c : List ℕ) (task : Task)
+        → IfOk result (λ verdict. IsSound elf c task (verdict_of verdict)) }
+    ensures memory { OnErr result (IsErrOf result NoMemory) }
+{
+    Ok(Verdict::RefusedC {
+        kind: SourceKind::Typing(TypeFaultKind::LeftOut(LeftOut::Struct)),
+        offset,
+    })
+}
+
 /// The verdict where there is no image.
 fn refused_elf(error: ElfError) -> Result<Verdict, OutsideFault>
     ensures exact { (elf c : List ℕ) (task : Task) → file.IsRefusal elf error
@@ -219,7 +264,7 @@ fn refused_elf(error: ElfError) -> Result<Verdict, OutsideFault>
 /// The verdict where there is an image and the tree of the source has no types.
 fn without_types(error: TypeError) -> Result<Verdict, OutsideFault>
     ensures exact { (elf c : List ℕ) (task : Task) (image : elf_image)
-        (tree : translation_unit) → IsElf elf image → HasTree c tree
+        (tree : translation_unit) → IsElf elf image → HasTree c tree → DefinesNothing c
         → IsChecked (Err error) (typed tree)
         → IfOk result (λ verdict. Judges elf c task (plain (verdict_of verdict))) }
     ensures sound { (elf c : List ℕ) (task : Task)

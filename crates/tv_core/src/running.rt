@@ -17,7 +17,7 @@ use report_text::{Verdict, status};
 use std::alloc::Global;
 use tv_base::{Desk, OutsideFault, Sink, Store};
 use tv_words::{Job, WordsError, command};
-use verdict_spec::one_verdict;
+use verdict_spec::{one_verdict, proved_is_checked};
 
 /// What the words ask for, or `None` where they are no command.
 fn asked(alloc: Global, words: &[String]) -> Result<Option<Job<'_>>, OutsideFault>
@@ -200,8 +200,9 @@ pub fn run<D: Desk, R: Sink, K: Store>(
         (sink_state (K.held certificate.new) (K.begun certificate.new) (K.faults certificate.new)))
         (trails_of trails.new) result }
 {
-    // a law, of which nothing runs
+    // laws, of which nothing runs
     one_verdict();
+    proved_is_checked();
     *trails = Trails::new(alloc);
     match try_run(alloc, words, desk, report, certificate, trails) {
         Ok(code) => code,

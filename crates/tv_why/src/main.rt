@@ -46,7 +46,24 @@ fn explained(rt: HostRuntime, words: &[String]) -> io::Result<u8> {
     Ok(status)
 }
 
-fn main(rt: HostRuntime) -> io::Result<ExitCode> {
-    let words = words(&rt)?;
-    Ok(ExitCode::from(explained(rt, words.as_slice())?))
+/// The status of a run that was cut off: out of memory, or a failed write.
+fn status_of(error: &io::Error) -> u8 {
+    if error.kind() == io::ErrorKind::OutOfMemory {
+        5
+    } else {
+        4
+    }
+}
+
+/// Words that are not text are no command.
+fn main(rt: HostRuntime) -> ExitCode {
+    let ended = match words(&rt) {
+        Ok(words) => explained(rt, words.as_slice()),
+        Err(error) if error.kind() == io::ErrorKind::OutOfMemory => Err(error),
+        Err(_) => explained(rt, &[]),
+    };
+    match ended {
+        Ok(status) => ExitCode::from(status),
+        Err(error) => ExitCode::from(status_of(&error)),
+    }
 }

@@ -41,7 +41,7 @@ fn put_trail(alloc: Global, trail: &Trail, out: &mut Out) {
     match trail {
         Trail::Later(side, node) => {
             out.put(side_name(*side));
-            out.put(" has a loop, at node ");
+            out.put(" has a loop or a call, at node ");
             out.show(node);
         }
         Trail::Large(measure, count) => put_large(*measure, *count, out),

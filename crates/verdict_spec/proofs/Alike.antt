@@ -65,7 +65,7 @@ form elf c task _ (too_many image unit names lists above) = alone refl refl
 form elf c task _ (pair_refused image unit names reason name few fault) = alone refl refl
 form elf c task _ (code_refused image unit names reason name address few fault) = alone refl refl
 form elf c task _ (too_large image unit names few h) = alone refl refl
-form elf c task _ (judged functions image unit names listed found is framed are short) =
+form elf c task _ (judged functions image unit names listed found is framed are small short) =
     by_search (record {
       functions = functions;
       task_is = is;

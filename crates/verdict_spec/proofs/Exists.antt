@@ -20,6 +20,8 @@ use Rattle.c_grammar_spec.specs.declared.ParseFaultKind.{ParseFaultKind}
 use Rattle.c_grammar_spec.specs.Faults.{IsFault, offset_of}
 use Rattle.c_grammar_spec.specs.Source.{HasTree}
 use Rattle.exact_read.specs.Reading.{Fault as Stop, LimitExceeded, Wrong}
+use Rattle.c_type_spec.specs.declared.LeftOut.TheVariants as left_out
+use Rattle.c_type_spec.specs.declared.TypeFaultKind.TheVariants.{LeftOut}
 use Rattle.c_type_spec.specs.Core.{Typed}
 use Rattle.c_type_spec.specs.Names.{Fault as TypeFault}
 use Rattle.c_type_spec.specs.Units.{typed}
@@ -27,8 +29,9 @@ use Rattle.c_statement_laws.specs.Units.{read_unit}
 use Rattle.c_statement_laws.specs.UnitExactness.{UnitExact, UnitReports}
 use Rattle.c_statement_laws.proofs.UnitAll.{unit-is_exact}
 use Rattle.c_statement_laws.proofs.Faults.{unit-reports}
+use Rattle.claim_spec.specs.Initials.{definition_in, DefinesNothing}
 use Rattle.report_spec.specs.declared.SourceKind.TheVariants.{Token as token_kind, Syntax, Typing}
-use Rattle.verdict_spec.specs.Source.{Source, Accepted, Refused, CVerdict, no_tokens, no_unit, no_types, accepted}
+use Rattle.verdict_spec.specs.Source.{Source, Accepted, Refused, CVerdict, no_tokens, no_unit, hidden_definition, no_types, accepted}
 use Rattle.verdict_spec.specs.Laws.{EachSource}
 
 -- ---- what a text begins with has a byte
@@ -134,9 +137,18 @@ lexed (suc most) fresh offset (byte ∷ text) within =
 abbrev HasVerdict : List ℕ → Type 0
 HasVerdict text = (source : Source) × CVerdict text source
 
-of_typing : (text : List ℕ) (tree : TranslationUnit) → HasTree text tree → (made : Result Typed TypeFault) → typed tree ≡ made → HasVerdict text
-of_typing text tree derives (Ok unit) e = (Accepted unit, accepted unit (record { tree = tree; derives = derives; has_types = e }))
-of_typing text tree derives (Err (kind, offset)) e = (Refused (Typing kind) offset, no_types tree kind offset derives e)
+of_typing : (text : List ℕ) (tree : TranslationUnit) → HasTree text tree → DefinesNothing text → (made : Result Typed TypeFault) → typed tree ≡ made → HasVerdict text
+of_typing text tree derives defines (Ok unit) e =
+    (Accepted unit, accepted unit (record { tree = tree; derives = derives; defines_nothing = defines; has_types = e }))
+of_typing text tree derives defines (Err (kind, offset)) e = (Refused (Typing kind) offset, no_types tree kind offset derives defines e)
+
+of_tree : (text : List ℕ) (tree : TranslationUnit) (derives : HasTree text tree) → (found : Option ℕ) → definition_in derives.tokens ≡ found → HasVerdict text
+of_tree text tree derives (Some offset) e = (
+  Refused (Typing (LeftOut left_out.Struct)) offset,
+  hidden_definition tree offset derives (record { tokens = derives.tokens; lexes = derives.lexes; first = e }),
+)
+of_tree text tree derives None e =
+    of_typing text tree derives (record { tokens = derives.tokens; lexes = derives.lexes; nowhere = e }) (typed tree) refl
 
 of_fault : (text : List ℕ) (tokens : List Placed) (kind : ParseFaultKind) (rest : List Placed) → AreTokens text tokens → IsFault tokens kind rest → HasVerdict text
 of_fault text tokens kind rest lexes at_fault = (
@@ -147,7 +159,7 @@ of_fault text tokens kind rest lexes at_fault = (
 of_reading : UnitExact → UnitReports → (text : List ℕ) (tokens : List Placed) → AreTokens text tokens → (read : Result TranslationUnit (Stop Role × List Placed))
     → read_unit tokens ≡ read → HasVerdict text
 of_reading exact reports text tokens lexes (Ok tree) e =
-    of_typing text tree (record { tokens = tokens; lexes = lexes; parses = exact.found tokens tree e }) (typed tree) refl
+    of_tree text tree (record { tokens = tokens; lexes = lexes; parses = exact.found tokens tree e }) (definition_in tokens) refl
 of_reading exact reports text tokens lexes (Err (Wrong role, rest)) e = of_fault text tokens _ rest lexes (reports.wrong tokens role rest e)
 of_reading exact reports text tokens lexes (Err (LimitExceeded, rest)) e = of_fault text tokens _ rest lexes (reports.exceeded tokens rest e)
 

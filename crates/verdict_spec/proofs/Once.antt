@@ -261,7 +261,7 @@ kernel elf c task _ (too_many image unit names lists above) = TooLarge Functions
 kernel elf c task _ (pair_refused image unit names kind name few fault) = RefusedPair kind name
 kernel elf c task _ (code_refused image unit names kind name address few fault) = RefusedCode kind name address
 kernel elf c task _ (too_large image unit names few h) = TooLarge Nodes
-kernel elf c task _ (judged functions image unit names listed found is framed are short) = all_valid_of listed
+kernel elf c task _ (judged functions image unit names listed found is framed are small short) = all_valid_of listed
 kernel elf c task _ (over functions image unit names listed found is framed are long) = all_valid_of listed
 kernel elf c task _ (certificate_large functions certificate image unit names is pairs long) = TooLarge Certificate
 kernel elf c task _ (checked functions certificate image unit names listed o is short framed h) = verdict_of_outcome listed o
@@ -277,7 +277,7 @@ filed elf c task _ (pair_refused image unit names kind name few fault) =
 filed elf c task _ (code_refused image unit names kind name address few fault) =
     listed elf c task image unit names _ few.lists (code_fault kind name address few.within fault)
 filed elf c task _ (too_large image unit names few h) = listed elf c task image unit names _ few.lists (large few.within h)
-filed elf c task _ (judged functions image unit names listed found is framed are short) =
+filed elf c task _ (judged functions image unit names listed found is framed are small short) =
     with_pairs elf c task image unit names _ framed.pairs (searched functions listed is framed.listed_are)
 filed elf c task _ (over functions image unit names listed found is framed are long) =
     with_pairs elf c task image unit names _ framed.pairs (searched functions listed is framed.listed_are)

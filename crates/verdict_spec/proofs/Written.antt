@@ -24,16 +24,17 @@ use Rattle.trail_spec.specs.Trails.{Found, Proved, Unproved, AreFound}
 use Rattle.trail_spec.specs.Written as trail
 use Rattle.trail_spec.specs.Written.{logs_lines, parts_lines}
 use Rattle.report_spec.specs.declared.Quantity.TheVariants.{Certificate}
-use Rattle.report_spec.specs.Verdict.{Judgement, Checked, all_valid, maximum_of}
+use Rattle.report_spec.specs.Verdict.{Verdict, Judgement, Checked, Judged, all_valid, maximum_of}
 use Rattle.cert_verdict_spec.specs.Files.{AreListed, AreFunctionsOf, sides_of}
-use Rattle.cert_verdict_spec.specs.Verdict.{IsOutcome, Proof, Part, valid_judgement, log_lines, proof_lines, proofs_lines, written_lines}
+use Rattle.cert_verdict_spec.specs.Verdict.{Outcome, IsOutcome, Unread, Broken, Above, Proof, Part, valid_judgement, log_lines, proof_lines, proofs_lines, written_lines}
 use Rattle.cert_verdict_spec.specs.Laws.{CanWrite}
 use Rattle.cert_verdict_spec.proofs.Apart.{found_name, has_pair}
 use Rattle.cert_verdict_spec.proofs.Logged.{function_of, logged_is_proof}
-use Rattle.verdict_spec.specs.Decisions.{plain, judgements_of, text_by}
-use Rattle.verdict_spec.specs.Listing.{Judge, Verify, has_symbol, listed as all_listed, names_of}
-use Rattle.verdict_spec.specs.Verdicts.{Framed, Judges, checked}
-use Rattle.verdict_spec.specs.Laws.{GivesNoneTwice, HasSmallHints, ProvedIsChecked}
+use Rattle.cert_verdict_spec.specs.Written.{text_by, HasSmallHints}
+use Rattle.verdict_spec.specs.Decisions.{Decision, plain, judgements_of}
+use Rattle.verdict_spec.specs.Listing.{Task, Judge, Verify, has_symbol, listed as all_listed, names_of}
+use Rattle.verdict_spec.specs.Verdicts.{Framed, Judges, elf_refused, c_refused, too_many, pair_refused, code_refused, too_large, judged, over, certificate_large, checked, showed, verdict_of_outcome, IsVerdict, elf_large, c_large, within}
+use Rattle.verdict_spec.specs.Laws.{GivesNoneTwice, ProvedIsChecked}
 use Rattle.verdict_spec.proofs.Steps.{HasNumbers, closing_written}
 
 -- ---- the list of a task
@@ -267,8 +268,12 @@ module _ (listed : List Listed) (found : List Found) (x : Parts listed found) (s
       (subst (λ (t : List ℕ). IsOutcome (map function_of x.parts) t Proof) text_is
       (logged_is_proof x.parts (subst (IsDistinct bytes_eq) names_is apart) (λ k d below. (x.lean k d below).proof) (can_write names stacks)))
 
-pub proved_is_checked : ProvedIsChecked
-proved_is_checked elf c functions image unit names listed found framed are short valid once small =
+-- of what a search found, where its certificate is within the maximum
+searched_is_checked : (elf c : List ℕ) (functions : Option (List (List ℕ))) (image : Image) (unit : Typed) (names : List (List ℕ)) (listed : List Listed) (found : List Found)
+    → Framed elf c (Judge functions) image unit names listed → AreFound listed found → All HasSmallHints found → length (text_by listed found) ≤ maximum_of Certificate
+    → IsTrue (all_valid (judgements_of listed found)) → GivesNoneTwice functions
+    → Judges elf c (Verify functions (text_by listed found)) (plain (Checked (judgements_of listed found)))
+searched_is_checked elf c functions image unit names listed found framed are small short valid once =
     let x = parts_of listed found are valid small in
     let text = text_by listed found in
     let pairs = framed.pairs.pairs in
@@ -281,3 +286,56 @@ proved_is_checked elf c functions image unit names listed found framed are short
     let proof = proves listed found x short (subst (IsDistinct bytes_eq) (sym names_is) apart) named stacks in
     subst (λ (judgements : List Judgement). Judges elf c (Verify functions text) (plain (Checked judgements))) x.judged
     (checked functions text image unit names listed Proof refl short (with_certificate elf c functions text image unit names listed framed) proof)
+
+-- ---- a decision
+
+abbrev judgements_in : Verdict → Option (List Judgement)
+judgements_in (Judged judgements) = Some judgements
+judgements_in verdict = None
+
+no_judgements : (listed : List Listed) (o : Outcome) → judgements_in (verdict_of_outcome listed o) ≡ None
+no_judgements listed (Unread offset) = refl
+no_judgements listed (Broken name offset rule) = refl
+no_judgements listed (Above quantity) = refl
+no_judgements listed Proof = refl
+
+module _ (elf c : List ℕ) (functions : Option (List (List ℕ))) (once : GivesNoneTwice functions) where
+  -- with these judgements, and a certificate, it is checked
+  abbrev Rechecks : Option (List Judgement) → Option (List ℕ) → Type 0
+  Rechecks (Some judgements) (Some certificate) = IsTrue (all_valid judgements) → Judges elf c (Verify functions certificate) (plain (Checked judgements))
+  Rechecks judgements certificate = Unit {0}
+
+  -- where there are no judgements
+  nothing : (judgements : Option (List Judgement)) (certificate : Option (List ℕ)) → judgements ≡ None → Rechecks judgements certificate
+  nothing judgements certificate e = subst (λ (js : Option (List Judgement)). Rechecks js certificate) (sym e) tt
+
+  rechecks : (task : Task) (decision : Decision) → task ≡ Judge functions → Judges elf c task decision → Rechecks (judgements_in decision.verdict) decision.certificate
+  rechecks task _ e (elf_refused reason offset x) = tt
+  rechecks task _ e (c_refused image reason offset is h) = tt
+  rechecks task _ e (too_many image unit names lists above) = tt
+  rechecks task _ e (pair_refused image unit names reason name few fault) = tt
+  rechecks task _ e (code_refused image unit names reason name address few fault) = tt
+  rechecks task _ e (too_large image unit names few h) = tt
+  rechecks task _ e (judged others image unit names listed found is framed are small short) = λ valid.
+      searched_is_checked elf c functions image unit names listed found
+      (subst (λ (t : Task). Framed elf c t image unit names listed) e framed) are small short valid once
+  rechecks task _ e (over others image unit names listed found is framed are long) = tt
+  rechecks task _ e (certificate_large others certificate image unit names is pairs long) = tt
+  rechecks task _ e (checked others certificate image unit names listed o is short framed h) =
+      nothing (judgements_in (verdict_of_outcome listed o)) None (no_judgements listed o)
+  rechecks task _ e (showed image unit s is pairs h) = tt
+
+  given_again : (judgements : List Judgement) (certificate : List ℕ) (decision : Decision) → decision.verdict ≡ Judged judgements
+      → decision.certificate ≡ Some certificate → IsTrue (all_valid judgements) → IsVerdict elf c (Judge functions) decision
+      → IsVerdict elf c (Verify functions certificate) (plain (Checked judgements))
+  given_again judgements certificate _ e written valid (elf_large x) = absurd (cc)
+  given_again judgements certificate _ e written valid (c_large small x) = absurd (cc)
+  given_again judgements certificate _ e written valid (within decision small little x) =
+      within (plain (Checked judgements)) small little
+      (subst (λ (text : Option (List ℕ)). Rechecks (Some judgements) text) written
+      (subst (λ (v : Verdict). Rechecks (judgements_in v) decision.certificate) e (rechecks (Judge functions) decision refl x))
+      valid)
+
+pub proved_is_checked : ProvedIsChecked
+proved_is_checked elf c functions judgements certificate decision decided e written valid once =
+    given_again elf c functions once judgements certificate decision e written valid decided

@@ -1,11 +1,12 @@
 -- What is decided of two files: the verdict, and what is written and handed out beside its report.
-use Rattle.std.specs.Prelude.{ℕ, true, false, List, [], ◌∷◌, flat_map, Option, Some, None}
-use Rattle.cert_spec.specs.Lines.{Line, line_text}
+use Rattle.std.specs.Prelude.{ℕ, true, false, List, [], ◌∷◌, Option, Some, None}
+use Rattle.cert_spec.specs.Lines.{Line}
 use Rattle.report_spec.specs.declared.Quantity.TheVariants.{Certificate}
 use Rattle.report_spec.specs.Verdict.{Verdict, TooLarge, Judged, Judgement}
 use Rattle.check_spec.specs.Verdict.{Listed}
 use Rattle.trail_spec.specs.Trails.{Found, Proved, Unproved}
 use Rattle.trail_spec.specs.Written.{Failure, failures, proof_lines}
+use Rattle.cert_verdict_spec.specs.Written.{text_by}
 
 -- the names of the unproved functions, each with its trails, in the order of the list; or the certificate that is too large
 -- to be written
@@ -37,10 +38,6 @@ unfoldable pub judgements_of : List Listed → List Found → List Judgement
 judgements_of [] found = []
 judgements_of (f ∷ listed) [] = []
 judgements_of (f ∷ listed) (one ∷ found) = judgement_of f one ∷ judgements_of listed found
-
--- the text of the certificate of the functions that are proved
-abbrev pub text_by : List Listed → List Found → List ℕ
-text_by listed found = flat_map line_text (proof_lines listed found)
 
 -- where this text is within its maximum: each function is judged, the certificate is written, and each unproved function
 -- has its trail

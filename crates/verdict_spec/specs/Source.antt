@@ -5,9 +5,12 @@ use Rattle.c_spec.specs.Lexical.{IsTokenFault}
 use Rattle.c_tree_spec.specs.Unit.{TranslationUnit}
 use Rattle.c_grammar_spec.specs.declared.ParseFaultKind.{ParseFaultKind}
 use Rattle.c_grammar_spec.specs.Source.{HasTree, IsParseFault}
+use Rattle.c_type_spec.specs.declared.LeftOut.TheVariants as left_out
 use Rattle.c_type_spec.specs.declared.TypeFaultKind.{TypeFaultKind}
+use Rattle.c_type_spec.specs.declared.TypeFaultKind.TheVariants.{LeftOut}
 use Rattle.c_type_spec.specs.Core.{Typed}
 use Rattle.c_type_spec.specs.Units.{typed}
+use Rattle.claim_spec.specs.Initials.{DefinesIn, DefinesNothing}
 use Rattle.claim_spec.specs.Source.{IsC}
 use Rattle.report_spec.specs.declared.SourceKind.{SourceKind}
 use Rattle.report_spec.specs.declared.SourceKind.TheVariants.{Token, Syntax, Typing}
@@ -18,10 +21,13 @@ pub data Source : Type 0 where
   -- for this reason, at this offset
   Refused : (kind : SourceKind) → (offset : ℕ) → Source
 
--- the verdict on a text: its first fault of tokens, else of the grammar, else of types; else it is C, and has a typed core
+-- the verdict on a text: its first fault of tokens, else of the grammar, else its first definition within an initial value,
+-- else its first fault of types; else it is C, and has a typed core
 pub data CVerdict (text : List ℕ) : Source → Type 0 where
   no_tokens : (kind : TokenFaultKind) (offset : ℕ) → IsTokenFault text kind offset → CVerdict text (Refused (Token kind) offset)
   no_unit : (kind : ParseFaultKind) (offset : ℕ) → IsParseFault text kind offset → CVerdict text (Refused (Syntax kind) offset)
-  no_types : (tree : TranslationUnit) (kind : TypeFaultKind) (offset : ℕ) → HasTree text tree → typed tree ≡ Err (kind, offset)
-      → CVerdict text (Refused (Typing kind) offset)
+  hidden_definition : (tree : TranslationUnit) (offset : ℕ) → HasTree text tree → DefinesIn text offset
+      → CVerdict text (Refused (Typing (LeftOut left_out.Struct)) offset)
+  no_types : (tree : TranslationUnit) (kind : TypeFaultKind) (offset : ℕ) → HasTree text tree → DefinesNothing text
+      → typed tree ≡ Err (kind, offset) → CVerdict text (Refused (Typing kind) offset)
   accepted : (unit : Typed) → IsC text unit → CVerdict text (Accepted unit)

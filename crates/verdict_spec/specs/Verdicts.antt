@@ -21,13 +21,14 @@ use Rattle.report_spec.specs.Verdict.{Verdict, TooLarge, RefusedElf, RefusedC, R
 use Rattle.trail_spec.specs.Trails.{Found, Proved, Unproved, AreFound}
 use Rattle.trail_laws.specs.Laws.{is_spent}
 use Rattle.verdict_spec.specs.Source.{CVerdict, Refused}
-use Rattle.verdict_spec.specs.Decisions.{Decision, plain, text_by, judged_by, over_by}
+use Rattle.verdict_spec.specs.Decisions.{Decision, plain, judged_by, over_by}
 use Rattle.verdict_spec.specs.Listing.{Task, Judge, Verify, Display, names_of}
 use Rattle.check_spec.specs.declared.Quantity.{Quantity as CheckQuantity}
 use Rattle.check_spec.specs.declared.Quantity.TheVariants as check
 use Rattle.check_spec.specs.Verdict.{Listed}
 use Rattle.cert_verdict_spec.specs.Files.{AreListed}
 use Rattle.cert_verdict_spec.specs.Verdict.{Outcome, Unread, Broken, Above, Proof, IsOutcome, valid_judgement}
+use Rattle.cert_verdict_spec.specs.Written.{text_by, HasSmallHints}
 
 -- ---- a function
 
@@ -85,7 +86,7 @@ verdict_of_outcome listed Proof = Checked (map valid_judgement listed)
 
 -- what is decided of two files within their limits: the first refusal in this order, or what is asked for; of a
 -- certificate first that it is too long. Which proofs a search finds is left to it: judgements are those of any proofs and
--- trails of the listed functions
+-- trails of the listed functions, of which a certificate can be written
 pub data Judges (elf c : List ℕ) (task : Task) : Decision → Type 0 where
   elf_refused : (kind : ElfKind) (offset : ℕ) → IsRefusedFile elf kind offset → Judges elf c task (plain (RefusedElf kind offset))
   c_refused : (image : Image) (kind : SourceKind) (offset : ℕ) → IsElf elf image → CVerdict c (Refused kind offset) → Judges elf c task (plain (RefusedC kind offset))
@@ -99,7 +100,7 @@ pub data Judges (elf c : List ℕ) (task : Task) : Decision → Type 0 where
       → Judges elf c task (plain (TooLarge Nodes))
   judged : (functions : Option (List (List ℕ))) (image : Image) (unit : Typed) (names : List (List ℕ)) (listed : List Listed) (found : List Found)
       → task ≡ Judge functions → Framed elf c task image unit names listed → AreFound listed found
-      → length (text_by listed found) ≤ maximum_of Certificate → Judges elf c task (judged_by listed found)
+      → All HasSmallHints found → length (text_by listed found) ≤ maximum_of Certificate → Judges elf c task (judged_by listed found)
   over : (functions : Option (List (List ℕ))) (image : Image) (unit : Typed) (names : List (List ℕ)) (listed : List Listed) (found : List Found)
       → task ≡ Judge functions → Framed elf c task image unit names listed → AreFound listed found
       → maximum_of Certificate < length (text_by listed found) → Judges elf c task (over_by listed found)

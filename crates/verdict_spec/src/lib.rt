@@ -21,7 +21,7 @@ pub fn one_source()
 {}
 
 /// The law of certificates that are written: where all functions are judged valid, the certificate
-/// of them is a proof.
+/// of them is a proof, with which the same files have the verdict that each is valid.
 pub fn proved_is_checked()
     ensures { ProvedIsChecked }
 {}

@@ -14,7 +14,7 @@ returns-4 c =
     (λ h.
     subst
     (λ (n : ℕ). AddsLines c.args.cert.now c.add_logs.new.cert (Function c.args.function.now.name.now c.args.function.now.stack ∷ Leaf n ∷ logs_lines (logs_of c.args.logs.now)))
-    (c.in-Ok-attempt.ensures ∙ sym (length-map c.args.logs.now _))
+    (c.in-Ok-attempt.ensures.number ∙ sym (length-map c.args.logs.now _))
     (more_then c.args.cert.now c.add_function.new.cert c.add_logs.new.cert (Function c.args.function.now.name.now c.args.function.now.stack ∷ [])
     (Leaf c.in-Ok-attempt.field-0 ∷ logs_lines (logs_of c.args.logs.now)) c.in-Ok-attempt-2.ensures
     (more_then c.add_function.new.cert c.add_line.new.cert c.add_logs.new.cert (Leaf c.in-Ok-attempt.field-0 ∷ []) (logs_lines (logs_of c.args.logs.now)) c.in-Ok-attempt-3.ensures h)))

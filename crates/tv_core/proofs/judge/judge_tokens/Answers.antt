@@ -3,8 +3,8 @@ use Rattle.tv_words.specs.Jobs.{job_of}
 use Rattle.tv_core.proofs.Judging.{has_tree, by_refusal}
 use Rattle.tv_core.proofs.judge.judge_tokens.Goals as goal
 
-pub judge_tree-requires-clause-derives : goal.judge_tree-requires-clause-derives
-judge_tree-requires-clause-derives g c =
+pub judge_parsed-requires-clause-derives : goal.judge_parsed-requires-clause-derives
+judge_parsed-requires-clause-derives g c =
     has_tree c.args.source.now c.args.lexed.now (tree_of c.in-Ok.tree) c.requires.lexes c.in-Ok.ensures.found
 
 pub returns-in-Err : goal.returns-in-Err

@@ -13,7 +13,7 @@ returns-in-Ok g c =
     let trails = trails_of c.try_run.new.trails in
     let ends = c.in-Ok.ensures.ended in
     record {
-      valid = ends_valid words files _ _ trails code ends;
+      valid = ends_valid words files _ _ trails c.proved_is_checked.ensures code ends;
       ended = λ four five. ends;
       usage = λ four five. ends_by_usage words files _ _ trails code ends;
       decided = λ four five. ends_as_decided words files _ _ trails c.one_verdict.ensures code ends;

@@ -1,6 +1,6 @@
 use Rattle.std.proofs.Common.{◌≡◌, length}
 use Rattle.sat_search.specs.Search.{IsSearching}
-use Rattle.sat_search.proofs.solution.search_up_to.Given as goal
+use Rattle.sat_search.proofs.solution.finish.Given as goal
 
 abbrev pub invariant-loop-count : goal.invariant-loop-count
 invariant-loop-count l = record {

@@ -1,6 +1,6 @@
 use Rattle.std.proofs.Common.{rules, ◌<◌, ◌∙◌, ap, sym, subst}
 use Rattle.sat_search.proofs.Levels.{rewound}
-use Rattle.sat_search.proofs.search.restart.Goals as goal
+use Rattle.sat_search.proofs.search.back.Goals as goal
 
 pub returns-then-level-gt0-clause-searching : goal.returns-then-level-gt0-clause-searching
 returns-then-level-gt0-clause-searching c =
