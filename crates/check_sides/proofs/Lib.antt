@@ -3,7 +3,6 @@ mod Numbered
 mod Coded
 mod Placing
 mod Named
-mod Bodies
 mod Ready
 mod Sound
 mod Listing

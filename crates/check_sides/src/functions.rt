@@ -27,7 +27,7 @@ fn graph_number(entries: &[u32], entry: u32) -> usize
 }
 
 /// The number of the graph of a function of the source: the index of its body.
-#[tactic(auto, using(crate::proofs::Bodies::numbers))]
+#[tactic(auto, using(c_graph::proofs::Numbers::numbers))]
 fn source_number(unit: &Typed<'_>, name: &[u8]) -> usize
     ensures { result ≡ body_number name.now (typed_of unit.now).bodies }
 {

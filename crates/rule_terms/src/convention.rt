@@ -8,10 +8,11 @@ ghost use Rattle.rule_spec.specs.Points as spec;
 ghost use Rattle.rule_terms.specs.Conventions.{IsConventionOf, in_zone, same_bytes};
 
 use crate::families::{address, binary_memory, source_memory};
+use crate::trees::{negated, open, over_two};
 use attempt::attempt;
 use std::alloc::{AllocError, Global};
 use term_core::Term;
-use term_spec::{Atom, BinaryOperator, UnaryOperator, Variable};
+use term_spec::{BinaryOperator, Variable};
 
 /// What holds where both sides have returned, and at each point beside a relation's lines: that
 /// memories are equal outside the zone (`rule_spec`, `specs/Points.antt`).
@@ -21,37 +22,6 @@ pub struct Convention<'a> {
     pub returns: &'a [Box<Term>],
     /// That both memories have the same byte at any address outside the zone.
     pub memory: Box<Term>,
-}
-
-// A variable as a term.
-fn open(alloc: Global, variable: Variable) -> Result<Box<Term>, AllocError>
-    ensures { IfOk result (λ t. term_of t.value ≡ tree.open_term variable) }
-{
-    Term::leaf(alloc, Atom::Open(variable))
-}
-
-// An operator over two terms, where both were made.
-fn over_two(
-    alloc: Global,
-    operator: BinaryOperator,
-    first: Result<Box<Term>, AllocError>,
-    second: Result<Box<Term>, AllocError>,
-) -> Result<Box<Term>, AllocError>
-    ensures { (s t : tree.Term) → IfOk first (λ x. term_of x.value ≡ s)
-        → IfOk second (λ x. term_of x.value ≡ t)
-        → IfOk result (λ x. term_of x.value ≡ tree.Binary operator s t) }
-{
-    let first = attempt!(first);
-    let second = attempt!(second);
-    Term::binary(alloc, operator, first, second)
-}
-
-// The negation of a term, where it was made.
-fn negated(alloc: Global, term: Result<Box<Term>, AllocError>) -> Result<Box<Term>, AllocError>
-    ensures { (s : tree.Term) → IfOk term (λ x. term_of x.value ≡ s)
-        → IfOk result (λ x. term_of x.value ≡ tree.not_term s) }
-{
-    Term::unary(alloc, UnaryOperator::Not, attempt!(term))
 }
 
 // The address is in the zone.

@@ -14,14 +14,16 @@ mod lines;
 mod logic;
 mod points;
 mod sight;
+mod trees;
 mod way;
 mod which;
 
 pub use convention::Convention;
 pub use given::{bounded_premises, premises};
-pub use lines::Known;
+pub use lines::{Known, all_lines, and_lines};
 pub use logic::{both, either, implication, negation, truth};
 pub use points::{BothSides, Opening, relation};
 pub use sight::{Part, Sight};
+pub use trees::{negated, open, over_two, overlaid, word};
 pub use way::{Way, conditions_of};
 pub use which::Which;

@@ -1,6 +1,6 @@
 //! Lines of a relation and premises, over the terms of their variables.
 
-ghost use Rattle.std.specs.Prelude.{◌≡◌, ◌∷◌, [], ◌++◌, ◌<◌, ◌≤◌, length, map};
+ghost use Rattle.std.specs.Prelude.{◌∷◌, [], ◌++◌, ◌<◌, ◌≤◌, length, map};
 ghost use Rattle.std.specs.List.{fold};
 ghost use Rattle.term_spec.specs.Term as tree;
 ghost use Rattle.term_spec.specs.Substitution.{State as Terms, substituted};
@@ -35,31 +35,54 @@ fn line_at<L: Lookup>(bank: &mut Bank, line: &Term, terms: &L) -> Result<TermId,
     substitute(bank, line, terms)
 }
 
-// `and` of some lines, of which there is one at least.
-fn some_lines<L: Lookup>(
+/// `and` of a term and some lines, nested to the left.
+pub fn and_lines<L: Lookup>(
     bank: &mut Bank,
+    first: TermId,
     lines: &[Box<Term>],
     terms: &L,
 ) -> Result<TermId, AllocError>
-    requires some { 0 < length lines.now }
+    requires first { first < length bank.old }
     requires terms { AreBelow (length bank.old) (L.terms terms.now) }
-    ensures tree { (s : Terms) → IsMapOf bank.old (L.terms terms.now) s
-        → IsAt bank.new result (all_of (map (substituted s) (terms_of lines.now))) }
+    ensures tree { (t : tree.Term) (s : Terms) → Holds bank.old first t
+        → IsMapOf bank.old (L.terms terms.now) s → IsAt bank.new result
+        (fold tree.and_term t (map (substituted s) (terms_of lines.now))) }
     ensures within { IsFound bank.new result }
     ensures extends { Extends bank.old bank.new }
     ensures longer { length bank.old ≤ length bank.new }
 {
-    let first = line_at(bank, &lines[0], terms)?;
     let mut all = first;
-    for i in 1..lines.len() {
+    for i in 0..lines.len() {
         let next = line_at(bank, &lines[i], terms)?;
         all = both(bank, all, next)?;
     }
     Ok(all)
 }
 
+// `and` of a line, more lines and a last one.
+fn all_from<L: Lookup>(
+    bank: &mut Bank,
+    first: &Term,
+    rest: &[Box<Term>],
+    last: &Term,
+    terms: &L,
+) -> Result<TermId, AllocError>
+    requires { AreBelow (length bank.old) (L.terms terms.now) }
+    ensures tree { (s : Terms) → IsMapOf bank.old (L.terms terms.now) s → IsAt bank.new result
+        (all_of (map (substituted s) (term_of first.now ∷ (terms_of rest.now
+        ++ term_of last.now ∷ [])))) }
+    ensures within { IsFound bank.new result }
+    ensures extends { Extends bank.old bank.new }
+    ensures longer { length bank.old ≤ length bank.new }
+{
+    let all = line_at(bank, first, terms)?;
+    let all = and_lines(bank, all, rest, terms)?;
+    let last = line_at(bank, last, terms)?;
+    both(bank, all, last)
+}
+
 /// `and` of some lines and a last one.
-pub(crate) fn all_lines<L: Lookup>(
+pub fn all_lines<L: Lookup>(
     bank: &mut Bank,
     lines: &[Box<Term>],
     last: &Term,
@@ -72,12 +95,10 @@ pub(crate) fn all_lines<L: Lookup>(
     ensures extends { Extends bank.old bank.new }
     ensures longer { length bank.old ≤ length bank.new }
 {
-    if lines.len() == 0 {
-        return line_at(bank, last, terms);
+    match lines {
+        [] => line_at(bank, last, terms),
+        [first, rest @ ..] => all_from(bank, first, rest, last, terms),
     }
-    let all = some_lines(bank, lines, terms)?;
-    let last = line_at(bank, last, terms)?;
-    both(bank, all, last)
 }
 
 // A premise over the terms of its variables.

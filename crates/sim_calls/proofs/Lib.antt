@@ -4,7 +4,6 @@ pub mod Banks
 pub mod Puts
 pub mod Begins
 pub mod Returns
-pub mod Folds
 pub mod LineLists
 pub mod Renamed
 pub mod Exits

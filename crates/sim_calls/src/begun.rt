@@ -20,10 +20,9 @@ ghost use Rattle.term_substitution.specs.States.{AreBelow, IsAt, IsFound};
 
 use crate::bound::bound_terms;
 use crate::cut::Cut;
-use crate::lines::all_lines;
 use crate::sites::Calls;
 use crate::variables::{BINARY_MEMORY, ZONE_MEMORY, is_shared};
-use rule_terms::{Known, truth};
+use rule_terms::{Known, all_lines, truth};
 use std::alloc::{AllocError, Global};
 use term_bank::{Bank, TermId, TermNode};
 use term_core::Term;

@@ -11,13 +11,13 @@ ghost use Rattle.sim_calls.specs.Callees.{widened, zone_lines};
 ghost use Rattle.term_core.specs.Trees.{term_of};
 ghost use Rattle.term_spec.specs.Term as tree;
 
-use crate::trees::{negated, open, over_two, word};
 use crate::variables::{
     ENTRY_GLOBAL_POINTER, FIRST_ARGUMENT, GLOBAL_POINTER, RETURN_ADDRESS, STACK_POINTER,
     machine_register,
 };
 use c_graph_terms::{local, result_of};
 use c_type_spec::Scalar;
+use rule_terms::{negated, open, over_two, word};
 use std::alloc::{AllocError, Global};
 use term_core::Term;
 use term_spec::{BinaryOperator, UnaryOperator, Variable, Width, WordOperator};

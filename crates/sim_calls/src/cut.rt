@@ -10,10 +10,9 @@ ghost use Rattle.term_core.specs.Trees.{term_of};
 ghost use Rattle.term_spec.specs.Same.{same_variable};
 ghost use Rattle.term_spec.specs.Term as tree;
 
-use crate::trees::{open, overlaid};
 use crate::variables::{BINARY_MEMORY, ZONE_MEMORY};
 use c_graph_terms::{MEMORY, ZONE_HIGH, ZONE_LOW};
-use rule_terms::Known;
+use rule_terms::{Known, open, overlaid};
 use std::alloc::{AllocError, Global};
 use std::collections::HashMap;
 use term_bank::{Bank, TermId};

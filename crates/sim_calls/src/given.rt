@@ -12,8 +12,7 @@ ghost use Rattle.term_spec.specs.Term as tree;
 ghost use Rattle.term_substitution.specs.States.{IsAt, IsFound};
 
 use crate::cut::Cut;
-use crate::lines::and_lines;
-use rule_terms::{BothSides, truth};
+use rule_terms::{BothSides, and_lines, truth};
 use std::alloc::AllocError;
 use term_bank::{Bank, TermId};
 use term_core::Term;

@@ -13,12 +13,10 @@ mod callee;
 mod cut;
 mod given;
 mod left;
-mod lines;
 mod listing;
 mod returned;
 mod rule;
 mod sites;
-mod trees;
 mod variables;
 
 pub use callee::Callee;

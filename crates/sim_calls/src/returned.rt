@@ -22,17 +22,15 @@ ghost use Rattle.term_substitution.specs.States.{AreBelow, IsAt, IsFound};
 use crate::bound::bound_terms;
 use crate::cut::Cut;
 use crate::left::left_terms;
-use crate::lines::all_lines;
 use crate::listing::list_variables;
 use crate::sites::CallSite;
-use crate::trees::{open, over_two, overlaid, word};
 use crate::variables::{
     BINARY_MEMORY, FIRST_ARGUMENT, STACK_POINTER, ZONE_MEMORY, fresh, is_kept, is_shared,
     machine_register,
 };
 use c_graph_terms::MEMORY;
 use indexmap::IndexSet;
-use rule_terms::Known;
+use rule_terms::{Known, all_lines, open, over_two, overlaid, word};
 use std::alloc::{AllocError, Global};
 use term_bank::{Bank, TermId};
 use term_core::Term;

@@ -1,6 +1,6 @@
 //! The obligations of a call.
 
-ghost use Rattle.std.specs.Prelude.{◌≡◌, ◌∷◌, [], ◌++◌, ◌≤◌, All, IfErr, IfOk, OnOk, length};
+ghost use Rattle.std.specs.Prelude.{◌≡◌, ◌∷◌, [], ◌++◌, ◌<◌, All, IfErr, IfOk, OnOk, length};
 ghost use Rattle.proof_tree.specs.Frames.{frame_of, terms_of};
 ghost use Rattle.proof_tree.specs.Scope.{setting_of};
 ghost use Rattle.rule_spec.specs.Calls as spec;
@@ -103,6 +103,7 @@ fn terms_over(
         → IsCalleeOf c s callee.now → IsCut bank.old c cut.now → IfOk result (λ ids.
         AreObligations bank.new c (frame_of setup.now.frame.now) (pair_by calls.now) s
         (terms_of lines.now.before.now) (terms_of lines.now.after.now) (ids.0 ∷ ids.1 ∷ [])) }
+    ensures within { IfOk result (λ ids. (ids.0 < length bank.new) × (ids.1 < length bank.new)) }
     ensures extends { Extends bank.old bank.new }
 {
     let memory = &setup.convention.memory;
@@ -139,6 +140,7 @@ fn call_terms(
         → IsCalleeOf c s callee.now → IfOk result (λ ids. AreObligations bank.new c
         (frame_of setup.now.frame.now) (pair_by calls.now) s (terms_of lines.now.before.now)
         (terms_of lines.now.after.now) (ids.0 ∷ ids.1 ∷ [])) }
+    ensures within { IfOk result (λ ids. (ids.0 < length bank.new) × (ids.1 < length bank.new)) }
     ensures extends { Extends bank.old bank.new }
 {
     let cut = Cut::new(alloc, bank, setup.zone_from, setup.zone_to)?;
@@ -171,6 +173,7 @@ pub fn obligations(
         → IsCalleeOf c s callee.now → IfOk result (λ ids. AreObligations bank.new c
         (frame_of setup.now.frame.now) (pair_by calls.now) s (terms_of lines.now.before.now)
         (terms_of lines.now.after.now) ids.items) }
+    ensures within { IfOk result (λ ids. All (λ id. id < length bank.new) ids.items) }
     ensures lines { OnOk result (HasLines (frame_of setup.now.frame.now).setting lines.now.path.now
         (terms_of lines.now.before.now) (terms_of lines.now.after.now)) }
     ensures fault { IfErr result (IsCallFault (frame_of setup.now.frame.now).setting

@@ -9,7 +9,7 @@ use Rattle.proof_tree.specs.Frames.{terms_of}
 use Rattle.rule_spec.specs.Rules.{at_cut, terms_at_start}
 use Rattle.rule_terms.proofs.TwoMaps.{start_map}
 use Rattle.sim_calls.proofs.Banks.{cut_later}
-use Rattle.sim_calls.proofs.Folds.{fold_both}
+use Rattle.rule_terms.proofs.Folds.{fold_both}
 use Rattle.sim_calls.proofs.given.premises.Goals as goal
 
 pub and_lines-requires-clause-terms : goal.and_lines-requires-clause-terms

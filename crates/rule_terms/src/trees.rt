@@ -11,21 +11,21 @@ use term_core::Term;
 use term_spec::{Atom, BinaryOperator, QuaternaryOperator, UnaryOperator, Variable, Width};
 
 /// A variable.
-pub(crate) fn open(alloc: Global, variable: Variable) -> Result<Box<Term>, AllocError>
+pub fn open(alloc: Global, variable: Variable) -> Result<Box<Term>, AllocError>
     ensures { IfOk result (λ t. term_of t.value ≡ tree.open_term variable) }
 {
     Term::leaf(alloc, Atom::Open(variable))
 }
 
 /// A word of 32 bits.
-pub(crate) fn word(alloc: Global, number: u32) -> Result<Box<Term>, AllocError>
+pub fn word(alloc: Global, number: u32) -> Result<Box<Term>, AllocError>
     ensures { IfOk result (λ t. term_of t.value ≡ calling.word number) }
 {
     Term::leaf(alloc, Atom::Constant(Width::W32, u64::from(number)))
 }
 
 /// An operator over two terms.
-pub(crate) fn over_two(
+pub fn over_two(
     alloc: Global,
     operator: BinaryOperator,
     first: Result<Box<Term>, AllocError>,
@@ -41,10 +41,7 @@ pub(crate) fn over_two(
 }
 
 /// The negation of a term.
-pub(crate) fn negated(
-    alloc: Global,
-    term: Result<Box<Term>, AllocError>,
-) -> Result<Box<Term>, AllocError>
+pub fn negated(alloc: Global, term: Result<Box<Term>, AllocError>) -> Result<Box<Term>, AllocError>
     ensures { (s : tree.Term) → IfOk term (λ x. term_of x.value ≡ s)
         → IfOk result (λ x. term_of x.value ≡ tree.not_term s) }
 {
@@ -52,7 +49,7 @@ pub(crate) fn negated(
 }
 
 /// A memory with the bytes of another one from an address to below the next.
-pub(crate) fn overlaid(
+pub fn overlaid(
     alloc: Global,
     memory: Result<Box<Term>, AllocError>,
     zone: Result<Box<Term>, AllocError>,

@@ -11,7 +11,7 @@ use Rattle.graph_core.specs.Graphs.{boxed_term}
 use Rattle.proof_tree.specs.Frames.{terms_of}
 use Rattle.rule_terms.proofs.Folds.{fold_more}
 use Rattle.rule_terms.proofs.Later.{below_later, itself, map_later}
-use Rattle.sim_calls.proofs.lines.and_lines.Goals as goal
+use Rattle.rule_terms.proofs.lines.and_lines.Goals as goal
 
 pub loop-i-init : goal.loop-i-init
 loop-i-init g c = record { extends = itself c.args.bank.now; longer = omega arith; within = c.requires.first; tree = λ t s h is. h }

@@ -7,8 +7,8 @@ use Rattle.term_bank.proofs.Substitution.{kept, extends_through}
 use Rattle.term_substitution.specs.States.{IsAt}
 use Rattle.proof_tree.specs.Frames.{terms_of}
 use Rattle.rule_terms.proofs.Later.{below_later, map_later}
-use Rattle.sim_calls.proofs.Folds.{all_three}
-use Rattle.sim_calls.proofs.lines.all_from.Goals as goal
+use Rattle.rule_terms.proofs.Folds.{all_three}
+use Rattle.rule_terms.proofs.lines.all_from.Goals as goal
 
 pub and_lines-requires-clause-terms : goal.and_lines-requires-clause-terms
 and_lines-requires-clause-terms g c = below_later c.args.bank.now c.line_at.new.bank c.line_at.ensures.extends (g.L.Lookup.terms c.args.terms.now) c.requires

@@ -5,7 +5,7 @@ use Rattle.term_spec.specs.Substitution.{State, substituted}
 use Rattle.term_bank.specs.Nodes.{Holds, Extends}
 use Rattle.path_cond.specs.States.{IsMapOf}
 use Rattle.proof_tree.specs.Frames.{terms_of}
-use Rattle.sim_calls.proofs.lines.and_lines.Given as goal
+use Rattle.rule_terms.proofs.lines.and_lines.Given as goal
 
 -- the lines so far
 abbrev pub invariant-loop-i : goal.invariant-loop-i
