@@ -1,27 +1,23 @@
 -- What holds of a bank, as it grows.
-use Rattle.std.proofs.Common.{◌≡◌, ◌∙◌, ℕ, ◌<◌, ◌≤◌, Bool, List, [], ◌++◌, length, Option, Some, None, refl, sym, ap, arith, append-nil}
-use Rattle.std.specs.Prelude.{slice_get}
+use Rattle.std.proofs.Common.{◌≡◌, ◌∙◌, ℕ, ◌<◌, Bool, List, [], length, Option, Some, None, refl, sym, ap, arith, append-nil}
 use Rattle.std.specs.HashMap.{get}
 use Rattle.term_spec.specs.declared.Variable.{Variable}
 use Rattle.term_spec.specs.Same.{same_variable}
 use Rattle.term_spec.specs.Term.{Term, open_term}
 use Rattle.term_spec.specs.Substitution.{State}
-use Rattle.term_bank.specs.Nodes.{tree_at, Holds, Extends}
+use Rattle.term_bank.specs.Nodes.{tree_at, Extends}
 use Rattle.term_bank.proofs.Growth.{tree_at-front, length-Extends}
-use Rattle.term_bank.proofs.Substitution.{kept, extends_through}
-use Rattle.term_substitution.specs.States.{tree_or, state_of, AreBelow}
-use Rattle.graph_spec.specs.Graph.{Graph, Node}
+use Rattle.term_bank.proofs.Substitution.{kept}
+use Rattle.term_substitution.specs.States.{tree_or, AreBelow}
+use Rattle.graph_spec.specs.Graph.{Graph}
 use Rattle.condition_spec.specs.Junctions.{Junction, junctions}
-use Rattle.condition_spec.specs.Conditions.{Conditional, condition_after, state_after, conditionals}
-use Rattle.path_cond.specs.declared.leave.Leaving.{Leaving}
-use Rattle.path_cond.specs.declared.ids.Ids.{Ids}
-use Rattle.path_cond.specs.declared.known.Known.{Known}
+use Rattle.condition_spec.specs.Conditions.{conditionals}
 use Rattle.path_cond.specs.declared.found.Conditions.{Conditions}
 use Rattle.path_cond.specs.Ids.{id_at}
-use Rattle.path_cond.specs.Branches.{IsLeft, id_by}
-use Rattle.path_cond.specs.States.{HasState, IsMapOf}
-use Rattle.path_cond.specs.Table.{AreKnown, IsKnownAt}
+use Rattle.path_cond.specs.States.{IsMapOf}
 use Rattle.path_cond.specs.Result.{AreConditions}
+use Rattle.path_cond.proofs.Changed.{state_later}
+use Rattle.path_cond.proofs.Tables.{known_later}
 use Rattle.rule_spec.specs.Sides.{Way}
 use Rattle.rule_spec.specs.Rules as spec
 use Rattle.rule_spec.specs.Rules.{Seen}
@@ -56,45 +52,10 @@ module _ (before now : List Term) (e : Extends before now) where
     below = below_later ids is.below;
   }
 
-  state_later : (variables : List Variable) (start : State) (ids : ℕ → Option ℕ) (state : State) → HasState before variables start ids state → HasState now variables start ids state
-  state_later variables start ids state h = record {
-    bound = λ k v there. let at = h.bound k v there in (at.0, at.1, kept before now at.0 (state v) e at.2);
-    others = h.others;
-  }
-
-  left_later : (variables : List Variable) (start : State) (node : Option Node) (c : Conditional) (l : Leaving × Ids) → IsLeft before variables start node c l → IsLeft now variables start node c l
-  left_later variables start node c l h = record {
-    branch = λ b. kept before now (id_by l.0 b) (condition_after node b c) e (h.branch b);
-    state = state_later variables start (id_at l.1) (state_after node c.state) h.state;
-  }
-
-  known_later : (variables : List Variable) (start : State) (g : Graph) (js : List Junction) (known : Known) (cs : List Conditional) → AreKnown before variables start g js known cs → AreKnown now variables start g js known cs
-  known_later variables start g js known cs are = record {
-    conditions = are.conditions;
-    states = are.states;
-    leaving = are.leaving;
-    after = are.after;
-    each = λ i c there.
-        let at = are.each i c there in
-        record {
-          condition = at.condition;
-          state = at.state;
-          leaving = at.leaving;
-          after = at.after;
-          condition_is = at.condition_is;
-          state_is = at.state_is;
-          leaving_is = at.leaving_is;
-          after_is = at.after_is;
-          holds = kept before now at.condition c.condition e at.holds;
-          has = state_later variables start (id_at at.state) c.state at.has;
-          left = left_later variables start _ c (at.leaving, at.after) at.left;
-        };
-  }
-
   conditions_later : (start : State) (g : Graph) (js : List Junction) (c : Conditions) → AreConditions before start g js c → AreConditions now start g js c
   conditions_later start g js c are = record {
-    first = state_later c.variables.keys start (id_at c.start) start are.first;
-    visits = known_later c.variables.keys start g js c.known (conditionals g js start) are.visits;
+    first = state_later c.variables.keys start before now (id_at c.start) start e are.first;
+    visits = known_later c.variables.keys start g js before now c.known (conditionals g js start) e are.visits;
   }
 
   pub sight_later : (w : Way) (s : Sight) → IsSight before w s → IsSight now w s
