@@ -1,8 +1,6 @@
 -- Lines inside a part, as the definition's walk takes them.
-use Rattle.std.proofs.Common.{◌≡◌, ◌∙◌, inl, inr, ℕ, ◌<◌, true, Vec, Global, List, [], ◌∷◌, ◌++◌, length, map, Result, Ok, Err, refl, sym, ap, subst}
-use Rattle.std.specs.Prelude.{All}
+use Rattle.std.proofs.Common.{◌≡◌, ◌∙◌, inl, inr, ℕ, true, Vec, Global, List, [], ◌∷◌, ◌++◌, length, map, Result, Ok, Err, sym, ap, subst}
 use Rattle.std.proofs.lemmas.List.{length-map}
-use Rattle.std.proofs.lemmas.List.Elements.{All-nil, All-cons}
 use Rattle.std.proofs.lemmas.Option.{get_or_from_slice_get, slice_get_within}
 use Rattle.term_spec.specs.Term.{Term, not_term}
 use Rattle.term_bank.specs.Nodes.{tree_at, Extends}
@@ -10,7 +8,7 @@ use Rattle.proof_spec.specs.Frames.{Frame}
 use Rattle.proof_spec.specs.Scope.{IsLine as IsProofLine}
 use Rattle.proof_tree.specs.Scope.{setting_of}
 use Rattle.rule_spec.specs.Obligations as rule
-use Rattle.sim_rules.specs.Held.{AreHeld}
+use Rattle.sim_rules.proofs.Held.{trees_held}
 use Rattle.rule_spec.specs.Points.{Convention}
 use Rattle.rule_spec.specs.Rules.{Opening, AreOfLeaf}
 use Rattle.rule_spec.specs.Sides.{binary_way, source_way}
@@ -41,23 +39,6 @@ use Rattle.cert_check.specs.Jobs.{jobs_of}
 use Rattle.cert_check.specs.Stands.{is_unchecked}
 use Rattle.cert_check.specs.Steps.{Comes, AreGoals, AreGoalsOf, HasLeaf, IsTestAt, goal_fault_of}
 use Rattle.cert_check.proofs.Pushed.{jobs_top, jobs_logs, branches_jobs, same_jobs}
-
--- ---- ids of terms
-
--- the terms of ids, which are in the bank
-pub trees_held : (trees : List Term) (ids : List ℕ) (terms : List Term) → AreHeld trees ids terms → map (tree_at trees) ids ≡ terms
-trees_held trees [] [] held = refl
-trees_held trees [] (t ∷ terms) held = absurd held
-trees_held trees (i ∷ ids) [] held = absurd held
-trees_held trees (i ∷ ids) (t ∷ terms) held =
-    ap (λ (x : Term). x ∷ map (tree_at trees) ids) (get_or_from_slice_get trees i t _ held.0) ∙ ap (λ (rest : List Term). t ∷ rest) (trees_held trees ids terms held.1)
-
-pub held_below : (trees : List Term) (ids : List ℕ) (terms : List Term) → AreHeld trees ids terms → All (λ (i : ℕ). i < length trees) ids
-held_below trees [] [] held = All-nil (λ (i : ℕ). i < length trees)
-held_below trees [] (t ∷ terms) held = absurd held
-held_below trees (i ∷ ids) [] held = absurd held
-held_below trees (i ∷ ids) (t ∷ terms) held =
-    All-cons (λ (i : ℕ). i < length trees) i ids (slice_get_within trees i t held.0) (held_below trees ids terms held.1)
 
 -- ---- the frame
 

@@ -6,16 +6,15 @@ use Rattle.std.specs.HashMap.{get}
 use Rattle.term_spec.specs.declared.Variable.{Variable}
 use Rattle.term_spec.specs.Same.{same_variable}
 use Rattle.term_spec.specs.Term.{Term}
-use Rattle.term_spec.specs.Substitution.{State as Terms}
 use Rattle.term_core.specs.declared.term.Term.{Term as CodeTerm}
 use Rattle.term_bank.specs.Nodes.{Extends}
-use Rattle.path_cond.specs.States.{IsMapOf}
 use Rattle.rule_terms.proofs.Later.{map_later}
 use Rattle.graph_core.specs.Graphs.{boxed_term}
 use Rattle.proof_spec.specs.Frames as frames
 use Rattle.proof_tree.specs.declared.frame.Frame.{Frame}
 use Rattle.proof_tree.specs.Frames.{frame_of}
 use Rattle.rule_terms.specs.declared.points.Opening.{Opening}
+use Rattle.rule_terms.proofs.Later.{map_for}
 use Rattle.rule_terms.specs.Openings.{IsOpening, IsOpeningIn}
 use Rattle.check_spec.specs.Verdict as spec
 use Rattle.cert_frames.specs.declared.jobs.Branch.{Branch}
@@ -26,10 +25,6 @@ use Rattle.cert_frames.specs.Listed.{IsListed, frame_at, terms_given}
 use Rattle.cert_frames.specs.Jobs.{tests_at, premises_at, premises_with, frame_with, logs_last, IsInside, AreInside, HasBranches}
 use Rattle.cert_check.specs.Steps.{AreOpened, IsKeptBy}
 use Rattle.cert_check.proofs.Pushed.{premises_given, inside_top, inside_later, logs_inside, below_later, branches_inside}
-
--- a map has the terms of a state that is the same at each variable
-map_for : (trees : List Term) (ids : Variable → Option ℕ) (s t : Terms) → IsMapOf trees ids s → ((v : Variable) → t v ≡ s v) → IsMapOf trees ids t
-map_for trees ids s t is same = record { current = λ v. is.current v ∙ sym (same v); below = is.below }
 
 pub opened_setup : (code : Listed) (f : spec.Listed) → IsListed code f → (trees : List Term) (o : Opening) → AreOpened code trees o → IsOpening trees f.opening o
 opened_setup code f is trees o are = record {

@@ -1,15 +1,14 @@
 -- The obligations of a Leaf at a function's entry, in a bank.
-use Rattle.std.proofs.Common.{◌≡◌, ◌∙◌, ◌<◌, ℕ, true, Box, Global, Option, List, [], ◌++◌, length, map, refl, sym, ap, subst, append-nil}
+use Rattle.std.proofs.Common.{◌≡◌, ◌∙◌, true, Box, Global, List, [], length, map, refl, sym, ap, append-nil}
 use Rattle.std.specs.HashMap.{get}
-use Rattle.term_spec.specs.declared.Variable.{Variable}
 use Rattle.term_spec.specs.Same.{same_variable}
 use Rattle.term_spec.specs.Term.{Term, open_term}
-use Rattle.term_spec.specs.Substitution.{State as Terms}
 use Rattle.term_core.specs.declared.term.Term.{Term as CodeTerm}
 use Rattle.term_bank.specs.Nodes.{Extends}
 use Rattle.path_cond.specs.States.{IsMapOf}
 use Rattle.rule_terms.proofs.Later.{map_later}
 use Rattle.rule_terms.specs.declared.points.Opening.{Opening}
+use Rattle.rule_terms.proofs.Later.{map_for}
 use Rattle.rule_terms.specs.Openings.{IsOpening, IsOpeningIn}
 use Rattle.rule_spec.specs.Rules as rules
 use Rattle.rule_spec.specs.Obligations as rule
@@ -39,10 +38,6 @@ leaf_fault frame (Large count) is = tt
 leaf_fault frame NoMemory is = tt
 
 -- ---- the opening
-
--- a map has the terms of a state that is the same at each variable
-map_for : (trees : List Term) (ids : Variable → Option ℕ) (s t : Terms) → IsMapOf trees ids s → ((v : Variable) → t v ≡ s v) → IsMapOf trees ids t
-map_for trees ids s t is same = record { current = λ v. is.current v ∙ sym (same v); below = is.below }
 
 pub opened_setup : (code : Listed) (f : spec.Listed) → IsListed code f → (trees : List Term) (o : Opening) → AreOpened code trees o → IsOpening trees f.opening o
 opened_setup code f is trees o are = record {

@@ -1,8 +1,7 @@
 -- Logs of obligations, one after the other; and what they are of a function.
-use Rattle.std.proofs.Common.{◌≡◌, ◌∙◌, ◌+◌, ◌<◌, ◌≤◌, ℕ, Vec, Global, Option, Some, None, Result, Ok, Err, List, [], ◌∷◌, ◌++◌, length, map, take, get_or, inl, inr, refl, sym, ap, subst, arith}
+use Rattle.std.proofs.Common.{◌≡◌, ◌∙◌, ◌+◌, ◌<◌, ◌≤◌, ℕ, Vec, Global, Option, Some, None, Result, Ok, Err, List, [], ◌∷◌, ◌++◌, length, map, take, get_or, inl, inr, sym, ap, subst, arith}
 use Rattle.std.specs.Prelude.{All, IfOk, option_map, slice_get}
 use Rattle.std.proofs.lemmas.List.{length-map, map_more, map_push, take_all}
-use Rattle.std.proofs.lemmas.List.Elements.{All-head, All-tail, All-weaker}
 use Rattle.std.proofs.lemmas.Option.{slice_get-get_or, slice_get-map, get_or_from_slice_get}
 use Rattle.memory_spec.specs.Runs.{Run}
 use Rattle.memory_spec.specs.Viewed.{runs_of}
@@ -10,7 +9,7 @@ use Rattle.term_spec.specs.declared.Sort.TheVariants as sort
 use Rattle.term_spec.specs.Term.{Term}
 use Rattle.term_spec.specs.Sort.{sort_of}
 use Rattle.term_bank.specs.Nodes.{Extends, tree_at}
-use Rattle.path_cond.proofs.Banks.{extends_itself, extends_then, kept_tree, within_longer}
+use Rattle.path_cond.proofs.Banks.{kept_tree, within_longer}
 use Rattle.visit_spec.proofs.Order.{acyclic}
 use Rattle.proof_spec.specs.Frames.{Frame}
 use Rattle.rule_spec.specs.Points.{Convention}
@@ -18,7 +17,7 @@ use Rattle.rule_spec.specs.Sides.{binary_way, source_way}
 use Rattle.rule_spec.specs.Rules.{Opening, AreOfLeaf}
 use Rattle.rule_spec.specs.Obligations as rule
 use Rattle.rule_spec.specs.Obligations.{IsCyclicRule}
-use Rattle.sim_rules.specs.Held.{AreHeld}
+use Rattle.sim_rules.proofs.Held.{trees_held}
 use Rattle.clause_spec.specs.Log.{Step}
 use Rattle.closing_spec.specs.Closing.{Closes, closing}
 use Rattle.check_spec.specs.Verdict as spec
@@ -33,7 +32,7 @@ use Rattle.prove_run.specs.declared.trail.Found.TheVariants.{Proved, Unproved}
 use Rattle.prove_run.specs.declared.trail.Trail.{Trail}
 use Rattle.prove_run.specs.Found.{found_of, logs_of, trail_of}
 use Rattle.prove_run.specs.Goals.{HasGoals}
-use Rattle.prove_run.specs.Logs.{AreTruths, IsLeanLog, IsGoalTrail, HasLog, HaveAll, HasTrail, HaveLogs, IsSearched}
+use Rattle.prove_run.specs.Logs.{AreTruths, IsLeanLog, IsGoalTrail, HasLog, HaveAll, HasTrail, IsSearched}
 
 -- ---- one log more
 
@@ -128,14 +127,6 @@ module _ (runs : List Run) (trees : List Term) (goals : List ℕ) where
       subst (λ (ids : List ℕ). HaveAll runs (map (tree_at trees) ids) (logs_of logs)) (take_all index goals past) (before truths)
 
 -- ---- of a function
-
--- the terms of ids, which are in the bank
-trees_held : (trees : List Term) (ids : List ℕ) (ts : List Term) → AreHeld trees ids ts → map (tree_at trees) ids ≡ ts
-trees_held trees [] [] held = refl
-trees_held trees [] (t ∷ ts) held = absurd held
-trees_held trees (i ∷ ids) [] held = absurd held
-trees_held trees (i ∷ ids) (t ∷ ts) held =
-    ap (λ (x : Term). x ∷ map (tree_at trees) ids) (get_or_from_slice_get trees i t _ held.0) ∙ ap (λ (rest : List Term). t ∷ rest) (trees_held trees ids ts held.1)
 
 -- both walks of a Leaf with obligations end
 leaf_acyclic : (c : Convention) (o : Opening) (frame : Frame) (ts : List Term) → AreOfLeaf c o frame ts → (node : ℕ) → IsCyclicRule o frame rule.Leaf node → ⊥

@@ -32,6 +32,10 @@ use Rattle.visit_spec.specs.Visits.{Visit}
 pub itself : (trees : List Term) → Extends trees trees
 itself trees = ([], sym (append-nil trees))
 
+-- a map has the terms of a state that is the same at each variable
+pub map_for : (trees : List Term) (ids : Variable → Option ℕ) (s t : State) → IsMapOf trees ids s → ((v : Variable) → t v ≡ s v) → IsMapOf trees ids t
+map_for trees ids s t is same = record { current = λ v. is.current v ∙ sym (same v); below = is.below }
+
 module _ (before now : List Term) (e : Extends before now) where
   within_later : (i : ℕ) → i < length before → i < length now
   within_later i h = let more = length-Extends before now e in omega arith

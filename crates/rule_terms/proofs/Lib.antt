@@ -4,3 +4,4 @@ pub mod Folds
 pub mod TwoMaps
 pub mod Parts
 pub mod Bounds
+pub mod Listed

@@ -4,3 +4,5 @@ pub mod Openings
 pub mod Ways
 pub mod Seen
 pub mod Conventions
+pub mod Lines
+pub mod Held

@@ -1,20 +1,13 @@
 -- Lines of two lists, one after the other.
-use Rattle.std.proofs.Common.{◌≡◌, ◌∙◌, ℕ, ◌+◌, ◌-◌, ◌<◌, suc, Box, Global, List, [], ◌∷◌, ◌++◌, length, map, get_or, Some, refl, sym, ap, subst, inl, inr, arith}
-use Rattle.std.specs.Prelude.{slice_get, All}
+use Rattle.std.proofs.Common.{◌≡◌, ◌∙◌, ℕ, ◌+◌, ◌-◌, ◌<◌, suc, List, [], ◌∷◌, ◌++◌, length, get_or, Some, sym, ap, inl, inr, arith}
+use Rattle.std.specs.Prelude.{slice_get}
 use Rattle.std.proofs.lemmas.Bool.{cases_lt}
-use Rattle.std.proofs.lemmas.List.{length-map, get_or-map}
-use Rattle.std.proofs.lemmas.Option.{same_Some, slice_get_within, slice_get-get_or, get_or_from_slice_get}
+use Rattle.std.proofs.lemmas.Option.{slice_get_within, slice_get-get_or}
 use Rattle.term_spec.specs.Term.{Term}
-use Rattle.term_core.specs.declared.term.Term.{Term as CodeTerm}
 use Rattle.term_bank.proofs.Growth.{slice_get-front}
-use Rattle.graph_core.specs.Graphs.{boxed_term}
-use Rattle.proof_spec.specs.Scope.{Setting, IsLine}
+use Rattle.proof_spec.specs.Scope.{Setting}
 use Rattle.rule_spec.specs.Obligations.{IsNoLine}
-
-pub line_there : (lines : List (Box CodeTerm Global)) (i : ℕ) (b : Box CodeTerm Global) → i < length lines → b ≡ get_or lines i b → slice_get (map boxed_term lines) i ≡ Some (boxed_term b)
-line_there lines i b less is =
-    let long = length-map lines boxed_term in
-    slice_get-get_or (map boxed_term lines) i (boxed_term b) (omega (arith, long)) ∙ ap Some (get_or-map boxed_term lines i b (boxed_term b) less ∙ ap boxed_term (sym is))
+use Rattle.rule_terms.specs.Lines.{AreLines}
 
 -- an item of the first list, and one of the second
 front : (xs ys : List Term) (i : ℕ) (x : Term) → i < length xs → slice_get (xs ++ ys) i ≡ Some x → slice_get xs i ≡ Some x
@@ -39,15 +32,13 @@ module _ (s : Setting) (path : List ℕ) (before later : List Term) where
         before = λ i earlier less there. is.before i earlier less (front before later i earlier (omega arith) there);
       }
 
-  pub bad_later : (index : ℕ) → All (IsLine s path) before → IsNoLine s path later index → IsNoLine s path (before ++ later) (length before + index)
+  pub bad_later : (index : ℕ) → AreLines s path before → IsNoLine s path later index → IsNoLine s path (before ++ later) (length before + index)
   bad_later index all is = record {
     line = is.line;
     there = back before later index ∙ is.there;
     none = is.none;
     before = λ i earlier less there. elim (cases_lt i (length before)) [
-      | inl inside ↦
-          let here = front before later i earlier inside there in
-          subst (IsLine s path) (get_or_from_slice_get before i earlier earlier here) (all i earlier inside)
+      | inl inside ↦ all i earlier (front before later i earlier inside there)
       | inr past ↦
           let at : i ≡ length before + (i - length before) = omega arith in
           is.before (i - length before) earlier (omega arith) (sym (back before later (i - length before)) ∙ ap (slice_get (before ++ later)) (sym at) ∙ there)

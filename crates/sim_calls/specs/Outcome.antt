@@ -1,14 +1,15 @@
 -- The obligations of a call, as terms of a bank, and why there are none.
-use Rattle.std.specs.Prelude.{◌≡◌, ℕ, List, [], ◌∷◌, ◌++◌, All, Option, Some, None}
+use Rattle.std.specs.Prelude.{◌≡◌, ℕ, List, ◌++◌, Option, Some, None}
 use Rattle.term_spec.specs.Term.{Term}
 use Rattle.term_core.specs.Trees.{term_of}
-use Rattle.term_bank.specs.Nodes.{Holds}
 use Rattle.proof_spec.specs.Frames.{Frame}
-use Rattle.proof_spec.specs.Scope.{Setting, IsLine}
+use Rattle.proof_spec.specs.Scope.{Setting}
 use Rattle.rule_spec.specs.Calls.{CallPair, Callee, AreOfCall}
 use Rattle.rule_spec.specs.Obligations.{IsNoLine}
 use Rattle.rule_spec.specs.Points.{Convention}
 use Rattle.rule_terms.specs.Conventions.{IsConventionOf}
+use Rattle.rule_terms.specs.Held.{AreHeld}
+use Rattle.rule_terms.specs.Lines.{AreLines}
 use Rattle.sim_calls.specs.declared.rule.CallFault.{CallFault}
 use Rattle.sim_calls.specs.declared.rule.CallFault.TheVariants.{Sort, NoMemory}
 use Rattle.sim_calls.specs.declared.rule.Setup.{Setup}
@@ -18,13 +19,6 @@ pub record IsSetup (c : Convention) (s : Setup) : Type 0 where
   pub from_is : c.zone_from ≡ term_of s.zone_from.now
   pub to_is : c.zone_to ≡ term_of s.zone_to.now
 
--- these are the ids of these terms
-abbrev pub AreHeld : List Term → List ℕ → List Term → Type 0
-AreHeld trees [] [] = Unit {0}
-AreHeld trees [] (t ∷ terms) = ⊥
-AreHeld trees (i ∷ ids) [] = ⊥
-AreHeld trees (i ∷ ids) (t ∷ terms) = Holds trees i t × AreHeld trees ids terms
-
 -- the ids are those of the obligations of the call, in their order
 pub record AreObligations (trees : List Term) (c : Convention) (f : Frame) (calls : CallPair) (callee : Callee) (before later : List Term) (ids : List ℕ) : Type 0 where
   pub terms : List Term
@@ -33,13 +27,8 @@ pub record AreObligations (trees : List Term) (c : Convention) (f : Frame) (call
 
 -- each line is one
 pub record HasLines (s : Setting) (path : List ℕ) (before later : List Term) : Type 0 where
-  pub of_before : All (IsLine s path) before
-  pub of_later : All (IsLine s path) later
-
--- the index of the first that is none
-abbrev pub IsFirstBad : Setting → (path : List ℕ) → List Term → Option ℕ → Type 0
-IsFirstBad s path lines (Some index) = IsNoLine s path lines index
-IsFirstBad s path lines None = All (IsLine s path) lines
+  pub of_before : AreLines s path before
+  pub of_later : AreLines s path later
 
 -- of the lines before and after a call
 abbrev pub IsBadLine : Setting → (path : List ℕ) → (before later : List Term) → Option ℕ → Type 0

@@ -8,7 +8,7 @@ ghost use Rattle.rule_spec.specs.Points as points;
 ghost use Rattle.sim_calls.specs.Callees.{IsCalleeOf};
 ghost use Rattle.sim_calls.specs.Cuts.{CanCut, IsCut};
 ghost use Rattle.sim_calls.specs.Outcome.{AreObligations, HasLines, IsBadLine, IsCallFault};
-ghost use Rattle.sim_calls.specs.Outcome.{IsFirstBad, IsSetup};
+ghost use Rattle.sim_calls.specs.Outcome.{IsSetup};
 ghost use Rattle.sim_calls.specs.Sites.{AreWithin, pair_by};
 ghost use Rattle.term_bank.specs.Nodes.{Extends};
 ghost use Rattle.term_core.specs.Trees.{term_of};
@@ -20,8 +20,8 @@ use crate::given::premises;
 use crate::returned::returns;
 use crate::sites::Calls;
 use attempt::attempt;
-use proof_tree::{Frame, Setting, is_line};
-use rule_terms::{Convention, implication};
+use proof_tree::{Frame, Setting};
+use rule_terms::{Convention, first_bad, implication};
 use std::alloc::{AllocError, Global};
 use term_bank::{Bank, TermId};
 use term_core::Term;
@@ -60,19 +60,7 @@ pub enum CallFault {
     NoMemory,
 }
 
-// The index of the first term that is no line in the body of the path, if there is one.
-fn first_bad(setting: &Setting, path: &[u32], lines: &[Box<Term>]) -> Option<usize>
-    ensures { IsFirstBad (setting_of setting.now) path.now (terms_of lines.now) result }
-{
-    for index in 0..lines.len() {
-        if !is_line(setting, path, &lines[index]) {
-            return Some(index);
-        }
-    }
-    None
-}
-
-// The same of the lines of a call.
+// The index of the first line of a call that is none, if there is one.
 fn bad_line(setting: &Setting, lines: &CallLines<'_>) -> Option<usize>
     ensures { IsBadLine (setting_of setting.now) lines.now.path.now
         (terms_of lines.now.before.now) (terms_of lines.now.after.now) result }

@@ -18,8 +18,9 @@ use Rattle.sim_rules.specs.declared.plan.Walking.{Walking}
 use Rattle.sim_rules.specs.declared.plan.Walking.TheVariants.{Leaf, RestrictBinary, RestrictSource, Wait}
 use Rattle.sim_rules.specs.declared.setup.Setup.{Setup}
 use Rattle.sim_rules.specs.Replies.{IsAnswer}
-use Rattle.sim_rules.specs.Held.{AreHeld}
-use Rattle.sim_rules.specs.Lines.{AreLines, IsLineFault}
+use Rattle.rule_terms.specs.Held.{AreHeld}
+use Rattle.rule_terms.specs.Lines.{AreLines}
+use Rattle.sim_rules.specs.Lines.{IsLineFault}
 use Rattle.sim_rules.specs.Outcome.{AreObligations, HasFewVisits, HasLines, IsRuleAnswer, IsRuleFault}
 use Rattle.sim_rules.specs.Rules.{walking_of}
 use Rattle.sim_rules.specs.Setups.{IsSetup}

@@ -14,7 +14,7 @@ use Rattle.sim_rules.specs.declared.plan.Walking.{Walking}
 use Rattle.sim_rules.specs.declared.plan.Walking.TheVariants.{Leaf, RestrictBinary, RestrictSource, Wait}
 use Rattle.sim_rules.specs.declared.side.Side.TheVariants.{Binary, Source}
 use Rattle.sim_rules.specs.Compared.{Compared, compared_by}
-use Rattle.sim_rules.specs.Held.{AreHeld}
+use Rattle.rule_terms.specs.Held.{AreHeld}
 use Rattle.sim_rules.specs.Made.{IsShapeFor, changed}
 use Rattle.sim_rules.specs.Outcome.{AreObligations}
 use Rattle.sim_rules.specs.Plans.{plan_for}

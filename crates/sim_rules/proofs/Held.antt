@@ -1,11 +1,12 @@
 -- Lists of ids of terms.
-use Rattle.std.proofs.Common.{◌≡◌, ◌<◌, ℕ, List, [], ◌∷◌, ◌++◌, All, length, sym, subst, append_assoc, append-nil}
+use Rattle.std.proofs.Common.{◌≡◌, ◌∙◌, ◌<◌, ℕ, List, [], ◌∷◌, ◌++◌, All, length, map, refl, sym, ap, subst, append_assoc, append-nil}
 use Rattle.std.proofs.lemmas.List.Elements.{All-cons, All-nil}
-use Rattle.std.proofs.lemmas.Option.{slice_get_within}
+use Rattle.std.proofs.lemmas.Option.{slice_get_within, get_or_from_slice_get}
 use Rattle.term_spec.specs.Term.{Term}
-use Rattle.term_bank.specs.Nodes.{Holds, Extends}
+use Rattle.term_bank.specs.Nodes.{Holds, Extends, tree_at}
 use Rattle.term_bank.proofs.Substitution.{kept}
-use Rattle.sim_rules.specs.Held.{AreHeld, HasAdded}
+use Rattle.rule_terms.specs.Held.{AreHeld}
+use Rattle.sim_rules.specs.Held.{HasAdded}
 
 held_later : (before now : List Term) → Extends before now → (ids : List ℕ) (ts : List Term) → AreHeld before ids ts → AreHeld now ids ts
 held_later before now e [] [] h = tt
@@ -18,6 +19,14 @@ pub held_within : (trees : List Term) (ids : List ℕ) (ts : List Term) → AreH
 held_within trees [] ts h = All-nil (λ (id : ℕ). id < length trees)
 held_within trees (i ∷ ids) [] h = absurd h
 held_within trees (i ∷ ids) (t ∷ ts) h = All-cons (λ (id : ℕ). id < length trees) i ids (slice_get_within trees i t h.0) (held_within trees ids ts h.1)
+
+-- the terms of ids
+pub trees_held : (trees : List Term) (ids : List ℕ) (ts : List Term) → AreHeld trees ids ts → map (tree_at trees) ids ≡ ts
+trees_held trees [] [] held = refl
+trees_held trees [] (t ∷ ts) held = absurd held
+trees_held trees (i ∷ ids) [] held = absurd held
+trees_held trees (i ∷ ids) (t ∷ ts) held =
+    ap (λ (x : Term). x ∷ map (tree_at trees) ids) (get_or_from_slice_get trees i t _ held.0) ∙ ap (λ (rest : List Term). t ∷ rest) (trees_held trees ids ts held.1)
 
 held_append : (trees : List Term) (ids more : List ℕ) (ts us : List Term) → AreHeld trees ids ts → AreHeld trees more us → AreHeld trees (ids ++ more) (ts ++ us)
 held_append trees [] more [] us h g = g

@@ -1,10 +1,6 @@
 -- Lists of what is to be shown.
-use Rattle.std.proofs.Common.{◌≡◌, ◌∙◌, ℕ, ◌<◌, Box, Global, List, ◌∷◌, ◌++◌, length, map, get_or, Some, sym, ap, ap₂, arith}
-use Rattle.std.specs.Prelude.{slice_get}
-use Rattle.std.proofs.lemmas.Option.{slice_get-get_or}
-use Rattle.term_core.specs.declared.term.Term.{Term as CodeTerm}
-use Rattle.graph_core.specs.Graphs.{boxed_term}
-use Rattle.std.proofs.lemmas.List.{length-map, map-append, get_or-map}
+use Rattle.std.proofs.Common.{◌≡◌, ◌∙◌, List, ◌∷◌, ◌++◌, map, sym, ap, ap₂}
+use Rattle.std.proofs.lemmas.List.{map-append}
 use Rattle.std.proofs.lemmas.Simd.{map-map}
 use Rattle.term_spec.specs.Term.{Term, or_term, not_term}
 use Rattle.visit_spec.specs.Visits.{Visit}
@@ -22,8 +18,3 @@ leaf_list_is premises c a d v w all =
     ap (λ (l : List Term). u (not_term (condition_where a v fails)) ∷ l)
     (ap₂ (λ (x y : List Term). x ++ y) (sym (map-map u (comes_too c a d v w) all)) (sym (map-map u (ends_alike c a d v w) all))
     ∙ sym (map-append u (map (comes_too c a d v w) all) (map (ends_alike c a d v w) all)))
-
-pub line_there : (lines : List (Box CodeTerm Global)) (i : ℕ) (b : Box CodeTerm Global) → i < length lines → b ≡ get_or lines i b → slice_get (map boxed_term lines) i ≡ Some (boxed_term b)
-line_there lines i b less is =
-    let long = length-map lines boxed_term in
-    slice_get-get_or (map boxed_term lines) i (boxed_term b) (omega (arith, long)) ∙ ap Some (get_or-map boxed_term lines i b (boxed_term b) less ∙ ap boxed_term (sym is))

@@ -1,18 +1,10 @@
--- Which of some terms are lines.
-use Rattle.std.specs.Prelude.{◌≡◌, ℕ, List, slice_get, Option, Some, None}
+-- Why some terms are no lines.
+use Rattle.std.specs.Prelude.{ℕ, List}
 use Rattle.term_spec.specs.Term.{Term}
-use Rattle.proof_spec.specs.Scope.{Setting, IsLine}
+use Rattle.proof_spec.specs.Scope.{Setting}
 use Rattle.rule_spec.specs.Obligations.{IsNoLine}
 use Rattle.sim_rules.specs.declared.fault.RuleFault.{RuleFault}
 use Rattle.sim_rules.specs.declared.fault.RuleFault.TheVariants.{Sort, Cyclic, Large, NoMemory}
-
-abbrev pub AreLines : Setting → (path : List ℕ) → List Term → Type 0
-AreLines s path lines = (i : ℕ) (line : Term) → slice_get lines i ≡ Some line → IsLine s path line
-
--- the index of the first that is none
-abbrev pub IsFirstBad : Setting → (path : List ℕ) → List Term → Option ℕ → Type 0
-IsFirstBad s path lines (Some index) = IsNoLine s path lines index
-IsFirstBad s path lines None = AreLines s path lines
 
 abbrev pub IsLineFault : Setting → (path : List ℕ) → List Term → RuleFault → Type 0
 IsLineFault s path lines (Sort index) = IsNoLine s path lines index

@@ -8,7 +8,7 @@ use Rattle.rule_spec.specs.Obligations as spec
 use Rattle.rule_spec.specs.Obligations.{Rule, HasNoLine, IsCyclicRule, IsLargeRule}
 use Rattle.sim_rules.specs.declared.fault.RuleFault.{RuleFault}
 use Rattle.sim_rules.specs.declared.fault.RuleFault.TheVariants.{Sort, Cyclic, Large, NoMemory}
-use Rattle.sim_rules.specs.Held.{AreHeld}
+use Rattle.rule_terms.specs.Held.{AreHeld}
 
 -- the ids are those of the rule's obligations, in their order
 pub record AreObligations (trees : List Term) (c : Convention) (o : Opening) (f : Frame) (rule : Rule) (ids : List ℕ) : Type 0 where

@@ -15,7 +15,7 @@ use Rattle.sim_rules.specs.Compared.{Compared}
 use Rattle.sim_rules.specs.declared.plan.Walking.{Walking}
 use Rattle.sim_rules.specs.declared.walked.Walked.{Walked}
 use Rattle.sim_rules.specs.Faults.{IsOutcome}
-use Rattle.sim_rules.specs.Held.{AreHeld}
+use Rattle.rule_terms.specs.Held.{AreHeld}
 use Rattle.sim_rules.specs.Plans.{plan_for}
 use Rattle.sim_rules.specs.Terms.{terms_for}
 

@@ -9,7 +9,8 @@ ghost use Rattle.rule_spec.specs.Points as points;
 ghost use Rattle.rule_spec.specs.Rules as rules;
 ghost use Rattle.rule_terms.specs.Openings.{IsOpeningIn};
 ghost use Rattle.sim_rules.specs.Replies.{IsAnswer};
-ghost use Rattle.sim_rules.specs.Lines.{AreLines, IsFirstBad, IsLineFault};
+ghost use Rattle.rule_terms.specs.Lines.{AreLines};
+ghost use Rattle.sim_rules.specs.Lines.{IsLineFault};
 ghost use Rattle.sim_rules.specs.Outcome.{AreObligations, HasFewVisits, HasLines, IsRuleFault};
 ghost use Rattle.sim_rules.specs.Rules.{rule_by, rule_of};
 ghost use Rattle.sim_rules.specs.Setups.{IsSetup};
@@ -20,6 +21,7 @@ use crate::setup::Setup;
 use crate::whole::whole;
 use proof_spec::Mark;
 use proof_tree::{Hold, Setting, is_line};
+use rule_terms::first_bad;
 use std::alloc::Global;
 use term_bank::{Bank, TermId};
 use term_core::Term;
@@ -50,18 +52,6 @@ enum Kind<'a> {
     OfLines(&'a [u32], &'a [Box<Term>]),
     /// both sides' walks
     OfWalks(Walking<'a>),
-}
-
-// The index of the first term that is no line in the body of the path, if there is one.
-fn first_bad(setting: &Setting, path: &[u32], lines: &[Box<Term>]) -> Option<usize>
-    ensures { IsFirstBad (setting_of setting.now) path.now (terms_of lines.now) result }
-{
-    for index in 0..lines.len() {
-        if !is_line(setting, path, &lines[index]) {
-            return Some(index);
-        }
-    }
-    None
 }
 
 // A Case or a cut leaves nothing to show, where its terms are lines.

@@ -14,7 +14,7 @@ ghost use Rattle.rule_terms.specs.Ways.{IsWay, walk_on};
 ghost use Rattle.visit_spec.specs.Visits.{Walk};
 ghost use Rattle.sim_rules.specs.Compared.{Compared};
 ghost use Rattle.sim_rules.specs.Faults.{IsOutcome, IsPlanAnswer};
-ghost use Rattle.sim_rules.specs.Held.{AreHeld};
+ghost use Rattle.rule_terms.specs.Held.{AreHeld};
 ghost use Rattle.sim_rules.specs.Outcome.{AreObligations, IsRuleAnswer};
 ghost use Rattle.sim_rules.specs.Plans.{plan_for};
 ghost use Rattle.sim_rules.specs.Rules.{walking_of};

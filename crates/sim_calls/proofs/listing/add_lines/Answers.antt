@@ -10,7 +10,7 @@ use Rattle.graph_core.specs.Graphs.{boxed_term}
 use Rattle.proof_tree.specs.Frames.{terms_of}
 use Rattle.sim_calls.specs.Listed.{Lists}
 use Rattle.sim_calls.proofs.Listings.{lists_later}
-use Rattle.sim_calls.proofs.LineLists.{line_there}
+use Rattle.rule_terms.proofs.Listed.{line_there}
 use Rattle.sim_calls.proofs.listing.add_lines.Goals as goal
 
 pub loop-i-init : goal.loop-i-init

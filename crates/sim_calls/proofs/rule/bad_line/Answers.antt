@@ -4,7 +4,7 @@ use Rattle.graph_core.specs.Graphs.{boxed_term}
 use Rattle.rule_spec.specs.Obligations.{IsNoLine}
 use Rattle.proof_tree.specs.Frames.{terms_of}
 use Rattle.proof_tree.specs.Scope.{setting_of}
-use Rattle.sim_calls.specs.Outcome.{IsFirstBad}
+use Rattle.rule_terms.specs.Lines.{IsFirstBad}
 use Rattle.sim_calls.proofs.LineLists.{bad_before, bad_later}
 use Rattle.sim_calls.proofs.rule.bad_line.Goals as goal
 

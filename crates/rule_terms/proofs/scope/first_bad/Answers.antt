@@ -9,8 +9,8 @@ use Rattle.graph_core.specs.Graphs.{boxed_term}
 use Rattle.proof_spec.specs.Scope.{IsLine}
 use Rattle.proof_tree.specs.Frames.{terms_of}
 use Rattle.proof_tree.specs.Scope.{setting_of}
-use Rattle.sim_rules.proofs.Lists.{line_there}
-use Rattle.sim_rules.proofs.rule.first_bad.Goals as goal
+use Rattle.rule_terms.proofs.Listed.{line_there}
+use Rattle.rule_terms.proofs.scope.first_bad.Goals as goal
 
 pub loop-index-preserved : goal.loop-index-preserved
 loop-index-preserved c = λ k line below there. elim (cases_lt k c.loop-index.index) [

@@ -4,7 +4,7 @@ use Rattle.term_spec.specs.Term.{Term}
 use Rattle.proof_spec.specs.Scope.{IsLine}
 use Rattle.proof_tree.specs.Frames.{terms_of}
 use Rattle.proof_tree.specs.Scope.{setting_of}
-use Rattle.sim_calls.proofs.rule.first_bad.Given as goal
+use Rattle.rule_terms.proofs.scope.first_bad.Given as goal
 
 -- the lines so far are lines
 abbrev pub invariant-loop-index : goal.invariant-loop-index
