@@ -29,7 +29,7 @@ use Rattle.c_graph_spec.specs.Layout.{Setting, Exits, exits, value_in, truth_in}
 use Rattle.c_graph_spec.specs.Guards.{Place}
 use Rattle.c_graph_spec.specs.SourceGraph.{setting_of, graphs_of}
 use Rattle.c_graph_laws.specs.Together.{Alike, IsPlace, setting_at, IsRunning, running}
-use Rattle.c_graph_laws.proofs.Stands.{Comes, Stands, GroupsStand, Selects, cases_at, default_at}
+use Rattle.c_graph_laws.proofs.Occurs.{Comes, Occurs, GroupsOccur, Selects, cases_at, default_at}
 use Rattle.c_graph_laws.proofs.Steps.{empty, conditional, at_node}
 use Rattle.c_graph_laws.proofs.Choosing.{target, no_target, chosen_is, selected, cases_tested, AsMany, LabelsAreOf}
 use Rattle.c_graph_laws.proofs.Flows.{Follows, broke, went, jumped, later, followed, unjumped, unended, body_followed, rounds_followed, switch_followed}
@@ -37,7 +37,7 @@ use Rattle.c_graph_laws.proofs.Parts.{branched}
 use Rattle.c_graph_laws.proofs.Statements.{evaluates, set_follows, unset_follows, store_follows, return_follows, case_tests}
 use Rattle.c_graph_laws.proofs.ExpressionSorts.{type_is, plain_is}
 
-many : (graphs : Graphs) (g : ℕ) (f : Setting) (list : Groups) (entries : List Next) (to continues : Next) → GroupsStand graphs g f list entries to continues → AsMany list entries
+many : (graphs : Graphs) (g : ℕ) (f : Setting) (list : Groups) (entries : List Next) (to continues : Next) → GroupsOccur graphs g f list entries to continues → AsMany list entries
 many graphs g f no_groups entries to continues h = h
 many graphs g f (groups labels body rest) [] to continues h = absurd h
 many graphs g f (groups labels body rest) (first ∷ entries) to continues h = many graphs g f rest entries to continues h.1
@@ -64,7 +64,7 @@ module _ (unit : Typed) (p : Place) (placed : IsPlace p) (zone : Zone) (outermos
 
   -- what is shown of a statement
   abbrev pub Acts : Action → Type 0
-  Acts a = (from to : Next) (e : Exits) (in_loop in_switch : Bool) → Stands graphs g f a from to e → JumpsInside a in_loop in_switch
+  Acts a = (from to : Next) (e : Exits) (in_loop in_switch : Bool) → Occurs graphs g f a from to e → JumpsInside a in_loop in_switch
       → (st : c.State) (n : ℕ) (s : Assignment) → Alike body.locals st.locals st.memory zone s
       → Flowing n (go g from s below) to e in_loop in_switch (is_ended a) (does_it a st n)
 
@@ -140,7 +140,7 @@ module _ (unit : Typed) (p : Place) (placed : IsPlace p) (zone : Zone) (outermos
 
   -- what is shown of groups
   abbrev GroupActs : Groups → Type 0
-  GroupActs list = (entries : List Next) (to continues : Next) (in_loop : Bool) → GroupsStand graphs g f list entries to continues → GroupsInside list in_loop → (taken : Option ℕ)
+  GroupActs list = (entries : List Next) (to continues : Next) (in_loop : Bool) → GroupsOccur graphs g f list entries to continues → GroupsInside list in_loop → (taken : Option ℕ)
       → (st : c.State) (n : ℕ) (s : Assignment) → Alike body.locals st.locals st.memory zone s
       → Flowing n (go g (target taken entries to) s below) to (exits to continues) in_loop true false (does_group (setting_at unit p zone) calls body.locals most list taken st n)
 

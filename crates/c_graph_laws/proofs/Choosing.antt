@@ -17,7 +17,7 @@ use Rattle.c_type_spec.specs.Core.{Groups, no_groups, groups}
 use Rattle.c_meaning_spec.specs.Execution.{labelled, chosen_group}
 use Rattle.c_graph_spec.specs.State.{value_constant}
 use Rattle.c_graph_spec.specs.Layout.{has_default, cases_to}
-use Rattle.c_graph_laws.proofs.Stands.{cases_at, default_at, Selects}
+use Rattle.c_graph_laws.proofs.Occurs.{cases_at, default_at, Selects}
 use Rattle.c_graph_laws.proofs.Steps.{conditional, joins}
 
 -- the labels of all groups are values of the type

@@ -78,7 +78,7 @@ module _ (graphs : Graphs) (outermost g : ℕ) (types : List Scalar) (zone : Zon
   followed d n x middle to e in_loop in_switch first_ended ended next _ on (jumped jump st left k s enough may alike is) = jumped jump st left k s enough may alike is
   followed d n x middle to e in_loop in_switch first_ended ended next _ on (gave value bytes left k s enough ends is) = gave value bytes left k s enough ends is
 
-  -- what doesn't jump may stand anywhere
+  -- what doesn't jump may be anywhere
   pub unjumped : (d n : ℕ) (x : State) (to : Next) (e f : Exits) (in_loop in_switch ended : Bool) (flow : Flow) → Follows d n x to e false false ended flow
       → Follows d n x to f in_loop in_switch ended flow
   unjumped d n x to e f in_loop in_switch ended _ (more k enough is) = more k enough is

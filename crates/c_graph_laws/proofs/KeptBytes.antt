@@ -35,7 +35,7 @@ use Rattle.c_graph_spec.specs.Layout.{Setting, Exits, exits, value_in, truth_in,
 use Rattle.c_graph_spec.specs.SourceGraph.{body_number, setting_of, graph_of, graphs_of}
 use Rattle.c_graph_laws.specs.Together.{IsPlace}
 use Rattle.c_graph_laws.specs.Keeps.{AreKept}
-use Rattle.c_graph_laws.proofs.Stands.{Comes, Tests, cases_at, default_at, Selects, Stands, GroupsStand}
+use Rattle.c_graph_laws.proofs.Occurs.{Comes, Tests, cases_at, default_at, Selects, Occurs, GroupsOccur}
 use Rattle.c_graph_laws.proofs.Laid.{Holds, laid}
 use Rattle.c_graph_laws.proofs.Steps as steps
 use Rattle.c_graph_laws.proofs.Steps.{all_hold, at_node}
@@ -270,11 +270,11 @@ module _ (unit : Typed) (p : Place) (placed : IsPlace p) (outermost : ℕ) (is_t
 
     -- where it goes on well, and leaves well, a statement goes on well
     abbrev Acts : Action → Type 0
-    Acts a = (k : ℕ) → k ≤ most → (from to : Next) (e : Exits) → Stands graphs g f a from to e
+    Acts a = (k : ℕ) → k ≤ most → (from to : Next) (e : Exits) → Occurs graphs g f a from to e
         → Good g below k to → Good g below k e.breaks → Good g below k e.continues → Good g below k Ret → Good g below k from
 
     abbrev GroupsAct : Groups → Type 0
-    GroupsAct list = (k : ℕ) → k ≤ most → (entries : List Next) (to continues : Next) → GroupsStand graphs g f list entries to continues
+    GroupsAct list = (k : ℕ) → k ≤ most → (entries : List Next) (to continues : Next) → GroupsOccur graphs g f list entries to continues
         → Good g below k to → Good g below k continues → Good g below k Ret → All (λ (n : Next). Good g below k n) entries
 
     -- ---- a store
@@ -306,26 +306,26 @@ module _ (unit : Typed) (p : Place) (placed : IsPlace p) (outermost : ℕ) (is_t
 
     store_acts : (t : Scalar) (address : Core) (displacement : ℕ) (x : Core) (offset : ℕ) → HasType (scope_of unit body) None address word
         → HasType (scope_of unit body) (Some t) x t → ActionExtents (Store t address displacement x offset) → Acts (Store t address displacement x offset)
-    store_acts t address displacement x offset ha hx h k few from to e stands good breaks continues ret = λ s fit.
+    store_acts t address displacement x offset ha hx h k few from to e occurs good breaks continues ret = λ s fit.
         let bindings : List Binding = binding memory (memory_stored f t address displacement x) ∷ [] in
-        tested g below k s fit (store_tests f t address displacement x) from stands.0 stands.1 (λ all.
-        step_of g below k stands.0 (Basic bindings to) s stands.2 fit (good (bound bindings s s)
-        (store_fit t address displacement x offset ha hx h s fit (node_valid graphs valid g stands.2.number (Basic bindings to) stands.2.here).1.0 all)))
+        tested g below k s fit (store_tests f t address displacement x) from occurs.0 occurs.1 (λ all.
+        step_of g below k occurs.0 (Basic bindings to) s occurs.2 fit (good (bound bindings s s)
+        (store_fit t address displacement x offset ha hx h s fit (node_valid graphs valid g occurs.2.number (Basic bindings to) occurs.2.here).1.0 all)))
 
     -- ---- a call
 
     call_acts : (number : ℕ) (function : List ℕ) (arguments : List Core) (place : Option ℕ) → Acts (Call number function arguments place)
-    call_acts number function arguments place k few from to e stands good breaks continues ret = λ s fit.
-        tested g below k s fit (argument_tests f arguments) from stands.0 stands.2 (λ all. calls s fit k few good)
+    call_acts number function arguments place k few from to e occurs good breaks continues ret = λ s fit.
+        tested g below k s fit (argument_tests f arguments) from occurs.0 occurs.2 (λ all. calls s fit k few good)
       where
         node : Node
-        node = graph.Call (f.graph_number function) (inputs f 0 arguments) (outputs f function place) stands.1
+        node = graph.Call (f.graph_number function) (inputs f 0 arguments) (outputs f function place) occurs.1
 
         frame : Assignment → Waiting
-        frame s = record { graph = g; call = stands.3.number; landing = stands.1; outputs = outputs f function place; values = s }
+        frame s = record { graph = g; call = occurs.3.number; landing = occurs.1; outputs = outputs f function place; values = s }
 
         binds : AreBindings (inputs f 0 arguments) × AreBindings (outputs f function place)
-        binds = let is = (node_valid graphs valid g stands.3.number (graph.Call (f.graph_number function) (inputs f 0 arguments) (outputs f function place) stands.1) stands.3.here).1 in
+        binds = let is = (node_valid graphs valid g occurs.3.number (graph.Call (f.graph_number function) (inputs f 0 arguments) (outputs f function place) occurs.1) occurs.3.here).1 in
             (is.0, is.1)
 
         entered_fit : (s : Assignment) → Fit s → Fit (entered (inputs f 0 arguments) s)
@@ -335,7 +335,7 @@ module _ (unit : Typed) (p : Place) (placed : IsPlace p) (outermost : ℕ) (is_t
 
         back : (s : Assignment) → Fit s → (m : ℕ) → Good g below m to → (r : Assignment) → Fit r → Keeps m (leave r (frame s ∷ below))
         back s fit m later r left =
-            empty g below m (At stands.1) to stands.4 later (resumed (outputs f function place) r s)
+            empty g below m (At occurs.1) to occurs.4 later (resumed (outputs f function place) r s)
             (same_memory r (resumed (outputs f function place) r s) (resumed_sorted (outputs f function place) r s binds.1 left.ranged fit.ranged)
             (spared memory (outputs f function place) (outputs_spare place f.local_type (f.function_type function).result) r (λ v. if is_shared v then r v else s v)) left)
 
@@ -345,45 +345,45 @@ module _ (unit : Typed) (p : Place) (placed : IsPlace p) (outermost : ℕ) (is_t
         begins s fit m less later (Some there) is =
             serve m less (f.graph_number function) there (frame s ∷ below) is (back s fit m later) (entered (inputs f 0 arguments) s) (entered_fit s fit)
 
-        calls : (s : Assignment) → Fit s → (k : ℕ) → k ≤ most → Good g below k to → Keeps k (go g stands.0 s below)
-        calls s fit zero few later = now g below stands.0 _ s stands.3 fit
+        calls : (s : Assignment) → Fit s → (k : ℕ) → k ≤ most → Good g below k to → Keeps k (go g occurs.0 s below)
+        calls s fit zero few later = now g below occurs.0 _ s occurs.3 fit
         calls s fit (suc m) few later =
-            stepped g below m stands.0 _ s stands.3 fit
+            stepped g below m occurs.0 _ s occurs.3 fit
             (begins s fit m (omega arith) (few_good g below m (suc m) to (omega arith) later) (slice_get graphs (f.graph_number function)) refl)
 
     -- ---- loops
 
     before_acts : (number : ℕ) (test : Core) (step inner : Action) → Acts step → Acts inner → Acts (Loop number Before test step inner)
-    before_acts number test step inner step_acts inner_acts k few from to e stands good breaks continues ret = rounds k few good continues ret
+    before_acts number test step inner step_acts inner_acts k few from to e occurs good breaks continues ret = rounds k few good continues ret
       where
         rounds : (k : ℕ) → k ≤ most → Good g below k to → Good g below k e.continues → Good g below k Ret → Good g below k from
-        rounds zero few good continues ret = λ s fit. now g below from (Basic [] stands.0) s stands.5 fit
+        rounds zero few good continues ret = λ s fit. now g below from (Basic [] occurs.0) s occurs.5 fit
         rounds (suc m) few good continues ret = λ s fit.
             let less : m ≤ suc m = omega arith in
             let good_m = few_good g below m (suc m) to less good in
             let continues_m = few_good g below m (suc m) e.continues less continues in
             let ret_m = few_good g below m (suc m) Ret less ret in
-            let again = step_acts m (omega arith) stands.4 from (exits to e.continues) stands.10 (rounds m (omega arith) good_m continues_m ret_m) good_m continues_m ret_m in
-            let inside = inner_acts m (omega arith) stands.3 stands.4 (exits to stands.4) stands.9 again good_m again ret_m in
-            stepped g below m from (Basic [] stands.0) s stands.5 fit
-            (all_tests g below m (tests_in f test) stands.0 stands.1 stands.6
-            (chosen g below m stands.1 stands.2 to (truth_in f test) stands.7 (empty g below m stands.2 stands.3 stands.8 inside) good_m)
-            (bound [] s s) (bound_fit g below from stands.0 [] s stands.5 (All-nil (λ (b : Binding). b.variable ≢ memory)) fit))
+            let again = step_acts m (omega arith) occurs.4 from (exits to e.continues) occurs.10 (rounds m (omega arith) good_m continues_m ret_m) good_m continues_m ret_m in
+            let inside = inner_acts m (omega arith) occurs.3 occurs.4 (exits to occurs.4) occurs.9 again good_m again ret_m in
+            stepped g below m from (Basic [] occurs.0) s occurs.5 fit
+            (all_tests g below m (tests_in f test) occurs.0 occurs.1 occurs.6
+            (chosen g below m occurs.1 occurs.2 to (truth_in f test) occurs.7 (empty g below m occurs.2 occurs.3 occurs.8 inside) good_m)
+            (bound [] s s) (bound_fit g below from occurs.0 [] s occurs.5 (All-nil (λ (b : Binding). b.variable ≢ memory)) fit))
 
     after_acts : (number : ℕ) (test : Core) (step inner : Action) → Acts inner → Acts (Loop number After test step inner)
-    after_acts number test step inner inner_acts k few from to e stands good breaks continues ret = rounds k few good ret
+    after_acts number test step inner inner_acts k few from to e occurs good breaks continues ret = rounds k few good ret
       where
         rounds : (k : ℕ) → k ≤ most → Good g below k to → Good g below k Ret → Good g below k from
-        rounds zero few good ret = λ s fit. now g below from (Basic [] stands.0) s stands.4 fit
+        rounds zero few good ret = λ s fit. now g below from (Basic [] occurs.0) s occurs.4 fit
         rounds (suc m) few good ret = λ s fit.
             let less : m ≤ suc m = omega arith in
             let good_m = few_good g below m (suc m) to less good in
             let ret_m = few_good g below m (suc m) Ret less ret in
-            let again = empty g below m stands.1 stands.2 stands.6 (all_tests g below m (tests_in f test) stands.2 stands.3 stands.7
-            (chosen g below m stands.3 from to (truth_in f test) stands.8 (rounds m (omega arith) good_m ret_m) good_m)) in
-            stepped g below m from (Basic [] stands.0) s stands.4 fit
-            (inner_acts m (omega arith) stands.0 stands.1 (exits to stands.1) stands.5 again good_m again ret_m
-            (bound [] s s) (bound_fit g below from stands.0 [] s stands.4 (All-nil (λ (b : Binding). b.variable ≢ memory)) fit))
+            let again = empty g below m occurs.1 occurs.2 occurs.6 (all_tests g below m (tests_in f test) occurs.2 occurs.3 occurs.7
+            (chosen g below m occurs.3 from to (truth_in f test) occurs.8 (rounds m (omega arith) good_m ret_m) good_m)) in
+            stepped g below m from (Basic [] occurs.0) s occurs.4 fit
+            (inner_acts m (omega arith) occurs.0 occurs.1 (exits to occurs.1) occurs.5 again good_m again ret_m
+            (bound [] s s) (bound_fit g below from occurs.0 [] s occurs.4 (All-nil (λ (b : Binding). b.variable ≢ memory)) fit))
 
     -- ---- statements
 

@@ -1,5 +1,6 @@
 pub mod Extents
-mod Stands
+mod Occurs
+pub mod Lengths
 mod Laid
 mod Steps
 pub mod Bits

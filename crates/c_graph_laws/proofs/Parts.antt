@@ -13,7 +13,7 @@ use Rattle.c_meaning_spec.specs.Evaluation.{Evaluated}
 use Rattle.c_meaning_spec.specs.Execution.{Flow, on_ok}
 use Rattle.c_graph_spec.specs.State.{width_of}
 use Rattle.c_graph_spec.specs.Layout.{Exits}
-use Rattle.c_graph_laws.proofs.Stands.{Comes, Tests}
+use Rattle.c_graph_laws.proofs.Occurs.{Comes, Tests}
 use Rattle.c_graph_laws.proofs.Steps.{pass, stop, conditional}
 use Rattle.c_graph_laws.proofs.Means.{Means, breaks, means}
 use Rattle.c_graph_laws.proofs.Flows.{Follows, broke, later}

@@ -57,7 +57,7 @@ both_plain m n first second =
     let most : m * n ≤ 2 ^ 31 * 2 ^ 31 = mul-le m n (2 ^ 31) (2 ^ 31) (omega arith) (omega arith) in
     record { small = omega arith; bits_32 = refl; bits_64 = refl }
 
--- the negative of a product p: m times a word n that stands for -k
+-- the negative of a product p: m times a word n that represents -k
 pub one_turned : (m n v k p : ℕ) → m ≤ 2 ^ 31 → k ≤ 2 ^ 31 → n + k ≡ 2 ^ 32 → v + k ≡ 2 ^ 64 → m * k ≡ p → Product (neg_ℤ (pos p)) (m * n) (m * v)
 one_turned m n v k p first second word_sum sum e =
     at p

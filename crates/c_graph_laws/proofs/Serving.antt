@@ -29,7 +29,7 @@ use Rattle.c_graph_laws.proofs.Extents.{IsPlain, ActionExtents, BodyExtents, Res
 use Rattle.c_graph_spec.specs.Layout.{Setting, Exits, exits, argument_tests, inputs, outputs, entry, nodes}
 use Rattle.c_graph_spec.specs.SourceGraph.{body_number, setting_of, graph_of, graphs_of}
 use Rattle.c_graph_laws.specs.Together.{Alike, IsPlace, setting_at, IsRunning, running}
-use Rattle.c_graph_laws.proofs.Stands.{Comes, Stands}
+use Rattle.c_graph_laws.proofs.Occurs.{Comes, Occurs}
 use Rattle.c_graph_laws.proofs.Laid.{Holds, laid}
 use Rattle.c_graph_laws.proofs.Steps.{pass, stop, empty, joins}
 use Rattle.c_graph_laws.proofs.Steps as steps
@@ -149,7 +149,7 @@ module _ (unit : Typed) (p : Place) (placed : IsPlace p) (zone : Zone) (outermos
 
     call_acts : (number : ℕ) (function : List ℕ) (arguments : List Core) (result : Option ℕ) → IsTyped (scope_of unit body) (Call number function arguments result)
         → ActionExtents (Call number function arguments result) → Reaches unit name function
-        → (from to : Next) (e : Exits) (in_loop in_switch : Bool) → Stands all_graphs g f (Call number function arguments result) from to e → Unit {0}
+        → (from to : Next) (e : Exits) (in_loop in_switch : Bool) → Occurs all_graphs g f (Call number function arguments result) from to e → Unit {0}
         → (st : c.State) (n : ℕ) (s : Assignment) → Alike body.locals st.locals st.memory zone s
         → Follows all_graphs outermost g body.locals zone body.signature.result below d n (go g from s below) to e in_loop in_switch false
         (does (setting_at unit p zone) calls body.locals d (Call number function arguments result) st n)

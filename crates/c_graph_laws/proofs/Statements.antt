@@ -38,7 +38,7 @@ use Rattle.c_graph_laws.proofs.Extents.{IsPlain, HasExtents, ActionExtents}
 use Rattle.c_graph_spec.specs.Layout.{Setting, Exits, value_in, truth_in, tests_in, binding, set_local, memory_stored}
 use Rattle.c_graph_spec.specs.SourceGraph.{setting_of, graphs_of}
 use Rattle.c_graph_laws.specs.Together.{Alike, IsPlace, Gives, gives_none, gives_some, setting_at}
-use Rattle.c_graph_laws.proofs.Stands.{Comes, Tests, Stands}
+use Rattle.c_graph_laws.proofs.Occurs.{Comes, Tests, Occurs}
 use Rattle.c_graph_laws.proofs.Steps.{pass, stop, basic}
 use Rattle.c_graph_laws.proofs.Means.{Means}
 use Rattle.c_graph_laws.proofs.Changes.{bound_here, bound_there, bound_none, alike_set, alike_unset, alike_stored}
@@ -99,23 +99,23 @@ module _ (unit : Typed) (p : Place) (placed : IsPlace p) (zone : Zone) where
         (evaluation.value (setting_at unit p zone) st.locals st.memory 0 x) s from last to e in_loop in_switch ended next tested (expression_means body st.locals st.memory s alike x t has h) on
 
     pub set_follows : (calls : Calls) (number : ℕ) (x : Core) (t : Scalar) → slice_get body.locals number ≡ Some t → HasType (scope_of unit body) None x t → HasExtents x
-        → (from to : Next) (e : Exits) (in_loop in_switch : Bool) → Stands graphs g f (Set number x) from to e → (st : c.State) (n : ℕ) (s : Assignment) → Alike body.locals st.locals st.memory zone s
+        → (from to : Next) (e : Exits) (in_loop in_switch : Bool) → Occurs graphs g f (Set number x) from to e → (st : c.State) (n : ℕ) (s : Assignment) → Alike body.locals st.locals st.memory zone s
         → Flowing n (go g from s below) to e in_loop in_switch false (does (setting_at unit p zone) calls body.locals most (Set number x) st n)
     unfolding does
-    set_follows calls number x t is has h from to e in_loop in_switch stands st n s alike =
-        evaluates x t has h from stands.0 to e in_loop in_switch false (λ v. Went (c.with_local st number (Some v)) n) stands.1 st n s alike (λ v k small vi word tr.
+    set_follows calls number x t is has h from to e in_loop in_switch occurs st n s alike =
+        evaluates x t has h from occurs.0 to e in_loop in_switch false (λ v. Went (c.with_local st number (Some v)) n) occurs.1 st n s alike (λ v k small vi word tr.
         went (c.with_local st number (Some v)) n 1 (bound (set_local number t (value_in f x)) s s) (omega arith) refl
         (alike_set body.locals st.locals st.memory zone s alike s alike.sorted number t (value_in f x) v k is (word_sorted body x t has h) small word vi)
-        (basic graphs outermost g stands.0 to (set_local number t (value_in f x)) s below
-        (subst (λ (u : Scalar). Comes graphs g stands.0 (Basic (set_local number u (value_in f x)) to)) (type_is (scope_of unit body) None x t has) stands.2)))
+        (basic graphs outermost g occurs.0 to (set_local number t (value_in f x)) s below
+        (subst (λ (u : Scalar). Comes graphs g occurs.0 (Basic (set_local number u (value_in f x)) to)) (type_is (scope_of unit body) None x t has) occurs.2)))
 
     pub unset_follows : (calls : Calls) (number : ℕ) (t : Scalar) → slice_get body.locals number ≡ Some t
-        → (from to : Next) (e : Exits) (in_loop in_switch : Bool) → Stands graphs g f (Unset number) from to e → (st : c.State) (n : ℕ) (s : Assignment) → Alike body.locals st.locals st.memory zone s
+        → (from to : Next) (e : Exits) (in_loop in_switch : Bool) → Occurs graphs g f (Unset number) from to e → (st : c.State) (n : ℕ) (s : Assignment) → Alike body.locals st.locals st.memory zone s
         → Flowing n (go g from s below) to e in_loop in_switch false (does (setting_at unit p zone) calls body.locals most (Unset number) st n)
     unfolding does
-    unset_follows calls number t is from to e in_loop in_switch stands st n s alike =
+    unset_follows calls number t is from to e in_loop in_switch occurs st n s alike =
         went (c.with_local st number None) n 1 (bound (binding (is_set number) (truth false) ∷ []) s s) (omega arith) refl
-        (alike_unset body.locals st.locals st.memory zone s alike number t is) (basic graphs outermost g from to (binding (is_set number) (truth false) ∷ []) s below stands)
+        (alike_unset body.locals st.locals st.memory zone s alike number t is) (basic graphs outermost g from to (binding (is_set number) (truth false) ∷ []) s below occurs)
 
     -- ---- `return`
 
@@ -129,18 +129,18 @@ module _ (unit : Typed) (p : Place) (placed : IsPlace p) (zone : Zone) where
     }
 
     pub return_follows : (calls : Calls) (v : Option Core) → IsReturned (scope_of unit body) v → ActionExtents (Return v)
-        → (from to : Next) (e : Exits) (in_loop in_switch : Bool) → Stands graphs g f (Return v) from to e → (st : c.State) (n : ℕ) (s : Assignment) → Alike body.locals st.locals st.memory zone s
+        → (from to : Next) (e : Exits) (in_loop in_switch : Bool) → Occurs graphs g f (Return v) from to e → (st : c.State) (n : ℕ) (s : Assignment) → Alike body.locals st.locals st.memory zone s
         → Flowing n (go g from s below) to e in_loop in_switch true (does (setting_at unit p zone) calls body.locals most (Return v) st n)
     unfolding does after
-    return_follows calls None is h from to e in_loop in_switch stands st n s alike =
+    return_follows calls None is h from to e in_loop in_switch occurs st n s alike =
         gave None st.memory n 0 s (omega arith) (record { gives = subst (λ (o : Option Scalar). Gives s o None) (sym is) gives_none; sorted = alike.sorted; memory_is = alike.memory_is })
-        (ap (λ (next : Next). go g next s below) stands)
-    return_follows calls (Some x) is h from to e in_loop in_switch stands st n s alike =
-        evaluates x is.0 is.2 h from stands.0 to e in_loop in_switch true (λ v. Gave (Some v) st.memory n) stands.1 st n s alike (λ v k small vi word tr.
+        (ap (λ (next : Next). go g next s below) occurs)
+    return_follows calls (Some x) is h from to e in_loop in_switch occurs st n s alike =
+        evaluates x is.0 is.2 h from occurs.0 to e in_loop in_switch true (λ v. Gave (Some v) st.memory n) occurs.1 st n s alike (λ v k small vi word tr.
         gave (Some v) st.memory n 1 (bound (binding (result is.0) (value_in f x) ∷ []) s s) (omega arith)
         (returned_value is.0 (value_in f x) v k st s alike is.1 (word_sorted body x is.0 is.2 h) small vi word)
-        (basic graphs outermost g stands.0 Ret (binding (result is.0) (value_in f x) ∷ []) s below
-        (subst (λ (u : Scalar). Comes graphs g stands.0 (Basic (binding (result u) (value_in f x) ∷ []) Ret)) (type_is (scope_of unit body) None x is.0 is.2) stands.2)))
+        (basic graphs outermost g occurs.0 Ret (binding (result is.0) (value_in f x) ∷ []) s below
+        (subst (λ (u : Scalar). Comes graphs g occurs.0 (Basic (binding (result u) (value_in f x) ∷ []) Ret)) (type_is (scope_of unit body) None x is.0 is.2) occurs.2)))
 
     -- ---- stores
 
@@ -149,15 +149,15 @@ module _ (unit : Typed) (p : Place) (placed : IsPlace p) (zone : Zone) where
 
     pub store_follows : (calls : Calls) (t : Scalar) (address : Core) (displacement : ℕ) (x : Core) (offset : ℕ) → HasType (scope_of unit body) None address word → HasType (scope_of unit body) (Some t) x t
         → ActionExtents (Store t address displacement x offset)
-        → (from to : Next) (e : Exits) (in_loop in_switch : Bool) → Stands graphs g f (Store t address displacement x offset) from to e
+        → (from to : Next) (e : Exits) (in_loop in_switch : Bool) → Occurs graphs g f (Store t address displacement x offset) from to e
         → (st : c.State) (n : ℕ) (s : Assignment) → Alike body.locals st.locals st.memory zone s
         → Flowing n (go g from s below) to e in_loop in_switch false (does (setting_at unit p zone) calls body.locals most (Store t address displacement x offset) st n)
     unfolding does access.stored
-    store_follows calls t address displacement x offset ha hx h from to e in_loop in_switch stands st n s alike =
+    store_follows calls t address displacement x offset ha hx h from to e in_loop in_switch occurs st n s alike =
         let base = value_in f address in
         let at : Object = object base displacement in
-        let split = tests_split graphs g (tests_in f address) (tests p.globals at x ++ write_tests p.runs t at) from stands.0 stands.1 in
-        let again = tests_split graphs g (tests p.globals at x) (write_tests p.runs t at) split.0 stands.0 split.2 in
+        let split = tests_split graphs g (tests_in f address) (tests p.globals at x ++ write_tests p.runs t at) from occurs.0 occurs.1 in
+        let again = tests_split graphs g (tests p.globals at x) (write_tests p.runs t at) split.0 occurs.0 split.2 in
         evaluates address word ha h.2 from split.0 to e in_loop in_switch false _ split.1 st n s alike (λ v k small vi ex tx.
         subst (λ (z : ℤ). Flowing n (go g split.0 s below) to e in_loop in_switch false
         (on_ok (evaluation.value (setting_at unit p zone) st.locals st.memory (access.address_of z + displacement) x)
@@ -168,7 +168,7 @@ module _ (unit : Typed) (p : Place) (placed : IsPlace p) (zone : Zone) where
       where
         finished : (k : ℕ) → k < 2 ^ 32 → value s (value_in f address) ≡ Number W32 k → (u : ℤ) (m : ℕ) → m < 2 ^ t.width → u ≡ of_bits t m
             → value s (value_term p.globals (object (value_in f address) displacement) x) ≡ Number (width_of t) m
-            → (middle : Next) → Tests graphs g (write_tests p.runs t (object (value_in f address) displacement)) middle stands.0
+            → (middle : Next) → Tests graphs g (write_tests p.runs t (object (value_in f address) displacement)) middle occurs.0
             → Flowing n (go g middle s below) to e in_loop in_switch false
             (on_ok (access.unless (write_guard (setting_at unit p zone) (size_of t) (k + displacement)) offset (with_bytes st.memory (size_of t) (k + displacement) (bits_of t.width u))) (λ bytes. Went (c.with_memory st bytes) n))
         finished k small ex u m small_m ui eu middle tested =
@@ -193,13 +193,13 @@ module _ (unit : Typed) (p : Place) (placed : IsPlace p) (zone : Zone) where
 
             at : (r : Option Guard) → Granted s (write_tests p.runs t place) (size_of t) (k + displacement) r
                 → Flowing n (go g middle s below) to e in_loop in_switch false (on_ok (access.unless r offset new) (λ bytes. Went (c.with_memory st bytes) n))
-            at _ (denied guard fails) = let stopped = stop graphs outermost g (write_tests p.runs t place) middle stands.0 s below tested fails in broke guard offset stopped.0 stopped.1
+            at _ (denied guard fails) = let stopped = stop graphs outermost g (write_tests p.runs t place) middle occurs.0 s below tested fails in broke guard offset stopped.0 stopped.1
             at _ (granted holds within) =
-                let passed = pass graphs outermost g (write_tests p.runs t place) middle stands.0 s below tested holds in
-                later graphs outermost g body.locals zone body.signature.result below most n most n passed.0 (go g middle s below) (go g stands.0 s below) to e in_loop in_switch false _ passed.1 (omega arith) (omega arith)
+                let passed = pass graphs outermost g (write_tests p.runs t place) middle occurs.0 s below tested holds in
+                later graphs outermost g body.locals zone body.signature.result below most n most n passed.0 (go g middle s below) (go g occurs.0 s below) to e in_loop in_switch false _ passed.1 (omega arith) (omega arith)
                 (went (c.with_memory st new) n 1 (bound (binding memory (memory_stored f t address displacement x) ∷ []) s s) (omega arith) refl
                 (alike_stored body.locals st.locals st.memory zone s alike (memory_stored f t address displacement x) new
                 (stored_sorted t h.0 place (value_term p.globals place x) (word_sorted body address word ha h.2) (omega (arith, h.1))
                 (sorted p.globals (global_small p placed) place (word_sorted body address word ha h.2) (omega (arith, h.1)) (scope_of unit body) (Some t) x t hx h.3).word)
                 (left within))
-                (basic graphs outermost g stands.0 to (binding memory (memory_stored f t address displacement x) ∷ []) s below stands.2))
+                (basic graphs outermost g occurs.0 to (binding memory (memory_stored f t address displacement x) ∷ []) s below occurs.2))

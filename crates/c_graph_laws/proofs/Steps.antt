@@ -10,7 +10,7 @@ use Rattle.graph_spec.specs.Graph.{Binding, Node, Basic, Cond, Graphs}
 use Rattle.graph_spec.specs.Run.{Waiting, State, Running, Failed, step, go, act, bound, is_truth, system_of}
 use Rattle.walk_spec.specs.TransitionSystem.{TransitionSystem, after}
 use Rattle.walk_spec.proofs.Runs.{after-add}
-use Rattle.c_graph_laws.proofs.Stands.{Comes, Tests}
+use Rattle.c_graph_laws.proofs.Occurs.{Comes, Tests}
 
 -- all of the tests hold
 abbrev pub all_hold : Assignment → List Term → Bool

@@ -28,7 +28,7 @@ use Rattle.c_graph_laws.proofs.Extents.{unit_extents, IsPlain, byte, half, full,
 use Rattle.c_graph_spec.specs.Layout.{Setting, Exits, exits, value_in, truth_in, tests_in, count, first, chain, guarded, binding, set_local, store_tests, memory_stored, argument_tests, inputs, outputs, result_put, has_default, cases_to, selection, case_count, size, groups_size, entry, otherwise, cases_of, step_entry, nodes, groups_nodes}
 use Rattle.c_graph_spec.specs.SourceGraph.{setting_of, void_function, graph_of, graphs_of}
 use Rattle.c_graph_laws.specs.Together.{IsPlace}
-use Rattle.c_graph_laws.proofs.Laid.{nodes_long, all_cases_long}
+use Rattle.c_graph_laws.proofs.Lengths.{nodes_long, all_cases_long}
 use Rattle.c_graph_laws.proofs.Sorted.{IsTest, IsOf, Is32, one, and_sorted, or_sorted, less_sorted, equal_sorted, words_sorted, number_sorted, at_width_sorted, address_sorted, read_tests_sorted, stored_sorted}
 use Rattle.c_graph_laws.proofs.ExpressionSorts.{type_is, plain_is, sorted, AreSorted, constant_value_sorted}
 use Rattle.c_graph_laws.proofs.Expressions.{global_small}

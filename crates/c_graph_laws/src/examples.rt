@@ -28,7 +28,7 @@ pub fn a_switch_has_nodes()
     ensures { nodes switch_body ≡ switch_nodes }
 {}
 
-/// The tests of the right operand of `&&` stand under that of the left one.
+/// The tests of the right operand of `&&` are under that of the left one.
 pub fn an_arm_is_tested_where_it_is_taken()
     ensures { nodes conjunction ≡ conjunction_nodes }
 {}

@@ -45,45 +45,45 @@ Selects graphs g type x (entry ∷ entries) from otherwise =
 
 abbrev mutual
   -- the nodes from one on are those of the statement, which goes on to another, or leaves by an exit
-  pub Stands : Graphs → ℕ → Setting → Action → (from to : Next) → Exits → Type 0
-  Stands graphs g f Skip from to e = from ≡ to
-  Stands graphs g f (Sequence a b) from to e = (middle : Next) × Stands graphs g f a from middle e × Stands graphs g f b middle to e
-  Stands graphs g f (Evaluate x) from to e = Tests graphs g (tests_in f x) from to
-  Stands graphs g f (Set number x) from to e =
+  pub Occurs : Graphs → ℕ → Setting → Action → (from to : Next) → Exits → Type 0
+  Occurs graphs g f Skip from to e = from ≡ to
+  Occurs graphs g f (Sequence a b) from to e = (middle : Next) × Occurs graphs g f a from middle e × Occurs graphs g f b middle to e
+  Occurs graphs g f (Evaluate x) from to e = Tests graphs g (tests_in f x) from to
+  Occurs graphs g f (Set number x) from to e =
       (last : Next) × Tests graphs g (tests_in f x) from last × Comes graphs g last (Basic (set_local number (type_of x) (value_in f x)) to)
-  Stands graphs g f (Unset number) from to e = Comes graphs g from (Basic (binding (is_set number) (truth false) ∷ []) to)
-  Stands graphs g f (Store type address displacement value offset) from to e =
+  Occurs graphs g f (Unset number) from to e = Comes graphs g from (Basic (binding (is_set number) (truth false) ∷ []) to)
+  Occurs graphs g f (Store type address displacement value offset) from to e =
       (last : Next) × Tests graphs g (store_tests f type address displacement value) from last
       × Comes graphs g last (Basic (binding memory (memory_stored f type address displacement value) ∷ []) to)
-  Stands graphs g f (Call number function arguments place) from to e =
+  Occurs graphs g f (Call number function arguments place) from to e =
       (last : Next) × (landing : ℕ) × Tests graphs g (argument_tests f arguments) from last
       × Comes graphs g last (graph.Call (f.graph_number function) (inputs f 0 arguments) (outputs f function place) landing)
       × Comes graphs g (At landing) (Basic [] to)
-  Stands graphs g f (If test a b) from to e =
+  Occurs graphs g f (If test a b) from to e =
       (last : Next) × (on_true : Next) × (on_false : Next) × Tests graphs g (tests_in f test) from last
-      × Comes graphs g last (Cond (truth_in f test) on_true on_false) × Stands graphs g f a on_true to e × Stands graphs g f b on_false to e
-  Stands graphs g f (Loop number Before test step body) from to e =
+      × Comes graphs g last (Cond (truth_in f test) on_true on_false) × Occurs graphs g f a on_true to e × Occurs graphs g f b on_false to e
+  Occurs graphs g f (Loop number Before test step body) from to e =
       (first : Next) × (last : Next) × (inside : Next) × (begin : Next) × (again : Next)
       × Comes graphs g from (Basic [] first) × Tests graphs g (tests_in f test) first last × Comes graphs g last (Cond (truth_in f test) inside to)
-      × Comes graphs g inside (Basic [] begin) × Stands graphs g f body begin again (exits to again) × Stands graphs g f step again from (exits to e.continues)
-  Stands graphs g f (Loop number After test step body) from to e =
+      × Comes graphs g inside (Basic [] begin) × Occurs graphs g f body begin again (exits to again) × Occurs graphs g f step again from (exits to e.continues)
+  Occurs graphs g f (Loop number After test step body) from to e =
       (begin : Next) × (again : Next) × (first : Next) × (last : Next)
-      × Comes graphs g from (Basic [] begin) × Stands graphs g f body begin again (exits to again) × Comes graphs g again (Basic [] first)
+      × Comes graphs g from (Basic [] begin) × Occurs graphs g f body begin again (exits to again) × Comes graphs g again (Basic [] first)
       × Tests graphs g (tests_in f test) first last × Comes graphs g last (Cond (truth_in f test) from to)
-  Stands graphs g f (Leave Break) from to e = from ≡ e.breaks
-  Stands graphs g f (Leave Continue) from to e = from ≡ e.continues
-  Stands graphs g f (Switch test list) from to e =
+  Occurs graphs g f (Leave Break) from to e = from ≡ e.breaks
+  Occurs graphs g f (Leave Continue) from to e = from ≡ e.continues
+  Occurs graphs g f (Switch test list) from to e =
       (chosen : Next) × (entries : List Next) × Tests graphs g (tests_in f test) from chosen
       × Selects graphs g (type_of test) (value_in f test) (cases_at list entries) chosen (default_at list entries to)
-      × GroupsStand graphs g f list entries to e.continues
-  Stands graphs g f (Return None) from to e = from ≡ Ret
-  Stands graphs g f (Return (Some x)) from to e =
+      × GroupsOccur graphs g f list entries to e.continues
+  Occurs graphs g f (Return None) from to e = from ≡ Ret
+  Occurs graphs g f (Return (Some x)) from to e =
       (last : Next) × Tests graphs g (tests_in f x) from last × Comes graphs g last (Basic (binding (result (type_of x)) (value_in f x) ∷ []) Ret)
-  Stands graphs g f (MissingReturn offset) from to e = Comes graphs g from (Cond (truth false) Err Err)
+  Occurs graphs g f (MissingReturn offset) from to e = Comes graphs g from (Cond (truth false) Err Err)
 
   -- the nodes of each group, from these on
-  pub GroupsStand : Graphs → ℕ → Setting → Groups → List Next → (to continues : Next) → Type 0
-  GroupsStand graphs g f no_groups entries to continues = entries ≡ []
-  GroupsStand graphs g f (groups values body rest) [] to continues = ⊥
-  GroupsStand graphs g f (groups values body rest) (first ∷ entries) to continues =
-      Stands graphs g f body first to (exits to continues) × GroupsStand graphs g f rest entries to continues
+  pub GroupsOccur : Graphs → ℕ → Setting → Groups → List Next → (to continues : Next) → Type 0
+  GroupsOccur graphs g f no_groups entries to continues = entries ≡ []
+  GroupsOccur graphs g f (groups values body rest) [] to continues = ⊥
+  GroupsOccur graphs g f (groups values body rest) (first ∷ entries) to continues =
+      Occurs graphs g f body first to (exits to continues) × GroupsOccur graphs g f rest entries to continues
