@@ -22,7 +22,7 @@ use Rattle.agreement_laws.proofs.Facts.{word_is}
 use Rattle.agreement_laws.proofs.Begun.{IsBegun, source_of, like_source, premise, binary_fine, source_fine}
 use Rattle.agreement_laws.proofs.Entries.{entries_agree}
 use Rattle.agreement_laws.proofs.Pairs.{size}
-use Rattle.agreement_laws.proofs.Stacks.{one_stack}
+use Rattle.pair_outcome_spec.proofs.Stacks.{one_stack}
 
 module _ (p : Pair) (is : IsPair p) (m : Machine) (arguments : List ℤ)
     (typed : HaveTypes p.body.signature.parameters arguments) (meets : Meets p.image p.entry p.stack m (argument_words arguments)) where

@@ -11,7 +11,6 @@ pub mod Entries
 pub mod Opening
 pub mod Begun
 pub mod EntryOpens
-pub mod Stacks
 pub mod Agreement
 pub mod Called
 pub mod Lines

@@ -25,7 +25,7 @@ use Rattle.pair_outcome_spec.specs.Outcome as outcome
 use Rattle.pair_outcome_spec.specs.Outcome.{IsPaired, Pairs}
 use Rattle.claim_spec.specs.Claim.{value_named}
 use Rattle.agreement_laws.specs.EntryFrame.{Pair}
-use Rattle.agreement_laws.proofs.Stacks.{one_stack}
+use Rattle.pair_outcome_spec.proofs.Stacks.{one_stack}
 use Rattle.proof_laws.specs.Derivation.{AreSides, Function, IsFunction}
 use Rattle.check_laws.specs.Statements.{AreFunctions, IsFile}
 use Rattle.check_sides.specs.Made.{AreCodeOf}

@@ -11,7 +11,7 @@ use Rattle.claim_spec.specs.Claim.{Agrees, AgreesWith, IsValid}
 use Rattle.agreement_laws.specs.EntryFrame.{Pair, entry_frame, entry_premises}
 use Rattle.agreement_laws.specs.Statements.{IsPair, IsSimulatedAtEntry}
 use Rattle.agreement_laws.proofs.Agreement.{simulation_agrees, simulated_valid}
-use Rattle.agreement_laws.proofs.Stacks.{one_stack}
+use Rattle.pair_outcome_spec.proofs.Stacks.{one_stack}
 use Rattle.proof_laws.specs.Derivation.{Function, pair_for, AtEntry, IsFunction, IsProvedFunction, AreSides, AreProved, none, one_more}
 use Rattle.proof_laws.specs.Statements.{AreSimulated}
 use Rattle.proof_laws.proofs.Simulated.{simulated}
