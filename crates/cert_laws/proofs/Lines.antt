@@ -366,7 +366,7 @@ fields_read KLog = log_read
 fields_read KStep = step_read
 fields_read KEnd = reads-same (FieldsText KEnd) end_to end_back (reads-nothing End)
 
--- ---- which keyword can stand where
+-- ---- which keyword can occur where
 
 data In (k : Keyword) : List Keyword → Type 0 where
   here : (rest : List Keyword) → In k (k ∷ rest)
@@ -397,28 +397,28 @@ passes test k keywords e (there first rest i) = passes test k rest (second_true 
     second_true true b e = e
     second_true false b e = absurd (cc)
 
-rule_stands : Keyword → (room : ℕ) → Bool
-rule_stands KLeaf room = true
-rule_stands KCase room = nat_lt 0 room
-rule_stands KRestrictBinary room = nat_lt 0 room
-rule_stands KRestrictSource room = nat_lt 0 room
-rule_stands KSplit room = nat_lt 0 room
-rule_stands KCall room = nat_lt 0 room
-rule_stands k room = false
+rule_allowed : Keyword → (room : ℕ) → Bool
+rule_allowed KLeaf room = true
+rule_allowed KCase room = nat_lt 0 room
+rule_allowed KRestrictBinary room = nat_lt 0 room
+rule_allowed KRestrictSource room = nat_lt 0 room
+rule_allowed KSplit room = nat_lt 0 room
+rule_allowed KCall room = nat_lt 0 room
+rule_allowed k room = false
 
-binary_stands : Keyword → Bool
-binary_stands KInlineBinary = true
-binary_stands KInlineSource = true
-binary_stands k = rule_stands k root_room
+binary_allowed : Keyword → Bool
+binary_allowed KInlineBinary = true
+binary_allowed KInlineSource = true
+binary_allowed k = rule_allowed k root_room
 
-source_stands : Keyword → Bool
-source_stands KInlineSource = true
-source_stands k = rule_stands k root_room
+source_allowed : Keyword → Bool
+source_allowed KInlineSource = true
+source_allowed k = rule_allowed k root_room
 
-part_stands : Keyword → Bool
-part_stands KFunction = true
-part_stands KEnd = true
-part_stands k = false
+part_allowed : Keyword → Bool
+part_allowed KFunction = true
+part_allowed KEnd = true
+part_allowed k = false
 
 only : Keyword → Keyword → Bool
 only KHeader KHeader = true
@@ -427,57 +427,57 @@ only KLog KLog = true
 only KStep KStep = true
 only k l = false
 
-stands : Expected → Keyword → Bool
-stands AHeader k = only KHeader k
-stands TheParts k = part_stands k
-stands BinaryInlines k = binary_stands k
-stands SourceInlines k = source_stands k
-stands (AProof room) k = rule_stands k room
-stands ARelation k = only KRelation k
-stands ALog k = only KLog k
-stands AStep k = only KStep k
+allowed : Expected → Keyword → Bool
+allowed AHeader k = only KHeader k
+allowed TheParts k = part_allowed k
+allowed BinaryInlines k = binary_allowed k
+allowed SourceInlines k = source_allowed k
+allowed (AProof room) k = rule_allowed k room
+allowed ARelation k = only KRelation k
+allowed ALog k = only KLog k
+allowed AStep k = only KStep k
 
-same_rule : (line : Line) (room : ℕ) → is_rule line room ≡ rule_stands (keyword_of line) room
-unfolding rule_stands
+same_rule : (line : Line) (room : ℕ) → is_rule line room ≡ rule_allowed (keyword_of line) room
+unfolding rule_allowed
 same_rule (Leaf n) room = refl
 same_rule line room = refl
 
-same_stands : (e : Expected) (line : Line) → can_stand e line ≡ stands e (keyword_of line)
-unfolding rule_stands binary_stands source_stands part_stands only stands
-same_stands AHeader Header = refl
-same_stands AHeader line = refl
-same_stands TheParts End = refl
-same_stands TheParts line = refl
-same_stands BinaryInlines Header = refl
-same_stands BinaryInlines line = refl
-same_stands SourceInlines Header = refl
-same_stands SourceInlines line = refl
-same_stands (AProof room) Header = refl
-same_stands (AProof room) line = refl
-same_stands ARelation Header = refl
-same_stands ARelation line = refl
-same_stands ALog Header = refl
-same_stands ALog line = refl
-same_stands AStep Header = refl
-same_stands AStep line = refl
+same_allowed : (e : Expected) (line : Line) → can_stand e line ≡ allowed e (keyword_of line)
+unfolding rule_allowed binary_allowed source_allowed part_allowed only allowed
+same_allowed AHeader Header = refl
+same_allowed AHeader line = refl
+same_allowed TheParts End = refl
+same_allowed TheParts line = refl
+same_allowed BinaryInlines Header = refl
+same_allowed BinaryInlines line = refl
+same_allowed SourceInlines Header = refl
+same_allowed SourceInlines line = refl
+same_allowed (AProof room) Header = refl
+same_allowed (AProof room) line = refl
+same_allowed ARelation Header = refl
+same_allowed ARelation line = refl
+same_allowed ALog Header = refl
+same_allowed ALog line = refl
+same_allowed AStep Header = refl
+same_allowed AStep line = refl
 
 positive : (n : ℕ) → nat_lt 0 (suc n) ≡ true
 positive n = grind (arith, nat_tests)
 
-all_stand : (e : Expected) → list_all (stands e) (keywords_at e) ≡ true
-unfolding rule_stands binary_stands source_stands part_stands only stands
-all_stand AHeader = refl
-all_stand TheParts = refl
-all_stand BinaryInlines = refl
-all_stand SourceInlines = refl
-all_stand (AProof zero) = refl
-all_stand (AProof (suc room)) = rw (positive room) refl
-all_stand ARelation = refl
-all_stand ALog = refl
-all_stand AStep = refl
+all_allowed : (e : Expected) → list_all (allowed e) (keywords_at e) ≡ true
+unfolding rule_allowed binary_allowed source_allowed part_allowed only allowed
+all_allowed AHeader = refl
+all_allowed TheParts = refl
+all_allowed BinaryInlines = refl
+all_allowed SourceInlines = refl
+all_allowed (AProof zero) = refl
+all_allowed (AProof (suc room)) = rw (positive room) refl
+all_allowed ARelation = refl
+all_allowed ALog = refl
+all_allowed AStep = refl
 
-rule_listed : (room : ℕ) (k : Keyword) → rule_stands k room ≡ true → In k (rules room)
-unfolding rule_stands
+rule_listed : (room : ℕ) (k : Keyword) → rule_allowed k room ≡ true → In k (rules room)
+unfolding rule_allowed
 rule_listed zero KLeaf e = here _
 rule_listed zero k e = absurd (cc)
 rule_listed (suc room) KLeaf e = here _
@@ -488,8 +488,8 @@ rule_listed (suc room) KSplit e = there _ _ (there _ _ (there _ _ (there _ _ (he
 rule_listed (suc room) KCall e = there _ _ (there _ _ (there _ _ (there _ _ (there _ _ (here _)))))
 rule_listed (suc room) k e = absurd (cc)
 
-listed : (e : Expected) (k : Keyword) → stands e k ≡ true → In k (keywords_at e)
-unfolding rule_stands binary_stands source_stands part_stands only stands
+listed : (e : Expected) (k : Keyword) → allowed e k ≡ true → In k (keywords_at e)
+unfolding rule_allowed binary_allowed source_allowed part_allowed only allowed
 listed AHeader KHeader h = here _
 listed AHeader k h = absurd (cc)
 listed TheParts KFunction h = here _
@@ -543,7 +543,7 @@ line_read e =
     let o = of_entries p.0 d.left (keywords_at e) d.first in
     let f = d.second in
     record {
-      fits = record { stands = same_stands e p.1 ∙ ap (stands e) f.keyword ∙ passes (stands e) p.0 (keywords_at e) (all_stand e) o.listed; is = f.is_line };
+      fits = record { stands = same_allowed e p.1 ∙ ap (allowed e) f.keyword ∙ passes (allowed e) p.0 (keywords_at e) (all_allowed e) o.listed; is = f.is_line };
       is = d.cut ∙ ap (λ t. t ++ d.right) (o.is ∙ ap keyword_text (sym f.keyword)) ∙ ap (λ t. keyword_text (keyword_of p.1) ++ t) f.is ∙ sym (line_parts p.1);
     })
     (λ line text i. (
@@ -553,7 +553,7 @@ line_read e =
         left = keyword_text (keyword_of line);
         right = fields_text line;
         cut = i.is ∙ line_parts line;
-        first = in_entries (keyword_of line) (keywords_at e) (listed e (keyword_of line) (sym (same_stands e line) ∙ i.fits.stands));
+        first = in_entries (keyword_of line) (keywords_at e) (listed e (keyword_of line) (sym (same_allowed e line) ∙ i.fits.stands));
         second = record { keyword = refl; is_line = i.fits.is; is = refl };
       },
     ))

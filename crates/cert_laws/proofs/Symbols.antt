@@ -133,7 +133,7 @@ variable_in (symbol.IsSet n) e = there _ _ (there _ _ (here _))
 variable_in (symbol.Parameter n) e = there _ _ (there _ _ (there _ _ (here _)))
 variable_in s e = absurd (cc)
 
--- a number changes nothing of where a symbol can stand
+-- a number changes nothing of where a symbol can occur
 same_first : (s : Symbol) (n room : ℕ) → begins_term (numbered s n) room ≡ begins_term s room
 same_first (symbol.Open o) n room = refl
 same_first symbol.Close n room = refl
@@ -340,9 +340,9 @@ argument_is : (s : Symbol) (room : ℕ) → begins_term s room ≡ true → argu
 argument_is symbol.Close room e = absurd (cc)
 argument_is s room e = refl
 
-argument_stands : (s : Symbol) (room : ℕ) → begins_term s room ≡ true → can_stand (Arguments room) s ≡ true
-argument_stands symbol.Close room e = refl
-argument_stands s room e = e
+argument_allowed : (s : Symbol) (room : ℕ) → begins_term s room ≡ true → can_stand (Arguments room) s ≡ true
+argument_allowed symbol.Close room e = refl
+argument_allowed s room e = e
 
 firsts_begin : (room : ℕ) (s : Symbol) → In s (firsts room) → begins_term s room ≡ true
 firsts_begin zero s i = passes (λ t. begins_term t 0) s atoms refl i
@@ -368,9 +368,9 @@ to_symbol (Arguments room) s n left right (further entry rest w) r =
     let o = of_words (codes " ") s left (firsts room) w in
     let m = made s n right r in
     let begins : begins_term (numbered s n) room ≡ true = same_first s n room ∙ firsts_begin room s o.listed in
-    record { fits = record { stands = argument_stands (numbered s n) room begins; below = m.below }; is = ap (λ t. t ++ right) o.is ∙ ap (λ t. codes " " ++ t) m.is ∙ sym (argument_is (numbered s n) room begins) }
+    record { fits = record { stands = argument_allowed (numbered s n) room begins; below = m.below }; is = ap (λ t. t ++ right) o.is ∙ ap (λ t. codes " " ++ t) m.is ∙ sym (argument_is (numbered s n) room begins) }
 
--- the word of a symbol where it can stand
+-- the word of a symbol where it can occur
 record WordAt (e : Expected) (s : Symbol) : Type 0 where
   lead : List ℕ
   listed : Word (numbered s 0) (lead ++ word (numbered s 0)) (words_at e)

@@ -111,7 +111,7 @@ module _ {X : Type 0} where
             none = rw f.no a.none;
           }
 
--- no word is the beginning of another: each is found where it stands
+-- no word is the beginning of another: each is found where it occurs
 abbrev pub Apart : {X : Type 0} → List (List ℕ × X) → Type 0
 Apart {X} table = (value : X) (text rest : List ℕ) → Word value text table → found_in table (text ++ rest) ≡ Some (text, value)
 
