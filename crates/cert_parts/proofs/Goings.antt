@@ -20,9 +20,9 @@ use Rattle.cert_parts.specs.declared.terms.Lead.TheVariants as lead
 use Rattle.cert_parts.specs.declared.terms.Going.{Going}
 use Rattle.cert_parts.specs.Terms.{IsTop, expected_of, opened, stack_at, stack_of, top_at, below_at, next}
 
--- a symbol that was read can stand there
-pub symbol_stands : (e : terms.Expected) (text rest : List ℕ) (s : Symbol) → read_symbol e text ≡ given s rest → terms.can_stand e s ≡ true
-symbol_stands e text rest s is = ((simply-exact (symbol_read e).exact).takes text s rest is).derives.fits.stands
+-- a symbol that was read can occur there
+pub symbol_allowed : (e : terms.Expected) (text rest : List ℕ) (s : Symbol) → read_symbol e text ≡ given s rest → terms.can_stand e s ≡ true
+symbol_allowed e text rest s is = ((simply-exact (symbol_read e).exact).takes text s rest is).derives.fits.stands
 
 -- an operator is an argument only where it has room
 pub opens_within : (n : ℕ) (o : Operator) → terms.can_stand (terms.Arguments (NESTING_LIMIT - suc n)) (symbol.Open o) ≡ true → suc (suc n) ≤ NESTING_LIMIT
@@ -40,7 +40,7 @@ abbrev pub IsAlone : Lead → ℕ → Type 0
 IsAlone lead.Term n = n ≡ 0
 IsAlone l n = Unit {0}
 
--- what is expected after a symbol that can stand there
+-- what is expected after a symbol that can occur there
 pub next_stack : (l : Lead) (n : ℕ) (s : Symbol) → IsAlone l n → stack_at l n ≡ top_at l n ∷ below_at l n → terms.can_stand (top_at l n) s ≡ true
     → stack_of (next (record { lead = l; depth = n }) s) ≡ terms.after (top_at l n) s ++ below_at l n
 unfolding opened
@@ -93,11 +93,11 @@ some_open zero l = absurd (omega arith)
 some_open (suc n) l = refl
 
 module _ (g : Going) where
-  pub none_stands : lead.Argument ≡ g.lead → g.depth ≡ 0 → stack_of g ≡ []
-  none_stands l e = ap (λ k. stack_at k g.depth) (sym l) ∙ none_open g.depth e
+  pub none_expected : lead.Argument ≡ g.lead → g.depth ≡ 0 → stack_of g ≡ []
+  none_expected l e = ap (λ k. stack_at k g.depth) (sym l) ∙ none_open g.depth e
 
-  pub some_stands : (room : ℕ) → lead.Argument ≡ g.lead → 0 < g.depth → room ≡ NESTING_LIMIT - g.depth → IsTop g (Some (expected.Arguments room))
-  some_stands room l some e =
+  pub some_expected : (room : ℕ) → lead.Argument ≡ g.lead → 0 < g.depth → room ≡ NESTING_LIMIT - g.depth → IsTop g (Some (expected.Arguments room))
+  some_expected room l some e =
       subst (λ k. (terms.Arguments room ≡ top_at k g.depth) × (stack_at k g.depth ≡ top_at k g.depth ∷ below_at k g.depth)) l (ap terms.Arguments e, some_open g.depth some)
 
 -- the words of arguments
@@ -138,10 +138,10 @@ module _ (old : List ℕ) (symbols : List Symbol) where
       pub term_next : (s : Symbol) → read_symbol (expected_of e) rest ≡ given s middle → TermLeft old (symbols ++ s ∷ []) (next g s) middle
       term_next s h =
           let read : read_symbol (top_at g.lead g.depth) rest ≡ given s middle = ap (λ x. read_symbol x rest) (sym top.0) ∙ h in
-          let stands = symbol_stands (top_at g.lead g.depth) rest middle s read in
+          let allowed = symbol_allowed (top_at g.lead g.depth) rest middle s read in
           record {
-            left = subst (λ stack. ItemsLeft read_symbol terms.after (read_term old) (symbols ++ s ∷ []) stack middle) (sym (next_stack g.lead g.depth s t.alone top.1 stands))
+            left = subst (λ stack. ItemsLeft read_symbol terms.after (read_term old) (symbols ++ s ∷ []) stack middle) (sym (next_stack g.lead g.depth s t.alone top.1 allowed))
                 (items-step read_symbol terms.after (read_term old) symbols (top_at g.lead g.depth) (below_at g.lead g.depth) rest middle s at_top read (symbol_shorter (top_at g.lead g.depth) rest middle s read));
-            within = next_within g.lead g.depth s t.alone t.within top.1 stands;
+            within = next_within g.lead g.depth s t.alone t.within top.1 allowed;
             alone = next_alone g s;
           }
