@@ -93,7 +93,7 @@ module _ (trees : List Term) (zeros : Zeros) (are : AreZeros trees zeros) (memor
   pub begun_below : AreBelow (length trees) (λ v. begun_by zeros memory bound_binary binary bound_source source v.family v)
   begun_below v = below_family v.family v
 
--- ---- what they stand for
+-- ---- the terms of these ids
 
 pub or_tree : (trees : List Term) (o p : Option ℕ) (otherwise : Term) → tree_or trees (option_or o p) otherwise ≡ tree_or trees o (tree_or trees p otherwise)
 or_tree trees None p otherwise = refl

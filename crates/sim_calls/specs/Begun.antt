@@ -51,6 +51,6 @@ begun_by zeros memory bound_binary binary bound_source source family.Address v =
 begun_by zeros memory bound_binary binary bound_source source family.LoadedByte v = None
 begun_by zeros memory bound_binary binary bound_source source family.Further v = entered_id bound_source source zeros v
 
--- the terms that they stand for
+-- the terms of these ids
 abbrev pub begins_by : Convention → CallPair → Terms
 begins_by c calls = terms_at (binary_begins calls (at_cut c)) (source_begins calls (at_cut c))

@@ -42,7 +42,7 @@ returned_by memory returned lefts bound binary source family.Address v = None
 returned_by memory returned lefts bound binary source family.LoadedByte v = None
 returned_by memory returned lefts bound binary source family.Further v = source_id bound lefts source v
 
--- ---- what they stand for
+-- ---- the terms of these ids
 
 -- the binary's memory, with a zone from one address to below the next
 abbrev pub left_memory_by : (from to : Term) → (stack : ℕ) → Term

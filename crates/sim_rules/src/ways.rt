@@ -45,7 +45,7 @@ fn shape_of(alloc: Global, graph: &Graph, change: Change) -> Result<Shape, Alloc
     }
 }
 
-/// The way of a side, as a rule changes it; `empty` stands for a graph that is not there.
+/// The way of a side, as a rule changes it; `empty` in place of a graph that is not there.
 pub(crate) fn way<'a>(
     alloc: Global,
     setup: &Setup<'a>,

@@ -164,7 +164,7 @@ fn add_of_ways(
     add_if_walked(alloc, bank, setup, rule, &binary, &source, ids)
 }
 
-// The same, of a frame; `empty` stands for graphs that are not there.
+// The same, of a frame; `empty` in place of graphs that are not there.
 fn add_whole(
     alloc: Global,
     bank: &mut Bank,

@@ -32,7 +32,7 @@ use Rattle.verdict_spec.proofs.Shown.{one_shown}
 
 -- ---- names that have pairs
 
--- what stands for the verdict of any search of these functions
+-- the verdict in place of that of any search of these functions
 abbrev pub all_valid_of : List check.Listed → Verdict
 all_valid_of listed = Judged (map valid_judgement listed)
 
@@ -253,7 +253,7 @@ with_pairs : (elf c : List ℕ) (task : Task) (image : Image) (unit : Typed) (na
 with_pairs elf c task image unit names verdict pairs done =
     listed elf c task image unit names verdict pairs.few.lists (paired verdict pairs.pairs pairs.few.within pairs.paired done)
 
--- the verdict of a decision; of a search the one that stands for it
+-- the verdict of a decision; of a search the one in its place
 unfoldable pub kernel : (elf c : List ℕ) (task : Task) (decision : Decision) → Judges elf c task decision → Verdict
 kernel elf c task _ (elf_refused kind offset x) = RefusedElf kind offset
 kernel elf c task _ (c_refused image kind offset is h) = RefusedC kind offset
