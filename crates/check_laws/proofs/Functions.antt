@@ -1,7 +1,6 @@
 -- Functions whose parts are closed are proved, and valid.
-use Rattle.std.proofs.Common.{◌≡◌, ◌∙◌, ℕ, zero, suc, ◌+◌, ◌^◌, ◌<◌, ◌≤◌, true, false, List, [], ◌∷◌, ◌++◌, map, length, get_or, Option, Some, refl, sym, ap, subst, arith, append_assoc, append-nil}
-use Rattle.std.specs.Prelude.{◌||◌, not, All, Contains, slice_get, unwrap_or}
-use Rattle.std.proofs.lemmas.Bool.{and_parts}
+use Rattle.std.proofs.Common.{◌≡◌, ◌∙◌, ℕ, zero, suc, ◌+◌, ◌^◌, ◌<◌, ◌≤◌, List, [], ◌∷◌, ◌++◌, map, get_or, refl, sym, ap, subst, arith, append_assoc, append-nil}
+use Rattle.std.specs.Prelude.{All, Contains}
 use Rattle.std.proofs.lemmas.List.{get_or_default}
 use Rattle.std.proofs.lemmas.List.Elements.{All-nil, All-cons, All-append, All-head, All-tail, All-contains}
 use Rattle.elf_spec.specs.Image.{function_named}
@@ -12,76 +11,32 @@ use Rattle.term_spec.specs.declared.Family.{Family}
 use Rattle.term_spec.specs.declared.Family.TheVariants as family
 use Rattle.term_spec.specs.declared.Variable.{Variable}
 use Rattle.term_spec.specs.declared.Sort.{Sort}
-use Rattle.term_spec.specs.Same.{same_variable}
-use Rattle.term_spec.proofs.Same.{variable-same}
 use Rattle.term_spec.specs.Term.{Term, not_term}
 use Rattle.walk_spec.specs.TransitionSystem.{Mark, AreCounted}
-use Rattle.graph_spec.specs.Graph.{Node, Basic, Cond, Call, Graph, IsNode, IsValid as IsValidGraph, empty}
-use Rattle.code_graph_laws.specs.Together.{setting}
-use Rattle.c_graph_spec.specs.State.{memory}
-use Rattle.c_graph_spec.specs.SourceGraph.{body_number, graph_of, graphs_of}
-use Rattle.c_graph_laws.proofs.ValidGraphs.{all_valid}
 use Rattle.proof_spec.specs.Scope.{Setting, InFamily, IsLine}
 use Rattle.proof_spec.specs.Frames.{Start, Frame, with_premise}
-use Rattle.rule_spec.specs.Points.{is_binary, is_source}
-use Rattle.rule_spec.specs.Sides.{graph_at}
 use Rattle.rule_spec.specs.Rules.{AreOfLeaf, AreTrueWith}
-use Rattle.rule_spec.specs.Proper.{IsOwnNode, IsOwnGraph}
-use Rattle.rule_spec.proofs.Start.{all_at}
 use Rattle.claim_spec.specs.Claim.{IsValid}
-use Rattle.agreement_laws.specs.EntryFrame.{Pair, place_of, entry_frame, entry_opening, scope_of}
+use Rattle.agreement_laws.specs.EntryFrame.{Pair, entry_frame, entry_opening, scope_of}
 use Rattle.agreement_laws.specs.Statements.{IsPair}
 use Rattle.agreement_laws.specs.Callers.{frame_of}
-use Rattle.agreement_laws.proofs.Pairs.{code, size, body_there, runs_are, plain, extents}
+use Rattle.agreement_laws.proofs.Pairs.{runs_are}
 use Rattle.proof_laws.specs.Derivation.{Function, pair_for, AtEntry, no_zone, stated, IsProved, AreSides, IsFunction, IsProvedFunction, AreProved, none, one_more}
 use Rattle.proof_laws.specs.Derivation as derivation
-use Rattle.proof_laws.proofs.CodeSpeaks.{code_is_own}
-use Rattle.proof_laws.proofs.SourceSpeaks.{is_source_memory, is_spoken}
-use Rattle.proof_laws.proofs.SourceGraphs.{IsSpokenNode, IsSpokenGraph, source_is_spoken}
 use Rattle.proof_laws.proofs.Functions.{is_pair, functions_valid}
 use Rattle.cert_spec.specs.Lines.{Line}
 use Rattle.check_spec.specs.Verdict.{Listed, IsProof, with_test}
 use Rattle.check_laws.specs.Closed.{IsClosedGoal, IsClosed, leaf, case}
 use Rattle.check_laws.specs.Statements.{AreLines, listed_of, IsFile, AreFunctions, ClosedIsValid}
 use Rattle.check_laws.proofs.Good.{IsPlain, IsTest, AreTests, not_good}
-use Rattle.check_laws.proofs.Conditions.{IsGoodNode, IsGoodGraph}
-use Rattle.check_laws.proofs.Entry.{premises_good, binary_state_good, source_state_good, returns_good, byte_good}
-use Rattle.check_laws.proofs.Leaves.{leaf_good}
+use Rattle.check_laws.proofs.Graphs.{obligations_good, entry_good}
 use Rattle.check_laws.proofs.Validity.{goal_true}
 use Rattle.check_laws.proofs.Walk.{parts_closed}
 
--- ---- graphs
+-- ---- lines in scope
 
 abbrev variable : Family → (index instance : ℕ) → Sort → Variable
 variable f i n t = record { family = f; index = i; instance = n; sort = t }
-
-binary_plain : (v : Variable) → is_binary v.family ≡ true → IsPlain v
-binary_plain v own is = absurd (let bad : true ≡ false = sym own ∙ ap is_binary is in cc)
-
-spoken_plain : (v : Variable) → is_spoken v ≡ true → IsPlain v
-spoken_plain v spoken is =
-    let parts = and_parts (is_source v.family) (not (is_source_memory v.family) || same_variable v memory) spoken in
-    variable-same v memory (ap (λ (f : Family). not (is_source_memory f) || same_variable v memory) (sym is) ∙ parts.1)
-
-binary_node : (count : ℕ) (node : Node) → IsNode count node → IsOwnNode is_binary node → IsGoodNode node
-binary_node count (Basic bindings to) valid own = λ i d lt. record { sorted = valid.0 i d lt; plain = λ v o. binary_plain v ((own i d lt).1 v o) }
-binary_node count (Cond test on_true on_false) valid own = record { sorted = valid.0; plain = λ v o. binary_plain v (own v o) }
-binary_node count (Call callee inputs outputs landing) valid own = tt
-
-source_node : (count : ℕ) (node : Node) → IsNode count node → IsSpokenNode node → IsGoodNode node
-source_node count (Basic bindings to) valid own = λ i d lt. record { sorted = valid.0 i d lt; plain = λ v o. spoken_plain v ((own i d lt).1 v o) }
-source_node count (Cond test on_true on_false) valid own = record { sorted = valid.0; plain = λ v o. spoken_plain v (own v o) }
-source_node count (Call callee inputs outputs landing) valid own = tt
-
-binary_graph : (g : Graph) → IsValidGraph g → IsOwnGraph is_binary g → IsGoodGraph g
-binary_graph g valid own n node there =
-    binary_node (length g.nodes) node (all_at (IsNode (length g.nodes)) g.nodes n node valid.nodes there) (all_at (IsOwnNode is_binary) g.nodes n node own there)
-
-source_graph : (g : Graph) → IsValidGraph g → IsSpokenGraph g → IsGoodGraph g
-source_graph g valid own n node there =
-    source_node (length g.nodes) node (all_at (IsNode (length g.nodes)) g.nodes n node valid.nodes there) (all_at IsSpokenNode g.nodes n node own there)
-
--- ---- lines in scope
 
 plain_in : (s : Setting) (path : List ℕ) (f : Family) (i n : ℕ) (t : Sort) → InFamily s path f (variable f i n t) → IsPlain (variable f i n t)
 plain_in s path family.SourceMemory i n t is same =
@@ -101,36 +56,12 @@ module _ (q : Pair) (g : Function) (sides : AreSides q) (file : IsFile q) (funct
   is : IsPair p
   is = is_pair q g sides function
 
-  code_good : IsGoodGraph (graph_at (entry_frame p).binary)
-  code_good =
-      subst IsGoodGraph (sym (ap (λ (o : Option Graph). unwrap_or o empty) (code p is).1))
-      (binary_graph (code p is).0 (all_at IsValidGraph p.graphs (p.numbering.graph_number p.entry) (code p is).0 is.binary_valid (code p is).1)
-      (code_is_own p.image (setting p.numbering p.entry (size p is).0) (code p is).0 (code p is).2))
-
-  body_graph : slice_get (graphs_of p.unit (place_of p)) (body_number p.body.name p.unit.bodies) ≡ Some (graph_of p.unit (place_of p) p.body)
-  body_graph = body_there (graph_of p.unit (place_of p)) p.unit.bodies p.body.name p.body is.body_is
-
-  body_good : IsGoodGraph (graph_at (entry_frame p).source)
-  body_good =
-      subst IsGoodGraph (sym (ap (λ (o : Option Graph). unwrap_or o empty) body_graph))
-      (source_graph (graph_of p.unit (place_of p) p.body)
-      (all_at IsValidGraph (graphs_of p.unit (place_of p)) (body_number p.body.name p.unit.bodies) (graph_of p.unit (place_of p) p.body)
-      (all_valid p.unit (place_of p) is.placed is.typed is.sizes) body_graph)
-      (all_at IsSpokenGraph (graphs_of p.unit (place_of p)) (body_number p.body.name p.unit.bodies) (graph_of p.unit (place_of p) p.body)
-      (source_is_spoken p.unit (place_of p) is.typed.bodies_typed) body_graph))
-
   -- the obligations of a Leaf that are closed are true
   obligations_true : (start : Start) (terms : List Term) → AreTests start.premises → AreOfLeaf (stated p) (entry_opening p no_zone) (frame_of p start [] []) terms
       → All (IsClosedGoal p.numbering.runs) terms → AreTrueWith (stated p) terms
   obligations_true start terms premises are closed i d lt =
       goal_true (stated p) p.numbering.runs (runs_have_bytes p.image p.numbering.runs file.bytes (runs_are p is)) (runs_are_fixed p.image p.numbering.runs (runs_are p is))
-      (get_or terms i d) (tests i d lt) (closed i d lt)
-    where
-      tests : AreTests terms
-      tests =
-          subst AreTests (sym are.terms_are)
-          (leaf_good (stated p) (entry_opening p no_zone) (frame_of p start [] []) code_good body_good (binary_state_good p small (plain p is)) (source_state_good p small) premises
-          (returns_good p.body.signature.result (extents p is).result) (byte_good p small) are.binary are.source refl)
+      (get_or terms i d) (obligations_good q g sides file function small start terms premises are i d lt) (closed i d lt)
 
   none_counted : (bounds : List Mark) → bounds ≡ [] → AreCounted bounds
   none_counted bounds none_there = subst AreCounted (sym none_there) (All-nil (λ (m : Mark). 1 ≤ m.count))
@@ -160,7 +91,7 @@ module _ (q : Pair) (g : Function) (sides : AreSides q) (file : IsFile q) (funct
     function_proved closed = record {
       function = function;
       small = small;
-      proved = closed_proved (entry_frame p).start (entry_frame p) closed refl (premises_good p small file.pointer is.placed.run) refl refl;
+      proved = closed_proved (entry_frame p).start (entry_frame p) closed refl (entry_good q g sides file function small) refl refl;
     }
 
 -- ---- all functions

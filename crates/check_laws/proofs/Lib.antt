@@ -5,4 +5,5 @@ pub mod Conditions
 pub mod Entry
 pub mod Leaves
 pub mod Validity
+pub mod Graphs
 pub mod Functions
