@@ -15,8 +15,8 @@ use Rattle.check_laws.specs.Closed.{IsClosedGoal, IsClosed, leaf, case, HasPart}
 use Rattle.check_laws.specs.Statements.{AreLines}
 use Rattle.check_laws.proofs.Parts.{IsNamed, all_named}
 
-false_stands : {A : Type 0} → false ≡ true → A
-false_stands e = absurd (cc)
+from_false : {A : Type 0} → false ≡ true → A
+from_false e = absurd (cc)
 
 -- ---- jobs
 
@@ -138,30 +138,30 @@ module _ (listed : List Listed) where
 
   part_line : (lines : List Line) → Later lines → (s : State) → StateDone s → (line : Line) (next : State) → can_stand TheParts line ≡ true
       → Derives Fits after (after TheParts line ++ []) lines → Passes listed lines s line next → Proves listed next lines → Shows s
-  part_line lines later s done _ _ stands derives (walk.function _ f free) proves =
+  part_line lines later s done _ _ allowed derives (walk.function _ f free) proves =
       with_part s f free.is_listed
       (later (Inside (begun s) f (Prove f.frame ∷ [])) (BinaryInlines ∷ TheParts ∷ [])
       (inside (begun s) f (Prove f.frame ∷ []) (BinaryInlines ∷ TheParts ∷ []) (a_proof BinaryInlines (TheParts ∷ []) f.frame [] of_binary no_job)) derives proves)
       done
-  part_line lines later s done _ _ stands derives (walk.last _ free) proves = at_end s done free
-  part_line lines later _ done _ _ stands derives walk.header proves = false_stands stands
-  part_line lines later _ done _ _ stands derives (walk.leaf parts f frame jobs terms acyclic small are) proves = false_stands stands
-  part_line lines later _ done _ _ stands derives (walk.case parts f frame jobs symbols test is) proves = false_stands stands
-  part_line lines later _ done _ _ stands derives (walk.log parts f goal jobs count steps are closes) proves = false_stands stands
-  part_line lines later _ done _ _ stands derives (walk.step parts f jobs one) proves = false_stands stands
+  part_line lines later s done _ _ allowed derives (walk.last _ free) proves = at_end s done free
+  part_line lines later _ done _ _ allowed derives walk.header proves = from_false allowed
+  part_line lines later _ done _ _ allowed derives (walk.leaf parts f frame jobs terms acyclic small are) proves = from_false allowed
+  part_line lines later _ done _ _ allowed derives (walk.case parts f frame jobs symbols test is) proves = from_false allowed
+  part_line lines later _ done _ _ allowed derives (walk.log parts f goal jobs count steps are closes) proves = from_false allowed
+  part_line lines later _ done _ _ allowed derives (walk.step parts f jobs one) proves = from_false allowed
 
   proof_line : (lines : List Line) → Later lines → (parts : List Listed) (f : Listed) (frame : Frame) (jobs : List Job) (e : Expected) (others : List Expected) (line : Line) (next : State)
       → IsOfProof e → AreOfJobs others jobs → can_stand e line ≡ true → Derives Fits after (after e line ++ others) lines
       → Passes listed lines (Inside parts f (Prove frame ∷ jobs)) line next → Proves listed next lines → Shows (Inside parts f (Prove frame ∷ jobs))
-  proof_line lines later parts f frame jobs e others _ _ of are stands derives (walk.function _ g free) proves = false_stands (never_function e of g.name g.stack stands)
-  proof_line lines later parts f frame jobs e others _ _ of are stands derives (walk.last _ free) proves = false_stands (never_end e of stands)
-  proof_line lines later parts f frame jobs e others _ _ of are stands derives (walk.leaf _ _ _ _ terms acyclic small obligations) proves =
+  proof_line lines later parts f frame jobs e others _ _ of are allowed derives (walk.function _ g free) proves = from_false (never_function e of g.name g.stack allowed)
+  proof_line lines later parts f frame jobs e others _ _ of are allowed derives (walk.last _ free) proves = from_false (never_end e of allowed)
+  proof_line lines later parts f frame jobs e others _ _ of are allowed derives (walk.leaf _ _ _ _ terms acyclic small obligations) proves =
       let shows = later (Inside parts f (map Close terms ++ jobs)) (replicate (length terms) ALog ++ others)
       (inside parts f (map Close terms ++ jobs) (replicate (length terms) ALog ++ others) (logs_of terms others jobs are))
       (subst (λ (list : List Expected). Derives Fits after (list ++ others) lines) (after_leaf e of (length terms)) derives) proves in
       let logs = logs_done f terms jobs shows.done in
       with_done parts f (Prove frame ∷ jobs) (map Close terms ++ jobs) shows (leaf frame terms obligations logs.0, logs.1)
-  proof_line lines later parts f frame jobs e others _ _ of are stands derives (walk.case _ _ _ _ symbols test is) proves =
+  proof_line lines later parts f frame jobs e others _ _ of are allowed derives (walk.case _ _ _ _ symbols test is) proves =
       let room = after_case e of symbols in
       let shows = later (Inside parts f (Prove (with_test frame test) ∷ Prove (with_test frame (not_term test)) ∷ jobs)) (AProof room.0 ∷ AProof room.0 ∷ others)
       (inside parts f (Prove (with_test frame test) ∷ Prove (with_test frame (not_term test)) ∷ jobs) (AProof room.0 ∷ AProof room.0 ∷ others)
@@ -174,9 +174,9 @@ module _ (listed : List Listed) where
   log_line : (lines : List Line) → Later lines → (parts : List Listed) (f : Listed) (goal : Term) (jobs : List Job) (others : List Expected) (line : Line) (next : State)
       → AreOfJobs others jobs → can_stand ALog line ≡ true → Derives Fits after (after ALog line ++ others) lines
       → Passes listed lines (Inside parts f (Close goal ∷ jobs)) line next → Proves listed next lines → Shows (Inside parts f (Close goal ∷ jobs))
-  log_line lines later parts f goal jobs others _ _ are stands derives (walk.function _ g free) proves = false_stands stands
-  log_line lines later parts f goal jobs others _ _ are stands derives (walk.last _ free) proves = false_stands stands
-  log_line lines later parts f goal jobs others _ _ are stands derives (walk.log _ _ _ _ count steps ahead closes) proves =
+  log_line lines later parts f goal jobs others _ _ are allowed derives (walk.function _ g free) proves = from_false allowed
+  log_line lines later parts f goal jobs others _ _ are allowed derives (walk.last _ free) proves = from_false allowed
+  log_line lines later parts f goal jobs others _ _ are allowed derives (walk.log _ _ _ _ count steps ahead closes) proves =
       let shows = later (Inside parts f (replicate count Checked ++ jobs)) (replicate count AStep ++ others)
       (inside parts f (replicate count Checked ++ jobs) (replicate count AStep ++ others) (steps_of count others jobs are)) derives proves in
       with_done parts f (Close goal ∷ jobs) (replicate count Checked ++ jobs) shows ((steps, closes), steps_done f count jobs shows.done)
@@ -184,9 +184,9 @@ module _ (listed : List Listed) where
   step_line : (lines : List Line) → Later lines → (parts : List Listed) (f : Listed) (jobs : List Job) (others : List Expected) (line : Line) (next : State)
       → AreOfJobs others jobs → can_stand AStep line ≡ true → Derives Fits after (after AStep line ++ others) lines
       → Passes listed lines (Inside parts f (Checked ∷ jobs)) line next → Proves listed next lines → Shows (Inside parts f (Checked ∷ jobs))
-  step_line lines later parts f jobs others _ _ are stands derives (walk.function _ g free) proves = false_stands stands
-  step_line lines later parts f jobs others _ _ are stands derives (walk.last _ free) proves = false_stands stands
-  step_line lines later parts f jobs others _ _ are stands derives (walk.step _ _ _ one) proves =
+  step_line lines later parts f jobs others _ _ are allowed derives (walk.function _ g free) proves = from_false allowed
+  step_line lines later parts f jobs others _ _ are allowed derives (walk.last _ free) proves = from_false allowed
+  step_line lines later parts f jobs others _ _ are allowed derives (walk.step _ _ _ one) proves =
       let shows = later (Inside parts f jobs) others (inside parts f jobs others are) derives proves in
       with_done parts f (Checked ∷ jobs) jobs shows (tt, shows.done)
 
@@ -194,15 +194,15 @@ module _ (listed : List Listed) where
 
   one_line : (line : Line) (lines : List Line) → Later lines → (s next : State) (n : Expected) (others : List Expected) → IsState s (n ∷ others) → can_stand n line ≡ true
       → Derives Fits after (after n line ++ others) lines → Passes listed lines s line next → Proves listed next lines → Shows s
-  one_line line lines later _ next _ _ (outside parts) stands derives passes proves = part_line lines later (Between parts) tt line next stands derives passes proves
-  one_line line lines later _ next n others (inside parts f jobs _ are) stands derives passes proves = by jobs n others are stands derives passes
+  one_line line lines later _ next _ _ (outside parts) allowed derives passes proves = part_line lines later (Between parts) tt line next allowed derives passes proves
+  one_line line lines later _ next n others (inside parts f jobs _ are) allowed derives passes proves = by jobs n others are allowed derives passes
     where
       by : (jobs : List Job) (n : Expected) (others : List Expected) → AreOfJobs (n ∷ others) jobs → can_stand n line ≡ true → Derives Fits after (after n line ++ others) lines
           → Passes listed lines (Inside parts f jobs) line next → Shows (Inside parts f jobs)
-      by _ _ _ no_job stands derives passes = part_line lines later (Inside parts f []) tt line next stands derives passes proves
-      by _ n others (a_proof _ _ frame jobs of are) stands derives passes = proof_line lines later parts f frame jobs n others line next of are stands derives passes proves
-      by _ _ others (a_log _ goal jobs are) stands derives passes = log_line lines later parts f goal jobs others line next are stands derives passes proves
-      by _ _ others (a_step _ jobs are) stands derives passes = step_line lines later parts f jobs others line next are stands derives passes proves
+      by _ _ _ no_job allowed derives passes = part_line lines later (Inside parts f []) tt line next allowed derives passes proves
+      by _ n others (a_proof _ _ frame jobs of are) allowed derives passes = proof_line lines later parts f frame jobs n others line next of are allowed derives passes proves
+      by _ _ others (a_log _ goal jobs are) allowed derives passes = log_line lines later parts f goal jobs others line next are allowed derives passes proves
+      by _ _ others (a_step _ jobs are) allowed derives passes = step_line lines later parts f jobs others line next are allowed derives passes proves
 
   shown : (lines : List Line) → Later lines
   shown [] s _ is derivation.none proves = absurd (never_nothing s is)
@@ -224,9 +224,9 @@ module _ (listed : List Listed) where
     where
       first : (line : Line) (next : State) (lines : List Line) → can_stand AHeader line ≡ true → Derives Fits after (after AHeader line ++ []) lines
           → Passes listed lines (Between []) line next → Proves listed next lines → Shows (Between [])
-      first _ _ lines stands derives walk.header proves = shown lines (Between []) (TheParts ∷ []) (outside []) derives proves
-      first _ _ lines stands derives (walk.function _ f free) proves = false_stands stands
-      first _ _ lines stands derives (walk.last _ free) proves = false_stands stands
+      first _ _ lines allowed derives walk.header proves = shown lines (Between []) (TheParts ∷ []) (outside []) derives proves
+      first _ _ lines allowed derives (walk.function _ f free) proves = from_false allowed
+      first _ _ lines allowed derives (walk.last _ free) proves = from_false allowed
 
   pub parts_closed : (lines : List Line) → AreLines lines → IsProof listed lines → (f : Listed) → Contains listed f → HasPart listed f
   parts_closed lines are proof f among =
