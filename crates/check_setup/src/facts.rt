@@ -10,11 +10,12 @@ ghost use Rattle.check_setup.specs.Facts.{facts_of, entry_facts, facts_of_local,
 ghost use Rattle.check_setup.specs.Facts.{binary_facts_of, source_facts_of};
 ghost use Rattle.check_setup.specs.Facts.{memory_over_zone};
 
-use crate::terms::{STACK_POINTER, at_entry, open, overlaid, variable, widened, zone_from};
+use crate::terms::{STACK_POINTER, at_entry, variable, widened, zone_from};
 use attempt::attempt;
 use c_graph_terms::{ZONE_HIGH, ZONE_LOW, is_set, local, width_of};
 use c_type_spec::Scalar;
 use cert_frames::Fact;
+use rule_terms::{open, overlaid};
 use std::alloc::{AllocError, Global};
 use term_core::Term;
 use term_spec::{Atom, Family, Sort, Variable, Width};

@@ -11,13 +11,12 @@ ghost use Rattle.c_graph_spec.specs.State as state;
 ghost use Rattle.agreement_laws.specs.EntryFrame as spec;
 ghost use Rattle.check_setup.specs.Lines.{first_lines, kept_lines, zone_lines};
 
-use crate::terms::{
-    STACK_POINTER, at_entry, constant, negated, over_two, register, widened, word, zone_from,
-};
+use crate::terms::{STACK_POINTER, at_entry, constant, register, widened, zone_from};
 use attempt::attempt;
 use c_graph_terms::result_of;
 use c_type_spec::Scalar;
 use memory_spec::Run;
+use rule_terms::{negated, over_two, word};
 use std::alloc::{AllocError, Global};
 use term_core::Term;
 use term_spec::{BinaryOperator, WordOperator};
