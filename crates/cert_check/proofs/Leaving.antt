@@ -8,13 +8,12 @@ use Rattle.term_spec.specs.Same.{same_variable}
 use Rattle.term_spec.specs.Term.{Term}
 use Rattle.term_core.specs.declared.term.Term.{Term as CodeTerm}
 use Rattle.term_bank.specs.Nodes.{Extends}
-use Rattle.rule_terms.proofs.Later.{map_later}
 use Rattle.graph_core.specs.Graphs.{boxed_term}
 use Rattle.proof_spec.specs.Frames as frames
 use Rattle.proof_tree.specs.declared.frame.Frame.{Frame}
 use Rattle.proof_tree.specs.Frames.{frame_of}
 use Rattle.rule_terms.specs.declared.points.Opening.{Opening}
-use Rattle.rule_terms.proofs.Later.{map_for}
+use Rattle.rule_terms.proofs.Later.{map_later, map_for}
 use Rattle.rule_terms.specs.Openings.{IsOpening, IsOpeningIn}
 use Rattle.check_spec.specs.Verdict as spec
 use Rattle.cert_frames.specs.declared.jobs.Branch.{Branch}

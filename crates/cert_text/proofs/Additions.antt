@@ -24,26 +24,17 @@ use Rattle.cert_lines.specs.Keywords.{expected_of}
 use Rattle.cert_lines.specs.Views.{line_of, line_at, step_of, literals_in, hints_in}
 use Rattle.cert_text.specs.declared.certificates.Cert.{Cert}
 use Rattle.cert_text.specs.declared.stack.Group.{Group}
-use Rattle.cert_text.specs.Certificates.{lines_of, certificate_of, IsEmpty}
+use Rattle.cert_text.specs.Certificates.{lines_of, certificate_of, all_literals, all_hints, IsEmpty}
 use Rattle.cert_text.specs.Stack.{stack_of}
 use Rattle.cert_text.specs.Outcomes.{OneAdded, AddsOne, ReadsLines, ReadsWhole}
 
 -- ---- a line more
 
--- the literals and hints are those of the lines
-abbrev pub all_literals : List Line → ℕ
-all_literals [] = 0
-all_literals (line ∷ lines) = literals_in line + all_literals lines
-
-abbrev pub all_hints : List Line → ℕ
-all_hints [] = 0
-all_hints (line ∷ lines) = hints_in line + all_hints lines
-
-literals_more : (lines : List Line) (line : Line) → all_literals (lines ++ line ∷ []) ≡ all_literals lines + literals_in line
+pub literals_more : (lines : List Line) (line : Line) → all_literals (lines ++ line ∷ []) ≡ all_literals lines + literals_in line
 literals_more [] line = omega arith
 literals_more (l ∷ lines) line = omega (arith, literals_more lines line)
 
-hints_more : (lines : List Line) (line : Line) → all_hints (lines ++ line ∷ []) ≡ all_hints lines + hints_in line
+pub hints_more : (lines : List Line) (line : Line) → all_hints (lines ++ line ∷ []) ≡ all_hints lines + hints_in line
 hints_more [] line = omega arith
 hints_more (l ∷ lines) line = omega (arith, hints_more lines line)
 
@@ -66,7 +57,7 @@ at_front (code.Relation b) literals more_literals hints more_hints l m = refl
 at_front (code.Log n) literals more_literals hints more_hints l m = refl
 at_front code.End literals more_literals hints more_hints l m = refl
 
-one_more : (lines : List Line) (line : Line) (literals more_literals : List Literal) (hints more_hints : List ℕ) → all_literals lines ≡ length literals → all_hints lines ≡ length hints
+pub one_more : (lines : List Line) (line : Line) (literals more_literals : List Literal) (hints more_hints : List ℕ) → all_literals lines ≡ length literals → all_hints lines ≡ length hints
     → lines_of (lines ++ line ∷ []) (literals ++ more_literals) (hints ++ more_hints) ≡ lines_of lines literals hints ++ line_at line more_literals more_hints ∷ []
 unfolding lines_of
 one_more [] line [] more_literals [] more_hints l h = refl

@@ -1,5 +1,5 @@
 -- Certificates of the program as those that the definitions speak of.
-use Rattle.std.specs.Prelude.{◌≡◌, ℕ, List, [], ◌∷◌, drop, flat_map, Result, Ok, Err}
+use Rattle.std.specs.Prelude.{◌≡◌, ◌+◌, ℕ, List, [], ◌∷◌, drop, flat_map, Result, Ok, Err}
 use Rattle.cert_spec.specs.Lines as spec
 use Rattle.cert_spec.specs.Certificates.{IsCertificate, IsFault}
 use Rattle.cert_lines.specs.declared.lines.Literal.{Literal}
@@ -16,6 +16,15 @@ lines_of (line ∷ lines) literals hints = line_at line literals hints ∷ lines
 
 abbrev pub certificate_of : Cert → List spec.Line
 certificate_of cert = lines_of cert.lines.items cert.logs.literals.items cert.logs.hints.items
+
+-- how many literals and hints the lines have
+abbrev pub all_literals : List Line → ℕ
+all_literals [] = 0
+all_literals (line ∷ lines) = literals_in line + all_literals lines
+
+abbrev pub all_hints : List Line → ℕ
+all_hints [] = 0
+all_hints (line ∷ lines) = hints_in line + all_hints lines
 
 -- the spelling of lines
 abbrev pub text_of : List spec.Line → List ℕ

@@ -1,6 +1,6 @@
 -- Lines that are added to a certificate.
-use Rattle.std.proofs.Common.{◌≡◌, ◌∙◌, ◌+◌, ◌<◌, ◌≤◌, ℕ, Vec, Global, Bool, true, false, List, [], ◌∷◌, ◌++◌, length, map, take, drop, get_or, refl, sym, ap, ap₂, subst, arith, append_assoc, append-nil, length-append, length-drop}
-use Rattle.std.proofs.lemmas.List.{length-map, map_push, map-append, take_more, take_all, take-append-le, drop-append-le}
+use Rattle.std.proofs.Common.{◌≡◌, ◌∙◌, ◌+◌, ◌<◌, ◌≤◌, ℕ, Vec, Global, true, false, List, [], ◌∷◌, ◌++◌, length, map, take, get_or, refl, sym, ap, ap₂, subst, arith, append_assoc, append-nil, length-append}
+use Rattle.std.proofs.lemmas.List.{length-map, map_push, take_more, take_all}
 use Rattle.clause_spec.specs.declared.Literal as clause
 use Rattle.clause_spec.specs.Log.{Step}
 use Rattle.cert_spec.specs.Lines as spec
@@ -9,54 +9,13 @@ use Rattle.cert_lines.specs.declared.lines.Line.{Line}
 use Rattle.cert_lines.specs.declared.lines.Line.TheVariants as code
 use Rattle.cert_lines.specs.Views.{literal_of, line_of, line_at, step_of, is_step, literals_in, hints_in}
 use Rattle.cert_text.specs.declared.certificates.Cert.{Cert}
-use Rattle.cert_text.specs.Certificates.{lines_of, certificate_of}
+use Rattle.cert_text.specs.Certificates.{lines_of, certificate_of, all_literals, all_hints}
+use Rattle.cert_text.proofs.Additions.{literals_more, hints_more, one_more}
 use Rattle.trail_spec.specs.Written.{log_lines, logs_lines}
 use Rattle.prove_run.specs.Found.{logs_of}
-use Rattle.prove_run.specs.Written.{AddsLiterals, all_literals, all_hints, IsWhole, HasMore, AddsLines}
+use Rattle.prove_run.specs.Written.{AddsLiterals, AddsLines}
 
 -- ---- a line more
-
-literals_more : (lines : List Line) (line : Line) → all_literals (lines ++ line ∷ []) ≡ all_literals lines + literals_in line
-literals_more [] line = omega arith
-literals_more (l ∷ lines) line = omega (arith, literals_more lines line)
-
-hints_more : (lines : List Line) (line : Line) → all_hints (lines ++ line ∷ []) ≡ all_hints lines + hints_in line
-hints_more [] line = omega arith
-hints_more (l ∷ lines) line = omega (arith, hints_more lines line)
-
--- a line looks at its own literals and hints alone
-at_front : (line : Line) (literals more_literals : List Literal) (hints more_hints : List ℕ) → literals_in line ≤ length literals → hints_in line ≤ length hints
-    → line_at line (literals ++ more_literals) (hints ++ more_hints) ≡ line_at line literals hints
-at_front (code.Step k h) literals more_literals hints more_hints l m =
-    ap (λ t. step_of t (take h (hints ++ more_hints))) (take-append-le k literals more_literals l) ∙ ap (λ t. step_of (take k literals) t) (take-append-le h hints more_hints m)
-at_front code.Header literals more_literals hints more_hints l m = refl
-at_front (code.Function b) literals more_literals hints more_hints l m = refl
-at_front (code.InlineBinary b) literals more_literals hints more_hints l m = refl
-at_front (code.InlineSource b) literals more_literals hints more_hints l m = refl
-at_front (code.Leaf n) literals more_literals hints more_hints l m = refl
-at_front (code.Case b) literals more_literals hints more_hints l m = refl
-at_front (code.RestrictBinary b) literals more_literals hints more_hints l m = refl
-at_front (code.RestrictSource b) literals more_literals hints more_hints l m = refl
-at_front (code.Split b) literals more_literals hints more_hints l m = refl
-at_front (code.Call b) literals more_literals hints more_hints l m = refl
-at_front (code.Relation b) literals more_literals hints more_hints l m = refl
-at_front (code.Log n) literals more_literals hints more_hints l m = refl
-at_front code.End literals more_literals hints more_hints l m = refl
-
-one_more : (lines : List Line) (line : Line) (literals more_literals : List Literal) (hints more_hints : List ℕ) → all_literals lines ≡ length literals → all_hints lines ≡ length hints
-    → lines_of (lines ++ line ∷ []) (literals ++ more_literals) (hints ++ more_hints) ≡ lines_of lines literals hints ++ line_at line more_literals more_hints ∷ []
-unfolding lines_of
-one_more [] line [] more_literals [] more_hints l h = refl
-one_more [] line (x ∷ literals) more_literals hints more_hints l h = absurd (omega (arith, l))
-one_more [] line [] more_literals (n ∷ hints) more_hints l h = absurd (omega (arith, h))
-one_more (first ∷ lines) line literals more_literals hints more_hints l h =
-    let less : literals_in first ≤ length literals = omega (arith, l) in
-    let fewer : hints_in first ≤ length hints = omega (arith, h) in
-    ap (λ x. x ∷ lines_of (lines ++ line ∷ []) (drop (literals_in first) (literals ++ more_literals)) (drop (hints_in first) (hints ++ more_hints))) (at_front first literals more_literals hints more_hints less fewer)
-    ∙ ap (λ t. line_at first literals hints ∷ lines_of (lines ++ line ∷ []) t (drop (hints_in first) (hints ++ more_hints))) (drop-append-le (literals_in first) literals more_literals less)
-    ∙ ap (λ t. line_at first literals hints ∷ lines_of (lines ++ line ∷ []) (drop (literals_in first) literals ++ more_literals) t) (drop-append-le (hints_in first) hints more_hints fewer)
-    ∙ ap (λ t. line_at first literals hints ∷ t)
-    (one_more lines line (drop (literals_in first) literals) more_literals (drop (hints_in first) hints) more_hints (omega (arith, l, length-drop (literals_in first) literals)) (omega (arith, h, length-drop (hints_in first) hints)))
 
 -- a line with its literals and hints is added
 pub line_more : (old new : Cert) (line : Line) (literals : List Literal) (hints : List ℕ) → new.lines.items ≡ old.lines.items ++ line ∷ []

@@ -1,12 +1,12 @@
 -- The lines of a certificate as they are added.
-use Rattle.std.specs.Prelude.{◌≡◌, ◌+◌, ℕ, List, [], ◌∷◌, ◌++◌, length, map}
+use Rattle.std.specs.Prelude.{◌≡◌, ◌+◌, List, [], ◌∷◌, ◌++◌, length, map}
 use Rattle.clause_spec.specs.declared.Literal as clause
 use Rattle.cert_spec.specs.Lines as spec
 use Rattle.cert_lines.specs.declared.lines.Line.{Line}
 use Rattle.cert_lines.specs.declared.lines.Literal.{Literal}
-use Rattle.cert_lines.specs.Views.{literal_of, literals_in, hints_in}
+use Rattle.cert_lines.specs.Views.{literal_of}
 use Rattle.cert_text.specs.declared.certificates.Cert.{Cert}
-use Rattle.cert_text.specs.Certificates.{certificate_of}
+use Rattle.cert_text.specs.Certificates.{certificate_of, all_literals, all_hints}
 use Rattle.cert_frames.specs.declared.listed.Listed.{Listed}
 use Rattle.trail_spec.specs.Written.{part_lines}
 use Rattle.prove_run.specs.declared.trail.Found.{Found}
@@ -20,14 +20,6 @@ pub record AddsLiterals (old new : List Literal) (literals : List clause.Literal
   pub added : List Literal
   pub now : new ≡ old ++ added
   pub are : map literal_of added ≡ literals
-
-abbrev pub all_literals : List Line → ℕ
-all_literals [] = 0
-all_literals (line ∷ lines) = literals_in line + all_literals lines
-
-abbrev pub all_hints : List Line → ℕ
-all_hints [] = 0
-all_hints (line ∷ lines) = hints_in line + all_hints lines
 
 -- the literals and hints are those of the lines
 pub record IsWhole (cert : Cert) : Type 0 where
