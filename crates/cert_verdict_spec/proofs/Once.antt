@@ -1,14 +1,10 @@
 -- A certificate has one verdict at most.
-use Rattle.std.proofs.Common.{◌≡◌, ◌≢◌, ◌∙◌, ◌+◌, ℕ, zero, suc, Bool, true, false, List, [], ◌∷◌, ◌++◌, length, map, take, Some, refl, sym, ap, ap₂, subst, arith}
+use Rattle.std.proofs.Common.{◌≡◌, ◌≢◌, ◌∙◌, ◌+◌, ℕ, zero, suc, Bool, true, false, List, [], ◌∷◌, ◌++◌, length, map, take, Some, refl, sym, ap, subst, arith}
 use Rattle.std.specs.Prelude.{All, Contains, flat_map, replicate}
 use Rattle.std.proofs.lemmas.List.Elements.{All-contains}
 use Rattle.term_spec.specs.Term.{Term, not_term}
-use Rattle.visit_spec.proofs.Order.{one_list}
 use Rattle.proof_spec.specs.Scope.{Setting}
 use Rattle.proof_spec.specs.Frames.{Frame}
-use Rattle.rule_spec.specs.Points.{Convention}
-use Rattle.rule_spec.specs.Sides.{binary_way, source_way}
-use Rattle.rule_spec.specs.Rules.{Opening, AreOfLeaf, leaf_terms}
 use Rattle.clause_spec.specs.Log as clauses
 use Rattle.cert_spec.specs.declared.Symbol.{Symbol}
 use Rattle.cert_spec.specs.Lines.{Line, Header, Function, InlineBinary, InlineSource, Leaf, Case, RestrictBinary, RestrictSource, Split, Call, Relation, Log, LogStep, End, line_text}
@@ -23,21 +19,14 @@ use Rattle.check_spec.specs.declared.RuleFault.{RuleFault}
 use Rattle.check_spec.specs.declared.RuleFault.TheVariants as fault
 use Rattle.check_spec.specs.declared.Quantity.{Quantity}
 use Rattle.check_spec.specs.Verdict as walk
-use Rattle.check_spec.specs.Verdict.{Listed, Job, Prove, Close, Checked, State, Between, Inside, begun, Fault, IsFree, IsMissing, IsTest, with_test, AreSteps, Passes, Fails, Proves, Refutes, IsProof}
+use Rattle.check_spec.specs.Verdict.{Listed, Job, Prove, Close, Checked, State, Between, Inside, begun, Fault, IsFree, IsTest, with_test, AreSteps, Passes, Fails, Proves, Refutes, IsProof}
+use Rattle.trail_laws.proofs.Excluded.{one_leaf}
 use Rattle.cert_verdict_spec.specs.Verdict.{Outcome, Unread, Broken, Above, IsOutcome, unread, broken, above, proof}
 use Rattle.cert_verdict_spec.specs.Laws.{AreToldApart, HasOneVerdict}
 use Rattle.cert_verdict_spec.proofs.Steps.{Step, Goes, Stops, FunctionStep, begins, a_stranger, another_stack, LeafStep, leaves, goes_round, too_many, other_logs, CaseStep, cases, no_test, OnProof, closed_by, LogsStep, CheckedStep, EndStep, ends, lacks, UncheckedStep, Means, passes_means, fails_means}
 
 one_certificate : (bytes : List ℕ) (one two : List Line) → IsCertificate bytes one → IsCertificate bytes two → one ≡ two
 one_certificate bytes one two x y = same_lines one two (read_certificate bytes) (only bytes one x) (only bytes two y)
-
--- ---- obligations
-
-one_leaf : (c : Convention) (o : Opening) (f : Frame) (one two : List Term) → AreOfLeaf c o f one → AreOfLeaf c o f two → one ≡ two
-one_leaf c o f one two x y =
-    let binary_is = one_list (binary_way f o.binary).walk x.binary y.binary x.binary_are y.binary_are in
-    let source_is = one_list (source_way f o.source).walk x.source y.source x.source_are y.source_are in
-    x.terms_are ∙ (ap₂ (leaf_terms c o f) binary_is source_is ∙ sym y.terms_are)
 
 -- ---- tests
 

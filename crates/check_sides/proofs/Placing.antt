@@ -2,7 +2,7 @@
 use Rattle.std.proofs.Common.{◌≡◌, ◌∙◌, ◌⊎◌, ℕ, suc, ◌+◌, ◌<◌, ◌==◌, ◌&&◌, Bool, true, false, List, [], ◌∷◌, ◌++◌, get_or, find, filter, map, Option, Some, None, refl, sym, ap, ap₂, arith, eqb-true, inl, inr}
 use Rattle.std.specs.Prelude.{slice_get, bytes_eq, option_map, if◌then◌else◌}
 use Rattle.std.specs.Option.{option_or}
-use Rattle.std.proofs.lemmas.Bool.{cases_Bool, cases_lt}
+use Rattle.std.proofs.lemmas.Bool.{cases_Bool, cases_lt, and_parts}
 use Rattle.std.proofs.lemmas.List.Folds.{find-append}
 use Rattle.std.proofs.lemmas.Option.{slice_get-get_or, slice_get_within, same_Some}
 use Rattle.std.proofs.lemmas.Slice.Eq.{bytes_eq-Decides}
@@ -129,11 +129,6 @@ all_placed image n globals past are name = elim (are name) [
 
 -- ---- symbols that add nothing
 
-both : (a b : Bool) → (a && b) ≡ true → (a ≡ true) × (b ≡ true)
-both true true e = (refl, refl)
-both true false e = absurd (cc)
-both false b e = absurd (cc)
-
 pub is_of_kind : (symbol : Symbol) → (symbol.kind == STT_OBJECT) ≡ true → symbol.kind ≡ STT_OBJECT
 is_of_kind symbol same = eqb-true symbol.kind STT_OBJECT same
 
@@ -141,12 +136,12 @@ is_of_kind symbol same = eqb-true symbol.kind STT_OBJECT same
 pub other_kind : (image : Image) (symbol : Symbol) → (symbol.kind == STT_OBJECT) ≡ false → (name : List ℕ) → has_name STT_OBJECT name symbol ≡ true
     → globals_of image name ≡ None
 other_kind image symbol other name named =
-    let bad : true ≡ false = sym (both (symbol.kind == STT_OBJECT) (bytes_eq symbol.name name) named).0 ∙ other in
+    let bad : true ≡ false = sym (and_parts (symbol.kind == STT_OBJECT) (bytes_eq symbol.name name) named).0 ∙ other in
     absurd (cc)
 
 -- a symbol of a name whose symbols don't have one value
 pub other_value : (image : Image) (symbol : Symbol) (values : SymbolValues) → object_named image symbol.name ≡ values → value_named values ≡ None → (name : List ℕ)
     → has_name STT_OBJECT name symbol ≡ true → globals_of image name ≡ None
 other_value image symbol values is none name named =
-    let same : symbol.name ≡ name = (bytes_eq-Decides symbol.name name).0 (both (symbol.kind == STT_OBJECT) (bytes_eq symbol.name name) named).1 in
+    let same : symbol.name ≡ name = (bytes_eq-Decides symbol.name name).0 (and_parts (symbol.kind == STT_OBJECT) (bytes_eq symbol.name name) named).1 in
     ap (globals_of image) (sym same) ∙ ap value_named is ∙ none

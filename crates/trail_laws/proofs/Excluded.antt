@@ -34,7 +34,7 @@ use Rattle.trail_laws.specs.Laws.{TrailsExcludeProofs, is_spent}
 -- ---- obligations
 
 -- a Leaf has one list of obligations
-one_leaf : (c : Convention) (o : Opening) (f : Frame) (one two : List Term) → AreOfLeaf c o f one → AreOfLeaf c o f two → one ≡ two
+pub one_leaf : (c : Convention) (o : Opening) (f : Frame) (one two : List Term) → AreOfLeaf c o f one → AreOfLeaf c o f two → one ≡ two
 one_leaf c o f one two x y =
     let binary_is = one_list (binary_way f o.binary).walk x.binary y.binary x.binary_are y.binary_are in
     let source_is = one_list (source_way f o.source).walk x.source y.source x.source_are y.source_are in

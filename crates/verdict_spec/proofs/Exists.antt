@@ -3,7 +3,7 @@ use Rattle.std.proofs.Common.{◌≡◌, ℕ, zero, suc, ◌+◌, ◌<◌, ◌�
 use Rattle.std.specs.Prelude.{nat_eq, nat_lt, find, codes, ⊤}
 use Rattle.std.specs.Option.{option_map_or}
 use Rattle.std.specs.List.{prefix_len, starts_with, list_all}
-use Rattle.std.proofs.lemmas.Bool.{ltb-true}
+use Rattle.std.proofs.lemmas.Bool.{ltb-true, and_parts}
 use Rattle.std.proofs.lemmas.List.{length-drop}
 use Rattle.c_spec.specs.declared.token.TokenFaultKind.{TokenFaultKind}
 use Rattle.c_spec.specs.declared.token.TokenFaultKind.TheVariants.{Byte, Number as number_fault, Character as character_fault, Comment}
@@ -71,10 +71,6 @@ character_has : {A : Type 0} (made : A → Token) (count : A → ℕ) (o : Optio
 character_has made count None = tt
 character_has made count (Some found) = omega arith
 
-both_true : (a b : Bool) → (a && b) ≡ true → (a ≡ true) × (b ≡ true)
-both_true true b e = (refl, e)
-both_true false b e = absurd (cc)
-
 abbrev marked : Option (List ℕ × Punctuator) → Piece
 marked o = option_map_or (λ found. Lexeme (Mark found.1) (length found.0)) o (Fault Byte)
 
@@ -85,7 +81,7 @@ marked_case false entry rest long more = more
 marked_has : (table : List (List ℕ × Punctuator)) (p : List ℕ × Punctuator → Bool) → list_all (λ entry. nat_lt 0 (length entry.0)) table ≡ true → HasByte (marked (find p table))
 marked_has [] p all = tt
 marked_has (entry ∷ table) p all =
-    let both = both_true (nat_lt 0 (length entry.0)) (list_all (λ e. nat_lt 0 (length e.0)) table) all in
+    let both = and_parts (nat_lt 0 (length entry.0)) (list_all (λ e. nat_lt 0 (length e.0)) table) all in
     marked_case (p entry) entry (find p table) (ltb-true 0 (length entry.0) both.0) (marked_has table p both.1)
 
 mark_has : (text : List ℕ) → HasByte (mark_piece text)

@@ -3,7 +3,7 @@
 use Rattle.std.proofs.Common.{◌≡◌, ◌<◌, ◌+◌, ◌^◌, ℕ, zero, suc, Bool, true, false, List, [], ◌∷◌, ◌++◌, map, All, refl, arith}
 use Rattle.std.specs.Prelude.{◌&&◌, nat_le, if◌then◌else◌}
 use Rattle.std.specs.List.{list_all}
-use Rattle.std.proofs.lemmas.Bool.{leb-true}
+use Rattle.std.proofs.lemmas.Bool.{leb-true, and_parts}
 use Rattle.std.proofs.lemmas.List.Elements.{All-nil, All-cons, All-head, All-tail}
 use Rattle.memory_spec.specs.Runs.{Run}
 use Rattle.term_spec.specs.Term.{Term}
@@ -66,15 +66,10 @@ literal_written variables l small e = by (nat_le 1 l.variable) (nat_le l.variabl
     by true false x y h = absurd (cc)
     by false b x y h = absurd (cc)
 
-both : (a b : Bool) → (a && b) ≡ true → (a ≡ true) × (b ≡ true)
-both true true e = (refl, refl)
-both true false e = absurd (cc)
-both false b e = absurd (cc)
-
 literals_written : (variables : ℕ) (literals : List Literal) → variables < 2 ^ 32 → list_all (is_of variables) literals ≡ true → All IsWritten literals
 literals_written variables [] small e = All-nil IsWritten
 literals_written variables (l ∷ literals) small e =
-    let parts = both (is_of variables l) (list_all (is_of variables) literals) e in
+    let parts = and_parts (is_of variables l) (list_all (is_of variables) literals) e in
     All-cons IsWritten l literals (literal_written variables l small parts.0) (literals_written variables literals small parts.1)
 
 -- ---- a step
@@ -87,7 +82,7 @@ step_written variables clauses step bound e small = by (are_fit variables step.l
     by : (b : Bool) → are_fit variables step.literals ≡ b
         → (if b then propagate clauses step.hints (map negation step.literals) 0 else Refused 0 Literals) ≡ Follows → IsStep step
     by true fit h = record {
-      literals = literals_written variables step.literals bound (both (list_all (is_of variables) step.literals) (are_apart step.literals) fit).0;
+      literals = literals_written variables step.literals bound (and_parts (list_all (is_of variables) step.literals) (are_apart step.literals) fit).0;
       hints = hints_positive clauses step.hints (map negation step.literals) 0 h small;
     }
     by false fit h = absurd (cc)
