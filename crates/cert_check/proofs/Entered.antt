@@ -25,10 +25,10 @@ use Rattle.cert_frames.specs.declared.listed.Listed.{Listed}
 use Rattle.cert_check.specs.declared.walk.Walk.{Walk}
 use Rattle.cert_frames.specs.Listed.{IsListed, AreListed, frame_at}
 use Rattle.cert_check.specs.Jobs.{jobs_of}
-use Rattle.cert_check.specs.Stands.{IsOfProof, of_binary, of_source, of_proof, AreOf, no_job, a_proof, a_log, IsNext, StandsAfter, is_unchecked}
+use Rattle.cert_check.specs.Expectations.{IsOfProof, of_binary, of_source, of_proof, AreOf, no_job, a_proof, a_log, IsNext, AreAfter, is_unchecked}
 use Rattle.cert_check.specs.Steps.{Comes, IsStep}
 use Rattle.cert_frames.specs.Parts.{AreIndices, IsNamed, HasPart, IsFreeAt, IsMissingAt}
-use Rattle.cert_check.specs.Walks.{ArePicked, IsState, between, inside, Standing, at_header, at_first, in_part, at_end, Keeps, IsSound, IsWalk, StepsTo, WalkStands, Goes, IsInside, IsPlain, ComesAt, IsInPart, GoesInside, BeginsAt, Begins, Ends, named_fault}
+use Rattle.cert_check.specs.Walks.{ArePicked, IsState, between, inside, Expecting, at_header, at_first, in_part, at_end, Keeps, IsSound, IsWalk, StepsTo, ExpectsAfter, Goes, IsInside, IsPlain, ComesAt, IsInPart, GoesInside, BeginsAt, Begins, Ends, named_fault}
 use Rattle.cert_frames.proofs.Indexed.{one_item}
 use Rattle.cert_check.proofs.Picked.{listed_there, state_picked, is_free, never_free, is_missing, none_missing}
 use Rattle.cert_check.proofs.Walked.{ends}
@@ -70,7 +70,7 @@ alone_of _ _ _ no_job is = refl
 alone_of e others jobs (a_proof _ _ below _ premises of are same) is = absurd (never_part e of is)
 alone_of _ others jobs (a_log _ below _ goal are same) is = absurd (cc)
 
-alone : (walk : Walk) (e : Expected) (others : List Expected) → Standing walk (e ∷ others) → e ≡ TheParts → others ≡ []
+alone : (walk : Walk) (e : Expected) (others : List Expected) → Expecting walk (e ∷ others) → e ≡ TheParts → others ≡ []
 alone walk _ _ (at_header empty) is = refl
 alone walk _ _ (at_first empty) is = refl
 alone walk e others (in_part _ some are) is = alone_of e others walk.jobs.items are is
@@ -81,7 +81,7 @@ header_of e others jobs (a_proof _ _ below _ premises of are same) is = never_he
 header_of _ others jobs (a_log _ below _ goal are same) is = absurd (cc)
 
 -- before the version there is no part
-at_version : (walk : Walk) (e : Expected) (others : List Expected) → Standing walk (e ∷ others) → e ≡ AHeader → (walk.parts.items ≡ []) × (others ≡ [])
+at_version : (walk : Walk) (e : Expected) (others : List Expected) → Expecting walk (e ∷ others) → e ≡ AHeader → (walk.parts.items ≡ []) × (others ≡ [])
 at_version walk _ _ (at_header empty) is = (empty, refl)
 at_version walk _ _ (at_first empty) is = absurd (cc)
 at_version walk e others (in_part _ some are) is = absurd (header_of e others walk.jobs.items are is)
@@ -96,13 +96,13 @@ some_item xs before x is = omega (arith, ap length is, length-append before (x �
 
 pub header_goes : (codes : List Listed) (walk : Walk) (index : ℕ) → IsWalk codes walk Header → Goes codes walk walk Header index (Ok (tt {0}))
 header_goes codes walk index at =
-    let version = at_version walk at.expected at.others at.standing (only_header at.expected at.stands) in
+    let version = at_version walk at.expected at.others at.expecting (only_header at.expected at.allowed) in
     record {
       sound = at.sound;
-      stands = λ e others standing stands.
-          let is = only_header e stands in
-          let here = at_version walk e others standing is in
-          subst (Standing walk) (sym (ap (λ (x : Expected). after x Header ++ others) is ∙ ap (λ (l : List Expected). TheParts ∷ l) here.1)) (at_first here.0);
+      follows = λ e others expecting allowed.
+          let is = only_header e allowed in
+          let here = at_version walk e others expecting is in
+          subst (Expecting walk) (sym (ap (λ (x : Expected). after x Header ++ others) is ∙ ap (λ (l : List Expected). TheParts ∷ l) here.1)) (at_first here.0);
       step = λ listed ahead are s state. by listed ahead s state version.0;
     }
   where
@@ -112,12 +112,12 @@ header_goes codes walk index at =
 
 -- ---- a part begins
 
-function_stands : (old now : Walk) (name : List ℕ) (stack : ℕ) → 0 < length now.parts.items → AreOf (BinaryInlines ∷ TheParts ∷ []) now.jobs.items
-    → WalkStands old now (Function name stack)
-function_stands old now name stack some are = λ e others standing stands.
-    let is = only_parts e name stack stands in
-    let empty = alone old e others standing is in
-    subst (Standing now)
+function_follows : (old now : Walk) (name : List ℕ) (stack : ℕ) → 0 < length now.parts.items → AreOf (BinaryInlines ∷ TheParts ∷ []) now.jobs.items
+    → ExpectsAfter old now (Function name stack)
+function_follows old now name stack some are = λ e others expecting allowed.
+    let is = only_parts e name stack allowed in
+    let empty = alone old e others expecting is in
+    subst (Expecting now)
     (sym (ap (λ (x : Expected). after x (Function name stack) ++ others) is ∙ ap (λ (l : List Expected). BinaryInlines ∷ TheParts ∷ l) empty))
     (in_part (BinaryInlines ∷ TheParts ∷ []) some are)
 
@@ -175,17 +175,17 @@ module _ (codes : List Listed) (old now : Walk) (name : List ℕ) (stack line in
               (All-push (λ (k : ℕ). k < length codes) old.parts.items index sound.indices (slice_get_within codes index is_named.function is_named.there));
           kept = keeps_last begins;
         };
-        stands = function_stands old now name stack (some_item now.parts.items old.parts.items index parts)
-            (subst (λ (w : Walk). AreOf (BinaryInlines ∷ TheParts ∷ []) w.jobs.items) (sym begins.4) begins.1.stands);
+        follows = function_follows old now name stack (some_item now.parts.items old.parts.items index parts)
+            (subst (λ (w : Walk). AreOf (BinaryInlines ∷ TheParts ∷ []) w.jobs.items) (sym begins.4) begins.1.follows);
         step = begins_step begins;
       }
   begun_goes (Err (Broken (named.Listed k) fault.Stack)) begins = record {
     sound = tt;
-    stands = tt;
+    follows = tt;
     step = λ listed ahead are s state.
         subst (λ (n : ℕ). StepsTo codes listed ahead now s (Function name stack) line (Err (Broken (named.Listed n) fault.Stack))) (sym begins.0) (other_stack begins.1 listed ahead are s state);
   }
-  begun_goes (Err NoMemory) begins = record { sound = tt; stands = tt; step = λ listed ahead are s state. tt }
+  begun_goes (Err NoMemory) begins = record { sound = tt; follows = tt; step = λ listed ahead are s state. tt }
   begun_goes (Err (Broken (named.Listed k) fault.Later)) begins = absurd begins
   begun_goes (Err (Broken (named.Listed k) fault.Stranger)) begins = absurd begins
   begun_goes (Err (Broken (named.Listed k) fault.Sort)) begins = absurd begins
@@ -214,7 +214,7 @@ pub stranger_goes : (codes : List Listed) (old now : Walk) (name : List ℕ) (st
     → Goes codes old now (Function name stack) line (Err (Broken (named.Line line) fault.Stranger))
 stranger_goes codes old now name stack line none = record {
   sound = tt;
-  stands = tt;
+  follows = tt;
   step = λ listed ahead are s state. (
     name,
     (refl, stack, refl),
@@ -225,8 +225,8 @@ stranger_goes codes old now name stack line none = record {
 -- ---- the end
 
 module _ (codes : List Listed) (walk : Walk) (at : IsWalk codes walk End) (index : ℕ) where
-  end_stands : WalkStands walk walk End
-  end_stands = λ e others standing stands. subst (Standing walk) (sym (ends walk e others standing stands)) at_end
+  end_follows : ExpectsAfter walk walk End
+  end_follows = λ e others expecting allowed. subst (Expecting walk) (sym (ends walk e others expecting allowed)) at_end
 
   missing_step : (k : ℕ) → IsMissingAt codes walk.parts.items (Some k) → (listed : List spec.Listed) (ahead : List Line) → AreListed codes listed → (s : State) → IsState codes listed walk s
       → StepsTo codes listed ahead walk s End index (Err (Broken (named.Listed k) fault.Missing))
@@ -240,14 +240,14 @@ module _ (codes : List Listed) (walk : Walk) (at : IsWalk codes walk End) (index
   pub end_goes : (result : Result (Unit {0}) Fault) → Ends codes walk.parts.items result → Goes codes walk walk End index result
   end_goes (Ok done) all = record {
     sound = at.sound;
-    stands = end_stands;
+    follows = end_follows;
     step = λ listed ahead are s state. (
       Between (begun s),
       spec.last s (none_missing codes listed are walk.parts.items (begun s) (state_picked codes listed walk s state) all),
       inl refl,
     );
   }
-  end_goes (Err (Broken (named.Listed k) fault.Missing)) missing = record { sound = tt; stands = tt; step = missing_step k missing }
+  end_goes (Err (Broken (named.Listed k) fault.Missing)) missing = record { sound = tt; follows = tt; step = missing_step k missing }
   end_goes (Err NoMemory) missing = absurd missing
   end_goes (Err (Broken (named.Listed k) fault.Later)) missing = absurd missing
   end_goes (Err (Broken (named.Listed k) fault.Stranger)) missing = absurd missing
@@ -313,12 +313,12 @@ other_inside code.End no_header no_function no_end = absurd (no_end refl)
 
 -- a part has begun
 pub in_a_part : (codes : List Listed) (walk : Walk) (line : CodeLine) → IsWalk codes walk (line_of line) → IsInside line → (0 < length walk.parts.items) × IsNext walk.jobs.items (line_of line)
-in_a_part codes walk line at is_inside = by at.expected at.others at.standing at.stands
+in_a_part codes walk line at is_inside = by at.expected at.others at.expecting at.allowed
   where
-    by : (e : Expected) (others : List Expected) → Standing walk (e ∷ others) → can_stand e (line_of line) ≡ true → (0 < length walk.parts.items) × IsNext walk.jobs.items (line_of line)
-    by _ _ (at_header empty) stands = absurd (header_inside line stands is_inside)
-    by _ _ (at_first empty) stands = absurd (part_inside line stands is_inside)
-    by e others (in_part _ some are) stands = (some, record { expected = e; others = others; are = are; stands = stands })
+    by : (e : Expected) (others : List Expected) → Expecting walk (e ∷ others) → can_stand e (line_of line) ≡ true → (0 < length walk.parts.items) × IsNext walk.jobs.items (line_of line)
+    by _ _ (at_header empty) allowed = absurd (header_inside line allowed is_inside)
+    by _ _ (at_first empty) allowed = absurd (part_inside line allowed is_inside)
+    by e others (in_part _ some are) allowed = (some, record { expected = e; others = others; are = are; allowed = allowed })
 
 -- the last part, at the index before the length
 pub last_part : (xs : List ℕ) (i x : ℕ) → x ≡ get_or xs i x → i + 1 ≡ length xs → xs ≡ take i xs ++ x ∷ []
@@ -344,14 +344,14 @@ module _ (codes : List Listed) (old now : Walk) (line : CodeLine) (index part : 
   pub some_now : now.parts ≡ old.parts → 0 < length now.parts.items
   some_now same = some_item now.parts.items before part (ap (λ (list : Vec ℕ Global). list.items) same ∙ last)
 
-  stands_inside : now.parts ≡ old.parts → ((e : Expected) (others : List Expected) → AreOf (e ∷ others) old.jobs.items → can_stand e (line_of line) ≡ true
-      → AreOf (after e (line_of line) ++ others) now.jobs.items) → WalkStands old now (line_of line)
-  stands_inside same after_line = λ e others standing stands. by e others standing stands
+  follows_inside : now.parts ≡ old.parts → ((e : Expected) (others : List Expected) → AreOf (e ∷ others) old.jobs.items → can_stand e (line_of line) ≡ true
+      → AreOf (after e (line_of line) ++ others) now.jobs.items) → ExpectsAfter old now (line_of line)
+  follows_inside same after_line = λ e others expecting allowed. by e others expecting allowed
     where
-      by : (e : Expected) (others : List Expected) → Standing old (e ∷ others) → can_stand e (line_of line) ≡ true → Standing now (after e (line_of line) ++ others)
-      by _ _ (at_header empty) stands = absurd (no_item old.parts.items before part empty last)
-      by _ _ (at_first empty) stands = absurd (no_item old.parts.items before part empty last)
-      by e others (in_part _ some are) stands = in_part (after e (line_of line) ++ others) (some_now same) (after_line e others are stands)
+      by : (e : Expected) (others : List Expected) → Expecting old (e ∷ others) → can_stand e (line_of line) ≡ true → Expecting now (after e (line_of line) ++ others)
+      by _ _ (at_header empty) allowed = absurd (no_item old.parts.items before part empty last)
+      by _ _ (at_first empty) allowed = absurd (no_item old.parts.items before part empty last)
+      by e others (in_part _ some are) allowed = in_part (after e (line_of line) ++ others) (some_now same) (after_line e others are allowed)
 
   steps_inside : (result : Result (Unit {0}) Fault) → now.parts ≡ old.parts → (listed : List spec.Listed) (ahead : List Line) (parts : List spec.Listed) (f : spec.Listed) (first : List ℕ) → IsListed function f
       → old.parts.items ≡ first ++ part ∷ [] → slice_get listed part ≡ Some f → ArePicked listed first parts
@@ -371,7 +371,7 @@ module _ (codes : List Listed) (old now : Walk) (line : CodeLine) (index part : 
   pub inside_goes : (result : Result (Unit {0}) Fault) → IsInPart function old now (line_of line) part result → Goes codes old now (line_of line) index result
   inside_goes result goes = record {
     sound = on_ok_weaker result (kept_inside goes.parts) goes.kept;
-    stands = on_ok_weaker result (stands_inside goes.parts) goes.stands;
+    follows = on_ok_weaker result (follows_inside goes.parts) goes.follows;
     step = λ listed ahead are s state. by listed ahead are s state;
   }
     where
@@ -409,7 +409,7 @@ no_other_line (code.RestrictBinary r) jobs next is checked no_leaf no_case plain
 no_other_line (code.RestrictSource r) jobs next is checked no_leaf no_case plain = absurd (cc)
 no_other_line (code.Split s) jobs next is checked no_leaf no_case plain = absurd (cc)
 no_other_line (code.Call c) jobs next is checked no_leaf no_case plain = absurd (cc)
-no_other_line (code.Relation t) jobs next is checked no_leaf no_case plain = never_relation t.value.items next.expected next.others jobs next.are next.stands
+no_other_line (code.Relation t) jobs next is checked no_leaf no_case plain = never_relation t.value.items next.expected next.others jobs next.are next.allowed
 no_other_line (code.Log n) jobs next is checked no_leaf no_case plain = absurd (cc)
 no_other_line (code.Step k h) jobs next is checked no_leaf no_case plain = absurd (cc)
 no_other_line code.End jobs next is checked no_leaf no_case plain = absurd (cc)
@@ -427,12 +427,12 @@ module _ (codes : List Listed) (old now : Walk) (line : Line) (index : ℕ) (fun
   for_each result goes = λ other also.
       subst (λ (g : Listed). IsInPart g old now line index result) (one_item codes index function other there also) goes
 
-  pub passes_inside : IsStep function old.bank now.bank old.jobs.items now.jobs.items line (Ok (tt {0})) → Keeps function now → StandsAfter old.jobs.items line now.jobs.items
+  pub passes_inside : IsStep function old.bank now.bank old.jobs.items now.jobs.items line (Ok (tt {0})) → Keeps function now → AreAfter old.jobs.items line now.jobs.items
       → GoesInside codes old now index line (Ok (tt {0}))
-  passes_inside step keeps stands = for_each (Ok (tt {0})) (record {
+  passes_inside step keeps follows = for_each (Ok (tt {0})) (record {
     step = λ listed ahead parts f is. step listed ahead parts f is;
     kept = keeps;
-    stands = stands;
+    follows = follows;
     parts = same;
   })
 
@@ -444,6 +444,6 @@ module _ (codes : List Listed) (old now : Walk) (line : Line) (index : ℕ) (fun
             comes_named listed ahead parts f (jobs_of old.bank (frame_at function) old.jobs.items) (jobs_of now.bank (frame_at function) now.jobs.items) line index broken
             (step listed ahead parts f listed_so);
         kept = tt;
-        stands = tt;
+        follows = tt;
         parts = same;
       }))

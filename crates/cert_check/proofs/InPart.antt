@@ -36,7 +36,7 @@ use Rattle.cert_frames.specs.declared.listed.Listed.{Listed}
 use Rattle.cert_frames.specs.Listed.{IsListed, frame_at}
 use Rattle.cert_frames.specs.Jobs.{premises_at, frame_with, logs_last, AreInside, HasBranches}
 use Rattle.cert_check.specs.Jobs.{jobs_of}
-use Rattle.cert_check.specs.Stands.{is_unchecked}
+use Rattle.cert_check.specs.Expectations.{is_unchecked}
 use Rattle.cert_check.specs.Steps.{Comes, AreGoals, AreGoalsOf, HasLeaf, IsTestAt, goal_fault_of}
 use Rattle.cert_check.proofs.Pushed.{jobs_top, jobs_logs, branches_jobs, same_jobs}
 

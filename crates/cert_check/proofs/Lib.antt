@@ -1,6 +1,6 @@
 pub mod Taking
 pub mod Pushed
-pub mod Standing
+pub mod Tops
 pub mod Leaving
 pub mod InPart
 pub mod Opened

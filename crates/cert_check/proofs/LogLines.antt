@@ -30,9 +30,9 @@ use Rattle.cert_check.specs.declared.fault.Fault.{Fault}
 use Rattle.cert_check.specs.declared.walk.Walk.{Walk}
 use Rattle.cert_check.specs.Jobs.{jobs_of}
 use Rattle.cert_check.specs.Logs.{line_fault, number_in}
-use Rattle.cert_check.specs.Walks.{ArePicked, IsState, between, inside, Standing, in_part, IsWalk, Keeps, ClosesFirst, with_steps, LogFails, LogComes, GoesLog}
+use Rattle.cert_check.specs.Walks.{ArePicked, IsState, between, inside, Expecting, in_part, IsWalk, Keeps, ClosesFirst, with_steps, LogFails, LogComes, GoesLog}
 use Rattle.cert_check.proofs.Pushed.{jobs_top, same_jobs, inside_top}
-use Rattle.cert_check.proofs.Standing.{log_below}
+use Rattle.cert_check.proofs.Tops.{log_below}
 use Rattle.cert_check.proofs.Taking.{number_within}
 use Rattle.cert_check.proofs.Entered.{no_item, kept_inside, some_now}
 
@@ -111,8 +111,8 @@ module _ (codes : List Listed) (old now : Walk) (count : ℕ) (steps : List Step
         state = ap (λ (g : Listed). Inside parts f (jobs_of old.bank (frame_at g) old.jobs.items)) (sym equal);
       }
 
-  closed_stands : ClosesFirst function old now steps (Ok (tt {0})) → (others : List Expected) → Standing old (ALog ∷ others) → Standing now others
-  closed_stands closes others (in_part _ some are) =
+  closed_follows : ClosesFirst function old now steps (Ok (tt {0})) → (others : List Expected) → Expecting old (ALog ∷ others) → Expecting now others
+  closed_follows closes others (in_part _ some are) =
       in_part others (some_now codes old now (code.Log count) index part before at refl last function there closes.parts)
       (log_below old.jobs.items now.jobs.items closes.goal closes.first ALog others refl are)
 
@@ -133,7 +133,7 @@ module _ (codes : List Listed) (old now : Walk) (count : ℕ) (steps : List Step
   pub log_passed : ClosesFirst function old now steps (Ok (tt {0})) → GoesLog codes old now count steps index (Ok (tt {0}))
   log_passed closes = record {
     sound = kept_inside codes old now (code.Log count) index part before at refl last function there closes.parts closes.kept;
-    stands = closed_stands closes;
+    follows = closed_follows closes;
     begun = some_now codes old now (code.Log count) index part before at refl last function there closes.parts;
     within = tt;
     step = closed_step closes;
@@ -161,7 +161,7 @@ module _ (codes : List Listed) (old now : Walk) (count : ℕ) (steps : List Step
       subst (λ (x : ℕ × Fault). GoesLog codes old now count steps index (Err x)) (sym is)
       (record {
         sound = tt;
-        stands = tt;
+        follows = tt;
         begun = tt;
         within = fault_within error (subst (λ (n : ℕ). number_in error ≤ n) counted (number_within (runs_of function.runs.now) (tree_at old.bank closes.goal) steps error closes.answers));
         step = fault_step error closes;

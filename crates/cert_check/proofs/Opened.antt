@@ -16,7 +16,7 @@ use Rattle.cert_check.specs.declared.walk.Walk.{Walk}
 use Rattle.cert_frames.specs.Listed.{frame_at, terms_given}
 use Rattle.cert_frames.specs.Jobs.{frame_with, premises_at, AreInside}
 use Rattle.cert_check.specs.Jobs.{job_of}
-use Rattle.cert_check.specs.Stands.{of_binary, no_job, a_proof}
+use Rattle.cert_check.specs.Expectations.{of_binary, no_job, a_proof}
 use Rattle.cert_check.specs.Walks.{IsOpened}
 use Rattle.cert_check.proofs.Pushed.{jobs_top, no_jobs, with_none, inside_pushed, no_inside, no_below}
 
@@ -33,7 +33,7 @@ opened function old now first premises same none is known grows known_after = re
     inside = subst (AreInside (length now.bank)) (sym is)
         (inside_pushed (length now.bank) [] (Prove premises) (no_inside (length now.bank)) (no_below (length now.bank) premises.items none));
   };
-  stands = a_proof BinaryInlines (TheParts ∷ []) [] now.jobs.items premises of_binary no_job is;
+  follows = a_proof BinaryInlines (TheParts ∷ []) [] now.jobs.items premises of_binary no_job is;
   jobs =
       jobs_top now.bank (frame_at function) now.jobs.items [] (Prove premises) is
       ∙ ap (λ (jobs : List spec.Job). job_of now.bank (frame_at function) (Prove premises) ∷ jobs) (no_jobs now.bank (frame_at function))

@@ -129,27 +129,27 @@ steps_count (line ∷ lines) literals hints = ap suc (steps_count lines (drop (l
 -- a line that can be a step is one
 step_of_line : (line : CodeLine) (literals : List CodeLiteral) (hints : List ℕ) → can_stand AStep (line_at line literals hints) ≡ true
     → line_at line literals hints ≡ LogStep (record { literals = map literal_of (take (literals_in line) literals); hints = take (hints_in line) hints })
-step_of_line (code.Step k h) literals hints stands = refl
-step_of_line code.Header literals hints stands = absurd (cc)
-step_of_line (code.Function part) literals hints stands = absurd (cc)
-step_of_line (code.InlineBinary p) literals hints stands = absurd (cc)
-step_of_line (code.InlineSource p) literals hints stands = absurd (cc)
-step_of_line (code.Leaf n) literals hints stands = absurd (cc)
-step_of_line (code.Case t) literals hints stands = absurd (cc)
-step_of_line (code.RestrictBinary r) literals hints stands = absurd (cc)
-step_of_line (code.RestrictSource r) literals hints stands = absurd (cc)
-step_of_line (code.Split s) literals hints stands = absurd (cc)
-step_of_line (code.Call c) literals hints stands = absurd (cc)
-step_of_line (code.Relation t) literals hints stands = absurd (cc)
-step_of_line (code.Log n) literals hints stands = absurd (cc)
-step_of_line code.End literals hints stands = absurd (cc)
+step_of_line (code.Step k h) literals hints allowed = refl
+step_of_line code.Header literals hints allowed = absurd (cc)
+step_of_line (code.Function part) literals hints allowed = absurd (cc)
+step_of_line (code.InlineBinary p) literals hints allowed = absurd (cc)
+step_of_line (code.InlineSource p) literals hints allowed = absurd (cc)
+step_of_line (code.Leaf n) literals hints allowed = absurd (cc)
+step_of_line (code.Case t) literals hints allowed = absurd (cc)
+step_of_line (code.RestrictBinary r) literals hints allowed = absurd (cc)
+step_of_line (code.RestrictSource r) literals hints allowed = absurd (cc)
+step_of_line (code.Split s) literals hints allowed = absurd (cc)
+step_of_line (code.Call c) literals hints allowed = absurd (cc)
+step_of_line (code.Relation t) literals hints allowed = absurd (cc)
+step_of_line (code.Log n) literals hints allowed = absurd (cc)
+step_of_line code.End literals hints allowed = absurd (cc)
 
 pub record IsFirst (e : Expected) (others : List Expected) (line : Line) (rest : List Line) : Type 0 where
-  pub stands : can_stand e line ≡ true
+  pub allowed : can_stand e line ≡ true
   pub derives : Derives Fits grammar.after (grammar.after e line ++ others) rest
 
 pub is_first : (e : Expected) (others : List Expected) (line : Line) (rest : List Line) → Derives Fits grammar.after (e ∷ others) (line ∷ rest) → IsFirst e others line rest
-is_first _ _ _ _ (derivation.some e others line rest fits derives) = record { stands = fits.stands; derives = derives }
+is_first _ _ _ _ (derivation.some e others line rest fits derives) = record { allowed = fits.stands; derives = derives }
 
 pub never_none : (e : Expected) (others : List Expected) → Derives Fits grammar.after (e ∷ others) [] → ⊥
 never_none e others derives = elim derives [ ]
@@ -164,7 +164,7 @@ are_steps (suc count) others [] literals hints derives = absurd (never_none ASte
 are_steps (suc count) others (line ∷ lines) literals hints derives =
     let first = is_first AStep (replicate count AStep ++ others) (line_at line literals hints) (lines_of lines (drop (literals_in line) literals) (drop (hints_in line) hints)) derives in
     let more = are_steps count others lines (drop (literals_in line) literals) (drop (hints_in line) hints) first.derives in
-    let step = step_of_line line literals hints first.stands in
+    let step = step_of_line line literals hints first.allowed in
     record {
       counted = ap suc more.counted;
       rest = more.rest;

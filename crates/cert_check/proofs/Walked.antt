@@ -27,10 +27,10 @@ use Rattle.cert_frames.specs.declared.jobs.Job.{Job}
 use Rattle.cert_frames.specs.declared.listed.Listed.{Listed}
 use Rattle.cert_check.specs.declared.walk.Walk.{Walk}
 use Rattle.cert_frames.specs.Listed.{AreListed, frame_at}
-use Rattle.cert_check.specs.Stands.{IsOfProof, of_binary, of_source, of_proof, AreOf, no_job, a_proof, a_log}
+use Rattle.cert_check.specs.Expectations.{IsOfProof, of_binary, of_source, of_proof, AreOf, no_job, a_proof, a_log}
 use Rattle.cert_check.specs.Jobs.{jobs_of}
 use Rattle.cert_check.specs.Logs.{steps_of}
-use Rattle.cert_check.specs.Walks.{IsState, between, inside, Standing, at_header, at_first, in_part, IsSound, IsWalk, IsPlain, Goes, IsFaultName, with_steps, LogFails, GoesLog}
+use Rattle.cert_check.specs.Walks.{IsState, between, inside, Expecting, at_header, at_first, in_part, IsSound, IsWalk, IsPlain, Goes, IsFaultName, with_steps, LogFails, GoesLog}
 use Rattle.cert_check.specs.Outcomes.{part_name, name_in, IsFaultAt}
 use Rattle.cert_check.proofs.Taking.{is_first, never_none, are_steps, steps_count}
 
@@ -146,7 +146,7 @@ no_step_of others _ _ is no_job = absurd (cc)
 no_step_of others e jobs is (a_proof _ _ below _ premises of are same) = no_proof_is_step (subst IsOfProof is of)
 no_step_of others _ jobs is (a_log _ below _ goal are same) = absurd (cc)
 
-no_step : (walk : Walk) (e : Expected) (others : List Expected) → e ≡ AStep → Standing walk (e ∷ others) → ⊥
+no_step : (walk : Walk) (e : Expected) (others : List Expected) → e ≡ AStep → Expecting walk (e ∷ others) → ⊥
 no_step walk _ _ is (at_header empty) = absurd (cc)
 no_step walk _ _ is (at_first empty) = absurd (cc)
 no_step walk e others is (in_part _ some are) = no_step_of others e walk.jobs.items is are
@@ -203,7 +203,7 @@ pub record IsWalked (codes : List Listed) (cert : Cert) (walk : Walk) (literals 
   -- steps of a log are expected first, so many
   pub steps : ℕ
   pub expected : List Expected
-  pub standing : Standing walk expected
+  pub expecting : Expecting walk expected
   pub begun : 0 < steps → 0 < length walk.parts.items
   pub derives : Derives Fits after (replicate steps AStep ++ expected) (drop i (certificate_of cert))
   pub left : AreLeft cert literals hints i
@@ -225,7 +225,7 @@ at_start codes cert walk literals hints none are literals_are hints_are = record
   sound = nothing_sound codes walk none;
   steps = 0;
   expected = AHeader ∷ [];
-  standing = at_header none;
+  expecting = at_header none;
   begun = λ some. absurd (omega (arith, some));
   derives = are;
   left = sym (λ i. lines_of cert.lines.items (literals_are i) (hints_are i));
@@ -237,11 +237,11 @@ record IsExpected (expected : List Expected) (line : Line) (rest : List Line) : 
   first : Expected
   others : List Expected
   is : expected ≡ first ∷ others
-  stands : can_stand first line ≡ true
+  allowed : can_stand first line ≡ true
   derives : Derives Fits after (after first line ++ others) rest
 
 expected_at : (expected : List Expected) (line : Line) (rest : List Line) → Derives Fits after expected (line ∷ rest) → IsExpected expected line rest
-expected_at _ line rest (derivation.some e others _ _ fits derives) = record { first = e; others = others; is = refl; stands = fits.stands; derives = derives }
+expected_at _ line rest (derivation.some e others _ _ fits derives) = record { first = e; others = others; is = refl; allowed = fits.stands; derives = derives }
 
 never_more : (line : Line) (rest : List Line) → Derives Fits after [] (line ∷ rest) → ⊥
 never_more line rest derives = elim derives [ ]
@@ -249,22 +249,22 @@ never_more line rest derives = elim derives [ ]
 cc_nothing : {X : Type 0} {x : X} {xs : List X} → x ∷ xs ≡ [] → ⊥
 cc_nothing e = absurd (cc)
 
--- where the last line can stand, the next part is expected and nothing else
+-- where the last line can occur, the next part is expected and nothing else
 ends_of : (e : Expected) (others : List Expected) (jobs : List Job) → AreOf (e ∷ others) jobs → can_stand e End ≡ true → after e End ++ others ≡ []
-ends_of _ _ _ no_job stands = refl
-ends_of e others jobs (a_proof _ _ below _ premises of are same) stands = absurd (never_end e of stands)
-ends_of _ others jobs (a_log _ below _ goal are same) stands = absurd (cc)
+ends_of _ _ _ no_job allowed = refl
+ends_of e others jobs (a_proof _ _ below _ premises of are same) allowed = absurd (never_end e of allowed)
+ends_of _ others jobs (a_log _ below _ goal are same) allowed = absurd (cc)
 
-pub ends : (walk : Walk) (e : Expected) (others : List Expected) → Standing walk (e ∷ others) → can_stand e End ≡ true → after e End ++ others ≡ []
-ends walk _ _ (at_header empty) stands = absurd (cc)
-ends walk _ _ (at_first empty) stands = refl
-ends walk e others (in_part _ some are) stands = ends_of e others walk.jobs.items are stands
+pub ends : (walk : Walk) (e : Expected) (others : List Expected) → Expecting walk (e ∷ others) → can_stand e End ≡ true → after e End ++ others ≡ []
+ends walk _ _ (at_header empty) allowed = absurd (cc)
+ends walk _ _ (at_first empty) allowed = refl
+ends walk e others (in_part _ some are) allowed = ends_of e others walk.jobs.items are allowed
 
 -- the first of what is expected is no step where the line is none
 none_first : (steps : ℕ) (expected : List Expected) (line : Line) (rest : List Line) → (is_step line ≡ true → ⊥) → Derives Fits after (replicate steps AStep ++ expected) (line ∷ rest)
     → steps ≡ 0
 none_first zero expected line rest never derives = refl
-none_first (suc steps) expected line rest never derives = absurd (never (is_first AStep (replicate steps AStep ++ expected) line rest derives).stands)
+none_first (suc steps) expected line rest never derives = absurd (never (is_first AStep (replicate steps AStep ++ expected) line rest derives).allowed)
 
 -- ---- a step of a log
 
@@ -287,22 +287,22 @@ module _ (codes : List Listed) (cert : Cert) (walk : Walk) (literals : List Lite
 
   pub step_passed : IsWalked codes cert walk (drop k literals) (drop h hints) (i + 1)
   step_passed =
-      by walked.steps walked.expected walked.standing walked.begun
+      by walked.steps walked.expected walked.expecting walked.begun
       (subst (Derives Fits after (replicate walked.steps AStep ++ walked.expected)) there.at.left walked.derives) walked.reached
     where
-      by : (steps : ℕ) (expected : List Expected) → Standing walk expected → (0 < steps → 0 < length walk.parts.items)
+      by : (steps : ℕ) (expected : List Expected) → Expecting walk expected → (0 < steps → 0 < length walk.parts.items)
           → Derives Fits after (replicate steps AStep ++ expected) (LogStep the_step ∷ drop (i + 1) (certificate_of cert))
           → ((listed : List spec.Listed) → AreListed codes listed → IsReached codes listed (certificate_of cert) walk steps i expected)
           → IsWalked codes cert walk (drop k literals) (drop h hints) (i + 1)
-      by zero [] standing begun derives reached = absurd (never_more (LogStep the_step) (drop (i + 1) (certificate_of cert)) derives)
-      by zero (e ∷ others) standing begun derives reached =
+      by zero [] expecting begun derives reached = absurd (never_more (LogStep the_step) (drop (i + 1) (certificate_of cert)) derives)
+      by zero (e ∷ others) expecting begun derives reached =
           let first = is_first e others (LogStep the_step) (drop (i + 1) (certificate_of cert)) derives in
-          absurd (no_step walk e others (step_alone e the_step first.stands) standing)
-      by (suc steps) expected standing begun derives reached = record {
+          absurd (no_step walk e others (step_alone e the_step first.allowed) expecting)
+      by (suc steps) expected expecting begun derives reached = record {
         sound = walked.sound;
         steps = steps;
         expected = expected;
-        standing = standing;
+        expecting = expecting;
         begun = λ some. begun (omega arith);
         derives = (is_first AStep (replicate steps AStep ++ expected) (LogStep the_step) (drop (i + 1) (certificate_of cert)) derives).derives;
         left = there.left;
@@ -324,12 +324,12 @@ module _ (codes : List Listed) (cert : Cert) (walk : Walk) (literals : List Lite
       expected_at walked.expected line (drop (i + 1) (certificate_of cert))
       (subst (λ (n : ℕ). Derives Fits after (replicate n AStep ++ walked.expected) (line ∷ drop (i + 1) (certificate_of cert))) none derived)
 
-  stands_there : Standing walk (expects.first ∷ expects.others)
-  stands_there = subst (Standing walk) expects.is walked.standing
+  expecting_there : Expecting walk (expects.first ∷ expects.others)
+  expecting_there = subst (Expecting walk) expects.is walked.expecting
 
   -- the line can be the next
   can_be : IsWalk codes walk line
-  can_be = record { sound = walked.sound; expected = expects.first; others = expects.others; standing = stands_there; stands = expects.stands }
+  can_be = record { sound = walked.sound; expected = expects.first; others = expects.others; expecting = expecting_there; allowed = expects.allowed }
 
   reached_there : (listed : List spec.Listed) → AreListed codes listed → (s : State) × IsState codes listed walk s × Continues listed (certificate_of cert) i s
   reached_there listed are = by walked.expected expects.is (walked.reached listed are)
@@ -363,8 +363,8 @@ module _ (codes : List Listed) (cert : Cert) (walk : Walk) (literals : List Lite
   after_end : line_of line ≡ End → after what.first (line_of line) ++ what.others ≡ []
   after_end is =
       ap (λ (l : Line). after what.first l ++ what.others) is
-      ∙ ends walk what.first what.others (stands_there codes cert walk literals hints i (line_of line) walked at_line never_step)
-      (subst (λ (l : Line). can_stand what.first l ≡ true) is what.stands)
+      ∙ ends walk what.first what.others (expecting_there codes cert walk literals hints i (line_of line) walked at_line never_step)
+      (subst (λ (l : Line). can_stand what.first l ≡ true) is what.allowed)
 
   none_taken : AreLeft cert literals hints (i + 1)
   none_taken =
@@ -377,7 +377,7 @@ module _ (codes : List Listed) (cert : Cert) (walk : Walk) (literals : List Lite
     sound = goes.sound;
     steps = 0;
     expected = after what.first (line_of line) ++ what.others;
-    standing = goes.stands what.first what.others (stands_there codes cert walk literals hints i (line_of line) walked at_line never_step) what.stands;
+    expecting = goes.follows what.first what.others (expecting_there codes cert walk literals hints i (line_of line) walked at_line never_step) what.allowed;
     begun = λ some. absurd (omega (arith, some));
     derives = what.derives;
     left = none_taken;
@@ -442,7 +442,7 @@ not_last_of _ _ _ no_job of is = absurd (cc)
 not_last_of e others jobs (a_proof _ _ below _ premises proof are same) of is = never_of_nothing below (subst (λ (l : List Expected). AreOf l below) is are)
 not_last_of _ others jobs (a_log _ below _ goal are same) of is = never_of_nothing below (subst (λ (l : List Expected). AreOf l below) is are)
 
-not_last : (walk : Walk) (e : Expected) (others : List Expected) → Standing walk (e ∷ others) → e ≡ ALog → others ≡ [] → ⊥
+not_last : (walk : Walk) (e : Expected) (others : List Expected) → Expecting walk (e ∷ others) → e ≡ ALog → others ≡ [] → ⊥
 not_last walk _ _ (at_header empty) of is = absurd (cc)
 not_last walk _ _ (at_first empty) of is = absurd (cc)
 not_last walk e others (in_part _ some are) of is = not_last_of e others walk.jobs.items are of is
@@ -467,12 +467,12 @@ module _ (codes : List Listed) (cert : Cert) (walk : Walk) (literals : List Lite
   log_from = reached_there codes cert walk literals hints i (Log n) walked there.at never_log_step
 
   is_log : log_expects.first ≡ ALog
-  is_log = only_log log_expects.first n log_expects.stands
+  is_log = only_log log_expects.first n log_expects.allowed
 
-  log_stands : Standing walk (ALog ∷ log_expects.others)
-  log_stands =
-      subst (λ (e : Expected). Standing walk (e ∷ log_expects.others)) is_log
-      (stands_there codes cert walk literals hints i (Log n) walked there.at never_log_step)
+  log_expecting : Expecting walk (ALog ∷ log_expects.others)
+  log_expecting =
+      subst (λ (e : Expected). Expecting walk (e ∷ log_expects.others)) is_log
+      (expecting_there codes cert walk literals hints i (Log n) walked there.at never_log_step)
 
   steps_derive : Derives Fits after (replicate n AStep ++ log_expects.others) (drop (i + 1) (certificate_of cert))
   steps_derive = subst (λ (e : Expected). Derives Fits after (after e (Log n) ++ log_expects.others) (drop (i + 1) (certificate_of cert))) is_log log_expects.derives
@@ -499,7 +499,7 @@ module _ (codes : List Listed) (cert : Cert) (walk : Walk) (literals : List Lite
     sound = goes.sound;
     steps = n;
     expected = log_expects.others;
-    standing = goes.stands log_expects.others log_stands;
+    expecting = goes.follows log_expects.others log_expecting;
     begun = λ some. goes.begun;
     derives = steps_derive;
     left = there.left;
@@ -512,7 +512,7 @@ module _ (codes : List Listed) (cert : Cert) (walk : Walk) (literals : List Lite
     where
       by_next : (listed : List spec.Listed) (expected : List Expected) → log_expects.others ≡ expected → (next : State) → Continues listed (certificate_of cert) (i + 1) (with_steps n next)
           → IsState codes listed now next → IsReached codes listed (certificate_of cert) now n (i + 1) expected
-      by_next listed [] is next continues at = absurd (not_last walk ALog log_expects.others log_stands refl is)
+      by_next listed [] is next continues at = absurd (not_last walk ALog log_expects.others log_expecting refl is)
       by_next listed (e ∷ others) is next continues at = on e others next at continues
 
   log_fails_at : (listed : List spec.Listed) (s : State) (line : ℕ) (f : LineFault) → Continues listed (certificate_of cert) i s

@@ -1,6 +1,6 @@
 pub mod Jobs
 pub mod Logs
-pub mod Stands
+pub mod Expectations
 pub mod Steps
 pub mod Walks
 pub mod Outcomes

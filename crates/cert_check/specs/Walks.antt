@@ -26,7 +26,7 @@ use Rattle.cert_frames.specs.declared.listed.Listed.{Listed}
 use Rattle.cert_check.specs.declared.walk.Walk.{Walk}
 use Rattle.cert_frames.specs.Listed.{AreListed, IsListed, frame_at}
 use Rattle.cert_check.specs.Jobs.{jobs_of}
-use Rattle.cert_check.specs.Stands.{AreOf, IsNext, StandsAfter}
+use Rattle.cert_check.specs.Expectations.{AreOf, IsNext, AreAfter}
 use Rattle.cert_check.specs.Steps.{IsKeptBy}
 use Rattle.cert_frames.specs.Parts.{AreIndices, IsNamed, IsMissingAt}
 
@@ -46,11 +46,11 @@ pub data IsState (codes : List Listed) (listed : List spec.Listed) (walk : Walk)
       → IsState codes listed walk (Inside parts f (jobs_of walk.bank (frame_at function) walk.jobs.items))
 
 -- what the grammar expects there
-pub data Standing (walk : Walk) : List Expected → Type 0 where
-  at_header : walk.parts.items ≡ [] → Standing walk (AHeader ∷ [])
-  at_first : walk.parts.items ≡ [] → Standing walk (TheParts ∷ [])
-  in_part : (expected : List Expected) → 0 < length walk.parts.items → AreOf expected walk.jobs.items → Standing walk expected
-  at_end : Standing walk []
+pub data Expecting (walk : Walk) : List Expected → Type 0 where
+  at_header : walk.parts.items ≡ [] → Expecting walk (AHeader ∷ [])
+  at_first : walk.parts.items ≡ [] → Expecting walk (TheParts ∷ [])
+  in_part : (expected : List Expected) → 0 < length walk.parts.items → AreOf expected walk.jobs.items → Expecting walk expected
+  at_end : Expecting walk []
 
 -- a part of the function is kept in its bank
 abbrev pub Keeps : Listed → Walk → Type 0
@@ -66,8 +66,8 @@ pub record IsWalk (codes : List Listed) (walk : Walk) (line : Line) : Type 0 whe
   pub sound : IsSound codes walk
   pub expected : Expected
   pub others : List Expected
-  pub standing : Standing walk (expected ∷ others)
-  pub stands : can_stand expected line ≡ true
+  pub expecting : Expecting walk (expected ∷ others)
+  pub allowed : can_stand expected line ≡ true
 
 -- ---- faults
 
@@ -91,12 +91,12 @@ StepsTo codes listed ahead now s line index (Err (Broken function rule)) =
 StepsTo codes listed ahead now s line index (Err (Above q)) = Fails listed ahead s line 0 (Limit q)
 StepsTo codes listed ahead now s line index (Err NoMemory) = Unit {0}
 
-abbrev pub WalkStands : (old now : Walk) → Line → Type 0
-WalkStands old now line = (e : Expected) (others : List Expected) → Standing old (e ∷ others) → can_stand e line ≡ true → Standing now (after e line ++ others)
+abbrev pub ExpectsAfter : (old now : Walk) → Line → Type 0
+ExpectsAfter old now line = (e : Expected) (others : List Expected) → Expecting old (e ∷ others) → can_stand e line ≡ true → Expecting now (after e line ++ others)
 
 pub record Goes (codes : List Listed) (old now : Walk) (line : Line) (index : ℕ) (result : Result (Unit {0}) Fault) : Type 0 where
   pub sound : OnOk result (IsSound codes now)
-  pub stands : OnOk result (WalkStands old now line)
+  pub follows : OnOk result (ExpectsAfter old now line)
   pub step : (listed : List spec.Listed) (ahead : List Line) → AreListed codes listed → (s : State) → IsState codes listed old s → StepsTo codes listed ahead now s line index result
 
 -- ---- inside a part
@@ -121,7 +121,7 @@ abbrev pub IsPlain : CodeLine → Type 0
 IsPlain line = is_plain line ≡ true
 
 -- the part of the function of this index is kept, and the line can be the next
-pub record StandsAt (codes : List Listed) (walk : Walk) (index : ℕ) (line : Line) : Type 0 where
+pub record IsNextAt (codes : List Listed) (walk : Walk) (index : ℕ) (line : Line) : Type 0 where
   pub kept : (function : Listed) → slice_get codes index ≡ Some function → Keeps function walk
   pub next : IsNext walk.jobs.items line
 
@@ -137,7 +137,7 @@ pub record IsInPart (function : Listed) (old now : Walk) (line : Line) (index : 
   pub step : (listed : List spec.Listed) (ahead : List Line) (parts : List spec.Listed) (f : spec.Listed) → IsListed function f
       → ComesAt listed ahead parts f (jobs_of old.bank (frame_at function) old.jobs.items) (jobs_of now.bank (frame_at function) now.jobs.items) line index result
   pub kept : OnOk result (Keeps function now)
-  pub stands : OnOk result (StandsAfter old.jobs.items line now.jobs.items)
+  pub follows : OnOk result (AreAfter old.jobs.items line now.jobs.items)
   pub parts : now.parts ≡ old.parts
 
 abbrev pub GoesInside : List Listed → (old now : Walk) → (index : ℕ) → Line → Result (Unit {0}) Fault → Type 0
@@ -174,7 +174,7 @@ LogComes codes listed ahead now s count index (Err first) = LogFails codes liste
 
 pub record GoesLog (codes : List Listed) (old now : Walk) (count : ℕ) (steps : List Step) (index : ℕ) (result : Result (Unit {0}) (ℕ × Fault)) : Type 0 where
   pub sound : OnOk result (IsSound codes now)
-  pub stands : OnOk result ((others : List Expected) → Standing old (ALog ∷ others) → Standing now others)
+  pub follows : OnOk result ((others : List Expected) → Expecting old (ALog ∷ others) → Expecting now others)
   pub begun : OnOk result (0 < length now.parts.items)
   pub within : IfErr result (λ first. first.0 ≤ index + count)
   pub step : (listed : List spec.Listed) (ahead : List Line) → AreSteps ahead count steps → AreListed codes listed → (s : State) → IsState codes listed old s
@@ -186,7 +186,7 @@ pub record GoesLog (codes : List Listed) (old now : Walk) (count : ℕ) (steps :
 pub record IsOpened (function : Listed) (old now : Walk) : Type 0 where
   pub parts : now.parts ≡ old.parts
   pub kept : Keeps function now
-  pub stands : AreOf (BinaryInlines ∷ TheParts ∷ []) now.jobs.items
+  pub follows : AreOf (BinaryInlines ∷ TheParts ∷ []) now.jobs.items
   pub jobs : jobs_of now.bank (frame_at function) now.jobs.items ≡ spec.Prove (frame_at function) ∷ []
 
 -- the part of the function of this index has begun, or its stack is another

@@ -4,7 +4,7 @@ ghost use Rattle.std.specs.Prelude.{◌≡◌, ◌<◌, All, IfOk, OnOk, length}
 ghost use Rattle.term_bank.specs.Nodes.{Extends};
 ghost use Rattle.cert_spec.specs.Lines as spec;
 ghost use Rattle.cert_frames.specs.Jobs.{AreBelow, premises_at};
-ghost use Rattle.cert_check.specs.Stands.{IsNext, StandsAfter};
+ghost use Rattle.cert_check.specs.Expectations.{IsNext, AreAfter};
 ghost use Rattle.rule_spec.specs.Points as points;
 ghost use Rattle.rule_spec.specs.Rules as opened;
 ghost use Rattle.rule_terms.specs.Conventions.{IsConventionOf};
@@ -106,7 +106,7 @@ pub(crate) fn leaf(
     ensures step { IsStep function.now bank.old bank.new jobs.old.items jobs.new.items
         (spec.Leaf logs) result }
     ensures kept { OnOk result (IsKept function.now bank.new opening.entry jobs.new.items) }
-    ensures stands { OnOk result (StandsAfter jobs.old.items (spec.Leaf logs) jobs.new.items) }
+    ensures follows { OnOk result (AreAfter jobs.old.items (spec.Leaf logs) jobs.new.items) }
 {
     let premises = take_proof(jobs);
     let goals = attempt!(leaf_goals(alloc, function, opening, bank, premises.as_slice()));
@@ -151,7 +151,7 @@ pub(crate) fn case(
     ensures step { IsStep function.now bank.old bank.new jobs.old.items jobs.new.items
         (spec.Case symbols.now) result }
     ensures kept { OnOk result (IsKept function.now bank.new opening.entry jobs.new.items) }
-    ensures stands { OnOk result (StandsAfter jobs.old.items (spec.Case symbols.now)
+    ensures follows { OnOk result (AreAfter jobs.old.items (spec.Case symbols.now)
         jobs.new.items) }
 {
     let _ = opening;

@@ -8,13 +8,13 @@ ghost use Rattle.cert_spec.specs.Lines as spec;
 ghost use Rattle.cert_check.specs.Outcomes.{IsChecked, IsPlaced, IsVerdict};
 ghost use Rattle.cert_frames.specs.Jobs.{IsGoalOnTop};
 ghost use Rattle.cert_frames.specs.Parts.{AreIndices};
-ghost use Rattle.cert_check.specs.Stands as stands;
-ghost use Rattle.cert_check.specs.Stands.{IsNext, StandsAfter};
+ghost use Rattle.cert_check.specs.Expectations as expectations;
+ghost use Rattle.cert_check.specs.Expectations.{IsNext, AreAfter};
 ghost use Rattle.cert_check.specs.Steps.{IsKept, IsStep};
 ghost use Rattle.cert_check.specs.Logs.{steps_of};
 ghost use Rattle.cert_check.specs.Walks.{Begins, ClosesFirst, Ends, Goes, GoesInside, GoesLog};
 ghost use Rattle.cert_check.specs.Walks.{IsInside, IsOpened, IsPlain, IsSound, IsWalk, Keeps};
-ghost use Rattle.cert_check.specs.Walks.{StandsAt, named_fault};
+ghost use Rattle.cert_check.specs.Walks.{IsNextAt, named_fault};
 
 use crate::fault::{CheckFault, Fault, Named, PartFault};
 use crate::logs::{LogSteps, front, log_fault, rest};
@@ -111,7 +111,7 @@ fn end(listed: &[Listed<'_>], parts: &[usize]) -> Result<(), Fault>
 
 // Whether a line is of a rule that isn't checked yet, or inlines a call.
 fn is_unchecked(line: &Line) -> bool
-    ensures { result ≡ stands.is_unchecked (line_of line.now) }
+    ensures { result ≡ expectations.is_unchecked (line_of line.now) }
 {
     matches!(
         line,
@@ -140,7 +140,7 @@ fn part_line(
     ensures step { IsStep function.now bank.old bank.new jobs.old.items jobs.new.items
         (line_of line.now) result }
     ensures kept { OnOk result (IsKept function.now bank.new opening.entry jobs.new.items) }
-    ensures stands { OnOk result (StandsAfter jobs.old.items (line_of line.now) jobs.new.items) }
+    ensures follows { OnOk result (AreAfter jobs.old.items (line_of line.now) jobs.new.items) }
 {
     if is_unchecked(line) {
         return Err(PartFault::Broken(RuleFault::Later));
@@ -172,7 +172,7 @@ fn inside(
     line: &Line,
 ) -> Result<(), Fault>
     requires index { index < length listed.now }
-    requires stands { StandsAt listed.now walk.old index (line_of line.now) }
+    requires next { IsNextAt listed.now walk.old index (line_of line.now) }
     requires inside { IsInside line.now }
     requires plain { IsPlain line.now }
     ensures { GoesInside listed.now walk.old walk.new index (line_of line.now) result }

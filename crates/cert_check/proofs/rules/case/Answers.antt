@@ -2,7 +2,7 @@ use Rattle.std.proofs.Common.{List, length, subst}
 use Rattle.cert_frames.specs.declared.jobs.Branch.{Branch}
 use Rattle.cert_frames.specs.Jobs.{AreInside, HasBranches}
 use Rattle.cert_check.proofs.Pushed.{inside_top, same_premises}
-use Rattle.cert_check.proofs.Standing.{case_top, case_stands}
+use Rattle.cert_check.proofs.Tops.{case_top, case_follows}
 use Rattle.cert_check.proofs.InPart.{case_passes, test_fails}
 use Rattle.cert_check.proofs.Leaving.{case_kept}
 use Rattle.cert_check.proofs.rules.case.Goals as goal
@@ -29,7 +29,7 @@ returns-3-clause-kept c =
     case_kept c.args.function.now c.args.bank.now c.test.new.bank _ _ c.args.jobs.now.items c.take_proof-premises.new.jobs.items c.push_branches.new.jobs.items c.take_proof-premises.result c.in-Ok-attempt.field-0
     c.requires.kept c.test.ensures.extends c.take_proof-premises.ensures (subst (λ (premises : List Branch). HasBranches c.take_proof-premises.new.jobs.items c.push_branches.new.jobs.items premises c.in-Ok-attempt.field-0) c.as_slice.ensures.value c.in-Ok-attempt-2.ensures) c.in-Ok-attempt.ensures.within
 
-pub returns-3-clause-stands : goal.returns-3-clause-stands
-returns-3-clause-stands c =
-    case_stands c.args.symbols.now c.args.jobs.now.items c.take_proof-premises.new.jobs.items c.push_branches.new.jobs.items c.take_proof-premises.result c.take_proof-premises.result.items c.in-Ok-attempt.field-0
+pub returns-3-clause-follows : goal.returns-3-clause-follows
+returns-3-clause-follows c =
+    case_follows c.args.symbols.now c.args.jobs.now.items c.take_proof-premises.new.jobs.items c.push_branches.new.jobs.items c.take_proof-premises.result c.take_proof-premises.result.items c.in-Ok-attempt.field-0
     c.take_proof-premises.ensures (subst (λ (premises : List Branch). HasBranches c.take_proof-premises.new.jobs.items c.push_branches.new.jobs.items premises c.in-Ok-attempt.field-0) c.as_slice.ensures.value c.in-Ok-attempt-2.ensures)

@@ -7,7 +7,7 @@ use Rattle.cert_frames.specs.Listed.{frame_at}
 use Rattle.cert_frames.specs.Jobs.{AreBelow, AreInside, logs_last}
 use Rattle.cert_check.specs.Jobs.{jobs_of}
 use Rattle.cert_check.proofs.Pushed.{inside_top}
-use Rattle.cert_check.proofs.Standing.{leaf_top, leaf_stands}
+use Rattle.cert_check.proofs.Tops.{leaf_top, leaf_follows}
 use Rattle.cert_check.proofs.InPart.{leaf_passes, leaf_fails, logs_fail, goals_for}
 use Rattle.cert_check.proofs.Leaving.{first_inside, leaf_kept}
 use Rattle.cert_check.proofs.rules.leaf.Goals as goal
@@ -53,8 +53,8 @@ returns-3-clause-kept c =
     c.leaf_goals.ensures.extends c.take_proof-premises.ensures c.push_goals.new.jobs.items c.in-Ok-attempt.field-0.items c.in-Ok-attempt.ensures.within
     (c.in-Ok-attempt-2.ensures ∙ ap (λ (l : List ℕ). c.take_proof-premises.new.jobs.items ++ logs_last l) c.as_slice-2.ensures.value)
 
-pub returns-3-clause-stands : goal.returns-3-clause-stands
-returns-3-clause-stands c =
-    leaf_stands c.args.logs c.args.jobs.now.items c.take_proof-premises.new.jobs.items c.push_goals.new.jobs.items c.take_proof-premises.result c.in-Ok-attempt.field-0.items
+pub returns-3-clause-follows : goal.returns-3-clause-follows
+returns-3-clause-follows c =
+    leaf_follows c.args.logs c.args.jobs.now.items c.take_proof-premises.new.jobs.items c.push_goals.new.jobs.items c.take_proof-premises.result c.in-Ok-attempt.field-0.items
     c.take_proof-premises.ensures (omega (arith, c.in-Ok-attempt.field-0.ok.0, c.if-len-logs.false))
     (c.in-Ok-attempt-2.ensures ∙ ap (λ (l : List ℕ). c.take_proof-premises.new.jobs.items ++ logs_last l) c.as_slice-2.ensures.value)

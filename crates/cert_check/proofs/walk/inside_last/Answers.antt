@@ -9,8 +9,8 @@ inside-requires-clause-index c =
     part_below (length c.args.listed.now) c.args.walk.now.parts.items _ c.index-part.result.now c.requires.walk.sound.indices c.index-part.ensures
     (omega (arith, here.0, c.args.walk.now.parts.ok.0))
 
-pub inside-requires-clause-stands : goal.inside-requires-clause-stands
-inside-requires-clause-stands c =
+pub inside-requires-clause-next : goal.inside-requires-clause-next
+inside-requires-clause-next c =
     let here = in_a_part c.args.listed.now c.args.walk.now c.args.line.now c.requires.walk c.requires.inside in
     let last = last_part c.args.walk.now.parts.items _ c.index-part.result.now c.index-part.ensures (omega (arith, here.0, c.args.walk.now.parts.ok.0)) in
     record { kept = λ function there. c.requires.walk.sound.kept _ _ function last there; next = here.1 }

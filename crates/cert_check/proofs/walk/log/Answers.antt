@@ -4,7 +4,7 @@ use Rattle.term_bank.specs.Nodes.{tree_at}
 use Rattle.cert_lines.specs.declared.lines.Line.TheVariants as code
 use Rattle.cert_frames.proofs.Indexed.{item_there}
 use Rattle.cert_check.specs.Logs.{steps_of}
-use Rattle.cert_check.proofs.Standing.{log_top}
+use Rattle.cert_check.proofs.Tops.{log_top}
 use Rattle.cert_check.proofs.Taking.{steps_count, number_within}
 use Rattle.cert_check.proofs.Entered.{in_a_part, last_part, part_below}
 use Rattle.cert_check.proofs.LogLines.{log_passed, log_refused}

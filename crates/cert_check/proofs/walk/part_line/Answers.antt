@@ -3,7 +3,7 @@ use Rattle.std.specs.Prelude.{OnOk}
 use Rattle.cert_lines.specs.Views.{line_of}
 use Rattle.cert_spec.specs.declared.Symbol.{Symbol}
 use Rattle.cert_spec.specs.Lines.{Case}
-use Rattle.cert_check.specs.Stands.{IsNext, StandsAfter}
+use Rattle.cert_check.specs.Expectations.{IsNext, AreAfter}
 use Rattle.cert_check.specs.Steps.{IsStep}
 use Rattle.cert_check.proofs.InPart.{later_fails}
 use Rattle.cert_check.proofs.Entered.{no_other_line}
@@ -25,9 +25,9 @@ pub returns-in-Leaf-clause-step : goal.returns-in-Leaf-clause-step
 returns-in-Leaf-clause-step c =
     subst (λ l. IsStep c.args.function.now c.args.bank.now c.leaf.new.bank c.args.jobs.now.items c.leaf.new.jobs.items (line_of l) c.leaf.result) (sym c.in-Leaf.is) c.leaf.ensures.step
 
-pub returns-in-Leaf-clause-stands : goal.returns-in-Leaf-clause-stands
-returns-in-Leaf-clause-stands c =
-    subst (λ l. OnOk c.leaf.result (StandsAfter c.args.jobs.now.items (line_of l) c.leaf.new.jobs.items)) (sym c.in-Leaf.is) c.leaf.ensures.stands
+pub returns-in-Leaf-clause-follows : goal.returns-in-Leaf-clause-follows
+returns-in-Leaf-clause-follows c =
+    subst (λ l. OnOk c.leaf.result (AreAfter c.args.jobs.now.items (line_of l) c.leaf.new.jobs.items)) (sym c.in-Leaf.is) c.leaf.ensures.follows
 
 pub returns-in-Case-clause-step : goal.returns-in-Case-clause-step
 returns-in-Case-clause-step c =
@@ -36,11 +36,11 @@ returns-in-Case-clause-step c =
     (subst (λ (t : List Symbol). IsStep c.args.function.now c.args.bank.now c.case.new.bank c.args.jobs.now.items c.case.new.jobs.items (Case t) c.case.result) c.as_slice.ensures.value
     c.case.ensures.step))
 
-pub returns-in-Case-clause-stands : goal.returns-in-Case-clause-stands
-returns-in-Case-clause-stands c =
-    subst (λ l. OnOk c.case.result (StandsAfter c.args.jobs.now.items (line_of l) c.case.new.jobs.items)) (sym c.in-Case.is)
-    (subst (λ (t : Vec Symbol Global). OnOk c.case.result (StandsAfter c.args.jobs.now.items (Case t.items) c.case.new.jobs.items)) c.deref.ensures
-    (subst (λ (t : List Symbol). OnOk c.case.result (StandsAfter c.args.jobs.now.items (Case t) c.case.new.jobs.items)) c.as_slice.ensures.value c.case.ensures.stands))
+pub returns-in-Case-clause-follows : goal.returns-in-Case-clause-follows
+returns-in-Case-clause-follows c =
+    subst (λ l. OnOk c.case.result (AreAfter c.args.jobs.now.items (line_of l) c.case.new.jobs.items)) (sym c.in-Case.is)
+    (subst (λ (t : Vec Symbol Global). OnOk c.case.result (AreAfter c.args.jobs.now.items (Case t.items) c.case.new.jobs.items)) c.deref.ensures
+    (subst (λ (t : List Symbol). OnOk c.case.result (AreAfter c.args.jobs.now.items (Case t) c.case.new.jobs.items)) c.as_slice.ensures.value c.case.ensures.follows))
 
 pub unreachable-requires : goal.unreachable-requires
 unreachable-requires c =

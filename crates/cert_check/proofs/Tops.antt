@@ -9,38 +9,38 @@ use Rattle.cert_frames.specs.declared.jobs.Branch.{Branch}
 use Rattle.cert_frames.specs.declared.jobs.Job.{Job}
 use Rattle.cert_frames.specs.declared.jobs.Job.TheVariants.{Prove, Close}
 use Rattle.cert_frames.specs.Jobs.{IsProofOnTop, IsGoalOnTop, HasBranches, logs_last}
-use Rattle.cert_check.specs.Stands.{IsOfProof, of_binary, of_source, of_proof, AreOf, no_job, a_proof, a_log, IsNext, StandsAfter}
+use Rattle.cert_check.specs.Expectations.{IsOfProof, of_binary, of_source, of_proof, AreOf, no_job, a_proof, a_log, IsNext, AreAfter}
 
-false_stands : {A : Type 0} → false ≡ true → A
-false_stands e = absurd (cc)
+from_false : {A : Type 0} → false ≡ true → A
+from_false e = absurd (cc)
 
 -- ---- what is on top
 
 -- at a rule a proof is
 proof_top : (line : Line) (e : Expected) (others : List Expected) (jobs : List Job) → (can_stand ALog line ≡ true → ⊥) → (can_stand TheParts line ≡ true → ⊥)
     → AreOf (e ∷ others) jobs → can_stand e line ≡ true → IsProofOnTop jobs
-proof_top line _ _ _ no_log no_part no_job stands = absurd (no_part stands)
-proof_top line e others jobs no_log no_part (a_proof _ _ below _ premises of are is) stands = (below, premises, is)
-proof_top line _ others jobs no_log no_part (a_log _ below _ goal are is) stands = absurd (no_log stands)
+proof_top line _ _ _ no_log no_part no_job allowed = absurd (no_part allowed)
+proof_top line e others jobs no_log no_part (a_proof _ _ below _ premises of are is) allowed = (below, premises, is)
+proof_top line _ others jobs no_log no_part (a_log _ below _ goal are is) allowed = absurd (no_log allowed)
 
 pub leaf_top : (logs : ℕ) (jobs : List Job) → IsNext jobs (Leaf logs) → IsProofOnTop jobs
-leaf_top logs jobs next = proof_top (Leaf logs) next.expected next.others jobs (λ h. false_stands h) (λ h. false_stands h) next.are next.stands
+leaf_top logs jobs next = proof_top (Leaf logs) next.expected next.others jobs (λ h. from_false h) (λ h. from_false h) next.are next.allowed
 
 pub case_top : (symbols : List Symbol) (jobs : List Job) → IsNext jobs (Case symbols) → IsProofOnTop jobs
-case_top symbols jobs next = proof_top (Case symbols) next.expected next.others jobs (λ h. false_stands h) (λ h. false_stands h) next.are next.stands
+case_top symbols jobs next = proof_top (Case symbols) next.expected next.others jobs (λ h. from_false h) (λ h. from_false h) next.are next.allowed
 
 never_log : (e : Expected) → IsOfProof e → (steps : ℕ) → can_stand e (Log steps) ≡ true → ⊥
-never_log _ of_binary steps h = false_stands h
-never_log _ of_source steps h = false_stands h
-never_log _ (of_proof room) steps h = false_stands h
+never_log _ of_binary steps h = from_false h
+never_log _ of_source steps h = from_false h
+never_log _ (of_proof room) steps h = from_false h
 
 pub log_top : (steps : ℕ) (jobs : List Job) → IsNext jobs (Log steps) → IsGoalOnTop jobs
-log_top steps jobs next = by next.expected next.others jobs next.are next.stands
+log_top steps jobs next = by next.expected next.others jobs next.are next.allowed
   where
     by : (e : Expected) (others : List Expected) (jobs : List Job) → AreOf (e ∷ others) jobs → can_stand e (Log steps) ≡ true → IsGoalOnTop jobs
-    by _ _ _ no_job stands = false_stands stands
-    by e others jobs (a_proof _ _ below _ premises of are is) stands = absurd (never_log e of steps stands)
-    by _ others jobs (a_log _ below _ goal are is) stands = (below, goal, is)
+    by _ _ _ no_job allowed = from_false allowed
+    by e others jobs (a_proof _ _ below _ premises of are is) allowed = absurd (never_log e of steps allowed)
+    by _ others jobs (a_log _ below _ goal are is) allowed = (below, goal, is)
 
 -- ---- what is expected after a rule
 
@@ -62,30 +62,30 @@ below_proof e others all below premises (a_proof _ _ found _ q of are same) no_l
     (of, subst (AreOf others) (same_from_push found below (Prove q) (Prove premises) (sym same ∙ is)).0 are)
 below_proof _ others all below premises (a_log _ found _ goal are same) no_log no_part is = absurd (no_log refl)
 
-logs_stand : (others : List Expected) (below : List Job) (goals : List ℕ) → AreOf others below → AreOf (replicate (length goals) ALog ++ others) (below ++ logs_last goals)
+logs_follow : (others : List Expected) (below : List Job) (goals : List ℕ) → AreOf others below → AreOf (replicate (length goals) ALog ++ others) (below ++ logs_last goals)
 unfolding logs_last
-logs_stand others below [] are = subst (AreOf others) (sym (append-nil below)) are
-logs_stand others below (g ∷ goals) are =
-    a_log (replicate (length goals) ALog ++ others) (below ++ logs_last goals) (below ++ (logs_last goals ++ Close g ∷ [])) g (logs_stand others below goals are)
+logs_follow others below [] are = subst (AreOf others) (sym (append-nil below)) are
+logs_follow others below (g ∷ goals) are =
+    a_log (replicate (length goals) ALog ++ others) (below ++ logs_last goals) (below ++ (logs_last goals ++ Close g ∷ [])) g (logs_follow others below goals are)
     (sym (append_assoc below (logs_last goals) (Close g ∷ [])))
 
 not_log : (e : Expected) (line : Line) → can_stand e line ≡ true → (can_stand ALog line ≡ true → ⊥) → e ≡ ALog → ⊥
-not_log e line stands never is = never (subst (λ (x : Expected). can_stand x line ≡ true) is stands)
+not_log e line allowed never is = never (subst (λ (x : Expected). can_stand x line ≡ true) is allowed)
 
 not_part : (e : Expected) (line : Line) → can_stand e line ≡ true → (can_stand TheParts line ≡ true → ⊥) → e ≡ TheParts → ⊥
-not_part e line stands never is = never (subst (λ (x : Expected). can_stand x line ≡ true) is stands)
+not_part e line allowed never is = never (subst (λ (x : Expected). can_stand x line ≡ true) is allowed)
 
-pub leaf_stands : (logs : ℕ) (old below new : List Job) (premises : Vec Branch Global) (goals : List ℕ) → old ≡ below ++ Prove premises ∷ [] → length goals ≡ logs
-    → new ≡ below ++ logs_last goals → StandsAfter old (Leaf logs) new
-leaf_stands logs old below new premises goals is count now = λ e others are stands.
-    let proof = below_proof e others old below premises are (not_log e (Leaf logs) stands (λ h. false_stands h)) (not_part e (Leaf logs) stands (λ h. false_stands h)) is in
+pub leaf_follows : (logs : ℕ) (old below new : List Job) (premises : Vec Branch Global) (goals : List ℕ) → old ≡ below ++ Prove premises ∷ [] → length goals ≡ logs
+    → new ≡ below ++ logs_last goals → AreAfter old (Leaf logs) new
+leaf_follows logs old below new premises goals is count now = λ e others are allowed.
+    let proof = below_proof e others old below premises are (not_log e (Leaf logs) allowed (λ h. from_false h)) (not_part e (Leaf logs) allowed (λ h. from_false h)) is in
     subst (λ (list : List Expected). AreOf (list ++ others) new) (ap (λ (n : ℕ). replicate n ALog) count ∙ sym (after_leaf e proof.0 logs))
-    (subst (AreOf (replicate (length goals) ALog ++ others)) (sym now) (logs_stand others below goals proof.1))
+    (subst (AreOf (replicate (length goals) ALog ++ others)) (sym now) (logs_follow others below goals proof.1))
 
-pub case_stands : (symbols : List Symbol) (old below new : List Job) (premises : Vec Branch Global) (branches : List Branch) (test : ℕ) → old ≡ below ++ Prove premises ∷ []
-    → HasBranches below new branches test → StandsAfter old (Case symbols) new
-case_stands symbols old below new premises branches test is has = λ e others are stands.
-    let proof = below_proof e others old below premises are (not_log e (Case symbols) stands (λ h. false_stands h)) (not_part e (Case symbols) stands (λ h. false_stands h)) is in
+pub case_follows : (symbols : List Symbol) (old below new : List Job) (premises : Vec Branch Global) (branches : List Branch) (test : ℕ) → old ≡ below ++ Prove premises ∷ []
+    → HasBranches below new branches test → AreAfter old (Case symbols) new
+case_follows symbols old below new premises branches test is has = λ e others are allowed.
+    let proof = below_proof e others old below premises are (not_log e (Case symbols) allowed (λ h. from_false h)) (not_part e (Case symbols) allowed (λ h. from_false h)) is in
     let room = after_case e proof.0 symbols in
     subst (λ (list : List Expected). AreOf (list ++ others) new) (sym room.1)
     (a_proof (AProof room.0) (AProof room.0 ∷ others) (below ++ Prove has.fails ∷ []) new has.holds (of_proof room.0)

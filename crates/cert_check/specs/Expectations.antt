@@ -25,11 +25,11 @@ pub record IsNext (jobs : List Job) (line : Line) : Type 0 where
   pub expected : Expected
   pub others : List Expected
   pub are : AreOf (expected ∷ others) jobs
-  pub stands : can_stand expected line ≡ true
+  pub allowed : can_stand expected line ≡ true
 
 -- after the line these are the jobs
-abbrev pub StandsAfter : (before : List Job) → Line → (now : List Job) → Type 0
-StandsAfter before line now = (e : Expected) (others : List Expected) → AreOf (e ∷ others) before → can_stand e line ≡ true → AreOf (after e line ++ others) now
+abbrev pub AreAfter : (before : List Job) → Line → (now : List Job) → Type 0
+AreAfter before line now = (e : Expected) (others : List Expected) → AreOf (e ∷ others) before → can_stand e line ≡ true → AreOf (after e line ++ others) now
 
 -- the line is of a rule that isn't checked yet, or inlines a call
 abbrev pub is_unchecked : Line → Bool
