@@ -2,6 +2,7 @@ ghost use Rattle.std.specs.Prelude.{◌≡◌, ◌≤◌, OnOk};
 ghost use Rattle.sat_search.specs.Search.{IsSearching};
 
 use crate::choice::open_literal;
+use crate::order::Order;
 use crate::search::{Search, back, decide};
 use crate::signatures::{Candidate, Signatures};
 use attempt::attempt;
@@ -74,13 +75,14 @@ fn dive(cnf: &Cnf, search: &mut Search, bits: &mut Bits) -> Result<(), AllocErro
     Ok(())
 }
 
-/// Notes the values of a dive, but for those of its last decision: where a clause became false, it
-/// wasn't propagated to the end.
-fn note(trail: &Trail, signatures: &mut Signatures) {
+/// Notes the values of a dive, of the variables that the search is about, but for those of its last
+/// decision: where a clause became false, it wasn't propagated to the end.
+fn note(trail: &Trail, order: &Order, signatures: &mut Signatures) {
     for place in 0..trail.len() {
         let entry = trail.entry(place);
-        if entry.level < trail.level() {
-            signatures.note(entry.literal.variable(), !entry.literal.is_negated());
+        let variable = entry.literal.variable();
+        if entry.level < trail.level() && order.is_about(variable) {
+            signatures.note(variable, !entry.literal.is_negated());
         }
     }
     signatures.end_dive();
@@ -97,7 +99,7 @@ fn dive_often(cnf: &Cnf, search: &mut Search, signatures: &mut Signatures) -> Re
     let mut bits = Bits::new();
     for _count in 0..DIVES {
         attempt!(dive(cnf, search, &mut bits));
-        note(&search.trail, signatures);
+        note(&search.trail, &search.order, signatures);
         back(cnf, search);
     }
     Ok(())

@@ -9,8 +9,12 @@ use attempt::attempt;
 use cnf_core::{Cnf, Literal, MAX_VARIABLE, negation};
 use std::alloc::{AllocError, Global};
 
-/// How many clauses are learnt before variables are made equal.
+/// How many clauses are learnt before variables are made equal, at least.
 const EASY: usize = 200;
+
+/// And how often each variable's value is taken back before, on average. The dives take each back
+/// 64 times at most, so clauses that are closed with less don't pay for them.
+const CHEAP: u64 = 24;
 
 /// How many clauses are learnt to show that a literal implies another.
 const BUDGET: usize = 30;
@@ -45,6 +49,38 @@ fn learn_some(
             Progress::Closed => return Ok(Progress::Closed),
             Progress::Satisfied => return Ok(Progress::Satisfied),
             Progress::Refuted => return Ok(Progress::Refuted),
+        }
+    }
+    Ok(Progress::Learnt)
+}
+
+/// Whether the search has cost enough for variables to be made equal.
+fn is_long(cnf: &Cnf, search: &Search) -> bool {
+    let cheap = (cnf.variables() as u64).saturating_mul(CHEAP);
+    search.log.len() >= EASY && search.order.effort() >= cheap
+}
+
+/// Learns clauses until the search ends or has cost enough, at most `limit` in all.
+fn learn_first(
+    alloc: Global,
+    cnf: &Cnf,
+    limit: usize,
+    search: &mut Search,
+) -> Result<Progress, AllocError>
+    requires searching { IsSearching cnf.now search.old.clauses.clauses search.old.trail
+        search.old.watches search.old.log.items }
+    requires within { length search.old.log.items ≤ limit }
+    requires small { cnf.now.variables ≤ MAX_VARIABLE }
+    ensures { IfOk result (λ progress. IsStage cnf.now search.new.clauses.clauses search.new.trail
+        search.new.watches search.new.log.items limit progress) }
+{
+    for _count in 0..limit {
+        if is_long(cnf, search) {
+            return Ok(Progress::Learnt);
+        }
+        match attempt!(learn_some(alloc, cnf, limit, search, &[], 1)) {
+            Progress::Learnt => {}
+            progress => return Ok(progress),
         }
     }
     Ok(Progress::Learnt)
@@ -149,10 +185,13 @@ pub fn equate_variables(
     ensures { IfOk result (λ progress. IsStage cnf.now search.new.clauses.clauses search.new.trail
         search.new.watches search.new.log.items limit progress) }
 {
-    match attempt!(learn_some(alloc, cnf, limit, search, &[], EASY)) {
+    match attempt!(learn_first(alloc, cnf, limit, search)) {
         Progress::Closed => return Ok(Progress::Closed),
         Progress::Satisfied => return Ok(Progress::Satisfied),
         _ => {}
+    }
+    if search.log.len() >= limit {
+        return Ok(Progress::Learnt);
     }
     let found = attempt!(candidates(alloc, cnf, search));
     sweep(alloc, cnf, limit, search, found.as_slice())

@@ -12,8 +12,10 @@ pub struct Order {
     activities: Vec<u64>,
     /// By variable: its place in the heap, or [`ABSENT`].
     places: Vec<usize>,
-    /// By variable: the conflict at which it was bumped last.
+    /// By variable: the conflict at which it was bumped last, or 0.
     bumped: Vec<u64>,
+    /// How many variables were ever bumped.
+    used: usize,
     /// By variable: the sign that it had last.
     signs: Vec<bool>,
     /// Whether a variable's sign is noted when it loses its value.
@@ -35,6 +37,8 @@ pub struct Order {
     counted: u64,
     /// Conflicts since the last restart.
     waited: u64,
+    /// How many values were taken back.
+    effort: u64,
 }
 
 /// The place of a variable that isn't in the heap.
@@ -58,6 +62,9 @@ const MANY: u64 = 8192;
 
 const SCALE: u64 = 1024;
 
+/// Fewer variables than this part of them are few.
+const FEW: usize = 8;
+
 /// How many conflicts are between restarts at least.
 const PAUSE: u64 = 10;
 
@@ -68,6 +75,7 @@ impl Order {
             activities: Vec::new(alloc),
             places: Vec::new(alloc),
             bumped: Vec::new(alloc),
+            used: 0,
             signs: Vec::new(alloc),
             notes_signs: true,
             heap: Vec::new(alloc),
@@ -80,6 +88,7 @@ impl Order {
             total: 0,
             counted: 0,
             waited: 0,
+            effort: 0,
         };
         order.add(ABSENT)?;
         for index in 0..variables {
@@ -220,6 +229,7 @@ impl Order {
 
     /// The variable loses its value, which had this sign.
     pub fn release(&mut self, variable: usize, is_negated: bool) {
+        self.effort = self.effort.saturating_add(1);
         if self.notes_signs {
             self.set_sign(variable, is_negated);
         }
@@ -254,6 +264,9 @@ impl Order {
         }
         let clock = self.clock;
         if let Some(last) = self.bumped.get_mut(variable) {
+            if *last == 0 {
+                self.used = self.used.saturating_add(1);
+            }
             *last = clock;
         }
         let activity = self.activity(variable).saturating_add(self.step);
@@ -267,6 +280,22 @@ impl Order {
         if place != ABSENT {
             self.raise(place);
         }
+    }
+
+    /// Whether the search is about a variable: where few were ever bumped, about those alone.
+    pub fn is_about(&self, variable: usize) -> bool {
+        if self.used.saturating_mul(FEW) >= self.heap.len() {
+            return true;
+        }
+        match self.bumped.get(variable) {
+            Some(last) => *last > 0,
+            None => false,
+        }
+    }
+
+    /// What the search has cost: how many values were taken back.
+    pub fn effort(&self) -> u64 {
+        self.effort
     }
 
     /// Whether a level was seen at this conflict.
