@@ -7,6 +7,7 @@
 
 mod closing;
 mod error;
+mod guessing;
 mod laws;
 mod limits;
 mod runs;
@@ -16,6 +17,7 @@ mod steps;
 pub use closing::close;
 pub use closing_spec::GoalQuantity;
 pub use error::{CloseError, SeekError};
+pub use guessing::refute;
 pub use laws::closed_goals_are_true;
 pub use memory_spec::Run;
 pub use seeking::{Sought, seek};

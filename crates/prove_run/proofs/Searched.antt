@@ -1,7 +1,8 @@
 -- Logs of obligations, one after the other; and what they are of a function.
-use Rattle.std.proofs.Common.{◌≡◌, ◌∙◌, ◌+◌, ◌<◌, ◌≤◌, ℕ, Vec, Global, Option, Some, None, Result, Ok, Err, List, [], ◌∷◌, ◌++◌, length, map, take, get_or, inl, inr, sym, ap, subst, arith}
+use Rattle.std.proofs.Common.{◌≡◌, ◌∙◌, ◌+◌, ◌<◌, ◌≤◌, ℕ, Vec, Global, Option, Some, None, Result, Ok, Err, List, [], ◌∷◌, ◌++◌, length, map, take, get_or, inl, inr, refl, sym, ap, subst, arith}
 use Rattle.std.specs.Prelude.{All, IfOk, option_map, slice_get}
 use Rattle.std.proofs.lemmas.List.{length-map, map_more, map_push, take_all}
+use Rattle.std.proofs.lemmas.List.Elements.{All-head, All-tail, All-weaker}
 use Rattle.std.proofs.lemmas.Option.{slice_get-get_or, slice_get-map, get_or_from_slice_get}
 use Rattle.memory_spec.specs.Runs.{Run}
 use Rattle.memory_spec.specs.Viewed.{runs_of}
@@ -74,6 +75,25 @@ pushed_log runs goal number old new log is pushed =
 goal_at : (trees : List Term) (goals : List ℕ) (k id : ℕ) → slice_get goals k ≡ Some id → slice_get (map (tree_at trees) goals) k ≡ Some (tree_at trees id)
 goal_at trees goals k id there = slice_get-map (tree_at trees) goals k ∙ ap (λ (o : Option ℕ). option_map (tree_at trees) o) there
 
+-- in a bank that has grown they are the same
+kept_terms : (trees now : List Term) (goals : List ℕ) → Extends trees now → All (λ (goal : ℕ). goal < length trees) goals → map (tree_at now) goals ≡ map (tree_at trees) goals
+kept_terms trees now [] grows within = refl
+kept_terms trees now (goal ∷ goals) grows within =
+    ap (λ (t : Term). t ∷ map (tree_at now) goals) (kept_tree trees now goal grows (All-head (λ (g : ℕ). g < length trees) goal goals within))
+    ∙ ap (λ (ts : List Term). tree_at trees goal ∷ ts) (kept_terms trees now goals grows (All-tail (λ (g : ℕ). g < length trees) goal goals within))
+
+pub within_now : (trees now : List Term) (goals : List ℕ) → Extends trees now → All (λ (goal : ℕ). goal < length trees) goals → All (λ (goal : ℕ). goal < length now) goals
+within_now trees now goals grows within =
+    All-weaker (λ (g : ℕ). g < length trees) (λ (g : ℕ). g < length now) (λ g inside. within_longer trees now g grows inside) goals within
+
+-- what is searched in a bank that has grown
+pub searched_before : (runs : List Run) (trees now : List Term) (goals : List ℕ) → Extends trees now → All (λ (goal : ℕ). goal < length trees) goals → {E : Type 0} (result : Result Found E)
+    → (AreTruths (map (tree_at now) goals) → IfOk result (IsSearched runs (map (tree_at now) goals)))
+    → AreTruths (map (tree_at trees) goals) → IfOk result (IsSearched runs (map (tree_at trees) goals))
+searched_before runs trees now goals grows within result searched truths =
+    subst (λ (ts : List Term). IfOk result (IsSearched runs ts)) (kept_terms trees now goals grows within)
+    (searched (subst AreTruths (sym (kept_terms trees now goals grows within)) truths))
+
 module _ (runs : List Run) (trees : List Term) (goals : List ℕ) where
   abbrev terms : List Term
   terms = map (tree_at trees) goals
@@ -114,13 +134,16 @@ module _ (runs : List Run) (trees : List Term) (goals : List ℕ) where
         (all_more runs (map (tree_at trees) (take index goals)) (logs_of old) (tree_at trees id) log (before truths)
         (subst (λ (t : Term). IsLeanLog runs t log) same lean)))
 
-    pub one_trail : (trail : Trail) → (AreTruths terms → IsGoalTrail runs (tree_at now id) index (trail_of trail)) → AreTruths terms → HasTrail runs terms (trail_of trail)
-    one_trail trail added truths = record {
+    pub one_refuted : (trail : Trail) → IsGoalTrail runs (tree_at now id) index (trail_of trail) → HasTrail runs terms (trail_of trail)
+    one_refuted trail is_trail = record {
       number = index;
       goal = tree_at trees id;
       there = goal_at trees goals index id there;
-      is = subst (λ (t : Term). IsGoalTrail runs t index (trail_of trail)) same (added truths);
+      is = subst (λ (t : Term). IsGoalTrail runs t index (trail_of trail)) same is_trail;
     }
+
+    pub one_trail : (trail : Trail) → (AreTruths terms → IsGoalTrail runs (tree_at now id) index (trail_of trail)) → AreTruths terms → HasTrail runs terms (trail_of trail)
+    one_trail trail added truths = one_refuted trail (added truths)
 
   pub all_so_far : (index : ℕ) (logs : List (Vec Step Global)) → length goals ≤ index → HaveSoFar index logs → AreTruths terms → HaveAll runs terms (logs_of logs)
   all_so_far index logs past before truths =

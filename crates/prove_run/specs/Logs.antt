@@ -1,4 +1,4 @@
--- The logs of obligations, or the trail of the first that has none.
+-- The logs of obligations, or the trail of one that has none.
 use Rattle.std.specs.Prelude.{◌≡◌, ◌<◌, ◌≤◌, ℕ, false, Vec, List, [], ◌∷◌, ◌++◌, All, Option, Some, None, slice_get}
 use Rattle.std.specs.Global.{Global}
 use Rattle.memory_spec.specs.Runs.{Run}
@@ -56,6 +56,11 @@ pub record HasTrail (runs : List Run) (goals : List Term) (trail : spec.Trail) :
   pub goal : Term
   pub there : slice_get goals number ≡ Some goal
   pub is : IsGoalTrail runs goal number trail
+
+-- it is a trail of one of them, if it is one
+abbrev pub IsTrailIf : List Run → List Term → Option Trail → Type 0
+IsTrailIf runs goals None = Unit {0}
+IsTrailIf runs goals (Some trail) = HasTrail runs goals (trail_of trail)
 
 abbrev pub HaveLogs : List Run → List Term → List (List Step) → Option Trail → Type 0
 HaveLogs runs goals found None = HaveAll runs goals found

@@ -9,10 +9,11 @@ ghost use Rattle.term_spec.specs.Sort.{sort_of};
 ghost use Rattle.term_bank.specs.Nodes.{Extends, tree_at};
 ghost use Rattle.prove_run.specs.Found.{logs_of};
 ghost use Rattle.prove_run.specs.Logs.{AreTruths, HasLog, HaveLogs, IsLeanLog, IsSearched};
+ghost use Rattle.prove_run.specs.Logs.{IsTrailIf};
 
 use crate::trail::{Found, Trail};
 use attempt::attempt;
-use discharge::{SeekError, Sought, seek};
+use discharge::{SeekError, Sought, refute, seek};
 use memory_spec::Run;
 use sat_log::Step;
 use std::alloc::{AllocError, Global};
@@ -83,8 +84,32 @@ fn add_logs(
     Ok(None)
 }
 
-/// The logs of obligations, or the trail of the first that has none.
-pub(crate) fn search(
+// The trail of the first obligation that one of a few assignments refutes, if there is one.
+fn refuted(
+    alloc: Global,
+    bank: &mut Bank,
+    goals: &[TermId],
+    runs: &[Run],
+) -> Result<Option<Trail>, AllocError>
+    requires { All (λ goal. goal < length bank.old) goals.now }
+    ensures trail { IfOk result (IsTrailIf (runs_of runs.now) (map (tree_at bank.old) goals.now)) }
+    ensures extends { Extends bank.old bank.new }
+{
+    for index in 0..goals.len() {
+        match refute(alloc, bank, goals[index], runs) {
+            Ok(None) => {}
+            Ok(Some(assignment)) => {
+                assignment.is_assignment();
+                return Ok(Some(Trail::Refuted(index, assignment)));
+            }
+            Err(error) => return Err(error),
+        }
+    }
+    Ok(None)
+}
+
+// The logs of obligations, or the trail of the first that has none, by a search for each.
+fn search_each(
     alloc: Global,
     bank: &mut Bank,
     goals: &[TermId],
@@ -98,6 +123,25 @@ pub(crate) fn search(
     match add_logs(alloc, bank, goals, runs, &mut logs) {
         Ok(None) => Ok(Found::Proved(logs)),
         Ok(Some(trail)) => Ok(Found::Unproved(trail)),
+        Err(error) => Err(error),
+    }
+}
+
+/// The logs of obligations, or the trail of one that has none. An obligation that is easily refuted
+/// is found before any search.
+pub(crate) fn search(
+    alloc: Global,
+    bank: &mut Bank,
+    goals: &[TermId],
+    runs: &[Run],
+) -> Result<Found, AllocError>
+    requires { All (λ goal. goal < length bank.old) goals.now }
+    ensures { AreTruths (map (tree_at bank.old) goals.now) → IfOk result (IsSearched
+        (runs_of runs.now) (map (tree_at bank.old) goals.now)) }
+{
+    match refuted(alloc, bank, goals, runs) {
+        Ok(None) => search_each(alloc, bank, goals, runs),
+        Ok(Some(refutation)) => Ok(Found::Unproved(refutation)),
         Err(error) => Err(error),
     }
 }

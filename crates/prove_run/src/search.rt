@@ -66,8 +66,9 @@ fn add_found(alloc: Global, listed: &[Listed<'_>], all: &mut Vec<Found>) -> Resu
 }
 
 /// What the search finds of each listed function, in their order: the logs of its obligations, or
-/// the trail of the first obligation that has none. Each function has a bank of its own, and each
-/// obligation a search that learns at most [`SEARCH_LIMIT`](trail_spec::SEARCH_LIMIT) clauses.
+/// the trail of an obligation that has none: of the first that a few assignments refute, or else of
+/// the first whose search finds none. Each function has a bank of its own, and each obligation a
+/// search that learns at most [`SEARCH_LIMIT`](trail_spec::SEARCH_LIMIT) clauses.
 pub fn prove(alloc: Global, listed: &[Listed<'_>]) -> Result<Vec<Found>, AllocError>
     ensures found { (functions : List spec.Listed) → AreListed listed.now functions
         → All HasTruths functions
