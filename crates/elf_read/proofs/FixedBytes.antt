@@ -1,16 +1,18 @@
 -- The fixed byte at an address, of segments in another order.
-use Rattle.std.proofs.Common.{◌≡◌, ◌+◌, ◌-◌, ◌<◌, ◌≤◌, ◌++◌, ◌∙◌, ◌≢◌, ℕ, zero, suc, Bool, true, false, nat_le, List, [], ◌∷◌, All, Option, Some, None, length, map, ap, sym, refl, arith, subst, if◌then◌else◌, slice_get, get_or, IsSome}
+use Rattle.std.proofs.Common.{◌≡◌, ◌+◌, ◌-◌, ◌<◌, ◌≤◌, ◌∙◌, ◌≢◌, ◌==◌, ◌&&◌, ℕ, zero, suc, Bool, true, false, nat_le, List, [], ◌∷◌, Contains, not, true≢false, Option, Some, None, length, map, ap, sym, refl, arith, subst, if◌then◌else◌, slice_get, get_or, IsSome}
 use Rattle.std.specs.Option.{option_or}
 use Rattle.std.specs.List.{AllWithin}
 use Rattle.std.proofs.lemmas.Bool.{leb-true, le-leb}
+use Rattle.std.proofs.lemmas.List.{get_or_default}
+use Rattle.std.proofs.lemmas.List.Elements.{Contains-append_right}
 use Rattle.std.proofs.lemmas.Option.{slice_get_within, slice_get-get_or}
 use Rattle.elf_spec.specs.Image.{fixed_among, is_fixed, byte_in}
 use Rattle.elf_read.specs.declared.parts.Segment.{Segment}
 use Rattle.elf_read.specs.Values.{segment_of}
 use Rattle.elf_read.specs.Separate.{Covers, IsApart}
-use Rattle.elf_read.specs.Fixed.{AreInOrder}
+use Rattle.elf_read.specs.Fixed.{AreInOrder, has_fixed_bytes}
 use Rattle.elf_read.specs.Extents.{IsCovered}
-use Rattle.elf_read.proofs.Inserted.{all_head, all_tail}
+use Rattle.elf_read.proofs.Moved.{Each}
 
 -- the byte that one segment fixes
 abbrev pub byte_of : Segment → ℕ → Option ℕ
@@ -31,38 +33,9 @@ covers_when s address byte true true e h = record {
 pub byte_covers : (s : Segment) (address byte : ℕ) → byte_of s address ≡ Some byte → Covers (segment_of s) address
 byte_covers s address byte h = covers_when s address byte (is_fixed (segment_of s)) (nat_le s.vaddr address) refl h
 
--- of two that aren't both there, either may come first
-swapped : {X : Type 0} (one two rest : Option X) → ((x y : X) → one ≡ Some x → two ≡ Some y → ⊥)
-    → option_or one (option_or two rest) ≡ option_or two (option_or one rest)
-swapped None two rest apart = refl
-swapped (Some x) None rest apart = refl
-swapped (Some x) (Some y) rest apart = absurd (apart x y refl refl)
-
--- a segment that is apart from those before it may come first
-pub among_insert : (xs ys : List Segment) (p : Segment) (address : ℕ) → All (λ s. IsApart (segment_of s) (segment_of p)) xs
-    → among (xs ++ p ∷ ys) address ≡ option_or (byte_of p address) (among (xs ++ ys) address)
-among_insert [] ys p address apart = refl
-among_insert (x ∷ xs) ys p address apart =
-    ap (λ o. option_or (byte_of x address) o) (among_insert xs ys p address (all_tail (λ s. IsApart (segment_of s) (segment_of p)) x xs apart))
-    ∙ swapped (byte_of x address) (byte_of p address) (among (xs ++ ys) address)
-    (λ a b e f.
-    (all_head (λ s. IsApart (segment_of s) (segment_of p)) x xs apart).apart address (byte_covers x address a e) (byte_covers p address b f))
-
 none_when : {X : Type 0} (o : Option X) → ((x : X) → o ≡ Some x → ⊥) → o ≡ None
 none_when None h = refl
 none_when (Some x) h = absurd (h x refl)
-
--- where a segment apart from all others has a byte, they have none
-pub among_none : (xs : List Segment) (p : Segment) (address byte : ℕ) → All (λ s. IsApart (segment_of s) (segment_of p)) xs
-    → byte_of p address ≡ Some byte → among xs address ≡ None
-among_none [] p address byte apart h = refl
-among_none (x ∷ xs) p address byte apart h =
-    let here : byte_of x address ≡ None =
-    none_when (byte_of x address)
-    (λ b e.
-    (all_head (λ s. IsApart (segment_of s) (segment_of p)) x xs apart).apart address (byte_covers x address b e) (byte_covers p address byte h)) in
-    ap (λ o. option_or o (among xs address)) here
-    ∙ among_none xs p address byte (all_tail (λ s. IsApart (segment_of s) (segment_of p)) x xs apart) h
 
 among_all_none : (xs : List Segment) (address : ℕ) → ((k : ℕ) (d : Segment) → k < length xs → byte_of (get_or xs k d) address ≡ None)
     → among xs address ≡ None
@@ -89,6 +62,46 @@ among_only (x ∷ xs) (suc k) d address h others =
 
 not_covered : (s : Segment) (address : ℕ) → (Covers (segment_of s) address → ⊥) → byte_of s address ≡ None
 not_covered s address outside = none_when (byte_of s address) (λ b e. outside (byte_covers s address b e))
+
+-- a segment without fixed bytes has none at any address
+pub no_byte : (s : Segment) (address : ℕ) → has_fixed_bytes s ≡ false → byte_of s address ≡ None
+no_byte s address left_out =
+    none_when (byte_of s address)
+    (λ b e.
+    let c = byte_covers s address b e in
+    true≢false (sym (kept_when (is_fixed (segment_of s)) (byte_in (segment_of s) address) b e (omega (arith, c.from, c.below))) ∙ left_out))
+  where
+    kept_when : (fixed : Bool) (o : Option ℕ) (b : ℕ) → (if fixed then o else None) ≡ Some b → 0 < length s.bytes.now
+        → (fixed && not (length s.bytes.now == 0)) ≡ true
+    kept_when true o b e some = grind arith
+    kept_when false o b e some = absurd cc
+
+-- of segments that are apart, the byte is that of one that has a byte there
+pub among_at : (xs : List Segment) (s : Segment) (address byte : ℕ) → Each (λ x y. IsApart (segment_of x) (segment_of y)) xs → Contains xs s
+    → byte_of s address ≡ Some byte → among xs address ≡ Some byte
+among_at xs s address byte each within e =
+    let k = within.0 in
+    let here : byte_of (get_or xs k s) address ≡ Some byte = ap (λ x. byte_of x address) within.2 ∙ e in
+    among_only xs k s address within.1
+    (λ j d other h.
+    not_covered (get_or xs j d) address
+    (λ c.
+    (each k j d (λ same. other (sym same)) within.1 h).apart address
+    (subst (λ x. Covers (segment_of x) address) (get_or_default xs k s d within.1) (byte_covers (get_or xs k s) address byte here)) c))
+    ∙ here
+
+-- and it is the byte of one of them
+pub among_from : (xs : List Segment) (address byte : ℕ) → among xs address ≡ Some byte
+    → (s : Segment) × Contains xs s × (byte_of s address ≡ Some byte)
+among_from [] address byte e = absurd cc
+among_from (x ∷ xs) address byte e = from_with (byte_of x address) refl e (λ there. among_from xs address byte there)
+  where
+    from_with : (o : Option ℕ) → byte_of x address ≡ o → option_or o (among xs address) ≡ Some byte
+        → (among xs address ≡ Some byte → (s : Segment) × Contains xs s × (byte_of s address ≡ Some byte))
+        → (s : Segment) × Contains (x ∷ xs) s × (byte_of s address ≡ Some byte)
+    from_with None here there later =
+        let rest = later there in (rest.0, Contains-append_right (x ∷ []) xs rest.0 rest.1, rest.2)
+    from_with (Some b) here there later = (x, (0, omega arith, refl), here ∙ there)
 
 -- before all segments there is no byte
 pub byte_before : (fixed : List Segment) (address : ℕ) → AllWithin (λ s. address < s.vaddr) fixed 0 (length fixed) → among fixed address ≡ None

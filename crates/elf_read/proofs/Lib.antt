@@ -1,12 +1,14 @@
 mod Tables
 mod Rising
 mod Loads
+mod Disjoint
+mod Overlaps
 mod ZeroPlaces
 mod Defined
 mod Order
 mod Accepted
 mod Halves
-mod Inserted
+mod Moved
 mod FixedBytes
 mod FixedOrder
 mod ExtentSteps

@@ -1,6 +1,5 @@
 -- The PT_LOAD headers of a file, collected in order, and their first faults.
-use Rattle.std.proofs.Common.{◌≡◌, ◌==◌, Bool, below_more, ◌+◌, ◌*◌, ◌-◌, ◌<◌, ◌≤◌, ◌++◌, ℕ, List, [], ◌∷◌, All, Contains, filter, length, get_or, take, true, false, arith, subst, sym, ap, ◌∙◌, append_assoc}
-use Rattle.std.proofs.lemmas.List.{get_or_default, get_or-take, length-take}
+use Rattle.std.proofs.Common.{◌≡◌, ◌==◌, Bool, below_more, ◌+◌, ◌*◌, ◌-◌, ◌<◌, ◌≤◌, ◌++◌, ℕ, List, [], ◌∷◌, All, Contains, filter, length, get_or, true, false, arith, subst, sym, ap, ◌∙◌, append_assoc}
 use Rattle.std.proofs.lemmas.List.Elements.{All-push}
 use Rattle.elf_spec.specs.declared.ElfKind.TheVariants.{SegmentRange, SegmentOverlap}
 use Rattle.elf_spec.specs.File as spec
@@ -79,37 +78,26 @@ apart_from_earlier bytes loads k rising h each earlier within below =
     of_lower (λ place. spec.AreApart bytes place (get_or loads k 0)) loads k rising h each earlier within below
 
 -- the first header that meets an earlier one is the first overlap
-pub overlap_first : (bytes loads : List ℕ) (i : ℕ) → loads ≡ spec.loads bytes → IsRising loads → i < length loads
-    → AreApartBelow bytes loads i
-    → (place : ℕ) × Contains (take i loads) place × (spec.AreApart bytes place (get_or loads i 0) → ⊥)
+pub overlap_first : (bytes loads : List ℕ) (i j : ℕ) → loads ≡ spec.loads bytes → IsRising loads → i < length loads
+    → AreApartBelow bytes loads i → j < i → (spec.AreApart bytes (get_or loads j 0) (get_or loads i 0) → ⊥)
     → IsFirstOfKind bytes SegmentOverlap (get_or loads i 0)
-overlap_first bytes loads i e rising h each met =
-    let at = get_or loads i 0 in
-    let place = met.0 in
-    let j = met.1.0 in
-    let short : length (take i loads) ≤ i = omega (arith, length-take i loads) in
-    let lower : j < i = omega (arith, met.1.1) in
-    let there : get_or loads j place ≡ place = sym (get_or-take i loads j place lower) ∙ met.1.2 in
-    let within : Contains loads place = (j, omega arith, there) in
-    let first : get_or loads j 0 ≡ place = get_or_default loads j 0 place (omega arith) ∙ there in
-    let rises : get_or loads j 0 < at = rising j i lower h in
-    let before_at : place < at = omega arith in
-    record {
-      fault = λ kept. met.2 (kept (subst (λ xs. Contains xs at) e (contains_at loads i h)) place (subst (λ xs. Contains xs place) e within) before_at);
-      lowest =
-          λ before below inside earlier among less.
-          of_lower (λ b. (x : ℕ) → Contains loads x → x < b → spec.AreApart bytes x b) loads i rising h
-          (λ k w. apart_from_earlier bytes loads k rising (omega arith) (λ n less_k. each n k less_k w)) before
-          (subst (λ xs. Contains xs before) (sym e) inside) below earlier (subst (λ xs. Contains xs earlier) (sym e) among) less;
-    }
+overlap_first bytes loads i j e rising h each less met = record {
+  fault =
+      λ kept.
+      met
+      (kept (subst (λ xs. Contains xs (get_or loads i 0)) e (contains_at loads i h)) (get_or loads j 0)
+      (subst (λ xs. Contains xs (get_or loads j 0)) e (contains_at loads j (omega arith))) (rising j i less h));
+  lowest =
+      λ before below inside earlier among lower.
+      of_lower (λ b. (x : ℕ) → Contains loads x → x < b → spec.AreApart bytes x b) loads i rising h
+      (λ k w. apart_from_earlier bytes loads k rising (omega arith) (λ n less_k. each n k less_k w)) before
+      (subst (λ xs. Contains xs before) (sym e) inside) below earlier (subst (λ xs. Contains xs earlier) (sym e) among) lower;
+}
 
-pub apart_below_more : (bytes loads : List ℕ) (i : ℕ) → i < length loads → AreApartBelow bytes loads i
-    → All (λ place. spec.AreApart bytes place (get_or loads i 0)) (take i loads) → AreApartBelow bytes loads (i + 1)
-apart_below_more bytes loads i h each here j k less within =
-    below_more (λ n. (m : ℕ) → m < n → spec.AreApart bytes (get_or loads m 0) (get_or loads n 0)) i (λ n w m l. each m n l w)
-    (λ m l.
-    subst (λ x. spec.AreApart bytes x (get_or loads i 0)) (get_or-take i loads m 0 l)
-    (here m 0 (omega (arith, length-take i loads)))) k within j less
+pub apart_below_more : (bytes loads : List ℕ) (i : ℕ) → AreApartBelow bytes loads i
+    → ((j : ℕ) → j < i → spec.AreApart bytes (get_or loads j 0) (get_or loads i 0)) → AreApartBelow bytes loads (i + 1)
+apart_below_more bytes loads i each here j k less within =
+    below_more (λ n. (m : ℕ) → m < n → spec.AreApart bytes (get_or loads m 0) (get_or loads n 0)) i (λ n w m l. each m n l w) here k within j less
 
 -- where all headers are apart there is no overlap
 pub no_overlap : (bytes loads : List ℕ) → loads ≡ spec.loads bytes → IsRising loads → AreApartBelow bytes loads (length loads)

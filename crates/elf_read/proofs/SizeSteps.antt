@@ -20,7 +20,7 @@ size_step symbols at entry d some h =
     ap (λ xs. spec.size_among (map symbol_of xs) entry)
     (drop-cons symbols (at - 1) d (omega arith) ∙ ap (λ n. get_or symbols (at - 1) d ∷ drop n symbols) next)
 
-same_test : (x y : ℕ) (o : Ordering) → MatchOrdering o (x < y) (x ≡ y) (y < x) → is_eq o ≡ (x == y)
+pub same_test : (x y : ℕ) (o : Ordering) → MatchOrdering o (x < y) (x ≡ y) (y < x) → is_eq o ≡ (x == y)
 same_test x y Less h = sym (ne_eqb x y (λ e. omega arith))
 same_test x y Equal h = sym (eq-eqb x y h)
 same_test x y Greater h = sym (ne_eqb x y (λ e. omega arith))

@@ -1,8 +1,12 @@
 -- The fixed segments of an image in the order of their addresses.
-use Rattle.std.specs.Prelude.{◌≡◌, ◌+◌, ◌^◌, ◌<◌, ◌≤◌, ℕ, true, List, length, map, All, AllPairs}
+use Rattle.std.specs.Prelude.{◌≡◌, ◌+◌, ◌^◌, ◌<◌, ◌≤◌, ℕ, Bool, true, not, ◌==◌, ◌&&◌, List, length, map, All, AllPairs}
 use Rattle.elf_spec.specs.Image.{fixed_among, is_fixed}
 use Rattle.elf_read.specs.declared.parts.Segment.{Segment}
 use Rattle.elf_read.specs.Values.{segment_of}
+
+-- a segment has bytes, and nothing may write them
+abbrev pub has_fixed_bytes : Segment → Bool
+has_fixed_bytes s = is_fixed (segment_of s) && not (length s.bytes.now == 0)
 
 -- these segments are fixed, have bytes below 2^32, and come one after the other in memory
 pub record AreInOrder (fixed : List Segment) : Type 0 where

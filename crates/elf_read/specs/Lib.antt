@@ -1,5 +1,6 @@
 pub mod Refusal
 pub mod Faults
+pub mod ByStart
 pub mod Values
 pub mod Indexed
 pub mod Offsets

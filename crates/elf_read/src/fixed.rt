@@ -43,10 +43,10 @@ pub(crate) fn fixed_segments<'a>(
     let mut fixed = Vec::new(alloc);
     for segment in segments {
         if segment.has_fixed_bytes() {
-            let place = place_of(fixed.as_slice(), segment.vaddr);
-            fixed.insert(place, *segment)?;
+            fixed.push(*segment)?;
         }
     }
+    fixed.sort_unstable_by_key(|segment| segment.vaddr);
     Ok(fixed)
 }
 

@@ -175,6 +175,7 @@ impl<'a> Image<'a> {
     }
 }
 
+ghost use Rattle.elf_read.specs.Fixed as fixed;
 ghost use Rattle.elf_read.specs.Values as values;
 
 impl<'a> Symbol<'a> {
@@ -189,11 +190,7 @@ impl<'a> Symbol<'a> {
 impl<'a> Segment<'a> {
     /// It has bytes, and nothing may write them: it is without the flag `PF_W`.
     pub(crate) fn has_fixed_bytes(&self) -> bool
-        ensures unwritable { OnTrue result (spec.is_fixed (values.segment_of self.now) ≡ true) }
-        ensures full { OnTrue result (0 < length self.now.bytes.now) }
-        ensures none { OnFalse result ((address : ℕ)
-            → (if spec.is_fixed (values.segment_of self.now) then spec.byte_in
-            (values.segment_of self.now) address else None) ≡ None) }
+        ensures { result ≡ fixed.has_fixed_bytes self.now }
     {
         self.flags / PF_W % 2 == 0 && !self.bytes.is_empty()
     }

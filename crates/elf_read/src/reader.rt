@@ -62,7 +62,7 @@ pub fn read<'a>(alloc: Global, bytes: &'a [u8]) -> Result<Image<'a>, ElfError>
 {
     check_header(bytes)?;
     let loads = loads(alloc, bytes)?;
-    check_loads(bytes, loads.as_slice())?;
+    check_loads(alloc, bytes, loads.as_slice())?;
     let table = check_table(bytes)?;
     let strings = Strings::new(alloc, strings(bytes, table))?;
     check_names(bytes, table, &strings)?;
@@ -72,25 +72,25 @@ pub fn read<'a>(alloc: Global, bytes: &'a [u8]) -> Result<Image<'a>, ElfError>
 }
 
 /// Refuses a file for the first fault of its segments.
-fn check_loads(bytes: &[u8], loads: &[usize]) -> Result<(), ElfFault>
+fn check_loads(alloc: Global, bytes: &[u8], loads: &[usize]) -> Result<(), ElfError>
     requires below { KeepsBelow bytes.now (spec.rank ElfKind.SegmentRange) }
     requires loads { loads.now ≡ spec.loads bytes.now }
     requires inside { All (λ at. at + PHDR_SIZE ≤ length bytes.now) loads.now }
     requires rising { IsRising loads.now }
     ensures kept { OnOk result (KeepsBelow bytes.now (spec.rank ElfKind.NoSymbols)) }
-    ensures refused { IfErr result (λ fault. spec.IsRefusedFile bytes.now fault.kind fault.offset) }
+    ensures refused { IfErr result (λ error. IsRefusal bytes.now error) }
 {
     if let Some(offset) = range_fault(bytes, loads) {
-        return Err(ElfFault {
+        return Err(ElfError::Fault(ElfFault {
             kind: ElfKind::SegmentRange,
             offset,
-        });
+        }));
     }
-    if let Some(offset) = overlap_fault(bytes, loads) {
-        return Err(ElfFault {
+    if let Some(offset) = overlap_fault(alloc, bytes, loads)? {
+        return Err(ElfError::Fault(ElfFault {
             kind: ElfKind::SegmentOverlap,
             offset,
-        });
+        }));
     }
     Ok(())
 }

@@ -1,9 +1,12 @@
 //! The program headers of type `PT_LOAD`, and their faults.
 
 ghost use Rattle.std.specs.Prelude.{◌≡◌, ◌+◌, ◌*◌, ◌≤◌, ◌<◌, ◌↔◌, ℕ, length, take, drop, map, All};
-ghost use Rattle.std.specs.Prelude.{Contains, IfOk, IsTrue};
+ghost use Rattle.std.specs.Prelude.{Some, IfOk, IsTrue};
 ghost use Rattle.std.specs.Bool.{OnTrue, OnFalse};
+ghost use Rattle.std.specs.Ordering.{nat_cmp};
+ghost use Rattle.std.specs.BTreeMap.{get};
 ghost use Rattle.elf_spec.specs.File as spec;
+ghost use Rattle.elf_read.specs.ByStart.{AreByStart};
 ghost use Rattle.elf_read.specs.Faults.{IsFirst};
 ghost use Rattle.elf_read.specs.Offsets.{IsRising};
 ghost use Rattle.elf_read.specs.Values.{segment_of};
@@ -16,6 +19,7 @@ use elf_spec::fields::{
     E_PHNUM, E_PHOFF, EHDR_SIZE, P_FILESZ, P_FLAGS, P_MEMSZ, P_OFFSET, P_VADDR, PHDR_SIZE, PT_LOAD,
 };
 use std::alloc::{AllocError, Global};
+use std::collections::BTreeMap;
 
 /// The offsets of the program headers of type `PT_LOAD`, in order.
 pub(crate) fn loads(alloc: Global, bytes: &[u8]) -> Result<Vec<usize>, AllocError>
@@ -80,34 +84,46 @@ fn are_apart(bytes: &[u8], first: usize, second: usize) -> bool
     first_start.max(second_start) >= first_end.min(second_end)
 }
 
-/// The memory of a program header shares an address with that of one of several.
-fn meets_any(bytes: &[u8], earlier: &[usize], at: usize) -> bool
+/// The memory of a program header shares an address with that of one of several, which lie apart:
+/// then with that of the last one that begins below its end.
+fn meets_any(bytes: &[u8], headers: &BTreeMap<usize, usize>, at: usize) -> bool
     requires inside { at + PHDR_SIZE ≤ length bytes.now }
-    requires earlier { All (λ place. place + PHDR_SIZE ≤ length bytes.now) earlier.now }
-    ensures meets { OnTrue result ((place : ℕ) × Contains earlier.now place
+    requires by_start { AreByStart bytes.now headers.now }
+    ensures meets { OnTrue result ((start place : ℕ) × (get nat_cmp headers.now start ≡ Some place)
         × (spec.AreApart bytes.now place at → ⊥)) }
-    ensures apart { OnFalse result (All (λ place. spec.AreApart bytes.now place at) earlier.now) }
+    ensures apart { OnFalse result ((start place : ℕ)
+        → get nat_cmp headers.now start ≡ Some place → spec.AreApart bytes.now place at) }
 {
-    for place in earlier {
-        if !are_apart(bytes, *place, at) {
-            return true;
-        }
+    let start = u32_at(bytes, at + P_VADDR) as usize;
+    let end = start + u32_at(bytes, at + P_MEMSZ) as usize;
+    match headers.range(..end).next_back() {
+        Some((_, place)) => !are_apart(bytes, *place, at),
+        None => false,
     }
-    false
 }
 
-pub(crate) fn overlap_fault(bytes: &[u8], loads: &[usize]) -> Option<usize>
+/// The first program header whose memory shares an address with that of an earlier one.
+pub(crate) fn overlap_fault(
+    alloc: Global,
+    bytes: &[u8],
+    loads: &[usize],
+) -> Result<Option<usize>, AllocError>
     requires loads { loads.now ≡ spec.loads bytes.now }
     requires inside { All (λ at. at + PHDR_SIZE ≤ length bytes.now) loads.now }
     requires rising { IsRising loads.now }
-    ensures { IsFirst bytes.now ElfKind.SegmentOverlap result }
+    ensures { IfOk result (λ at. IsFirst bytes.now ElfKind.SegmentOverlap at) }
 {
-    for (i, at) in loads.iter().enumerate() {
-        if meets_any(bytes, &loads[..i], *at) {
-            return Some(*at);
+    // Those so far whose memory isn't empty, by its start.
+    let mut headers = BTreeMap::new(alloc);
+    for at in loads {
+        if meets_any(bytes, &headers, *at) {
+            return Ok(Some(*at));
+        }
+        if u32_at(bytes, *at + P_MEMSZ) > 0 {
+            headers.insert(u32_at(bytes, *at + P_VADDR) as usize, *at)?;
         }
     }
-    None
+    Ok(None)
 }
 
 /// The segments of `PT_LOAD` headers, in order.

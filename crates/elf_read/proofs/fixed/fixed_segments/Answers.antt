@@ -1,20 +1,13 @@
-use Rattle.std.proofs.Common.{refl}
-use Rattle.elf_read.proofs.FixedOrder.{fixed_inserted, fixed_passed, starts_rise}
+use Rattle.std.proofs.Common.{◌∙◌, IsPermutation, ap, arith, filter, rules, subst}
+use Rattle.std.proofs.lemmas.List.{take_all}
+use Rattle.std.proofs.lemmas.List.Sorted.{IsNonDecreasingBy-from_sort_by_key}
+use Rattle.elf_read.specs.Fixed.{has_fixed_bytes}
+use Rattle.elf_read.proofs.FixedOrder.{are_fixed}
 use Rattle.elf_read.proofs.fixed.fixed_segments.Goals as goal
-use Rattle.elf_read.proofs.fixed.fixed_segments.Goals.{then-has_fixed_bytes+in_ok-insert, else-has_fixed_bytes}
 
-pub place_of-place-requires : goal.place_of-place-requires
-place_of-place-requires c = rw c.as_slice.ensures.value (starts_rise c.loop-segment.fixed.items c.loop-segment.invariant.in_order)
-
-pub loop-segment-preserved : goal.loop-segment-preserved
-loop-segment-preserved c =
-    elim c.if-has_fixed_bytes.branch [
-      | then-has_fixed_bytes+in_ok-insert w ↦
-          let place = w.place_of-place.ensures in
-          rw (w.fixed-is, w.in_ok-insert.ensures.items)
-          (fixed_inserted _ _ _ _ _ _ c.requires c.loop-segment.invariant c.loop-segment-test.true refl
-          w.if-has_fixed_bytes.ensures.unwritable w.if-has_fixed_bytes.ensures.full
-          (rw w.as_slice.ensures.value at place.bound) (rw w.as_slice.ensures.value at place.below) (rw w.as_slice.ensures.value at place.above))
-      | else-has_fixed_bytes w ↦
-          rw w.fixed-is (fixed_passed _ _ _ _ _ c.loop-segment.invariant c.loop-segment-test.true refl w.if-has_fixed_bytes.ensures.none)
-    ]
+pub returns : goal.returns
+returns c =
+    are_fixed _ _ c.requires
+    (subst (λ xs. IsPermutation xs c.sort_unstable_by_key.new.self.items)
+    (c.loop-segment.invariant ∙ ap (λ xs. filter has_fixed_bytes xs) (take_all c.loop-segment.segment-index c.args.segments.now (omega arith))) c.sort_unstable_by_key.ensures.permutation)
+    (IsNonDecreasingBy-from_sort_by_key (λ s. s.vaddr) _ c.sort_unstable_by_key.ensures.sorted (λ a r q k. search rules))
