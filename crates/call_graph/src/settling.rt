@@ -92,7 +92,8 @@ fn known_depths(
 }
 
 /// How deep the calls of each node go: its own depth, and the greatest of what it calls. A node from
-/// which a cycle is reached has none; another one has one, unless it is above 2^64.
+/// which a cycle is reached has none. Another node may have none too, as where its depth is 2^64 or
+/// more: [`crate::is_cyclic`] answers for it, in more time.
 pub fn depths(
     alloc: Global,
     graph: &[Vec<usize>],

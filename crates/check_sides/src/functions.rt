@@ -2,7 +2,6 @@
 
 ghost use Rattle.std.specs.Prelude.{◌≡◌, ◌<◌, ◌^◌, [], length, IfOk, IsSome, OnOk};
 ghost use Rattle.std.specs.List.Sorted.{IsStrictlyIncreasing};
-ghost use Rattle.decompile.specs.Answer.{number_in};
 ghost use Rattle.c_graph_spec.specs.SourceGraph.{body_number};
 ghost use Rattle.c_types.specs.Typed.{typed_of};
 ghost use Rattle.c_reach.specs.Names.{texts_of};
@@ -12,19 +11,9 @@ ghost use Rattle.check_sides.specs.Entries.{AreEntriesFor, AreReady, IsEntryFor}
 use attempt::attempt;
 use c_types::typed::Typed;
 use check_setup::{Entry, File, Numbers};
+use decompile::graph_number;
 use pair_setup::{Function, Pairs};
 use std::alloc::{AllocError, Global};
-
-/// The number of the graph of the function at an entry: its index among the entries.
-fn graph_number(entries: &[u32], entry: u32) -> usize
-    requires { IsStrictlyIncreasing entries.now }
-    ensures { result ≡ number_in entries.now entry }
-{
-    match entries.binary_search(&entry) {
-        Ok(index) => index,
-        Err(_) => entries.len(),
-    }
-}
 
 /// The number of the graph of a function of the source: the index of its body.
 #[tactic(auto, using(c_graph::proofs::Numbers::numbers))]

@@ -11,5 +11,5 @@ mod Overlaps
 mod Reached
 mod Deepest
 mod Search
-mod Acyclic
+pub mod Acyclic
 mod Shallow

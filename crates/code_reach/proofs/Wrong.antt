@@ -1,6 +1,7 @@
 -- What is wrong with an instruction, as a relation and as a function.
 use Rattle.std.proofs.Common.{◌≡◌, ℕ, Bool, true, false, cond, List, [], ◌∷◌, refl, sym, ◌∙◌, ap, subst, inl, inr, arith}
 use Rattle.std.specs.Prelude.{Contains, Option, Some, None, is_some, option_and_then, ◌&&◌}
+use Rattle.std.proofs.lemmas.Bool.{and_parts}
 use Rattle.std.proofs.lemmas.List.Elements.{Contains-append_cases, Contains-append_right}
 use Rattle.rv_instr.specs.declared.Instr.{Instr}
 use Rattle.elf_spec.specs.Image.{Image, size_at}
@@ -13,10 +14,6 @@ use Rattle.code_spec.specs.Faults.{direct_flow, is_indirect, goes_to, IsInstruct
 use Rattle.code_reach.specs.Flows.{in_range, stays, open_fault, flow_fault, fault_of, fault_at}
 use Rattle.code_reach.proofs.Growing.{none_contained, only_contained, in-range, out-range}
 
-both_true : (a b : Bool) → (a && b) ≡ true → (a ≡ true) × (b ≡ true)
-both_true true b e = (refl, e)
-both_true false b e = absurd (cc)
-
 -- no word without fixed bytes
 pub unfixed : (image : Image) (entry size address : ℕ) → word_at image address ≡ None → fault_at image entry size address ≡ Some Undecoded
 unfolding fault_at instr_at
@@ -26,8 +23,8 @@ module _ (image : Image) (entry size address : ℕ) where
   stays-each : (ts : List ℕ) (t : ℕ) → stays entry size ts ≡ true → Contains ts t → InRange entry size t
   stays-each [] t e among = absurd (none_contained t among)
   stays-each (x ∷ ts) t e among = elim (Contains-append_cases (x ∷ []) ts t among) [
-    | inl first ↦ subst (λ z. InRange entry size z) (sym (only_contained x t first)) (in-range entry size x (both_true (in_range entry size x) (stays entry size ts) e).0)
-    | inr rest ↦ stays-each ts t (both_true (in_range entry size x) (stays entry size ts) e).1 rest
+    | inl first ↦ subst (λ z. InRange entry size z) (sym (only_contained x t first)) (in-range entry size x (and_parts (in_range entry size x) (stays entry size ts) e).0)
+    | inr rest ↦ stays-each ts t (and_parts (in_range entry size x) (stays entry size ts) e).1 rest
   ]
 
   stays-not : (ts : List ℕ) (t : ℕ) → Contains ts t → (InRange entry size t → ⊥) → stays entry size ts ≡ false

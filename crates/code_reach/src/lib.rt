@@ -21,5 +21,5 @@ pub use faults::{CodeError, CodeFault};
 pub use flows::instruction_at;
 pub use listing::code;
 pub use range::range_fault;
-pub use stacks::stack;
+pub use stacks::{lowering, stack};
 pub use survey::reach;

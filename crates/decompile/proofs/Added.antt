@@ -1,5 +1,5 @@
 -- Nodes that are added one after the other are those of an instruction.
-use Rattle.std.proofs.Common.{◌≡◌, ◌≢◌, ◌∙◌, ℕ, ◌+◌, ◌%◌, ◌==◌, Bool, true, false, cond, if◌then◌else◌, refl, sym, ap, subst, arith, List, [], ◌∷◌, ◌++◌, None, ℤ}
+use Rattle.std.proofs.Common.{◌≡◌, ◌≢◌, ◌∙◌, ℕ, ◌+◌, ◌%◌, ◌==◌, Bool, true, false, cond, if◌then◌else◌, refl, sym, ap, subst, List, [], ◌∷◌, ◌++◌, None, ℤ}
 use Rattle.std.proofs.lemmas.Bool.{ne_eqb}
 use Rattle.rv_instr.specs.declared.Instr.{Instr}
 use Rattle.rv_instr.specs.declared.Instr.TheVariants.{Jalr}
@@ -10,7 +10,7 @@ use Rattle.graph_spec.specs.declared.Next.{Next}
 use Rattle.graph_spec.specs.declared.Next.TheVariants as next
 use Rattle.graph_spec.specs.Graph.{Binding, Node, Basic, Cond, Call, Graph, with_nodes}
 use Rattle.code_graph_spec.specs.InstructionTerms.{access_tests, returns_home, effects, branch_test}
-use Rattle.code_graph_spec.specs.Blocks.{Of, Following, call_nodes, Setting, leaves, toward, call_inputs}
+use Rattle.code_graph_spec.specs.Blocks.{Following, call_nodes, Setting, toward, call_inputs}
 use Rattle.code_graph_laws.specs.Layout.{Item, block, blocks}
 use Rattle.decompile.specs.Items.{is_return_flow}
 use Rattle.decompile.specs.Settings.{asks, Stays}

@@ -1,5 +1,5 @@
 -- What is answered of a function whose instructions and runs were read.
-use Rattle.std.proofs.Common.{◌≡◌, ℕ, ◌<◌, ◌≤◌, refl, arith, List, All, Some, length, map}
+use Rattle.std.proofs.Common.{◌≡◌, ℕ, refl, arith, List, All, Some, length, map}
 use Rattle.std.specs.Prelude.{Contains}
 use Rattle.elf_spec.specs.Image.{Image, size_at}
 use Rattle.elf_read.specs.declared.parts.Extent.{Extent}

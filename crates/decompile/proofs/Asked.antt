@@ -4,7 +4,7 @@ use Rattle.std.proofs.lemmas.List.{append_assoc, append-nil}
 use Rattle.term_spec.specs.Term.{Term}
 use Rattle.graph_spec.specs.declared.Next.TheVariants as next
 use Rattle.graph_spec.specs.Graph.{Node, Cond, Graph, with_nodes}
-use Rattle.code_graph_spec.specs.Blocks.{Of, Setting, Does, onward, chain}
+use Rattle.code_graph_spec.specs.Blocks.{Of, Setting, Does, chain}
 use Rattle.decompile.specs.Settings.{asks}
 
 abbrev pub ask : Setting → (address index : ℕ) → Term → Node

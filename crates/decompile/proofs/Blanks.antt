@@ -1,18 +1,17 @@
 -- A graph has the addresses of the runs of fixed bytes, and not the bytes.
-use Rattle.std.proofs.Common.{◌≡◌, ◌∙◌, ℕ, ◌+◌, ◌-◌, ◌%◌, ◌==◌, Bool, true, false, cond, refl, sym, ap, arith, List, [], ◌∷◌, ◌++◌, length, map, Option, Some, None, ℤ}
-use Rattle.std.proofs.lemmas.List.{length-map, length-replicate}
+use Rattle.std.proofs.Common.{◌≡◌, ◌∙◌, ℕ, ◌+◌, ◌-◌, refl, ap, List, [], ◌∷◌, ◌++◌, length, map, Option}
+use Rattle.std.proofs.lemmas.List.{length-replicate}
 use Rattle.rv_instr.specs.declared.Instr.{Instr}
 use Rattle.rv_instr.specs.declared.Instr.TheVariants as instr
-use Rattle.rv_instr.specs.declared.StoreKind.{StoreKind}
 use Rattle.memory_spec.specs.Runs.{Run}
 use Rattle.code_spec.specs.Code.{Flow, Falls, Branches, Jumps, Calls, Links, Returns, Stops}
 use Rattle.term_spec.specs.Term.{Term, or_term, less}
 use Rattle.graph_spec.specs.declared.Next.{Next}
 use Rattle.graph_spec.specs.declared.Next.TheVariants as next
-use Rattle.graph_spec.specs.Graph.{Node, Basic, Cond, Graph}
+use Rattle.graph_spec.specs.Graph.{Node, Basic, Graph}
 use Rattle.code_graph_spec.specs.InstructionTerms.{number, avoids, access_tests, address, aligned_for, last_written}
 use Rattle.code_graph_spec.specs.Blocks.{Of, Setting, Ending, Does, Goes, onward, toward, chain, tests_of, ending_of, nodes_at, landing_of}
-use Rattle.code_graph_laws.specs.Layout.{Item, block, blocks, laid, landing_node, AreNumbered}
+use Rattle.code_graph_laws.specs.Layout.{Item, block, blocks, laid, landing_node}
 use Rattle.decompile.specs.Settings.{blanked}
 
 avoids_blank : (a e : Term) (run : Run) → avoids a e (blanked run) ≡ avoids a e run

@@ -1,16 +1,14 @@
 -- The instructions of a function from its words.
-use Rattle.std.proofs.Common.{◌≡◌, ◌∙◌, ℕ, zero, suc, ◌+◌, ◌<◌, Bool, true, refl, sym, ap, subst, arith, List, [], ◌∷◌, ◌++◌, All, length, map, take, get_or, Option, Some, None}
+use Rattle.std.proofs.Common.{◌≡◌, ◌∙◌, ℕ, zero, suc, ◌+◌, ◌<◌, refl, sym, ap, subst, arith, List, [], ◌∷◌, ◌++◌, length, map, take, get_or, Option, Some, None}
 use Rattle.std.specs.Prelude.{Contains, IsSome, option_and_then}
 use Rattle.std.specs.List.{AllZip}
 use Rattle.std.specs.List.Sorted.{IsStrictlyIncreasing}
 use Rattle.std.proofs.lemmas.List.{take_more}
 use Rattle.std.proofs.lemmas.List.Elements.{All-contains}
-use Rattle.rv_instr.specs.declared.Instr.{Instr}
 use Rattle.rv_instr.specs.Instr.{instr}
 use Rattle.elf_spec.specs.Image.{Image}
-use Rattle.code_spec.specs.Code.{Flow, flow_of, instr_at, flow_at, IsReachable}
+use Rattle.code_spec.specs.Code.{flow_of, instr_at, flow_at, IsReachable}
 use Rattle.code_spec.specs.Code.{word_at}
-use Rattle.code_spec.specs.Faults.{HasNoFault}
 use Rattle.code_reach.specs.Found.{IsCode}
 use Rattle.code_graph_laws.proofs.Reached.{has_instruction, has_flow, flow_alone}
 use Rattle.code_graph_laws.specs.Layout as spec

@@ -7,7 +7,7 @@ mod Decoded
 mod Asked
 mod Parts
 mod Added
-mod Searched
+pub mod Searched
 mod Whole
 mod Counted
 mod Listed

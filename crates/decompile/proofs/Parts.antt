@@ -1,17 +1,15 @@
 -- The nodes of an instruction, flow by flow.
-use Rattle.std.proofs.Common.{◌≡◌, ◌≢◌, ◌∙◌, ℕ, ◌+◌, ◌%◌, ◌==◌, Bool, true, false, cond, refl, sym, ap, arith, eq-eqb, List, [], ◌∷◌, ◌++◌, Option, Some, None, ℤ}
+use Rattle.std.proofs.Common.{◌≡◌, ◌≢◌, ◌∙◌, ℕ, ◌+◌, ◌%◌, false, refl, eq-eqb, [], ◌∷◌, ◌++◌}
 use Rattle.std.proofs.lemmas.Bool.{ne_eqb}
 use Rattle.std.proofs.lemmas.List.{append-nil}
-use Rattle.rv_instr.specs.declared.BranchTest.{BranchTest}
 use Rattle.rv_instr.specs.declared.Instr.{Instr}
-use Rattle.rv_instr.specs.declared.Instr.TheVariants.{Branch}
 use Rattle.rv_spec.specs.Machine.{past}
 use Rattle.code_spec.specs.Code.{Falls, Branches, Jumps, Calls, Links, Returns, Stops}
 use Rattle.graph_spec.specs.declared.Next.TheVariants as next
-use Rattle.graph_spec.specs.Graph.{Node, Basic, Cond, Call}
-use Rattle.code_graph_spec.specs.InstructionTerms.{operand, access_tests, returns_home, effects, branch_test, taken}
+use Rattle.graph_spec.specs.Graph.{Basic, Cond, Call}
+use Rattle.code_graph_spec.specs.InstructionTerms.{access_tests, returns_home, effects, branch_test}
 use Rattle.code_graph_spec.specs.Blocks.{Following, call_nodes, Setting, Does, leaves, toward, chain, tests_of, ending_of, nodes_at, landing_of, call_inputs}
-use Rattle.code_graph_laws.specs.Layout.{Item, block}
+use Rattle.code_graph_laws.specs.Layout.{block}
 use Rattle.decompile.specs.Settings.{asks}
 use Rattle.decompile.proofs.Asked.{chain-asks}
 

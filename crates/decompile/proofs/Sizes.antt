@@ -1,5 +1,5 @@
 -- How many nodes an instruction has.
-use Rattle.std.proofs.Common.{◌≡◌, ◌∙◌, ℕ, ◌+◌, ◌%◌, ◌^◌, ◌==◌, Bool, true, false, cond, refl, sym, ap, arith, List, [], ◌∷◌, ◌++◌, length, map, Some, None}
+use Rattle.std.proofs.Common.{◌≡◌, ◌∙◌, ℕ, ◌+◌, ◌%◌, ◌^◌, ◌==◌, Bool, true, false, cond, refl, arith, List, [], ◌∷◌, ◌++◌, length, map, Some, None}
 use Rattle.std.proofs.lemmas.List.{length-append, length-map}
 use Rattle.rv_instr.specs.declared.Instr.{Instr}
 use Rattle.rv_instr.specs.declared.Instr.TheVariants as instr
@@ -9,11 +9,10 @@ use Rattle.rv_instr.specs.declared.StoreKind.{StoreKind}
 use Rattle.rv_instr.specs.declared.StoreKind.TheVariants as store_kind
 use Rattle.code_spec.specs.Code.{Flow, Falls, Branches, Jumps, Calls, Links, Returns, Stops}
 use Rattle.term_spec.specs.Term.{Term}
-use Rattle.graph_spec.specs.declared.Next.{Next}
 use Rattle.graph_spec.specs.declared.Next.TheVariants as next
 use Rattle.graph_spec.specs.Graph.{Node, Basic, Call}
 use Rattle.code_graph_spec.specs.InstructionTerms as forms
-use Rattle.code_graph_spec.specs.Blocks.{Following, call_nodes, Setting, Ending, Does, leaves, toward, chain, tests_of, ending_of, nodes_at, landing_of, call_inputs, tail_inputs}
+use Rattle.code_graph_spec.specs.Blocks.{Following, call_nodes, Setting, Does, leaves, toward, chain, tests_of, ending_of, nodes_at, landing_of, call_inputs}
 use Rattle.code_graph_laws.specs.Layout.{Item, landing_node, block}
 use Rattle.decompile.specs.Counts.{load_tests, alignments, access_tests, further_by, further_nodes}
 use Rattle.decompile.specs.Settings.{Stays}

@@ -1,29 +1,28 @@
 -- The answer of the program is the graph of the function.
-use Rattle.std.proofs.Common.{◌≡◌, ◌∙◌, ℕ, zero, suc, ◌+◌, ◌-◌, ◌%◌, ◌^◌, ◌<◌, ◌≤◌, ◌==◌, ◌&&◌, Bool, true, false, refl, sym, ap, subst, arith, List, [], ◌∷◌, ◌++◌, All, length, map, get_or, Option, Some, None}
-use Rattle.std.specs.Prelude.{Contains, replicate, ⊤}
+use Rattle.std.proofs.Common.{◌≡◌, ◌∙◌, ℕ, zero, suc, ◌+◌, ◌-◌, ◌%◌, ◌^◌, ◌<◌, ◌≤◌, ◌==◌, ◌&&◌, Bool, true, false, refl, sym, ap, subst, arith, List, [], ◌∷◌, All, length, map, get_or, Some, None}
+use Rattle.std.specs.Prelude.{Contains, replicate}
 use Rattle.std.specs.List.Sorted.{IsStrictlyIncreasing}
 use Rattle.std.proofs.lemmas.Bool.{le-leb, lt-ltb}
 use Rattle.std.proofs.lemmas.List.{length-map, length-replicate, get_or-map}
 use Rattle.std.proofs.lemmas.Option.{same_Some}
 use Rattle.std.proofs.lemmas.List.Elements.{All-head, All-tail}
-use Rattle.rv_instr.specs.declared.Instr.{Instr}
 use Rattle.elf_spec.specs.Image.{Image, size_at}
 use Rattle.memory_spec.specs.Runs.{Run}
 use Rattle.elf_read.specs.declared.parts.Extent.{Extent}
 use Rattle.code_spec.specs.Code.{InRange, Flow, Falls, Branches, Jumps, Calls, Links, Returns, Stops, flow_of, instr_at, flow_at, IsReachable}
 use Rattle.code_spec.specs.Faults.{HasNoFault, goes_to}
-use Rattle.graph_spec.specs.Graph.{Node, Graph}
-use Rattle.code_graph_spec.specs.Blocks.{NodeName, Of, Setting, is_inside, leaves}
+use Rattle.graph_spec.specs.Graph.{Graph}
+use Rattle.code_graph_spec.specs.Blocks.{Setting, leaves}
 use Rattle.code_graph_spec.specs.CodeGraph.{IsCodeGraph, IsCall}
 use Rattle.code_graph_laws.proofs.Reached.{flow_alone, stays_inside, code_there}
-use Rattle.code_graph_laws.specs.Layout.{Item, laid, blocks, AreItems, AreNumbered, LaidAreCodeGraphs}
+use Rattle.code_graph_laws.specs.Layout.{Item, laid, AreItems, AreNumbered, LaidAreCodeGraphs}
 use Rattle.code_graph_laws.specs.Valid.{CodeGraphsAreValid}
 use Rattle.decompile.specs.declared.items.Item.{Item as CodeItem}
 use Rattle.decompile.specs.Items.{item_of, AreInstructions}
 use Rattle.decompile.specs.Answer.{first_in, setting, IsFunctionGraph}
 use Rattle.decompile.specs.Counts.{numbered, counted}
 use Rattle.decompile.specs.Settings.{run_of, blanked, HaveExtents, Stays}
-use Rattle.decompile.proofs.Blanks.{blank_setting, same_laid}
+use Rattle.decompile.proofs.Blanks.{same_laid}
 use Rattle.decompile.proofs.Counted.{laid_counted}
 use Rattle.decompile.proofs.Rising.{one_list}
 use Rattle.decompile.proofs.Numbered.{key, same_keys, keys-numbered, are_numbered, are_first_nodes}

@@ -12,7 +12,7 @@ ghost use Rattle.decompile.specs.Settings.{setting_of, Stays, asks};
 
 use crate::accesses::access_tests;
 use crate::bindings::{call_inputs, effects};
-use crate::function::Function;
+use crate::function::{Function, graph_number};
 use crate::items::Item;
 use crate::numbers::plus;
 use attempt::attempt;
@@ -115,7 +115,7 @@ impl Function<'_> {
         ensures { OnOk result (AddsFlow self.now graph.old graph.new item.now (Calls target)) }
     {
         if target.is_multiple_of(4) {
-            let callee = self.graph_number(target);
+            let callee = graph_number(self.entries, target);
             let inputs = call_inputs(alloc, item.address.wrapping_add(4))?;
             let landing = self.node(item.address, 1)?;
             graph.add(Node::Call {

@@ -1,7 +1,8 @@
 //! What is read of a function while its nodes are written.
 
-ghost use Rattle.std.specs.Prelude.{◌+◌, ◌^◌, ◌≤◌, All};
+ghost use Rattle.std.specs.Prelude.{◌≡◌, ◌+◌, ◌^◌, ◌≤◌, All};
 ghost use Rattle.std.specs.List.Sorted.{IsStrictlyIncreasing};
+ghost use Rattle.decompile.specs.Answer.{number_in};
 
 use crate::numbers::plus;
 use elf_read::Extent;
@@ -30,7 +31,7 @@ pub(crate) struct Function<'a> {
 impl Function<'_> {
     ghost use Rattle.std.specs.Prelude.{◌≡◌, ◌+◌, IfOk};
     ghost use Rattle.code_graph_spec.specs.Blocks as spec;
-    ghost use Rattle.decompile.specs.Answer.{first_in, number_in};
+    ghost use Rattle.decompile.specs.Answer.{first_in};
     ghost use Rattle.decompile.specs.Settings.{setting_of};
 
     /// The number of the first node of the instruction at an address.
@@ -77,14 +78,16 @@ impl Function<'_> {
             None => Next::Err,
         }
     }
+}
 
-    /// The number of the graph of the function at an entry.
-    pub(crate) fn graph_number(&self, callee: u32) -> usize
-        ensures { result ≡ number_in self.now.entries.now callee }
-    {
-        match self.entries.binary_search(&callee) {
-            Ok(index) => index,
-            Err(_) => self.entries.len(),
-        }
+/// The number of the graph of the function at an entry: its index among the entries, which are
+/// ascending, or how many those are where it isn't there.
+pub fn graph_number(entries: &[u32], entry: u32) -> usize
+    requires { IsStrictlyIncreasing entries.now }
+    ensures { result ≡ number_in entries.now entry }
+{
+    match entries.binary_search(&entry) {
+        Ok(index) => index,
+        Err(_) => entries.len(),
     }
 }

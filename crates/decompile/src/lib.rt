@@ -19,4 +19,5 @@ mod runs;
 
 pub use code_reach::{CodeError, CodeFault, code, reach, stack};
 pub use error::GraphError;
+pub use function::graph_number;
 pub use graphs::{CodeGraph, decompile, decompile_within};

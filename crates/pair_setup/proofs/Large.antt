@@ -22,7 +22,7 @@ use Rattle.pair_outcome_spec.specs.Nodes.{IsLargeCode}
 use Rattle.pair_setup.specs.Sizes.{AnyLargeCode, AnyLargeSource, IsLargeAt}
 use Rattle.call_graph.proofs.Cycles.{NoneBelow, none-all}
 use Rattle.pair_setup.proofs.Added.{some-of}
-use Rattle.pair_setup.proofs.Lengths.{graph_long}
+use Rattle.c_graph_laws.proofs.Lengths.{graph_long}
 
 -- ---- code
 

@@ -12,9 +12,7 @@ mod Listed
 mod Entries
 mod Totals
 mod Walking
-mod Acyclic
 mod Shallow
-mod Lengths
 mod Large
 mod Prefixes
 mod Rising

@@ -1,18 +1,18 @@
 //! The words of functions: which functions they call, and by how much they lower the stack pointer.
 
-ghost use Rattle.std.specs.Prelude.{◌≡◌, None, Some, IfOk, IfSome, IsSome};
+ghost use Rattle.std.specs.Prelude.{◌≡◌, None, IfOk, IfSome, IsSome};
 ghost use Rattle.rv_spec.specs.Arithmetic.{word as word_of};
 ghost use Rattle.rv_spec.specs.Machine.{past};
 ghost use Rattle.elf_spec.specs.Image.{size_at};
-ghost use Rattle.code_spec.specs.Code.{flow_of, opening_of};
+ghost use Rattle.code_spec.specs.Code.{flow_of};
 ghost use Rattle.code_reach.specs.Found.{IsCode};
 ghost use Rattle.pair_setup.specs.Calling as spec;
 
 use attempt::attempt;
-use code_reach::{CodeError, code};
+use code_reach::{CodeError, code, lowering};
 use elf_read::Image;
 use rv_decode::decode;
-use rv_instr::{ImmediateOperation, Instr, Reg};
+use rv_instr::Instr;
 use std::alloc::{AllocError, Global};
 
 /// The address `offset` bytes from another; addresses wrap.
@@ -40,32 +40,6 @@ pub(crate) fn callee(word: (u32, u32)) -> Option<u32>
     match decode(bits) {
         Some(instruction) => called_by(address, &instruction),
         None => None,
-    }
-}
-
-/// By how much an ADDI lowers the stack pointer.
-fn lowered(rd: Reg, source: Reg, imm: i32) -> u64
-    ensures { result ≡ opening_of (Some (Instr.Immediate ImmediateOperation.Add rd source imm)) }
-{
-    if rd.number() == 2 && source.number() == 2 && imm < 0 {
-        u64::from(imm.unsigned_abs())
-    } else {
-        0
-    }
-}
-
-/// By how much an instruction lowers the stack pointer, if it is `addi x2, x2, imm`.
-fn lowering(instruction: &Instr) -> u64
-    ensures { result ≡ opening_of (Some instruction.now) }
-{
-    match *instruction {
-        Instr::Immediate {
-            operation: ImmediateOperation::Add,
-            rd,
-            source,
-            imm,
-        } => lowered(rd, source, imm),
-        _ => 0,
     }
 }
 

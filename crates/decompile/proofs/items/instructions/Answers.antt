@@ -1,10 +1,10 @@
-use Rattle.std.proofs.Common.{◌≡◌, ℕ, ◌+◌, ◌≤◌, ◌∙◌, List, Some, IsSome, length, take, get_or, refl, sym, ap, subst, arith, rules}
+use Rattle.std.proofs.Common.{◌≡◌, ℕ, ◌+◌, ◌≤◌, List, Some, IsSome, length, take, get_or, refl, sym, subst, arith, rules}
 use Rattle.std.proofs.lemmas.List.{take_all}
 use Rattle.std.proofs.lemmas.List.Elements.{Contains-get_or}
 use Rattle.rv_instr.specs.Instr.{instr}
 use Rattle.code_reach.specs.Found.{IsCode}
 use Rattle.decompile.specs.declared.items.Item.{Item}
-use Rattle.decompile.proofs.Decoded.{Decodes, Decoded, zip_more, is_instruction, are_instructions}
+use Rattle.decompile.proofs.Decoded.{Decoded, zip_more, is_instruction, are_instructions}
 use Rattle.decompile.proofs.items.instructions.Goals as goal
 
 pub unwrap-instruction-requires : goal.unwrap-instruction-requires

@@ -1,5 +1,5 @@
 use Rattle.std.proofs.Common.{◌∙◌, sym}
-use Rattle.pair_setup.proofs.Acyclic.{stack-acyclic}
+use Rattle.code_reach.proofs.Acyclic.{stack-acyclic}
 use Rattle.pair_setup.proofs.reach.stack_of.Goals as goal
 
 pub returns-in-Some-clause-found : goal.returns-in-Some-clause-found

@@ -1,4 +1,4 @@
-use Rattle.std.proofs.Common.{◌≡◌, ◌+◌, ◌∙◌, [], ◌∷◌, ◌++◌, List, length, map, refl, sym, ap, arith}
+use Rattle.std.proofs.Common.{◌≡◌, ◌+◌, ◌∙◌, List, length, map, refl, sym, ap, arith}
 use Rattle.std.proofs.lemmas.List.{length_push, length-map, map_push}
 use Rattle.term_spec.specs.Term.{Term}
 use Rattle.graph_spec.specs.Graph.{with_nodes}

@@ -1,6 +1,6 @@
 use Rattle.std.proofs.Common.{sym}
-use Rattle.check_sides.proofs.Numbered.{number_found, number_missing}
-use Rattle.check_sides.proofs.functions.graph_number.Goals as goal
+use Rattle.decompile.proofs.Searched.{number_found, number_missing}
+use Rattle.decompile.proofs.function.graph_number.Goals as goal
 
 pub returns-in-Ok : goal.returns-in-Ok
 returns-in-Ok c = sym (number_found c.args.entries.now c.requires c.args.entry c.in-Ok.index c.in-Ok.ensures.position)
