@@ -3,12 +3,11 @@
 use crate::given::{Given, read};
 use crate::graphs::put_graph;
 use c_graph::{Point, SourceGraph, graphs, translate};
-use c_syntax::unit::TranslationUnit;
 use c_types::typed::Typed;
-use c_types::unit::check;
 use c_value::setting::Place;
 use proof_spec as points;
 use row_io::{Out, split};
+use row_sources::Answers;
 use std::alloc::{AllocError, Global};
 
 fn put_point(point: Point, out: &mut Out) {
@@ -80,19 +79,13 @@ fn put_typed(
     put_placed(alloc, asked, typed, &given, out)
 }
 
-/// The answer of a unit.
-pub(crate) fn put_checked(
-    alloc: Global,
-    question: &str,
-    unit: &TranslationUnit<'_>,
-    out: &mut Out,
-) {
-    match check(alloc, unit) {
-        Ok(typed) => {
-            if put_typed(alloc, question, &typed, out).is_err() {
-                out.fail();
-            }
+/// The graphs of a unit.
+pub(crate) struct Graphs;
+
+impl Answers for Graphs {
+    fn put_answer<'a>(&self, alloc: Global, question: &'a str, unit: &Typed<'a>, out: &mut Out) {
+        if put_typed(alloc, question, unit, out).is_err() {
+            out.fail();
         }
-        Err(_) => out.put("not typed"),
     }
 }

@@ -1,16 +1,14 @@
 //! The answers of typing, as text.
 
-use crate::faults::named;
 use c_core::action::Action;
 use c_core::constants::type_of;
-use c_syntax::unit::TranslationUnit;
 use c_type_layout::structs::{Definition, alignment, size};
 use c_type_layout::types::{Base, CType};
 use c_type_scope::meaning::Meaning;
 use c_type_spec::Scalar;
-use c_types::typed::{TypeError, Typed};
-use c_types::unit::check;
+use c_types::typed::Typed;
 use row_io::{Out, split};
+use row_sources::Answers;
 use std::alloc::Global;
 
 /// The size of a type, where it has one.
@@ -123,32 +121,19 @@ fn put_types(typed: &Typed<'_>, name: &str, out: &mut Out) {
     }
 }
 
-fn put_typed(alloc: Global, question: &str, typed: &Typed<'_>, out: &mut Out) {
-    let (asked, name) = split(question, ' ');
-    match asked {
-        "counts" => put_counts(typed, name, out),
-        "bodies" => put_bodies(typed, out),
-        "structs" => put_structs(alloc, typed.structs.as_slice(), out),
-        "names" => put_names(typed, out),
-        "types" => put_types(typed, name, out),
-        _ => out.put("fine"),
-    }
-}
+/// What typing a unit gives.
+pub(crate) struct Typing;
 
-/// The answer of a unit.
-pub(crate) fn put_checked(
-    alloc: Global,
-    question: &str,
-    unit: &TranslationUnit<'_>,
-    out: &mut Out,
-) {
-    match check(alloc, unit) {
-        Ok(typed) => put_typed(alloc, question, &typed, out),
-        Err(TypeError::Fault(kind, offset)) => {
-            out.put(named(kind));
-            out.put(" at ");
-            out.show(&offset);
+impl Answers for Typing {
+    fn put_answer<'a>(&self, alloc: Global, question: &'a str, unit: &Typed<'a>, out: &mut Out) {
+        let (asked, name) = split(question, ' ');
+        match asked {
+            "counts" => put_counts(unit, name, out),
+            "bodies" => put_bodies(unit, out),
+            "structs" => put_structs(alloc, unit.structs.as_slice(), out),
+            "names" => put_names(unit, out),
+            "types" => put_types(unit, name, out),
+            _ => out.put("fine"),
         }
-        Err(TypeError::NoMemory) => out.fail(),
     }
 }

@@ -1,13 +1,9 @@
 //! The two files of which certificates speak, read.
 
 use crate::certificates::put_rows;
-use c_core_laws::laws::{cores_have_small_sizes, cores_of_units_are_typed};
-use c_parse::parse;
-use c_syntax::unit::TranslationUnit;
-use c_token::{Token, tokens};
-use c_types::unit::check;
 use elf_read::{Image, read};
 use row_io::{Out, hexadecimal};
+use row_sources::{read_tokens, read_unit};
 use std::alloc::{AllocError, Global};
 
 /// Adds the bytes of words, the lowest first.
@@ -19,36 +15,12 @@ pub(crate) fn add_words(bytes: &mut Vec<u8>, text: &str) -> Result<(), AllocErro
     Ok(())
 }
 
-/// Answers rows over a unit.
-fn put_unit(
-    alloc: Global,
-    image: &Image<'_>,
-    unit: &TranslationUnit<'_>,
-    rows: &str,
-    out: &mut Out,
-) {
-    // laws, of which nothing runs
-    cores_of_units_are_typed();
-    cores_have_small_sizes();
-    match check(alloc, unit) {
-        Ok(typed) => put_rows(alloc, image, &typed, rows, out),
-        Err(_) => out.put("the unit isn't typed\n"),
-    }
-}
-
-/// Answers rows over the tokens of a unit.
-fn put_tokens(alloc: Global, image: &Image<'_>, tokens: &[Token<'_>], rows: &str, out: &mut Out) {
-    match parse(alloc, tokens) {
-        Ok(unit) => put_unit(alloc, image, &unit, rows, out),
-        Err(_) => out.put("the source isn't a unit\n"),
-    }
-}
-
 /// Answers rows over an executable and a text.
 fn put_source(alloc: Global, image: &Image<'_>, source: &str, rows: &str, out: &mut Out) {
-    match tokens(alloc, source.as_bytes()) {
-        Ok(all) => put_tokens(alloc, image, all.as_slice(), rows, out),
-        Err(_) => out.put("the source has no tokens\n"),
+    if let Some(tokens) = read_tokens(alloc, source.as_bytes(), out) {
+        if let Some(unit) = read_unit(alloc, tokens.as_slice(), source.len(), out) {
+            put_rows(alloc, image, &unit, rows, out);
+        }
     }
 }
 

@@ -12,7 +12,6 @@
 //! A line that begins with `#` says where the outcomes of the rows after it come from.
 #![tactic(auto)]
 
-mod executables;
 mod files;
 mod functions;
 mod instructions;

@@ -3,16 +3,13 @@
 ghost use Rattle.c_type_spec.specs.HasType.{IsTypedUnit};
 ghost use Rattle.c_types.specs.Typed.{typed_of};
 
-use c_core_laws::laws::cores_of_units_are_typed;
-use c_parse::{ParseError, parse};
 use c_reach::name_at;
-use c_token::{TokenError, tokens};
-use c_types::typed::{TypeError, Typed};
-use c_types::unit::check;
+use c_types::typed::Typed;
 use elf_read::{ElfError, Image, read};
 use pair_setup::{Function, Named, PairError, Pairs, pair};
 use pair_spec::PairKind;
 use row_io::Out;
+use row_sources::{read_tokens, read_unit};
 use std::alloc::{AllocError, Global};
 
 /// A function: its entry, its size and its stack.
@@ -125,39 +122,13 @@ fn names_in<'a>(alloc: Global, list: &'a str) -> Result<Vec<&'a [u8]>, AllocErro
     Ok(names)
 }
 
-/// What pairing answers of an image and a text, or the fault of the text.
-fn put_image(
-    alloc: Global,
-    image: &Image<'_>,
-    list: &[&[u8]],
-    text: &[u8],
-    out: &mut Out,
-) -> Result<(), AllocError> {
-    let all = match tokens(alloc, text) {
-        Ok(all) => all,
-        Err(TokenError::NoMemory) => return Err(AllocError),
-        Err(TokenError::Fault(_)) => return put_bad("tokens", out),
-    };
-    let tree = match parse(alloc, all.as_slice()) {
-        Ok(tree) => tree,
-        Err(ParseError::NoMemory) => return Err(AllocError),
-        Err(ParseError::Fault(_)) => return put_bad("grammar", out),
-    };
-    // a law, of which nothing runs
-    cores_of_units_are_typed();
-    match check(alloc, &tree) {
-        Ok(unit) => put_answer(alloc, image, &unit, list, out),
-        Err(TypeError::NoMemory) => return Err(AllocError),
-        Err(TypeError::Fault(_, _)) => return put_bad("types", out),
+/// What pairing answers of an image and a text, or the first fault of the text.
+fn put_image(alloc: Global, image: &Image<'_>, list: &[&[u8]], text: &[u8], out: &mut Out) {
+    if let Some(tokens) = read_tokens(alloc, text, out) {
+        if let Some(unit) = read_unit(alloc, tokens.as_slice(), text.len(), out) {
+            put_answer(alloc, image, &unit, list, out);
+        }
     }
-    Ok(())
-}
-
-/// A row whose text isn't a unit.
-fn put_bad(what: &str, out: &mut Out) -> Result<(), AllocError> {
-    out.put("no unit: ");
-    out.put(what);
-    Ok(())
 }
 
 /// What pairing answers of an executable, a list and a text.
@@ -171,7 +142,8 @@ pub(crate) fn put_pairs(
     let names = names_in(alloc, list)?;
     match read(alloc, elf) {
         Ok(image) => put_image(alloc, &image, names.as_slice(), text, out),
-        Err(ElfError::NoMemory) => Err(AllocError),
-        Err(ElfError::Fault(_)) => put_bad("file", out),
+        Err(ElfError::NoMemory) => out.fail(),
+        Err(ElfError::Fault(_)) => out.put("no executable"),
     }
+    Ok(())
 }

@@ -3,20 +3,18 @@
 //! and what pairing answers: of each function its entry, size and stack, and then all entries that
 //! are reached; or the refusal.
 //!
-//! A part `ADDRESS:FLAGS` begins a segment, a word of eight digits lies in it, `NAME@ADDRESS+SIZE`
-//! is a FUNC symbol and `NAME%ADDRESS+SIZE` an OBJECT symbol; all numbers are hexadecimal. A list is
-//! names separated by blanks. A row `chain COUNT LISTED` is of so many functions, each of which calls
-//! the next one, the first so many of them listed; `back COUNT` of the same, all listed, the last one
-//! first; `wide COUNT` of so many that only return, all of them listed; `long WORDS STATEMENTS` of
-//! one with so many instructions and statements before it returns. Of many functions the first and
-//! the last one are written. A line that begins with `#` says where the outcomes of the rows after
-//! it come from.
+//! `row_files` has the parts of an executable; a list is names separated by blanks. A row
+//! `chain COUNT LISTED` is of so many functions, each of which calls the next one, the first so many
+//! of them listed; `back COUNT` of the same, all listed, the last one first; `wide COUNT` of so many
+//! that only return, all of them listed; `long WORDS STATEMENTS` of one with so many instructions and
+//! statements before it returns. Of many functions the first and the last one are written. A line
+//! that begins with `#` says where the outcomes of the rows after it come from.
 #![tactic(auto)]
 
 mod answers;
-mod executables;
 mod sources;
 
+use row_files::put_executable;
 use row_io::{Out, decimal, input, output, split, split_at};
 use std::alloc::{AllocError, Global};
 use std::io;
@@ -26,14 +24,14 @@ fn put_parts(alloc: Global, row: &str, out: &mut Out) -> Result<(), AllocError> 
     let (parts, rest) = split_at(row, " | ");
     let (list, text) = split_at(rest, " | ");
     let mut elf = Vec::new(alloc);
-    executables::put_executable(alloc, parts, &mut elf)?;
+    put_executable(alloc, parts, &mut elf)?;
     answers::put_pairs(alloc, elf.as_slice(), list, text.as_bytes(), out)
 }
 
 /// The outcome of a row that is made.
 fn put_made(alloc: Global, row: &sources::Row, out: &mut Out) -> Result<(), AllocError> {
     let mut elf = Vec::new(alloc);
-    executables::put_executable(alloc, row.parts.as_str(), &mut elf)?;
+    put_executable(alloc, row.parts.as_str(), &mut elf)?;
     answers::put_pairs(
         alloc,
         elf.as_slice(),
