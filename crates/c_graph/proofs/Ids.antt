@@ -1,21 +1,14 @@
 -- Lists by what is taken of them, and ids in lists.
-use Rattle.std.proofs.Common.{◌≡◌, ◌∙◌, ℕ, false, zero, suc, ◌+◌, ◌<◌, ◌≤◌, List, [], ◌∷◌, ◌++◌, length, map, get_or, take, drop, refl, sym, ap, ap₂, subst, arith, drop-cons}
-use Rattle.std.proofs.lemmas.List.{map-append, take_more, get_or-map}
-use Rattle.std.specs.List.{All}
+use Rattle.std.proofs.Common.{◌≡◌, ◌∙◌, ℕ, zero, suc, ◌+◌, ◌<◌, List, [], ◌∷◌, ◌++◌, length, map, get_or, take, drop, refl, sym, ap, ap₂, arith, drop-cons}
+use Rattle.std.proofs.lemmas.List.{map-append, take_more}
 use Rattle.std.proofs.lemmas.List.Elements.{All-map}
-use Rattle.term_spec.specs.declared.Atom.TheVariants as atom
-use Rattle.term_spec.specs.Term as tree
 use Rattle.term_spec.specs.Term.{Term}
-use Rattle.term_bank.specs.Nodes.{IsNode, tree_at, build}
-use Rattle.term_bank.specs.declared.node.TermNode.{TermNode}
-use Rattle.term_bank.specs.declared.node.TermNode.TheVariants.{Leaf, Unary, Binary, Ternary, Quaternary, Octonary}
+use Rattle.term_bank.specs.Nodes.{tree_at}
 use Rattle.graph_spec.specs.Graph as graph
 use Rattle.graph_core.specs.declared.shared.SharedBinding.{SharedBinding}
-use Rattle.graph_core.specs.declared.shared.SharedNode.{SharedNode}
-use Rattle.graph_core.specs.declared.shared.SharedNode.TheVariants.{Basic, Cond, Call}
-use Rattle.graph_core.specs.Shared.{shared_binding_of, shared_node_of, AreSharedBindings, IsSharedNode}
-use Rattle.c_graph_terms.specs.Tables.{AreWithin, id_at, placed}
-use Rattle.c_graph_terms.proofs.Growing.{within_at}
+use Rattle.graph_core.specs.Shared.{shared_binding_of, AreSharedBindings}
+use Rattle.c_graph_terms.specs.Tables.{AreWithin, id_at}
+use Rattle.c_graph_terms.proofs.Growing.{at_id, within_at}
 use Rattle.c_graph.specs.Emitted.{binding_under}
 
 pub any_default : {X : Type 0} (xs : List X) (i : ℕ) (d e : X) → i < length xs → get_or xs i d ≡ get_or xs i e
@@ -31,39 +24,6 @@ map_more f xs i x below is =
 -- from a place on: that element first
 pub item_at : {X : Type 0} (xs : List X) (i : ℕ) (d : X) → i < length xs → drop i xs ≡ get_or xs i d ∷ drop (i + 1) xs
 item_at xs i d below = let next : i + 1 ≡ suc i = omega arith in drop-cons xs i d below ∙ ap (λ n. get_or xs i d ∷ drop n xs) (sym next)
-
--- the tree at a number is that at its id
-pub at_id : (trees : List Term) (ids : List ℕ) (i : ℕ) → i < length ids → tree_at trees (id_at ids i) ≡ tree_at (map (tree_at trees) ids) i
-at_id trees ids i h = sym (get_or-map (tree_at trees) ids i 0 (tree.Leaf (atom.Truth false)) h)
-
-pub placed_tree : (trees : List Term) (ids : List ℕ) (node : TermNode) → IsNode (length ids) node → build trees (placed ids node) ≡ build (map (tree_at trees) ids) node
-placed_tree trees ids (Leaf atom) h = refl
-placed_tree trees ids (Unary operator a) h = let ea = at_id trees ids a h in cc
-placed_tree trees ids (Binary operator a b) h =
-    let ea = at_id trees ids a h.0 in
-    let eb = at_id trees ids b h.1 in
-    cc
-placed_tree trees ids (Ternary operator a b c) h =
-    let ea = at_id trees ids a h.0 in
-    let eb = at_id trees ids b h.1 in
-    let ec = at_id trees ids c h.2 in
-    cc
-placed_tree trees ids (Quaternary operator a b c d) h =
-    let ea = at_id trees ids a h.0 in
-    let eb = at_id trees ids b h.1 in
-    let ec = at_id trees ids c h.2 in
-    let ed = at_id trees ids d h.3 in
-    cc
-placed_tree trees ids (Octonary a b c d e f g i) h =
-    let ea = at_id trees ids a h.0 in
-    let eb = at_id trees ids b h.1 in
-    let ec = at_id trees ids c h.2 in
-    let ed = at_id trees ids d h.3 in
-    let ee = at_id trees ids e h.4 in
-    let ef = at_id trees ids f h.5 in
-    let eg = at_id trees ids g h.6 in
-    let ei = at_id trees ids i h.7 in
-    cc
 
 -- ---- ids of ids
 

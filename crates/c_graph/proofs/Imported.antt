@@ -21,7 +21,8 @@ use Rattle.graph_core.specs.declared.shared.SharedBinding.{SharedBinding}
 use Rattle.graph_core.specs.declared.shared.SharedNode.TheVariants as shared
 use Rattle.graph_core.specs.Shared.{shared_binding_of, shared_node_of, AreSharedBindings}
 use Rattle.c_graph.specs.Emitted.{AreImported, binding_under}
-use Rattle.c_graph.proofs.Ids.{moved_bindings, moved_within, placed_tree}
+use Rattle.c_graph_terms.proofs.Growing.{placed_tree}
+use Rattle.c_graph.proofs.Ids.{moved_bindings, moved_within}
 
 -- as many ids as terms
 pub imported_many : (old new : Graph) (trees : List Term) (ids : List ℕ) → AreImported old new trees ids → length ids ≡ length trees

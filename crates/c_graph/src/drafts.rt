@@ -15,7 +15,7 @@ ghost use Rattle.c_graph.specs.Bound.{Drafts, Passes, parameters};
 ghost use Rattle.c_graph.specs.Frames.{setting_in};
 
 use crate::bindings::{bind, bind_local, bind_zone, outputs};
-use crate::frame::{Frame, number_of};
+use crate::frame::{Frame, source_number};
 use attempt::attempt;
 use c_core::constants::type_of;
 use c_core::expression::Core;
@@ -225,7 +225,7 @@ pub(crate) fn call_node(
     attempt!(bind_zone(bank, &mut inputs));
     let outputs = attempt!(outputs(frame, bank, function, into));
     Ok(SharedNode::Call {
-        callee: number_of(frame.unit, function),
+        callee: source_number(frame.unit, function),
         inputs,
         outputs,
         landing,

@@ -26,7 +26,7 @@ pub(crate) struct Frame<'a, 'u> {
 
 /// The number of a function's graph: that of its body in the unit.
 #[tactic(auto, using(crate::proofs::Numbers::numbers))]
-pub(crate) fn number_of(unit: &Typed<'_>, name: &[u8]) -> usize
+pub fn source_number(unit: &Typed<'_>, name: &[u8]) -> usize
     ensures { result ≡ body_number name.now (typed_of unit.now).bodies }
 {
     match unit.bodies.get_index_of(name) {

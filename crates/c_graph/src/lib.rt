@@ -21,5 +21,6 @@ mod simple;
 mod source_graph;
 mod statement;
 
+pub use frame::source_number;
 pub use points::Point;
 pub use source_graph::{SourceGraph, graphs, translate};

@@ -67,7 +67,7 @@ trees_kept a b [] g h = refl
 trees_kept a b (id ∷ ids) g h = ap₂ (λ (t : Term) (ts : List Term). t ∷ ts) (kept a b id g h.0) (trees_kept a b ids g h.1)
 
 -- the tree at a number is that at its id
-at_id : (trees : List Term) (ids : List ℕ) (i : ℕ) → i < length ids → tree_at trees (id_at ids i) ≡ tree_at (map (tree_at trees) ids) i
+pub at_id : (trees : List Term) (ids : List ℕ) (i : ℕ) → i < length ids → tree_at trees (id_at ids i) ≡ tree_at (map (tree_at trees) ids) i
 at_id trees ids i h = sym (get_or-map (tree_at trees) ids i 0 (tree.Leaf (atom.Truth false)) h)
 
 pub placed_fits : (n : ℕ) (ids : List ℕ) (node : TermNode) → AreWithin n ids → IsNode (length ids) node → IsNode n (placed ids node)
@@ -79,7 +79,7 @@ placed_fits n ids (Quaternary operator a b c d) w h = (within_at n ids a w h.0, 
 placed_fits n ids (Octonary a b c d e f g i) w h =
     (within_at n ids a w h.0, within_at n ids b w h.1, within_at n ids c w h.2, within_at n ids d w h.3, within_at n ids e w h.4, within_at n ids f w h.5, within_at n ids g w h.6, within_at n ids i w h.7)
 
-placed_tree : (trees : List Term) (ids : List ℕ) (node : TermNode) → IsNode (length ids) node → build trees (placed ids node) ≡ build (map (tree_at trees) ids) node
+pub placed_tree : (trees : List Term) (ids : List ℕ) (node : TermNode) → IsNode (length ids) node → build trees (placed ids node) ≡ build (map (tree_at trees) ids) node
 placed_tree trees ids (Leaf atom) h = refl
 placed_tree trees ids (Unary operator a) h = let ea = at_id trees ids a h in cc
 placed_tree trees ids (Binary operator a b) h =

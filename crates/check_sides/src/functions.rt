@@ -2,29 +2,18 @@
 
 ghost use Rattle.std.specs.Prelude.{◌≡◌, ◌<◌, ◌^◌, [], length, IfOk, IsSome, OnOk};
 ghost use Rattle.std.specs.List.Sorted.{IsStrictlyIncreasing};
-ghost use Rattle.c_graph_spec.specs.SourceGraph.{body_number};
 ghost use Rattle.c_types.specs.Typed.{typed_of};
 ghost use Rattle.c_reach.specs.Names.{texts_of};
 ghost use Rattle.pair_spec.specs.SourceReach.{body_of};
 ghost use Rattle.check_sides.specs.Entries.{AreEntriesFor, AreReady, IsEntryFor};
 
 use attempt::attempt;
+use c_graph::source_number;
 use c_types::typed::Typed;
 use check_setup::{Entry, File, Numbers};
 use decompile::graph_number;
 use pair_setup::{Function, Pairs};
 use std::alloc::{AllocError, Global};
-
-/// The number of the graph of a function of the source: the index of its body.
-#[tactic(auto, using(c_graph::proofs::Numbers::numbers))]
-fn source_number(unit: &Typed<'_>, name: &[u8]) -> usize
-    ensures { result ≡ body_number name.now (typed_of unit.now).bodies }
-{
-    match unit.bodies.get_index_of(name) {
-        Some(number) => number,
-        None => unit.bodies.len(),
-    }
-}
 
 /// The entry of the function of a name.
 fn entry_of<'a>(

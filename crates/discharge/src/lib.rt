@@ -10,7 +10,6 @@ mod error;
 mod guessing;
 mod laws;
 mod limits;
-mod runs;
 mod seeking;
 mod steps;
 

@@ -15,7 +15,6 @@ ghost use Rattle.discharge.specs.Answers.{Seeks, SeeksForm};
 use crate::closing::is_truth;
 use crate::error::SeekError;
 use crate::limits::is_within;
-use crate::runs::hold_runs;
 use bit_blast::{BlastError, Blasted, blast, read_back};
 use closing_spec::GoalQuantity;
 use memory_spec::Run;
@@ -24,7 +23,7 @@ use sat_search::{Found, solve};
 use std::alloc::Global;
 use term_bank::{Bank, TermId};
 use term_core::Assignment;
-use term_norm::normal;
+use term_norm::{hold_runs, normal};
 use tv_base::limits::{MAX_TERMS, MAX_VARIABLES};
 
 /// What a search for a log finds.

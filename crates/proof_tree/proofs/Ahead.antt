@@ -13,7 +13,7 @@ use Rattle.proof_tree.specs.Ahead.{Grows, AreAhead}
 
 -- ---- growth
 
-none_contained : (n : ℕ) → Contains [] n → ⊥
+pub none_contained : (n : ℕ) → Contains [] n → ⊥
 none_contained n (k, below, here) = omega (arith, below)
 
 only_contained : (x n : ℕ) → Contains (x ∷ []) n → x ≡ n

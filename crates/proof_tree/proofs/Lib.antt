@@ -1,4 +1,4 @@
-mod Ahead
+pub mod Ahead
 mod Nested
 mod Somewhere
 mod Lines

@@ -12,3 +12,4 @@ mod walk;
 
 pub use forms::normal;
 pub use memory_spec::Run;
+pub use runs::hold_runs;

@@ -1,9 +1,9 @@
 -- How tables of nodes grow, and the edges of one node more.
-use Rattle.std.proofs.Common.{◌≡◌, ◌⊎◌, ◌↔◌, ◌+◌, ◌<◌, ◌≤◌, ℕ, zero, suc, List, [], ◌∷◌, ◌++◌, length, map, get_or, refl, sym, ◌∙◌, ap, subst, inl, inr, arith}
-use Rattle.std.specs.Prelude.{Contains, Some, None, Option, Vec, replicate, slice_get, slice_set, set}
+use Rattle.std.proofs.Common.{◌≡◌, ◌⊎◌, ◌+◌, ◌<◌, ◌≤◌, ℕ, zero, suc, List, [], ◌∷◌, ◌++◌, length, map, get_or, refl, sym, ◌∙◌, ap, subst, inl, inr, arith}
+use Rattle.std.specs.Prelude.{Contains, Some, Vec, replicate, slice_get, set}
 use Rattle.std.specs.Global.{Global}
 use Rattle.std.proofs.lemmas.Bool.{cases_lt}
-use Rattle.std.proofs.lemmas.List.{get_or-set_same, get_or-set_other, length-set, length-map, get_or-map, map-set, length-replicate}
+use Rattle.std.proofs.lemmas.List.{get_or-set_same, get_or-set_other, length-set, length-map, get_or-map, map-set}
 use Rattle.std.proofs.lemmas.List.Elements.{Contains-append_left, Contains-push, Contains-push_cases}
 use Rattle.std.proofs.lemmas.Option.{same_Some, slice_get-get_or, slice_get_within}
 use Rattle.term_spec.specs.Term.{Term}
@@ -15,7 +15,7 @@ use Rattle.graph_spec.specs.Graph.{Node}
 use Rattle.graph_spec.specs.Run.{GoesTo}
 use Rattle.proof_tree.specs.Ahead.{Grows}
 use Rattle.walk_cut.specs.Tables.{Gains, IsStep, list_at, lists_of}
-use Rattle.walk_cut.proofs.Growing.{grows-as, grows-then, none_contained}
+use Rattle.proof_tree.proofs.Ahead.{grows-as, grows-then, none_contained}
 
 pub gains-none : (E : ℕ → ℕ → Type 0) (xs : List (List ℕ)) → ((n k : ℕ) → n < length xs → E k n → ⊥) → Gains E xs xs
 gains-none E xs never = record { long = refl; kept = λ n k h. h; all = λ n k less e. absurd (never n k less e); only = λ n k h. inl h }

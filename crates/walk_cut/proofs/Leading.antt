@@ -2,14 +2,13 @@
 use Rattle.std.proofs.Common.{◌≡◌, ◌⊎◌, ◌<◌, ℕ, List, [], length, Option, Some, None, refl, sym, ◌∙◌, subst, inl, inr, arith}
 use Rattle.std.specs.Prelude.{Contains, replicate, slice_get, option_and_then, unwrap_or}
 use Rattle.std.proofs.lemmas.List.{length-replicate}
-use Rattle.graph_spec.specs.Graph.{Graph, Graphs, Node, empty, node_at}
+use Rattle.graph_spec.specs.Graph.{Graph, Node, empty}
 use Rattle.graph_spec.specs.Run.{IsEdge, IsPath, first, on}
 use Rattle.proof_tree.specs.Ahead.{Grows}
 use Rattle.proof_spec.specs.Frames.{Side}
 use Rattle.rule_spec.specs.Sides.{graph_at}
 use Rattle.walk_cut.specs.Tables.{Gains, IsBefore, among, back, IsSearched, IsStep, Leads, last, more, LeadsTo, list_at}
 use Rattle.walk_cut.proofs.Gaining.{none_before, step_within}
-use Rattle.walk_cut.proofs.Growing.{none_contained}
 
 abbrev pub empty_lists : ℕ → List (List ℕ)
 empty_lists n = replicate n []

@@ -1,5 +1,5 @@
 use Rattle.std.proofs.Common.{◌∙◌, sym}
-use Rattle.walk_cut.proofs.Growing.{is_there}
+use Rattle.proof_tree.proofs.Ahead.{is_there}
 use Rattle.walk_cut.proofs.cut.is_found.Goals as goal
 
 pub returns : goal.returns

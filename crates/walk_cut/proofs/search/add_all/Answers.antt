@@ -2,7 +2,8 @@ use Rattle.std.proofs.Common.{◌≡◌, ℕ, List, [], take, get_or, sym, ap, s
 use Rattle.std.specs.Prelude.{Contains}
 use Rattle.std.proofs.lemmas.List.{take_all}
 use Rattle.proof_tree.specs.Ahead.{Grows}
-use Rattle.walk_cut.proofs.Growing.{grows-insert, grows-none, grows_one, none_contained}
+use Rattle.proof_tree.proofs.Ahead.{grows-insert, grows-none, none_contained}
+use Rattle.walk_cut.proofs.Growing.{grows_one}
 use Rattle.walk_cut.proofs.search.add_all.Goals as goal
 
 pub loop-i-init : goal.loop-i-init

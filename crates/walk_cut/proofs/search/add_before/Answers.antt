@@ -3,7 +3,7 @@ use Rattle.std.specs.Prelude.{Contains}
 use Rattle.proof_tree.specs.Ahead.{Grows}
 use Rattle.walk_cut.specs.Tables.{list_at, lists_of}
 use Rattle.walk_cut.proofs.Gaining.{none_past, read-items}
-use Rattle.walk_cut.proofs.Growing.{grows-none}
+use Rattle.proof_tree.proofs.Ahead.{grows-none}
 use Rattle.walk_cut.proofs.search.add_before.Goals as goal
 
 pub returns-then-node-before : goal.returns-then-node-before

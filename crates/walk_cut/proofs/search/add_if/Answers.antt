@@ -2,7 +2,7 @@ use Rattle.std.proofs.Common.{◌≡◌, ℕ, List, sym, subst}
 use Rattle.graph_core.specs.Shared.{shared_node_of}
 use Rattle.graph_spec.specs.Run.{GoesTo}
 use Rattle.proof_tree.specs.Ahead.{Grows}
-use Rattle.walk_cut.proofs.Growing.{grows-as, grows-insert, grows-none}
+use Rattle.proof_tree.proofs.Ahead.{grows-as, grows-insert, grows-none}
 use Rattle.walk_cut.proofs.search.add_if.Goals as goal
 
 pub returns-2 : goal.returns-2

@@ -3,7 +3,7 @@ use Rattle.std.proofs.lemmas.List.{length-map}
 use Rattle.graph_core.specs.Shared.{shared_node_of}
 use Rattle.walk_cut.specs.Tables.{IsStep}
 use Rattle.walk_cut.proofs.Gaining.{grows-all, grows-more}
-use Rattle.walk_cut.proofs.Growing.{grows-none}
+use Rattle.proof_tree.proofs.Ahead.{grows-none}
 use Rattle.walk_cut.proofs.search.begin.Goals as goal
 
 pub loop-i-init : goal.loop-i-init
