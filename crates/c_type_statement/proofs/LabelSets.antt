@@ -110,26 +110,26 @@ abbrev Made : Type 0
 Made = Result (List (Option ℤ) × State) Fault
 
 -- what comes after labels of other groups
-abbrev behind : List (Option ℤ) → Made → Made
-behind seen r = bind r (λ m. Ok (seen ++ m.0, m.1))
+abbrev prepended : List (Option ℤ) → Made → Made
+prepended seen r = bind r (λ m. Ok (seen ++ m.0, m.1))
 
-behind-checked : (b : Bool) (offset : ℕ) (seen : List (Option ℤ)) (st : State) (one other : State → Made) → ((s : State) → other s ≡ behind seen (one s))
+prepended-checked : (b : Bool) (offset : ℕ) (seen : List (Option ℤ)) (st : State) (one other : State → Made) → ((s : State) → other s ≡ prepended seen (one s))
     → bind (rule (faults_at offset ((b, Twice) ∷ [])) st) (λ m. other m.1)
-    ≡ behind seen (bind (rule (faults_at offset ((b, Twice) ∷ [])) st) (λ m. one m.1))
-behind-checked true offset seen st one other e = refl
-behind-checked false offset seen st one other e = e st
+    ≡ prepended seen (bind (rule (faults_at offset ((b, Twice) ∷ [])) st) (λ m. one m.1))
+prepended-checked true offset seen st one other e = refl
+prepended-checked false offset seen st one other e = e st
 
-behind-bind : {A : Type 0} (r : Result A Fault) (seen : List (Option ℤ)) (one other : A → Made) → ((x : A) → other x ≡ behind seen (one x)) → bind r other ≡ behind seen (bind r one)
-behind-bind (Ok x) seen one other e = e x
-behind-bind (Err fault) seen one other e = refl
+prepended-bind : {A : Type 0} (r : Result A Fault) (seen : List (Option ℤ)) (one other : A → Made) → ((x : A) → other x ≡ prepended seen (one x)) → bind r other ≡ prepended seen (bind r one)
+prepended-bind (Ok x) seen one other e = e x
+prepended-bind (Err fault) seen one other e = refl
 
 all-labels : (list : List tree.Label) (type : Scalar) (seen done : List (Option ℤ)) (st : State)
-    → labels list type [] (seen ++ done) st ≡ behind seen (labels list type seen done st)
+    → labels list type [] (seen ++ done) st ≡ prepended seen (labels list type seen done st)
 unfolding labels
 all-labels [] type seen done st = refl
 all-labels (first ∷ rest) type seen done st =
-    behind-bind (label first type st) seen _ _
-    (λ made. behind-checked (list_any (λ other. same_label other made.0.0) (seen ++ done)) made.0.1 seen made.1
+    prepended-bind (label first type st) seen _ _
+    (λ made. prepended-checked (list_any (λ other. same_label other made.0.0) (seen ++ done)) made.0.1 seen made.1
     (λ s. labels rest type seen (done ++ made.0.0 ∷ []) s) (λ s. labels rest type [] ((seen ++ done) ++ made.0.0 ∷ []) s)
     (λ s. ap (λ l. labels rest type [] l s) (append_assoc seen done (made.0.0 ∷ [])) ∙ all-labels rest type seen (done ++ made.0.0 ∷ []) s))
 
@@ -145,30 +145,30 @@ drop-own : (xs ys : List (Option ℤ)) → drop (length xs) (xs ++ ys) ≡ ys
 drop-own [] ys = refl
 drop-own (x ∷ xs) ys = drop-own xs ys
 
-part-made : (r : Made) (seen keys : List (Option ℤ)) (st : State) → behind seen r ≡ Ok (keys, st) → (r ≡ Ok (drop (length seen) keys, st)) × (keys ≡ seen ++ drop (length seen) keys)
+part-made : (r : Made) (seen keys : List (Option ℤ)) (st : State) → prepended seen r ≡ Ok (keys, st) → (r ≡ Ok (drop (length seen) keys, st)) × (keys ≡ seen ++ drop (length seen) keys)
 part-made (Err fault) seen keys st e = absurd (true≢false (sym (ap is-made e)))
 part-made (Ok m) seen keys st e =
     let both = ap (value-or (keys, st)) e in
     let own = sym (drop-own seen m.0) ∙ ap (λ p. drop (length seen) p.0) both in
     (ap Ok (ap (λ l. (l, m.1)) own ∙ ap (λ p. (drop (length seen) keys, p.1)) both), sym (ap (λ p. p.0) both) ∙ ap (λ l. seen ++ l) own)
 
-behind-none : (list : List tree.Label) (type : Scalar) (seen : List (Option ℤ)) (st : State)
-    → labels list type [] seen st ≡ behind seen (labels list type seen [] st)
-behind-none list type seen st = ap (λ l. labels list type [] l st) (sym (append-nil seen)) ∙ all-labels list type seen [] st
+prepended-none : (list : List tree.Label) (type : Scalar) (seen : List (Option ℤ)) (st : State)
+    → labels list type [] seen st ≡ prepended seen (labels list type seen [] st)
+prepended-none list type seen st = ap (λ l. labels list type [] l st) (sym (append-nil seen)) ∙ all-labels list type seen [] st
 
 -- what is new in the set is the group's
 pub group-labels : (list : List tree.Label) (type : Scalar) (seen keys : List (Option ℤ)) (st after : State) → labels list type [] seen st ≡ Ok (keys, after)
     → labels list type seen [] st ≡ Ok (drop (length seen) keys, after)
-group-labels list type seen keys st after e = (part-made (labels list type seen [] st) seen keys after (sym (behind-none list type seen st) ∙ e)).0
+group-labels list type seen keys st after e = (part-made (labels list type seen [] st) seen keys after (sym (prepended-none list type seen st) ∙ e)).0
 
 pub all-kept : (list : List tree.Label) (type : Scalar) (seen keys : List (Option ℤ)) (st after : State) → labels list type [] seen st ≡ Ok (keys, after)
     → keys ≡ seen ++ drop (length seen) keys
-all-kept list type seen keys st after e = (part-made (labels list type seen [] st) seen keys after (sym (behind-none list type seen st) ∙ e)).1
+all-kept list type seen keys st after e = (part-made (labels list type seen [] st) seen keys after (sym (prepended-none list type seen st) ∙ e)).1
 
-part-failed : (r : Made) (seen : List (Option ℤ)) (fault : Fault) → behind seen r ≡ Err fault → r ≡ Err fault
+part-failed : (r : Made) (seen : List (Option ℤ)) (fault : Fault) → prepended seen r ≡ Err fault → r ≡ Err fault
 part-failed (Ok m) seen fault e = absurd (true≢false (ap is-made e))
 part-failed (Err other) seen fault e = e
 
 pub group-failed : (list : List tree.Label) (type : Scalar) (seen : List (Option ℤ)) (st : State) (fault : Fault) → labels list type [] seen st ≡ Err fault
     → labels list type seen [] st ≡ Err fault
-group-failed list type seen st fault e = part-failed (labels list type seen [] st) seen fault (sym (behind-none list type seen st) ∙ e)
+group-failed list type seen st fault e = part-failed (labels list type seen [] st) seen fault (sym (prepended-none list type seen st) ∙ e)

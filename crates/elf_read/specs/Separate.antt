@@ -1,5 +1,5 @@
 -- Segments that share no address.
-use Rattle.std.specs.Prelude.{◌+◌, ◌^◌, ◌<◌, ◌≤◌, ℕ, List, length, All, AllPairs}
+use Rattle.std.specs.Prelude.{◌+◌, ◌^◌, ◌≤◌, ℕ, List, length, All, AllPairs}
 use Rattle.memory_spec.specs.Zones.{Zone, InZone, AreDisjoint, zone_from}
 use Rattle.elf_spec.specs.Image.{Segment}
 
