@@ -1,10 +1,10 @@
 -- The greatest depth of some nodes, and the depth of a node.
 use Rattle.std.proofs.Common.{◌≡◌, ◌⊎◌, ◌+◌, ◌<◌, ◌≤◌, ℕ, List, length, get_or, max, refl, sym, ◌∙◌, ap, subst, inl, inr, arith, true≢false}
-use Rattle.std.specs.Prelude.{Option, Some, None, IsSome, IfSome, unwrap_or}
+use Rattle.std.specs.Prelude.{Option, Some, None, IsSome, IfSome, IfNone, is_some, unwrap_or, ◌^◌}
 use Rattle.std.proofs.lemmas.Bool.{cases_lt}
 use Rattle.std.proofs.lemmas.List.{get_or_default}
 use Rattle.std.proofs.lemmas.List.Elements.{Contains-get_or}
-use Rattle.call_graph.specs.Graph.{called_by, Calls, known_or_zero, IsDeepestOf, IsDepth, deep, AreDepths}
+use Rattle.call_graph.specs.Graph.{called_by, Calls, known_or_zero, IsDeepestOf, IsDepth, deep, AreDepths, IsUnbounded}
 
 module _ (depths : List (Option ℕ)) (nodes : List ℕ) where
   -- the greatest depth of the first so many, whose depths are known
@@ -55,6 +55,21 @@ module _ (depths : List (Option ℕ)) (nodes : List ℕ) where
       at (inl none) = inl none
       at (inr (k, below, is)) = inr (k, omega (arith, below, e), is)
 
+  -- a node whose depth isn't known
+  pub deepest-unknown : (k : ℕ) → k < length nodes → get_or depths (get_or nodes k 0) None ≡ None → (deepest : ℕ) → IsDeepestOf depths nodes deepest → ⊥
+  deepest-unknown k below unknown deepest is = absurd (true≢false (sym (is.known k below) ∙ ap is_some unknown))
+
+  -- the greatest depth is one number
+  deepest-within : (one other : ℕ) → IsDeepestOf depths nodes one → IsDeepestOf depths nodes other → one ≤ other
+  deepest-within one other is also = at is.reached
+    where
+      at : (one ≡ 0) ⊎ ((k : ℕ) × (k < length nodes) × (known_or_zero depths (get_or nodes k 0) ≡ one)) → one ≤ other
+      at (inl none) = omega (arith, none)
+      at (inr (k, below, e)) = omega (arith, e, also.above k below)
+
+  pub deepest-unique : (one other : ℕ) → IsDeepestOf depths nodes one → IsDeepestOf depths nodes other → one ≡ other
+  deepest-unique one other is also = omega (arith, deepest-within one other is also, deepest-within other one also is)
+
 known-is : (o : Option ℕ) → IsSome o → o ≡ Some (unwrap_or o 0)
 known-is None some = absurd (true≢false (sym some))
 known-is (Some n) some = refl
@@ -85,3 +100,14 @@ module _ (graph : List (List ℕ)) (own : List ℕ) (depths : List (Option ℕ))
   depth-sum node deepest alone None are is e h = tt
   depth-sum node deepest alone (Some n) are is e h =
       subst (IsDepth graph own node) (sym (h ∙ ap (λ a. a + deepest) e)) (depth-is node deepest are is)
+
+  -- where the sum is none
+  pub unbounded-sum : (node deepest alone : ℕ) (sum : Option ℕ) → IsDeepestOf depths (called_by graph node) deepest
+      → alone ≡ get_or own node 0 → IfNone sum (2 ^ 64 ≤ alone + deepest) → IfNone sum (IsUnbounded graph own depths node)
+  unbounded-sum node deepest alone (Some n) is e h = tt
+  unbounded-sum node deepest alone None is e h = λ other also.
+      subst (λ d. 2 ^ 64 ≤ get_or own node 0 + d) (deepest-unique depths (called_by graph node) deepest other is also) (subst (λ a. 2 ^ 64 ≤ a + deepest) e h)
+
+pub if-none : {A : Type 0} {P : Type 0} (o : Option A) → P → IfNone o P
+if-none None p = p
+if-none (Some x) p = tt

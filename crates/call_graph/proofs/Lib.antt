@@ -2,3 +2,4 @@ pub mod Growing
 mod Extending
 pub mod Cycles
 mod Deepest
+mod Complete

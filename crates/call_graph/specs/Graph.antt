@@ -1,5 +1,5 @@
 -- Graphs of calls between numbered nodes: what is reached, cycles, and depths.
-use Rattle.std.specs.Prelude.{◌≡◌, ◌⊎◌, ◌+◌, ◌<◌, ◌≤◌, ℕ, List, [], ◌++◌, length, map, get_or, slice_index, Contains, Option, Some, None, IsSome, unwrap_or, Vec}
+use Rattle.std.specs.Prelude.{◌≡◌, ◌⊎◌, ◌+◌, ◌^◌, ◌<◌, ◌≤◌, ℕ, List, [], ◌++◌, length, map, get_or, slice_index, Contains, Option, Some, None, IsSome, unwrap_or, Vec}
 use Rattle.std.specs.Global.{Global}
 
 -- for each node what it calls
@@ -55,6 +55,18 @@ pub record IsDeepestOf (depths : List (Option ℕ)) (nodes : List ℕ) (deepest 
   pub known : (k : ℕ) → k < length nodes → IsSome (get_or depths (slice_index nodes k) None)
   pub above : (k : ℕ) → k < length nodes → known_or_zero depths (slice_index nodes k) ≤ deepest
   pub reached : (deepest ≡ 0) ⊎ ((k : ℕ) × (k < length nodes) × (known_or_zero depths (slice_index nodes k) ≡ deepest))
+
+-- if the depth of a node follows from those that are known, it is 2^64 or more
+abbrev pub IsUnbounded : List (List ℕ) → (own : List ℕ) → List (Option ℕ) → ℕ → Type 0
+IsUnbounded graph own depths node = (deepest : ℕ) → IsDeepestOf depths (called_by graph node) deepest → 2 ^ 64 ≤ get_or own node 0 + deepest
+
+-- no other depth follows from those that are known
+abbrev pub AreSettled : List (List ℕ) → (own : List ℕ) → List (Option ℕ) → Type 0
+AreSettled graph own depths = (node : ℕ) → node < length depths → get_or depths node None ≡ None → IsUnbounded graph own depths node
+
+-- whatever is reached from the node is a node of the graph
+abbrev pub IsWithin : List (List ℕ) → ℕ → Type 0
+IsWithin graph node = (other : ℕ) → Reaches graph node other → other < length graph
 
 -- ---- lists that grow
 

@@ -3,8 +3,8 @@
 //!
 //! A graph is, for each node, the list of the nodes that it calls; a node that isn't there calls
 //! nothing. [`reached`] and [`extend`] give exactly what is reached, [`is_cyclic`] answers exactly
-//! whether a cycle is, and each depth that [`depths`] gives is one. The meaning is defined in
-//! `specs/Graph.antt`.
+//! whether a cycle is, and each depth that [`depths`] gives is one; of a node from which only nodes
+//! of the graph are reached it gives each below 2^64. The meaning is defined in `specs/Graph.antt`.
 #![tactic(auto)]
 
 mod cycle;
