@@ -1,12 +1,12 @@
 #!/usr/bin/env python3
 """Runs the graphs of C functions beside the evaluator of C.
 
-    scripts/compare_c_graphs.py rows [FILE]             on the calls of the rows of `crates/c_run_rows`, or of FILE
+    scripts/compare_c_graphs.py rows [FILE]             on the calls of the rows of `crates/c_unit_rows`, or of FILE
     scripts/compare_c_graphs.py random [COUNT] [SEED]   the functions below, each on so many random states
     scripts/compare_c_graphs.py made [COUNT] [SEED]     so many random programs of `compare_runs.py`, each on 4 random states
 
-It is run outside the gate. `crates/c_graph_rows` prints the graphs and `crates/c_run_rows` runs the calls, as `rt run`
-has built them in their crates, else unproved by `rt try`. The graphs are run here, by an evaluation of terms that is not
+It is run outside the gate. `crates/c_unit_rows` prints the graphs and runs the calls, as `rt run` has built it there, else
+unproved by `rt try`. The graphs are run here, by an evaluation of terms that is not
 the crates' own, from the same arguments, memory, zone and place. Where the evaluator returns, the graphs have to return
 with the same value and the same bytes; where a guard breaks they have to fail; where the turns don't suffice nothing is
 compared.
@@ -20,7 +20,7 @@ from collections import Counter
 from pathlib import Path
 
 ROOT = Path(__file__).resolve().parent.parent
-GRAPHS, RUNS = ROOT / "crates/c_graph_rows", ROOT / "crates/c_run_rows"
+ROWS = ROOT / "crates/c_unit_rows"
 BATCH, STEPS = 200, 200000
 sys.setrecursionlimit(10000)
 
@@ -91,17 +91,17 @@ NUMBERS = [0, 1, 2, 3, 7, 16, 31, 32, 48, 97, 255, 256, 65535, 65536, 2147483647
 PLACES = ["t@4096 n@4112", "t@4096 n@4112 4128=" + 8 * "2d", "t@4097 n@4098", "t@4096 n@4112 4200=00 8192=0102"]
 
 
-def answers(crate, rows):
-    """What a program of rows finds for `QUESTION | TEXT` rows."""
+def answers(rows):
+    """What the program of rows finds for `QUESTION | TEXT` rows."""
     found = []
     for at in range(0, len(rows), BATCH):
         lines = "".join(f"{q} | ? | {text}\n" for q, text in rows[at : at + BATCH])
-        built = crate / "out" / crate.name
+        built = ROWS / "out" / ROWS.name
         command = [str(built)] if built.exists() else ["rt", "try"]
-        out = subprocess.run(command, cwd=crate, input=lines, capture_output=True, text=True).stdout
+        out = subprocess.run(command, cwd=ROWS, input=lines, capture_output=True, text=True).stdout
         found += [line[2:] for line in out.splitlines() if line.startswith("? ")]
     if len(found) != len(rows):
-        sys.exit(f"{crate.name} answered {len(found)} of {len(rows)} rows")
+        sys.exit(f"{ROWS.name} answered {len(found)} of {len(rows)} rows")
     return found
 
 
@@ -272,7 +272,7 @@ def start(words):
             data = bytes.fromhex(m.group(2))
             state["m"].update({(int(m.group(1)) + i) % 2**32: b for i, b in enumerate(data)})
             if "=" in w:
-                place.append(f"{m.group(1)}={len(data)}")
+                place.append(w)
         elif ".." in w:
             state["z0"], state["z1"] = ((int(x), 32) for x in w.split(".."))
         elif m := re.fullmatch(r"(\d+)\+(\d+)", w):
@@ -293,7 +293,7 @@ def order(text):
 
 def cases(rows):
     """Of `CALL | TEXT` rows: what the evaluator answers, the first state, and what is asked of the graphs."""
-    for (call, text), outcome in zip(rows, answers(RUNS, rows)):
+    for (call, text), outcome in zip(rows, answers([(f"run {call}", text) for call, text in rows])):
         name, *words = call.split(" ")
         state, place, shown, arguments = start(words)
         names = order(text)
@@ -304,7 +304,7 @@ def compare(rows):
     """Counts the rows by what comes of them."""
     all_cases = list(cases(rows))
     asked = list(dict.fromkeys(q for case in all_cases for q in case[-1]))
-    graphs = dict(zip(asked, answers(GRAPHS, asked)))
+    graphs = dict(zip(asked, answers(asked)))
     counted, guards = Counter(), Counter()
     for call, text, outcome, name, names, state, shown, arguments, questions in all_cases:
         printed = [graphs[q] for q in questions]
@@ -403,9 +403,9 @@ def main():
 
 
 def given(words):
-    file = Path(words[0]) if words else RUNS / "stdin"
-    lines = [line for line in file.read_text().splitlines() if " | " in line and not line.startswith("#")]
-    return [(parts[0], parts[2]) for parts in (line.split(" | ", 2) for line in lines)]
+    file = Path(words[0]) if words else ROWS / "stdin"
+    lines = [line for line in file.read_text().splitlines() if line.startswith("run ")]
+    return [(parts[0].removeprefix("run "), parts[2]) for parts in (line.split(" | ", 2) for line in lines)]
 
 
 def judge(call, text, outcome, names, printed, state, shown, arguments, name):

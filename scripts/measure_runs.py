@@ -3,7 +3,7 @@
 
     scripts/measure_runs.py [PROGRAM]
 
-It is run outside the gate and needs GNU `time` (Debian: time) on the path, and the program `c_run_rows` as `rt run` builds it
+It is run outside the gate and needs GNU `time` (Debian: time) on the path, and the program `c_unit_rows` as `rt run` builds it
 in its folder. Each row is a call: its turns, seconds, turns a second, the peak of memory, and the time and memory that a turn
 takes besides what the program takes for the first row.
 """
@@ -14,7 +14,7 @@ import time
 from pathlib import Path
 
 ROOT = Path(__file__).resolve().parent.parent
-PROGRAM = Path(sys.argv[1]) if len(sys.argv) > 1 else ROOT / "crates/c_run_rows/out/c_run_rows"
+PROGRAM = Path(sys.argv[1]) if len(sys.argv) > 1 else ROOT / "crates/c_unit_rows/out/c_unit_rows"
 
 SUM = "unsigned f(unsigned n){unsigned s=0;while(n!=0){s=s+n;n=n-1;}return s;}"
 COUNTS = "unsigned x;unsigned f(unsigned n){for(unsigned i=0;i<n;i++)x+=i;return x;}"
@@ -57,7 +57,7 @@ def main():
     print("| Run | Turns | Seconds | Turns a second | Peak MiB | ns a turn | Bytes a turn |\n" + "|---" * 7 + "|")
     least = None
     for title, words, text, n, turns, value in ROWS:
-        answer, seconds, peak = timed(f"f {n} turns*{turns(n)} {words} | {value(n)} | {text}\n")
+        answer, seconds, peak = timed(f"run f {n} turns*{turns(n)} {words} | {value(n)} | {text}\n")
         if answer != "ok":
             sys.exit(f"{title}: {answer}")
         least = least or (seconds, peak)

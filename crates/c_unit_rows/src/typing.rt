@@ -7,8 +7,7 @@ use c_type_layout::types::{Base, CType};
 use c_type_scope::meaning::Meaning;
 use c_type_spec::Scalar;
 use c_types::typed::Typed;
-use row_io::{Out, split};
-use row_sources::Answers;
+use row_io::Out;
 use std::alloc::Global;
 
 /// The size of a type, where it has one.
@@ -122,18 +121,13 @@ fn put_types(typed: &Typed<'_>, name: &str, out: &mut Out) {
 }
 
 /// What typing a unit gives.
-pub(crate) struct Typing;
-
-impl Answers for Typing {
-    fn put_answer<'a>(&self, alloc: Global, question: &'a str, unit: &Typed<'a>, out: &mut Out) {
-        let (asked, name) = split(question, ' ');
-        match asked {
-            "counts" => put_counts(unit, name, out),
-            "bodies" => put_bodies(unit, out),
-            "structs" => put_structs(alloc, unit.structs.as_slice(), out),
-            "names" => put_names(unit, out),
-            "types" => put_types(unit, name, out),
-            _ => out.put("fine"),
-        }
+pub(crate) fn put_answer(alloc: Global, asked: &str, name: &str, unit: &Typed<'_>, out: &mut Out) {
+    match asked {
+        "counts" => put_counts(unit, name, out),
+        "bodies" => put_bodies(unit, out),
+        "structs" => put_structs(alloc, unit.structs.as_slice(), out),
+        "names" => put_names(unit, out),
+        "types" => put_types(unit, name, out),
+        _ => out.put("fine"),
     }
 }

@@ -7,7 +7,6 @@ use c_types::typed::Typed;
 use c_value::setting::Place;
 use memory_core::Memory;
 use row_io::Out;
-use row_sources::Answers;
 use std::alloc::Global;
 
 fn named(guard: Guard) -> &'static str {
@@ -75,14 +74,10 @@ fn put_called<'s, 'a>(alloc: Global, given: &'s Given<'a>, typed: &'s Typed<'a>,
     }
 }
 
-/// What calls of a unit's functions give.
-pub(crate) struct Runs;
-
-impl Answers for Runs {
-    fn put_answer<'a>(&self, alloc: Global, question: &'a str, unit: &Typed<'a>, out: &mut Out) {
-        match given::read(alloc, question) {
-            Ok(given) => put_called(alloc, &given, unit, out),
-            Err(_) => out.fail(),
-        }
+/// What a call of a unit's function gives.
+pub(crate) fn put_answer<'a>(alloc: Global, call: &'a str, unit: &Typed<'a>, out: &mut Out) {
+    match given::read(alloc, call) {
+        Ok(given) => put_called(alloc, &given, unit, out),
+        Err(_) => out.fail(),
     }
 }

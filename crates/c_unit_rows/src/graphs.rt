@@ -1,13 +1,12 @@
-//! The answers to questions on graphs, as text.
+//! The graphs of functions, their points and their sizes, as text.
 
 use crate::given::{Given, read};
-use crate::graphs::put_graph;
+use crate::nodes::put_graph;
 use c_graph::{Point, SourceGraph, graphs, translate};
 use c_types::typed::Typed;
 use c_value::setting::Place;
 use proof_spec as points;
-use row_io::{Out, split};
-use row_sources::Answers;
+use row_io::Out;
 use std::alloc::{AllocError, Global};
 
 fn put_point(point: Point, out: &mut Out) {
@@ -67,25 +66,14 @@ fn put_placed(
     Ok(())
 }
 
-/// The answer of a unit in a place.
-fn put_typed(
-    alloc: Global,
-    question: &str,
-    typed: &Typed<'_>,
-    out: &mut Out,
-) -> Result<(), AllocError> {
-    let (asked, words) = split(question, ' ');
-    let given = read(alloc, words)?;
-    put_placed(alloc, asked, typed, &given, out)
-}
-
-/// The graphs of a unit.
-pub(crate) struct Graphs;
-
-impl Answers for Graphs {
-    fn put_answer<'a>(&self, alloc: Global, question: &'a str, unit: &Typed<'a>, out: &mut Out) {
-        if put_typed(alloc, question, unit, out).is_err() {
-            out.fail();
+/// What is asked of the graphs of a unit.
+pub(crate) fn put_answer(alloc: Global, asked: &str, words: &str, unit: &Typed<'_>, out: &mut Out) {
+    match read(alloc, words) {
+        Ok(given) => {
+            if put_placed(alloc, asked, unit, &given, out).is_err() {
+                out.fail();
+            }
         }
+        Err(_) => out.fail(),
     }
 }

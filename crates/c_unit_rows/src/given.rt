@@ -1,4 +1,4 @@
-//! The calls of rows.
+//! What a row asks a call or a graph for, and where it takes place.
 
 use c_value::setting::{Global as Named, Zone};
 use memory_core::Memory;
@@ -6,7 +6,7 @@ use memory_spec::Run;
 use row_io::{decimal, split, split_at};
 use std::alloc::{AllocError, Global};
 
-/// A call, and what it takes place in.
+/// A call of a function, or its graph, and where it takes place.
 #[derive(Drop)]
 pub(crate) struct Given<'a> {
     /// The name of the function.
@@ -108,7 +108,7 @@ fn read_number(word: &str, given: &mut Given<'_>) -> Result<(), AllocError> {
     Ok(())
 }
 
-/// The words of a call.
+/// The name of a function and the words after it.
 pub(crate) fn read<'a>(alloc: Global, call: &'a str) -> Result<Given<'a>, AllocError> {
     let (function, words) = split(call, ' ');
     let mut given = Given {

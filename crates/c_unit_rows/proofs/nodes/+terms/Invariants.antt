@@ -1,5 +1,5 @@
 use Rattle.std.proofs.Common.{◌+◌, ◌*◌}
-use Rattle.c_graph_rows.proofs.graphs.+terms.Given as goal
+use Rattle.c_unit_rows.proofs.nodes.+terms.Given as goal
 
 abbrev pub decreases-put_argument : goal.decreases-put_argument
 decreases-put_argument l = 2 * l.id + 1
