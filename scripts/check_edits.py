@@ -6,7 +6,7 @@
 
 Each text after 'old: ' must occur exactly once in its file, with the pairs before it applied. The last line counts
 the edits; status 1 where one can't be applied. `scripts/attack.sh` tries whether the prover refuses them. With --into
-the table of the edits, by their names, replaces the one in that page.
+the table of the edits replaces the one in that page: by name those that the gate tries, by number those in attacks/.
 """
 
 import sys
@@ -39,19 +39,17 @@ def fault(edit, crate):
 
 
 def table():
-    """The edits of each crate, in the order of crates.txt."""
-
-    def named(folder):
-        return "; ".join(sorted(it.stem.replace("_", " ") for it in folder.glob("*.edit")))
-
-    rows = ["| Crate | Tried by the gate | In `attacks/` |", "|---|---|---|"]
+    """The edits of each crate, in the order of crates.txt: of the gate by name, the others by number."""
+    rows, together = ["| Crate | Tried by the gate | In `attacks/` |", "|---|---|---|"], [0, 0]
     for line in (ROOT / "crates.txt").read_text().splitlines():
         if ":" in line and not line.startswith("#"):
             crate = line.split(":")[0].split()[0]
-            cells = [named(ROOT / "crates" / crate / "must-fail"), named(ROOT / "attacks" / crate)]
-            if any(cells):
-                rows.append(f"| `{crate}` | {cells[0]} | {cells[1]} |")
-    return "\n".join(rows)
+            gate = sorted(it.stem.replace("_", " ") for it in (ROOT / "crates" / crate / "must-fail").glob("*.edit"))
+            attacks = len(list((ROOT / "attacks" / crate).glob("*.edit")))
+            together = [together[0] + len(gate), together[1] + attacks]
+            if gate or attacks:
+                rows.append(f"| `{crate}` | {'; '.join(gate)} | {attacks or ''} |")
+    return "\n".join([*rows, f"| together | {together[0]} | {together[1]} |"])
 
 
 def put_table(page):

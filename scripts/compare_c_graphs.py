@@ -1,11 +1,11 @@
 #!/usr/bin/env python3
 """Runs the graphs of C functions beside the evaluator of C.
 
-    scripts/compare_c_graphs.py rows [FILE]             on the calls of the rows of `crates/c_unit_rows`, or of FILE
+    scripts/compare_c_graphs.py rows [FILE]             on the calls of the rows of `crates/c_rows`, or of FILE
     scripts/compare_c_graphs.py random [COUNT] [SEED]   the functions below, each on so many random states
     scripts/compare_c_graphs.py made [COUNT] [SEED]     so many random programs of `compare_runs.py`, each on 4 random states
 
-It is run outside the gate. `crates/c_unit_rows` prints the graphs and runs the calls, as `rt run` has built it there, else
+It is run outside the gate. `crates/c_rows` prints the graphs and runs the calls, as `rt run` has built it there, else
 unproved by `rt try`. The graphs are run here, by an evaluation of terms that is not
 the crates' own, from the same arguments, memory, zone and place. Where the evaluator returns, the graphs have to return
 with the same value and the same bytes; where a guard breaks they have to fail; where the turns don't suffice nothing is
@@ -20,7 +20,7 @@ from collections import Counter
 from pathlib import Path
 
 ROOT = Path(__file__).resolve().parent.parent
-ROWS = ROOT / "crates/c_unit_rows"
+ROWS = ROOT / "crates/c_rows"
 BATCH, STEPS = 200, 200000
 sys.setrecursionlimit(10000)
 

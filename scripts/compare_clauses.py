@@ -23,7 +23,7 @@ from probe import ask_each
 from probe_terms import READER, backwards
 from terms import Clauses, clauses, normal, sort, text, value
 
-CRATES = ["term_spec", "term_bank", "term_norm", "clause_spec", "cnf_core", "bit_blast"]
+CRATES = ["term_core_spec", "term_bank", "term_norm", "clause_check_spec", "cnf_core", "bit_blast"]
 
 HEAD = r"""//! Reads lines of a question and a goal: which of the goal's clauses are written, or what names are worth as values of
 //! the clauses' variables are read back. A goal after a tilde is brought into normal form first.

@@ -19,7 +19,7 @@ from pathlib import Path
 from probe import ask
 from terms import operate
 
-CRATES = ["rv_instr", "rv_machine", "elf_read", "code_reach", "term_spec", "term_bank", "graph_spec", "graph_core", "decompile", "indexmap"]
+CRATES = ["rv_instr", "rv_machine", "elf_read", "code_reach", "term_core_spec", "term_bank", "graph_core_spec", "graph_core", "decompile", "indexmap"]
 
 # Its arguments are executables. Reads lines of hexadecimal numbers: `graphs`, the place of a file and entries, ascending; or
 # `run`, the place of a file, an entry, a maximum of steps, x1 to x31, and words of memory from 00040000 on. Prints the
@@ -31,7 +31,7 @@ mod numbers;
 
 use elf_read::{Image, read};
 use graph_core::{SharedBinding, SharedNode};
-use graph_spec::Next;
+use graph_core_spec::Next;
 use numbers::hexadecimal;
 use rv_instr::Reg;
 use rv_machine::{Machine, Memory, run};
@@ -40,7 +40,7 @@ use std::env;
 use std::fs;
 use std::io::{BufRead, BufReader};
 use term_bank::{Bank, TermId, TermNode};
-use term_spec::{Atom, BinaryOperator, Family, Variable};
+use term_core_spec::{Atom, BinaryOperator, Family, Variable};
 
 fn put(out: &mut String, text: Result<String, AllocError>) -> Result<(), AllocError> {
     let text = text?;

@@ -9,7 +9,7 @@ breaks guard 2 (signed overflow) and doesn't trap is run once more with `+`, `-`
 report overflow, which it can't narrow. Those that trap then are counted apart; the others differ.
 
 It is run outside the gate and needs gcc for RISC-V and qemu (Debian: gcc-riscv64-linux-gnu, qemu-user) on the path, and
-the program `c_unit_rows`, or what `rt run` has built in its crate. The programs have loops, calls, `switch`, structs, arrays,
+the program `c_rows`, or what `rt run` has built in its crate. The programs have loops, calls, `switch`, structs, arrays,
 pointers into globals and all integer types, and are compiled with and without optimisation. A process a processor works
 on some of the programs at a time, at the lowest priority.
 """
@@ -25,7 +25,7 @@ from concurrent.futures import ProcessPoolExecutor
 from pathlib import Path
 
 ROOT = Path(__file__).resolve().parent.parent
-PROGRAM = Path(sys.argv[4]) if len(sys.argv) > 4 else ROOT / "crates/c_unit_rows/out/c_unit_rows"
+PROGRAM = Path(sys.argv[4]) if len(sys.argv) > 4 else ROOT / "crates/c_rows/out/c_rows"
 GCC = "riscv64-linux-gnu-gcc -march=rv32im -mabi=ilp32 -funsigned-char -fno-strict-aliasing -ffreestanding -nostdlib -static -Wl,--no-relax -w".split()
 DEFINED = ["-fwrapv"]
 TRAPS = ["-fsanitize=signed-integer-overflow,integer-divide-by-zero,shift-exponent,bounds-strict", "-fsanitize-undefined-trap-on-error"]

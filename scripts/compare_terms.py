@@ -135,7 +135,7 @@ def compare_rules(terms=20000, operators=600):
     return wrong
 
 
-NORMAL_CRATES = ["term_spec", "term_bank", "term_norm"]
+NORMAL_CRATES = ["term_core_spec", "term_bank", "term_norm"]
 
 HEAD = r"""//! Reads lines of two texts of terms, and says whether the second is the normal form of the first.
 #![tactic(auto)]

@@ -4,11 +4,12 @@
     scripts/compare_types.py types [COUNT] [SEED]         random expressions: accepted or refused, and the type of the value
     scripts/compare_types.py values [COUNT] [SEED]        random constant expressions and `sizeof`: accepted or refused, and the value
     scripts/compare_types.py statements [COUNT] [SEED]    random assignments, calls and returns: accepted or refused
-    scripts/compare_types.py rows                         those of types in `crates/c_unit_rows`, whose answers are asked of gcc alone
+    scripts/compare_types.py rows                         those of types in `crates/c_rows`, whose answers are asked of gcc alone
 
 It is run outside the gate and needs gcc for RISC-V (Debian: gcc-riscv64-linux-gnu) on the path. The texts go to the rows'
-program as it is compiled (`crates/c_unit_rows/out/c_unit_rows`, after `rt run` there); without it `rt try` runs it unproved. gcc is asked with `-pedantic-errors`, so that each constraint of C11 that is
-violated is an error. What differs by choice is counted by its cause, and everything else is printed.
+program as it is compiled (`crates/c_rows/out/c_rows`, after `rt run` there); without it `rt try` runs it unproved. gcc is
+asked with `-pedantic-errors`, so that each constraint of C11 that is violated is an error. What differs by choice is
+counted by its cause, and everything else is printed.
 """
 
 import random
@@ -19,7 +20,7 @@ from collections import Counter
 from pathlib import Path
 
 ROOT = Path(__file__).resolve().parent.parent
-ROWS = ROOT / "crates/c_unit_rows"
+ROWS = ROOT / "crates/c_rows"
 GCC = ["riscv64-linux-gnu-gcc", "-march=rv32im", "-mabi=ilp32", "-funsigned-char", "-std=c11", "-pedantic-errors", "-fmax-errors=0", "-x", "c"]
 BATCH = 400
 
@@ -116,7 +117,7 @@ class Maker:
 def ours(rows):
     """What the rows' program finds for each question and text."""
     text = "".join(f"{question} | ? | {unit}\n" for question, unit in rows)
-    program = ROWS / "out/c_unit_rows"
+    program = ROWS / "out/c_rows"
     command = [str(program)] if program.exists() else ["rt", "try", "--seconds", "3600"]
     ran = subprocess.run(command, cwd=ROWS, input=text, capture_output=True, text=True)
     found = [line[2:].strip() for line in ran.stdout.splitlines() if line.startswith("? ") or line == "?"]
@@ -356,9 +357,9 @@ def compare_rows():
         if line.startswith("#"):
             is_choice = line.startswith("# by choice")
             continue
-        question, answer, row = line.split(" | ", 2)
-        if question.split(" ")[0] not in ("check", "counts", "bodies", "structs", "names", "types"):
+        if line.split(" ")[0] not in ("check", "counts", "bodies", "structs", "names", "types"):
             continue
+        question, answer, row = line.split(" | ", 2)
         text = expanded(row)
         if len(text) > LONG:
             counted["not asked of gcc: too long"] += 1

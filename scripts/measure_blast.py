@@ -11,7 +11,7 @@ often its clauses were made, their variables and their number, seconds for makin
 
 from probe import measure, timed
 
-CRATES = ["term_spec", "term_bank", "cnf_core", "bit_blast"]
+CRATES = ["term_core_spec", "term_bank", "cnf_core", "bit_blast"]
 
 PROBE = r"""//! Makes the clauses of a goal: its arguments are which operator, how many of them in a chain, and how often.
 #![tactic(auto)]
@@ -23,7 +23,7 @@ use numbers::argument;
 use std::alloc::{AllocError, Global};
 use std::env;
 use term_bank::{Bank, TermId, TermNode};
-use term_spec::{Atom, BinaryOperator, Family, Sort, Variable, Width, WordOperator};
+use term_core_spec::{Atom, BinaryOperator, Family, Sort, Variable, Width, WordOperator};
 
 fn open(bank: &mut Bank, index: usize) -> Result<TermId, AllocError> {
     bank.add(TermNode::Leaf(Atom::Open(Variable {

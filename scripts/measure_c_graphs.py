@@ -3,7 +3,7 @@
 
     scripts/measure_c_graphs.py [PROGRAM]
 
-It is run outside the gate and needs GNU `time` (Debian: time) on the path, and the program `c_unit_rows` as `rt run` builds it
+It is run outside the gate and needs GNU `time` (Debian: time) on the path, and the program `c_rows` as `rt run` builds it
 in its folder. Each row is a unit: how many nodes its graphs have, the seconds and the peak of memory until it is typed, those
 of its graphs besides, and the time and memory that a node takes.
 """
@@ -14,7 +14,7 @@ import time
 from pathlib import Path
 
 ROOT = Path(__file__).resolve().parent.parent
-PROGRAM = Path(sys.argv[1]) if len(sys.argv) > 1 else ROOT / "crates/c_unit_rows/out/c_unit_rows"
+PROGRAM = Path(sys.argv[1]) if len(sys.argv) > 1 else ROOT / "crates/c_rows/out/c_rows"
 
 
 def body(statement, n, before=""):

@@ -11,7 +11,7 @@ a run: loads, doublings, terms before and after, seconds, and the peak of memory
 
 from probe import measure, timed
 
-CRATES = ["term_spec", "term_core", "term_bank", "flat_spec", "mem_terms"]
+CRATES = ["term_core_spec", "term_core", "term_bank", "mem_terms_spec", "mem_terms"]
 
 PROBE = r"""//! Makes a flat term: its arguments are loads and doublings.
 #![tactic(auto)]
@@ -26,7 +26,7 @@ use numbers::argument;
 use std::alloc::{AllocError, Global};
 use std::env;
 use term_bank::{Bank, TermId, TermNode};
-use term_spec::{Atom, BinaryOperator, Family, Sort, Variable, Width, WordOperator};
+use term_core_spec::{Atom, BinaryOperator, Family, Sort, Variable, Width, WordOperator};
 
 fn open(bank: &mut Bank, family: Family, sort: Sort) -> Result<TermId, AllocError> {
     bank.add(TermNode::Leaf(Atom::Open(Variable { family, index: 0, instance: 0, sort })))

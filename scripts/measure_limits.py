@@ -6,6 +6,7 @@
 - each nest that is legal, of expressions, types and statements, at the limits of docs/FORMATS.md, and one deeper;
 - 4 MiB of C of each dense kind (those of `measure_types.py` and `measure_syntax.py`), whole and with a fault at the end;
 - 16 MiB of executables, 65,534 segments, functions of many instructions and branches, 4,096 functions;
+- 65,534 runs of fixed bytes, which a store tests, and the certificate of such a proof, or one with the least logs;
 - certificates: terms and proofs at depth 128 and one deeper, 64 MiB of each kind of line, good and with a fault at the end.
 
 The stack is limited to 8 MiB. Each row is an input: the command, its bytes, the first line of the report and the status,
@@ -33,8 +34,10 @@ from measure_types import TEXTS  # noqa: E402
 MIB = 1 << 20
 C_LIMIT, ELF_LIMIT, CERTIFICATE_LIMIT = 4 * MIB, 16 * MIB, 64 * MIB
 RET, ADD, NOP = 0x00008067, 0x00B50533, 0x00000013
+STORE_WORD = 0x00B52023  # sw a1,0(a0)
 EXAMPLE = Path(__file__).resolve().parent.parent / "examples/counter"
 SUM = "unsigned f(unsigned a,unsigned b){return a+b;}"
+WRITE = "void f(unsigned *p,unsigned v){*p=v;}"
 FRONT = "tv-cert 1\nfunction f stack 0\n"
 LEAF = "leaf 3\nlog 0\nlog 0\nlog 0\n"
 
@@ -116,8 +119,9 @@ def many_functions(count):
     return executable([(name, [ADD, RET]) for name in names]), source
 
 
-def executable(functions, more=b"", symbols=0, headers=0):
-    """Functions in one segment; bytes more in it, symbols more, and empty segments more."""
+def executable(functions, more=b"", symbols=0, headers=0, runs=0):
+    """Functions in one segment; bytes more in it, symbols more, segments of zeros that may be written more, and segments
+    more of one byte that may not, two bytes apart: each is a run of fixed bytes."""
     code, table, names = b"", bytes(16), b"\0"
     for name, words in functions:
         table += struct.pack("<IIIBBH", len(names), 0x10000 + len(code), 4 * len(words), 0x12, 0, 1)
@@ -125,13 +129,14 @@ def executable(functions, more=b"", symbols=0, headers=0):
         names += name.encode() + b"\0"
     table += struct.pack("<IIIBBH", 1, 0x10000, 0, 0x10, 0, 1) * symbols
     code += more
-    begin = 52 + 32 * (1 + headers)
+    begin = 52 + 32 * (1 + headers + runs)
     strings = begin + len(code) + len(table)
     sections = strings + len(names) + -len(names) % 4
     made = b"\x7fELF\1\1\1" + bytes(9)
-    made += struct.pack("<HHIIIIIHHHHHH", 2, 243, 1, 0, 52, sections, 0, 52, 32, 1 + headers, 40, 3, 0)
+    made += struct.pack("<HHIIIIIHHHHHH", 2, 243, 1, 0, 52, sections, 0, 52, 32, 1 + headers + runs, 40, 3, 0)
     made += struct.pack("<8I", 1, begin, 0x10000, 0x10000, len(code), len(code), 5, 4)
     made += b"".join(struct.pack("<8I", 1, 0, 0x4000000 + 16 * n, 0, 0, 16, 6, 4) for n in range(headers))
+    made += b"".join(struct.pack("<8I", 1, begin, 0x8000000 + 2 * n, 0, 1, 1, 4, 1) for n in range(runs))
     made += code + table + names + bytes(-len(names) % 4) + bytes(40)
     made += struct.pack("<10I", 0, 2, 0, 0, begin + len(code), len(table), 2, 1, 4, 16)
     return made + struct.pack("<10I", 0, 3, 0, 0, strings, len(names), 0, 0, 1, 0)
@@ -248,6 +253,15 @@ def executables(rows):
     prove("a function of 4,000,000 instructions", executable([("f", function_words(4000000))]))
     for count in (1000, 4000, 16000, 65000):
         prove(f"a function of {count} instructions", executable([("f", function_words(count))]))
+    for count in (1, 10, 100, 1000, 10000, 20000, 25000, 65534):
+        store = executable([("f", [STORE_WORD, RET])], runs=count - 1)
+        (rows.folder / "o").unlink(missing_ok=True)
+        prove(f"a store, {count} runs of fixed bytes", store, WRITE)
+        found = (rows.folder / "o").read_text() if rows.asked("runs of fixed bytes") and (rows.folder / "o").exists() else ""
+        least = FRONT + LEAF + "end\n"
+        rows.check(f"a store, {count} runs of fixed bytes, least logs", least, elf=store, source=WRITE)
+        if "\nleaf" in found:
+            rows.check(f"a store, {count} runs of fixed bytes, as found", found, lambda made: made.status == 0, store, WRITE)
     for count in (10, 100, 1000, 10000, 21000):
         prove(f"a function of {count} branches in a row", executable([("f", branches(count))]))
     for count in (512, 1024, 2048, 4096):

@@ -26,7 +26,7 @@ from compare_search import LIMIT, asked, goals, question
 from probe import ROOT, built, timed
 from terms import clauses
 
-CRATES = ["clause_spec", "cnf_core", "clause_check"]
+CRATES = ["clause_check_spec", "cnf_core", "clause_check"]
 
 # what both programs end with: a clause of the variables that there are is added
 PUSH = r"""
@@ -49,7 +49,7 @@ PROBE = r"""//! Checks logs: its arguments are steps, hints a step, further lite
 
 ghost use Rattle.std.specs.Prelude.{◌≡◌, true};
 ghost use Rattle.std.specs.List.{list_all};
-ghost use Rattle.clause_spec.specs.Clause.{is_of};
+ghost use Rattle.clause_check_spec.specs.Clause.{is_of};
 
 mod numbers;
 
@@ -132,7 +132,7 @@ LOGS = r"""//! Checks a log again and again. Its argument is how often; its inpu
 
 ghost use Rattle.std.specs.Prelude.{◌≡◌, true};
 ghost use Rattle.std.specs.List.{list_all};
-ghost use Rattle.clause_spec.specs.Clause.{is_of};
+ghost use Rattle.clause_check_spec.specs.Clause.{is_of};
 
 mod numbers;
 

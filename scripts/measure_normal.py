@@ -12,7 +12,7 @@ before and after, seconds, and the peak of memory.
 
 from probe import measure, timed
 
-CRATES = ["term_spec", "term_bank", "term_norm"]
+CRATES = ["term_core_spec", "term_bank", "term_norm"]
 
 PROBE = r"""//! Brings a term into normal form: its arguments are which addresses, how many stores, how many loads.
 #![tactic(auto)]
@@ -24,7 +24,7 @@ use std::alloc::{AllocError, Global};
 use std::env;
 use term_bank::{Bank, TermId, TermNode};
 use term_norm::normal;
-use term_spec::{
+use term_core_spec::{
     Atom, BinaryOperator, Family, Sort, TernaryOperator, UnaryOperator, Variable, Width,
     WordOperator,
 };

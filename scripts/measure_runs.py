@@ -3,7 +3,7 @@
 
     scripts/measure_runs.py [PROGRAM]
 
-It is run outside the gate and needs GNU `time` (Debian: time) on the path, and the program `c_unit_rows` as `rt run` builds it
+It is run outside the gate and needs GNU `time` (Debian: time) on the path, and the program `c_rows` as `rt run` builds it
 in its folder. Each row is a call: its turns, seconds, turns a second, the peak of memory, and the time and memory that a turn
 takes besides what the program takes for the first row.
 """
@@ -14,7 +14,7 @@ import time
 from pathlib import Path
 
 ROOT = Path(__file__).resolve().parent.parent
-PROGRAM = Path(sys.argv[1]) if len(sys.argv) > 1 else ROOT / "crates/c_unit_rows/out/c_unit_rows"
+PROGRAM = Path(sys.argv[1]) if len(sys.argv) > 1 else ROOT / "crates/c_rows/out/c_rows"
 
 SUM = "unsigned f(unsigned n){unsigned s=0;while(n!=0){s=s+n;n=n-1;}return s;}"
 COUNTS = "unsigned x;unsigned f(unsigned n){for(unsigned i=0;i<n;i++)x+=i;return x;}"

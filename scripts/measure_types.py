@@ -3,7 +3,7 @@
 
     scripts/measure_types.py [PROGRAM [TEXT..]]      these texts, or all
 
-It is run outside the gate and needs the rows' program as it is compiled (`rt run` in `crates/c_unit_rows`, whose out/ is
+It is run outside the gate and needs the rows' program as it is compiled (`rt run` in `crates/c_rows`, whose out/ is
 looked at unless a program is named) and GNU `time` (Debian: time). Each row is a text: its bytes, the answer, the processor
 seconds for its tokens and its tree and for its types, and the peaks of memory without and with the types. Those without
 are of the same text after a declaration that is refused. Typing is linear where the seconds double with the bytes. A run
@@ -16,7 +16,7 @@ import tempfile
 from pathlib import Path
 
 ROOT = Path(__file__).resolve().parent.parent
-PROGRAM = Path(sys.argv[1]) if len(sys.argv) > 1 else ROOT / "crates/c_unit_rows/out/c_unit_rows"
+PROGRAM = Path(sys.argv[1]) if len(sys.argv) > 1 else ROOT / "crates/c_rows/out/c_rows"
 # A run that takes more is given up.
 SECONDS, MEMORY_KIB = 120, 6 << 20
 SIZES = [1 << 20, 2 << 20, 4 << 20]

@@ -4,7 +4,7 @@ from terms import NUMBERED, arguments
 
 # the part of a program, after its own uses, that reads a term; AllocError is among these
 READER = r"""use term_bank::{Bank, TermId, TermNode};
-use term_spec::{
+use term_core_spec::{
     Atom, BinaryOperator, Family, QuaternaryOperator, Sort, TernaryOperator, UnaryOperator,
     Variable, Width, WordOperator,
 };

@@ -2,25 +2,25 @@
 use Rattle.std.proofs.Common.{◌≡◌, ◌∙◌, ℕ, ℤ, Bool, true, false, List, [], Option, Some, refl, sym, ap, subst, inl, inr}
 use Rattle.memory_spec.specs.Memory.{Memory}
 use Rattle.memory_spec.specs.Zones.{Zone}
-use Rattle.rv_spec.specs.Machine.{Machine, read_register}
-use Rattle.rv_spec.specs.Step as step
-use Rattle.walk_spec.specs.TransitionSystem.{after}
-use Rattle.walk_spec.proofs.Runs.{stops_once}
-use Rattle.walk_spec.specs.Simulation.{Simulates, IsStart, IsRelated}
-use Rattle.term_spec.specs.Value.{Assignment}
-use Rattle.graph_spec.specs.Graph.{Graphs}
-use Rattle.graph_spec.specs.Run as graph
-use Rattle.graph_spec.specs.Run.{State, Running, Returned, Failed, has_returned, has_failed, system_of}
-use Rattle.code_graph_spec.specs.State.{Alike}
-use Rattle.code_graph_spec.specs.Blocks.{Entrance}
-use Rattle.code_graph_laws.specs.Together as together
-use Rattle.code_graph_laws.specs.Together.{ReturnTogether}
-use Rattle.c_meaning_spec.specs.Calls.{Outcome, Back, c_run}
+use Rattle.rv_machine_spec.specs.Machine.{Machine, read_register}
+use Rattle.rv_machine_spec.specs.Step as step
+use Rattle.graph_core_spec.specs.TransitionSystem.{after}
+use Rattle.graph_core_spec.proofs.Runs.{stops_once}
+use Rattle.graph_core_spec.specs.Simulation.{Simulates, IsStart, IsRelated}
+use Rattle.term_core_spec.specs.Value.{Assignment}
+use Rattle.graph_core_spec.specs.Graph.{Graphs}
+use Rattle.graph_core_spec.specs.Run as graph
+use Rattle.graph_core_spec.specs.Run.{State, Running, Returned, Failed, has_returned, has_failed, system_of}
+use Rattle.decompile_spec.specs.State.{Alike}
+use Rattle.decompile_spec.specs.Blocks.{Entrance}
+use Rattle.decompile_laws.specs.Together as together
+use Rattle.decompile_laws.specs.Together.{ReturnTogether}
+use Rattle.c_run_spec.specs.Calls.{Outcome, Back, c_run}
 use Rattle.c_graph_laws.specs.Together as c
 use Rattle.c_graph_laws.specs.Together.{RunTogether, ReturnsAlike}
 use Rattle.c_graph_spec.specs.SourceGraph.{body_number, graphs_of}
-use Rattle.claim_spec.specs.Convention.{Gives, result_words}
-use Rattle.claim_spec.specs.Claim.{AgreesFrom, ComesBack, RunsBack}
+use Rattle.validity_spec.specs.Convention.{Gives, result_words}
+use Rattle.validity_spec.specs.Claim.{AgreesFrom, ComesBack, RunsBack}
 use Rattle.agreement_laws.specs.EntryFrame.{Pair, place_of}
 use Rattle.agreement_laws.proofs.Ends.{first_back, whole, safe, forth, back}
 

@@ -1,18 +1,18 @@
 -- The simulation of the frame at the entry gives agreement.
 use Rattle.std.proofs.Common.{◌≡◌, ◌∙◌, ℕ, ◌+◌, List, refl, sym, ap, subst}
 use Rattle.std.specs.Prelude.{ℤ}
-use Rattle.elf_spec.specs.Image.{fixed_byte, function_named}
-use Rattle.elf_spec.specs.declared.SymbolValues.TheVariants.{One}
-use Rattle.rv_spec.specs.Arithmetic.{word}
-use Rattle.rv_spec.specs.Machine.{Machine, read_register}
-use Rattle.rv_spec.proofs.Kept.{read_below}
-use Rattle.code_spec.specs.Code.{IsStack}
-use Rattle.term_spec.specs.declared.Width.TheVariants.{W32}
-use Rattle.term_spec.specs.Value.{Number, Assignment}
-use Rattle.code_graph_laws.specs.Together.{StartAlike, StepTogether, ReturnTogether}
-use Rattle.code_graph_laws.proofs.Running.{return_together, step_together}
-use Rattle.claim_spec.specs.Convention.{Meets, argument_words}
-use Rattle.claim_spec.specs.Claim.{AgreesWith, HaveTypes, IsValid}
+use Rattle.elf_read_spec.specs.Image.{fixed_byte, function_named}
+use Rattle.elf_read_spec.specs.declared.SymbolValues.TheVariants.{One}
+use Rattle.rv_machine_spec.specs.Arithmetic.{word}
+use Rattle.rv_machine_spec.specs.Machine.{Machine, read_register}
+use Rattle.rv_machine_spec.proofs.Kept.{read_below}
+use Rattle.code_reach_spec.specs.Code.{IsStack}
+use Rattle.term_core_spec.specs.declared.Width.TheVariants.{W32}
+use Rattle.term_core_spec.specs.Value.{Number, Assignment}
+use Rattle.decompile_laws.specs.Together.{StartAlike, StepTogether, ReturnTogether}
+use Rattle.decompile_laws.proofs.Running.{return_together, step_together}
+use Rattle.validity_spec.specs.Convention.{Meets, argument_words}
+use Rattle.validity_spec.specs.Claim.{AgreesWith, HaveTypes, IsValid}
 use Rattle.agreement_laws.specs.EntryFrame.{Pair}
 use Rattle.agreement_laws.specs.Statements.{IsPair, IsEntry, IsSimulatedAtEntry}
 use Rattle.agreement_laws.proofs.Assigned.{binary_values, binary_sorted, binary_entry_is, binary_register_is, binary_alike}
@@ -22,7 +22,7 @@ use Rattle.agreement_laws.proofs.Facts.{word_is}
 use Rattle.agreement_laws.proofs.Begun.{IsBegun, source_of, like_source, premise, binary_fine, source_fine}
 use Rattle.agreement_laws.proofs.Entries.{entries_agree}
 use Rattle.agreement_laws.proofs.Pairs.{size}
-use Rattle.pair_outcome_spec.proofs.Stacks.{one_stack}
+use Rattle.pair_setup_spec.proofs.Stacks.{one_stack}
 
 module _ (p : Pair) (is : IsPair p) (m : Machine) (arguments : List ℤ)
     (typed : HaveTypes p.body.signature.parameters arguments) (meets : Meets p.image p.entry p.stack m (argument_words arguments)) where

@@ -3,24 +3,24 @@ use Rattle.std.proofs.Common.{◌≡◌, ◌∙◌, ℕ, zero, suc, ◌+◌, ◌
 use Rattle.std.specs.Prelude.{ℤ, ⊤}
 use Rattle.std.specs.List.{All}
 use Rattle.std.proofs.lemmas.List.Elements.{All-head, All-tail}
-use Rattle.rv_spec.specs.Arithmetic as machine
-use Rattle.term_spec.specs.declared.Width.TheVariants.{W32}
-use Rattle.term_spec.specs.declared.Variable.{Variable}
-use Rattle.term_spec.specs.Sort.{bits}
-use Rattle.term_spec.specs.Term.{open_term, truth}
-use Rattle.term_spec.specs.Value.{Value, Truth, Number, Bytes, Assignment, IsAssignment, value}
-use Rattle.term_spec.proofs.Sorts.{as_word}
-use Rattle.code_graph_spec.specs.State.{register}
-use Rattle.c_type_spec.specs.declared.Scalar.{Scalar}
-use Rattle.c_type_spec.specs.Values.{of_bits}
-use Rattle.c_meaning_spec.specs.Calls.{locals_at_entry}
-use Rattle.c_meaning_laws.proofs.Ranges.{of_bits_is_of}
+use Rattle.rv_machine_spec.specs.Arithmetic as machine
+use Rattle.term_core_spec.specs.declared.Width.TheVariants.{W32}
+use Rattle.term_core_spec.specs.declared.Variable.{Variable}
+use Rattle.term_core_spec.specs.Sort.{bits}
+use Rattle.term_core_spec.specs.Term.{open_term, truth}
+use Rattle.term_core_spec.specs.Value.{Value, Truth, Number, Bytes, Assignment, IsAssignment, value}
+use Rattle.term_core_spec.proofs.Sorts.{as_word}
+use Rattle.decompile_spec.specs.State.{register}
+use Rattle.c_types_spec.specs.declared.Scalar.{Scalar}
+use Rattle.c_types_spec.specs.Values.{of_bits}
+use Rattle.c_run_spec.specs.Calls.{locals_at_entry}
+use Rattle.c_run_laws.proofs.Ranges.{of_bits_is_of}
 use Rattle.c_graph_spec.specs.State.{width_of, local, is_set}
 use Rattle.c_graph_laws.specs.Together.{HasLocal, unset, set}
 use Rattle.c_graph_laws.proofs.Extents.{IsPlain, byte, half, full, scalar}
 use Rattle.c_graph_laws.proofs.Divisions.{at_width_is}
 use Rattle.c_graph_laws.proofs.Bits.{bits_resized}
-use Rattle.claim_spec.specs.Claim.{HaveTypes}
+use Rattle.validity_spec.specs.Claim.{HaveTypes}
 use Rattle.agreement_laws.specs.EntryFrame.{Fact, parameter, widened, argument_facts, local_facts}
 use Rattle.agreement_laws.proofs.ReadBack.{open_value, bits_word}
 

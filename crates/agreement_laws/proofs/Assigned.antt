@@ -4,22 +4,22 @@ use Rattle.std.specs.Prelude.{ℤ, pos, negsuc}
 use Rattle.std.proofs.Math.Nat.{mod-eq_of_lt}
 use Rattle.memory_spec.specs.Memory.{Memory, byte_at}
 use Rattle.memory_spec.specs.Zones.{Zone}
-use Rattle.rv_spec.specs.Arithmetic as machine
-use Rattle.rv_spec.specs.Machine.{Machine, IsMachine, read_register}
-use Rattle.rv_spec.proofs.Kept.{read_below, byte_below}
-use Rattle.term_spec.specs.declared.Width.{Width}
-use Rattle.term_spec.specs.declared.Width.TheVariants.{W8, W16, W32, W64}
-use Rattle.term_spec.specs.declared.Sort.{Sort}
-use Rattle.term_spec.specs.declared.Sort.TheVariants as sort
-use Rattle.term_spec.specs.declared.Family.{Family}
-use Rattle.term_spec.specs.declared.Family.TheVariants as family
-use Rattle.term_spec.specs.Sort.{bits}
-use Rattle.term_spec.specs.Value.{Value, Truth, Number, Bytes, Assignment, IsAssignment, IsOfSort, low_bits}
-use Rattle.graph_spec.specs.Run.{unset}
-use Rattle.rule_spec.proofs.Sides.{unset-sort}
-use Rattle.code_graph_spec.specs.State.{register, entry_register, Alike}
-use Rattle.c_type_spec.specs.declared.Scalar.{Scalar}
-use Rattle.c_type_spec.specs.Values.{bits_of}
+use Rattle.rv_machine_spec.specs.Arithmetic as machine
+use Rattle.rv_machine_spec.specs.Machine.{Machine, IsMachine, read_register}
+use Rattle.rv_machine_spec.proofs.Kept.{read_below, byte_below}
+use Rattle.term_core_spec.specs.declared.Width.{Width}
+use Rattle.term_core_spec.specs.declared.Width.TheVariants.{W8, W16, W32, W64}
+use Rattle.term_core_spec.specs.declared.Sort.{Sort}
+use Rattle.term_core_spec.specs.declared.Sort.TheVariants as sort
+use Rattle.term_core_spec.specs.declared.Family.{Family}
+use Rattle.term_core_spec.specs.declared.Family.TheVariants as family
+use Rattle.term_core_spec.specs.Sort.{bits}
+use Rattle.term_core_spec.specs.Value.{Value, Truth, Number, Bytes, Assignment, IsAssignment, IsOfSort, low_bits}
+use Rattle.graph_core_spec.specs.Run.{unset}
+use Rattle.sim_rules_spec.proofs.Sides.{unset-sort}
+use Rattle.decompile_spec.specs.State.{register, entry_register, Alike}
+use Rattle.c_types_spec.specs.declared.Scalar.{Scalar}
+use Rattle.c_types_spec.specs.Values.{bits_of}
 use Rattle.c_graph_spec.specs.State.{width_of}
 use Rattle.c_graph_laws.proofs.Extents.{IsPlain, byte, half, full}
 

@@ -5,28 +5,28 @@ use Rattle.std.specs.List.{All}
 use Rattle.std.proofs.lemmas.Bool.{and_from}
 use Rattle.memory_spec.specs.Memory.{Memory, byte_at}
 use Rattle.memory_spec.specs.Zones.{Zone}
-use Rattle.elf_spec.specs.Image.{fixed_byte}
-use Rattle.rv_spec.specs.Arithmetic as machine
-use Rattle.term_spec.specs.declared.Width.TheVariants.{W32}
-use Rattle.term_spec.specs.Term.{Term}
-use Rattle.term_spec.specs.Value.{Number, Bytes, Assignment, IsAssignment, IsOfSort, Value}
-use Rattle.term_spec.specs.declared.Sort.TheVariants as sort
-use Rattle.condition_spec.specs.Passages.{holds}
-use Rattle.walk_spec.specs.Simulation.{IsRelated}
-use Rattle.graph_spec.specs.Run.{State, Running, Returned, Failed}
-use Rattle.graph_spec.specs.Fixed.{has_byte, holds_byte}
-use Rattle.code_graph_spec.specs.State.{register, entry_register}
-use Rattle.code_graph_laws.specs.Together.{run}
-use Rattle.c_type_spec.specs.declared.Scalar.{Scalar}
-use Rattle.c_meaning_spec.specs.Calls.{locals_at_entry}
+use Rattle.elf_read_spec.specs.Image.{fixed_byte}
+use Rattle.rv_machine_spec.specs.Arithmetic as machine
+use Rattle.term_core_spec.specs.declared.Width.TheVariants.{W32}
+use Rattle.term_core_spec.specs.Term.{Term}
+use Rattle.term_core_spec.specs.Value.{Number, Bytes, Assignment, IsAssignment, IsOfSort, Value}
+use Rattle.term_core_spec.specs.declared.Sort.TheVariants as sort
+use Rattle.path_cond_spec.specs.Passages.{holds}
+use Rattle.graph_core_spec.specs.Simulation.{IsRelated}
+use Rattle.graph_core_spec.specs.Run.{State, Running, Returned, Failed}
+use Rattle.graph_core_spec.specs.Fixed.{has_byte, holds_byte}
+use Rattle.decompile_spec.specs.State.{register, entry_register}
+use Rattle.decompile_laws.specs.Together.{run}
+use Rattle.c_types_spec.specs.declared.Scalar.{Scalar}
+use Rattle.c_run_spec.specs.Calls.{locals_at_entry}
 use Rattle.c_graph_laws.specs.Together.{Alike}
 use Rattle.c_graph_laws.proofs.ValidGraphs.{all_valid}
-use Rattle.proof_spec.specs.Cuts.{both}
-use Rattle.rule_spec.specs.Points.{values_at, all_hold, with_memory, binary_memory, bounded, nothing}
-use Rattle.rule_spec.specs.Systems.{IsBinaryFine, IsSourceFine, binary_always}
-use Rattle.rule_spec.proofs.Truths.{pass_all}
-use Rattle.claim_spec.specs.Convention.{argument_words}
-use Rattle.claim_spec.specs.Claim.{HaveTypes}
+use Rattle.proof_tree_spec.specs.Cuts.{both}
+use Rattle.sim_rules_spec.specs.Points.{values_at, all_hold, with_memory, binary_memory, bounded, nothing}
+use Rattle.sim_rules_spec.specs.Systems.{IsBinaryFine, IsSourceFine, binary_always}
+use Rattle.sim_rules_spec.proofs.Truths.{pass_all}
+use Rattle.validity_spec.specs.Convention.{argument_words}
+use Rattle.validity_spec.specs.Claim.{HaveTypes}
 use Rattle.agreement_laws.specs.EntryFrame.{Pair, place_of, convention_of, entry_frame, entry_opening, entry_premises, lines_of, registers, binary_facts, source_facts}
 use Rattle.agreement_laws.specs.Statements.{IsPair, binary_entry, source_entry}
 use Rattle.agreement_laws.proofs.Assigned.{source_values, source_sorted}

@@ -3,23 +3,23 @@ use Rattle.std.proofs.Common.{◌≡◌, ◌≢◌, ◌∙◌, ℕ, zero, suc, �
 use Rattle.std.specs.List.{All, list_any}
 use Rattle.std.proofs.lemmas.Bool.{cases_eq, or_cases, eqb-true, leb-true}
 use Rattle.std.proofs.lemmas.List.Elements.{All-nil, All-cons, All-contains}
-use Rattle.term_spec.specs.declared.Variable.{Variable}
-use Rattle.term_spec.specs.Term.{open_term, truth}
-use Rattle.term_spec.specs.Value.{Truth, Assignment, value}
-use Rattle.graph_spec.specs.Graph.{Binding}
-use Rattle.graph_spec.specs.Run.{bound, entered, is_shared, unset}
-use Rattle.code_graph_spec.specs.State.{register, entry_register}
-use Rattle.code_graph_spec.specs.InstructionTerms.{number}
-use Rattle.code_graph_spec.specs.Blocks.{entry_binding, other_registers, call_inputs, tail_inputs}
-use Rattle.c_type_spec.specs.declared.Scalar.{Scalar}
-use Rattle.c_type_spec.specs.Core.{Core, type_of}
+use Rattle.term_core_spec.specs.declared.Variable.{Variable}
+use Rattle.term_core_spec.specs.Term.{open_term, truth}
+use Rattle.term_core_spec.specs.Value.{Truth, Assignment, value}
+use Rattle.graph_core_spec.specs.Graph.{Binding}
+use Rattle.graph_core_spec.specs.Run.{bound, entered, is_shared, unset}
+use Rattle.decompile_spec.specs.State.{register, entry_register}
+use Rattle.decompile_spec.specs.InstructionTerms.{number}
+use Rattle.decompile_spec.specs.Blocks.{entry_binding, other_registers, call_inputs, tail_inputs}
+use Rattle.c_types_spec.specs.declared.Scalar.{Scalar}
+use Rattle.c_types_spec.specs.Core.{Core, type_of}
 use Rattle.c_graph_spec.specs.State.{local, is_set, zone_low, zone_high, memory}
 use Rattle.c_graph_spec.specs.Layout.{Setting, binding, value_in, inputs}
 use Rattle.c_graph_laws.proofs.Changes.{bound_here, bound_there, bound_none, apart_set, set_no_local}
 use Rattle.c_graph_laws.proofs.Spared.{Spares, spared}
 use Rattle.c_graph_laws.proofs.KeptBytes.{inputs_spare}
-use Rattle.rule_spec.specs.Points.{binary_memory}
-use Rattle.rule_spec.proofs.Truths.{all_pass}
+use Rattle.sim_rules_spec.specs.Points.{binary_memory}
+use Rattle.sim_rules_spec.proofs.Truths.{all_pass}
 use Rattle.agreement_laws.specs.EntryFrame.{registers}
 use Rattle.agreement_laws.proofs.Arguments.{Flags}
 use Rattle.agreement_laws.proofs.Premises.{all_more}

@@ -7,25 +7,25 @@ use Rattle.std.proofs.lemmas.List.Elements.{All-contains, All-head}
 use Rattle.std.proofs.Math.Nat.{mod-eq_of_lt}
 use Rattle.memory_spec.specs.Memory.{Memory, byte_at}
 use Rattle.memory_spec.specs.Zones.{Zone}
-use Rattle.term_spec.specs.declared.Width.TheVariants.{W32}
-use Rattle.term_spec.specs.Term.{Term, equal, open_term}
-use Rattle.term_spec.specs.Value.{Number, Bytes, Assignment, IsAssignment, value, low_bits}
-use Rattle.condition_spec.specs.Passages.{holds}
-use Rattle.walk_spec.specs.TransitionSystem.{TransitionSystem, after}
-use Rattle.walk_spec.specs.Simulation.{IsStart, IsRelated}
-use Rattle.graph_spec.specs.Run.{State, Returned, Failed, has_returned, has_failed, system_of, is_truth}
-use Rattle.graph_spec.specs.Sorts.{IsState}
-use Rattle.graph_spec.proofs.Sorts.{run_sorted}
-use Rattle.code_graph_spec.specs.Blocks.{Entrance}
-use Rattle.code_graph_spec.specs.State.{register, entry_register}
-use Rattle.c_type_spec.specs.declared.Scalar.{Scalar}
-use Rattle.c_type_spec.specs.Values.{bits_of}
-use Rattle.c_meaning_spec.specs.declared.Guard.{Guard}
-use Rattle.c_meaning_spec.specs.Setting.{Setting}
-use Rattle.c_meaning_spec.specs.Accesses.{in_zone}
-use Rattle.c_meaning_spec.specs.Calls.{Outcome, More, Broke, Back, c_run, locals_at_entry}
-use Rattle.c_meaning_laws.specs.Statements.{AreAlike, IsSameOutcome, barring, IsInside}
-use Rattle.c_meaning_laws.proofs.Laws.{zone_unread, narrow_zone, barred_stay}
+use Rattle.term_core_spec.specs.declared.Width.TheVariants.{W32}
+use Rattle.term_core_spec.specs.Term.{Term, equal, open_term}
+use Rattle.term_core_spec.specs.Value.{Number, Bytes, Assignment, IsAssignment, value, low_bits}
+use Rattle.path_cond_spec.specs.Passages.{holds}
+use Rattle.graph_core_spec.specs.TransitionSystem.{TransitionSystem, after}
+use Rattle.graph_core_spec.specs.Simulation.{IsStart, IsRelated}
+use Rattle.graph_core_spec.specs.Run.{State, Returned, Failed, has_returned, has_failed, system_of, is_truth}
+use Rattle.graph_core_spec.specs.Sorts.{IsState}
+use Rattle.graph_core_spec.proofs.Sorts.{run_sorted}
+use Rattle.decompile_spec.specs.Blocks.{Entrance}
+use Rattle.decompile_spec.specs.State.{register, entry_register}
+use Rattle.c_types_spec.specs.declared.Scalar.{Scalar}
+use Rattle.c_types_spec.specs.Values.{bits_of}
+use Rattle.c_run_spec.specs.declared.Guard.{Guard}
+use Rattle.c_run_spec.specs.Setting.{Setting}
+use Rattle.c_run_spec.specs.Accesses.{in_zone}
+use Rattle.c_run_spec.specs.Calls.{Outcome, More, Broke, Back, c_run, locals_at_entry}
+use Rattle.c_run_laws.specs.Statements.{AreAlike, IsSameOutcome, barring, IsInside}
+use Rattle.c_run_laws.proofs.Laws.{zone_unread, narrow_zone, barred_stay}
 use Rattle.c_graph_spec.specs.State.{width_of, result}
 use Rattle.c_graph_spec.specs.SourceGraph.{body_number, graphs_of}
 use Rattle.c_graph_laws.specs.Together as c
@@ -35,11 +35,11 @@ use Rattle.c_graph_laws.proofs.ValidGraphs.{all_valid}
 use Rattle.c_graph_laws.proofs.Extents.{ResultExtent, full, scalar}
 use Rattle.c_graph_laws.proofs.Divisions.{at_width_is}
 use Rattle.c_graph_laws.proofs.Bits.{bits_back}
-use Rattle.proof_spec.specs.Cuts.{both}
-use Rattle.rule_spec.specs.Points.{values_at, all_hold, with_memory, same_byte, binary_memory, source_memory}
-use Rattle.rule_spec.specs.Calling as calling
-use Rattle.rule_spec.specs.Systems.{relation, IsBinaryFine, IsSourceFine}
-use Rattle.rule_spec.proofs.Truths.{all_left, all_right, all_mapped, all_pass}
+use Rattle.proof_tree_spec.specs.Cuts.{both}
+use Rattle.sim_rules_spec.specs.Points.{values_at, all_hold, with_memory, same_byte, binary_memory, source_memory}
+use Rattle.sim_rules_spec.specs.Calling as calling
+use Rattle.sim_rules_spec.specs.Systems.{relation, IsBinaryFine, IsSourceFine}
+use Rattle.sim_rules_spec.proofs.Truths.{all_left, all_right, all_mapped, all_pass}
 use Rattle.agreement_laws.specs.EntryFrame.{Pair, place_of, convention_of, result_term, widened, entry_frame, entry_opening, entry_premises}
 use Rattle.agreement_laws.specs.Statements.{IsPair, IsSimulatedAtEntry, binary_entry, source_entry}
 use Rattle.agreement_laws.proofs.Agreed.{returned_is, failed_apart, returned_stays}

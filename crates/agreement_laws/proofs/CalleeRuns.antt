@@ -1,18 +1,18 @@
 -- The run of a callee, and that of its caller while it waits.
 use Rattle.std.proofs.Common.{◌≡◌, ◌∙◌, ℕ, ◌+◌, ◌-◌, ◌<◌, ◌≤◌, zero, suc, true, false, List, [], ◌∷◌, Option, refl, sym, ap, subst, inl, inr, arith}
 use Rattle.std.proofs.lemmas.Bool.{cases_lt, false_from_ne_true}
-use Rattle.term_spec.specs.Term.{less}
-use Rattle.term_spec.specs.Value.{Assignment}
-use Rattle.walk_spec.specs.TransitionSystem.{TransitionSystem, after, stopped}
-use Rattle.walk_spec.proofs.Runs.{after-add, still}
-use Rattle.graph_spec.specs.Graph.{Binding, Graph, Graphs}
-use Rattle.graph_spec.specs.Run.{Waiting, State, Running, Returned, Failed, act, enter, entered, resumed, bound, step, with_waiting, has_returned, has_failed, system_of}
-use Rattle.graph_spec.specs.Fixed.{has_byte, holds_byte}
-use Rattle.graph_spec.proofs.Callees.{after-with_waiting}
-use Rattle.proof_spec.specs.Frames.{Side}
-use Rattle.rule_spec.specs.Points.{binary_memory, bounded, nothing}
-use Rattle.rule_spec.specs.Crossing.{IsCallAt, IsReturn, begins}
-use Rattle.rule_spec.proofs.Crossing.{runs_on, found}
+use Rattle.term_core_spec.specs.Term.{less}
+use Rattle.term_core_spec.specs.Value.{Assignment}
+use Rattle.graph_core_spec.specs.TransitionSystem.{TransitionSystem, after, stopped}
+use Rattle.graph_core_spec.proofs.Runs.{after-add, still}
+use Rattle.graph_core_spec.specs.Graph.{Binding, Graph, Graphs}
+use Rattle.graph_core_spec.specs.Run.{Waiting, State, Running, Returned, Failed, act, enter, entered, resumed, bound, step, with_waiting, has_returned, has_failed, system_of}
+use Rattle.graph_core_spec.specs.Fixed.{has_byte, holds_byte}
+use Rattle.graph_core_spec.proofs.Callees.{after-with_waiting}
+use Rattle.proof_tree_spec.specs.Frames.{Side}
+use Rattle.sim_rules_spec.specs.Points.{binary_memory, bounded, nothing}
+use Rattle.sim_rules_spec.specs.Crossing.{IsCallAt, IsReturn, begins}
+use Rattle.sim_rules_spec.proofs.Crossing.{runs_on, found}
 use Rattle.agreement_laws.proofs.Agreed.{returned_stays}
 use Rattle.agreement_laws.proofs.Ends.{back_stops, first_back}
 

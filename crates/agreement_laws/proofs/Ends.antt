@@ -1,10 +1,10 @@
 -- A simulation without goals: neither side stops but by its return.
 use Rattle.std.proofs.Common.{◌≡◌, ◌∙◌, ℕ, ◌+◌, ◌-◌, ◌<◌, zero, suc, Bool, true, false, [], refl, sym, ap, subst, inl, inr, arith}
 use Rattle.std.proofs.lemmas.Bool.{or_cases, or_left, false_from_ne_true}
-use Rattle.walk_spec.specs.TransitionSystem.{TransitionSystem, after, reached, stopped, StopsAt}
-use Rattle.walk_spec.specs.Simulation.{Frame, Simulates, IsStart, IsRelated, Agree, EndsAlike, held, both_return, both_arrive}
-use Rattle.walk_spec.proofs.Runs.{returned_on, still, after-add}
-use Rattle.condition_spec.proofs.Edges.{contains_none}
+use Rattle.graph_core_spec.specs.TransitionSystem.{TransitionSystem, after, reached, stopped, StopsAt}
+use Rattle.graph_core_spec.specs.Simulation.{Frame, Simulates, IsStart, IsRelated, Agree, EndsAlike, held, both_return, both_arrive}
+use Rattle.graph_core_spec.proofs.Runs.{returned_on, still, after-add}
+use Rattle.path_cond_spec.proofs.Edges.{contains_none}
 
 module _ {S : Type 0} (w : TransitionSystem S) (stays : (s : S) → w.returned s ≡ true → w.step s ≡ s) where
   -- without marks the run stops where it returns

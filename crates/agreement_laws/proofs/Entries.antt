@@ -3,28 +3,28 @@ use Rattle.std.proofs.Common.{◌≡◌, ◌∙◌, ℕ, Bool, false, List, is_s
 use Rattle.std.specs.Prelude.{ℤ}
 use Rattle.std.proofs.lemmas.Bool.{false_from_ne_true}
 use Rattle.std.proofs.Math.Path.{fun_ext}
-use Rattle.elf_spec.proofs.Runs.{runs_are_fixed}
-use Rattle.rv_spec.specs.Machine.{Machine, read_register}
-use Rattle.rv_spec.proofs.Kept.{read_below}
-use Rattle.walk_spec.specs.TransitionSystem.{after}
-use Rattle.walk_spec.specs.Simulation.{IsStart}
-use Rattle.term_spec.specs.declared.Width.TheVariants.{W32}
-use Rattle.term_spec.specs.Value.{Number, Assignment}
-use Rattle.graph_spec.specs.Run.{State, has_failed, system_of}
-use Rattle.code_graph_spec.specs.State.{entry_register}
-use Rattle.code_graph_spec.specs.Blocks.{Entrance}
-use Rattle.code_graph_laws.specs.Together.{ReturnTogether}
-use Rattle.code_graph_laws.proofs.Running.{return_together}
-use Rattle.c_meaning_spec.specs.Calls.{c_run}
-use Rattle.c_meaning_spec.specs.Setting.{Setting}
+use Rattle.elf_read_spec.proofs.Runs.{runs_are_fixed}
+use Rattle.rv_machine_spec.specs.Machine.{Machine, read_register}
+use Rattle.rv_machine_spec.proofs.Kept.{read_below}
+use Rattle.graph_core_spec.specs.TransitionSystem.{after}
+use Rattle.graph_core_spec.specs.Simulation.{IsStart}
+use Rattle.term_core_spec.specs.declared.Width.TheVariants.{W32}
+use Rattle.term_core_spec.specs.Value.{Number, Assignment}
+use Rattle.graph_core_spec.specs.Run.{State, has_failed, system_of}
+use Rattle.decompile_spec.specs.State.{entry_register}
+use Rattle.decompile_spec.specs.Blocks.{Entrance}
+use Rattle.decompile_laws.specs.Together.{ReturnTogether}
+use Rattle.decompile_laws.proofs.Running.{return_together}
+use Rattle.c_run_spec.specs.Calls.{c_run}
+use Rattle.c_run_spec.specs.Setting.{Setting}
 use Rattle.c_graph_spec.specs.SourceGraph.{body_number, graphs_of}
 use Rattle.c_graph_laws.specs.Together as c
 use Rattle.c_graph_laws.proofs.Together.{together}
-use Rattle.proof_spec.specs.Cuts.{both}
-use Rattle.rule_spec.specs.Points.{all_hold}
-use Rattle.rule_spec.specs.Systems.{relation, IsBinaryFine, IsSourceFine}
-use Rattle.claim_spec.specs.Convention.{dead_stack, Meets, argument_words}
-use Rattle.claim_spec.specs.Claim.{AgreesFrom, BreaksNoGuard, run_from, setting_of}
+use Rattle.proof_tree_spec.specs.Cuts.{both}
+use Rattle.sim_rules_spec.specs.Points.{all_hold}
+use Rattle.sim_rules_spec.specs.Systems.{relation, IsBinaryFine, IsSourceFine}
+use Rattle.validity_spec.specs.Convention.{dead_stack, Meets, argument_words}
+use Rattle.validity_spec.specs.Claim.{AgreesFrom, BreaksNoGuard, run_from, setting_of}
 use Rattle.agreement_laws.specs.EntryFrame.{Pair, place_of, convention_of, entry_frame, entry_opening, entry_premises}
 use Rattle.agreement_laws.specs.Statements.{IsPair, IsEntry, IsSimulatedAtEntry, binary_entry, source_entry}
 use Rattle.agreement_laws.proofs.Pairs.{size, code, extents, never_entry, failed_is, binary_at, source_at}

@@ -1,14 +1,14 @@
 -- What a function had in a variable of its own, which it never binds, when it began stays so until it has returned or failed.
 use Rattle.std.proofs.Common.{◌≡◌, ◌∙◌, ℕ, zero, suc, Bool, false, if◌then◌else◌, List, [], ◌∷◌, Option, Some, None, slice_get, refl, sym, ap}
-use Rattle.term_spec.specs.declared.Variable.{Variable}
-use Rattle.term_spec.specs.Value.{Value, Assignment, value}
-use Rattle.walk_spec.specs.TransitionSystem.{after}
-use Rattle.graph_spec.specs.declared.Next.{Next}
-use Rattle.graph_spec.specs.declared.Next.TheVariants as next
-use Rattle.graph_spec.specs.Graph.{Binding, Node, Basic, Cond, Call, Graph, Graphs, node_at}
-use Rattle.graph_spec.specs.Variables.{own_bindings}
+use Rattle.term_core_spec.specs.declared.Variable.{Variable}
+use Rattle.term_core_spec.specs.Value.{Value, Assignment, value}
+use Rattle.graph_core_spec.specs.TransitionSystem.{after}
+use Rattle.graph_core_spec.specs.declared.Next.{Next}
+use Rattle.graph_core_spec.specs.declared.Next.TheVariants as next
+use Rattle.graph_core_spec.specs.Graph.{Binding, Node, Basic, Cond, Call, Graph, Graphs, node_at}
+use Rattle.graph_core_spec.specs.Variables.{own_bindings}
 use Rattle.c_graph_laws.proofs.Spared.{Spares, spared}
-use Rattle.graph_spec.specs.Run.{Waiting, State, Running, Returned, Failed, bound, is_shared, step, act, go, leave, enter, entered, is_truth, system_of}
+use Rattle.graph_core_spec.specs.Run.{Waiting, State, Running, Returned, Failed, bound, is_shared, step, act, go, leave, enter, entered, is_truth, system_of}
 
 -- none of these binds it
 abbrev pub Never : Variable → List Binding → Type 0

@@ -3,27 +3,27 @@ use Rattle.std.proofs.Common.{◌≡◌, ℕ, suc, ◌+◌, ◌^◌, ◌<◌, Bo
 use Rattle.std.specs.List.{All}
 use Rattle.std.proofs.lemmas.List.Elements.{All-nil, All-cons, All-append, All-head, All-tail}
 use Rattle.memory_spec.specs.Zones.{Zone}
-use Rattle.elf_spec.specs.Image.{fixed_byte}
-use Rattle.term_spec.specs.declared.Sort.{Sort}
-use Rattle.term_spec.specs.declared.Sort.TheVariants as sort
-use Rattle.term_spec.specs.declared.Variable.{Variable}
-use Rattle.term_spec.specs.Same.{same_variable}
-use Rattle.term_spec.proofs.Same.{variable-same}
-use Rattle.term_spec.specs.Sort.{sort_of, sort_of_atom}
-use Rattle.term_spec.specs.Term.{Term, open_term, truth}
-use Rattle.term_spec.specs.Value.{Assignment, IsAssignment, IsOfSort, value}
-use Rattle.term_spec.specs.Substitution.{State as Terms, values_of}
-use Rattle.term_spec.proofs.Soundness.{value-sort}
-use Rattle.code_graph_spec.specs.State as code
-use Rattle.c_type_spec.specs.declared.Scalar.{Scalar}
+use Rattle.elf_read_spec.specs.Image.{fixed_byte}
+use Rattle.term_core_spec.specs.declared.Sort.{Sort}
+use Rattle.term_core_spec.specs.declared.Sort.TheVariants as sort
+use Rattle.term_core_spec.specs.declared.Variable.{Variable}
+use Rattle.term_core_spec.specs.Same.{same_variable}
+use Rattle.term_core_spec.proofs.Same.{variable-same}
+use Rattle.term_core_spec.specs.Sort.{sort_of, sort_of_atom}
+use Rattle.term_core_spec.specs.Term.{Term, open_term, truth}
+use Rattle.term_core_spec.specs.Value.{Assignment, IsAssignment, IsOfSort, value}
+use Rattle.term_core_spec.specs.Substitution.{State as Terms, values_of}
+use Rattle.term_core_spec.proofs.Soundness.{value-sort}
+use Rattle.decompile_spec.specs.State as code
+use Rattle.c_types_spec.specs.declared.Scalar.{Scalar}
 use Rattle.c_graph_spec.specs.State.{local, is_set, zone_low, zone_high}
 use Rattle.c_graph_laws.proofs.Extents.{IsPlain, full, scalar}
 use Rattle.c_graph_laws.proofs.Sorted.{at_width_sorted}
-use Rattle.rule_spec.specs.Calling.{zone_from, at_entry}
-use Rattle.rule_spec.specs.Rules.{at_cut}
-use Rattle.rule_spec.specs.Proper.{Opens}
-use Rattle.rule_spec.proofs.AtCut.{cuts_open}
-use Rattle.rule_spec.proofs.Calling.{is_convention}
+use Rattle.sim_rules_spec.specs.Calling.{zone_from, at_entry}
+use Rattle.sim_rules_spec.specs.Rules.{at_cut}
+use Rattle.sim_rules_spec.specs.Proper.{Opens}
+use Rattle.sim_rules_spec.proofs.AtCut.{cuts_open}
+use Rattle.sim_rules_spec.proofs.Calling.{is_convention}
 use Rattle.agreement_laws.specs.EntryFrame.{Pair, Fact, given, convention_of, result_term, entry_frame, entry_opening, parameter, widened, argument_facts, registers, binary_facts, local_facts, zone_facts, source_facts}
 use Rattle.agreement_laws.specs.Statements.{IsPair}
 use Rattle.agreement_laws.proofs.Opening.{opened}

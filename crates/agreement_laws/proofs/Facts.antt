@@ -7,29 +7,29 @@ use Rattle.std.proofs.lemmas.List.Elements.{All-append, All-head, All-tail}
 use Rattle.std.proofs.Math.Nat.{mod-eq_of_lt}
 use Rattle.memory_spec.specs.Memory.{Memory, byte_at}
 use Rattle.memory_spec.specs.Zones.{Zone}
-use Rattle.rv_spec.specs.Arithmetic as machine
-use Rattle.term_spec.specs.declared.Width.{Width}
-use Rattle.term_spec.specs.declared.Width.TheVariants.{W32}
-use Rattle.term_spec.specs.Sort.{bits}
-use Rattle.term_spec.specs.Term.{Term, equal, open_term, truth}
-use Rattle.term_spec.specs.Value.{Truth, Number, Bytes, Assignment, value, binary_value, low_bits}
-use Rattle.term_spec.proofs.Sorts.{same_width-same}
-use Rattle.condition_spec.specs.Passages.{holds}
-use Rattle.graph_spec.specs.Run.{is_truth}
-use Rattle.code_graph_spec.specs.State as code
-use Rattle.code_graph_laws.proofs.Values.{same_truth_evaluates}
-use Rattle.c_type_spec.specs.declared.Scalar.{Scalar}
-use Rattle.c_type_spec.specs.Values.{bits_of, is_of}
-use Rattle.c_meaning_spec.specs.Calls.{locals_at_entry}
+use Rattle.rv_machine_spec.specs.Arithmetic as machine
+use Rattle.term_core_spec.specs.declared.Width.{Width}
+use Rattle.term_core_spec.specs.declared.Width.TheVariants.{W32}
+use Rattle.term_core_spec.specs.Sort.{bits}
+use Rattle.term_core_spec.specs.Term.{Term, equal, open_term, truth}
+use Rattle.term_core_spec.specs.Value.{Truth, Number, Bytes, Assignment, value, binary_value, low_bits}
+use Rattle.term_core_spec.proofs.Sorts.{same_width-same}
+use Rattle.path_cond_spec.specs.Passages.{holds}
+use Rattle.graph_core_spec.specs.Run.{is_truth}
+use Rattle.decompile_spec.specs.State as code
+use Rattle.decompile_laws.proofs.Values.{same_truth_evaluates}
+use Rattle.c_types_spec.specs.declared.Scalar.{Scalar}
+use Rattle.c_types_spec.specs.Values.{bits_of, is_of}
+use Rattle.c_run_spec.specs.Calls.{locals_at_entry}
 use Rattle.c_graph_spec.specs.State.{width_of, local, is_set, zone_low, zone_high}
 use Rattle.c_graph_laws.proofs.Extents.{IsPlain, full, scalar}
 use Rattle.c_graph_laws.specs.Together.{Alike, HasLocal, unset, set}
 use Rattle.c_graph_laws.proofs.Divisions.{at_width_is}
 use Rattle.c_graph_laws.proofs.Bits.{bits_resized, bits_below, value_back}
-use Rattle.rule_spec.specs.Points.{values_at, same_byte, binary_memory}
-use Rattle.rule_spec.specs.Calling as calling
-use Rattle.claim_spec.specs.Convention.{argument_words}
-use Rattle.claim_spec.specs.Claim.{HaveTypes}
+use Rattle.sim_rules_spec.specs.Points.{values_at, same_byte, binary_memory}
+use Rattle.sim_rules_spec.specs.Calling as calling
+use Rattle.validity_spec.specs.Convention.{argument_words}
+use Rattle.validity_spec.specs.Claim.{HaveTypes}
 use Rattle.agreement_laws.specs.EntryFrame.{Pair, Fact, convention_of, lines_of, parameter, widened, argument_facts, registers, binary_facts, local_facts, zone_facts, source_facts}
 use Rattle.agreement_laws.specs.Statements.{binary_entry, source_entry}
 use Rattle.agreement_laws.proofs.Assigned.{source_values, source_sorted, low_word}

@@ -5,26 +5,26 @@ use Rattle.std.specs.FinMap.{get}
 use Rattle.std.proofs.lemmas.Bool.{cases_Bool, cases_lt, lt-ltb, le-ltb, eq-eqb, and_from, or_left, or_right}
 use Rattle.memory_spec.specs.Memory.{byte_at}
 use Rattle.memory_spec.specs.Zones.{Zone}
-use Rattle.rv_spec.specs.Machine.{Machine, IsMachine, read_register}
-use Rattle.term_spec.specs.declared.Width.TheVariants.{W32}
-use Rattle.term_spec.specs.declared.Variable.{Variable}
-use Rattle.term_spec.specs.Term.{Term, equal, open_term}
-use Rattle.walk_spec.specs.TransitionSystem.{after}
-use Rattle.term_spec.specs.Value.{Value, Number, Bytes, Assignment}
-use Rattle.condition_spec.specs.Passages.{holds}
-use Rattle.elf_spec.specs.Image.{Image, fixed_byte}
-use Rattle.graph_spec.specs.Graph.{Node, Graphs, node_at}
-use Rattle.graph_spec.specs.Variables.{own_bindings}
-use Rattle.code_graph_laws.specs.Together.{Numbering, Corresponds, corresponds, IsOver, returned, failed, StepTogether, ReturnTogether, run}
-use Rattle.graph_spec.specs.Run.{State, Waiting, Running, Returned, Failed, has_failed, has_returned, is_shared, system_of}
-use Rattle.graph_spec.specs.Fixed.{has_byte, holds_byte, AlwaysHoldsFixed}
-use Rattle.code_graph_spec.specs.State.{Alike, entry_register}
-use Rattle.rule_spec.specs.Points.{Convention, values_in, values_at, outermost_values, all_hold, binary_memory, source_memory, bounded, nothing, entry_zone, source_zone}
-use Rattle.rule_spec.specs.Systems.{entry_holds, source_always}
-use Rattle.rule_spec.specs.Calling.{word}
+use Rattle.rv_machine_spec.specs.Machine.{Machine, IsMachine, read_register}
+use Rattle.term_core_spec.specs.declared.Width.TheVariants.{W32}
+use Rattle.term_core_spec.specs.declared.Variable.{Variable}
+use Rattle.term_core_spec.specs.Term.{Term, equal, open_term}
+use Rattle.graph_core_spec.specs.TransitionSystem.{after}
+use Rattle.term_core_spec.specs.Value.{Value, Number, Bytes, Assignment}
+use Rattle.path_cond_spec.specs.Passages.{holds}
+use Rattle.elf_read_spec.specs.Image.{Image, fixed_byte}
+use Rattle.graph_core_spec.specs.Graph.{Node, Graphs, node_at}
+use Rattle.graph_core_spec.specs.Variables.{own_bindings}
+use Rattle.decompile_laws.specs.Together.{Numbering, Corresponds, corresponds, IsOver, returned, failed, StepTogether, ReturnTogether, run}
+use Rattle.graph_core_spec.specs.Run.{State, Waiting, Running, Returned, Failed, has_failed, has_returned, is_shared, system_of}
+use Rattle.graph_core_spec.specs.Fixed.{has_byte, holds_byte, AlwaysHoldsFixed}
+use Rattle.decompile_spec.specs.State.{Alike, entry_register}
+use Rattle.sim_rules_spec.specs.Points.{Convention, values_in, values_at, outermost_values, all_hold, binary_memory, source_memory, bounded, nothing, entry_zone, source_zone}
+use Rattle.sim_rules_spec.specs.Systems.{entry_holds, source_always}
+use Rattle.sim_rules_spec.specs.Calling.{word}
 use Rattle.c_graph_spec.specs.State.{zone_low, zone_high}
 use Rattle.c_graph_spec.specs.SourceGraph.{body_number, graphs_of}
-use Rattle.rule_spec.proofs.Truths.{pass_all}
+use Rattle.sim_rules_spec.proofs.Truths.{pass_all}
 use Rattle.agreement_laws.specs.EntryFrame.{Pair, place_of, convention_of, entry_frame, entry_premises}
 use Rattle.agreement_laws.specs.Statements.{binary_entry, source_entry}
 use Rattle.c_graph_laws.proofs.OwnBindings.{no_zone}

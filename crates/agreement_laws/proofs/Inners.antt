@@ -9,31 +9,31 @@ use Rattle.std.proofs.lemmas.Nat.{and_mask}
 use Rattle.std.proofs.lemmas.List.Elements.{All-append, All-head, All-tail}
 use Rattle.memory_spec.specs.Memory.{Memory, byte_at}
 use Rattle.memory_spec.specs.Zones.{Zone, InZone}
-use Rattle.elf_spec.specs.Image.{fixed_byte, global_pointer}
-use Rattle.rv_spec.specs.Arithmetic as machine
-use Rattle.term_spec.specs.declared.Width.TheVariants.{W32}
-use Rattle.term_spec.specs.Term.{Term, equal, less, not_term, open_term, bit_and as and_words}
-use Rattle.term_spec.specs.Value.{Value, Number, Bytes, Assignment, IsAssignment, low_bits}
-use Rattle.term_spec.proofs.Sorts.{as_word, as_memory}
-use Rattle.condition_spec.specs.Passages.{holds}
-use Rattle.walk_spec.specs.TransitionSystem.{TransitionSystem, after}
-use Rattle.walk_spec.specs.Simulation.{IsStart, IsRelated, Agree, EndsAlike, both_return}
-use Rattle.graph_spec.specs.Run.{State, Returned, Failed, has_returned, has_failed, system_of, is_truth}
-use Rattle.graph_spec.specs.Fixed.{has_byte, holds_byte}
-use Rattle.code_graph_spec.specs.Blocks.{Entrance}
-use Rattle.code_graph_spec.specs.State.{register, entry_register}
-use Rattle.c_type_spec.specs.declared.Scalar.{Scalar}
-use Rattle.c_meaning_spec.specs.Accesses.{in_zone}
-use Rattle.c_meaning_spec.specs.Calls.{locals_at_entry}
+use Rattle.elf_read_spec.specs.Image.{fixed_byte, global_pointer}
+use Rattle.rv_machine_spec.specs.Arithmetic as machine
+use Rattle.term_core_spec.specs.declared.Width.TheVariants.{W32}
+use Rattle.term_core_spec.specs.Term.{Term, equal, less, not_term, open_term, bit_and as and_words}
+use Rattle.term_core_spec.specs.Value.{Value, Number, Bytes, Assignment, IsAssignment, low_bits}
+use Rattle.term_core_spec.proofs.Sorts.{as_word, as_memory}
+use Rattle.path_cond_spec.specs.Passages.{holds}
+use Rattle.graph_core_spec.specs.TransitionSystem.{TransitionSystem, after}
+use Rattle.graph_core_spec.specs.Simulation.{IsStart, IsRelated, Agree, EndsAlike, both_return}
+use Rattle.graph_core_spec.specs.Run.{State, Returned, Failed, has_returned, has_failed, system_of, is_truth}
+use Rattle.graph_core_spec.specs.Fixed.{has_byte, holds_byte}
+use Rattle.decompile_spec.specs.Blocks.{Entrance}
+use Rattle.decompile_spec.specs.State.{register, entry_register}
+use Rattle.c_types_spec.specs.declared.Scalar.{Scalar}
+use Rattle.c_run_spec.specs.Accesses.{in_zone}
+use Rattle.c_run_spec.specs.Calls.{locals_at_entry}
 use Rattle.c_graph_spec.specs.State.{zone_low, zone_high, result}
 use Rattle.c_graph_spec.specs.SourceGraph.{body_number, graphs_of}
 use Rattle.c_graph_laws.specs.Together.{Alike, HasLocal}
-use Rattle.rule_spec.specs.Points.{Convention, values_at, all_hold, with_memory, same_byte, binary_memory, source_memory, bounded, nothing, entry_zone, source_zone}
-use Rattle.rule_spec.specs.Calling as calling
-use Rattle.rule_spec.specs.Calling.{word, at_entry, global_pointer_lines}
-use Rattle.rule_spec.specs.Systems.{relation, entry_holds, IsBinaryFine, IsSourceFine}
-use Rattle.rule_spec.proofs.Start.{running_at}
-use Rattle.rule_spec.proofs.Truths.{all_left, all_right, all_mapped, all_pass, pass_all}
+use Rattle.sim_rules_spec.specs.Points.{Convention, values_at, all_hold, with_memory, same_byte, binary_memory, source_memory, bounded, nothing, entry_zone, source_zone}
+use Rattle.sim_rules_spec.specs.Calling as calling
+use Rattle.sim_rules_spec.specs.Calling.{word, at_entry, global_pointer_lines}
+use Rattle.sim_rules_spec.specs.Systems.{relation, entry_holds, IsBinaryFine, IsSourceFine}
+use Rattle.sim_rules_spec.proofs.Start.{running_at}
+use Rattle.sim_rules_spec.proofs.Truths.{all_left, all_right, all_mapped, all_pass, pass_all}
 use Rattle.agreement_laws.specs.EntryFrame.{Pair, Fact, place_of, lines_of, result_term, widened, argument_facts, registers, binary_facts, local_facts}
 use Rattle.agreement_laws.specs.Inner.{inner_convention, inner_premises, inner_zone_facts, inner_known, inner_frame, is_kept, has_there, before_here, before_kept, inner_over, Inner}
 use Rattle.agreement_laws.specs.Statements.{IsPair, IsSimulatedAtEntry, binary_entry, source_entry}

@@ -4,17 +4,17 @@ use Rattle.std.specs.Prelude.{IfSome, bit_and}
 use Rattle.std.specs.List.{All}
 use Rattle.std.proofs.lemmas.Bool.{or_cases, and_from, lt-ltb, le-ltb, le-leb, ltb-false, eqb-true}
 use Rattle.std.proofs.lemmas.List.Elements.{All-head}
-use Rattle.term_spec.specs.declared.Width.TheVariants.{W32}
-use Rattle.term_spec.specs.declared.WordOperator.TheVariants as operator
-use Rattle.term_spec.specs.Term.{Term, equal, less, not_term, or_term, bit_and as and_words}
-use Rattle.term_spec.specs.Value.{Value, Truth, Number, Bytes, Assignment, value, operation}
-use Rattle.condition_spec.specs.Passages.{holds}
-use Rattle.graph_spec.specs.Run.{is_truth}
-use Rattle.graph_spec.specs.Fixed.{has_byte}
-use Rattle.code_graph_spec.specs.State.{entry_register}
-use Rattle.code_graph_laws.proofs.Values.{equal_evaluates, words_evaluates, less_evaluates, not_evaluates, or_evaluates}
-use Rattle.rule_spec.specs.Points.{bounded}
-use Rattle.rule_spec.specs.Calling.{word, at_entry, global_pointer_lines}
+use Rattle.term_core_spec.specs.declared.Width.TheVariants.{W32}
+use Rattle.term_core_spec.specs.declared.WordOperator.TheVariants as operator
+use Rattle.term_core_spec.specs.Term.{Term, equal, less, not_term, or_term, bit_and as and_words}
+use Rattle.term_core_spec.specs.Value.{Value, Truth, Number, Bytes, Assignment, value, operation}
+use Rattle.path_cond_spec.specs.Passages.{holds}
+use Rattle.graph_core_spec.specs.Run.{is_truth}
+use Rattle.graph_core_spec.specs.Fixed.{has_byte}
+use Rattle.decompile_spec.specs.State.{entry_register}
+use Rattle.decompile_laws.proofs.Values.{equal_evaluates, words_evaluates, less_evaluates, not_evaluates, or_evaluates}
+use Rattle.sim_rules_spec.specs.Points.{bounded}
+use Rattle.sim_rules_spec.specs.Calling.{word, at_entry, global_pointer_lines}
 use Rattle.agreement_laws.proofs.ReadBack.{open_value}
 
 -- ---- tests of addresses

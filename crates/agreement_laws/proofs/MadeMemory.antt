@@ -6,8 +6,8 @@ use Rattle.std.specs.FinMap.{empty, get-empty}
 use Rattle.std.proofs.Math.Nat.{mod-eq_of_lt}
 use Rattle.std.proofs.lemmas.Bool.{cases_lt}
 use Rattle.memory_spec.specs.Memory.{Memory, byte_at}
-use Rattle.rv_spec.specs.Machine.{store_byte}
-use Rattle.rv_spec.proofs.Memory.{byte_here, byte_elsewhere}
+use Rattle.rv_machine_spec.specs.Machine.{store_byte}
+use Rattle.rv_machine_spec.proofs.Memory.{byte_here, byte_elsewhere}
 
 -- the bytes below an address, and none from it on
 made : (ℕ → ℕ) → ℕ → Memory

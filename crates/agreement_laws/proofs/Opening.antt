@@ -3,26 +3,26 @@ use Rattle.std.proofs.Common.{◌≡◌, ◌∙◌, ℕ, ◌==◌, Bool, true, f
 use Rattle.std.specs.List.{All}
 use Rattle.std.proofs.lemmas.Bool.{eqb-true}
 use Rattle.std.proofs.lemmas.List.Elements.{All-head, All-tail}
-use Rattle.term_spec.specs.declared.Variable.{Variable}
-use Rattle.term_spec.specs.Same.{same_variable}
-use Rattle.term_spec.proofs.Same.{variable-same}
-use Rattle.term_spec.specs.Sort.{same_width}
-use Rattle.term_spec.proofs.Sorts.{same_width-true}
-use Rattle.term_spec.specs.Term.{Term, equal, open_term}
-use Rattle.term_spec.specs.Value.{Value, Truth, Number, Bytes, Assignment, value, binary_value, equal_values, stray}
-use Rattle.term_spec.specs.Substitution.{State as Terms}
-use Rattle.condition_spec.specs.Passages.{holds}
+use Rattle.term_core_spec.specs.declared.Variable.{Variable}
+use Rattle.term_core_spec.specs.Same.{same_variable}
+use Rattle.term_core_spec.proofs.Same.{variable-same}
+use Rattle.term_core_spec.specs.Sort.{same_width}
+use Rattle.term_core_spec.proofs.Sorts.{same_width-true}
+use Rattle.term_core_spec.specs.Term.{Term, equal, open_term}
+use Rattle.term_core_spec.specs.Value.{Value, Truth, Number, Bytes, Assignment, value, binary_value, equal_values, stray}
+use Rattle.term_core_spec.specs.Substitution.{State as Terms}
+use Rattle.path_cond_spec.specs.Passages.{holds}
 use Rattle.agreement_laws.specs.EntryFrame.{Pair, Fact, given, lines_of, convention_of, entry_opening, entry_frame, binary_facts, source_facts}
-use Rattle.walk_spec.specs.Simulation.{IsRelated}
-use Rattle.graph_spec.specs.Run.{State, has_failed, is_truth}
+use Rattle.graph_core_spec.specs.Simulation.{IsRelated}
+use Rattle.graph_core_spec.specs.Run.{State, has_failed, is_truth}
 use Rattle.memory_spec.specs.Zones.{Zone}
-use Rattle.rule_spec.specs.Points.{values_at, values_in, other_values, with_memory, same_byte, binary_memory}
-use Rattle.rule_spec.specs.Systems.{IsBinaryFine, IsSourceFine}
-use Rattle.rule_spec.specs.Rules.{at_cut}
-use Rattle.rule_spec.specs.Proper.{IsConvention, IsOpened}
-use Rattle.rule_spec.proofs.AtCut.{cuts_open}
-use Rattle.rule_spec.proofs.Sides.{sides-binary, sides-source}
-use Rattle.rule_spec.proofs.Truths.{all_left, all_right, all_mapped, all_pass, pass_all}
+use Rattle.sim_rules_spec.specs.Points.{values_at, values_in, other_values, with_memory, same_byte, binary_memory}
+use Rattle.sim_rules_spec.specs.Systems.{IsBinaryFine, IsSourceFine}
+use Rattle.sim_rules_spec.specs.Rules.{at_cut}
+use Rattle.sim_rules_spec.specs.Proper.{IsConvention, IsOpened}
+use Rattle.sim_rules_spec.proofs.AtCut.{cuts_open}
+use Rattle.sim_rules_spec.proofs.Sides.{sides-binary, sides-source}
+use Rattle.sim_rules_spec.proofs.Truths.{all_left, all_right, all_mapped, all_pass, pass_all}
 use Rattle.agreement_laws.proofs.ReadBack.{open_value}
 use Rattle.agreement_laws.proofs.Facts.{FactHolds}
 

@@ -7,34 +7,34 @@ use Rattle.std.proofs.lemmas.Bool.{lt-ltb, le-leb, eq-eqb}
 use Rattle.std.proofs.lemmas.List.Elements.{All-head, All-tail}
 use Rattle.memory_spec.specs.Runs as runs
 use Rattle.memory_spec.specs.Runs.{Run, byte_in}
-use Rattle.elf_spec.specs.Image.{size_at, fixed_byte}
-use Rattle.elf_spec.specs.Runs.{AreRuns}
-use Rattle.elf_spec.proofs.Runs.{runs_are_fixed}
-use Rattle.code_spec.specs.Code.{itself}
-use Rattle.term_spec.specs.declared.Family.TheVariants as family
-use Rattle.term_spec.specs.declared.Variable.{Variable}
-use Rattle.term_spec.specs.Value.{Assignment, IsAssignment}
-use Rattle.graph_spec.specs.Graph.{Node, Basic, Graph, node_at}
-use Rattle.graph_spec.specs.Variables.{own_bindings}
-use Rattle.graph_spec.specs.declared.Next.TheVariants as next
-use Rattle.graph_spec.specs.Run.{State, Running, Returned, Failed, has_failed, is_at}
-use Rattle.graph_spec.specs.Fixed.{has_byte, AlwaysHoldsFixed}
-use Rattle.code_graph_spec.specs.State.{entry_register}
-use Rattle.code_graph_spec.specs.Blocks.{Entrance, Of}
-use Rattle.code_graph_spec.specs.CodeGraph.{IsCodeGraph, entrance}
-use Rattle.code_graph_laws.specs.Together.{setting}
-use Rattle.code_graph_laws.proofs.Binding.{never_binds}
-use Rattle.c_type_spec.specs.declared.Scalar.{Scalar}
-use Rattle.c_type_spec.specs.Core.{Body}
-use Rattle.c_type_spec.specs.HasType.{IsTypedBody}
-use Rattle.c_meaning_spec.specs.Calls.{body_named}
+use Rattle.elf_read_spec.specs.Image.{size_at, fixed_byte}
+use Rattle.elf_read_spec.specs.Runs.{AreRuns}
+use Rattle.elf_read_spec.proofs.Runs.{runs_are_fixed}
+use Rattle.code_reach_spec.specs.Code.{itself}
+use Rattle.term_core_spec.specs.declared.Family.TheVariants as family
+use Rattle.term_core_spec.specs.declared.Variable.{Variable}
+use Rattle.term_core_spec.specs.Value.{Assignment, IsAssignment}
+use Rattle.graph_core_spec.specs.Graph.{Node, Basic, Graph, node_at}
+use Rattle.graph_core_spec.specs.Variables.{own_bindings}
+use Rattle.graph_core_spec.specs.declared.Next.TheVariants as next
+use Rattle.graph_core_spec.specs.Run.{State, Running, Returned, Failed, has_failed, is_at}
+use Rattle.graph_core_spec.specs.Fixed.{has_byte, AlwaysHoldsFixed}
+use Rattle.decompile_spec.specs.State.{entry_register}
+use Rattle.decompile_spec.specs.Blocks.{Entrance, Of}
+use Rattle.decompile_spec.specs.CodeGraph.{IsCodeGraph, entrance}
+use Rattle.decompile_laws.specs.Together.{setting}
+use Rattle.decompile_laws.proofs.Binding.{never_binds}
+use Rattle.c_types_spec.specs.declared.Scalar.{Scalar}
+use Rattle.c_types_spec.specs.Core.{Body}
+use Rattle.c_types_spec.specs.HasType.{IsTypedBody}
+use Rattle.c_run_spec.specs.Calls.{body_named}
 use Rattle.c_graph_spec.specs.SourceGraph.{body_number, graphs_of, graph_of}
 use Rattle.c_graph_laws.specs.Keeps.{AreKept}
 use Rattle.c_graph_laws.proofs.Extents.{BodyExtents, IsPlain, unit_extents}
 use Rattle.c_graph_laws.proofs.KeptBytes.{always_kept}
-use Rattle.rule_spec.specs.Points.{bounded, source_memory}
-use Rattle.rule_spec.proofs.Start.{all_at}
-use Rattle.rule_spec.proofs.Truths.{all_left}
+use Rattle.sim_rules_spec.specs.Points.{bounded, source_memory}
+use Rattle.sim_rules_spec.proofs.Start.{all_at}
+use Rattle.sim_rules_spec.proofs.Truths.{all_left}
 use Rattle.agreement_laws.specs.EntryFrame.{Pair, place_of}
 use Rattle.agreement_laws.specs.Statements.{IsPair, binary_entry, source_entry}
 use Rattle.agreement_laws.proofs.Entry.{Never}

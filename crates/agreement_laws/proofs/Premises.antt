@@ -6,19 +6,19 @@ use Rattle.std.proofs.lemmas.Bool.{cases_lt, lt-ltb, le-ltb, eq-eqb, ltb-true}
 use Rattle.std.proofs.lemmas.List.Elements.{All-append}
 use Rattle.std.proofs.lemmas.Nat.{and_mask}
 use Rattle.memory_spec.specs.Runs as memory
-use Rattle.elf_spec.specs.Image.{Image, fixed_byte, global_pointer}
-use Rattle.elf_spec.specs.Runs.{AreRuns, IsRun}
-use Rattle.term_spec.specs.declared.Width.TheVariants.{W32}
-use Rattle.term_spec.specs.declared.WordOperator.TheVariants as operator
-use Rattle.term_spec.specs.Term.{Term, equal, less, not_term, bit_and as and_words}
-use Rattle.term_spec.specs.Value.{Number, Assignment, value, operation}
-use Rattle.condition_spec.specs.Passages.{holds}
-use Rattle.graph_spec.specs.Run.{is_truth}
-use Rattle.code_graph_spec.specs.State.{entry_register}
-use Rattle.code_graph_laws.proofs.Values.{equal_evaluates, words_evaluates, less_evaluates, not_evaluates, or_evaluates}
-use Rattle.rule_spec.specs.Points.{entry_zone}
-use Rattle.rule_spec.specs.Calling as calling
-use Rattle.rule_spec.specs.Calling.{word, at_entry, zone_from, outside_zone, global_pointer_lines, entry_lines}
+use Rattle.elf_read_spec.specs.Image.{Image, fixed_byte, global_pointer}
+use Rattle.elf_read_spec.specs.Runs.{AreRuns, IsRun}
+use Rattle.term_core_spec.specs.declared.Width.TheVariants.{W32}
+use Rattle.term_core_spec.specs.declared.WordOperator.TheVariants as operator
+use Rattle.term_core_spec.specs.Term.{Term, equal, less, not_term, bit_and as and_words}
+use Rattle.term_core_spec.specs.Value.{Number, Assignment, value, operation}
+use Rattle.path_cond_spec.specs.Passages.{holds}
+use Rattle.graph_core_spec.specs.Run.{is_truth}
+use Rattle.decompile_spec.specs.State.{entry_register}
+use Rattle.decompile_laws.proofs.Values.{equal_evaluates, words_evaluates, less_evaluates, not_evaluates, or_evaluates}
+use Rattle.sim_rules_spec.specs.Points.{entry_zone}
+use Rattle.sim_rules_spec.specs.Calling as calling
+use Rattle.sim_rules_spec.specs.Calling.{word, at_entry, zone_from, outside_zone, global_pointer_lines, entry_lines}
 use Rattle.agreement_laws.specs.EntryFrame.{Pair, convention_of, run_of, entry_premises}
 use Rattle.agreement_laws.proofs.ReadBack.{open_value, zone_from_is}
 

@@ -7,31 +7,31 @@ use Rattle.std.proofs.lemmas.List.Elements.{All-contains, All-head}
 use Rattle.std.proofs.Math.Nat.{mod-eq_of_lt}
 use Rattle.memory_spec.specs.Memory.{Memory, byte_at}
 use Rattle.memory_spec.specs.Zones.{InZone}
-use Rattle.rv_spec.specs.Arithmetic as machine
-use Rattle.rv_spec.specs.Machine.{Machine, read_register}
-use Rattle.term_spec.specs.declared.Width.TheVariants.{W32}
-use Rattle.term_spec.specs.declared.WordOperator.TheVariants as operator
-use Rattle.term_spec.specs.declared.Variable.{Variable}
-use Rattle.term_spec.specs.Term.{Term, equal, open_term}
-use Rattle.term_spec.specs.Value.{Number, Bytes, Truth, Assignment, value, unary_value, binary_value, low_bits, operation}
-use Rattle.walk_spec.specs.Simulation.{IsRelated}
-use Rattle.condition_spec.specs.Passages.{holds}
-use Rattle.graph_spec.specs.Run.{Returned, is_truth}
-use Rattle.code_graph_spec.specs.State.{Alike, entry_register}
-use Rattle.code_graph_laws.proofs.Values.{equal_evaluates, words_evaluates}
-use Rattle.c_type_spec.specs.declared.Scalar.{Scalar}
-use Rattle.c_type_spec.specs.Values.{bits_of}
+use Rattle.rv_machine_spec.specs.Arithmetic as machine
+use Rattle.rv_machine_spec.specs.Machine.{Machine, read_register}
+use Rattle.term_core_spec.specs.declared.Width.TheVariants.{W32}
+use Rattle.term_core_spec.specs.declared.WordOperator.TheVariants as operator
+use Rattle.term_core_spec.specs.declared.Variable.{Variable}
+use Rattle.term_core_spec.specs.Term.{Term, equal, open_term}
+use Rattle.term_core_spec.specs.Value.{Number, Bytes, Truth, Assignment, value, unary_value, binary_value, low_bits, operation}
+use Rattle.graph_core_spec.specs.Simulation.{IsRelated}
+use Rattle.path_cond_spec.specs.Passages.{holds}
+use Rattle.graph_core_spec.specs.Run.{Returned, is_truth}
+use Rattle.decompile_spec.specs.State.{Alike, entry_register}
+use Rattle.decompile_laws.proofs.Values.{equal_evaluates, words_evaluates}
+use Rattle.c_types_spec.specs.declared.Scalar.{Scalar}
+use Rattle.c_types_spec.specs.Values.{bits_of}
 use Rattle.c_graph_spec.specs.State.{result}
 use Rattle.c_graph_laws.proofs.Extents.{ResultExtent, full, scalar}
 use Rattle.c_graph_laws.specs.Together as c
 use Rattle.c_graph_laws.specs.Together.{ReturnsAlike, gives_none, gives_some}
 use Rattle.c_graph_laws.proofs.Divisions.{at_width_is}
 use Rattle.c_graph_laws.proofs.Bits.{bits_resized}
-use Rattle.rule_spec.specs.Points.{Convention, values_at, with_memory, same_byte, binary_memory, source_memory, address}
-use Rattle.rule_spec.specs.Calling as calling
-use Rattle.rule_spec.specs.Systems.{relation}
-use Rattle.rule_spec.proofs.Truths.{all_left, all_right, all_mapped, all_pass}
-use Rattle.claim_spec.specs.Convention.{Gives, ArePassed, dead_stack, kept_registers, result_words}
+use Rattle.sim_rules_spec.specs.Points.{Convention, values_at, with_memory, same_byte, binary_memory, source_memory, address}
+use Rattle.sim_rules_spec.specs.Calling as calling
+use Rattle.sim_rules_spec.specs.Systems.{relation}
+use Rattle.sim_rules_spec.proofs.Truths.{all_left, all_right, all_mapped, all_pass}
+use Rattle.validity_spec.specs.Convention.{Gives, ArePassed, dead_stack, kept_registers, result_words}
 use Rattle.agreement_laws.specs.EntryFrame.{Pair, convention_of, result_term, widened}
 
 equal_back : (s : Assignment) (x y : Term) (a b : ℕ) → value s x ≡ Number W32 a → value s y ≡ Number W32 b → holds s (equal x y) ≡ true → a ≡ b

@@ -11,42 +11,42 @@ use Rattle.std.proofs.lemmas.List.Elements.{All-head, All-tail, All-contains}
 use Rattle.memory_spec.specs.Memory.{Memory, byte_at}
 use Rattle.memory_spec.specs.Zones.{Zone}
 use Rattle.memory_spec.specs.Runs as memory
-use Rattle.elf_spec.specs.Image.{fixed_byte, global_pointer}
-use Rattle.elf_spec.proofs.Runs.{runs_are_fixed}
-use Rattle.rv_spec.specs.Arithmetic as machine
-use Rattle.term_spec.specs.declared.Width.TheVariants.{W32}
-use Rattle.term_spec.specs.declared.WordOperator.TheVariants as operator
-use Rattle.term_spec.specs.Term.{Term, equal, less, not_term, open_term, subtract, bit_and as and_words}
-use Rattle.term_spec.specs.Value.{Value, Number, Bytes, Assignment, IsAssignment, value, operation, low_bits, overlaid, laid_over}
-use Rattle.term_spec.proofs.Sorts.{as_word, as_memory}
-use Rattle.condition_spec.specs.Passages.{holds}
-use Rattle.walk_spec.specs.TransitionSystem.{TransitionSystem, after}
-use Rattle.walk_spec.specs.Simulation.{IsStart}
-use Rattle.graph_spec.specs.Graph.{Binding, Call, Graph}
-use Rattle.graph_spec.specs.Run.{State, Running, Returned, Failed, entered, has_failed, system_of, is_truth}
-use Rattle.graph_spec.specs.Fixed.{has_byte, holds_byte}
-use Rattle.graph_spec.proofs.Sorts.{entered_sorted}
-use Rattle.code_graph_spec.specs.State.{register, entry_register}
-use Rattle.code_graph_laws.proofs.Values.{words_evaluates, less_evaluates, not_evaluates}
-use Rattle.c_type_spec.specs.declared.Scalar.{Scalar}
-use Rattle.c_type_spec.specs.Core.{Body}
-use Rattle.c_meaning_spec.specs.Accesses.{in_zone}
-use Rattle.c_meaning_spec.specs.Calls.{locals_at_entry}
+use Rattle.elf_read_spec.specs.Image.{fixed_byte, global_pointer}
+use Rattle.elf_read_spec.proofs.Runs.{runs_are_fixed}
+use Rattle.rv_machine_spec.specs.Arithmetic as machine
+use Rattle.term_core_spec.specs.declared.Width.TheVariants.{W32}
+use Rattle.term_core_spec.specs.declared.WordOperator.TheVariants as operator
+use Rattle.term_core_spec.specs.Term.{Term, equal, less, not_term, open_term, subtract, bit_and as and_words}
+use Rattle.term_core_spec.specs.Value.{Value, Number, Bytes, Assignment, IsAssignment, value, operation, low_bits, overlaid, laid_over}
+use Rattle.term_core_spec.proofs.Sorts.{as_word, as_memory}
+use Rattle.path_cond_spec.specs.Passages.{holds}
+use Rattle.graph_core_spec.specs.TransitionSystem.{TransitionSystem, after}
+use Rattle.graph_core_spec.specs.Simulation.{IsStart}
+use Rattle.graph_core_spec.specs.Graph.{Binding, Call, Graph}
+use Rattle.graph_core_spec.specs.Run.{State, Running, Returned, Failed, entered, has_failed, system_of, is_truth}
+use Rattle.graph_core_spec.specs.Fixed.{has_byte, holds_byte}
+use Rattle.graph_core_spec.proofs.Sorts.{entered_sorted}
+use Rattle.decompile_spec.specs.State.{register, entry_register}
+use Rattle.decompile_laws.proofs.Values.{words_evaluates, less_evaluates, not_evaluates}
+use Rattle.c_types_spec.specs.declared.Scalar.{Scalar}
+use Rattle.c_types_spec.specs.Core.{Body}
+use Rattle.c_run_spec.specs.Accesses.{in_zone}
+use Rattle.c_run_spec.specs.Calls.{locals_at_entry}
 use Rattle.c_graph_spec.specs.State.{local, zone_low, zone_high, result}
 use Rattle.c_graph_spec.specs.Layout.{inputs}
 use Rattle.c_graph_spec.specs.SourceGraph.{body_number, setting_of, graph_of, graphs_of}
 use Rattle.c_graph_laws.specs.Together.{Alike, HasLocal}
 use Rattle.c_graph_laws.proofs.Extents.{IsPlain}
 use Rattle.c_graph_laws.proofs.KeptBytes.{node_valid}
-use Rattle.proof_spec.specs.Cuts.{across}
-use Rattle.proof_spec.specs.Frames.{Start, Goal, Hold, Frame}
-use Rattle.rule_spec.specs.Points.{Convention, values_at, all_hold, with_memory, same_byte, binary_memory, source_memory, bounded, nothing, entry_zone, source_zone}
-use Rattle.rule_spec.specs.Calling as calling
-use Rattle.rule_spec.specs.Calling.{word, at_entry, global_pointer_lines, outside_zone, zone_from}
-use Rattle.rule_spec.specs.Calls.{CallPair, BeginsWell, begun_at, callee_lines, machine_register}
-use Rattle.rule_spec.specs.Crossing.{AreCallsAt, CalleesAgree, GivesBack, begins, pair_of}
-use Rattle.rule_spec.specs.Systems.{Relation, frame_over, hold_over, entry_holds, IsBinaryFine, IsSourceFine}
-use Rattle.rule_spec.proofs.Truths.{all_left, all_right, all_mapped, all_pass}
+use Rattle.proof_tree_spec.specs.Cuts.{across}
+use Rattle.proof_tree_spec.specs.Frames.{Start, Goal, Hold, Frame}
+use Rattle.sim_rules_spec.specs.Points.{Convention, values_at, all_hold, with_memory, same_byte, binary_memory, source_memory, bounded, nothing, entry_zone, source_zone}
+use Rattle.sim_rules_spec.specs.Calling as calling
+use Rattle.sim_rules_spec.specs.Calling.{word, at_entry, global_pointer_lines, outside_zone, zone_from}
+use Rattle.sim_rules_spec.specs.Calls.{CallPair, BeginsWell, begun_at, callee_lines, machine_register}
+use Rattle.sim_rules_spec.specs.Crossing.{AreCallsAt, CalleesAgree, GivesBack, begins, pair_of}
+use Rattle.sim_rules_spec.specs.Systems.{Relation, frame_over, hold_over, entry_holds, IsBinaryFine, IsSourceFine}
+use Rattle.sim_rules_spec.proofs.Truths.{all_left, all_right, all_mapped, all_pass}
 use Rattle.agreement_laws.specs.Callers.{function_of, argument_lines, callee_of, frame_of, BindsCall}
 use Rattle.agreement_laws.specs.EntryFrame.{Pair, place_of, convention_of, run_of, entry_premises, result_term, widened, registers}
 use Rattle.agreement_laws.specs.Statements.{IsPair, IsSimulatedAtEntry, binary_entry, source_entry}

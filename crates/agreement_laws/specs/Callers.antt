@@ -1,18 +1,18 @@
 -- What a caller relies on at a pair of calls: the callee, what both call nodes bind, and that the callee is right.
 use Rattle.std.specs.Prelude.{◌≡◌, ◌⊎◌, ℕ, suc, ◌+◌, List, [], ◌∷◌, map}
 use Rattle.memory_spec.specs.Zones.{Zone}
-use Rattle.term_spec.specs.Term.{Term, equal}
-use Rattle.code_graph_spec.specs.Blocks.{call_inputs, tail_inputs}
-use Rattle.c_type_spec.specs.declared.Scalar.{Scalar}
-use Rattle.c_type_spec.specs.Core.{Core, Body, type_of}
+use Rattle.term_core_spec.specs.Term.{Term, equal}
+use Rattle.decompile_spec.specs.Blocks.{call_inputs, tail_inputs}
+use Rattle.c_types_spec.specs.declared.Scalar.{Scalar}
+use Rattle.c_types_spec.specs.Core.{Core, Body, type_of}
 use Rattle.c_graph_spec.specs.State.{local}
 use Rattle.c_graph_spec.specs.Layout.{inputs}
 use Rattle.c_graph_spec.specs.SourceGraph.{body_number, setting_of}
-use Rattle.proof_spec.specs.Frames.{Start, Goal, Hold, Frame}
-use Rattle.rule_spec.specs.Calling.{register}
-use Rattle.rule_spec.specs.Calls.{CallPair, Callee}
-use Rattle.rule_spec.specs.Crossing.{AreCallsAt, IsRightCallee, pair_of}
-use Rattle.rule_spec.specs.Systems.{Relation, hold_over}
+use Rattle.proof_tree_spec.specs.Frames.{Start, Goal, Hold, Frame}
+use Rattle.sim_rules_spec.specs.Calling.{register}
+use Rattle.sim_rules_spec.specs.Calls.{CallPair, Callee}
+use Rattle.sim_rules_spec.specs.Crossing.{AreCallsAt, IsRightCallee, pair_of}
+use Rattle.sim_rules_spec.specs.Systems.{Relation, hold_over}
 use Rattle.agreement_laws.specs.EntryFrame.{Pair, place_of, convention_of, result_term, widened, entry_frame}
 use Rattle.agreement_laws.specs.Statements.{IsPair, IsSimulatedAtEntry}
 

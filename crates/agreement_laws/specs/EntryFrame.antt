@@ -2,29 +2,29 @@
 use Rattle.std.specs.Prelude.{ℕ, suc, ◌+◌, ◌-◌, true, false, List, [], ◌∷◌, ◌++◌, length, map, Option, option_map, if◌then◌else◌}
 use Rattle.memory_spec.specs.Runs as memory
 use Rattle.memory_spec.specs.Zones.{Zone}
-use Rattle.elf_spec.specs.Image.{Image, fixed_byte, global_pointer}
-use Rattle.term_spec.specs.declared.Width.TheVariants.{W32}
-use Rattle.term_spec.specs.declared.Family.TheVariants.{Parameter}
-use Rattle.term_spec.specs.declared.Variable.{Variable}
-use Rattle.term_spec.specs.Same.{same_variable}
-use Rattle.term_spec.specs.Term.{Term, equal, open_term, truth}
-use Rattle.term_spec.specs.Substitution.{State as Terms}
-use Rattle.graph_spec.specs.Graph.{Graphs}
-use Rattle.code_graph_spec.specs.Blocks.{Entrance}
-use Rattle.code_graph_spec.specs.State as code
-use Rattle.code_graph_laws.specs.Together.{Numbering}
-use Rattle.c_type_spec.specs.declared.Scalar.{Scalar}
-use Rattle.c_type_spec.specs.Core.{Body, Typed}
+use Rattle.elf_read_spec.specs.Image.{Image, fixed_byte, global_pointer}
+use Rattle.term_core_spec.specs.declared.Width.TheVariants.{W32}
+use Rattle.term_core_spec.specs.declared.Family.TheVariants.{Parameter}
+use Rattle.term_core_spec.specs.declared.Variable.{Variable}
+use Rattle.term_core_spec.specs.Same.{same_variable}
+use Rattle.term_core_spec.specs.Term.{Term, equal, open_term, truth}
+use Rattle.term_core_spec.specs.Substitution.{State as Terms}
+use Rattle.graph_core_spec.specs.Graph.{Graphs}
+use Rattle.decompile_spec.specs.Blocks.{Entrance}
+use Rattle.decompile_spec.specs.State as code
+use Rattle.decompile_laws.specs.Together.{Numbering}
+use Rattle.c_types_spec.specs.declared.Scalar.{Scalar}
+use Rattle.c_types_spec.specs.Core.{Body, Typed}
 use Rattle.c_graph_spec.specs.State.{sort_of_scalar, local, is_set, zone_low, zone_high, result}
 use Rattle.c_graph_spec.specs.Values.{at_width}
 use Rattle.c_graph_spec.specs.Guards.{Place}
 use Rattle.c_graph_spec.specs.SourceGraph.{body_number, graphs_of}
-use Rattle.proof_spec.specs.Scope as scope
-use Rattle.proof_spec.specs.Frames.{Frame}
-use Rattle.rule_spec.specs.Points.{Convention, with_memory, all_hold}
-use Rattle.rule_spec.specs.Calling.{Run, convention, entry_lines, zone_from, at_entry}
-use Rattle.rule_spec.specs.Rules.{Opening, at_cut}
-use Rattle.claim_spec.specs.Claim.{globals_of}
+use Rattle.proof_tree_spec.specs.Scope as scope
+use Rattle.proof_tree_spec.specs.Frames.{Frame}
+use Rattle.sim_rules_spec.specs.Points.{Convention, with_memory, all_hold}
+use Rattle.sim_rules_spec.specs.Calling.{Run, convention, entry_lines, zone_from, at_entry}
+use Rattle.sim_rules_spec.specs.Rules.{Opening, at_cut}
+use Rattle.validity_spec.specs.Claim.{globals_of}
 
 -- a function: its entry in an executable, how much stack it takes there, and the graphs of its code; and its body in a
 -- unit

@@ -1,19 +1,19 @@
 -- What a function gives to its callers: its simulation where a wider zone is barred, that of a caller.
 use Rattle.std.specs.Prelude.{◌≡◌, ℕ, ◌+◌, ◌^◌, ◌<◌, ◌&&◌, ◌||◌, ◌==◌, nat_lt, nat_le, Bool, false, not, List, [], ◌∷◌, ◌++◌, None}
 use Rattle.memory_spec.specs.Zones.{Zone, InZone}
-use Rattle.elf_spec.specs.Image.{fixed_byte, global_pointer}
-use Rattle.term_spec.specs.Term.{Term, equal, less, not_term, bit_and}
-use Rattle.term_spec.specs.Value.{Value, Truth, Number, Bytes}
-use Rattle.graph_spec.specs.Run.{State}
-use Rattle.walk_spec.specs.Simulation as systems
-use Rattle.walk_spec.specs.Simulation.{Simulates}
-use Rattle.code_graph_spec.specs.State.{entry_register}
+use Rattle.elf_read_spec.specs.Image.{fixed_byte, global_pointer}
+use Rattle.term_core_spec.specs.Term.{Term, equal, less, not_term, bit_and}
+use Rattle.term_core_spec.specs.Value.{Value, Truth, Number, Bytes}
+use Rattle.graph_core_spec.specs.Run.{State}
+use Rattle.graph_core_spec.specs.Simulation as systems
+use Rattle.graph_core_spec.specs.Simulation.{Simulates}
+use Rattle.decompile_spec.specs.State.{entry_register}
 use Rattle.c_graph_spec.specs.State.{zone_low, zone_high}
-use Rattle.proof_spec.specs.Cuts.{both}
-use Rattle.proof_spec.specs.Frames.{Frame}
-use Rattle.rule_spec.specs.Points.{Convention, binary_memory, values_in, all_hold, with_memory}
-use Rattle.rule_spec.specs.Calling.{word, at_entry, global_pointer_lines, return_lines}
-use Rattle.rule_spec.specs.Systems.{Relation, frame_over, IsBinaryFine, IsSourceFine}
+use Rattle.proof_tree_spec.specs.Cuts.{both}
+use Rattle.proof_tree_spec.specs.Frames.{Frame}
+use Rattle.sim_rules_spec.specs.Points.{Convention, binary_memory, values_in, all_hold, with_memory}
+use Rattle.sim_rules_spec.specs.Calling.{word, at_entry, global_pointer_lines, return_lines}
+use Rattle.sim_rules_spec.specs.Systems.{Relation, frame_over, IsBinaryFine, IsSourceFine}
 use Rattle.agreement_laws.specs.EntryFrame.{Pair, Fact, result_term, entry_frame, binary_facts, local_facts, lines_of}
 
 -- the zone is the caller's

@@ -1,31 +1,31 @@
 -- What the laws of agreement say.
 use Rattle.std.specs.Prelude.{◌≡◌, ℕ, ◌^◌, ◌<◌, ℤ, List, [], All, Some, IsSome}
 use Rattle.memory_spec.specs.Zones.{Zone}
-use Rattle.elf_spec.specs.Image.{Image, size_at, function_named}
-use Rattle.elf_spec.specs.declared.SymbolValues.TheVariants.{One}
-use Rattle.code_spec.specs.Code.{IsStack}
-use Rattle.code_spec.specs.Faults.{ReachesNoFault}
-use Rattle.rv_spec.specs.Machine.{Machine, read_register}
-use Rattle.code_graph_spec.specs.Blocks.{Entrance}
-use Rattle.code_graph_spec.specs.State.{entry_register}
-use Rattle.code_graph_laws.specs.Together.{AreCodeGraphs, StartAlike}
-use Rattle.term_spec.specs.declared.Width.TheVariants.{W32}
-use Rattle.term_spec.specs.Value.{Number, Assignment}
-use Rattle.walk_spec.specs.Simulation.{IsRelated}
-use Rattle.graph_spec.specs.Graph as graph
-use Rattle.graph_spec.specs.Run.{State, Running}
-use Rattle.c_type_spec.specs.HasType.{IsTypedUnit}
-use Rattle.c_meaning_spec.specs.Calls.{body_named, locals_at_entry}
-use Rattle.pair_spec.specs.SourceReach.{Reaches}
+use Rattle.elf_read_spec.specs.Image.{Image, size_at, function_named}
+use Rattle.elf_read_spec.specs.declared.SymbolValues.TheVariants.{One}
+use Rattle.code_reach_spec.specs.Code.{IsStack}
+use Rattle.code_reach_spec.specs.Faults.{ReachesNoFault}
+use Rattle.rv_machine_spec.specs.Machine.{Machine, read_register}
+use Rattle.decompile_spec.specs.Blocks.{Entrance}
+use Rattle.decompile_spec.specs.State.{entry_register}
+use Rattle.decompile_laws.specs.Together.{AreCodeGraphs, StartAlike}
+use Rattle.term_core_spec.specs.declared.Width.TheVariants.{W32}
+use Rattle.term_core_spec.specs.Value.{Number, Assignment}
+use Rattle.graph_core_spec.specs.Simulation.{IsRelated}
+use Rattle.graph_core_spec.specs.Graph as graph
+use Rattle.graph_core_spec.specs.Run.{State, Running}
+use Rattle.c_types_spec.specs.HasType.{IsTypedUnit}
+use Rattle.c_run_spec.specs.Calls.{body_named, locals_at_entry}
+use Rattle.pair_setup_spec.specs.SourceReach.{Reaches}
 use Rattle.c_graph_spec.specs.Sizes.{UnitSizes}
 use Rattle.c_graph_spec.specs.SourceGraph.{body_number}
 use Rattle.c_graph_laws.specs.Together.{IsPlace, Alike}
-use Rattle.proof_spec.specs.Cuts.{both}
-use Rattle.rule_spec.specs.Points.{all_hold}
-use Rattle.rule_spec.specs.Proper.{Opens}
-use Rattle.rule_spec.specs.Systems.{IsSimulated, IsBinaryFine, IsSourceFine}
-use Rattle.claim_spec.specs.Convention.{dead_stack, Meets, argument_words}
-use Rattle.claim_spec.specs.Claim.{AgreesWith, AgreesFrom, BreaksNoGuard, IsValid, run_from}
+use Rattle.proof_tree_spec.specs.Cuts.{both}
+use Rattle.sim_rules_spec.specs.Points.{all_hold}
+use Rattle.sim_rules_spec.specs.Proper.{Opens}
+use Rattle.sim_rules_spec.specs.Systems.{IsSimulated, IsBinaryFine, IsSourceFine}
+use Rattle.validity_spec.specs.Convention.{dead_stack, Meets, argument_words}
+use Rattle.validity_spec.specs.Claim.{AgreesWith, AgreesFrom, BreaksNoGuard, IsValid, run_from}
 use Rattle.agreement_laws.specs.Inner.{Inner}
 use Rattle.agreement_laws.specs.EntryFrame.{Pair, place_of, convention_of, entry_frame, entry_opening, entry_premises}
 

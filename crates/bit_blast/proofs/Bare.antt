@@ -1,16 +1,16 @@
 -- Builds that make no gate, and of one bit.
 use Rattle.std.proofs.Common.{◌≡◌, ℕ, [], refl, ap, sym, ◌∙◌, subst}
-use Rattle.clause_spec.specs.declared.Literal.{Literal}
-use Rattle.clause_spec.specs.Clause.{Cnf}
-use Rattle.term_spec.specs.declared.UnaryOperator.{UnaryOperator}
-use Rattle.term_spec.specs.declared.UnaryOperator.TheVariants as unary
-use Rattle.term_spec.specs.declared.QuaternaryOperator.{QuaternaryOperator}
-use Rattle.term_spec.specs.declared.QuaternaryOperator.TheVariants as quaternary
-use Rattle.blast_spec.specs.Gates.{Made, Build, give, ◌>>=◌}
-use Rattle.blast_spec.specs.Circuits.{Bits}
-use Rattle.blast_spec.specs.Goal.{single, unary_bits, quaternary_bits}
-use Rattle.word_circuits.specs.Built.{with_gates, IsBuilt}
-use Rattle.word_circuits.proofs.Built.{no_gates_after, give_gives, then_gives}
+use Rattle.clause_check_spec.specs.declared.Literal.{Literal}
+use Rattle.clause_check_spec.specs.Clause.{Cnf}
+use Rattle.term_core_spec.specs.declared.UnaryOperator.{UnaryOperator}
+use Rattle.term_core_spec.specs.declared.UnaryOperator.TheVariants as unary
+use Rattle.term_core_spec.specs.declared.QuaternaryOperator.{QuaternaryOperator}
+use Rattle.term_core_spec.specs.declared.QuaternaryOperator.TheVariants as quaternary
+use Rattle.bit_blast_spec.specs.Gates.{Made, Build, give, ◌>>=◌}
+use Rattle.bit_blast_spec.specs.Circuits.{Bits}
+use Rattle.bit_blast_spec.specs.Goal.{single, unary_bits, quaternary_bits}
+use Rattle.bit_blast_circuits.specs.Built.{with_gates, IsBuilt}
+use Rattle.bit_blast_circuits.proofs.Built.{no_gates_after, give_gives, then_gives}
 
 pub single_gives : {build : Build Literal} {old new : Cnf} {o : Literal} → (out : Bits) → out ≡ single o → IsBuilt build old o new
     → IsBuilt (build >>= λ bit. give (single bit)) old out new

@@ -1,7 +1,7 @@
 -- Builds one after the other.
 use Rattle.std.proofs.Common.{◌≡◌, ◌++◌, ℕ, List, [], ◌∷◌, refl, ap, ◌∙◌}
 use Rattle.std.proofs.lemmas.List.{append_assoc}
-use Rattle.blast_spec.specs.Gates.{Gate, next, last_of, Made, Build, following, ◌>>=◌}
+use Rattle.bit_blast_spec.specs.Gates.{Gate, next, last_of, Made, Build, following, ◌>>=◌}
 
 last_of-append : (last : ℕ) (gates more : List Gate) → last_of last (gates ++ more) ≡ last_of (last_of last gates) more
 last_of-append last [] more = refl

@@ -2,11 +2,11 @@
 use Rattle.std.proofs.Common.{◌≡◌, Bool, true, false, List, [], ◌∷◌, ◌++◌, Some, refl, ap, sym, subst, ◌⊎◌, inl, inr}
 use Rattle.std.specs.Prelude.{if◌then◌else◌, is_some}
 use Rattle.std.specs.List.{find}
-use Rattle.term_spec.specs.Term.{Term, divide, remainder}
-use Rattle.term_spec.specs.Same.{same_term}
-use Rattle.term_spec.proofs.Same.{same_is, same_itself}
-use Rattle.blast_spec.specs.Circuits.{Bits}
-use Rattle.blast_spec.specs.Goal.{Table, is_there}
+use Rattle.term_core_spec.specs.Term.{Term, divide, remainder}
+use Rattle.term_core_spec.specs.Same.{same_term}
+use Rattle.term_core_spec.proofs.Same.{same_is, same_itself}
+use Rattle.bit_blast_spec.specs.Circuits.{Bits}
+use Rattle.bit_blast_spec.specs.Goal.{Table, is_there}
 use Rattle.bit_blast.specs.Steps.{needs, AllThere, IsClosed}
 
 abbrev entry_test : Term → Term × Bits → Bool

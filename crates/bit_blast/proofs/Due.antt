@@ -2,7 +2,7 @@
 use Rattle.std.proofs.Common.{◌<◌, inl, inr, ℕ, List, [], ◌∷◌, ◌++◌, length, refl, sym, subst}
 use Rattle.std.proofs.lemmas.List.{append_assoc}
 use Rattle.std.specs.HashMap.{HashMap}
-use Rattle.term_spec.specs.Term.{Term}
+use Rattle.term_core_spec.specs.Term.{Term}
 use Rattle.bit_blast.specs.declared.state.Task.{Task}
 use Rattle.bit_blast.specs.declared.state.Task.TheVariants.{Visit, Finish}
 use Rattle.bit_blast.specs.Indices.{children, IsIndexed}

@@ -3,21 +3,21 @@ use Rattle.std.proofs.Common.{◌≡◌, ◌<◌, ◌+◌, ℕ, true, false, Boo
 use Rattle.std.specs.Prelude.{slice_get, if◌then◌else◌, is_some}
 use Rattle.std.specs.List.{find}
 use Rattle.std.proofs.lemmas.List.{append_assoc, map-append, length-map}
-use Rattle.clause_spec.specs.Clause.{Cnf}
-use Rattle.term_spec.specs.declared.WordOperator.TheVariants as word
-use Rattle.term_spec.specs.declared.BinaryOperator.TheVariants as binary
-use Rattle.term_spec.specs.Term.{Term, divide, remainder}
-use Rattle.term_spec.specs.Same.{same_term}
-use Rattle.term_spec.proofs.Same.{same_is}
+use Rattle.clause_check_spec.specs.Clause.{Cnf}
+use Rattle.term_core_spec.specs.declared.WordOperator.TheVariants as word
+use Rattle.term_core_spec.specs.declared.BinaryOperator.TheVariants as binary
+use Rattle.term_core_spec.specs.Term.{Term, divide, remainder}
+use Rattle.term_core_spec.specs.Same.{same_term}
+use Rattle.term_core_spec.proofs.Same.{same_is}
 use Rattle.term_bank.specs.declared.node.TermNode.{TermNode}
 use Rattle.term_bank.specs.declared.node.TermNode.TheVariants.{Binary}
 use Rattle.term_bank.specs.Nodes.{tree_at, Holds}
 use Rattle.term_bank.proofs.Growth.{slice_get-seam, tree_at-front}
-use Rattle.blast_spec.specs.Gates.{give, ◌>>=◌}
-use Rattle.blast_spec.specs.Circuits.{Bits, new_bits, division}
-use Rattle.blast_spec.specs.Goal.{Table, is_there, bits_in, divided}
-use Rattle.word_circuits.specs.Built.{IsBuilt}
-use Rattle.word_circuits.proofs.Built.{give_gives, then_gives}
+use Rattle.bit_blast_spec.specs.Gates.{give, ◌>>=◌}
+use Rattle.bit_blast_spec.specs.Circuits.{Bits, new_bits, division}
+use Rattle.bit_blast_spec.specs.Goal.{Table, is_there, bits_in, divided}
+use Rattle.bit_blast_circuits.specs.Built.{IsBuilt}
+use Rattle.bit_blast_circuits.proofs.Built.{give_gives, then_gives}
 use Rattle.bit_blast.specs.Terms.{terms_in}
 use Rattle.bit_blast.specs.declared.entry.Division.TheVariants.{Quotient, Remainder}
 use Rattle.bit_blast.specs.Entries.{division_of}

@@ -1,19 +1,19 @@
 -- The goal is false under the assignment that is reconstructed from a model.
 use Rattle.std.proofs.Common.{◌≡◌, true, false, List, [], Some, None, refl, ap, sym, ◌∙◌, subst}
 use Rattle.std.proofs.Math.Path.{fun_ext}
-use Rattle.clause_spec.specs.Clause.{Valuation, satisfies}
-use Rattle.term_spec.specs.declared.Sort.TheVariants as sort
-use Rattle.term_spec.specs.declared.Variable.{Variable}
-use Rattle.term_spec.specs.declared.Atom.TheVariants as atom
-use Rattle.term_spec.specs.Term as tree
-use Rattle.term_spec.specs.Term.{Term}
-use Rattle.term_spec.specs.Sort.{sort_of}
-use Rattle.term_spec.specs.Value.{Truth, Assignment, value}
-use Rattle.term_spec.specs.Same.{same_term}
+use Rattle.clause_check_spec.specs.Clause.{Valuation, satisfies}
+use Rattle.term_core_spec.specs.declared.Sort.TheVariants as sort
+use Rattle.term_core_spec.specs.declared.Variable.{Variable}
+use Rattle.term_core_spec.specs.declared.Atom.TheVariants as atom
+use Rattle.term_core_spec.specs.Term as tree
+use Rattle.term_core_spec.specs.Term.{Term}
+use Rattle.term_core_spec.specs.Sort.{sort_of}
+use Rattle.term_core_spec.specs.Value.{Truth, Assignment, value}
+use Rattle.term_core_spec.specs.Same.{same_term}
 use Rattle.term_bank.specs.declared.node.TermNode.{TermNode}
 use Rattle.term_bank.specs.declared.node.TermNode.TheVariants.{Leaf, Unary, Binary, Ternary, Quaternary, Octonary}
 use Rattle.term_bank.specs.Nodes.{build}
-use Rattle.blast_spec.specs.Goal.{Table, visit, loads_of, goal_gates, cnf_of}
+use Rattle.bit_blast_spec.specs.Goal.{Table, visit, loads_of, goal_gates, cnf_of}
 use Rattle.bit_blast_laws.proofs.Gates.{all_hold}
 use Rattle.bit_blast_laws.proofs.TermsWhole.{goal_is_false}
 use Rattle.bit_blast_laws.specs.Back.{read_back, TableLoadsFromVariables}

@@ -1,10 +1,10 @@
 -- The entry of a term whose arguments are there.
 use Rattle.std.proofs.Common.{◌≡◌, ℕ, [], ◌∷◌, ◌++◌, refl}
-use Rattle.term_spec.specs.declared.WordOperator.TheVariants as word
-use Rattle.term_spec.specs.declared.BinaryOperator.{BinaryOperator}
-use Rattle.term_spec.specs.declared.BinaryOperator.TheVariants as binary
-use Rattle.term_spec.specs.Term.{Term, Leaf, Unary, Binary, Ternary, Quaternary, Octonary}
-use Rattle.blast_spec.specs.Goal.{Table, divided, with_binary}
+use Rattle.term_core_spec.specs.declared.WordOperator.TheVariants as word
+use Rattle.term_core_spec.specs.declared.BinaryOperator.{BinaryOperator}
+use Rattle.term_core_spec.specs.declared.BinaryOperator.TheVariants as binary
+use Rattle.term_core_spec.specs.Term.{Term, Leaf, Unary, Binary, Ternary, Quaternary, Octonary}
+use Rattle.bit_blast_spec.specs.Goal.{Table, divided, with_binary}
 use Rattle.bit_blast.specs.Steps.{arguments, finish, AllThere, IsClosed}
 use Rattle.bit_blast.proofs.Closed.{closed_one, closed_two}
 

@@ -2,15 +2,15 @@
 use Rattle.std.proofs.Common.{◌≡◌, ℕ, ◌<◌, Bool, true, false, List, [], ◌∷◌, ◌++◌, Some, refl, ap, ◌∙◌, arith}
 use Rattle.std.specs.Prelude.{if◌then◌else◌, is_some}
 use Rattle.std.specs.List.{find}
-use Rattle.term_spec.specs.declared.WordOperator.TheVariants as word
-use Rattle.term_spec.specs.declared.BinaryOperator.{BinaryOperator}
-use Rattle.term_spec.specs.declared.BinaryOperator.TheVariants as binary
-use Rattle.term_spec.specs.Term.{Term, Leaf, Unary, Binary, Ternary, Quaternary, Octonary}
-use Rattle.term_spec.specs.Same.{same_term}
-use Rattle.term_spec.proofs.Same.{same_is}
-use Rattle.blast_spec.specs.Gates.{Build, last_of, give}
-use Rattle.blast_spec.specs.Circuits.{Bits}
-use Rattle.blast_spec.specs.Goal.{Table, is_there, divided, with_binary, once, visit}
+use Rattle.term_core_spec.specs.declared.WordOperator.TheVariants as word
+use Rattle.term_core_spec.specs.declared.BinaryOperator.{BinaryOperator}
+use Rattle.term_core_spec.specs.declared.BinaryOperator.TheVariants as binary
+use Rattle.term_core_spec.specs.Term.{Term, Leaf, Unary, Binary, Ternary, Quaternary, Octonary}
+use Rattle.term_core_spec.specs.Same.{same_term}
+use Rattle.term_core_spec.proofs.Same.{same_is}
+use Rattle.bit_blast_spec.specs.Gates.{Build, last_of, give}
+use Rattle.bit_blast_spec.specs.Circuits.{Bits}
+use Rattle.bit_blast_spec.specs.Goal.{Table, is_there, divided, with_binary, once, visit}
 use Rattle.bit_blast.specs.Steps.{arguments, finish, size}
 use Rattle.bit_blast.proofs.Builds.{same_second}
 use Rattle.bit_blast.proofs.Runs.{visit_then}

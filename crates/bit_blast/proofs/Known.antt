@@ -2,9 +2,9 @@
 use Rattle.std.proofs.Common.{◌≡◌, ◌<◌, ◌≤◌, ◌+◌, ◌-◌, ◌/◌, ◌%◌, ℕ, suc, [], ◌∷◌, ◌++◌, ap, sym, ◌∙◌, arith}
 use Rattle.std.specs.Prelude.{◌==◌}
 use Rattle.std.proofs.lemmas.List.{append_assoc, append-nil}
-use Rattle.clause_spec.specs.declared.Literal.{Literal}
-use Rattle.blast_spec.specs.Circuits.{Bits}
-use Rattle.blast_spec.specs.Goal.{known, known_bits}
+use Rattle.clause_check_spec.specs.declared.Literal.{Literal}
+use Rattle.bit_blast_spec.specs.Circuits.{Bits}
+use Rattle.bit_blast_spec.specs.Goal.{known, known_bits}
 
 pub known_step : (out more : Bits) (count index rest : ℕ) (bit : Literal) → index < count → bit ≡ known (rest % 2 == 1) → more ≡ out ++ bit ∷ []
     → more ++ known_bits (count - (index + 1)) (rest / 2) ≡ out ++ known_bits (count - index) rest

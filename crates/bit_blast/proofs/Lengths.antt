@@ -1,9 +1,9 @@
 -- The addresses of the loads of a goal.
 use Rattle.std.proofs.Common.{◌≡◌, ◌≤◌, ℕ, List, [], ◌∷◌, Some, arith}
-use Rattle.term_spec.specs.declared.Sort.TheVariants as sort
-use Rattle.term_spec.specs.Term.{Term}
-use Rattle.term_spec.specs.Sort.{sort_of}
-use Rattle.blast_spec.specs.Goal.{Load, visit, loads_of}
+use Rattle.term_core_spec.specs.declared.Sort.TheVariants as sort
+use Rattle.term_core_spec.specs.Term.{Term}
+use Rattle.term_core_spec.specs.Sort.{sort_of}
+use Rattle.bit_blast_spec.specs.Goal.{Load, visit, loads_of}
 use Rattle.bit_blast_laws.proofs.Alike.{AllLong}
 use Rattle.bit_blast_laws.proofs.AssignmentsWhole.{goal_long}
 use Rattle.bit_blast.specs.Backs.{AreShort}

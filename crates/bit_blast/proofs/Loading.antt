@@ -6,18 +6,18 @@ use Rattle.std.specs.Prelude.{◌==◌, not, if◌then◌else◌, slice_get, opt
 use Rattle.std.proofs.lemmas.List.{append_assoc, append-nil, map-append, length-map, take_more, drop_more, drop_all}
 use Rattle.std.proofs.lemmas.List.Elements.{filter-append}
 use Rattle.std.proofs.lemmas.Option.{same_Some, slice_get-get_or, slice_get-map, get_or_from_slice_get}
-use Rattle.term_spec.specs.declared.Atom.TheVariants as atom
-use Rattle.term_spec.specs.declared.BinaryOperator.TheVariants as binary
-use Rattle.term_spec.specs.Term as tree
-use Rattle.term_spec.specs.Term.{Term}
-use Rattle.term_spec.specs.Same.{same_term}
-use Rattle.term_spec.proofs.Same.{same_is, same_itself}
+use Rattle.term_core_spec.specs.declared.Atom.TheVariants as atom
+use Rattle.term_core_spec.specs.declared.BinaryOperator.TheVariants as binary
+use Rattle.term_core_spec.specs.Term as tree
+use Rattle.term_core_spec.specs.Term.{Term}
+use Rattle.term_core_spec.specs.Same.{same_term}
+use Rattle.term_core_spec.proofs.Same.{same_is, same_itself}
 use Rattle.term_bank.specs.declared.node.TermNode.{TermNode}
 use Rattle.term_bank.specs.declared.node.TermNode.TheVariants.{Leaf, Unary, Binary, Ternary, Quaternary, Octonary}
 use Rattle.term_bank.specs.Nodes.{IsNode, tree_at, build, Holds, AreDistinct}
-use Rattle.blast_spec.specs.Circuits.{Bits}
-use Rattle.blast_spec.specs.Goal as goal
-use Rattle.blast_spec.specs.Goal.{Table, Load, bits_in, with_load, is_of_memory}
+use Rattle.bit_blast_spec.specs.Circuits.{Bits}
+use Rattle.bit_blast_spec.specs.Goal as goal
+use Rattle.bit_blast_spec.specs.Goal.{Table, Load, bits_in, with_load, is_of_memory}
 use Rattle.bit_blast.specs.Terms.{terms_in}
 use Rattle.bit_blast.proofs.Tables.{bits_at}
 use Rattle.bit_blast.specs.declared.loads.LoadIndices.{LoadIndices}

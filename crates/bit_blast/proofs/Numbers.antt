@@ -1,13 +1,13 @@
 -- Numbers of words in 64 bits.
 use Rattle.std.proofs.Common.{◌≡◌, ◌<◌, ◌≤◌, ◌+◌, ◌*◌, ◌^◌, ◌%◌, ℕ, zero, suc, false, [], ◌∷◌, length, drop, get_or, refl, ap, sym, ◌∙◌, arith}
 use Rattle.std.proofs.Math.Pow.{pow_mono}
-use Rattle.clause_spec.specs.declared.Literal.{Literal}
-use Rattle.clause_spec.specs.Clause.{Valuation, holds}
-use Rattle.term_spec.specs.declared.Width.{Width}
-use Rattle.term_spec.specs.declared.Width.TheVariants.{W8, W16, W32, W64}
-use Rattle.term_spec.specs.Sort.{bits}
-use Rattle.term_spec.specs.Value.{low_bits}
-use Rattle.blast_spec.specs.Circuits.{Bits}
+use Rattle.clause_check_spec.specs.declared.Literal.{Literal}
+use Rattle.clause_check_spec.specs.Clause.{Valuation, holds}
+use Rattle.term_core_spec.specs.declared.Width.{Width}
+use Rattle.term_core_spec.specs.declared.Width.TheVariants.{W8, W16, W32, W64}
+use Rattle.term_core_spec.specs.Sort.{bits}
+use Rattle.term_core_spec.specs.Value.{low_bits}
+use Rattle.bit_blast_spec.specs.Circuits.{Bits}
 use Rattle.bit_blast_laws.specs.Meaning.{digit, number_of}
 use Rattle.bit_blast_laws.proofs.Adders.{below_width}
 

@@ -4,23 +4,23 @@ use Rattle.std.specs.Prelude.{◌==◌, ◌||◌, ◌&&◌, not, if◌then◌els
 use Rattle.std.specs.List.{find}
 use Rattle.std.proofs.lemmas.List.{take_more}
 use Rattle.std.proofs.lemmas.Option.{same_Some, slice_get-map, slice_get-get_or, get_or_from_slice_get}
-use Rattle.clause_spec.specs.Clause.{Valuation, holds}
-use Rattle.term_spec.specs.declared.Width.{Width}
-use Rattle.term_spec.specs.declared.Width.TheVariants.{W8, W16, W32, W64}
-use Rattle.term_spec.specs.declared.Sort.{Sort}
-use Rattle.term_spec.specs.declared.Sort.TheVariants as sort
-use Rattle.term_spec.specs.declared.Variable.{Variable}
-use Rattle.term_spec.specs.declared.Atom.TheVariants as atom
-use Rattle.term_spec.specs.contracts.VariableEq.TheImpl.Laws as variable_laws
-use Rattle.term_spec.proofs.Same.{variable-same, same_is, same_itself}
-use Rattle.term_spec.specs.Same.{same_variable, same_term}
-use Rattle.term_spec.specs.Term.{Term, Leaf}
-use Rattle.term_spec.specs.Sort.{bits, same_width}
-use Rattle.term_spec.specs.Value as spec
-use Rattle.term_spec.specs.Value.{low_bits, with_byte, IsOfSort}
+use Rattle.clause_check_spec.specs.Clause.{Valuation, holds}
+use Rattle.term_core_spec.specs.declared.Width.{Width}
+use Rattle.term_core_spec.specs.declared.Width.TheVariants.{W8, W16, W32, W64}
+use Rattle.term_core_spec.specs.declared.Sort.{Sort}
+use Rattle.term_core_spec.specs.declared.Sort.TheVariants as sort
+use Rattle.term_core_spec.specs.declared.Variable.{Variable}
+use Rattle.term_core_spec.specs.declared.Atom.TheVariants as atom
+use Rattle.term_core_spec.specs.contracts.VariableEq.TheImpl.Laws as variable_laws
+use Rattle.term_core_spec.proofs.Same.{variable-same, same_is, same_itself}
+use Rattle.term_core_spec.specs.Same.{same_variable, same_term}
+use Rattle.term_core_spec.specs.Term.{Term, Leaf}
+use Rattle.term_core_spec.specs.Sort.{bits, same_width}
+use Rattle.term_core_spec.specs.Value as spec
+use Rattle.term_core_spec.specs.Value.{low_bits, with_byte, IsOfSort}
 use Rattle.term_bank.specs.Nodes.{tree_at, Holds, AreDistinct}
-use Rattle.blast_spec.specs.Circuits.{Bits}
-use Rattle.blast_spec.specs.Goal.{Table, Load, is_there, bits_in, bit_of, loads_of, is_of_memory, found_bits}
+use Rattle.bit_blast_spec.specs.Circuits.{Bits}
+use Rattle.bit_blast_spec.specs.Goal.{Table, Load, is_there, bits_in, bit_of, loads_of, is_of_memory, found_bits}
 use Rattle.bit_blast_laws.specs.Meaning.{number_of}
 use Rattle.bit_blast_laws.specs.Back.{first_byte, loads_from, value_back, read_back}
 use Rattle.bit_blast_laws.proofs.Reading.{is_assignment}

@@ -1,9 +1,9 @@
 -- Stacks of steps.
 use Rattle.std.proofs.Common.{◌≡◌, ℕ, ◌+◌, ◌*◌, ◌<◌, List, [], ◌∷◌, ◌++◌, refl, ap, sym, ◌∙◌, arith}
 use Rattle.std.proofs.lemmas.List.{append_assoc, append-nil}
-use Rattle.term_spec.specs.Term.{Term, Leaf, Unary, Binary, Ternary, Quaternary, Octonary}
-use Rattle.blast_spec.specs.Gates.{Gate, Made, Build, ◌>>=◌}
-use Rattle.blast_spec.specs.Goal.{Table, visit}
+use Rattle.term_core_spec.specs.Term.{Term, Leaf, Unary, Binary, Ternary, Quaternary, Octonary}
+use Rattle.bit_blast_spec.specs.Gates.{Gate, Made, Build, ◌>>=◌}
+use Rattle.bit_blast_spec.specs.Goal.{Table, visit}
 use Rattle.bit_blast.specs.Steps.{Step, Visit, Finish, act, run, visits, arguments, size, weight, weights}
 use Rattle.bit_blast.proofs.Builds.{same_first, same_second, bind_assoc}
 

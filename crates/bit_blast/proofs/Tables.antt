@@ -9,10 +9,10 @@ use Rattle.indexmap.proofs.MapLemmas.{Missing-position}
 use Rattle.std.proofs.lemmas.List.{map-append, length-map}
 use Rattle.std.proofs.lemmas.Option.{same_Some, slice_get_within, slice_get-get_or, slice_get-map}
 use Rattle.std.proofs.lemmas.Map.Keys.{IsDistinct-push}
-use Rattle.clause_spec.specs.declared.Literal.{Literal}
-use Rattle.term_spec.specs.Term.{Term}
-use Rattle.term_spec.specs.Same.{same_term}
-use Rattle.term_spec.proofs.Same.{same_is, same_itself}
+use Rattle.clause_check_spec.specs.declared.Literal.{Literal}
+use Rattle.term_core_spec.specs.Term.{Term}
+use Rattle.term_core_spec.specs.Same.{same_term}
+use Rattle.term_core_spec.proofs.Same.{same_is, same_itself}
 use Rattle.term_bank.specs.declared.node.TermNode.{TermNode}
 use Rattle.term_bank.specs.contracts.node.TermNodePartialEq.TheImpl as node_test
 use Rattle.term_bank.specs.contracts.node.TermNodeEq.TheImpl.Laws as node_laws
@@ -20,8 +20,8 @@ use Rattle.term_bank.specs.Nodes.{IsNode, build, Holds, AreDistinct}
 use Rattle.term_bank.specs.Trees.{grown, AreNodes}
 use Rattle.term_bank.proofs.Growth.{grown-append, AreNodes-push, trees_distinct, slice_get-front, slice_get-seam, node_is_at, IsNodeAt}
 use Rattle.term_bank.proofs.Same.{itself, node-same}
-use Rattle.blast_spec.specs.Circuits.{Bits}
-use Rattle.blast_spec.specs.Goal.{Table, is_there, bits_in, found_bits}
+use Rattle.bit_blast_spec.specs.Circuits.{Bits}
+use Rattle.bit_blast_spec.specs.Goal.{Table, is_there, bits_in, found_bits}
 use Rattle.bit_blast.specs.Terms.{terms_in}
 use Rattle.bit_blast.specs.Entered.{Entry, entered, nodes_in, IsTable}
 

@@ -1,13 +1,13 @@
 -- The ties of loads, one after the other.
 use Rattle.std.proofs.Common.{◌≡◌, ◌<◌, ◌≤◌, ◌+◌, ℕ, zero, suc, List, [], ◌∷◌, length, map, drop, get_or, refl, ap, sym, ◌∙◌, arith, filter}
-use Rattle.clause_spec.specs.declared.Literal.{Literal}
-use Rattle.clause_spec.specs.Clause.{Cnf}
-use Rattle.term_spec.specs.Term.{Term}
-use Rattle.blast_spec.specs.Gates.{Build, ◌>>=◌, claim}
-use Rattle.blast_spec.specs.Circuits.{equal_bits}
-use Rattle.blast_spec.specs.Goal.{Load, equal_where, tie, tie_all, is_of_memory, tie_memories}
-use Rattle.word_circuits.specs.Built.{IsBuilt, Continues}
-use Rattle.word_circuits.proofs.Built.{continues_then, continues_end}
+use Rattle.clause_check_spec.specs.declared.Literal.{Literal}
+use Rattle.clause_check_spec.specs.Clause.{Cnf}
+use Rattle.term_core_spec.specs.Term.{Term}
+use Rattle.bit_blast_spec.specs.Gates.{Build, ◌>>=◌, claim}
+use Rattle.bit_blast_spec.specs.Circuits.{equal_bits}
+use Rattle.bit_blast_spec.specs.Goal.{Load, equal_where, tie, tie_all, is_of_memory, tie_memories}
+use Rattle.bit_blast_circuits.specs.Built.{IsBuilt, Continues}
+use Rattle.bit_blast_circuits.proofs.Built.{continues_then, continues_end}
 use Rattle.bit_blast.specs.Within.{BuiltWithin}
 use Rattle.bit_blast.proofs.Within.{ContinuesWithin, within_then, within_end}
 

@@ -4,13 +4,13 @@ use Rattle.std.specs.Global.{Global}
 use Rattle.std.specs.HashMap.{get}
 use Rattle.std.specs.Prelude.{nat_eq}
 use Rattle.std.proofs.lemmas.List.{append_assoc, append-nil}
-use Rattle.clause_spec.specs.Clause.{Cnf}
-use Rattle.term_spec.specs.Term.{Term}
+use Rattle.clause_check_spec.specs.Clause.{Cnf}
+use Rattle.term_core_spec.specs.Term.{Term}
 use Rattle.term_bank.specs.Nodes.{tree_at}
-use Rattle.blast_spec.specs.Goal.{Table, visit}
+use Rattle.bit_blast_spec.specs.Goal.{Table, visit}
 use Rattle.bit_blast.specs.Steps.{run, IsClosed}
-use Rattle.word_circuits.specs.Built.{IsBuilt, Continues}
-use Rattle.word_circuits.proofs.Built.{continues_end}
+use Rattle.bit_blast_circuits.specs.Built.{IsBuilt, Continues}
+use Rattle.bit_blast_circuits.proofs.Built.{continues_end}
 use Rattle.bit_blast.specs.declared.state.Task.{Task}
 use Rattle.bit_blast.specs.declared.state.Task.TheVariants.{Visit}
 use Rattle.bit_blast.specs.declared.state.Traversal.{Traversal}

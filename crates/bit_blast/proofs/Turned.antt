@@ -6,23 +6,23 @@ use Rattle.std.specs.Cmp.{nat_eq_equiv}
 use Rattle.std.specs.Global.{Global}
 use Rattle.std.proofs.lemmas.List.{append-nil, map-append}
 use Rattle.std.proofs.lemmas.Option.{same_Some, get_or_from_slice_get, slice_get_within}
-use Rattle.clause_spec.specs.Clause.{Cnf}
-use Rattle.term_spec.specs.declared.Atom.TheVariants as atom
-use Rattle.term_spec.specs.Term as tree
-use Rattle.term_spec.specs.Term.{Term}
+use Rattle.clause_check_spec.specs.Clause.{Cnf}
+use Rattle.term_core_spec.specs.declared.Atom.TheVariants as atom
+use Rattle.term_core_spec.specs.Term as tree
+use Rattle.term_core_spec.specs.Term.{Term}
 use Rattle.term_bank.specs.declared.node.TermNode.{TermNode}
 use Rattle.term_bank.specs.declared.node.TermNode.TheVariants as node
 use Rattle.term_bank.specs.Nodes.{IsNode, tree_at, build, Holds}
 use Rattle.term_bank.proofs.Growth.{slice_get-front}
-use Rattle.blast_spec.specs.Gates.{Made, Build, give, ◌>>=◌}
-use Rattle.blast_spec.specs.Circuits.{Bits}
-use Rattle.blast_spec.specs.Goal.{Table, is_there, once}
+use Rattle.bit_blast_spec.specs.Gates.{Made, Build, give, ◌>>=◌}
+use Rattle.bit_blast_spec.specs.Circuits.{Bits}
+use Rattle.bit_blast_spec.specs.Goal.{Table, is_there, once}
 use Rattle.bit_blast.specs.Steps as steps
 use Rattle.bit_blast.specs.Steps.{Step, act, run, visits, arguments, finish, AllThere, IsClosed, weights}
 use Rattle.bit_blast.proofs.Runs.{run-last, weights-append, steps_weigh}
 use Rattle.bit_blast.proofs.Visits.{visit_steps, visit_there}
-use Rattle.word_circuits.specs.Built.{with_gates, IsBuilt}
-use Rattle.word_circuits.proofs.Built.{then_gives}
+use Rattle.bit_blast_circuits.specs.Built.{with_gates, IsBuilt}
+use Rattle.bit_blast_circuits.proofs.Built.{then_gives}
 use Rattle.bit_blast.specs.Terms.{terms_in}
 use Rattle.bit_blast.specs.declared.state.Task.{Task}
 use Rattle.bit_blast.specs.declared.state.Task.TheVariants.{Visit, Finish}

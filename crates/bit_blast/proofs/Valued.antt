@@ -3,17 +3,17 @@ use Rattle.std.proofs.Common.{◌≡◌, ◌<◌, ◌%◌, ◌^◌, ℕ, Bool, f
 use Rattle.std.proofs.Math.Path.{fun_ext}
 use Rattle.std.proofs.lemmas.Option.{get_or_from_slice_get}
 use Rattle.std.specs.Prelude.{◌==◌}
-use Rattle.clause_spec.specs.Clause.{Valuation, holds}
-use Rattle.term_spec.specs.declared.Width.{Width}
-use Rattle.term_spec.specs.declared.Sort.TheVariants as sort
-use Rattle.term_spec.specs.declared.Variable.{Variable}
-use Rattle.term_spec.specs.declared.Atom.TheVariants as atom
-use Rattle.term_spec.specs.Term.{Term, Leaf}
-use Rattle.term_spec.specs.Sort.{bits}
-use Rattle.term_spec.specs.Value as spec
-use Rattle.term_spec.specs.Value.{low_bits}
+use Rattle.clause_check_spec.specs.Clause.{Valuation, holds}
+use Rattle.term_core_spec.specs.declared.Width.{Width}
+use Rattle.term_core_spec.specs.declared.Sort.TheVariants as sort
+use Rattle.term_core_spec.specs.declared.Variable.{Variable}
+use Rattle.term_core_spec.specs.declared.Atom.TheVariants as atom
+use Rattle.term_core_spec.specs.Term.{Term, Leaf}
+use Rattle.term_core_spec.specs.Sort.{bits}
+use Rattle.term_core_spec.specs.Value as spec
+use Rattle.term_core_spec.specs.Value.{low_bits}
 use Rattle.term_bank.specs.Nodes.{tree_at, Holds, AreDistinct}
-use Rattle.blast_spec.specs.Goal.{Table, Load, bits_in, bit_of, loads_of, is_of_memory}
+use Rattle.bit_blast_spec.specs.Goal.{Table, Load, bits_in, bit_of, loads_of, is_of_memory}
 use Rattle.bit_blast_laws.specs.Meaning.{number_of}
 use Rattle.bit_blast_laws.specs.Back.{first_byte, loads_from, value_back, read_back}
 use Rattle.bit_blast.specs.Terms.{terms_in}

@@ -2,12 +2,12 @@
 use Rattle.std.proofs.Common.{◌≡◌, ℕ, Bool, true, false, List, [], ◌∷◌, ◌++◌, refl, ap, sym, ◌∙◌}
 use Rattle.std.specs.Prelude.{if◌then◌else◌}
 use Rattle.std.proofs.lemmas.List.{append_assoc}
-use Rattle.term_spec.specs.declared.WordOperator.TheVariants as word
-use Rattle.term_spec.specs.declared.BinaryOperator.{BinaryOperator}
-use Rattle.term_spec.specs.declared.BinaryOperator.TheVariants as binary
-use Rattle.term_spec.specs.Term.{Term, Leaf, Unary, Binary, Ternary, Quaternary, Octonary}
-use Rattle.blast_spec.specs.Gates.{Build, give, ◌>>=◌}
-use Rattle.blast_spec.specs.Goal.{Table, is_there, once, visit}
+use Rattle.term_core_spec.specs.declared.WordOperator.TheVariants as word
+use Rattle.term_core_spec.specs.declared.BinaryOperator.{BinaryOperator}
+use Rattle.term_core_spec.specs.declared.BinaryOperator.TheVariants as binary
+use Rattle.term_core_spec.specs.Term.{Term, Leaf, Unary, Binary, Ternary, Quaternary, Octonary}
+use Rattle.bit_blast_spec.specs.Gates.{Build, give, ◌>>=◌}
+use Rattle.bit_blast_spec.specs.Goal.{Table, is_there, once, visit}
 use Rattle.bit_blast.specs.Steps.{Step, Visit, Finish, run, visits, arguments, finish, needs, AllThere, IsClosed}
 use Rattle.bit_blast.proofs.Runs.{run-last, visit_then, run-visits, then-assoc, then-same}
 use Rattle.bit_blast.proofs.Keeps.{visit_is, then_under, arguments_smaller}

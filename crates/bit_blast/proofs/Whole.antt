@@ -1,14 +1,14 @@
 -- The clauses of a whole goal.
 use Rattle.std.proofs.Common.{◌≡◌, ◌≤◌, ℕ, List, [], ◌∷◌, ap, subst, ◌∙◌, arith}
 use Rattle.std.specs.HashMap.{HashMap}
-use Rattle.clause_spec.specs.declared.Literal.{Literal}
-use Rattle.clause_spec.specs.Clause.{Cnf, negation}
-use Rattle.term_spec.specs.Term.{Term}
+use Rattle.clause_check_spec.specs.declared.Literal.{Literal}
+use Rattle.clause_check_spec.specs.Clause.{Cnf, negation}
+use Rattle.term_core_spec.specs.Term.{Term}
 use Rattle.term_bank.specs.Nodes.{tree_at}
-use Rattle.blast_spec.specs.Gates.{Truth, Build, ◌>>=◌, make, claim}
-use Rattle.blast_spec.specs.Goal.{Table, bits_in, bit_of, visit, loads_of, memories_of, tie_memories, goal_gates, cnf_of}
-use Rattle.word_circuits.specs.Built.{no_clauses, IsBuilt, Continues}
-use Rattle.word_circuits.proofs.Built.{then_gives, continues_start, continues_then}
+use Rattle.bit_blast_spec.specs.Gates.{Truth, Build, ◌>>=◌, make, claim}
+use Rattle.bit_blast_spec.specs.Goal.{Table, bits_in, bit_of, visit, loads_of, memories_of, tie_memories, goal_gates, cnf_of}
+use Rattle.bit_blast_circuits.specs.Built.{no_clauses, IsBuilt, Continues}
+use Rattle.bit_blast_circuits.proofs.Built.{then_gives, continues_start, continues_then}
 use Rattle.bit_blast.specs.Within.{BuiltWithin}
 use Rattle.bit_blast.proofs.Within.{count_first}
 use Rattle.bit_blast.specs.Terms.{terms_in}

@@ -1,10 +1,10 @@
 -- Builds that stop where they have more variables than a maximum.
 use Rattle.std.proofs.Common.{◌≡◌, ◌≤◌, ◌<◌, ℕ, Result, Ok, Err, refl, ap, sym, subst, arith}
 use Rattle.std.specs.Prelude.{IsErrAnd, IfErr}
-use Rattle.clause_spec.specs.Clause.{Cnf}
-use Rattle.blast_spec.specs.Gates.{last_of, Build, give, ◌>>=◌}
-use Rattle.word_circuits.specs.Built.{with_gates, IsBuilt, Continues}
-use Rattle.word_circuits.proofs.Built.{last_of-append, continues_start, continues_then, continues_end}
+use Rattle.clause_check_spec.specs.Clause.{Cnf}
+use Rattle.bit_blast_spec.specs.Gates.{last_of, Build, give, ◌>>=◌}
+use Rattle.bit_blast_circuits.specs.Built.{with_gates, IsBuilt, Continues}
+use Rattle.bit_blast_circuits.proofs.Built.{last_of-append, continues_start, continues_then, continues_end}
 use Rattle.bit_blast_laws.proofs.Made.{last_rises}
 use Rattle.bit_blast.specs.declared.error.BlastError.{BlastError}
 use Rattle.bit_blast.specs.Within.{BuiltWithin, IfLarge}

@@ -1,9 +1,9 @@
 -- The bytes of loads, written from the last to the first.
 use Rattle.std.proofs.Common.{◌≡◌, ◌<◌, ◌≤◌, ◌+◌, ◌%◌, ◌^◌, ℕ, zero, suc, List, [], ◌∷◌, length, map, drop, get_or, ap, sym, ◌∙◌, subst, arith}
-use Rattle.clause_spec.specs.Clause.{Valuation}
-use Rattle.term_spec.specs.Value.{low_bits, with_byte}
-use Rattle.blast_spec.specs.Circuits.{Bits}
-use Rattle.blast_spec.specs.Goal.{Table, Load}
+use Rattle.clause_check_spec.specs.Clause.{Valuation}
+use Rattle.term_core_spec.specs.Value.{low_bits, with_byte}
+use Rattle.bit_blast_spec.specs.Circuits.{Bits}
+use Rattle.bit_blast_spec.specs.Goal.{Table, Load}
 use Rattle.bit_blast_laws.specs.Meaning.{number_of}
 use Rattle.bit_blast_laws.specs.Back.{first_byte}
 use Rattle.bit_blast.specs.declared.loads.LoadIndices.{LoadIndices}

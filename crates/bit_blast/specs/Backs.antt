@@ -1,6 +1,6 @@
 -- What is reconstructed of a model.
 use Rattle.std.specs.Prelude.{◌≤◌, List, [], ◌∷◌, length}
-use Rattle.blast_spec.specs.Goal.{Load}
+use Rattle.bit_blast_spec.specs.Goal.{Load}
 
 -- the addresses are numbers below 2 ^ 32, as those of a well-sorted goal
 abbrev pub AreShort : List Load → Type 0

@@ -1,8 +1,8 @@
 -- The bits of the term at an index of a table.
 use Rattle.std.specs.Prelude.{ℕ}
 use Rattle.term_bank.specs.Nodes.{tree_at}
-use Rattle.blast_spec.specs.Circuits.{Bits}
-use Rattle.blast_spec.specs.Goal.{Table, bits_in}
+use Rattle.bit_blast_spec.specs.Circuits.{Bits}
+use Rattle.bit_blast_spec.specs.Goal.{Table, bits_in}
 use Rattle.bit_blast.specs.Terms.{terms_in}
 
 abbrev pub bits_at : Table → ℕ → Bits

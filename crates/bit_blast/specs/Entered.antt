@@ -1,11 +1,11 @@
 -- Nodes that are entered one after the other, each with its bits.
 use Rattle.std.specs.Prelude.{List, [], ◌∷◌, ◌++◌, Vec, map}
 use Rattle.std.specs.Global.{Global}
-use Rattle.clause_spec.specs.declared.Literal.{Literal}
+use Rattle.clause_check_spec.specs.declared.Literal.{Literal}
 use Rattle.term_bank.specs.declared.node.TermNode.{TermNode}
 use Rattle.term_bank.specs.Nodes.{build, AreDistinct}
 use Rattle.term_bank.specs.Trees.{grown, AreNodes}
-use Rattle.blast_spec.specs.Goal.{Table}
+use Rattle.bit_blast_spec.specs.Goal.{Table}
 use Rattle.bit_blast.specs.Terms.{terms_in}
 
 abbrev pub Entry : Type 0

@@ -1,6 +1,6 @@
 -- Which terms are entered two at a time.
-use Rattle.term_spec.specs.declared.WordOperator.TheVariants as word
-use Rattle.term_spec.specs.declared.BinaryOperator.TheVariants as binary
+use Rattle.term_core_spec.specs.declared.WordOperator.TheVariants as word
+use Rattle.term_core_spec.specs.declared.BinaryOperator.TheVariants as binary
 use Rattle.term_bank.specs.declared.node.TermNode.{TermNode}
 use Rattle.term_bank.specs.declared.node.TermNode.TheVariants.{Binary}
 use Rattle.bit_blast.specs.declared.entry.Division.{Division}

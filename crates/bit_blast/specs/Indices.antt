@@ -1,11 +1,11 @@
 -- The indices that the terms of a bank have in a table.
 use Rattle.std.specs.Prelude.{◌≡◌, ℕ, nat_eq, List, [], ◌∷◌, Some, IsSome, unwrap_or}
 use Rattle.std.specs.HashMap.{HashMap, get}
-use Rattle.term_spec.specs.Term.{Term}
+use Rattle.term_core_spec.specs.Term.{Term}
 use Rattle.term_bank.specs.declared.node.TermNode.{TermNode}
 use Rattle.term_bank.specs.declared.node.TermNode.TheVariants.{Leaf, Unary, Binary, Ternary, Quaternary, Octonary}
 use Rattle.term_bank.specs.Nodes.{tree_at, Holds}
-use Rattle.blast_spec.specs.Goal.{Table}
+use Rattle.bit_blast_spec.specs.Goal.{Table}
 use Rattle.bit_blast.specs.Terms.{terms_in}
 
 -- from left to right

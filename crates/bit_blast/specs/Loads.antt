@@ -1,12 +1,12 @@
 -- Loads by the indices of their terms.
 use Rattle.std.specs.Prelude.{◌<◌, ◌==◌, ℕ, not, List, [], ◌∷◌, length, filter, Option, Some, None}
-use Rattle.term_spec.specs.declared.Variable.{Variable}
-use Rattle.term_spec.specs.declared.Atom.TheVariants as atom
-use Rattle.term_spec.specs.declared.BinaryOperator.TheVariants as binary
+use Rattle.term_core_spec.specs.declared.Variable.{Variable}
+use Rattle.term_core_spec.specs.declared.Atom.TheVariants as atom
+use Rattle.term_core_spec.specs.declared.BinaryOperator.TheVariants as binary
 use Rattle.term_bank.specs.declared.node.TermNode.{TermNode}
 use Rattle.term_bank.specs.declared.node.TermNode.TheVariants.{Leaf, Binary}
 use Rattle.term_bank.specs.Nodes.{tree_at}
-use Rattle.blast_spec.specs.Goal.{Table, Load}
+use Rattle.bit_blast_spec.specs.Goal.{Table, Load}
 use Rattle.bit_blast.specs.Terms.{terms_in}
 use Rattle.bit_blast.specs.BitsAt.{bits_at}
 use Rattle.bit_blast.specs.declared.loads.LoadIndices.{LoadIndices}

@@ -1,8 +1,8 @@
 -- Models of clauses, and goals that can be false.
 use Rattle.std.specs.Prelude.{◌≡◌, true, false}
-use Rattle.clause_spec.specs.Clause.{Cnf, Valuation, satisfies}
-use Rattle.term_spec.specs.Term.{Term}
-use Rattle.term_spec.specs.Value.{Truth, Assignment, IsAssignment, value}
+use Rattle.clause_check_spec.specs.Clause.{Cnf, Valuation, satisfies}
+use Rattle.term_core_spec.specs.Term.{Term}
+use Rattle.term_core_spec.specs.Value.{Truth, Assignment, IsAssignment, value}
 
 -- an assignment satisfies the clauses
 abbrev pub HasModel : Cnf → Type 0

@@ -1,11 +1,11 @@
 -- A visit of a term by single steps.
 use Rattle.std.specs.Prelude.{◌≡◌, ℕ, ◌+◌, ◌*◌, true, List, [], ◌∷◌, ◌++◌}
-use Rattle.term_spec.specs.declared.WordOperator.TheVariants as word
-use Rattle.term_spec.specs.declared.BinaryOperator.TheVariants as binary
-use Rattle.term_spec.specs.Term.{Term, Leaf, Unary, Binary, Ternary, Quaternary, Octonary, divide, remainder}
-use Rattle.blast_spec.specs.Gates.{Build, give, ◌>>=◌}
-use Rattle.blast_spec.specs.Circuits.{Bits}
-use Rattle.blast_spec.specs.Goal.{Table, is_there, bits_in, atom_bits, unary_bits, binary_bits, ternary_bits, quaternary_bits, enter, with_binary, once, visit}
+use Rattle.term_core_spec.specs.declared.WordOperator.TheVariants as word
+use Rattle.term_core_spec.specs.declared.BinaryOperator.TheVariants as binary
+use Rattle.term_core_spec.specs.Term.{Term, Leaf, Unary, Binary, Ternary, Quaternary, Octonary, divide, remainder}
+use Rattle.bit_blast_spec.specs.Gates.{Build, give, ◌>>=◌}
+use Rattle.bit_blast_spec.specs.Circuits.{Bits}
+use Rattle.bit_blast_spec.specs.Goal.{Table, is_there, bits_in, atom_bits, unary_bits, binary_bits, ternary_bits, quaternary_bits, enter, with_binary, once, visit}
 
 -- from left to right
 abbrev pub arguments : Term → List Term

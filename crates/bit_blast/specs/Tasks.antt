@@ -1,6 +1,6 @@
 -- Tasks as steps of a visit.
 use Rattle.std.specs.Prelude.{ℕ, List, [], ◌∷◌, ◌++◌, map}
-use Rattle.term_spec.specs.Term.{Term}
+use Rattle.term_core_spec.specs.Term.{Term}
 use Rattle.term_bank.specs.Nodes.{tree_at, build}
 use Rattle.bit_blast.specs.Steps as steps
 use Rattle.bit_blast.specs.Steps.{Step}

@@ -1,11 +1,11 @@
 -- What holds between two tasks, and what one task does.
 use Rattle.std.specs.Prelude.{◌≡◌, ◌<◌, ◌⊎◌, ℕ, List, [], ◌∷◌, length}
 use Rattle.std.specs.HashMap.{HashMap}
-use Rattle.term_spec.specs.Term.{Term}
+use Rattle.term_core_spec.specs.Term.{Term}
 use Rattle.term_bank.specs.Nodes.{build, Holds}
-use Rattle.blast_spec.specs.Goal.{Table}
+use Rattle.bit_blast_spec.specs.Goal.{Table}
 use Rattle.bit_blast.specs.Steps.{IsClosed, run, weights}
-use Rattle.word_circuits.specs.Built.{Continues}
+use Rattle.bit_blast_circuits.specs.Built.{Continues}
 use Rattle.bit_blast.specs.declared.state.Task.{Task}
 use Rattle.bit_blast.specs.declared.state.Task.TheVariants.{Visit, Finish}
 use Rattle.bit_blast.specs.declared.state.Traversal.{Traversal}

@@ -1,8 +1,8 @@
 -- Builds that stop where they have more variables than a maximum.
 use Rattle.std.specs.Prelude.{◌<◌, ◌≤◌, ℕ}
-use Rattle.clause_spec.specs.Clause.{Cnf}
-use Rattle.blast_spec.specs.Gates.{Build, last_of}
-use Rattle.word_circuits.specs.Built.{IsBuilt}
+use Rattle.clause_check_spec.specs.Clause.{Cnf}
+use Rattle.bit_blast_spec.specs.Gates.{Build, last_of}
+use Rattle.bit_blast_circuits.specs.Built.{IsBuilt}
 use Rattle.bit_blast.specs.declared.error.BlastError.{BlastError}
 use Rattle.bit_blast.specs.declared.error.BlastError.TheVariants.{Large, NoMemory}
 

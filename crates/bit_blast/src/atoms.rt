@@ -1,17 +1,17 @@
 // The bits of terms without arguments.
 
 ghost use Rattle.std.specs.Prelude.{◌≡◌, IfOk};
-ghost use Rattle.term_spec.specs.Sort.{bits};
-ghost use Rattle.blast_spec.specs.Goal as spec;
-ghost use Rattle.word_circuits.specs.Built.{MakesWord};
+ghost use Rattle.term_core_spec.specs.Sort.{bits};
+ghost use Rattle.bit_blast_spec.specs.Goal as spec;
+ghost use Rattle.bit_blast_circuits.specs.Built.{MakesWord};
 
 use crate::parts::single;
 use attempt::attempt;
+use bit_blast_circuits::{Gates, none, one};
 use cnf_core::Literal;
 use std::alloc::{AllocError, Global};
 use term_core::bit_count;
-use term_spec::{Atom, Sort, Width};
-use word_circuits::{Gates, none, one};
+use term_core_spec::{Atom, Sort, Width};
 
 /// How many bits a word has.
 pub fn word_size(width: Width) -> usize

@@ -2,16 +2,16 @@
 
 ghost use Rattle.std.specs.Prelude.{◌≡◌, ◌+◌, ◌*◌, ◌%◌, ◌^◌, ◌<◌, ◌≤◌, [], ℕ, length, map, true};
 ghost use Rattle.std.specs.Prelude.{false, Some, IfOk, OnOk, if◌then◌else◌, ◌==◌};
-ghost use Rattle.clause_spec.specs.Clause as clause;
+ghost use Rattle.clause_check_spec.specs.Clause as clause;
 ghost use Rattle.cnf_core.specs.Bits.{valuation};
-ghost use Rattle.term_spec.specs.declared.Variable.{Variable};
-ghost use Rattle.term_spec.specs.declared.Sort.TheVariants as sort;
-ghost use Rattle.term_spec.specs.declared.Atom.TheVariants as atom;
-ghost use Rattle.term_spec.specs.Term.{Term, Leaf};
-ghost use Rattle.term_spec.specs.Sort.{sort_of};
-ghost use Rattle.term_spec.specs.Value as term_value;
+ghost use Rattle.term_core_spec.specs.declared.Variable.{Variable};
+ghost use Rattle.term_core_spec.specs.declared.Sort.TheVariants as sort;
+ghost use Rattle.term_core_spec.specs.declared.Atom.TheVariants as atom;
+ghost use Rattle.term_core_spec.specs.Term.{Term, Leaf};
+ghost use Rattle.term_core_spec.specs.Sort.{sort_of};
+ghost use Rattle.term_core_spec.specs.Value as term_value;
 ghost use Rattle.term_bank.specs.Nodes.{Holds};
-ghost use Rattle.blast_spec.specs.Goal as goal;
+ghost use Rattle.bit_blast_spec.specs.Goal as goal;
 ghost use Rattle.bit_blast_laws.specs.Meaning as meaning;
 ghost use Rattle.bit_blast_laws.specs.Back as back;
 ghost use Rattle.term_core.specs.Memory.{bytes_of};
@@ -30,7 +30,7 @@ use cnf_core::Literal;
 use std::alloc::{AllocError, Global};
 use term_bank::TermNode;
 use term_core::{Assignment, Memory, Value, low_bits};
-use term_spec::{Atom, Sort, Variable};
+use term_core_spec::{Atom, Sort, Variable};
 
 fn holds(values: &[bool], literal: Literal) -> bool
     ensures { result ≡ clause.holds (valuation values.now) literal }

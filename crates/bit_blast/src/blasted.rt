@@ -1,8 +1,8 @@
 ghost use Rattle.std.specs.Prelude.{◌≡◌, ◌<◌, ◌≤◌, [], Some, length, IfOk, IfErr, OnOk};
-ghost use Rattle.term_spec.specs.declared.Sort.TheVariants as sort;
-ghost use Rattle.term_spec.specs.Sort.{sort_of};
+ghost use Rattle.term_core_spec.specs.declared.Sort.TheVariants as sort;
+ghost use Rattle.term_core_spec.specs.Sort.{sort_of};
 ghost use Rattle.term_bank.specs.Nodes.{tree_at};
-ghost use Rattle.blast_spec.specs.Goal.{visit, cnf_of};
+ghost use Rattle.bit_blast_spec.specs.Goal.{visit, cnf_of};
 ghost use Rattle.bit_blast_laws.specs.Back.{TableLoadsFromVariables};
 ghost use Rattle.bit_blast.specs.Models.{HasModel, CanBeFalse};
 ghost use Rattle.bit_blast.specs.Within.{IfLarge};
@@ -15,10 +15,10 @@ use crate::state::Traversal;
 use crate::table::TermTable;
 use crate::traversal::traversal;
 use attempt::attempt;
+use bit_blast_circuits::Gates;
 use cnf_core::{Cnf, negation};
 use std::alloc::Global;
 use term_bank::{Bank, TermId};
-use word_circuits::Gates;
 
 /// The clauses of a goal, with its terms and their bits.
 #[derive(Drop)]

@@ -1,21 +1,21 @@
 // The entry of a term whose arguments are there.
 
 ghost use Rattle.std.specs.Prelude.{◌≡◌, ◌<◌, ◌+◌, ◌++◌, length, false, IfOk};
-ghost use Rattle.term_spec.specs.Term.{divide, remainder};
+ghost use Rattle.term_core_spec.specs.Term.{divide, remainder};
 ghost use Rattle.term_bank.specs.Nodes.{IsNode, build, tree_at, Holds};
-ghost use Rattle.blast_spec.specs.Goal.{is_there, divided, once};
+ghost use Rattle.bit_blast_spec.specs.Goal.{is_there, divided, once};
 ghost use Rattle.bit_blast.specs.Steps.{finish, IsClosed};
-ghost use Rattle.word_circuits.specs.Built.{IsBuilt};
+ghost use Rattle.bit_blast_circuits.specs.Built.{IsBuilt};
 ghost use Rattle.bit_blast.specs.Terms.{terms_in};
 ghost use Rattle.bit_blast.specs.Entries as spec;
 
 use crate::nodes::own_bits;
 use crate::table::TermTable;
 use attempt::attempt;
+use bit_blast_circuits::Gates;
 use std::alloc::{AllocError, Global};
 use term_bank::TermNode;
-use term_spec::{BinaryOperator, WordOperator};
-use word_circuits::Gates;
+use term_core_spec::{BinaryOperator, WordOperator};
 
 const DIVIDE: BinaryOperator = BinaryOperator::Word(WordOperator::Divide);
 

@@ -2,19 +2,19 @@
 
 ghost use Rattle.std.specs.Prelude.{◌≡◌, ◌==◌, ◌++◌, ◌∷◌, [], not, map, filter, IfOk, OnOk};
 ghost use Rattle.std.specs.Option.{option_to_list};
-ghost use Rattle.blast_spec.specs.Gates.{claim};
-ghost use Rattle.blast_spec.specs.Goal as goal;
-ghost use Rattle.word_circuits.specs.Built.{MakesClauses};
+ghost use Rattle.bit_blast_spec.specs.Gates.{claim};
+ghost use Rattle.bit_blast_spec.specs.Goal as goal;
+ghost use Rattle.bit_blast_circuits.specs.Built.{MakesClauses};
 ghost use Rattle.bit_blast.specs.Loads as spec;
 ghost use Rattle.bit_blast.specs.Within.{BuiltWithin};
 
 use crate::table::TermTable;
 use attempt::attempt;
+use bit_blast_circuits::Gates;
 use cnf_core::{Literal, negation};
 use std::alloc::{AllocError, Global};
 use term_bank::TermNode;
-use term_spec::BinaryOperator;
-use word_circuits::Gates;
+use term_core_spec::BinaryOperator;
 
 /// The indices of a load and of its memory and address.
 #[derive(Clone, Copy)]

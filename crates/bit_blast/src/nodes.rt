@@ -3,7 +3,7 @@
 ghost use Rattle.std.specs.Prelude.{◌≡◌, ◌<◌, ◌++◌, length, IfOk};
 ghost use Rattle.term_bank.specs.Nodes.{IsNode, build};
 ghost use Rattle.bit_blast.specs.Steps as steps;
-ghost use Rattle.word_circuits.specs.Built.{MakesWord};
+ghost use Rattle.bit_blast_circuits.specs.Built.{MakesWord};
 ghost use Rattle.bit_blast.specs.Terms.{terms_in};
 ghost use Rattle.bit_blast.specs.BitsAt.{bits_at};
 
@@ -12,10 +12,10 @@ use crate::operators::{binary_bits, bit_of, quaternary_bits, ternary_bits, unary
 use crate::parts::with_four;
 use crate::table::TermTable;
 use attempt::attempt;
+use bit_blast_circuits::Gates;
 use cnf_core::Literal;
 use std::alloc::{AllocError, Global};
 use term_bank::TermNode;
-use word_circuits::Gates;
 
 // The bits of four terms after others.
 fn four_after(

@@ -1,20 +1,22 @@
 // The bits of operators by those of their arguments.
 
 ghost use Rattle.std.specs.Prelude.{◌≡◌, IfOk};
-ghost use Rattle.term_spec.specs.Term.{Term};
-ghost use Rattle.blast_spec.specs.Goal as spec;
-ghost use Rattle.word_circuits.specs.Built.{IsBuilt, MakesWord};
+ghost use Rattle.term_core_spec.specs.Term.{Term};
+ghost use Rattle.bit_blast_spec.specs.Goal as spec;
+ghost use Rattle.bit_blast_circuits.specs.Built.{IsBuilt, MakesWord};
 
 use crate::atoms::word_size;
 use crate::parts::{joined, part, prefix, single, with_four};
 use attempt::attempt;
+use bit_blast_circuits::{Connective, Gates, Shift, negations, none, padded, sign_of};
 use cnf_core::Literal;
 use std::alloc::{AllocError, Global};
-use term_spec::{BinaryOperator, QuaternaryOperator, TernaryOperator, UnaryOperator, WordOperator};
-use word_circuits::{Connective, Gates, Shift, negations, none, padded, sign_of};
+use term_core_spec::{
+    BinaryOperator, QuaternaryOperator, TernaryOperator, UnaryOperator, WordOperator,
+};
 
 /// One argument: no gates.
-#[tactic(auto, unfolding(blast_spec::specs::Goal::unary_bits))]
+#[tactic(auto, unfolding(bit_blast_spec::specs::Goal::unary_bits))]
 pub fn unary_bits(
     alloc: Global,
     operator: UnaryOperator,
@@ -36,7 +38,7 @@ pub fn unary_bits(
 }
 
 /// Two words; a quotient and a remainder are made otherwise.
-#[tactic(auto, unfolding(blast_spec::specs::Goal::word_bits))]
+#[tactic(auto, unfolding(bit_blast_spec::specs::Goal::word_bits))]
 pub fn word_bits(
     alloc: Global,
     gates: &mut Gates,
@@ -91,7 +93,7 @@ fn less(
 }
 
 /// Two arguments; the bits of a load are new.
-#[tactic(auto, unfolding(blast_spec::specs::Goal::binary_bits))]
+#[tactic(auto, unfolding(bit_blast_spec::specs::Goal::binary_bits))]
 pub fn binary_bits(
     alloc: Global,
     gates: &mut Gates,
@@ -114,7 +116,7 @@ pub fn binary_bits(
 }
 
 /// Three arguments, of which the first is one bit.
-#[tactic(auto, unfolding(blast_spec::specs::Goal::ternary_bits))]
+#[tactic(auto, unfolding(bit_blast_spec::specs::Goal::ternary_bits))]
 pub fn ternary_bits(
     alloc: Global,
     gates: &mut Gates,
@@ -132,7 +134,7 @@ pub fn ternary_bits(
 }
 
 /// Four arguments: no gates.
-#[tactic(auto, unfolding(blast_spec::specs::Goal::quaternary_bits))]
+#[tactic(auto, unfolding(bit_blast_spec::specs::Goal::quaternary_bits))]
 pub fn quaternary_bits(
     alloc: Global,
     operator: QuaternaryOperator,

@@ -1,7 +1,7 @@
 // Words by parts of others.
 
 ghost use Rattle.std.specs.Prelude.{◌≡◌, ◌++◌, take, drop, IfOk};
-ghost use Rattle.blast_spec.specs.Goal as spec;
+ghost use Rattle.bit_blast_spec.specs.Goal as spec;
 
 use attempt::attempt;
 use cnf_core::Literal;

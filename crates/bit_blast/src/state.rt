@@ -1,9 +1,9 @@
 // A visit of terms that has begun.
 
 use crate::table::TermTable;
+use bit_blast_circuits::Gates;
 use std::collections::HashMap;
 use term_bank::{TermId, TermNode};
-use word_circuits::Gates;
 
 /// What is left to do.
 #[derive(Clone, Copy)]

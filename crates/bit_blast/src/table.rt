@@ -1,7 +1,7 @@
 ghost use Rattle.std.specs.Prelude.{◌≡◌, ◌<◌, ◌∷◌, ◌++◌, [], length, false, IfSome, IfNone};
 ghost use Rattle.std.specs.Prelude.{IfOk, OnErr};
 ghost use Rattle.term_bank.specs.Nodes.{IsNode, build, tree_at, Holds, AreDistinct};
-ghost use Rattle.blast_spec.specs.Goal.{is_there, bits_in};
+ghost use Rattle.bit_blast_spec.specs.Goal.{is_there, bits_in};
 ghost use Rattle.bit_blast.specs.Terms.{terms_in};
 
 use cnf_core::Literal;
@@ -20,9 +20,9 @@ pub struct TermTable {
 impl Model for TermTable {
     ghost use Rattle.std.specs.Prelude.{[]};
     ghost use Rattle.std.specs.Coded.{coded_list, coded×};
-    ghost use Rattle.term_spec.specs.Coded.{term_code};
-    ghost use Rattle.blast_spec.specs.Goal.{Table};
-    ghost use Rattle.clause_spec.specs.contracts.Literal as literal_row;
+    ghost use Rattle.term_core_spec.specs.Coded.{term_code};
+    ghost use Rattle.bit_blast_spec.specs.Goal.{Table};
+    ghost use Rattle.clause_check_spec.specs.contracts.Literal as literal_row;
     ghost use Rattle.bit_blast.specs.Entered.{entered, IsTable};
 
     ghost Value = { Table };

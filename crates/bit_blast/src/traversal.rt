@@ -2,7 +2,7 @@
 
 ghost use Rattle.std.specs.Prelude.{◌≡◌, ◌<◌, ◌≤◌, ◌++◌, ◌∷◌, [], length, IfOk, OnOk};
 ghost use Rattle.term_bank.specs.Nodes.{tree_at};
-ghost use Rattle.blast_spec.specs.Goal.{visit};
+ghost use Rattle.bit_blast_spec.specs.Goal.{visit};
 ghost use Rattle.bit_blast.specs.Within.{BuiltWithin};
 ghost use Rattle.bit_blast.specs.Indices.{AreIndices, IsIndexed};
 ghost use Rattle.bit_blast.specs.Tasks as spec;
@@ -13,10 +13,10 @@ use crate::indices::{children, moved};
 use crate::state::{Task, Traversal};
 use crate::table::TermTable;
 use attempt::attempt;
+use bit_blast_circuits::Gates;
 use std::alloc::{AllocError, Global};
 use std::collections::HashMap;
 use term_bank::{Bank, TermId, TermNode};
-use word_circuits::Gates;
 
 /// Pushes the visits of some terms, of which the first comes last and so is the next.
 fn push_visits(tasks: &mut Vec<Task>, mut ids: Vec<TermId>) -> Result<(), AllocError>

@@ -4,11 +4,11 @@ use Rattle.std.specs.Prelude.{◌&&◌, ◌||◌, not, nat_le, nat_lt, if◌then
 use Rattle.std.proofs.Math.Nat.{add-mul-mod_self_left, mod-eq_of_lt, div-add-mod, mod-lt, pow-suc, mod-one}
 use Rattle.std.proofs.lemmas.Nat.{pow_pos}
 use Rattle.std.proofs.lemmas.List.{length-map}
-use Rattle.clause_spec.specs.declared.Literal.{Literal}
-use Rattle.clause_spec.specs.Clause.{Valuation, holds, negation}
-use Rattle.term_spec.specs.Value.{low_bits}
-use Rattle.blast_spec.specs.Gates.{Gate, Made, Build, literal_of, last_of}
-use Rattle.blast_spec.specs.Circuits.{Bits, one, sum_bits, difference_bits, carry_bit, less_bit}
+use Rattle.clause_check_spec.specs.declared.Literal.{Literal}
+use Rattle.clause_check_spec.specs.Clause.{Valuation, holds, negation}
+use Rattle.term_core_spec.specs.Value.{low_bits}
+use Rattle.bit_blast_spec.specs.Gates.{Gate, Made, Build, literal_of, last_of}
+use Rattle.bit_blast_spec.specs.Circuits.{Bits, one, sum_bits, difference_bits, carry_bit, less_bit}
 use Rattle.bit_blast_laws.specs.Meaning.{digit, number_of, differ, majority, AllHold}
 use Rattle.bit_blast_laws.proofs.Gates.{hold_parts, holds-negation}
 

@@ -1,15 +1,15 @@
 -- Loads that are tied: of one memory at equal addresses they have equal bytes.
 use Rattle.std.proofs.Common.{◌≡◌, ℕ, Bool, true, false, List, [], ◌∷◌, ◌++◌, length, refl, ap, sym, ◌∙◌, subst, ◌⊎◌, inl, inr, arith}
 use Rattle.std.specs.Prelude.{◌==◌, ◌+◌, ◌*◌, ◌||◌, not, if◌then◌else◌, filter}
-use Rattle.clause_spec.specs.declared.Literal.{Literal}
-use Rattle.clause_spec.specs.Clause.{Valuation, holds, negation}
-use Rattle.term_spec.specs.declared.BinaryOperator.TheVariants as binary
-use Rattle.term_spec.specs.Term.{Term, Leaf, Unary, Binary, Ternary, Quaternary, Octonary}
-use Rattle.term_spec.specs.Same.{same_term}
-use Rattle.term_spec.proofs.Same.{same_is, same_itself}
-use Rattle.blast_spec.specs.Gates.{last_of, claims}
-use Rattle.blast_spec.specs.Circuits.{Bits, equal_bits}
-use Rattle.blast_spec.specs.Goal.{Table, Load, bits_in, with_load, loads_of, equal_where, tie, tie_all, is_of_memory, memories_of, tie_memories}
+use Rattle.clause_check_spec.specs.declared.Literal.{Literal}
+use Rattle.clause_check_spec.specs.Clause.{Valuation, holds, negation}
+use Rattle.term_core_spec.specs.declared.BinaryOperator.TheVariants as binary
+use Rattle.term_core_spec.specs.Term.{Term, Leaf, Unary, Binary, Ternary, Quaternary, Octonary}
+use Rattle.term_core_spec.specs.Same.{same_term}
+use Rattle.term_core_spec.proofs.Same.{same_is, same_itself}
+use Rattle.bit_blast_spec.specs.Gates.{last_of, claims}
+use Rattle.bit_blast_spec.specs.Circuits.{Bits, equal_bits}
+use Rattle.bit_blast_spec.specs.Goal.{Table, Load, bits_in, with_load, loads_of, equal_where, tie, tie_all, is_of_memory, memories_of, tie_memories}
 use Rattle.bit_blast_laws.specs.Meaning.{digit, number_of, AllHold}
 use Rattle.bit_blast_laws.proofs.Gates.{hold_parts, holds-negation}
 use Rattle.bit_blast_laws.proofs.Bitwise.{equal_holds}

@@ -2,14 +2,14 @@
 use Rattle.std.proofs.Common.{◌≡◌, ℕ, true, false, List, [], ◌∷◌, ◌++◌, Some, sym}
 use Rattle.std.specs.Prelude.{filter}
 use Rattle.std.proofs.lemmas.List.{append-nil}
-use Rattle.clause_spec.specs.Clause.{Valuation, satisfies, negation}
-use Rattle.term_spec.specs.declared.Sort.TheVariants as sort
-use Rattle.term_spec.specs.Term.{Term}
-use Rattle.term_spec.specs.Sort.{sort_of}
-use Rattle.term_spec.specs.Value.{Truth, Assignment, IsAssignment, value}
-use Rattle.blast_spec.specs.Gates.{last_of, claims}
-use Rattle.blast_spec.specs.Circuits.{equal_bits}
-use Rattle.blast_spec.specs.Goal.{Load, bits_in, bit_of, visit, equal_where, is_of_memory, tie, tie_all, tie_memories, memories_of, loads_of, goal_gates, cnf_of}
+use Rattle.clause_check_spec.specs.Clause.{Valuation, satisfies, negation}
+use Rattle.term_core_spec.specs.declared.Sort.TheVariants as sort
+use Rattle.term_core_spec.specs.Term.{Term}
+use Rattle.term_core_spec.specs.Sort.{sort_of}
+use Rattle.term_core_spec.specs.Value.{Truth, Assignment, IsAssignment, value}
+use Rattle.bit_blast_spec.specs.Gates.{last_of, claims}
+use Rattle.bit_blast_spec.specs.Circuits.{equal_bits}
+use Rattle.bit_blast_spec.specs.Goal.{Load, bits_in, bit_of, visit, equal_where, is_of_memory, tie, tie_all, tie_memories, memories_of, loads_of, goal_gates, cnf_of}
 use Rattle.bit_blast_laws.proofs.Gates.{all_hold, hold_parts}
 use Rattle.bit_blast_laws.specs.Reads.{Reads}
 use Rattle.bit_blast_laws.proofs.TermsWhole.{goal_is_false}

@@ -2,20 +2,20 @@
 use Rattle.std.proofs.Common.{◌≡◌, ℕ, Bool, true, false, List, [], ◌∷◌, ◌++◌, length, Option, Some, None, refl, ap, ◌∙◌}
 use Rattle.std.specs.Prelude.{◌&&◌, if◌then◌else◌}
 use Rattle.std.proofs.lemmas.Bool.{and_parts}
-use Rattle.clause_spec.specs.Clause.{Valuation}
-use Rattle.term_spec.specs.declared.Width.TheVariants.{W8, W32, W64}
-use Rattle.term_spec.specs.declared.Sort.{Sort}
-use Rattle.term_spec.specs.declared.Sort.TheVariants as sort
-use Rattle.term_spec.specs.declared.WordOperator.TheVariants as word
-use Rattle.term_spec.specs.declared.BinaryOperator.{BinaryOperator}
-use Rattle.term_spec.specs.declared.BinaryOperator.TheVariants as binary
-use Rattle.term_spec.specs.Term.{Term, Leaf, Unary, Binary, Ternary, Quaternary, Octonary, divide, remainder}
-use Rattle.term_spec.specs.Sort.{is_byte, is_memory, is_address, all_bytes, sort_of, sort_of_unary, sort_of_binary, sort_of_ternary, sort_of_quaternary}
-use Rattle.term_spec.proofs.Sorts.{same_sort-true, sort_if-some, with_one-some, with_two-some, with_three-some, with_four-some}
-use Rattle.term_spec.proofs.Soundness.{value-sort}
-use Rattle.blast_spec.specs.Gates.{Build, last_of, give, ◌>>=◌}
-use Rattle.blast_spec.specs.Circuits.{Bits, new_bits, division}
-use Rattle.blast_spec.specs.Goal.{Table, is_there, bits_in, enter, atom_bits, unary_bits, binary_bits, ternary_bits, quaternary_bits, divided, with_binary, visit}
+use Rattle.clause_check_spec.specs.Clause.{Valuation}
+use Rattle.term_core_spec.specs.declared.Width.TheVariants.{W8, W32, W64}
+use Rattle.term_core_spec.specs.declared.Sort.{Sort}
+use Rattle.term_core_spec.specs.declared.Sort.TheVariants as sort
+use Rattle.term_core_spec.specs.declared.WordOperator.TheVariants as word
+use Rattle.term_core_spec.specs.declared.BinaryOperator.{BinaryOperator}
+use Rattle.term_core_spec.specs.declared.BinaryOperator.TheVariants as binary
+use Rattle.term_core_spec.specs.Term.{Term, Leaf, Unary, Binary, Ternary, Quaternary, Octonary, divide, remainder}
+use Rattle.term_core_spec.specs.Sort.{is_byte, is_memory, is_address, all_bytes, sort_of, sort_of_unary, sort_of_binary, sort_of_ternary, sort_of_quaternary}
+use Rattle.term_core_spec.proofs.Sorts.{same_sort-true, sort_if-some, with_one-some, with_two-some, with_three-some, with_four-some}
+use Rattle.term_core_spec.proofs.Soundness.{value-sort}
+use Rattle.bit_blast_spec.specs.Gates.{Build, last_of, give, ◌>>=◌}
+use Rattle.bit_blast_spec.specs.Circuits.{Bits, new_bits, division}
+use Rattle.bit_blast_spec.specs.Goal.{Table, is_there, bits_in, enter, atom_bits, unary_bits, binary_bits, ternary_bits, quaternary_bits, divided, with_binary, visit}
 use Rattle.bit_blast_laws.specs.Meaning.{AllHold}
 use Rattle.bit_blast_laws.proofs.Gates.{hold_parts}
 use Rattle.bit_blast_laws.specs.Shows.{AllShow}

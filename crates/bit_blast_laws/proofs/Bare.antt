@@ -1,8 +1,8 @@
 -- Gates that are no claims settle with their values.
 use Rattle.std.proofs.Common.{◌+◌, ℕ, List, [], ◌∷◌, ◌++◌}
-use Rattle.clause_spec.specs.Clause.{Valuation}
-use Rattle.term_spec.specs.Value.{Assignment}
-use Rattle.blast_spec.specs.Gates.{Gate, Truth, Bit, And, Xor, Mux, Majority, Claim, next, last_of}
+use Rattle.clause_check_spec.specs.Clause.{Valuation}
+use Rattle.term_core_spec.specs.Value.{Assignment}
+use Rattle.bit_blast_spec.specs.Gates.{Gate, Truth, Bit, And, Xor, Mux, Majority, Claim, next, last_of}
 use Rattle.bit_blast_laws.specs.Meaning.{AllHold}
 use Rattle.bit_blast_laws.specs.Reads.{Reads}
 use Rattle.bit_blast_laws.proofs.Settled.{AllSettle}

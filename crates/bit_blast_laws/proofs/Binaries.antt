@@ -3,19 +3,19 @@ use Rattle.std.proofs.Common.{◌≡◌, ◌<◌, ◌≤◌, ◌+◌, ◌-◌, �
 use Rattle.std.specs.Prelude.{◌==◌, ◌&&◌, ◌||◌, not, nat_le, nat_lt, if◌then◌else◌, bit_and, bit_or, bit_xor}
 use Rattle.std.proofs.lemmas.Bool.{and_parts}
 use Rattle.std.proofs.lemmas.List.{length-map}
-use Rattle.clause_spec.specs.declared.Literal.{Literal}
-use Rattle.clause_spec.specs.Clause.{Valuation, holds, negation}
-use Rattle.term_spec.specs.declared.Width.{Width}
-use Rattle.term_spec.specs.declared.Width.TheVariants.{W8, W16, W32, W64}
-use Rattle.term_spec.specs.declared.Sort.{Sort}
-use Rattle.term_spec.specs.declared.Sort.TheVariants as sort
-use Rattle.term_spec.specs.declared.WordOperator.{WordOperator}
-use Rattle.term_spec.specs.declared.WordOperator.TheVariants as word
-use Rattle.term_spec.specs.Sort.{bits}
-use Rattle.term_spec.specs.Value.{Value, Truth, Number, Bytes, IsOfSort, low_bits, operation}
-use Rattle.blast_spec.specs.Gates.{last_of}
-use Rattle.blast_spec.specs.Circuits.{Bits, one as one_literal, none, each_two, and_gate, or_gate, xor_gate, choose_bits, mux_gate, equal_bits, less_bit, sum_bits, difference_bits, product_bits, moved_up, moved_down, shift_bits, shift_signed_bits}
-use Rattle.blast_spec.specs.Goal.{word_bits, single}
+use Rattle.clause_check_spec.specs.declared.Literal.{Literal}
+use Rattle.clause_check_spec.specs.Clause.{Valuation, holds, negation}
+use Rattle.term_core_spec.specs.declared.Width.{Width}
+use Rattle.term_core_spec.specs.declared.Width.TheVariants.{W8, W16, W32, W64}
+use Rattle.term_core_spec.specs.declared.Sort.{Sort}
+use Rattle.term_core_spec.specs.declared.Sort.TheVariants as sort
+use Rattle.term_core_spec.specs.declared.WordOperator.{WordOperator}
+use Rattle.term_core_spec.specs.declared.WordOperator.TheVariants as word
+use Rattle.term_core_spec.specs.Sort.{bits}
+use Rattle.term_core_spec.specs.Value.{Value, Truth, Number, Bytes, IsOfSort, low_bits, operation}
+use Rattle.bit_blast_spec.specs.Gates.{last_of}
+use Rattle.bit_blast_spec.specs.Circuits.{Bits, one as one_literal, none, each_two, and_gate, or_gate, xor_gate, choose_bits, mux_gate, equal_bits, less_bit, sum_bits, difference_bits, product_bits, moved_up, moved_down, shift_bits, shift_signed_bits}
+use Rattle.bit_blast_spec.specs.Goal.{word_bits, single}
 use Rattle.bit_blast_laws.specs.Meaning.{digit, number_of, differ, AllHold}
 use Rattle.bit_blast_laws.proofs.Gates.{holds-negation, hold_parts}
 use Rattle.bit_blast_laws.proofs.Adders.{below_width, sum_holds, sum_length, difference_holds, less_holds}

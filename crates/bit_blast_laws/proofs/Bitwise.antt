@@ -3,10 +3,10 @@ use Rattle.std.proofs.Common.{◌≡◌, ◌<◌, ◌+◌, ◌-◌, ◌*◌, ◌
 use Rattle.std.specs.Prelude.{◌==◌, ◌&&◌, ◌||◌, not, if◌then◌else◌, bit_and, bit_or, bit_xor}
 use Rattle.std.specs.List.{list_any, list_all}
 use Rattle.std.proofs.lemmas.Nat.{and_block, or_block, xor_block}
-use Rattle.clause_spec.specs.declared.Literal.{Literal}
-use Rattle.clause_spec.specs.Clause.{Valuation, holds, negation}
-use Rattle.blast_spec.specs.Gates.{Build, literal_of, last_of}
-use Rattle.blast_spec.specs.Circuits.{Bits, and_gate, or_gate, xor_gate, mux_gate, each, each_two, fold_gates, and_all, or_all, choose_bits, equal_bits, and_each}
+use Rattle.clause_check_spec.specs.declared.Literal.{Literal}
+use Rattle.clause_check_spec.specs.Clause.{Valuation, holds, negation}
+use Rattle.bit_blast_spec.specs.Gates.{Build, literal_of, last_of}
+use Rattle.bit_blast_spec.specs.Circuits.{Bits, and_gate, or_gate, xor_gate, mux_gate, each, each_two, fold_gates, and_all, or_all, choose_bits, equal_bits, and_each}
 use Rattle.bit_blast_laws.specs.Meaning.{digit, number_of, differ, AllHold}
 use Rattle.bit_blast_laws.proofs.Gates.{hold_parts, holds-negation}
 

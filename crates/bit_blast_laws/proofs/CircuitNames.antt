@@ -1,11 +1,11 @@
 -- Circuits name only variables made before them.
 use Rattle.std.proofs.Common.{◌≡◌, ◌≤◌, ◌+◌, ◌-◌, ◌*◌, ℕ, zero, suc, Bool, true, false, List, [], ◌∷◌, ◌++◌, length, map, take, drop, replicate, refl, arith}
 use Rattle.std.specs.Prelude.{nat_lt, if◌then◌else◌}
-use Rattle.clause_spec.specs.declared.Literal.{Literal}
-use Rattle.clause_spec.specs.Clause.{Clause, negation}
-use Rattle.term_spec.specs.Term.{Term}
-use Rattle.blast_spec.specs.Gates.{Bit, last_of, literal_of, give, ◌>>=◌, make, claims, claim}
-use Rattle.blast_spec.specs.Circuits.{Bits, one, none, zeros, and_gate, xor_gate, mux_gate, majority_gate, each, each_two, and_all, or_all, choose_bits, equal_bits, sum_bits, difference_bits, carry_bit, less_bit, and_each, add_rows, product_bits, moved_up, moved_down, shift_stages, shift_bits, sign_of, shift_signed_bits, new_bits, twice_as_wide, without_divisor, division}
+use Rattle.clause_check_spec.specs.declared.Literal.{Literal}
+use Rattle.clause_check_spec.specs.Clause.{Clause, negation}
+use Rattle.term_core_spec.specs.Term.{Term}
+use Rattle.bit_blast_spec.specs.Gates.{Bit, last_of, literal_of, give, ◌>>=◌, make, claims, claim}
+use Rattle.bit_blast_spec.specs.Circuits.{Bits, one, none, zeros, and_gate, xor_gate, mux_gate, majority_gate, each, each_two, and_all, or_all, choose_bits, equal_bits, sum_bits, difference_bits, carry_bit, less_bit, and_each, add_rows, product_bits, moved_up, moved_down, shift_stages, shift_bits, sign_of, shift_signed_bits, new_bits, twice_as_wide, without_divisor, division}
 use Rattle.bit_blast_laws.specs.Named.{IsNamed, AreNamed, AllNamed, GatesName, WellMade}
 use Rattle.bit_blast_laws.proofs.Made.{still_named, still_all, names_negation, names_negations, names-append, names-take, names-drop, names-replicate, names_one, names_none, names_sign, then_made, give_made, TwoMade, and_made, xor_made, mux_made, majority_made, each_made, each_two_made, and_all_made, or_all_made}
 

@@ -4,12 +4,12 @@ use Rattle.std.specs.Prelude.{◌==◌, ◌&&◌, ◌||◌, not, nat_lt, if◌th
 use Rattle.std.specs.List.{list_any, list_all}
 use Rattle.std.proofs.Math.Nat.{mod-eq_of_lt, add-mul-mod_self_left, add-mul-div_left, div-eq_of_lt, mul-le-mul_left, pow-suc}
 use Rattle.std.proofs.lemmas.Nat.{pow-add, pow_pos, mul-lt}
-use Rattle.clause_spec.specs.declared.Literal.{Literal}
-use Rattle.clause_spec.specs.Clause.{Clause, Valuation, holds, satisfies_clause, negation}
-use Rattle.term_spec.specs.declared.WordOperator.TheVariants as word
-use Rattle.term_spec.specs.Value.{operation}
-use Rattle.blast_spec.specs.Gates.{Gate, Claim, last_of, claims}
-use Rattle.blast_spec.specs.Circuits.{Bits, none, twice_as_wide, or_all, product_bits, sum_bits, equal_bits, less_bit, without_divisor, division}
+use Rattle.clause_check_spec.specs.declared.Literal.{Literal}
+use Rattle.clause_check_spec.specs.Clause.{Clause, Valuation, holds, satisfies_clause, negation}
+use Rattle.term_core_spec.specs.declared.WordOperator.TheVariants as word
+use Rattle.term_core_spec.specs.Value.{operation}
+use Rattle.bit_blast_spec.specs.Gates.{Gate, Claim, last_of, claims}
+use Rattle.bit_blast_spec.specs.Circuits.{Bits, none, twice_as_wide, or_all, product_bits, sum_bits, equal_bits, less_bit, without_divisor, division}
 use Rattle.bit_blast_laws.specs.Meaning.{digit, number_of, AllHold}
 use Rattle.bit_blast_laws.proofs.Gates.{hold_parts, holds-negation}
 use Rattle.bit_blast_laws.proofs.Adders.{below_width, sum_holds, sum_length, less_holds}

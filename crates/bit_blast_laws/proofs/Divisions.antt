@@ -3,14 +3,14 @@ use Rattle.std.proofs.Common.{◌≡◌, ◌<◌, ◌+◌, ◌-◌, ◌*◌, ◌
 use Rattle.std.specs.Prelude.{◌==◌, ◌||◌, not, nat_lt, if◌then◌else◌}
 use Rattle.std.proofs.Math.Nat.{mod-one, mod-lt, div-add-mod, pow-suc}
 use Rattle.std.proofs.lemmas.Nat.{shr-shr, pow_pos}
-use Rattle.clause_spec.specs.declared.Literal.{Literal}
-use Rattle.clause_spec.specs.Clause.{Clause, Valuation, holds, satisfies_clause, negation}
-use Rattle.term_spec.specs.declared.Width.{Width}
-use Rattle.term_spec.specs.declared.WordOperator.TheVariants as word
-use Rattle.term_spec.specs.Term.{Term}
-use Rattle.term_spec.specs.Value.{Number, Assignment, value, operation}
-use Rattle.blast_spec.specs.Gates.{last_of, claims}
-use Rattle.blast_spec.specs.Circuits.{Bits, none, twice_as_wide, or_all, product_bits, sum_bits, equal_bits, less_bit, new_bits, without_divisor, division}
+use Rattle.clause_check_spec.specs.declared.Literal.{Literal}
+use Rattle.clause_check_spec.specs.Clause.{Clause, Valuation, holds, satisfies_clause, negation}
+use Rattle.term_core_spec.specs.declared.Width.{Width}
+use Rattle.term_core_spec.specs.declared.WordOperator.TheVariants as word
+use Rattle.term_core_spec.specs.Term.{Term}
+use Rattle.term_core_spec.specs.Value.{Number, Assignment, value, operation}
+use Rattle.bit_blast_spec.specs.Gates.{last_of, claims}
+use Rattle.bit_blast_spec.specs.Circuits.{Bits, none, twice_as_wide, or_all, product_bits, sum_bits, equal_bits, less_bit, new_bits, without_divisor, division}
 use Rattle.bit_blast_laws.specs.Meaning.{digit, number_of, AllHold}
 use Rattle.bit_blast_laws.proofs.Gates.{holds-negation}
 use Rattle.bit_blast_laws.proofs.Adders.{less_holds}

@@ -1,23 +1,23 @@
 -- The assignment that is reconstructed makes the goal before normal form false.
 use Rattle.std.proofs.Common.{◌≡◌, true, false, List, [], Some, sym, ◌∙◌}
-use Rattle.clause_spec.specs.Clause.{Valuation, satisfies}
-use Rattle.term_spec.specs.declared.Sort.TheVariants as sort
-use Rattle.term_spec.specs.Term.{Term}
-use Rattle.term_spec.specs.Sort.{sort_of}
-use Rattle.term_spec.specs.Value.{Truth, Assignment, IsAssignment, value, binary_value}
+use Rattle.clause_check_spec.specs.Clause.{Valuation, satisfies}
+use Rattle.term_core_spec.specs.declared.Sort.TheVariants as sort
+use Rattle.term_core_spec.specs.Term.{Term}
+use Rattle.term_core_spec.specs.Sort.{sort_of}
+use Rattle.term_core_spec.specs.Value.{Truth, Assignment, IsAssignment, value, binary_value}
 use Rattle.memory_spec.specs.Runs.{Run, AreBytes}
-use Rattle.normal_spec.specs.Fixed.{HoldsFixed}
-use Rattle.normal_spec.specs.Normal.{normal}
-use Rattle.normal_spec.proofs.Soundness.{keeps_normal}
-use Rattle.blast_spec.specs.Goal.{visit, cnf_of}
+use Rattle.term_norm_spec.specs.Fixed.{HoldsFixed}
+use Rattle.term_norm_spec.specs.Normal.{normal}
+use Rattle.term_norm_spec.proofs.Soundness.{keeps_normal}
+use Rattle.bit_blast_spec.specs.Goal.{visit, cnf_of}
 use Rattle.bit_blast_laws.proofs.TermsWhole.{goal_is_false}
 use Rattle.bit_blast_laws.specs.Back.{read_back}
 use Rattle.bit_blast_laws.proofs.Reading.{is_assignment}
 use Rattle.bit_blast_laws.proofs.AssignmentsWhole.{goal_reads}
 use Rattle.bit_blast_laws.proofs.NormalWhole.{normal_from, goal_from}
-use Rattle.flat_spec.specs.Flat.{loads_of}
-use Rattle.flat_spec.proofs.Loads.{are_in-with_loads}
-use Rattle.flat_spec.proofs.Forms.{truth_readable}
+use Rattle.mem_terms_spec.specs.Flat.{loads_of}
+use Rattle.mem_terms_spec.proofs.Loads.{are_in-with_loads}
+use Rattle.mem_terms_spec.proofs.Forms.{truth_readable}
 use Rattle.bit_blast_laws.specs.Held.{held, ReadsFixed}
 use Rattle.bit_blast_laws.proofs.Held.{held_assigns, held_holds, same}
 

@@ -3,22 +3,22 @@ use Rattle.std.proofs.Common.{◌≡◌, ℕ, Bool, true, false, List, [], ◌�
 use Rattle.std.specs.Prelude.{◌&&◌, if◌then◌else◌}
 use Rattle.std.proofs.lemmas.Bool.{and_parts}
 use Rattle.std.proofs.lemmas.List.{append_assoc}
-use Rattle.term_spec.specs.declared.Width.TheVariants.{W8, W32, W64}
-use Rattle.term_spec.specs.declared.Sort.{Sort}
-use Rattle.term_spec.specs.declared.Sort.TheVariants as sort
-use Rattle.term_spec.specs.declared.Atom.{Atom}
-use Rattle.term_spec.specs.declared.UnaryOperator.{UnaryOperator}
-use Rattle.term_spec.specs.declared.WordOperator.TheVariants as word
-use Rattle.term_spec.specs.declared.BinaryOperator.{BinaryOperator}
-use Rattle.term_spec.specs.declared.BinaryOperator.TheVariants as binary
-use Rattle.term_spec.specs.declared.TernaryOperator.{TernaryOperator}
-use Rattle.term_spec.specs.declared.QuaternaryOperator.{QuaternaryOperator}
-use Rattle.term_spec.specs.Term.{Term, Leaf, Unary, Binary, Ternary, Quaternary, Octonary, divide, remainder}
-use Rattle.term_spec.specs.Sort.{is_byte, is_memory, is_address, all_bytes, sort_of, sort_of_unary, sort_of_binary, sort_of_ternary, sort_of_quaternary}
-use Rattle.term_spec.proofs.Sorts.{same_sort-true, sort_if-some, with_one-some, with_two-some, with_three-some, with_four-some}
-use Rattle.blast_spec.specs.Gates.{Build, last_of, give, ◌>>=◌}
-use Rattle.blast_spec.specs.Circuits.{Bits, new_bits}
-use Rattle.blast_spec.specs.Goal.{Table, is_there, bits_in, enter, atom_bits, unary_bits, ternary_bits, quaternary_bits, divided, with_binary, visit}
+use Rattle.term_core_spec.specs.declared.Width.TheVariants.{W8, W32, W64}
+use Rattle.term_core_spec.specs.declared.Sort.{Sort}
+use Rattle.term_core_spec.specs.declared.Sort.TheVariants as sort
+use Rattle.term_core_spec.specs.declared.Atom.{Atom}
+use Rattle.term_core_spec.specs.declared.UnaryOperator.{UnaryOperator}
+use Rattle.term_core_spec.specs.declared.WordOperator.TheVariants as word
+use Rattle.term_core_spec.specs.declared.BinaryOperator.{BinaryOperator}
+use Rattle.term_core_spec.specs.declared.BinaryOperator.TheVariants as binary
+use Rattle.term_core_spec.specs.declared.TernaryOperator.{TernaryOperator}
+use Rattle.term_core_spec.specs.declared.QuaternaryOperator.{QuaternaryOperator}
+use Rattle.term_core_spec.specs.Term.{Term, Leaf, Unary, Binary, Ternary, Quaternary, Octonary, divide, remainder}
+use Rattle.term_core_spec.specs.Sort.{is_byte, is_memory, is_address, all_bytes, sort_of, sort_of_unary, sort_of_binary, sort_of_ternary, sort_of_quaternary}
+use Rattle.term_core_spec.proofs.Sorts.{same_sort-true, sort_if-some, with_one-some, with_two-some, with_three-some, with_four-some}
+use Rattle.bit_blast_spec.specs.Gates.{Build, last_of, give, ◌>>=◌}
+use Rattle.bit_blast_spec.specs.Circuits.{Bits, new_bits}
+use Rattle.bit_blast_spec.specs.Goal.{Table, is_there, bits_in, enter, atom_bits, unary_bits, ternary_bits, quaternary_bits, divided, with_binary, visit}
 use Rattle.bit_blast_laws.proofs.Tables.{still_there, now_there}
 use Rattle.bit_blast_laws.proofs.Loaded.{IfLoaded, AllLoaded}
 

@@ -1,12 +1,12 @@
 -- Values under which all gates of the terms of a goal have their values.
 use Rattle.std.proofs.Common.{◌≡◌, ℕ, true, false, [], ◌∷◌, ◌++◌, Some}
-use Rattle.clause_spec.specs.Clause.{Valuation, negation}
-use Rattle.term_spec.specs.declared.Sort.TheVariants as sort
-use Rattle.term_spec.specs.Term.{Term}
-use Rattle.term_spec.specs.Sort.{sort_of}
-use Rattle.term_spec.specs.Value.{Assignment, IsAssignment}
-use Rattle.blast_spec.specs.Gates.{last_of, claims}
-use Rattle.blast_spec.specs.Goal.{bits_in, bit_of, visit, tie_memories, memories_of, loads_of, goal_gates}
+use Rattle.clause_check_spec.specs.Clause.{Valuation, negation}
+use Rattle.term_core_spec.specs.declared.Sort.TheVariants as sort
+use Rattle.term_core_spec.specs.Term.{Term}
+use Rattle.term_core_spec.specs.Sort.{sort_of}
+use Rattle.term_core_spec.specs.Value.{Assignment, IsAssignment}
+use Rattle.bit_blast_spec.specs.Gates.{last_of, claims}
+use Rattle.bit_blast_spec.specs.Goal.{bits_in, bit_of, visit, tie_memories, memories_of, loads_of, goal_gates}
 use Rattle.bit_blast_laws.specs.Meaning.{AllHold}
 use Rattle.bit_blast_laws.specs.Shows.{AllShow}
 use Rattle.bit_blast_laws.proofs.Visits.{Takes, all_taken}

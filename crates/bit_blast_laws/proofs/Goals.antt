@@ -2,26 +2,26 @@
 use Rattle.std.proofs.Common.{◌≡◌, ◌≤◌, ◌+◌, ◌-◌, ◌*◌, ℕ, zero, suc, Bool, true, false, List, [], ◌∷◌, ◌++◌, length, map, take, drop, replicate, Option, Some, refl, arith}
 use Rattle.std.specs.Prelude.{◌&&◌, nat_le, if◌then◌else◌, filter}
 use Rattle.std.specs.List.{list_all}
-use Rattle.clause_spec.specs.declared.Literal.{Literal}
-use Rattle.clause_spec.specs.Clause.{Clause, negation, is_of, are_of}
-use Rattle.term_spec.specs.declared.Atom.{Atom}
-use Rattle.term_spec.specs.declared.Atom.TheVariants as atom
-use Rattle.term_spec.specs.declared.UnaryOperator.{UnaryOperator}
-use Rattle.term_spec.specs.declared.UnaryOperator.TheVariants as unary
-use Rattle.term_spec.specs.declared.WordOperator.{WordOperator}
-use Rattle.term_spec.specs.declared.WordOperator.TheVariants as word
-use Rattle.term_spec.specs.declared.BinaryOperator.{BinaryOperator}
-use Rattle.term_spec.specs.declared.BinaryOperator.TheVariants as binary
-use Rattle.term_spec.specs.declared.TernaryOperator.{TernaryOperator}
-use Rattle.term_spec.specs.declared.TernaryOperator.TheVariants as ternary
-use Rattle.term_spec.specs.declared.QuaternaryOperator.{QuaternaryOperator}
-use Rattle.term_spec.specs.declared.QuaternaryOperator.TheVariants as quaternary
-use Rattle.term_spec.specs.Term.{Term, Leaf, Unary, Binary, Ternary, Quaternary, Octonary, divide, remainder}
-use Rattle.term_spec.specs.Sort.{bits}
-use Rattle.term_spec.specs.Same.{same_term}
-use Rattle.blast_spec.specs.Gates.{Gate, Truth, Bit, And, Xor, Mux, Majority, Claim, gate_clauses, next, last_of, literal_of, clauses_from, Build, give, ◌>>=◌, make, claims, claim}
-use Rattle.blast_spec.specs.Circuits.{Bits, none, zeros, and_gate, or_gate, xor_gate, equal_bits, less_bit, moved_up, moved_down, sign_of, new_bits, division}
-use Rattle.blast_spec.specs.Goal.{single, bit_of, known, known_bits, size_of, atom_bits, unary_bits, word_bits, binary_bits, ternary_bits, quaternary_bits, Table, entry_of, is_there, found_bits, bits_in, enter, divided, with_binary, visit, Load, with_load, loads_of, equal_where, tie, tie_all, is_of_memory, memories_of, tie_memories, goal_gates, cnf_of}
+use Rattle.clause_check_spec.specs.declared.Literal.{Literal}
+use Rattle.clause_check_spec.specs.Clause.{Clause, negation, is_of, are_of}
+use Rattle.term_core_spec.specs.declared.Atom.{Atom}
+use Rattle.term_core_spec.specs.declared.Atom.TheVariants as atom
+use Rattle.term_core_spec.specs.declared.UnaryOperator.{UnaryOperator}
+use Rattle.term_core_spec.specs.declared.UnaryOperator.TheVariants as unary
+use Rattle.term_core_spec.specs.declared.WordOperator.{WordOperator}
+use Rattle.term_core_spec.specs.declared.WordOperator.TheVariants as word
+use Rattle.term_core_spec.specs.declared.BinaryOperator.{BinaryOperator}
+use Rattle.term_core_spec.specs.declared.BinaryOperator.TheVariants as binary
+use Rattle.term_core_spec.specs.declared.TernaryOperator.{TernaryOperator}
+use Rattle.term_core_spec.specs.declared.TernaryOperator.TheVariants as ternary
+use Rattle.term_core_spec.specs.declared.QuaternaryOperator.{QuaternaryOperator}
+use Rattle.term_core_spec.specs.declared.QuaternaryOperator.TheVariants as quaternary
+use Rattle.term_core_spec.specs.Term.{Term, Leaf, Unary, Binary, Ternary, Quaternary, Octonary, divide, remainder}
+use Rattle.term_core_spec.specs.Sort.{bits}
+use Rattle.term_core_spec.specs.Same.{same_term}
+use Rattle.bit_blast_spec.specs.Gates.{Gate, Truth, Bit, And, Xor, Mux, Majority, Claim, gate_clauses, next, last_of, literal_of, clauses_from, Build, give, ◌>>=◌, make, claims, claim}
+use Rattle.bit_blast_spec.specs.Circuits.{Bits, none, zeros, and_gate, or_gate, xor_gate, equal_bits, less_bit, moved_up, moved_down, sign_of, new_bits, division}
+use Rattle.bit_blast_spec.specs.Goal.{single, bit_of, known, known_bits, size_of, atom_bits, unary_bits, word_bits, binary_bits, ternary_bits, quaternary_bits, Table, entry_of, is_there, found_bits, bits_in, enter, divided, with_binary, visit, Load, with_load, loads_of, equal_where, tie, tie_all, is_of_memory, memories_of, tie_memories, goal_gates, cnf_of}
 use Rattle.bit_blast_laws.specs.Named.{IsNamed, AreNamed, AllNamed, GateNames, GatesName, WellMade, TableNames}
 use Rattle.bit_blast_laws.proofs.Made.{last_rises, still_named, still_all, names_negation, names_negations, names-append, names-take, names-drop, names-replicate, names_one, names_none, names_sign, then_made, give_made, TwoMade, and_made, or_made, xor_made, each_two_made}
 use Rattle.bit_blast_laws.proofs.CircuitNames.{equal_made, sum_made, less_made, difference_made, choose_made, product_made, shift_made, keeps_up, keeps_down, shift_signed_made, new_made, claim_made, division_made}

@@ -1,23 +1,23 @@
 -- Fixed bytes that are laid over memories, and what they change.
 use Rattle.std.proofs.Common.{◌≡◌, ◌≢◌, ◌<◌, ◌^◌, ℕ, Bool, true, false, cond, List, Option, Some, None, refl, ap, sym, ◌∙◌, subst}
 use Rattle.std.specs.Prelude.{unwrap_or}
-use Rattle.term_spec.specs.declared.Width.TheVariants.{W8, W32}
-use Rattle.term_spec.specs.declared.Sort.{Sort}
-use Rattle.term_spec.specs.declared.Sort.TheVariants as sort
-use Rattle.term_spec.specs.declared.Atom.{Atom}
-use Rattle.term_spec.specs.declared.Atom.TheVariants as atom
-use Rattle.term_spec.specs.declared.BinaryOperator.{BinaryOperator}
-use Rattle.term_spec.specs.Term.{Term, Leaf, Unary, Binary, Ternary, Quaternary, Octonary}
-use Rattle.term_spec.specs.Value.{Value, Truth, Number, Bytes, IsOfSort, Assignment, IsAssignment, low_bits, loaded, value_of_atom, value, unary_value, binary_value}
-use Rattle.term_spec.proofs.Soundness.{value-sort, at_truth, at_word, at_memory}
+use Rattle.term_core_spec.specs.declared.Width.TheVariants.{W8, W32}
+use Rattle.term_core_spec.specs.declared.Sort.{Sort}
+use Rattle.term_core_spec.specs.declared.Sort.TheVariants as sort
+use Rattle.term_core_spec.specs.declared.Atom.{Atom}
+use Rattle.term_core_spec.specs.declared.Atom.TheVariants as atom
+use Rattle.term_core_spec.specs.declared.BinaryOperator.{BinaryOperator}
+use Rattle.term_core_spec.specs.Term.{Term, Leaf, Unary, Binary, Ternary, Quaternary, Octonary}
+use Rattle.term_core_spec.specs.Value.{Value, Truth, Number, Bytes, IsOfSort, Assignment, IsAssignment, low_bits, loaded, value_of_atom, value, unary_value, binary_value}
+use Rattle.term_core_spec.proofs.Soundness.{value-sort, at_truth, at_word, at_memory}
 use Rattle.memory_spec.specs.Runs.{Run, fixed_byte, AreBytes}
-use Rattle.normal_spec.specs.Fixed.{HoldsFixed}
-use Rattle.normal_spec.specs.Patterns.{is_of_source}
-use Rattle.normal_spec.proofs.Numbers.{mod-small}
-use Rattle.flat_spec.specs.Flat.{VariableLoad, load_of, is_in}
-use Rattle.flat_spec.specs.Assignments.{IsNoMemory, term_of, number_of}
-use Rattle.flat_spec.proofs.Loads.{IfIn, AreIn}
-use Rattle.flat_spec.proofs.Readable.{IsLoad, Reads, IsReadable, IsTheLoad, is_the_load}
+use Rattle.term_norm_spec.specs.Fixed.{HoldsFixed}
+use Rattle.term_norm_spec.specs.Patterns.{is_of_source}
+use Rattle.term_norm_spec.proofs.Numbers.{mod-small}
+use Rattle.mem_terms_spec.specs.Flat.{VariableLoad, load_of, is_in}
+use Rattle.mem_terms_spec.specs.Assignments.{IsNoMemory, term_of, number_of}
+use Rattle.mem_terms_spec.proofs.Loads.{IfIn, AreIn}
+use Rattle.mem_terms_spec.proofs.Readable.{IsLoad, Reads, IsReadable, IsTheLoad, is_the_load}
 use Rattle.bit_blast_laws.specs.Held.{with_fixed, held}
 
 module _ (runs : List Run) where

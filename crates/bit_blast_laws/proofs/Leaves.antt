@@ -6,23 +6,23 @@ use Rattle.std.proofs.lemmas.Option.{same_Some}
 use Rattle.std.proofs.lemmas.Nat.{shr-shr}
 use Rattle.std.proofs.lemmas.List.{length-append, append-nil, append_assoc}
 use Rattle.std.proofs.Math.Nat.{mod-eq_of_lt, mod-one}
-use Rattle.clause_spec.specs.declared.Literal.{Literal}
-use Rattle.clause_spec.specs.Clause.{Valuation, holds}
-use Rattle.term_spec.specs.declared.Width.{Width}
-use Rattle.term_spec.specs.declared.Width.TheVariants.{W8}
-use Rattle.term_spec.specs.declared.Sort.{Sort}
-use Rattle.term_spec.specs.declared.Sort.TheVariants as sort
-use Rattle.term_spec.specs.declared.Variable.{Variable}
-use Rattle.term_spec.specs.declared.Atom.{Atom}
-use Rattle.term_spec.specs.declared.Atom.TheVariants as atom
-use Rattle.term_spec.specs.Term.{Term, Leaf}
-use Rattle.term_spec.specs.Sort.{bits, sort_of_atom, sort_if}
-use Rattle.term_spec.specs.Value.{Value, Truth, Number, Bytes, IsOfSort, Assignment, IsAssignment, low_bits, number_of_bytes, byte_of, joined, word_or_stray, value, value_of_atom}
-use Rattle.term_spec.proofs.Sorts.{sort_if-some}
-use Rattle.term_spec.proofs.Soundness.{at_truth, at_word, at_memory}
-use Rattle.blast_spec.specs.Gates.{Gate, next, last_of, literal_of}
-use Rattle.blast_spec.specs.Circuits.{Bits, one, none, new_bits}
-use Rattle.blast_spec.specs.Goal.{single, known, known_bits, size_of, atom_bits}
+use Rattle.clause_check_spec.specs.declared.Literal.{Literal}
+use Rattle.clause_check_spec.specs.Clause.{Valuation, holds}
+use Rattle.term_core_spec.specs.declared.Width.{Width}
+use Rattle.term_core_spec.specs.declared.Width.TheVariants.{W8}
+use Rattle.term_core_spec.specs.declared.Sort.{Sort}
+use Rattle.term_core_spec.specs.declared.Sort.TheVariants as sort
+use Rattle.term_core_spec.specs.declared.Variable.{Variable}
+use Rattle.term_core_spec.specs.declared.Atom.{Atom}
+use Rattle.term_core_spec.specs.declared.Atom.TheVariants as atom
+use Rattle.term_core_spec.specs.Term.{Term, Leaf}
+use Rattle.term_core_spec.specs.Sort.{bits, sort_of_atom, sort_if}
+use Rattle.term_core_spec.specs.Value.{Value, Truth, Number, Bytes, IsOfSort, Assignment, IsAssignment, low_bits, number_of_bytes, byte_of, joined, word_or_stray, value, value_of_atom}
+use Rattle.term_core_spec.proofs.Sorts.{sort_if-some}
+use Rattle.term_core_spec.proofs.Soundness.{at_truth, at_word, at_memory}
+use Rattle.bit_blast_spec.specs.Gates.{Gate, next, last_of, literal_of}
+use Rattle.bit_blast_spec.specs.Circuits.{Bits, one, none, new_bits}
+use Rattle.bit_blast_spec.specs.Goal.{single, known, known_bits, size_of, atom_bits}
 use Rattle.bit_blast_laws.specs.Meaning.{digit, number_of, AllHold}
 use Rattle.bit_blast_laws.proofs.Adders.{with_digit}
 use Rattle.bit_blast_laws.proofs.Widths.{number-append, holds-none}

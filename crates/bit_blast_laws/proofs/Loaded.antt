@@ -1,11 +1,11 @@
 -- Loads whose memory and address are those of terms that are there.
 use Rattle.std.specs.Prelude.{◌≡◌, true, [], ◌∷◌, Some}
-use Rattle.term_spec.specs.declared.Width.TheVariants.{W32}
-use Rattle.term_spec.specs.declared.Sort.TheVariants as sort
-use Rattle.term_spec.specs.declared.BinaryOperator.TheVariants as binary
-use Rattle.term_spec.specs.Term.{Term, Binary}
-use Rattle.term_spec.specs.Sort.{sort_of}
-use Rattle.blast_spec.specs.Goal.{Table, is_there}
+use Rattle.term_core_spec.specs.declared.Width.TheVariants.{W32}
+use Rattle.term_core_spec.specs.declared.Sort.TheVariants as sort
+use Rattle.term_core_spec.specs.declared.BinaryOperator.TheVariants as binary
+use Rattle.term_core_spec.specs.Term.{Term, Binary}
+use Rattle.term_core_spec.specs.Sort.{sort_of}
+use Rattle.bit_blast_spec.specs.Goal.{Table, is_there}
 
 -- a load from a memory; its address has bits in the table
 pub record Loaded (table : Table) (memory address : Term) : Type 0 where

@@ -1,9 +1,9 @@
 -- What is made one after the other.
 use Rattle.std.proofs.Common.{◌≡◌, ◌≤◌, ◌+◌, ℕ, zero, suc, List, [], ◌∷◌, ◌++◌, map, take, drop, replicate, refl, sym, subst, arith}
-use Rattle.clause_spec.specs.declared.Literal.{Literal}
-use Rattle.clause_spec.specs.Clause.{negation}
-use Rattle.blast_spec.specs.Gates.{Gate, Truth, Bit, And, Xor, Mux, Majority, Claim, next, last_of, literal_of, Build, give, ◌>>=◌}
-use Rattle.blast_spec.specs.Circuits.{Bits, one, none, and_gate, or_gate, xor_gate, mux_gate, majority_gate, each, each_two, fold_gates, and_all, or_all, sign_of}
+use Rattle.clause_check_spec.specs.declared.Literal.{Literal}
+use Rattle.clause_check_spec.specs.Clause.{negation}
+use Rattle.bit_blast_spec.specs.Gates.{Gate, Truth, Bit, And, Xor, Mux, Majority, Claim, next, last_of, literal_of, Build, give, ◌>>=◌}
+use Rattle.bit_blast_spec.specs.Circuits.{Bits, one, none, and_gate, or_gate, xor_gate, mux_gate, majority_gate, each, each_two, fold_gates, and_all, or_all, sign_of}
 use Rattle.bit_blast_laws.specs.Named.{IsNamed, AreNamed, GatesName, WellMade}
 
 -- ---- names stay

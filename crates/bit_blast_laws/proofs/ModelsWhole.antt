@@ -1,14 +1,14 @@
 -- A model of the clauses of a goal that is false, loads included.
 use Rattle.std.proofs.Common.{◌≡◌, ℕ, Bool, true, false, [], ◌∷◌, ◌++◌, Some, refl, ap, ◌∙◌, subst}
 use Rattle.std.specs.Prelude.{not, ◌||◌}
-use Rattle.clause_spec.specs.Clause.{Valuation, holds, satisfies, negation}
-use Rattle.term_spec.specs.declared.Sort.TheVariants as sort
-use Rattle.term_spec.specs.Term.{Term}
-use Rattle.term_spec.specs.Sort.{sort_of}
-use Rattle.term_spec.specs.Value.{Truth, Assignment, IsAssignment, value}
-use Rattle.term_spec.proofs.Soundness.{value-sort, at_truth}
-use Rattle.blast_spec.specs.Gates.{last_of, claims}
-use Rattle.blast_spec.specs.Goal.{bits_in, bit_of, visit, tie_memories, memories_of, loads_of, goal_gates, cnf_of}
+use Rattle.clause_check_spec.specs.Clause.{Valuation, holds, satisfies, negation}
+use Rattle.term_core_spec.specs.declared.Sort.TheVariants as sort
+use Rattle.term_core_spec.specs.Term.{Term}
+use Rattle.term_core_spec.specs.Sort.{sort_of}
+use Rattle.term_core_spec.specs.Value.{Truth, Assignment, IsAssignment, value}
+use Rattle.term_core_spec.proofs.Soundness.{value-sort, at_truth}
+use Rattle.bit_blast_spec.specs.Gates.{last_of, claims}
+use Rattle.bit_blast_spec.specs.Goal.{bits_in, bit_of, visit, tie_memories, memories_of, loads_of, goal_gates, cnf_of}
 use Rattle.bit_blast_laws.specs.Meaning.{AllHold}
 use Rattle.bit_blast_laws.proofs.Gates.{all_satisfied, holds-negation}
 use Rattle.bit_blast_laws.specs.Shows.{Shows}

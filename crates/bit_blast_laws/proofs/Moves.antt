@@ -4,12 +4,12 @@ use Rattle.std.specs.Prelude.{not, nat_lt, nat_le, if◌then◌else◌}
 use Rattle.std.proofs.Math.Nat.{mod-eq_of_lt, mod-lt, add-mul-div_left, mul-le-mul_left, pow-suc, one-le-pow, pow-le-pow_right, mul-sub, div-lt_iff_lt-mul}
 use Rattle.std.proofs.lemmas.Nat.{pow-add, pow_pos, shr-shr, mul-mod_first, mul-lt}
 use Rattle.std.proofs.lemmas.List.{length-replicate, length-append, length-take-le, length-drop}
-use Rattle.clause_spec.specs.declared.Literal.{Literal}
-use Rattle.clause_spec.specs.Clause.{Valuation, holds, negation}
-use Rattle.term_spec.specs.declared.WordOperator.TheVariants as word
-use Rattle.term_spec.specs.Value.{low_bits, ones_if, is_negative, shifted_with_sign, operation}
-use Rattle.blast_spec.specs.Gates.{Build, last_of}
-use Rattle.blast_spec.specs.Circuits.{Bits, none, zeros, and_gate, mux_gate, each, sign_of, moved_up, moved_down, shift_stages, shift_bits, shift_signed_bits}
+use Rattle.clause_check_spec.specs.declared.Literal.{Literal}
+use Rattle.clause_check_spec.specs.Clause.{Valuation, holds, negation}
+use Rattle.term_core_spec.specs.declared.WordOperator.TheVariants as word
+use Rattle.term_core_spec.specs.Value.{low_bits, ones_if, is_negative, shifted_with_sign, operation}
+use Rattle.bit_blast_spec.specs.Gates.{Build, last_of}
+use Rattle.bit_blast_spec.specs.Circuits.{Bits, none, zeros, and_gate, mux_gate, each, sign_of, moved_up, moved_down, shift_stages, shift_bits, shift_signed_bits}
 use Rattle.bit_blast_laws.specs.Meaning.{digit, number_of, AllHold}
 use Rattle.bit_blast_laws.proofs.Adders.{below_width, digit_small, doubled}
 use Rattle.bit_blast_laws.proofs.Widths.{number-append, number-take, number-drop, number-zeros, number-replicate, holds-none}

@@ -1,15 +1,15 @@
 -- The table of a term whose loads are from variables.
 use Rattle.std.proofs.Common.{ℕ, Bool, true, false, [], ◌∷◌, ◌++◌}
 use Rattle.std.specs.Prelude.{if◌then◌else◌}
-use Rattle.term_spec.specs.declared.WordOperator.TheVariants as word
-use Rattle.term_spec.specs.declared.BinaryOperator.{BinaryOperator}
-use Rattle.term_spec.specs.declared.BinaryOperator.TheVariants as binary
-use Rattle.term_spec.specs.Term.{Term, Leaf, Unary, Binary, Ternary, Quaternary, Octonary}
-use Rattle.blast_spec.specs.Gates.{Build, give, ◌>>=◌}
-use Rattle.blast_spec.specs.Circuits.{Bits}
-use Rattle.blast_spec.specs.Goal.{Table, is_there, bits_in, enter, atom_bits, unary_bits, ternary_bits, quaternary_bits, divided, with_binary, visit}
+use Rattle.term_core_spec.specs.declared.WordOperator.TheVariants as word
+use Rattle.term_core_spec.specs.declared.BinaryOperator.{BinaryOperator}
+use Rattle.term_core_spec.specs.declared.BinaryOperator.TheVariants as binary
+use Rattle.term_core_spec.specs.Term.{Term, Leaf, Unary, Binary, Ternary, Quaternary, Octonary}
+use Rattle.bit_blast_spec.specs.Gates.{Build, give, ◌>>=◌}
+use Rattle.bit_blast_spec.specs.Circuits.{Bits}
+use Rattle.bit_blast_spec.specs.Goal.{Table, is_there, bits_in, enter, atom_bits, unary_bits, ternary_bits, quaternary_bits, divided, with_binary, visit}
 use Rattle.bit_blast_laws.specs.Back.{IfFromVariable, TableLoadsFromVariables}
-use Rattle.flat_spec.specs.Assignments.{LoadsFromVariables}
+use Rattle.mem_terms_spec.specs.Assignments.{LoadsFromVariables}
 
 both : (table more : Table) → TableLoadsFromVariables table → TableLoadsFromVariables more → TableLoadsFromVariables (table ++ more)
 both [] more ft fm = fm

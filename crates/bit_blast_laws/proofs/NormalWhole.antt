@@ -1,19 +1,19 @@
 -- Normal forms load from variables alone.
 use Rattle.std.proofs.Common.{◌≡◌, true, false, List, [], Some}
-use Rattle.clause_spec.specs.Clause.{Valuation, satisfies}
-use Rattle.term_spec.specs.declared.Sort.{Sort}
-use Rattle.term_spec.specs.declared.Sort.TheVariants as sort
-use Rattle.term_spec.specs.Term.{Term}
-use Rattle.term_spec.specs.Sort.{sort_of}
-use Rattle.term_spec.specs.Value.{Truth, Assignment, IsAssignment, value}
+use Rattle.clause_check_spec.specs.Clause.{Valuation, satisfies}
+use Rattle.term_core_spec.specs.declared.Sort.{Sort}
+use Rattle.term_core_spec.specs.declared.Sort.TheVariants as sort
+use Rattle.term_core_spec.specs.Term.{Term}
+use Rattle.term_core_spec.specs.Sort.{sort_of}
+use Rattle.term_core_spec.specs.Value.{Truth, Assignment, IsAssignment, value}
 use Rattle.memory_spec.specs.Runs.{Run, AreBytes}
-use Rattle.normal_spec.specs.Normal.{normal}
-use Rattle.normal_spec.proofs.Soundness.{keeps_normal}
-use Rattle.normal_spec.proofs.Settled.{is_normal}
-use Rattle.blast_spec.specs.Goal.{visit, cnf_of}
+use Rattle.term_norm_spec.specs.Normal.{normal}
+use Rattle.term_norm_spec.proofs.Soundness.{keeps_normal}
+use Rattle.term_norm_spec.proofs.Settled.{is_normal}
+use Rattle.bit_blast_spec.specs.Goal.{visit, cnf_of}
 use Rattle.bit_blast_laws.specs.Back.{TableLoadsFromVariables}
 use Rattle.bit_blast_laws.proofs.AssignmentsWhole.{false_by_satisfied}
-use Rattle.flat_spec.specs.Assignments.{LoadsFromVariables}
+use Rattle.mem_terms_spec.specs.Assignments.{LoadsFromVariables}
 use Rattle.bit_blast_laws.proofs.Rule.{from_variables}
 use Rattle.bit_blast_laws.proofs.NormalVisits.{visit_from}
 

@@ -3,27 +3,27 @@ use Rattle.std.proofs.Common.{◌≡◌, ◌<◌, ◌≤◌, ◌+◌, ◌*◌, �
 use Rattle.std.specs.Prelude.{◌==◌, ◌&&◌, ◌||◌, not, nat_lt, if◌then◌else◌}
 use Rattle.std.proofs.lemmas.Bool.{and_parts}
 use Rattle.std.proofs.lemmas.List.{append-nil, append_assoc}
-use Rattle.clause_spec.specs.declared.Literal.{Literal}
-use Rattle.clause_spec.specs.Clause.{Valuation, holds}
-use Rattle.term_spec.specs.declared.Width.{Width}
-use Rattle.term_spec.specs.declared.Width.TheVariants.{W8, W16, W32, W64}
-use Rattle.term_spec.specs.declared.Sort.{Sort}
-use Rattle.term_spec.specs.declared.Sort.TheVariants as sort
-use Rattle.term_spec.specs.declared.WordOperator.{WordOperator}
-use Rattle.term_spec.specs.declared.BinaryOperator.{BinaryOperator}
-use Rattle.term_spec.specs.declared.BinaryOperator.TheVariants as binary
-use Rattle.term_spec.specs.declared.TernaryOperator.{TernaryOperator}
-use Rattle.term_spec.specs.declared.TernaryOperator.TheVariants as ternary
-use Rattle.term_spec.specs.declared.QuaternaryOperator.{QuaternaryOperator}
-use Rattle.term_spec.specs.declared.QuaternaryOperator.TheVariants as quaternary
-use Rattle.term_spec.specs.Term.{Term}
-use Rattle.term_spec.specs.Sort.{bits, same_sort, is_word, is_truth, is_byte, is_address, is_memory, sort_if, sort_of_binary, sort_of_ternary, sort_of_quaternary}
-use Rattle.term_spec.specs.Value.{Value, Truth, Number, Bytes, IsOfSort, operation, on_two_words, joined, binary_value, ternary_value, quaternary_value}
-use Rattle.term_spec.proofs.Sorts.{same_sort-true, same_sort-same, word_width, sort_if-some}
-use Rattle.term_spec.proofs.Soundness.{at_truth, at_word, at_memory, of_same_sort, on_two_words-same, cond_value}
-use Rattle.blast_spec.specs.Circuits.{Bits, each_two, and_gate, or_gate, choose_bits, equal_bits, less_bit}
-use Rattle.blast_spec.specs.Goal.{single, bit_of, word_bits, binary_bits, ternary_bits, quaternary_bits}
-use Rattle.blast_spec.specs.Gates.{last_of}
+use Rattle.clause_check_spec.specs.declared.Literal.{Literal}
+use Rattle.clause_check_spec.specs.Clause.{Valuation, holds}
+use Rattle.term_core_spec.specs.declared.Width.{Width}
+use Rattle.term_core_spec.specs.declared.Width.TheVariants.{W8, W16, W32, W64}
+use Rattle.term_core_spec.specs.declared.Sort.{Sort}
+use Rattle.term_core_spec.specs.declared.Sort.TheVariants as sort
+use Rattle.term_core_spec.specs.declared.WordOperator.{WordOperator}
+use Rattle.term_core_spec.specs.declared.BinaryOperator.{BinaryOperator}
+use Rattle.term_core_spec.specs.declared.BinaryOperator.TheVariants as binary
+use Rattle.term_core_spec.specs.declared.TernaryOperator.{TernaryOperator}
+use Rattle.term_core_spec.specs.declared.TernaryOperator.TheVariants as ternary
+use Rattle.term_core_spec.specs.declared.QuaternaryOperator.{QuaternaryOperator}
+use Rattle.term_core_spec.specs.declared.QuaternaryOperator.TheVariants as quaternary
+use Rattle.term_core_spec.specs.Term.{Term}
+use Rattle.term_core_spec.specs.Sort.{bits, same_sort, is_word, is_truth, is_byte, is_address, is_memory, sort_if, sort_of_binary, sort_of_ternary, sort_of_quaternary}
+use Rattle.term_core_spec.specs.Value.{Value, Truth, Number, Bytes, IsOfSort, operation, on_two_words, joined, binary_value, ternary_value, quaternary_value}
+use Rattle.term_core_spec.proofs.Sorts.{same_sort-true, same_sort-same, word_width, sort_if-some}
+use Rattle.term_core_spec.proofs.Soundness.{at_truth, at_word, at_memory, of_same_sort, on_two_words-same, cond_value}
+use Rattle.bit_blast_spec.specs.Circuits.{Bits, each_two, and_gate, or_gate, choose_bits, equal_bits, less_bit}
+use Rattle.bit_blast_spec.specs.Goal.{single, bit_of, word_bits, binary_bits, ternary_bits, quaternary_bits}
+use Rattle.bit_blast_spec.specs.Gates.{last_of}
 use Rattle.bit_blast_laws.specs.Meaning.{digit, number_of, AllHold}
 use Rattle.bit_blast_laws.proofs.Gates.{hold_parts}
 use Rattle.bit_blast_laws.specs.Shows.{Shows}

@@ -5,28 +5,28 @@ use Rattle.std.proofs.lemmas.List.{append_assoc}
 use Rattle.std.proofs.lemmas.Option.{same_Some}
 use Rattle.std.proofs.lemmas.Nat.{shr-shr, pow_pos}
 use Rattle.std.proofs.Math.Nat.{mod-eq_of_lt, mod-lt}
-use Rattle.clause_spec.specs.Clause.{Valuation, holds}
-use Rattle.term_spec.specs.declared.Width.{Width}
-use Rattle.term_spec.specs.declared.Width.TheVariants.{W8, W32}
-use Rattle.term_spec.specs.declared.Sort.{Sort}
-use Rattle.term_spec.specs.declared.Sort.TheVariants as sort
-use Rattle.term_spec.specs.declared.Variable.{Variable}
-use Rattle.term_spec.specs.declared.Atom.{Atom}
-use Rattle.term_spec.specs.declared.Atom.TheVariants as atom
-use Rattle.term_spec.specs.declared.BinaryOperator.TheVariants as binary
-use Rattle.term_spec.specs.Term.{Term, Leaf, Unary, Binary, Ternary, Quaternary, Octonary}
-use Rattle.term_spec.specs.Sort.{bits, sort_of, sort_of_atom}
-use Rattle.term_spec.specs.Value.{Value, Number, IsOfSort, Assignment, IsAssignment, low_bits, loaded, value, binary_value}
-use Rattle.term_spec.proofs.Soundness.{at_word}
-use Rattle.blast_spec.specs.Circuits.{Bits, new_bits}
-use Rattle.blast_spec.specs.Goal.{Table, is_there, bits_in, bit_of, size_of, enter, atom_bits}
+use Rattle.clause_check_spec.specs.Clause.{Valuation, holds}
+use Rattle.term_core_spec.specs.declared.Width.{Width}
+use Rattle.term_core_spec.specs.declared.Width.TheVariants.{W8, W32}
+use Rattle.term_core_spec.specs.declared.Sort.{Sort}
+use Rattle.term_core_spec.specs.declared.Sort.TheVariants as sort
+use Rattle.term_core_spec.specs.declared.Variable.{Variable}
+use Rattle.term_core_spec.specs.declared.Atom.{Atom}
+use Rattle.term_core_spec.specs.declared.Atom.TheVariants as atom
+use Rattle.term_core_spec.specs.declared.BinaryOperator.TheVariants as binary
+use Rattle.term_core_spec.specs.Term.{Term, Leaf, Unary, Binary, Ternary, Quaternary, Octonary}
+use Rattle.term_core_spec.specs.Sort.{bits, sort_of, sort_of_atom}
+use Rattle.term_core_spec.specs.Value.{Value, Number, IsOfSort, Assignment, IsAssignment, low_bits, loaded, value, binary_value}
+use Rattle.term_core_spec.proofs.Soundness.{at_word}
+use Rattle.bit_blast_spec.specs.Circuits.{Bits, new_bits}
+use Rattle.bit_blast_spec.specs.Goal.{Table, is_there, bits_in, bit_of, size_of, enter, atom_bits}
 use Rattle.bit_blast_laws.specs.Meaning.{number_of}
 use Rattle.bit_blast_laws.proofs.Adders.{below_width}
 use Rattle.bit_blast_laws.specs.Shows.{Shows}
 use Rattle.bit_blast_laws.specs.Reads.{bit_of_value, Reads}
 use Rattle.bit_blast_laws.proofs.Leaves.{new_length, one_more}
 use Rattle.bit_blast_laws.proofs.Divisions.{same_head}
-use Rattle.flat_spec.specs.Assignments.{IsVariable}
+use Rattle.mem_terms_spec.specs.Assignments.{IsVariable}
 use Rattle.bit_blast_laws.specs.Back.{first_byte, loads_from, value_back, read_back, IfFromVariable, TableLoadsFromVariables}
 use Rattle.bit_blast_laws.proofs.Silent.{reads_both}
 use Rattle.bit_blast_laws.proofs.Prefixes.{Prefix, prefix_bits, new_there}

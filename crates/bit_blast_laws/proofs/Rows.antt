@@ -4,11 +4,11 @@ use Rattle.std.specs.Prelude.{not, min, if◌then◌else◌}
 use Rattle.std.proofs.Math.Nat.{add-mul-mod_self_left, mod-eq_of_lt, div-add-mod, pow-suc, zero-mod}
 use Rattle.std.proofs.lemmas.Nat.{pow-add}
 use Rattle.std.proofs.lemmas.List.{length-replicate, length-append, length-take-le}
-use Rattle.clause_spec.specs.declared.Literal.{Literal}
-use Rattle.clause_spec.specs.Clause.{Valuation, holds}
-use Rattle.term_spec.specs.Value.{low_bits}
-use Rattle.blast_spec.specs.Gates.{Gate, last_of}
-use Rattle.blast_spec.specs.Circuits.{Bits, none, zeros, and_gate, each, and_each, sum_bits, add_rows, product_bits}
+use Rattle.clause_check_spec.specs.declared.Literal.{Literal}
+use Rattle.clause_check_spec.specs.Clause.{Valuation, holds}
+use Rattle.term_core_spec.specs.Value.{low_bits}
+use Rattle.bit_blast_spec.specs.Gates.{Gate, last_of}
+use Rattle.bit_blast_spec.specs.Circuits.{Bits, none, zeros, and_gate, each, and_each, sum_bits, add_rows, product_bits}
 use Rattle.bit_blast_laws.specs.Meaning.{digit, number_of, AllHold}
 use Rattle.bit_blast_laws.proofs.Gates.{hold_parts}
 use Rattle.bit_blast_laws.proofs.Adders.{below_width, sum_holds, sum_length}

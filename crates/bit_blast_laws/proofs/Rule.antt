@@ -1,29 +1,29 @@
 -- What the rule on loads gives of a memory is no load but of a variable.
 use Rattle.std.proofs.Common.{◌≡◌, ℕ, Bool, true, false, cond, List, [], ◌∷◌, Option, Some, None, refl, subst}
 use Rattle.std.specs.Prelude.{◌&&◌}
-use Rattle.term_spec.specs.declared.Width.TheVariants.{W8, W32, W64}
-use Rattle.term_spec.specs.declared.Sort.{Sort}
-use Rattle.term_spec.specs.declared.Sort.TheVariants as sort
-use Rattle.term_spec.specs.declared.Atom.TheVariants as atom
-use Rattle.term_spec.specs.declared.UnaryOperator.TheVariants as unary
-use Rattle.term_spec.specs.declared.BinaryOperator.{BinaryOperator}
-use Rattle.term_spec.specs.declared.BinaryOperator.TheVariants as binary
-use Rattle.term_spec.specs.declared.TernaryOperator.TheVariants as ternary
-use Rattle.term_spec.specs.declared.QuaternaryOperator.TheVariants as quaternary
-use Rattle.term_spec.specs.Term.{Term, Leaf, Unary, Binary, Ternary, Quaternary, Octonary, not_term, load, choose}
-use Rattle.term_spec.specs.Sort.{all_bytes, sort_of, sort_of_atom, sort_of_unary, sort_of_binary, sort_of_ternary, sort_of_quaternary}
-use Rattle.term_spec.specs.Same.{same_term}
-use Rattle.term_spec.proofs.Sorts.{sort_if-some, with_one-some, with_two-some, with_three-some, with_four-some, load_is}
+use Rattle.term_core_spec.specs.declared.Width.TheVariants.{W8, W32, W64}
+use Rattle.term_core_spec.specs.declared.Sort.{Sort}
+use Rattle.term_core_spec.specs.declared.Sort.TheVariants as sort
+use Rattle.term_core_spec.specs.declared.Atom.TheVariants as atom
+use Rattle.term_core_spec.specs.declared.UnaryOperator.TheVariants as unary
+use Rattle.term_core_spec.specs.declared.BinaryOperator.{BinaryOperator}
+use Rattle.term_core_spec.specs.declared.BinaryOperator.TheVariants as binary
+use Rattle.term_core_spec.specs.declared.TernaryOperator.TheVariants as ternary
+use Rattle.term_core_spec.specs.declared.QuaternaryOperator.TheVariants as quaternary
+use Rattle.term_core_spec.specs.Term.{Term, Leaf, Unary, Binary, Ternary, Quaternary, Octonary, not_term, load, choose}
+use Rattle.term_core_spec.specs.Sort.{all_bytes, sort_of, sort_of_atom, sort_of_unary, sort_of_binary, sort_of_ternary, sort_of_quaternary}
+use Rattle.term_core_spec.specs.Same.{same_term}
+use Rattle.term_core_spec.proofs.Sorts.{sort_if-some, with_one-some, with_two-some, with_three-some, with_four-some, load_is}
 use Rattle.memory_spec.specs.Runs.{Run, fixed_byte}
-use Rattle.normal_spec.specs.Patterns.{is_true, is_false, is_constant, is_source_memory, number_of}
-use Rattle.normal_spec.specs.Normal.{normal_not, normal_and, normal_equal, normal_less, normal_choose, byte_or, load_of_variable, normal_load, normal_binary}
-use Rattle.normal_spec.proofs.Truths.{sort-under_not, keeps_not, keeps_and}
-use Rattle.normal_spec.proofs.Words.{keeps_less}
-use Rattle.normal_spec.proofs.Equals.{words, keeps_equal}
-use Rattle.normal_spec.proofs.Loads.{choose_is}
-use Rattle.normal_spec.proofs.Forms.{IsNormal}
+use Rattle.term_norm_spec.specs.Patterns.{is_true, is_false, is_constant, is_source_memory, number_of}
+use Rattle.term_norm_spec.specs.Normal.{normal_not, normal_and, normal_equal, normal_less, normal_choose, byte_or, load_of_variable, normal_load, normal_binary}
+use Rattle.term_norm_spec.proofs.Truths.{sort-under_not, keeps_not, keeps_and}
+use Rattle.term_norm_spec.proofs.Words.{keeps_less}
+use Rattle.term_norm_spec.proofs.Equals.{words, keeps_equal}
+use Rattle.term_norm_spec.proofs.Loads.{choose_is}
+use Rattle.term_norm_spec.proofs.Forms.{IsNormal}
 use Rattle.bit_blast_laws.specs.Back.{IfFromVariable}
-use Rattle.flat_spec.specs.Assignments.{LoadsFromVariables}
+use Rattle.mem_terms_spec.specs.Assignments.{LoadsFromVariables}
 use Rattle.bit_blast_laws.proofs.Sorts.{byte_parts, no_memory, unary_no_memory, binary_no_memory, store_is, over_is}
 
 root : (t : Term) → LoadsFromVariables t → IfFromVariable t

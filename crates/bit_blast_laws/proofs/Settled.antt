@@ -1,8 +1,8 @@
 -- Values that gates are given one after the other.
 use Rattle.std.specs.Prelude.{◌≡◌, ◌==◌, ◌+◌, ◌&&◌, if◌then◌else◌, ℕ, Bool, true, List, [], ◌∷◌}
-use Rattle.clause_spec.specs.Clause.{Valuation, holds}
-use Rattle.term_spec.specs.Value.{Assignment, value}
-use Rattle.blast_spec.specs.Gates.{Gate, Truth, Bit, And, Xor, Mux, Majority, Claim, next}
+use Rattle.clause_check_spec.specs.Clause.{Valuation, holds}
+use Rattle.term_core_spec.specs.Value.{Assignment, value}
+use Rattle.bit_blast_spec.specs.Gates.{Gate, Truth, Bit, And, Xor, Mux, Majority, Claim, next}
 use Rattle.bit_blast_laws.specs.Meaning.{differ, majority, HasGateValue}
 use Rattle.bit_blast_laws.specs.Reads.{bit_of_value}
 

@@ -1,8 +1,8 @@
 -- Gates that are no bits of variables or loads.
 use Rattle.std.proofs.Common.{◌≡◌, ◌+◌, ℕ, true, List, [], ◌∷◌, ◌++◌}
-use Rattle.clause_spec.specs.Clause.{Valuation}
-use Rattle.term_spec.specs.Value.{Assignment}
-use Rattle.blast_spec.specs.Gates.{Gate, Truth, Bit, And, Xor, Mux, Majority, Claim, next, last_of}
+use Rattle.clause_check_spec.specs.Clause.{Valuation}
+use Rattle.term_core_spec.specs.Value.{Assignment}
+use Rattle.bit_blast_spec.specs.Gates.{Gate, Truth, Bit, And, Xor, Mux, Majority, Claim, next, last_of}
 use Rattle.bit_blast_laws.specs.Reads.{is_read, Reads}
 use Rattle.bit_blast_laws.proofs.Every.{Every, OfGates}
 

@@ -1,18 +1,18 @@
 -- What the sorts of terms say of memories.
 use Rattle.std.proofs.Common.{◌≡◌, Bool, true, false, List, ◌∷◌, Option, Some, None, refl, ap, ◌∙◌}
 use Rattle.std.proofs.lemmas.Bool.{and_parts}
-use Rattle.term_spec.specs.declared.Width.TheVariants.{W8, W32}
-use Rattle.term_spec.specs.declared.Sort.{Sort}
-use Rattle.term_spec.specs.declared.Sort.TheVariants as sort
-use Rattle.term_spec.specs.declared.UnaryOperator.{UnaryOperator}
-use Rattle.term_spec.specs.declared.UnaryOperator.TheVariants as unary
-use Rattle.term_spec.specs.declared.BinaryOperator.{BinaryOperator}
-use Rattle.term_spec.specs.declared.BinaryOperator.TheVariants as binary
-use Rattle.term_spec.specs.declared.TernaryOperator.TheVariants as ternary
-use Rattle.term_spec.specs.declared.QuaternaryOperator.TheVariants as quaternary
-use Rattle.term_spec.specs.Term.{Term, store, over}
-use Rattle.term_spec.specs.Sort.{is_memory, is_address, is_byte, is_word, sort_if, all_bytes, sort_of, sort_of_unary, sort_of_binary, sort_of_ternary, sort_of_quaternary}
-use Rattle.term_spec.proofs.Sorts.{same_sort-true, sort_if-some, with_three-some, with_four-some}
+use Rattle.term_core_spec.specs.declared.Width.TheVariants.{W8, W32}
+use Rattle.term_core_spec.specs.declared.Sort.{Sort}
+use Rattle.term_core_spec.specs.declared.Sort.TheVariants as sort
+use Rattle.term_core_spec.specs.declared.UnaryOperator.{UnaryOperator}
+use Rattle.term_core_spec.specs.declared.UnaryOperator.TheVariants as unary
+use Rattle.term_core_spec.specs.declared.BinaryOperator.{BinaryOperator}
+use Rattle.term_core_spec.specs.declared.BinaryOperator.TheVariants as binary
+use Rattle.term_core_spec.specs.declared.TernaryOperator.TheVariants as ternary
+use Rattle.term_core_spec.specs.declared.QuaternaryOperator.TheVariants as quaternary
+use Rattle.term_core_spec.specs.Term.{Term, store, over}
+use Rattle.term_core_spec.specs.Sort.{is_memory, is_address, is_byte, is_word, sort_if, all_bytes, sort_of, sort_of_unary, sort_of_binary, sort_of_ternary, sort_of_quaternary}
+use Rattle.term_core_spec.proofs.Sorts.{same_sort-true, sort_if-some, with_three-some, with_four-some}
 
 pub byte_parts : (o : Option Sort) (rest : List (Option Sort)) → all_bytes (o ∷ rest) ≡ true → (o ≡ Some (sort.Word W8)) × (all_bytes rest ≡ true)
 byte_parts (Some s) rest e = let parts = and_parts (is_byte s) (all_bytes rest) e in (ap Some (same_sort-true s (sort.Word W8) parts.0), parts.1)

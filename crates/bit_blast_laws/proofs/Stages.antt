@@ -4,10 +4,10 @@ use Rattle.std.specs.Prelude.{◌==◌, ◌&&◌, not, nat_lt, nat_le, if◌then
 use Rattle.std.specs.List.{list_any}
 use Rattle.std.proofs.Math.Nat.{mul-le-mul_left, pow-suc}
 use Rattle.std.proofs.lemmas.Nat.{pow-add, pow_pos}
-use Rattle.clause_spec.specs.declared.Literal.{Literal}
-use Rattle.clause_spec.specs.Clause.{Valuation, holds, negation}
-use Rattle.blast_spec.specs.Gates.{Gate, Build, last_of, give, ◌>>=◌}
-use Rattle.blast_spec.specs.Circuits.{Bits, none, each, each_two, mux_gate, and_gate, choose_bits, or_all, shift_stages, shift_bits, shift_signed_bits, sign_of, moved_down}
+use Rattle.clause_check_spec.specs.declared.Literal.{Literal}
+use Rattle.clause_check_spec.specs.Clause.{Valuation, holds, negation}
+use Rattle.bit_blast_spec.specs.Gates.{Gate, Build, last_of, give, ◌>>=◌}
+use Rattle.bit_blast_spec.specs.Circuits.{Bits, none, each, each_two, mux_gate, and_gate, choose_bits, or_all, shift_stages, shift_bits, shift_signed_bits, sign_of, moved_down}
 use Rattle.bit_blast_laws.specs.Meaning.{digit, number_of, AllHold}
 use Rattle.bit_blast_laws.proofs.Gates.{hold_parts, holds-negation}
 use Rattle.bit_blast_laws.proofs.Adders.{digit_small, below_width}

@@ -1,16 +1,16 @@
 -- The clauses of a whole goal.
 use Rattle.std.proofs.Common.{◌≡◌, ◌+◌, ℕ, Bool, true, false, List, [], ◌∷◌, ◌++◌, length, Some, refl, ap, sym, ◌∙◌, subst}
 use Rattle.std.specs.Prelude.{not, ◌||◌}
-use Rattle.clause_spec.specs.declared.Literal.{Literal}
-use Rattle.clause_spec.specs.Clause.{Valuation, holds, satisfies_clause, satisfies, negation}
-use Rattle.term_spec.specs.declared.Sort.TheVariants as sort
-use Rattle.term_spec.specs.Term.{Term}
-use Rattle.term_spec.specs.Sort.{sort_of}
-use Rattle.term_spec.specs.Value.{Value, Truth, IsOfSort, Assignment, IsAssignment, value}
-use Rattle.term_spec.proofs.Soundness.{value-sort, at_truth}
-use Rattle.blast_spec.specs.Gates.{Gate, last_of, claims}
-use Rattle.blast_spec.specs.Circuits.{Bits}
-use Rattle.blast_spec.specs.Goal.{Table, bits_in, bit_of, visit, tie_memories, memories_of, loads_of, goal_gates, cnf_of}
+use Rattle.clause_check_spec.specs.declared.Literal.{Literal}
+use Rattle.clause_check_spec.specs.Clause.{Valuation, holds, satisfies_clause, satisfies, negation}
+use Rattle.term_core_spec.specs.declared.Sort.TheVariants as sort
+use Rattle.term_core_spec.specs.Term.{Term}
+use Rattle.term_core_spec.specs.Sort.{sort_of}
+use Rattle.term_core_spec.specs.Value.{Value, Truth, IsOfSort, Assignment, IsAssignment, value}
+use Rattle.term_core_spec.proofs.Soundness.{value-sort, at_truth}
+use Rattle.bit_blast_spec.specs.Gates.{Gate, last_of, claims}
+use Rattle.bit_blast_spec.specs.Circuits.{Bits}
+use Rattle.bit_blast_spec.specs.Goal.{Table, bits_in, bit_of, visit, tie_memories, memories_of, loads_of, goal_gates, cnf_of}
 use Rattle.bit_blast_laws.specs.Meaning.{Satisfies, digit, number_of, AllHold}
 use Rattle.bit_blast_laws.proofs.Gates.{all_hold, holds-negation}
 use Rattle.bit_blast_laws.specs.Shows.{Shows, AllShow}

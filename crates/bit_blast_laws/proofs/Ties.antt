@@ -1,19 +1,19 @@
 -- The clauses that tie the loads of one memory are satisfied.
 use Rattle.std.proofs.Common.{◌≡◌, ℕ, Bool, true, false, List, [], ◌∷◌, ◌++◌, length, refl, ap, sym, ◌∙◌, arith}
 use Rattle.std.specs.Prelude.{◌==◌, ◌||◌, not, if◌then◌else◌, filter}
-use Rattle.clause_spec.specs.declared.Literal.{Literal}
-use Rattle.clause_spec.specs.Clause.{Valuation, holds, negation}
-use Rattle.term_spec.specs.declared.Width.TheVariants.{W32}
-use Rattle.term_spec.specs.declared.Sort.TheVariants as sort
-use Rattle.term_spec.specs.declared.BinaryOperator.TheVariants as binary
-use Rattle.term_spec.specs.Term.{Term, Leaf, Unary, Binary, Ternary, Quaternary, Octonary}
-use Rattle.term_spec.specs.Value.{Value, Truth, Number, Bytes, IsOfSort, Assignment, IsAssignment, low_bits, loaded, value, binary_value}
-use Rattle.term_spec.specs.Same.{same_term}
-use Rattle.term_spec.proofs.Soundness.{value-sort, at_word, at_memory}
-use Rattle.term_spec.proofs.Same.{same_is}
-use Rattle.blast_spec.specs.Gates.{last_of, claims}
-use Rattle.blast_spec.specs.Circuits.{Bits, equal_bits}
-use Rattle.blast_spec.specs.Goal.{Table, Load, bits_in, loads_of, equal_where, tie, tie_all, is_of_memory, tie_memories}
+use Rattle.clause_check_spec.specs.declared.Literal.{Literal}
+use Rattle.clause_check_spec.specs.Clause.{Valuation, holds, negation}
+use Rattle.term_core_spec.specs.declared.Width.TheVariants.{W32}
+use Rattle.term_core_spec.specs.declared.Sort.TheVariants as sort
+use Rattle.term_core_spec.specs.declared.BinaryOperator.TheVariants as binary
+use Rattle.term_core_spec.specs.Term.{Term, Leaf, Unary, Binary, Ternary, Quaternary, Octonary}
+use Rattle.term_core_spec.specs.Value.{Value, Truth, Number, Bytes, IsOfSort, Assignment, IsAssignment, low_bits, loaded, value, binary_value}
+use Rattle.term_core_spec.specs.Same.{same_term}
+use Rattle.term_core_spec.proofs.Soundness.{value-sort, at_word, at_memory}
+use Rattle.term_core_spec.proofs.Same.{same_is}
+use Rattle.bit_blast_spec.specs.Gates.{last_of, claims}
+use Rattle.bit_blast_spec.specs.Circuits.{Bits, equal_bits}
+use Rattle.bit_blast_spec.specs.Goal.{Table, Load, bits_in, loads_of, equal_where, tie, tie_all, is_of_memory, tie_memories}
 use Rattle.bit_blast_laws.specs.Meaning.{number_of, AllHold}
 use Rattle.bit_blast_laws.proofs.Gates.{holds-negation}
 use Rattle.bit_blast_laws.proofs.Bitwise.{equal_holds}

@@ -5,20 +5,20 @@ use Rattle.std.proofs.lemmas.Bool.{and_parts}
 use Rattle.std.proofs.Math.Nat.{mod-eq_of_lt, mul-sub}
 use Rattle.std.proofs.lemmas.Nat.{pow-add, pow_pos}
 use Rattle.std.proofs.lemmas.List.{length-map, length-append, length-replicate, length-take-le, length-drop}
-use Rattle.clause_spec.specs.declared.Literal.{Literal}
-use Rattle.clause_spec.specs.Clause.{Valuation, holds, negation}
-use Rattle.term_spec.specs.declared.Width.{Width}
-use Rattle.term_spec.specs.declared.Width.TheVariants.{W8, W16, W32, W64}
-use Rattle.term_spec.specs.declared.Sort.{Sort}
-use Rattle.term_spec.specs.declared.Sort.TheVariants as sort
-use Rattle.term_spec.specs.declared.UnaryOperator.{UnaryOperator}
-use Rattle.term_spec.specs.declared.UnaryOperator.TheVariants as unary
-use Rattle.term_spec.specs.Sort.{bits, bits_of, is_word, is_truth, sort_if, sort_of_unary}
-use Rattle.term_spec.specs.Value.{Value, Truth, Number, Bytes, IsOfSort, low_bits, ones_if, is_negative, unary_value}
-use Rattle.term_spec.proofs.Sorts.{same_sort-true, word_width, sort_if-some}
-use Rattle.term_spec.proofs.Soundness.{at_truth, at_word, of_same_sort}
-use Rattle.blast_spec.specs.Circuits.{Bits, zeros, none, sign_of}
-use Rattle.blast_spec.specs.Goal.{unary_bits}
+use Rattle.clause_check_spec.specs.declared.Literal.{Literal}
+use Rattle.clause_check_spec.specs.Clause.{Valuation, holds, negation}
+use Rattle.term_core_spec.specs.declared.Width.{Width}
+use Rattle.term_core_spec.specs.declared.Width.TheVariants.{W8, W16, W32, W64}
+use Rattle.term_core_spec.specs.declared.Sort.{Sort}
+use Rattle.term_core_spec.specs.declared.Sort.TheVariants as sort
+use Rattle.term_core_spec.specs.declared.UnaryOperator.{UnaryOperator}
+use Rattle.term_core_spec.specs.declared.UnaryOperator.TheVariants as unary
+use Rattle.term_core_spec.specs.Sort.{bits, bits_of, is_word, is_truth, sort_if, sort_of_unary}
+use Rattle.term_core_spec.specs.Value.{Value, Truth, Number, Bytes, IsOfSort, low_bits, ones_if, is_negative, unary_value}
+use Rattle.term_core_spec.proofs.Sorts.{same_sort-true, word_width, sort_if-some}
+use Rattle.term_core_spec.proofs.Soundness.{at_truth, at_word, of_same_sort}
+use Rattle.bit_blast_spec.specs.Circuits.{Bits, zeros, none, sign_of}
+use Rattle.bit_blast_spec.specs.Goal.{unary_bits}
 use Rattle.bit_blast_laws.specs.Meaning.{digit, number_of}
 use Rattle.bit_blast_laws.proofs.Gates.{holds-negation}
 use Rattle.bit_blast_laws.proofs.Adders.{below_width, complemented}

@@ -3,27 +3,27 @@ use Rattle.std.proofs.Common.{◌≡◌, ◌<◌, ◌+◌, ◌^◌, ℕ, zero, s
 use Rattle.std.specs.Prelude.{◌&&◌}
 use Rattle.std.proofs.lemmas.Bool.{and_parts}
 use Rattle.std.proofs.lemmas.List.{append-nil, append_assoc}
-use Rattle.clause_spec.specs.Clause.{Valuation}
-use Rattle.term_spec.specs.declared.Width.{Width}
-use Rattle.term_spec.specs.declared.Width.TheVariants.{W8, W64}
-use Rattle.term_spec.specs.declared.Sort.{Sort}
-use Rattle.term_spec.specs.declared.Sort.TheVariants as sort
-use Rattle.term_spec.specs.declared.Atom.{Atom}
-use Rattle.term_spec.specs.declared.UnaryOperator.{UnaryOperator}
-use Rattle.term_spec.specs.declared.WordOperator.{WordOperator}
-use Rattle.term_spec.specs.declared.WordOperator.TheVariants as word
-use Rattle.term_spec.specs.declared.TernaryOperator.{TernaryOperator}
-use Rattle.term_spec.specs.declared.QuaternaryOperator.{QuaternaryOperator}
-use Rattle.term_spec.specs.declared.BinaryOperator.{BinaryOperator}
-use Rattle.term_spec.specs.declared.BinaryOperator.TheVariants as binary
-use Rattle.term_spec.specs.Term.{Term, Leaf, Unary, Binary, Ternary, Quaternary, Octonary, divide, remainder}
-use Rattle.term_spec.specs.Sort.{bits, same_sort, is_word, is_byte, is_memory, is_address, all_bytes, sort_if, sort_of, sort_of_unary, sort_of_binary, sort_of_ternary, sort_of_quaternary}
-use Rattle.term_spec.specs.Value.{Value, Number, IsOfSort, Assignment, IsAssignment, operation, on_two_words, joined, value, unary_value, binary_value, ternary_value, quaternary_value}
-use Rattle.term_spec.proofs.Sorts.{same_sort-true, sort_if-some, with_one-some, with_two-some, with_three-some, with_four-some}
-use Rattle.term_spec.proofs.Soundness.{value-sort, ternary_value-sort, quaternary_value-sort, of_same_sort, on_two_words-same}
-use Rattle.blast_spec.specs.Gates.{Gate, Build, last_of, give, ◌>>=◌}
-use Rattle.blast_spec.specs.Circuits.{Bits, new_bits, division}
-use Rattle.blast_spec.specs.Goal.{Table, is_there, bits_in, enter, once, atom_bits, unary_bits, binary_bits, ternary_bits, quaternary_bits, divided, with_binary, visit}
+use Rattle.clause_check_spec.specs.Clause.{Valuation}
+use Rattle.term_core_spec.specs.declared.Width.{Width}
+use Rattle.term_core_spec.specs.declared.Width.TheVariants.{W8, W64}
+use Rattle.term_core_spec.specs.declared.Sort.{Sort}
+use Rattle.term_core_spec.specs.declared.Sort.TheVariants as sort
+use Rattle.term_core_spec.specs.declared.Atom.{Atom}
+use Rattle.term_core_spec.specs.declared.UnaryOperator.{UnaryOperator}
+use Rattle.term_core_spec.specs.declared.WordOperator.{WordOperator}
+use Rattle.term_core_spec.specs.declared.WordOperator.TheVariants as word
+use Rattle.term_core_spec.specs.declared.TernaryOperator.{TernaryOperator}
+use Rattle.term_core_spec.specs.declared.QuaternaryOperator.{QuaternaryOperator}
+use Rattle.term_core_spec.specs.declared.BinaryOperator.{BinaryOperator}
+use Rattle.term_core_spec.specs.declared.BinaryOperator.TheVariants as binary
+use Rattle.term_core_spec.specs.Term.{Term, Leaf, Unary, Binary, Ternary, Quaternary, Octonary, divide, remainder}
+use Rattle.term_core_spec.specs.Sort.{bits, same_sort, is_word, is_byte, is_memory, is_address, all_bytes, sort_if, sort_of, sort_of_unary, sort_of_binary, sort_of_ternary, sort_of_quaternary}
+use Rattle.term_core_spec.specs.Value.{Value, Number, IsOfSort, Assignment, IsAssignment, operation, on_two_words, joined, value, unary_value, binary_value, ternary_value, quaternary_value}
+use Rattle.term_core_spec.proofs.Sorts.{same_sort-true, sort_if-some, with_one-some, with_two-some, with_three-some, with_four-some}
+use Rattle.term_core_spec.proofs.Soundness.{value-sort, ternary_value-sort, quaternary_value-sort, of_same_sort, on_two_words-same}
+use Rattle.bit_blast_spec.specs.Gates.{Gate, Build, last_of, give, ◌>>=◌}
+use Rattle.bit_blast_spec.specs.Circuits.{Bits, new_bits, division}
+use Rattle.bit_blast_spec.specs.Goal.{Table, is_there, bits_in, enter, once, atom_bits, unary_bits, binary_bits, ternary_bits, quaternary_bits, divided, with_binary, visit}
 use Rattle.bit_blast_laws.specs.Meaning.{number_of, AllHold}
 use Rattle.bit_blast_laws.proofs.Division.{division_holds}
 use Rattle.bit_blast_laws.specs.Shows.{Shows, AllShow}

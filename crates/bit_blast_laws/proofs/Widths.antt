@@ -4,9 +4,9 @@ use Rattle.std.specs.Prelude.{not, if◌then◌else◌}
 use Rattle.std.proofs.Math.Nat.{add-mul-mod_self_left, div-add-mod, pow-suc, mod-one, zero-mod, div-eq_of_lt}
 use Rattle.std.proofs.lemmas.Nat.{pow_pos, shr-shr}
 use Rattle.std.proofs.lemmas.List.{length-replicate, length-append}
-use Rattle.clause_spec.specs.declared.Literal.{Literal}
-use Rattle.clause_spec.specs.Clause.{Valuation, holds}
-use Rattle.blast_spec.specs.Circuits.{Bits, none, zeros, twice_as_wide}
+use Rattle.clause_check_spec.specs.declared.Literal.{Literal}
+use Rattle.clause_check_spec.specs.Clause.{Valuation, holds}
+use Rattle.bit_blast_spec.specs.Circuits.{Bits, none, zeros, twice_as_wide}
 use Rattle.bit_blast_laws.specs.Meaning.{digit, number_of}
 use Rattle.bit_blast_laws.proofs.Adders.{with_digit, digit_small}
 

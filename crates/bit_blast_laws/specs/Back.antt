@@ -1,15 +1,15 @@
 -- The assignment that is reconstructed from a model of a goal's clauses.
 use Rattle.std.specs.Prelude.{ℕ, ◌==◌, if◌then◌else◌, List, [], ◌∷◌, filter}
-use Rattle.clause_spec.specs.Clause.{Valuation, holds}
-use Rattle.term_spec.specs.declared.Sort.{Sort}
-use Rattle.term_spec.specs.declared.Sort.TheVariants as sort
-use Rattle.term_spec.specs.declared.Variable.{Variable}
-use Rattle.term_spec.specs.declared.Atom.TheVariants as atom
-use Rattle.term_spec.specs.Term.{Term, Leaf, Binary}
-use Rattle.term_spec.specs.Sort.{bits}
-use Rattle.term_spec.specs.Value.{Value, Truth, Number, Bytes, Assignment, low_bits}
-use Rattle.flat_spec.specs.Assignments.{IfOfVariable}
-use Rattle.blast_spec.specs.Goal.{Table, Load, bits_in, bit_of, loads_of, is_of_memory}
+use Rattle.clause_check_spec.specs.Clause.{Valuation, holds}
+use Rattle.term_core_spec.specs.declared.Sort.{Sort}
+use Rattle.term_core_spec.specs.declared.Sort.TheVariants as sort
+use Rattle.term_core_spec.specs.declared.Variable.{Variable}
+use Rattle.term_core_spec.specs.declared.Atom.TheVariants as atom
+use Rattle.term_core_spec.specs.Term.{Term, Leaf, Binary}
+use Rattle.term_core_spec.specs.Sort.{bits}
+use Rattle.term_core_spec.specs.Value.{Value, Truth, Number, Bytes, Assignment, low_bits}
+use Rattle.mem_terms_spec.specs.Assignments.{IfOfVariable}
+use Rattle.bit_blast_spec.specs.Goal.{Table, Load, bits_in, bit_of, loads_of, is_of_memory}
 use Rattle.bit_blast_laws.specs.Meaning.{number_of}
 
 -- the byte of the first of these loads whose address has this number; 0 where there is none

@@ -1,12 +1,12 @@
 -- The fixed bytes laid over the memories of the source.
 use Rattle.std.specs.Prelude.{◌≡◌, ℕ, if◌then◌else◌, true, List, Some, unwrap_or}
-use Rattle.term_spec.specs.declared.Width.TheVariants.{W8, W32}
-use Rattle.term_spec.specs.Term.{Term}
-use Rattle.term_spec.specs.Value.{Value, Truth, Number, Bytes, Assignment, value}
+use Rattle.term_core_spec.specs.declared.Width.TheVariants.{W8, W32}
+use Rattle.term_core_spec.specs.Term.{Term}
+use Rattle.term_core_spec.specs.Value.{Value, Truth, Number, Bytes, Assignment, value}
 use Rattle.memory_spec.specs.Runs.{Run, fixed_byte}
-use Rattle.normal_spec.specs.Patterns.{is_of_source}
-use Rattle.flat_spec.specs.Flat.{VariableLoad, is_in, loads_of}
-use Rattle.flat_spec.specs.Assignments.{term_of}
+use Rattle.term_norm_spec.specs.Patterns.{is_of_source}
+use Rattle.mem_terms_spec.specs.Flat.{VariableLoad, is_in, loads_of}
+use Rattle.mem_terms_spec.specs.Assignments.{term_of}
 
 -- a memory with the fixed bytes in place of its own
 abbrev pub with_fixed : List Run → Value → Value

@@ -1,9 +1,9 @@
 -- What an assignment, the values of the variables, makes of gates and of words.
 use Rattle.std.specs.Prelude.{◌≡◌, ◌≤◌, ℕ, ◌+◌, ◌*◌, ◌&&◌, ◌||◌, not, if◌then◌else◌, Bool, true, false, List, [], ◌∷◌}
-use Rattle.clause_spec.specs.declared.Literal.{Literal}
-use Rattle.clause_spec.specs.Clause.{Clause, Valuation, holds, satisfies_clause, satisfies}
-use Rattle.blast_spec.specs.Gates.{Gate, Truth, Bit, And, Xor, Mux, Majority, Claim, next, clauses_from, Build}
-use Rattle.blast_spec.specs.Circuits.{Bits}
+use Rattle.clause_check_spec.specs.declared.Literal.{Literal}
+use Rattle.clause_check_spec.specs.Clause.{Clause, Valuation, holds, satisfies_clause, satisfies}
+use Rattle.bit_blast_spec.specs.Gates.{Gate, Truth, Bit, And, Xor, Mux, Majority, Claim, next, clauses_from, Build}
+use Rattle.bit_blast_spec.specs.Circuits.{Bits}
 
 -- the assignment satisfies the clauses of gates that were made from a number on
 abbrev pub Satisfies : Valuation → (last : ℕ) → List Gate → Type 0

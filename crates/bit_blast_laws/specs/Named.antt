@@ -1,10 +1,10 @@
 -- Gates that name only variables made before them.
 use Rattle.std.specs.Prelude.{◌≤◌, ℕ, List, [], ◌∷◌}
-use Rattle.clause_spec.specs.declared.Literal.{Literal}
-use Rattle.clause_spec.specs.Clause.{Clause}
-use Rattle.blast_spec.specs.Gates.{Gate, Truth, Bit, And, Xor, Mux, Majority, Claim, next, last_of, Made}
-use Rattle.blast_spec.specs.Circuits.{Bits}
-use Rattle.blast_spec.specs.Goal.{Table}
+use Rattle.clause_check_spec.specs.declared.Literal.{Literal}
+use Rattle.clause_check_spec.specs.Clause.{Clause}
+use Rattle.bit_blast_spec.specs.Gates.{Gate, Truth, Bit, And, Xor, Mux, Majority, Claim, next, last_of, Made}
+use Rattle.bit_blast_spec.specs.Circuits.{Bits}
+use Rattle.bit_blast_spec.specs.Goal.{Table}
 
 -- a literal of one of the first variables
 pub record IsNamed (last : ℕ) (literal : Literal) : Type 0 where

@@ -1,10 +1,10 @@
 -- Bits of variables and of loads that are those of their values.
 use Rattle.std.specs.Prelude.{◌≡◌, ◌==◌, ◌+◌, ◌/◌, ◌%◌, ◌^◌, ℕ, Bool, true, false, List, [], ◌∷◌}
-use Rattle.clause_spec.specs.Clause.{Valuation}
-use Rattle.term_spec.specs.declared.BinaryOperator.TheVariants as binary
-use Rattle.term_spec.specs.Term.{Term, Leaf, Binary}
-use Rattle.term_spec.specs.Value.{Value, Truth, Number, Bytes, Assignment, value}
-use Rattle.blast_spec.specs.Gates.{Gate, Bit, next}
+use Rattle.clause_check_spec.specs.Clause.{Valuation}
+use Rattle.term_core_spec.specs.declared.BinaryOperator.TheVariants as binary
+use Rattle.term_core_spec.specs.Term.{Term, Leaf, Binary}
+use Rattle.term_core_spec.specs.Value.{Value, Truth, Number, Bytes, Assignment, value}
+use Rattle.bit_blast_spec.specs.Gates.{Gate, Bit, next}
 
 -- the bit at an index of a value, the lowest at 0
 abbrev pub bit_of_value : Value → (index : ℕ) → Bool

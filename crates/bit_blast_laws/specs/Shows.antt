@@ -1,11 +1,11 @@
 -- Bits that show a value.
 use Rattle.std.specs.Prelude.{◌≡◌, ℕ, List, [], ◌∷◌, length}
-use Rattle.clause_spec.specs.Clause.{Valuation}
-use Rattle.term_spec.specs.Term.{Term}
-use Rattle.term_spec.specs.Sort.{bits}
-use Rattle.term_spec.specs.Value.{Value, Truth, Number, Bytes, Assignment, value}
-use Rattle.blast_spec.specs.Circuits.{Bits}
-use Rattle.blast_spec.specs.Goal.{Table}
+use Rattle.clause_check_spec.specs.Clause.{Valuation}
+use Rattle.term_core_spec.specs.Term.{Term}
+use Rattle.term_core_spec.specs.Sort.{bits}
+use Rattle.term_core_spec.specs.Value.{Value, Truth, Number, Bytes, Assignment, value}
+use Rattle.bit_blast_spec.specs.Circuits.{Bits}
+use Rattle.bit_blast_spec.specs.Goal.{Table}
 use Rattle.bit_blast_laws.specs.Meaning.{digit, number_of}
 
 -- under values of the variables the bits are those of a value; a memory has none

@@ -6,12 +6,12 @@
 //! with a load from a memory that is stored to, laid over or chosen nothing is stated here.
 
 ghost use Rattle.std.specs.Prelude.{◌≡◌, true, false, [], Some};
-ghost use Rattle.clause_spec.specs.Clause.{Valuation, satisfies};
-ghost use Rattle.term_spec.specs.declared.Sort.TheVariants as sort;
-ghost use Rattle.term_spec.specs.Term.{Term};
-ghost use Rattle.term_spec.specs.Sort.{sort_of};
-ghost use Rattle.term_spec.specs.Value.{Truth, Assignment, IsAssignment, value};
-ghost use Rattle.blast_spec.specs.Goal.{visit, goal_gates, cnf_of};
+ghost use Rattle.clause_check_spec.specs.Clause.{Valuation, satisfies};
+ghost use Rattle.term_core_spec.specs.declared.Sort.TheVariants as sort;
+ghost use Rattle.term_core_spec.specs.Term.{Term};
+ghost use Rattle.term_core_spec.specs.Sort.{sort_of};
+ghost use Rattle.term_core_spec.specs.Value.{Truth, Assignment, IsAssignment, value};
+ghost use Rattle.bit_blast_spec.specs.Goal.{visit, goal_gates, cnf_of};
 ghost use Rattle.bit_blast_laws.specs.Reads.{Reads};
 ghost use Rattle.bit_blast_laws.specs.Back.{TableLoadsFromVariables, read_back};
 

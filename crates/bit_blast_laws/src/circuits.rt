@@ -1,22 +1,22 @@
-//! Laws of the gates and circuits of `blast_spec`: each function's clause is one law, and its body
+//! Laws of the gates and circuits of `bit_blast_spec`: each function's clause is one law, and its body
 //! is empty.
 //!
 //! An assignment satisfies the clauses of gates exactly where each gate's variable has the value
 //! that its arguments give it (`specs/Meaning.antt`). So where it satisfies a circuit's clauses,
-//! the number of its bits is that of the operator (`term_spec`), whatever the number of variables
+//! the number of its bits is that of the operator (`term_core_spec`), whatever the number of variables
 //! before the circuit.
 
 ghost use Rattle.std.specs.Prelude.{◌≡◌, ◌==◌, ◌+◌, ◌*◌, ◌^◌, ◌↔◌, ℕ, true, nat_lt, if◌then◌else◌};
 ghost use Rattle.std.specs.Prelude.{bit_and, bit_or, bit_xor, List, length};
-ghost use Rattle.clause_spec.specs.declared.Literal.{Literal};
-ghost use Rattle.clause_spec.specs.Clause.{Valuation, holds};
-ghost use Rattle.term_spec.specs.declared.WordOperator.TheVariants as word;
-ghost use Rattle.term_spec.specs.Value.{operation};
-ghost use Rattle.blast_spec.specs.Gates.{Gate};
-ghost use Rattle.blast_spec.specs.Circuits.{Bits, none, and_gate, or_gate, xor_gate, each_two};
-ghost use Rattle.blast_spec.specs.Circuits.{choose_bits, equal_bits, sum_bits, difference_bits};
-ghost use Rattle.blast_spec.specs.Circuits.{less_bit, product_bits, moved_up, moved_down};
-ghost use Rattle.blast_spec.specs.Circuits.{shift_bits, shift_signed_bits, division};
+ghost use Rattle.clause_check_spec.specs.declared.Literal.{Literal};
+ghost use Rattle.clause_check_spec.specs.Clause.{Valuation, holds};
+ghost use Rattle.term_core_spec.specs.declared.WordOperator.TheVariants as word;
+ghost use Rattle.term_core_spec.specs.Value.{operation};
+ghost use Rattle.bit_blast_spec.specs.Gates.{Gate};
+ghost use Rattle.bit_blast_spec.specs.Circuits.{Bits, none, and_gate, or_gate, xor_gate, each_two};
+ghost use Rattle.bit_blast_spec.specs.Circuits.{choose_bits, equal_bits, sum_bits, difference_bits};
+ghost use Rattle.bit_blast_spec.specs.Circuits.{less_bit, product_bits, moved_up, moved_down};
+ghost use Rattle.bit_blast_spec.specs.Circuits.{shift_bits, shift_signed_bits, division};
 ghost use Rattle.bit_blast_laws.specs.Meaning.{Satisfies, AllHold, HasNumber, HasValue, number_of};
 
 /// An assignment satisfies the clauses of gates exactly where each gate's variable has its value.

@@ -1,4 +1,4 @@
-//! Laws of the gates of a goal and of the models of its clauses (`blast_spec`): each function's
+//! Laws of the gates of a goal and of the models of its clauses (`bit_blast_spec`): each function's
 //! clause is one law, and its body is empty.
 //!
 //! A gate names only variables that were made before it (`specs/Named.antt`), so the clauses of a
@@ -10,12 +10,12 @@
 //! has an assignment, where all loads are from memory variables, is in `assignments`.
 
 ghost use Rattle.std.specs.Prelude.{◌≡◌, true, false, [], Some};
-ghost use Rattle.clause_spec.specs.Clause.{Valuation, are_of, satisfies};
-ghost use Rattle.term_spec.specs.declared.Sort.TheVariants as sort;
-ghost use Rattle.term_spec.specs.Term.{Term};
-ghost use Rattle.term_spec.specs.Sort.{sort_of};
-ghost use Rattle.term_spec.specs.Value.{Truth, Assignment, IsAssignment, value};
-ghost use Rattle.blast_spec.specs.Goal.{visit, goal_gates, cnf_of};
+ghost use Rattle.clause_check_spec.specs.Clause.{Valuation, are_of, satisfies};
+ghost use Rattle.term_core_spec.specs.declared.Sort.TheVariants as sort;
+ghost use Rattle.term_core_spec.specs.Term.{Term};
+ghost use Rattle.term_core_spec.specs.Sort.{sort_of};
+ghost use Rattle.term_core_spec.specs.Value.{Truth, Assignment, IsAssignment, value};
+ghost use Rattle.bit_blast_spec.specs.Goal.{visit, goal_gates, cnf_of};
 ghost use Rattle.bit_blast_laws.specs.Meaning.{AllHold};
 ghost use Rattle.bit_blast_laws.specs.Shows.{AllShow};
 ghost use Rattle.bit_blast_laws.specs.Reads.{Reads};

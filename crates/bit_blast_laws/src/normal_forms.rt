@@ -1,8 +1,8 @@
-//! Laws of goals and of their normal forms (`normal_spec`): each function's clause is one law, and
+//! Laws of goals and of their normal forms (`term_norm_spec`): each function's clause is one law, and
 //! its body is empty.
 //!
 //! Each load in the normal form of a well-sorted term has a variable as its memory: none that is
-//! stored to, laid over or chosen. So the laws of `flat_spec` hold of normal forms, and a model of
+//! stored to, laid over or chosen. So the laws of `mem_terms_spec` hold of normal forms, and a model of
 //! the clauses of a normal form is reconstructed as an assignment that makes the normal form false.
 //! The clauses know only those fixed bytes whose addresses were constants; `specs/Held.antt` lays
 //! all of them over the memories of the source. Where each load of a fixed address gives the fixed
@@ -10,17 +10,17 @@
 //! assignment that holds the fixed bytes.
 
 ghost use Rattle.std.specs.Prelude.{◌≡◌, true, false, List, [], Some};
-ghost use Rattle.clause_spec.specs.Clause.{Valuation, satisfies};
-ghost use Rattle.term_spec.specs.declared.Sort.{Sort};
-ghost use Rattle.term_spec.specs.declared.Sort.TheVariants as sort;
-ghost use Rattle.term_spec.specs.Term.{Term};
-ghost use Rattle.term_spec.specs.Sort.{sort_of};
-ghost use Rattle.term_spec.specs.Value.{Truth, Assignment, IsAssignment, value};
+ghost use Rattle.clause_check_spec.specs.Clause.{Valuation, satisfies};
+ghost use Rattle.term_core_spec.specs.declared.Sort.{Sort};
+ghost use Rattle.term_core_spec.specs.declared.Sort.TheVariants as sort;
+ghost use Rattle.term_core_spec.specs.Term.{Term};
+ghost use Rattle.term_core_spec.specs.Sort.{sort_of};
+ghost use Rattle.term_core_spec.specs.Value.{Truth, Assignment, IsAssignment, value};
 ghost use Rattle.memory_spec.specs.Runs.{Run, AreBytes};
-ghost use Rattle.normal_spec.specs.Fixed.{HoldsFixed};
-ghost use Rattle.normal_spec.specs.Normal.{normal};
-ghost use Rattle.flat_spec.specs.Assignments.{LoadsFromVariables};
-ghost use Rattle.blast_spec.specs.Goal.{visit, cnf_of};
+ghost use Rattle.term_norm_spec.specs.Fixed.{HoldsFixed};
+ghost use Rattle.term_norm_spec.specs.Normal.{normal};
+ghost use Rattle.mem_terms_spec.specs.Assignments.{LoadsFromVariables};
+ghost use Rattle.bit_blast_spec.specs.Goal.{visit, cnf_of};
 ghost use Rattle.bit_blast_laws.specs.Back.{TableLoadsFromVariables, read_back};
 ghost use Rattle.bit_blast_laws.specs.Held.{held, ReadsFixed};
 

@@ -1,4 +1,4 @@
-//! Laws of the clauses of a goal (`blast_spec`): each function's clause is one law, and its body is
+//! Laws of the clauses of a goal (`bit_blast_spec`): each function's clause is one law, and its body is
 //! empty.
 //!
 //! A model whose bits of the goal's variables and loads are those of an assignment
@@ -7,12 +7,12 @@
 //! a model is in `models`, that each model has such an assignment in `assignments`.
 
 ghost use Rattle.std.specs.Prelude.{◌≡◌, true, false, [], Some};
-ghost use Rattle.clause_spec.specs.Clause.{Valuation, satisfies};
-ghost use Rattle.term_spec.specs.declared.Sort.TheVariants as sort;
-ghost use Rattle.term_spec.specs.Term.{Term};
-ghost use Rattle.term_spec.specs.Sort.{sort_of};
-ghost use Rattle.term_spec.specs.Value.{Truth, Assignment, IsAssignment, value};
-ghost use Rattle.blast_spec.specs.Goal.{visit, goal_gates, cnf_of};
+ghost use Rattle.clause_check_spec.specs.Clause.{Valuation, satisfies};
+ghost use Rattle.term_core_spec.specs.declared.Sort.TheVariants as sort;
+ghost use Rattle.term_core_spec.specs.Term.{Term};
+ghost use Rattle.term_core_spec.specs.Sort.{sort_of};
+ghost use Rattle.term_core_spec.specs.Value.{Truth, Assignment, IsAssignment, value};
+ghost use Rattle.bit_blast_spec.specs.Goal.{visit, goal_gates, cnf_of};
 ghost use Rattle.bit_blast_laws.specs.Shows.{AllShow};
 ghost use Rattle.bit_blast_laws.specs.Reads.{Reads};
 

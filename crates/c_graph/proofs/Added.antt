@@ -1,17 +1,17 @@
 -- Bindings that are added over a bank that grows.
 use Rattle.std.proofs.Common.{◌≡◌, ◌∙◌, ℕ, suc, ◌+◌, ◌<◌, List, [], ◌∷◌, ◌++◌, length, map, drop, get_or, refl, sym, ap, ap₂, subst, arith, append_assoc, append-nil}
 use Rattle.std.specs.Prelude.{true, Option, Some, None}
-use Rattle.term_spec.specs.declared.Variable.{Variable}
-use Rattle.term_spec.specs.declared.Width.{Width}
-use Rattle.term_spec.specs.Term.{Term, truth, open_term}
+use Rattle.term_core_spec.specs.declared.Variable.{Variable}
+use Rattle.term_core_spec.specs.declared.Width.{Width}
+use Rattle.term_core_spec.specs.Term.{Term, truth, open_term}
 use Rattle.term_bank.specs.Nodes.{tree_at}
 use Rattle.term_bank.proofs.Growth.{held}
-use Rattle.graph_spec.specs.Graph.{Binding}
+use Rattle.graph_core_spec.specs.Graph.{Binding}
 use Rattle.graph_core.specs.declared.shared.SharedBinding.{SharedBinding}
 use Rattle.graph_core.specs.Graphs.{AreShared}
 use Rattle.graph_core.proofs.Growing.{shared_later, shared_push}
-use Rattle.c_type_spec.specs.Core.{Core, type_of}
-use Rattle.c_type_spec.specs.declared.Scalar.{Scalar}
+use Rattle.c_types_spec.specs.Core.{Core, type_of}
+use Rattle.c_types_spec.specs.declared.Scalar.{Scalar}
 use Rattle.c_graph_spec.specs.State.{width_of, local, is_set, result}
 use Rattle.c_graph_spec.specs.Values.{at_width}
 use Rattle.c_graph_spec.specs.Layout.{Setting, binding, set_local, value_in, inputs, outputs, result_put}

@@ -2,12 +2,12 @@
 use Rattle.std.proofs.Common.{◌≡◌, ◌∙◌, ℕ, suc, ◌+◌, ◌<◌, ◌≤◌, List, [], ◌∷◌, ◌++◌, length, drop, get_or, Option, Some, None, refl, sym, ap, ap₂, arith, append_assoc, append-nil}
 use Rattle.std.specs.Prelude.{ℤ, pos}
 use Rattle.std.proofs.lemmas.List.{drop_all}
-use Rattle.graph_spec.specs.declared.Next.{Next}
-use Rattle.graph_spec.specs.declared.Next.TheVariants.{At}
-use Rattle.graph_spec.specs.Graph.{Node}
-use Rattle.c_type_spec.specs.Core as tree
-use Rattle.c_core.specs.declared.action.Group.{Group, out-Group}
-use Rattle.c_core.specs.Actions.{action_of}
+use Rattle.graph_core_spec.specs.declared.Next.{Next}
+use Rattle.graph_core_spec.specs.declared.Next.TheVariants.{At}
+use Rattle.graph_core_spec.specs.Graph.{Node}
+use Rattle.c_types_spec.specs.Core as tree
+use Rattle.c_types_core.specs.declared.action.Group.{Group, out-Group}
+use Rattle.c_types_core.specs.Actions.{action_of}
 use Rattle.c_graph_spec.specs.Layout.{Setting, Exits, exits, size, entry, cases_to, cases_of, nodes, groups_nodes}
 use Rattle.c_graph_layout.specs.Lists.{groups_of}
 use Rattle.c_graph_layout.proofs.Blocks.{groups_at, groups_past}

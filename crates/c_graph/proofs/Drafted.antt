@@ -5,22 +5,22 @@ use Rattle.std.specs.declared.alloc.Global.{Global}
 use Rattle.std.specs.declared.boxed.Box.{Box}
 use Rattle.std.proofs.lemmas.List.{drop_all, map-append}
 use Rattle.memory_spec.specs.Runs.{Run}
-use Rattle.term_spec.specs.Term.{Term, equal}
+use Rattle.term_core_spec.specs.Term.{Term, equal}
 use Rattle.term_bank.specs.Nodes.{tree_at}
-use Rattle.graph_spec.specs.declared.Next.{Next}
-use Rattle.graph_spec.specs.Graph as graph
-use Rattle.graph_spec.specs.Graph.{Binding, with_nodes}
+use Rattle.graph_core_spec.specs.declared.Next.{Next}
+use Rattle.graph_core_spec.specs.Graph as graph
+use Rattle.graph_core_spec.specs.Graph.{Binding, with_nodes}
 use Rattle.graph_core.specs.declared.shared.SharedBinding.{SharedBinding}
 use Rattle.graph_core.specs.declared.shared.SharedNode.{SharedNode}
 use Rattle.graph_core.specs.declared.shared.SharedNode.TheVariants as shared
 use Rattle.graph_core.specs.Shared.{shared_binding_of, shared_node_of, IsSharedNode}
 use Rattle.graph_core.specs.Graphs.{AreShared}
 use Rattle.graph_core.proofs.Growing.{shared_later}
-use Rattle.c_type_spec.specs.declared.Scalar.{Scalar}
-use Rattle.c_type_spec.specs.Core.{type_of}
-use Rattle.c_type_spec.specs.Core as tree
-use Rattle.c_core.specs.Expressions.{core_of}
-use Rattle.c_core.specs.declared.expression.Core.{Core}
+use Rattle.c_types_spec.specs.declared.Scalar.{Scalar}
+use Rattle.c_types_spec.specs.Core.{type_of}
+use Rattle.c_types_spec.specs.Core as tree
+use Rattle.c_types_core.specs.Expressions.{core_of}
+use Rattle.c_types_core.specs.declared.expression.Core.{Core}
 use Rattle.c_graph_spec.specs.State.{value_constant}
 use Rattle.c_graph_spec.specs.Values as spec
 use Rattle.c_graph_spec.specs.Values.{Globals, Terms, no_object, terms}

@@ -4,13 +4,13 @@ use Rattle.std.proofs.lemmas.List.{drop_all}
 use Rattle.std.proofs.lemmas.Bool.{cases_lt}
 use Rattle.std.proofs.Math.ListN.{get_or-append}
 use Rattle.std.proofs.Math.Seq.{get_or-append_seam}
-use Rattle.graph_spec.specs.declared.Next.{Next}
-use Rattle.graph_spec.specs.declared.Next.TheVariants.{Ret}
-use Rattle.graph_spec.specs.Graph.{Node}
-use Rattle.c_type_spec.specs.Core as tree
-use Rattle.c_type_spec.specs.Core.{sequence}
-use Rattle.c_core.specs.declared.action.Action.{Action}
-use Rattle.c_core.specs.Actions.{action_of}
+use Rattle.graph_core_spec.specs.declared.Next.{Next}
+use Rattle.graph_core_spec.specs.declared.Next.TheVariants.{Ret}
+use Rattle.graph_core_spec.specs.Graph.{Node}
+use Rattle.c_types_spec.specs.Core as tree
+use Rattle.c_types_spec.specs.Core.{sequence}
+use Rattle.c_types_core.specs.declared.action.Action.{Action}
+use Rattle.c_types_core.specs.Actions.{action_of}
 use Rattle.c_graph_spec.specs.Layout.{Setting, Exits, size, entry, nodes}
 use Rattle.c_graph_layout.specs.Counts.{size_of}
 use Rattle.c_graph_layout.specs.Lists.{block_of}

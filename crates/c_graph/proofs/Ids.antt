@@ -2,9 +2,9 @@
 use Rattle.std.proofs.Common.{◌≡◌, ◌∙◌, ℕ, zero, suc, ◌+◌, ◌<◌, List, [], ◌∷◌, ◌++◌, length, map, get_or, take, drop, refl, sym, ap, ap₂, arith, drop-cons}
 use Rattle.std.proofs.lemmas.List.{map-append, take_more}
 use Rattle.std.proofs.lemmas.List.Elements.{All-map}
-use Rattle.term_spec.specs.Term.{Term}
+use Rattle.term_core_spec.specs.Term.{Term}
 use Rattle.term_bank.specs.Nodes.{tree_at}
-use Rattle.graph_spec.specs.Graph as graph
+use Rattle.graph_core_spec.specs.Graph as graph
 use Rattle.graph_core.specs.declared.shared.SharedBinding.{SharedBinding}
 use Rattle.graph_core.specs.Shared.{shared_binding_of, AreSharedBindings}
 use Rattle.c_graph_terms.specs.Tables.{AreWithin, id_at}

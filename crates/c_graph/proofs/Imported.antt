@@ -4,9 +4,9 @@ use Rattle.std.specs.Prelude.{Vec}
 use Rattle.std.specs.declared.alloc.Global.{Global}
 use Rattle.std.proofs.lemmas.List.{map-append, take_more, take-append-drop, length-take-le, length-map}
 use Rattle.std.proofs.lemmas.Option.{get_or_from_slice_get}
-use Rattle.term_spec.specs.declared.Atom.TheVariants as atom
-use Rattle.term_spec.specs.Term as tree
-use Rattle.term_spec.specs.Term.{Term}
+use Rattle.term_core_spec.specs.declared.Atom.TheVariants as atom
+use Rattle.term_core_spec.specs.Term as tree
+use Rattle.term_core_spec.specs.Term.{Term}
 use Rattle.term_bank.specs.Nodes.{IsNode, Holds, Extends, tree_at, build}
 use Rattle.term_bank.specs.declared.node.TermNode.{TermNode}
 use Rattle.term_bank.proofs.Growth.{build-front}
@@ -15,8 +15,8 @@ use Rattle.graph_core.specs.Graphs.{graph_of}
 use Rattle.c_graph_terms.specs.Tables.{AreWithin, placed}
 use Rattle.c_graph_terms.specs.Built.{IsGrown}
 use Rattle.c_graph_terms.proofs.Growing.{all_later, trees_kept, with_last}
-use Rattle.graph_spec.specs.declared.Next.{Next}
-use Rattle.graph_spec.specs.Graph as graph
+use Rattle.graph_core_spec.specs.declared.Next.{Next}
+use Rattle.graph_core_spec.specs.Graph as graph
 use Rattle.graph_core.specs.declared.shared.SharedBinding.{SharedBinding}
 use Rattle.graph_core.specs.declared.shared.SharedNode.TheVariants as shared
 use Rattle.graph_core.specs.Shared.{shared_binding_of, shared_node_of, AreSharedBindings}

@@ -4,11 +4,11 @@ use Rattle.std.specs.Prelude.{slice_get, option_map, Option}
 use Rattle.std.specs.Borrow.{Bor}
 use Rattle.std.proofs.lemmas.List.{map-append, take_more}
 use Rattle.std.proofs.lemmas.Option.{get_or_from_slice_get}
-use Rattle.graph_spec.specs.Graph as graph
+use Rattle.graph_core_spec.specs.Graph as graph
 use Rattle.graph_core.specs.Graphs.{graph_of}
-use Rattle.proof_spec.specs.declared.Place.{Place}
-use Rattle.c_type_spec.specs.declared.Scalar.{Scalar}
-use Rattle.c_type_spec.specs.Core.{Action, Body, Typed}
+use Rattle.proof_tree_spec.specs.declared.Place.{Place}
+use Rattle.c_types_spec.specs.declared.Scalar.{Scalar}
+use Rattle.c_types_spec.specs.Core.{Action, Body, Typed}
 use Rattle.c_graph_spec.specs.Guards as guards
 use Rattle.c_graph_spec.specs.Layout.{Setting}
 use Rattle.c_graph_spec.specs.SourceGraph as spec

@@ -1,14 +1,14 @@
 -- The nodes of statements by those of their parts.
 use Rattle.std.proofs.Common.{◌≡◌, ◌∙◌, ℕ, false, ◌+◌, ◌-◌, ◌<◌, List, [], ◌∷◌, ◌++◌, length, Option, Some, None, refl, sym, ap, ap₂, arith, append_assoc}
-use Rattle.term_spec.specs.Term.{Term, truth}
-use Rattle.graph_spec.specs.declared.Next.{Next}
-use Rattle.graph_spec.specs.declared.Next.TheVariants.{At, Ret, Err}
-use Rattle.graph_spec.specs.Graph.{Node, Basic, Cond}
-use Rattle.graph_spec.specs.Graph as graph
-use Rattle.c_type_spec.specs.declared.TestPlace.TheVariants.{Before, After}
-use Rattle.c_type_spec.specs.declared.Scalar.{Scalar}
-use Rattle.c_type_spec.specs.declared.Jump.{Jump}
-use Rattle.c_type_spec.specs.Core.{Core, Action, Call, If, Loop, Switch, Groups, type_of, Evaluate, Set, Unset, Store, Leave, Return, MissingReturn}
+use Rattle.term_core_spec.specs.Term.{Term, truth}
+use Rattle.graph_core_spec.specs.declared.Next.{Next}
+use Rattle.graph_core_spec.specs.declared.Next.TheVariants.{At, Ret, Err}
+use Rattle.graph_core_spec.specs.Graph.{Node, Basic, Cond}
+use Rattle.graph_core_spec.specs.Graph as graph
+use Rattle.c_types_spec.specs.declared.TestPlace.TheVariants.{Before, After}
+use Rattle.c_types_spec.specs.declared.Scalar.{Scalar}
+use Rattle.c_types_spec.specs.declared.Jump.{Jump}
+use Rattle.c_types_spec.specs.Core.{Core, Action, Call, If, Loop, Switch, Groups, type_of, Evaluate, Set, Unset, Store, Leave, Return, MissingReturn}
 use Rattle.c_graph_spec.specs.State.{is_set, memory, result}
 use Rattle.c_graph_spec.specs.Layout.{Setting, Exits, exits, binding, set_local, store_tests, memory_stored, value_in, truth_in, tests_in, count, first, chain, guarded, argument_tests, inputs, outputs, selection, case_count, size, entry, otherwise, cases_of, step_entry, nodes, groups_nodes}
 use Rattle.c_graph.specs.declared.places.Branches.{Branches}

@@ -2,17 +2,17 @@
 use Rattle.std.proofs.Common.{◌≡◌, ◌∙◌, ℕ, ◌+◌, ◌-◌, ◌<◌, ◌≤◌, List, [], ◌∷◌, ◌++◌, length, map, drop, get_or, Option, None, refl, sym, ap, ap₂, arith, append_assoc, append-nil}
 use Rattle.std.specs.Prelude.{ℤ}
 use Rattle.std.proofs.lemmas.List.{drop_all}
-use Rattle.proof_spec.specs.declared.Place.{Place}
-use Rattle.proof_spec.specs.declared.Place.TheVariants as place
-use Rattle.c_type_spec.specs.declared.TestPlace.TheVariants.{Before, After}
-use Rattle.c_type_spec.specs.Types.{int}
-use Rattle.c_type_spec.specs.declared.Scalar.{Scalar}
-use Rattle.c_type_spec.specs.declared.Jump.{Jump}
-use Rattle.c_type_spec.specs.Core as tree
-use Rattle.c_type_spec.specs.Core.{sequence}
-use Rattle.c_core.specs.declared.action.Action.{Action}
-use Rattle.c_core.specs.declared.action.Group.{Group, out-Group}
-use Rattle.c_core.specs.Actions.{action_of}
+use Rattle.proof_tree_spec.specs.declared.Place.{Place}
+use Rattle.proof_tree_spec.specs.declared.Place.TheVariants as place
+use Rattle.c_types_spec.specs.declared.TestPlace.TheVariants.{Before, After}
+use Rattle.c_types_spec.specs.Types.{int}
+use Rattle.c_types_spec.specs.declared.Scalar.{Scalar}
+use Rattle.c_types_spec.specs.declared.Jump.{Jump}
+use Rattle.c_types_spec.specs.Core as tree
+use Rattle.c_types_spec.specs.Core.{sequence}
+use Rattle.c_types_core.specs.declared.action.Action.{Action}
+use Rattle.c_types_core.specs.declared.action.Group.{Group, out-Group}
+use Rattle.c_types_core.specs.Actions.{action_of}
 use Rattle.c_graph_spec.specs.Layout.{Setting, count, size, case_count}
 use Rattle.c_graph_spec.specs.Layout as spec
 use Rattle.c_graph_spec.specs.SourceGraph.{points, groups_points, void_function}

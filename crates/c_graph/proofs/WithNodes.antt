@@ -1,6 +1,6 @@
 -- Nodes that are added to a graph, one after the other.
 use Rattle.std.proofs.Common.{◌≡◌, ◌∙◌, List, [], ◌∷◌, ◌++◌, ap, sym, append_assoc, append-nil}
-use Rattle.graph_spec.specs.Graph.{Node, Graph, with_nodes}
+use Rattle.graph_core_spec.specs.Graph.{Node, Graph, with_nodes}
 
 abbrev listed : Graph → List Node → Graph
 listed g nodes = record { nodes = nodes; entry = g.entry }

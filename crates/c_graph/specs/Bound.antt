@@ -1,12 +1,12 @@
 -- Bindings and nodes over the terms of a bank that grows.
 use Rattle.std.specs.Prelude.{◌≡◌, ℕ, zero, suc, List, [], ◌∷◌, ◌++◌, length, Result, IfOk, OnOk}
-use Rattle.term_spec.specs.Term.{Term, open_term}
-use Rattle.graph_spec.specs.Graph.{Binding, Node}
+use Rattle.term_core_spec.specs.Term.{Term, open_term}
+use Rattle.graph_core_spec.specs.Graph.{Binding, Node}
 use Rattle.graph_core.specs.declared.shared.SharedBinding.{SharedBinding}
 use Rattle.graph_core.specs.declared.shared.SharedNode.{SharedNode}
 use Rattle.graph_core.specs.Shared.{IsSharedNode, shared_node_of}
 use Rattle.graph_core.specs.Graphs.{AreShared}
-use Rattle.c_type_spec.specs.Core.{Core, type_of}
+use Rattle.c_types_spec.specs.Core.{Core, type_of}
 use Rattle.c_graph_spec.specs.State.{zone_low, zone_high}
 use Rattle.c_graph_spec.specs.Layout.{Setting, binding, set_local, value_in}
 use Rattle.c_graph_terms.specs.Built.{IsGrown}

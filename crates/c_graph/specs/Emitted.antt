@@ -1,9 +1,9 @@
 -- What a call that adds terms or nodes to a graph answers.
 use Rattle.std.specs.Prelude.{◌≡◌, ℕ, List, length, map, Result, IfOk, OnOk, Vec}
 use Rattle.std.specs.Global.{Global}
-use Rattle.term_spec.specs.Term.{Term}
+use Rattle.term_core_spec.specs.Term.{Term}
 use Rattle.term_bank.specs.Nodes.{tree_at}
-use Rattle.graph_spec.specs.Graph.{Node, with_nodes}
+use Rattle.graph_core_spec.specs.Graph.{Node, with_nodes}
 use Rattle.graph_core.specs.declared.graph.Graph.{Graph}
 use Rattle.graph_core.specs.declared.shared.SharedBinding.{SharedBinding}
 use Rattle.graph_core.specs.Graphs.{graph_of}

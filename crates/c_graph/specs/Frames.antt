@@ -1,8 +1,8 @@
 -- What the nodes of a body are written in, as the definitions see it.
 use Rattle.std.specs.Prelude.{ℕ, List, slice_get}
 use Rattle.std.specs.Option.{option_map_or}
-use Rattle.c_type_spec.specs.declared.Scalar.{Scalar}
-use Rattle.c_type_spec.specs.Types.{int}
+use Rattle.c_types_spec.specs.declared.Scalar.{Scalar}
+use Rattle.c_types_spec.specs.Types.{int}
 use Rattle.c_types.specs.Typed.{typed_of}
 use Rattle.c_graph_spec.specs.Layout.{Setting}
 use Rattle.c_graph_spec.specs.SourceGraph.{body_number, type_named}

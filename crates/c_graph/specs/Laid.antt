@@ -1,9 +1,9 @@
 -- Where the parts of statements begin, as the layout has it.
 use Rattle.std.specs.Prelude.{◌≡◌, ℕ, ◌+◌, ◌-◌, ◌<◌, ◌≤◌, List, length, drop, get_or}
-use Rattle.graph_spec.specs.declared.Next.{Next}
-use Rattle.graph_spec.specs.declared.Next.TheVariants.{At, Ret}
-use Rattle.c_type_spec.specs.Core as tree
-use Rattle.c_core.specs.declared.action.Action.{Action}
+use Rattle.graph_core_spec.specs.declared.Next.{Next}
+use Rattle.graph_core_spec.specs.declared.Next.TheVariants.{At, Ret}
+use Rattle.c_types_spec.specs.Core as tree
+use Rattle.c_types_core.specs.declared.action.Action.{Action}
 use Rattle.c_graph_spec.specs.Layout.{Setting, Exits, exits, count, size, case_count, first, entry, otherwise}
 use Rattle.c_graph_layout.specs.Counts.{size_of}
 use Rattle.c_graph_layout.specs.Lists.{block_of}

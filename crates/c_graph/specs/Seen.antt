@@ -1,16 +1,16 @@
 -- Cases, points and graphs of the program, as the definitions see them.
 use Rattle.std.specs.Prelude.{ℕ, ℤ, List, [], ◌∷◌, map}
-use Rattle.term_spec.specs.Term.{Term, equal}
-use Rattle.graph_spec.specs.declared.Next.{Next}
-use Rattle.graph_spec.specs.declared.Next.TheVariants.{Ret}
-use Rattle.graph_spec.specs.Graph as graph
+use Rattle.term_core_spec.specs.Term.{Term, equal}
+use Rattle.graph_core_spec.specs.declared.Next.{Next}
+use Rattle.graph_core_spec.specs.declared.Next.TheVariants.{Ret}
+use Rattle.graph_core_spec.specs.Graph as graph
 use Rattle.graph_core.specs.Graphs.{graph_of}
-use Rattle.proof_spec.specs.declared.Place.{Place}
-use Rattle.proof_spec.specs.declared.Place.TheVariants as place
-use Rattle.c_type_spec.specs.declared.Scalar.{Scalar}
-use Rattle.c_type_spec.specs.declared.TestPlace.{TestPlace}
-use Rattle.c_type_spec.specs.declared.TestPlace.TheVariants.{Before, After}
-use Rattle.c_type_spec.specs.Core.{Action, Body, Typed}
+use Rattle.proof_tree_spec.specs.declared.Place.{Place}
+use Rattle.proof_tree_spec.specs.declared.Place.TheVariants as place
+use Rattle.c_types_spec.specs.declared.Scalar.{Scalar}
+use Rattle.c_types_spec.specs.declared.TestPlace.{TestPlace}
+use Rattle.c_types_spec.specs.declared.TestPlace.TheVariants.{Before, After}
+use Rattle.c_types_spec.specs.Core.{Action, Body, Typed}
 use Rattle.c_graph_spec.specs.State.{value_constant}
 use Rattle.c_graph_spec.specs.Guards as guards
 use Rattle.c_graph_spec.specs.Layout.{Setting, exits, entry, nodes}

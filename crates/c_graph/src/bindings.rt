@@ -1,7 +1,7 @@
 //! Bindings over the terms of a bank.
 
 ghost use Rattle.std.specs.Prelude.{◌<◌, [], ◌∷◌, IfOk, List, length};
-ghost use Rattle.term_spec.specs.Term as tree;
+ghost use Rattle.term_core_spec.specs.Term as tree;
 ghost use Rattle.term_bank.specs.Nodes.{tree_at};
 ghost use Rattle.c_graph_spec.specs.State as state;
 ghost use Rattle.c_graph_spec.specs.Values as values;
@@ -12,11 +12,11 @@ ghost use Rattle.c_graph.specs.Frames.{local_in, setting_in};
 use crate::frame::{Frame, local_type, result_type};
 use attempt::attempt;
 use c_graph_terms::{ZONE_HIGH, ZONE_LOW, at_width, is_set, leaf, local, result_of, width_of};
-use c_type_spec::Scalar;
+use c_types_spec::Scalar;
 use graph_core::SharedBinding;
 use std::alloc::AllocError;
 use term_bank::{Bank, TermId};
-use term_spec::{Atom, Variable};
+use term_core_spec::{Atom, Variable};
 
 /// Binds a variable.
 pub(crate) fn bind(

@@ -8,9 +8,9 @@ ghost use Rattle.c_graph_layout.specs.Lists.{block_of};
 ghost use Rattle.c_graph.specs.Laid.{AreFollowed, block_end};
 
 use attempt::attempt;
-use c_core::action::Action;
 use c_graph_layout::{Exits, entry, size, sum};
-use graph_spec::Next;
+use c_types_core::action::Action;
+use graph_core_spec::Next;
 use std::alloc::{AllocError, Global};
 
 /// Where a block ends that begins at a number.

@@ -8,9 +8,9 @@ ghost use Rattle.c_graph_layout.specs.Lists.{groups_of};
 ghost use Rattle.c_graph.specs.Seen.{cases_in};
 
 use attempt::attempt;
-use c_core::action::Group;
 use c_graph_layout::{Exits, entry, size, sum};
-use graph_spec::Next;
+use c_types_core::action::Group;
+use graph_core_spec::Next;
 use std::alloc::{AllocError, Global};
 
 /// A value, and where it goes on.

@@ -1,10 +1,10 @@
 //! Nodes that are written over a bank, and the tests of guards before them.
 
 ghost use Rattle.std.specs.Prelude.{[], ◌∷◌, OnOk};
-ghost use Rattle.graph_spec.specs.declared.Next.TheVariants as goes;
-ghost use Rattle.graph_spec.specs.Graph as flow;
-ghost use Rattle.c_type_spec.specs.Core as core;
-ghost use Rattle.c_core.specs.Expressions.{core_of};
+ghost use Rattle.graph_core_spec.specs.declared.Next.TheVariants as goes;
+ghost use Rattle.graph_core_spec.specs.Graph as flow;
+ghost use Rattle.c_types_spec.specs.Core as core;
+ghost use Rattle.c_types_core.specs.Expressions.{core_of};
 ghost use Rattle.c_graph_spec.specs.State as state;
 ghost use Rattle.c_graph_spec.specs.Values.{no_object, terms};
 ghost use Rattle.c_graph_spec.specs.Layout as spec;
@@ -17,12 +17,12 @@ ghost use Rattle.c_graph.specs.Frames.{setting_in};
 use crate::bindings::{bind, bind_local, bind_zone, outputs};
 use crate::frame::{Frame, source_number};
 use attempt::attempt;
-use c_core::constants::type_of;
-use c_core::expression::Core;
 use c_graph_terms::{MEMORY, Scene, ValueIds, evaluate, no_object, result_of, store};
-use c_type_spec::Scalar;
+use c_types_core::constants::type_of;
+use c_types_core::expression::Core;
+use c_types_spec::Scalar;
 use graph_core::{SharedBinding, SharedNode};
-use graph_spec::Next;
+use graph_core_spec::Next;
 use std::alloc::AllocError;
 use term_bank::{Bank, TermId};
 

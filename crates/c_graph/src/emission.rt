@@ -2,7 +2,7 @@
 
 ghost use Rattle.std.specs.Prelude.{◌≡◌, ◌<◌, [], ◌∷◌, length, map};
 ghost use Rattle.term_bank.specs.Nodes.{tree_at};
-ghost use Rattle.graph_spec.specs.Graph as flow;
+ghost use Rattle.graph_core_spec.specs.Graph as flow;
 ghost use Rattle.graph_core.specs.Shared.{IsSharedNode, shared_node_of};
 ghost use Rattle.c_graph_spec.specs.Layout as spec;
 ghost use Rattle.c_graph_terms.specs.Tables.{AreWithin, id_at};
@@ -12,7 +12,7 @@ use crate::imports::{add_mapped, add_node, import, mapped};
 use attempt::attempt;
 use c_graph_layout::{first, sum};
 use graph_core::{Graph, SharedNode};
-use graph_spec::Next;
+use graph_core_spec::Next;
 use std::alloc::{AllocError, Global};
 use term_bank::{Bank, TermId};
 

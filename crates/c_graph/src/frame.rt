@@ -5,10 +5,10 @@ ghost use Rattle.c_graph_spec.specs.SourceGraph.{body_number, type_named};
 ghost use Rattle.c_types.specs.Typed.{typed_of};
 ghost use Rattle.c_graph.specs.Frames.{local_in};
 
-use c_core::constants::INT;
-use c_type_spec::Scalar;
+use c_run_value::setting::Place;
 use c_types::typed::Typed;
-use c_value::setting::Place;
+use c_types_core::constants::INT;
+use c_types_spec::Scalar;
 use std::alloc::Global;
 
 /// What is read of a unit while the nodes of a body are written.

@@ -1,7 +1,7 @@
 //! Terms and nodes over a bank, added to a graph.
 
 ghost use Rattle.std.specs.Prelude.{◌≡◌, ◌<◌, [], ◌∷◌, ℕ, List, OnOk, IfOk, length, map};
-ghost use Rattle.term_spec.specs.Term.{Term};
+ghost use Rattle.term_core_spec.specs.Term.{Term};
 ghost use Rattle.term_bank.specs.Nodes.{tree_at};
 ghost use Rattle.graph_core.specs.Shared.{AreSharedBindings, IsSharedNode, shared_node_of};
 ghost use Rattle.c_graph_terms.specs.Tables.{AreWithin, id_at};

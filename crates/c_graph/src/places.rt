@@ -1,18 +1,18 @@
 //! Where the parts of statements begin.
 
 ghost use Rattle.std.specs.Prelude.{IfOk};
-ghost use Rattle.c_core.specs.Expressions.{core_of};
-ghost use Rattle.c_core.specs.Actions.{action_of};
+ghost use Rattle.c_types_core.specs.Expressions.{core_of};
+ghost use Rattle.c_types_core.specs.Actions.{action_of};
 ghost use Rattle.c_graph_spec.specs.Layout.{Setting};
 ghost use Rattle.c_graph_layout.specs.Exits.{exits_of};
 ghost use Rattle.c_graph_layout.specs.Lists.{groups_of};
 ghost use Rattle.c_graph.specs.Laid.{AreBranches, AreCases, AreLoop, AreDo, AreStarts};
 
 use attempt::attempt;
-use c_core::action::{Action, Group};
-use c_core::expression::Core;
 use c_graph_layout::{Exits, count, entry, first, otherwise, size, sum, with_cases};
-use graph_spec::Next;
+use c_types_core::action::{Action, Group};
+use c_types_core::expression::Core;
+use graph_core_spec::Next;
 use std::alloc::AllocError;
 
 /// Where two statements begin that come one after the other, after a test and some nodes more.

@@ -1,10 +1,10 @@
 //! The points of statements: the nodes of loops and calls.
 
 ghost use Rattle.std.specs.Prelude.{◌≡◌, ◌++◌, ◌∷◌, [], ℕ, List, Option, IfOk, OnOk};
-ghost use Rattle.c_type_spec.specs.Core as core;
-ghost use Rattle.c_type_spec.specs.declared.TestPlace.TheVariants.{After, Before};
-ghost use Rattle.c_core.specs.Expressions.{core_of};
-ghost use Rattle.c_core.specs.Actions.{action_of};
+ghost use Rattle.c_types_spec.specs.Core as core;
+ghost use Rattle.c_types_spec.specs.declared.TestPlace.TheVariants.{After, Before};
+ghost use Rattle.c_types_core.specs.Expressions.{core_of};
+ghost use Rattle.c_types_core.specs.Actions.{action_of};
 ghost use Rattle.c_graph_spec.specs.Layout.{Setting};
 ghost use Rattle.c_graph_spec.specs.SourceGraph as spec;
 ghost use Rattle.c_graph_layout.specs.Lists.{block_of, cores_of, groups_of};
@@ -12,11 +12,11 @@ ghost use Rattle.c_graph.specs.Seen.{loop_points, points_in};
 
 use crate::places::part_starts;
 use attempt::attempt;
-use c_core::action::{Action, Group};
-use c_core::expression::Core;
 use c_graph_layout::{argument_count, count, size, sum, with_cases};
-use c_type_spec::TestPlace;
-use proof_spec::Place;
+use c_types_core::action::{Action, Group};
+use c_types_core::expression::Core;
+use c_types_spec::TestPlace;
+use proof_tree_spec::Place;
 use std::alloc::AllocError;
 
 /// A point of a function, and its node.
@@ -91,7 +91,7 @@ fn add_loop(
 
 /// Adds the points of a statement whose nodes begin at a number.
 #[cycle(points)]
-#[tactic(auto, using(c_core::proofs::ActionViews::action_views), unfolding(c_graph_spec::specs::SourceGraph::points))]
+#[tactic(auto, using(c_types_core::proofs::ActionViews::action_views), unfolding(c_graph_spec::specs::SourceGraph::points))]
 pub(crate) fn add_points(
     action: &Action<'_>,
     points: &mut Vec<Point>,

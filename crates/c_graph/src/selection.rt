@@ -1,11 +1,11 @@
 //! The tests of the cases of a `switch`.
 
 ghost use Rattle.std.specs.Prelude.{◌≡◌, ◌<◌, ◌++◌, OnOk, length, map};
-ghost use Rattle.term_spec.specs.Term as tree;
+ghost use Rattle.term_core_spec.specs.Term as tree;
 ghost use Rattle.term_bank.specs.Nodes.{tree_at};
-ghost use Rattle.c_type_spec.specs.declared.Scalar as scalar;
-ghost use Rattle.c_type_spec.specs.Core as core;
-ghost use Rattle.c_core.specs.Expressions.{core_of};
+ghost use Rattle.c_types_spec.specs.declared.Scalar as scalar;
+ghost use Rattle.c_types_spec.specs.Core as core;
+ghost use Rattle.c_types_core.specs.Expressions.{core_of};
 ghost use Rattle.c_graph_spec.specs.State as state;
 ghost use Rattle.c_graph_spec.specs.Layout as spec;
 ghost use Rattle.c_graph_layout.specs.Exits.{exits_of};
@@ -25,17 +25,17 @@ use crate::frame::Frame;
 use crate::imports::{add_node, import, mapped};
 use crate::places::CasePlaces;
 use attempt::attempt;
-use c_core::action::Group;
-use c_core::constants::type_of;
-use c_core::expression::Core;
 use c_graph_layout::{Exits, first, sum};
 use c_graph_terms::{build, value_atom};
-use c_type_spec::Scalar;
+use c_types_core::action::Group;
+use c_types_core::constants::type_of;
+use c_types_core::expression::Core;
+use c_types_spec::Scalar;
 use graph_core::{Graph, SharedNode};
-use graph_spec::Next;
+use graph_core_spec::Next;
 use std::alloc::{AllocError, Global};
 use term_bank::{Bank, TermId, TermNode};
-use term_spec::BinaryOperator;
+use term_core_spec::BinaryOperator;
 
 /// A word is that of a value.
 fn compare_one(

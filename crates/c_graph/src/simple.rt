@@ -1,13 +1,13 @@
 //! The nodes of statements without other statements in them.
 
 ghost use Rattle.std.specs.Prelude.{◌+◌, ◌-◌, ◌<◌, [], ◌∷◌, ◌++◌, ℕ, false};
-ghost use Rattle.term_spec.specs.Term as tree;
-ghost use Rattle.graph_spec.specs.Graph as flow;
-ghost use Rattle.graph_spec.specs.declared.Next as next;
-ghost use Rattle.graph_spec.specs.declared.Next.TheVariants as goes;
-ghost use Rattle.c_type_spec.specs.Core as core;
-ghost use Rattle.c_core.specs.Expressions.{core_of};
-ghost use Rattle.c_core.specs.Actions.{core_in};
+ghost use Rattle.term_core_spec.specs.Term as tree;
+ghost use Rattle.graph_core_spec.specs.Graph as flow;
+ghost use Rattle.graph_core_spec.specs.declared.Next as next;
+ghost use Rattle.graph_core_spec.specs.declared.Next.TheVariants as goes;
+ghost use Rattle.c_types_spec.specs.Core as core;
+ghost use Rattle.c_types_core.specs.Expressions.{core_of};
+ghost use Rattle.c_types_core.specs.Actions.{core_in};
 ghost use Rattle.c_graph_spec.specs.State as state;
 ghost use Rattle.c_graph_spec.specs.Layout as spec;
 ghost use Rattle.c_graph_layout.specs.Lists.{cores_of};
@@ -20,15 +20,15 @@ use crate::frame::Frame;
 use crate::imports::add_node;
 use crate::places::LoopPlaces;
 use attempt::attempt;
-use c_core::expression::Core;
 use c_graph_layout::{argument_count, sum};
 use c_graph_terms::is_set;
-use c_type_spec::Scalar;
+use c_types_core::expression::Core;
+use c_types_spec::Scalar;
 use graph_core::{Graph, SharedBinding, SharedNode};
-use graph_spec::Next;
+use graph_core_spec::Next;
 use std::alloc::{AllocError, Global};
 use term_bank::{Bank, TermNode};
-use term_spec::Atom;
+use term_core_spec::Atom;
 
 /// A value that is dropped: the tests of its guards.
 pub(crate) fn evaluated(

@@ -8,7 +8,7 @@ ghost use Rattle.c_types.specs.Typed.{body_in, body_of, typed_of};
 ghost use Rattle.c_graph.specs.Emitted.{Emits};
 ghost use Rattle.c_graph.specs.Frames.{setting_in};
 ghost use Rattle.graph_core.specs.Graphs.{graph_of};
-ghost use Rattle.c_core.specs.Actions.{action_of};
+ghost use Rattle.c_types_core.specs.Actions.{action_of};
 ghost use Rattle.c_graph.specs.Seen.{body_nodes, graph_with, made_for, made_of, points_in};
 
 use crate::emission::empty;
@@ -16,12 +16,12 @@ use crate::frame::Frame;
 use crate::points::{Point, add_points};
 use crate::statement::nodes;
 use attempt::attempt;
-use c_core::action::Action;
 use c_graph_layout::{Exits, entry};
+use c_run_value::setting::Place;
 use c_types::typed::{Body, Typed};
-use c_value::setting::Place;
+use c_types_core::action::Action;
 use graph_core::Graph;
-use graph_spec::Next;
+use graph_core_spec::Next;
 use std::alloc::{AllocError, Global};
 
 /// The graph of a C function, and its points.

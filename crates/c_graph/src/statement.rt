@@ -1,11 +1,11 @@
 //! The nodes of statements.
 
 ghost use Rattle.std.specs.Prelude.{ℕ};
-ghost use Rattle.graph_spec.specs.declared.Next as next;
-ghost use Rattle.c_type_spec.specs.Core as core;
-ghost use Rattle.c_type_spec.specs.declared.TestPlace.TheVariants.{After, Before};
-ghost use Rattle.c_core.specs.Expressions.{core_of};
-ghost use Rattle.c_core.specs.Actions.{action_of};
+ghost use Rattle.graph_core_spec.specs.declared.Next as next;
+ghost use Rattle.c_types_spec.specs.Core as core;
+ghost use Rattle.c_types_spec.specs.declared.TestPlace.TheVariants.{After, Before};
+ghost use Rattle.c_types_core.specs.Expressions.{core_of};
+ghost use Rattle.c_types_core.specs.Actions.{action_of};
 ghost use Rattle.c_graph_spec.specs.Layout as spec;
 ghost use Rattle.c_graph_layout.specs.Exits.{exits_of};
 ghost use Rattle.c_graph_layout.specs.Lists.{block_of, groups_of};
@@ -21,18 +21,18 @@ use crate::simple::{
     call, evaluated, give_back, loop_test, missing_return, set, store_value, test, unset,
 };
 use attempt::attempt;
-use c_core::action::{Action, Group};
-use c_core::expression::Core;
 use c_graph_layout::{Exits, size, sum};
-use c_type_spec::TestPlace;
+use c_types_core::action::{Action, Group};
+use c_types_core::expression::Core;
+use c_types_spec::TestPlace;
 use graph_core::Graph;
-use graph_spec::Next;
+use graph_core_spec::Next;
 use std::alloc::AllocError;
 
 /// Adds the nodes of a statement, of which the first has the number `at`; where the statement ends,
 /// it goes on to `to`.
 #[cycle(statements)]
-#[tactic(auto, using(c_core::proofs::ActionViews::action_views), unfolding(c_graph_spec::specs::Layout::nodes))]
+#[tactic(auto, using(c_types_core::proofs::ActionViews::action_views), unfolding(c_graph_spec::specs::Layout::nodes))]
 pub(crate) fn nodes(
     action: &Action<'_>,
     frame: &Frame<'_, '_>,

@@ -1,19 +1,22 @@
 -- The tests of an access hold where it breaks no guard, and its term evaluates to what it reads or leaves.
-use Rattle.std.proofs.Common.{◌≡◌, ◌∙◌, inl, inr, ℕ, zero, suc, ◌+◌, ◌-◌, ◌<◌, ◌≤◌, Bool, true, false, not, refl, sym, ap, arith, List, [], ◌∷◌, length, Option, Some, None, is_some}
+use Rattle.std.proofs.Common.{◌≡◌, ◌∙◌, inl, inr, ℕ, zero, suc, ◌+◌, ◌-◌, ◌<◌, ◌≤◌, Bool, true, false, not, refl, sym, ap, arith, List, [], ◌∷◌, length, map, Option, Some, None, is_some}
 use Rattle.std.specs.Prelude.{nat_lt, nat_le, ◌&&◌, ◌||◌, slice_get, All}
 use Rattle.std.specs.Option.{option_or}
 use Rattle.std.proofs.Math.Path.{fun_ext}
 use Rattle.std.proofs.lemmas.Bool.{lt-ltb, le-ltb, lt-leb, le-leb, ltb-true, leb-true, cases_lt, or_cases, or_left, or_right, and_parts, false_from_ne_true}
-use Rattle.std.proofs.lemmas.List.Elements.{All-head, All-tail}
+use Rattle.std.proofs.lemmas.List.Elements.{All-nil, All-cons, All-head, All-tail}
 use Rattle.memory_spec.specs.Zones.{Zone}
 use Rattle.memory_spec.specs.Runs.{Run, byte_in, fixed_byte}
-use Rattle.term_spec.specs.declared.Width.TheVariants.{W32}
-use Rattle.term_spec.specs.Term.{Term, open_term, less}
-use Rattle.term_spec.specs.Value.{Truth, Number, Assignment, value}
-use Rattle.c_meaning_spec.specs.Accesses.{some_byte, in_zone}
+use Rattle.term_core_spec.specs.declared.Width.TheVariants.{W32}
+use Rattle.term_core_spec.specs.Term.{Term, open_term, less}
+use Rattle.term_core_spec.specs.Value.{Truth, Number, Assignment, value}
+use Rattle.graph_core_spec.specs.Run.{is_truth}
+use Rattle.c_run_spec.specs.Accesses.{some_byte, in_zone}
 use Rattle.c_graph_spec.specs.State.{number, zone_low, zone_high}
 use Rattle.c_graph_spec.specs.Guards.{avoids_zone, avoids_run, avoids_fixed}
-use Rattle.c_graph_laws.proofs.Evaluates.{truth_is, constant_is, less_is, not_is, and_is, or_is}
+use Rattle.c_graph_laws.proofs.Steps.{all_hold}
+use Rattle.c_graph_laws.proofs.Evaluates.{constant_is, less_is, not_is, or_is}
+use Rattle.c_graph_laws.proofs.Conjunctions.{IsTruth, conjunction_is}
 
 -- ---- bytes that pass a test
 
@@ -149,14 +152,23 @@ module _ (s : Assignment) (x y : Term) (a e size : ℕ) (some : 0 < size) (last 
           any_true true = refl
           any_true false = refl
 
-  pub fixed_is : (runs : List Run) → All (λ (r : Run). 0 < length r.bytes) runs → value s (avoids_fixed x y runs) ≡ Truth (not (some_byte (is_fixed runs) size a))
-  unfolding avoids_fixed
-  fixed_is [] any = truth_is s true ∙ ap (λ b. Truth (not b)) (sym (no_fixed size a))
-  fixed_is (run ∷ rest) any =
-      and_is s (avoids_run x y run) (avoids_fixed x y rest) (not (some_byte (in_zone (zone_of_run run)) size a)) (not (some_byte (is_fixed rest) size a))
-      (run_is run (All-head (λ (r : Run). 0 < length r.bytes) run rest any)) (fixed_is rest (All-tail (λ (r : Run). 0 < length r.bytes) run rest any))
-      ∙ ap Truth (apart (some_byte (in_zone (zone_of_run run)) size a) (some_byte (is_fixed rest) size a)) ∙ ap (λ b. Truth (not b)) (sym (fixed_cons run rest size a))
+  -- the tests of runs hold where no byte is fixed
+  runs_hold : (runs : List Run) → All (λ (r : Run). 0 < length r.bytes) runs → all_hold s (map (avoids_run x y) runs) ≡ not (some_byte (is_fixed runs) size a)
+  runs_hold [] any = ap not (sym (no_fixed size a))
+  runs_hold (run ∷ rest) any =
+      ap (λ v. is_truth v && all_hold s (map (avoids_run x y) rest)) (run_is run (All-head (λ (r : Run). 0 < length r.bytes) run rest any))
+      ∙ ap (λ b. not (some_byte (in_zone (zone_of_run run)) size a) && b) (runs_hold rest (All-tail (λ (r : Run). 0 < length r.bytes) run rest any))
+      ∙ apart (some_byte (in_zone (zone_of_run run)) size a) (some_byte (is_fixed rest) size a) ∙ ap not (sym (fixed_cons run rest size a))
     where
       apart : (a b : Bool) → (not a && not b) ≡ not (a || b)
       apart true b = refl
       apart false b = refl
+
+  runs_are : (runs : List Run) → All (λ (r : Run). 0 < length r.bytes) runs → All (IsTruth s) (map (avoids_run x y) runs)
+  runs_are [] any = All-nil (IsTruth s)
+  runs_are (run ∷ rest) any =
+      let is = run_is run (All-head (λ (r : Run). 0 < length r.bytes) run rest any) in
+      All-cons (IsTruth s) (avoids_run x y run) (map (avoids_run x y) rest) (is ∙ ap Truth (sym (ap is_truth is))) (runs_are rest (All-tail (λ (r : Run). 0 < length r.bytes) run rest any))
+
+  pub fixed_is : (runs : List Run) → All (λ (r : Run). 0 < length r.bytes) runs → value s (avoids_fixed x y runs) ≡ Truth (not (some_byte (is_fixed runs) size a))
+  fixed_is runs any = conjunction_is s (map (avoids_run x y) runs) (runs_are runs any) ∙ ap Truth (runs_hold runs any)

@@ -3,27 +3,27 @@ use Rattle.std.proofs.Common.{◌≡◌, ◌∙◌, ℕ, zero, suc, ◌<◌, ◌
 use Rattle.std.specs.Prelude.{Contains}
 use Rattle.std.proofs.lemmas.List.Elements.{Contains-append_left, Contains-append_right}
 use Rattle.memory_spec.specs.Zones.{Zone}
-use Rattle.term_spec.specs.Term.{truth}
-use Rattle.term_spec.specs.Value.{Number, Assignment, value}
-use Rattle.graph_spec.specs.declared.Next.{Next}
-use Rattle.graph_spec.specs.declared.Next.TheVariants.{Err as Error}
-use Rattle.graph_spec.specs.Graph.{Graphs, Basic}
-use Rattle.graph_spec.specs.Run.{Waiting, State, go, is_truth}
+use Rattle.term_core_spec.specs.Term.{truth}
+use Rattle.term_core_spec.specs.Value.{Number, Assignment, value}
+use Rattle.graph_core_spec.specs.declared.Next.{Next}
+use Rattle.graph_core_spec.specs.declared.Next.TheVariants.{Err as Error}
+use Rattle.graph_core_spec.specs.Graph.{Graphs, Basic}
+use Rattle.graph_core_spec.specs.Run.{Waiting, State, go, is_truth}
 use Rattle.c_graph_laws.proofs.Evaluates.{truth_is}
 use Rattle.c_graph_spec.specs.State.{width_of}
-use Rattle.walk_spec.specs.TransitionSystem.{after}
-use Rattle.c_type_spec.specs.declared.Scalar.{Scalar}
-use Rattle.c_type_spec.specs.declared.TestPlace.TheVariants.{Before, After}
-use Rattle.c_type_spec.specs.declared.Jump.TheVariants.{Break, Continue}
-use Rattle.c_type_spec.specs.Values.{of_bits, same_value}
-use Rattle.c_type_spec.specs.Core.{Core, Action, Call, Loop, Switch, Groups, no_groups, groups, Body, Typed}
-use Rattle.c_type_spec.specs.HasType as typed
-use Rattle.c_type_spec.specs.HasType.{IsTyped, AreTyped, HasType, HaveTypes, Receives, JumpsInside, GroupsInside, is_ended, scope_of}
-use Rattle.c_meaning_spec.specs.Execution as c
-use Rattle.c_meaning_spec.specs.declared.Guard.TheVariants as guards
-use Rattle.c_meaning_spec.specs.Execution.{Flow, More, Broke, Went, Jumped, Gave, Calls, does, does_group, chosen_group, rounds, switched, while_true, round_of, then_do, continued, is_zero}
-use Rattle.c_meaning_spec.specs.Evaluation as evaluation
-use Rattle.pair_spec.specs.SourceReach.{calls_in, calls_in_groups}
+use Rattle.graph_core_spec.specs.TransitionSystem.{after}
+use Rattle.c_types_spec.specs.declared.Scalar.{Scalar}
+use Rattle.c_types_spec.specs.declared.TestPlace.TheVariants.{Before, After}
+use Rattle.c_types_spec.specs.declared.Jump.TheVariants.{Break, Continue}
+use Rattle.c_types_spec.specs.Values.{of_bits, same_value}
+use Rattle.c_types_spec.specs.Core.{Core, Action, Call, Loop, Switch, Groups, no_groups, groups, Body, Typed}
+use Rattle.c_types_spec.specs.HasType as typed
+use Rattle.c_types_spec.specs.HasType.{IsTyped, AreTyped, HasType, HaveTypes, Receives, JumpsInside, GroupsInside, is_ended, scope_of}
+use Rattle.c_run_spec.specs.Execution as c
+use Rattle.c_run_spec.specs.declared.Guard.TheVariants as guards
+use Rattle.c_run_spec.specs.Execution.{Flow, More, Broke, Went, Jumped, Gave, Calls, does, does_group, chosen_group, rounds, switched, while_true, round_of, then_do, continued, is_zero}
+use Rattle.c_run_spec.specs.Evaluation as evaluation
+use Rattle.pair_setup_spec.specs.SourceReach.{calls_in, calls_in_groups}
 use Rattle.c_graph_laws.proofs.Extents.{IsPlain, HasExtents, ActionExtents, GroupExtents}
 use Rattle.c_graph_spec.specs.Layout.{Setting, Exits, exits, value_in, truth_in}
 use Rattle.c_graph_spec.specs.Guards.{Place}

@@ -5,9 +5,9 @@ use Rattle.std.proofs.lemmas.Bool.{lt-ltb, le-ltb, le-leb, lt-leb, cases_lt}
 use Rattle.std.proofs.lemmas.Int.{ints}
 use Rattle.std.proofs.lemmas.Nat.{pow_pos, mod_below}
 use Rattle.std.proofs.Math.Nat.{mod-eq_of_lt}
-use Rattle.term_spec.specs.Value.{low_bits, ones_if, is_negative}
-use Rattle.c_type_spec.specs.declared.Scalar.{Scalar}
-use Rattle.c_type_spec.specs.Values.{same_value, bits_of, of_bits, converted, is_of}
+use Rattle.term_core_spec.specs.Value.{low_bits, ones_if, is_negative}
+use Rattle.c_types_spec.specs.declared.Scalar.{Scalar}
+use Rattle.c_types_spec.specs.Values.{same_value, bits_of, of_bits, converted, is_of}
 use Rattle.c_graph_laws.proofs.Extents.{scalar, IsPlain, byte, half, full}
 
 -- ---- numbers that are the same

@@ -5,23 +5,23 @@ use Rattle.std.specs.Option.{option_map_or}
 use Rattle.std.proofs.lemmas.List.Elements.{All-nil}
 use Rattle.memory_spec.specs.Memory.{Memory}
 use Rattle.memory_spec.specs.Zones.{Zone}
-use Rattle.term_spec.specs.declared.Sort.TheVariants as sort
-use Rattle.term_spec.specs.Term.{open_term}
-use Rattle.term_spec.specs.Sort.{sort_of, sort_of_atom}
-use Rattle.term_spec.specs.Value.{Number, Assignment, value}
-use Rattle.graph_spec.specs.Graph.{Graphs, IsBinding, Binding}
-use Rattle.graph_spec.specs.Run.{Waiting, State, Failed, leave, bound, resumed, system_of}
-use Rattle.graph_spec.proofs.Sorts.{resumed_sorted}
-use Rattle.walk_spec.specs.TransitionSystem.{after}
-use Rattle.c_spec.specs.Words.{entry_of}
-use Rattle.c_type_spec.specs.declared.Scalar.{Scalar}
-use Rattle.c_type_spec.specs.Types.{int}
-use Rattle.c_type_spec.specs.Values.{bits_of, of_bits, converted}
-use Rattle.c_type_spec.specs.Core.{FunctionType, Body, Typed}
-use Rattle.c_meaning_spec.specs.declared.Guard.{Guard}
-use Rattle.c_meaning_spec.specs.Execution as c
-use Rattle.c_meaning_spec.specs.Execution.{Flow, More, Broke, Went, Jumped, Gave, Called, Unfinished, Returned, Calls, does, received, as_local, after_call, on_ok}
-use Rattle.c_meaning_spec.specs.Evaluation.{Locals}
+use Rattle.term_core_spec.specs.declared.Sort.TheVariants as sort
+use Rattle.term_core_spec.specs.Term.{open_term}
+use Rattle.term_core_spec.specs.Sort.{sort_of, sort_of_atom}
+use Rattle.term_core_spec.specs.Value.{Number, Assignment, value}
+use Rattle.graph_core_spec.specs.Graph.{Graphs, IsBinding, Binding}
+use Rattle.graph_core_spec.specs.Run.{Waiting, State, Failed, leave, bound, resumed, system_of}
+use Rattle.graph_core_spec.proofs.Sorts.{resumed_sorted}
+use Rattle.graph_core_spec.specs.TransitionSystem.{after}
+use Rattle.c_token_spec.specs.Words.{entry_of}
+use Rattle.c_types_spec.specs.declared.Scalar.{Scalar}
+use Rattle.c_types_spec.specs.Types.{int}
+use Rattle.c_types_spec.specs.Values.{bits_of, of_bits, converted}
+use Rattle.c_types_spec.specs.Core.{FunctionType, Body, Typed}
+use Rattle.c_run_spec.specs.declared.Guard.{Guard}
+use Rattle.c_run_spec.specs.Execution as c
+use Rattle.c_run_spec.specs.Execution.{Flow, More, Broke, Went, Jumped, Gave, Called, Unfinished, Returned, Calls, does, received, as_local, after_call, on_ok}
+use Rattle.c_run_spec.specs.Evaluation.{Locals}
 use Rattle.c_graph_spec.specs.State.{width_of, result}
 use Rattle.c_graph_spec.specs.Values.{at_width}
 use Rattle.c_graph_spec.specs.Guards.{Place}

@@ -4,21 +4,21 @@ use Rattle.std.specs.Prelude.{slice_get, slice_set}
 use Rattle.std.proofs.lemmas.Bool.{cases_eq, false_from_ne_true}
 use Rattle.memory_spec.specs.Memory.{Memory, byte_at}
 use Rattle.memory_spec.specs.Zones.{Zone}
-use Rattle.term_spec.specs.declared.Sort.TheVariants as sort
-use Rattle.term_spec.specs.declared.Variable.{Variable}
-use Rattle.term_spec.specs.contracts.VariableEq.TheImpl.Laws as variable_laws
-use Rattle.term_spec.specs.Term.{Term, truth}
-use Rattle.term_spec.specs.Sort.{sort_of, sort_of_atom}
+use Rattle.term_core_spec.specs.declared.Sort.TheVariants as sort
+use Rattle.term_core_spec.specs.declared.Variable.{Variable}
+use Rattle.term_core_spec.specs.contracts.VariableEq.TheImpl.Laws as variable_laws
+use Rattle.term_core_spec.specs.Term.{Term, truth}
+use Rattle.term_core_spec.specs.Sort.{sort_of, sort_of_atom}
 use Rattle.std.proofs.lemmas.List.Elements.{All-cons, All-nil}
-use Rattle.term_spec.specs.Same.{same_variable}
-use Rattle.term_spec.proofs.Same.{variable-same}
-use Rattle.term_spec.specs.Value.{Truth, Number, Bytes, Assignment, IsAssignment, value}
-use Rattle.graph_spec.specs.Graph.{Binding, IsBinding, AreBindings}
-use Rattle.graph_spec.specs.Run.{bound}
-use Rattle.graph_spec.proofs.Sorts.{bound_sorted}
-use Rattle.c_type_spec.specs.declared.Scalar.{Scalar}
-use Rattle.c_type_spec.specs.Values.{of_bits}
-use Rattle.c_meaning_spec.specs.Evaluation.{Locals}
+use Rattle.term_core_spec.specs.Same.{same_variable}
+use Rattle.term_core_spec.proofs.Same.{variable-same}
+use Rattle.term_core_spec.specs.Value.{Truth, Number, Bytes, Assignment, IsAssignment, value}
+use Rattle.graph_core_spec.specs.Graph.{Binding, IsBinding, AreBindings}
+use Rattle.graph_core_spec.specs.Run.{bound}
+use Rattle.graph_core_spec.proofs.Sorts.{bound_sorted}
+use Rattle.c_types_spec.specs.declared.Scalar.{Scalar}
+use Rattle.c_types_spec.specs.Values.{of_bits}
+use Rattle.c_run_spec.specs.Evaluation.{Locals}
 use Rattle.c_graph_spec.specs.State.{width_of, local, is_set, memory, zone_low, zone_high}
 use Rattle.c_graph_spec.specs.Layout.{binding, set_local}
 use Rattle.c_graph_laws.specs.Together.{HasLocal, unset, set, Alike}

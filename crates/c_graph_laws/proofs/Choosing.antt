@@ -3,18 +3,18 @@ use Rattle.std.proofs.Common.{◌≡◌, ◌∙◌, ℕ, zero, suc, ◌+◌, Boo
 use Rattle.std.specs.List.{list_any}
 use Rattle.std.specs.Option.{option_or}
 use Rattle.std.specs.Prelude.{IsTrue, Contains}
-use Rattle.term_spec.specs.Term.{Term, equal}
-use Rattle.term_spec.specs.Value.{Assignment, value}
-use Rattle.graph_spec.specs.declared.Next.{Next}
-use Rattle.graph_spec.specs.Graph.{Graphs}
-use Rattle.graph_spec.specs.Run.{Waiting, go, is_truth, system_of}
-use Rattle.walk_spec.specs.TransitionSystem.{after}
-use Rattle.c_type_spec.specs.declared.Scalar.{Scalar}
-use Rattle.c_type_spec.specs.Values.{same_value, is_of}
-use Rattle.c_type_spec.specs.HasType.{AreOf}
-use Rattle.c_type_spec.specs.Statements.{same_label}
-use Rattle.c_type_spec.specs.Core.{Groups, no_groups, groups}
-use Rattle.c_meaning_spec.specs.Execution.{labelled, chosen_group}
+use Rattle.term_core_spec.specs.Term.{Term, equal}
+use Rattle.term_core_spec.specs.Value.{Assignment, value}
+use Rattle.graph_core_spec.specs.declared.Next.{Next}
+use Rattle.graph_core_spec.specs.Graph.{Graphs}
+use Rattle.graph_core_spec.specs.Run.{Waiting, go, is_truth, system_of}
+use Rattle.graph_core_spec.specs.TransitionSystem.{after}
+use Rattle.c_types_spec.specs.declared.Scalar.{Scalar}
+use Rattle.c_types_spec.specs.Values.{same_value, is_of}
+use Rattle.c_types_spec.specs.HasType.{AreOf}
+use Rattle.c_types_spec.specs.Statements.{same_label}
+use Rattle.c_types_spec.specs.Core.{Groups, no_groups, groups}
+use Rattle.c_run_spec.specs.Execution.{labelled, chosen_group}
 use Rattle.c_graph_spec.specs.State.{value_constant}
 use Rattle.c_graph_spec.specs.Layout.{has_default, cases_to}
 use Rattle.c_graph_laws.proofs.Occurs.{cases_at, default_at, Selects}

@@ -5,8 +5,8 @@ use Rattle.std.specs.Int.Bits.{xor_zero_l, xor_zero_r, xor_self}
 use Rattle.std.proofs.lemmas.Bool.{lt-ltb, le-ltb, cases_lt, cases_eq, false_from_ne_true}
 use Rattle.std.proofs.lemmas.Bool.Decides.{nat_tests}
 use Rattle.std.proofs.lemmas.Nat.{xor_block, pow_pos}
-use Rattle.c_type_spec.specs.declared.Scalar.{Scalar}
-use Rattle.c_type_spec.specs.Values.{same_value, bits_of, of_bits}
+use Rattle.c_types_spec.specs.declared.Scalar.{Scalar}
+use Rattle.c_types_spec.specs.Values.{same_value, bits_of, of_bits}
 use Rattle.c_graph_laws.proofs.Extents.{scalar, IsPlain, byte, half, full}
 use Rattle.c_graph_laws.proofs.Bits.{same_value-true, same_value-same, bits_back, low_is, high_is}
 

@@ -6,21 +6,21 @@ use Rattle.std.proofs.lemmas.Bool.{lt-ltb, le-ltb, lt-leb, cases_lt, cases_eq, a
 use Rattle.std.proofs.lemmas.Nat.{pow_below, shr_le, and_mask, div_below}
 use Rattle.std.proofs.Math.Nat.{mod-eq_of_lt, mul_comm, div-le_self, mod-le}
 use Rattle.rv_instr.specs.declared.ArithmeticOperation.TheVariants as op
-use Rattle.rv_spec.specs.Arithmetic.{word, number}
-use Rattle.rv_spec.specs.Arithmetic as machine
-use Rattle.term_spec.specs.declared.Width.TheVariants.{W8, W16, W32}
-use Rattle.term_spec.specs.declared.WordOperator.TheVariants as word_op
-use Rattle.term_spec.specs.Term.{Term, constant, and_term, equal, less}
-use Rattle.term_spec.specs.Shapes.{sign_bit}
-use Rattle.term_spec.specs.Value.{Truth, Number, Assignment, value, operation, low_bits, shifted_with_sign, ones_if, is_negative}
-use Rattle.code_graph_spec.specs.InstructionTerms as code
-use Rattle.code_graph_laws.proofs.InstructionTerms.{computed_evaluates}
-use Rattle.code_graph_laws.proofs.Words.{shift_signed_is}
-use Rattle.c_type_spec.specs.declared.Scalar.{Scalar}
-use Rattle.c_type_spec.specs.declared.Arithmetic.{Arithmetic}
-use Rattle.c_type_spec.specs.declared.Arithmetic.TheVariants as arithmetic
-use Rattle.c_type_spec.specs.Values as c
-use Rattle.c_type_spec.specs.Values.{same_value, bits_of, of_bits, converted, is_of, arithmetic_value}
+use Rattle.rv_machine_spec.specs.Arithmetic.{word, number}
+use Rattle.rv_machine_spec.specs.Arithmetic as machine
+use Rattle.term_core_spec.specs.declared.Width.TheVariants.{W8, W16, W32}
+use Rattle.term_core_spec.specs.declared.WordOperator.TheVariants as word_op
+use Rattle.term_core_spec.specs.Term.{Term, constant, and_term, equal, less}
+use Rattle.term_core_spec.specs.Shapes.{sign_bit}
+use Rattle.term_core_spec.specs.Value.{Truth, Number, Assignment, value, operation, low_bits, shifted_with_sign, ones_if, is_negative}
+use Rattle.decompile_spec.specs.InstructionTerms as code
+use Rattle.decompile_laws.proofs.InstructionTerms.{computed_evaluates}
+use Rattle.decompile_laws.proofs.Words.{shift_signed_is}
+use Rattle.c_types_spec.specs.declared.Scalar.{Scalar}
+use Rattle.c_types_spec.specs.declared.Arithmetic.{Arithmetic}
+use Rattle.c_types_spec.specs.declared.Arithmetic.TheVariants as arithmetic
+use Rattle.c_types_spec.specs.Values as c
+use Rattle.c_types_spec.specs.Values.{same_value, bits_of, of_bits, converted, is_of, arithmetic_value}
 use Rattle.c_graph_spec.specs.State.{width_of}
 use Rattle.c_graph_spec.specs.Values.{computed, at_width, places}
 use Rattle.c_graph_spec.specs.Guards.{operator_tests, is_divisor, has_quotient, division_test, count_test}

@@ -4,23 +4,23 @@ use Rattle.std.specs.Prelude.{slice_get, ◌&&◌}
 use Rattle.std.proofs.lemmas.List.Elements.{All-cons, All-nil}
 use Rattle.memory_spec.specs.Memory.{Memory}
 use Rattle.memory_spec.specs.Zones.{Zone}
-use Rattle.term_spec.specs.declared.Sort.TheVariants as sort
-use Rattle.term_spec.specs.declared.Variable.{Variable}
-use Rattle.term_spec.specs.Term.{truth, open_term}
-use Rattle.term_spec.specs.Sort.{sort_of, sort_of_atom}
-use Rattle.term_spec.specs.Value.{Truth, Number, Assignment, value}
-use Rattle.graph_spec.specs.Graph.{IsBinding, AreBindings}
-use Rattle.graph_spec.specs.Run.{bound, entered}
-use Rattle.graph_spec.proofs.Sorts.{entered_sorted}
-use Rattle.c_type_spec.specs.declared.Scalar.{Scalar}
-use Rattle.c_type_spec.specs.Values.{of_bits}
-use Rattle.c_type_spec.specs.Core.{Core, Body, Typed, type_of}
-use Rattle.c_type_spec.specs.HasType as typed
-use Rattle.c_type_spec.specs.HasType.{HaveTypes, scope_of}
-use Rattle.c_meaning_spec.specs.Setting.{Broken}
-use Rattle.c_meaning_spec.specs.Evaluation as evaluation
-use Rattle.c_meaning_spec.specs.Evaluation.{Locals, on_result, values}
-use Rattle.c_meaning_spec.specs.Calls.{locals_at_entry}
+use Rattle.term_core_spec.specs.declared.Sort.TheVariants as sort
+use Rattle.term_core_spec.specs.declared.Variable.{Variable}
+use Rattle.term_core_spec.specs.Term.{truth, open_term}
+use Rattle.term_core_spec.specs.Sort.{sort_of, sort_of_atom}
+use Rattle.term_core_spec.specs.Value.{Truth, Number, Assignment, value}
+use Rattle.graph_core_spec.specs.Graph.{IsBinding, AreBindings}
+use Rattle.graph_core_spec.specs.Run.{bound, entered}
+use Rattle.graph_core_spec.proofs.Sorts.{entered_sorted}
+use Rattle.c_types_spec.specs.declared.Scalar.{Scalar}
+use Rattle.c_types_spec.specs.Values.{of_bits}
+use Rattle.c_types_spec.specs.Core.{Core, Body, Typed, type_of}
+use Rattle.c_types_spec.specs.HasType as typed
+use Rattle.c_types_spec.specs.HasType.{HaveTypes, scope_of}
+use Rattle.c_run_spec.specs.Setting.{Broken}
+use Rattle.c_run_spec.specs.Evaluation as evaluation
+use Rattle.c_run_spec.specs.Evaluation.{Locals, on_result, values}
+use Rattle.c_run_spec.specs.Calls.{locals_at_entry}
 use Rattle.c_graph_spec.specs.State.{width_of, local, is_set, memory, zone_low, zone_high}
 use Rattle.c_graph_spec.specs.Guards.{Place}
 use Rattle.c_graph_laws.proofs.Extents.{AllExtents}
@@ -30,7 +30,7 @@ use Rattle.c_graph_laws.specs.Together.{HasValue, HasLocal, Alike, IsPlace, sett
 use Rattle.c_graph_laws.specs.Together as alike
 use Rattle.c_graph_laws.proofs.Steps.{all_hold}
 use Rattle.c_graph_laws.proofs.Means.{Means, breaks, means}
-use Rattle.c_graph_laws.proofs.Objects.{all_append}
+use Rattle.c_graph_laws.proofs.Conjunctions.{all_append}
 use Rattle.c_graph_laws.proofs.Changes.{bound_here, bound_there, bound_none, apart_local, apart_set, local_no_set, set_no_local, local_kept, truth_is}
 use Rattle.c_graph_laws.proofs.ExpressionSorts.{type_is}
 use Rattle.c_graph_laws.proofs.Statements.{expression_means, word_sorted}

@@ -1,16 +1,16 @@
 -- The values of operators, given those of their arguments.
 use Rattle.std.proofs.Common.{◌≡◌, ◌∙◌, ℕ, ◌+◌, ◌==◌, Bool, true, false, cond, refl, ap, [], ◌∷◌}
 use Rattle.std.specs.Prelude.{nat_lt, not, ◌&&◌, ◌||◌}
-use Rattle.term_spec.specs.declared.Width.{Width}
-use Rattle.term_spec.specs.declared.WordOperator.{WordOperator}
-use Rattle.term_spec.specs.declared.UnaryOperator.TheVariants as unary
-use Rattle.term_spec.specs.declared.BinaryOperator.TheVariants as binary
-use Rattle.term_spec.specs.declared.TernaryOperator.TheVariants as ternary
-use Rattle.term_spec.specs.Term.{Term, truth, constant, not_term, and_term, or_term, equal, less, on_words, zero_extend, sign_extend, low, choose}
-use Rattle.term_spec.specs.Sort.{bits}
-use Rattle.term_spec.specs.Value.{Value, Truth, Number, Assignment, value, unary_value, binary_value, ternary_value, operation, low_bits, ones_if, is_negative}
-use Rattle.term_spec.proofs.Soundness.{on_two_words-same}
-use Rattle.graph_spec.specs.Run.{is_truth}
+use Rattle.term_core_spec.specs.declared.Width.{Width}
+use Rattle.term_core_spec.specs.declared.WordOperator.{WordOperator}
+use Rattle.term_core_spec.specs.declared.UnaryOperator.TheVariants as unary
+use Rattle.term_core_spec.specs.declared.BinaryOperator.TheVariants as binary
+use Rattle.term_core_spec.specs.declared.TernaryOperator.TheVariants as ternary
+use Rattle.term_core_spec.specs.Term.{Term, truth, constant, not_term, and_term, or_term, equal, less, on_words, zero_extend, sign_extend, low, choose}
+use Rattle.term_core_spec.specs.Sort.{bits}
+use Rattle.term_core_spec.specs.Value.{Value, Truth, Number, Assignment, value, unary_value, binary_value, ternary_value, operation, low_bits, ones_if, is_negative}
+use Rattle.term_core_spec.proofs.Soundness.{on_two_words-same}
+use Rattle.graph_core_spec.specs.Run.{is_truth}
 use Rattle.c_graph_laws.proofs.Steps.{all_hold}
 
 once : (f : Value → Value) (x p : Value) → x ≡ p → f x ≡ f p

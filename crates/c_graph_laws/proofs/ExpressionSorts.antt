@@ -2,24 +2,24 @@
 use Rattle.std.proofs.Common.{◌≡◌, ℕ, ◌^◌, ◌<◌, Bool, true, false, cond, refl, sym, subst, arith, List, [], ◌++◌, Option, Some, None, ℤ, map, unwrap_or}
 use Rattle.std.specs.Prelude.{All}
 use Rattle.std.proofs.lemmas.List.Elements.{All-nil, All-append, All-map, All-weaker}
-use Rattle.term_spec.specs.declared.Width.TheVariants.{W8, W16, W32, W64}
-use Rattle.term_spec.specs.declared.Sort.TheVariants.{Truth, Word}
-use Rattle.term_spec.specs.Term.{Term, open_term, constant, not_term, equal, less, zero_extend}
-use Rattle.term_spec.specs.Sort.{sort_of, sort_of_atom, sort_of_unary, sort_of_binary}
-use Rattle.c_type_spec.specs.declared.Scalar.{Scalar}
-use Rattle.c_type_spec.specs.declared.Arithmetic.{Arithmetic}
-use Rattle.c_type_spec.specs.declared.Arithmetic.TheVariants as arithmetic
-use Rattle.c_type_spec.specs.declared.Comparison.{Comparison}
-use Rattle.c_type_spec.specs.declared.Comparison.TheVariants as comparison
-use Rattle.c_type_spec.specs.declared.Direction.{Direction}
-use Rattle.c_type_spec.specs.declared.Direction.TheVariants.{Up, Down}
-use Rattle.c_type_spec.specs.declared.Order.{Order}
-use Rattle.c_type_spec.specs.declared.Order.TheVariants.{PointerFirst, IndexFirst}
-use Rattle.c_type_spec.specs.Types.{word}
-use Rattle.c_type_spec.specs.Values.{bits_of}
-use Rattle.c_type_spec.specs.Core.{Core, Constant, ReadLocal, GlobalAddress, Load, Target, Convert, Operate, Compare, Move, Within, Aligned, Choose, type_of}
-use Rattle.c_type_spec.specs.HasType as typed
-use Rattle.c_type_spec.specs.HasType.{Scope, HasType, is_shift}
+use Rattle.term_core_spec.specs.declared.Width.TheVariants.{W8, W16, W32, W64}
+use Rattle.term_core_spec.specs.declared.Sort.TheVariants.{Truth, Word}
+use Rattle.term_core_spec.specs.Term.{Term, open_term, constant, not_term, equal, less, zero_extend}
+use Rattle.term_core_spec.specs.Sort.{sort_of, sort_of_atom, sort_of_unary, sort_of_binary}
+use Rattle.c_types_spec.specs.declared.Scalar.{Scalar}
+use Rattle.c_types_spec.specs.declared.Arithmetic.{Arithmetic}
+use Rattle.c_types_spec.specs.declared.Arithmetic.TheVariants as arithmetic
+use Rattle.c_types_spec.specs.declared.Comparison.{Comparison}
+use Rattle.c_types_spec.specs.declared.Comparison.TheVariants as comparison
+use Rattle.c_types_spec.specs.declared.Direction.{Direction}
+use Rattle.c_types_spec.specs.declared.Direction.TheVariants.{Up, Down}
+use Rattle.c_types_spec.specs.declared.Order.{Order}
+use Rattle.c_types_spec.specs.declared.Order.TheVariants.{PointerFirst, IndexFirst}
+use Rattle.c_types_spec.specs.Types.{word}
+use Rattle.c_types_spec.specs.Values.{bits_of}
+use Rattle.c_types_spec.specs.Core.{Core, Constant, ReadLocal, GlobalAddress, Load, Target, Convert, Operate, Compare, Move, Within, Aligned, Choose, type_of}
+use Rattle.c_types_spec.specs.HasType as typed
+use Rattle.c_types_spec.specs.HasType.{Scope, HasType, is_shift}
 use Rattle.c_graph_spec.specs.State.{width_of, number, value_constant, local, is_set}
 use Rattle.c_graph_spec.specs.Values.{Globals, Object, object, at_width, computed, compared, scaled, scaled_by, exponent, moved, loaded, Terms, of_word, comparison_test, tests_zero, zero_test, terms, value_term}
 use Rattle.c_graph_spec.specs.Guards.{operator_tests, is_aligned, is_pointer_moved, under, in_order, tests}

@@ -4,34 +4,34 @@ use Rattle.std.specs.Prelude.{◌&&◌, ◌||◌, if◌then◌else◌, All}
 use Rattle.std.proofs.lemmas.List.Elements.{All-head, All-tail}
 use Rattle.memory_spec.specs.Memory.{Memory, byte_at}
 use Rattle.memory_spec.specs.Zones.{Zone}
-use Rattle.term_spec.specs.declared.Width.TheVariants.{W32}
-use Rattle.term_spec.specs.declared.Sort.TheVariants as sort
-use Rattle.term_spec.specs.declared.Variable.{Variable}
-use Rattle.term_spec.specs.Term.{Term, open_term, constant, truth, not_term, equal, choose}
-use Rattle.term_spec.specs.Value.{Value, Truth, Number, Bytes, Assignment, IsAssignment, IsOfSort, value}
-use Rattle.term_spec.proofs.Soundness.{value-sort}
-use Rattle.term_spec.proofs.Sorts.{as_truth}
-use Rattle.graph_spec.specs.Run.{is_truth}
-use Rattle.c_type_spec.specs.declared.Scalar.{Scalar}
-use Rattle.c_type_spec.specs.declared.Arithmetic.{Arithmetic}
-use Rattle.c_type_spec.specs.declared.Arithmetic.TheVariants as arithmetic
-use Rattle.c_type_spec.specs.declared.Comparison.{Comparison}
-use Rattle.c_type_spec.specs.declared.Comparison.TheVariants as comparison
-use Rattle.c_type_spec.specs.declared.Direction.{Direction}
-use Rattle.c_type_spec.specs.declared.Order.{Order}
-use Rattle.c_type_spec.specs.declared.Order.TheVariants.{PointerFirst, IndexFirst}
-use Rattle.c_type_spec.specs.Types.{int, word}
-use Rattle.c_type_spec.specs.Values.{bits_of, of_bits, same_value, converted, is_of, arithmetic_value, comparison_value, compares}
-use Rattle.c_type_spec.specs.Core.{Core, Constant, ReadLocal, GlobalAddress, Load, Target, Convert, Operate, Compare, Move, Within, Aligned, Choose, type_of, Typed}
-use Rattle.c_type_spec.specs.HasType as typed
-use Rattle.c_type_spec.specs.HasType.{Scope, HasType, is_shift}
-use Rattle.c_meaning_spec.specs.declared.Guard.{Guard}
-use Rattle.c_meaning_spec.specs.declared.Guard.TheVariants as guards
-use Rattle.c_meaning_spec.specs.Setting.{Setting}
-use Rattle.c_meaning_spec.specs.Accesses as access
-use Rattle.c_meaning_spec.specs.Accesses.{size_of, bytes_at, read_guard}
-use Rattle.c_meaning_spec.specs.Evaluation as c
-use Rattle.c_meaning_spec.specs.Evaluation.{Evaluated, Locals, on_result, or_broken, guard_of}
+use Rattle.term_core_spec.specs.declared.Width.TheVariants.{W32}
+use Rattle.term_core_spec.specs.declared.Sort.TheVariants as sort
+use Rattle.term_core_spec.specs.declared.Variable.{Variable}
+use Rattle.term_core_spec.specs.Term.{Term, open_term, constant, truth, not_term, equal, choose}
+use Rattle.term_core_spec.specs.Value.{Value, Truth, Number, Bytes, Assignment, IsAssignment, IsOfSort, value}
+use Rattle.term_core_spec.proofs.Soundness.{value-sort}
+use Rattle.term_core_spec.proofs.Sorts.{as_truth}
+use Rattle.graph_core_spec.specs.Run.{is_truth}
+use Rattle.c_types_spec.specs.declared.Scalar.{Scalar}
+use Rattle.c_types_spec.specs.declared.Arithmetic.{Arithmetic}
+use Rattle.c_types_spec.specs.declared.Arithmetic.TheVariants as arithmetic
+use Rattle.c_types_spec.specs.declared.Comparison.{Comparison}
+use Rattle.c_types_spec.specs.declared.Comparison.TheVariants as comparison
+use Rattle.c_types_spec.specs.declared.Direction.{Direction}
+use Rattle.c_types_spec.specs.declared.Order.{Order}
+use Rattle.c_types_spec.specs.declared.Order.TheVariants.{PointerFirst, IndexFirst}
+use Rattle.c_types_spec.specs.Types.{int, word}
+use Rattle.c_types_spec.specs.Values.{bits_of, of_bits, same_value, converted, is_of, arithmetic_value, comparison_value, compares}
+use Rattle.c_types_spec.specs.Core.{Core, Constant, ReadLocal, GlobalAddress, Load, Target, Convert, Operate, Compare, Move, Within, Aligned, Choose, type_of, Typed}
+use Rattle.c_types_spec.specs.HasType as typed
+use Rattle.c_types_spec.specs.HasType.{Scope, HasType, is_shift}
+use Rattle.c_run_spec.specs.declared.Guard.{Guard}
+use Rattle.c_run_spec.specs.declared.Guard.TheVariants as guards
+use Rattle.c_run_spec.specs.Setting.{Setting}
+use Rattle.c_run_spec.specs.Accesses as access
+use Rattle.c_run_spec.specs.Accesses.{size_of, bytes_at, read_guard}
+use Rattle.c_run_spec.specs.Evaluation as c
+use Rattle.c_run_spec.specs.Evaluation.{Evaluated, Locals, on_result, or_broken, guard_of}
 use Rattle.c_graph_spec.specs.State.{width_of, number, value_constant, local, is_set, memory, zone_low, zone_high}
 use Rattle.c_graph_spec.specs.Values.{Object, object, at_width, computed, compared, scaled, moved, loaded, Terms, of_word, of_truth, comparison_test, tests_zero, zero_test, is_zero, terms, value_term, truth_term}
 use Rattle.c_graph_spec.specs.Guards.{Place, operator_tests, read_tests, is_aligned, is_pointer_moved, is_within, under, tests}
@@ -45,7 +45,8 @@ use Rattle.c_graph_laws.proofs.Compared.{zero_is}
 use Rattle.c_graph_laws.proofs.Operators.{Operated, operated_none, operated_some, plain_means}
 use Rattle.c_graph_laws.proofs.Divisions.{IsShift, division_means, shift_means, at_width_is}
 use Rattle.c_graph_laws.proofs.Moves.{is_index, is_within_alignment, compared_is, within_is, aligned_is, moved_word, moved_test}
-use Rattle.c_graph_laws.proofs.Objects.{all_append, Granted, denied, granted, read_granted, loaded_is}
+use Rattle.c_graph_laws.proofs.Conjunctions.{all_append}
+use Rattle.c_graph_laws.proofs.Objects.{Granted, denied, granted, read_granted, loaded_is}
 use Rattle.c_graph_laws.proofs.Sorted.{IsTest, Is32}
 use Rattle.c_graph_laws.proofs.ExpressionSorts.{type_is, plain_is, sorted}
 

@@ -4,13 +4,13 @@ use Rattle.std.proofs.Common.{◌≡◌, inl, inr, ℕ, ◌<◌, ◌≤◌, ◌=
 use Rattle.std.specs.Prelude.{IsTrue, IfSome}
 use Rattle.std.proofs.lemmas.Bool.{or_cases}
 use Rattle.std.proofs.lemmas.List.Elements.{All-nil, All-cons, All-head, All-tail, All-weaker}
-use Rattle.c_spec.specs.Words.{entry_of}
-use Rattle.c_type_spec.specs.declared.Scalar.{Scalar}
-use Rattle.c_type_spec.specs.declared.TheConstants.{SIZE_LIMIT}
-use Rattle.c_type_spec.specs.Types.{word}
-use Rattle.c_type_spec.specs.Core.{Core, Constant, ReadLocal, GlobalAddress, Load, Target, Convert, Operate, Compare, Move, Within, Aligned, Choose, Action, Skip, Sequence, Evaluate, Set, Unset, Store, Call, If, Loop, Leave, Switch, Return, MissingReturn, Groups, no_groups, groups, FunctionType, Body, Typed}
-use Rattle.c_type_spec.specs.HasType as typed
-use Rattle.c_type_spec.specs.HasType.{Scope, HasType, HaveTypes, IsTyped, AreTyped, IsReturned, IsTypedBody, IsTypedUnit, IsCallable, is_narrow, is_promoted, is_alignment, scope_of}
+use Rattle.c_token_spec.specs.Words.{entry_of}
+use Rattle.c_types_spec.specs.declared.Scalar.{Scalar}
+use Rattle.c_types_spec.specs.declared.TheConstants.{SIZE_LIMIT}
+use Rattle.c_types_spec.specs.Types.{word}
+use Rattle.c_types_spec.specs.Core.{Core, Constant, ReadLocal, GlobalAddress, Load, Target, Convert, Operate, Compare, Move, Within, Aligned, Choose, Action, Skip, Sequence, Evaluate, Set, Unset, Store, Call, If, Loop, Leave, Switch, Return, MissingReturn, Groups, no_groups, groups, FunctionType, Body, Typed}
+use Rattle.c_types_spec.specs.HasType as typed
+use Rattle.c_types_spec.specs.HasType.{Scope, HasType, HaveTypes, IsTyped, AreTyped, IsReturned, IsTypedBody, IsTypedUnit, IsCallable, is_narrow, is_promoted, is_alignment, scope_of}
 use Rattle.c_graph_spec.specs.Sizes.{HasSizes, HaveSizes, ValueSizes, ActionSizes, GroupSizes, UnitSizes}
 
 abbrev pub scalar : (width : ℕ) → (is_signed : Bool) → Scalar

@@ -3,18 +3,18 @@ use Rattle.std.proofs.Common.{◌≡◌, ◌∙◌, ℕ, zero, suc, ◌+◌, ◌
 use Rattle.std.specs.Prelude.{IsTrue}
 use Rattle.memory_spec.specs.Memory.{Memory, byte_at}
 use Rattle.memory_spec.specs.Zones.{Zone}
-use Rattle.term_spec.specs.Value.{Bytes, Assignment, IsAssignment}
-use Rattle.graph_spec.specs.declared.Next.{Next}
-use Rattle.graph_spec.specs.Graph.{Graphs}
-use Rattle.graph_spec.specs.Run.{Waiting, State, Failed, go, leave, system_of}
-use Rattle.walk_spec.specs.TransitionSystem.{TransitionSystem, after}
-use Rattle.walk_spec.proofs.Runs.{after-add}
-use Rattle.c_type_spec.specs.declared.Scalar.{Scalar}
-use Rattle.c_type_spec.specs.declared.Jump.{Jump}
-use Rattle.c_type_spec.specs.declared.Jump.TheVariants.{Break, Continue}
-use Rattle.c_meaning_spec.specs.declared.Guard.{Guard}
-use Rattle.c_meaning_spec.specs.Execution as c
-use Rattle.c_meaning_spec.specs.Execution.{Flow, More, Broke, Went, Jumped, Gave, then_do, again, continued, switched, rounds}
+use Rattle.term_core_spec.specs.Value.{Bytes, Assignment, IsAssignment}
+use Rattle.graph_core_spec.specs.declared.Next.{Next}
+use Rattle.graph_core_spec.specs.Graph.{Graphs}
+use Rattle.graph_core_spec.specs.Run.{Waiting, State, Failed, go, leave, system_of}
+use Rattle.graph_core_spec.specs.TransitionSystem.{TransitionSystem, after}
+use Rattle.graph_core_spec.proofs.Runs.{after-add}
+use Rattle.c_types_spec.specs.declared.Scalar.{Scalar}
+use Rattle.c_types_spec.specs.declared.Jump.{Jump}
+use Rattle.c_types_spec.specs.declared.Jump.TheVariants.{Break, Continue}
+use Rattle.c_run_spec.specs.declared.Guard.{Guard}
+use Rattle.c_run_spec.specs.Execution as c
+use Rattle.c_run_spec.specs.Execution.{Flow, More, Broke, Went, Jumped, Gave, then_do, again, continued, switched, rounds}
 use Rattle.c_graph_spec.specs.State.{memory}
 use Rattle.c_graph_spec.specs.Layout.{Exits, exits}
 use Rattle.c_graph_laws.specs.Together.{Alike, Gives, IsRunning}

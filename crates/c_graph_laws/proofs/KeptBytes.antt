@@ -4,29 +4,29 @@ use Rattle.std.specs.Prelude.{slice_get, option_and_then}
 use Rattle.std.proofs.lemmas.Bool.{and_parts, cases_lt}
 use Rattle.std.proofs.lemmas.List.Elements.{All-nil, All-cons, All-append, All-head, All-tail}
 use Rattle.memory_spec.specs.Runs.{fixed_byte}
-use Rattle.term_spec.specs.declared.Width.TheVariants.{W32}
-use Rattle.term_spec.specs.declared.Sort.TheVariants as sort
-use Rattle.term_spec.specs.declared.Variable.{Variable}
-use Rattle.term_spec.specs.Term.{Term, truth, open_term}
-use Rattle.term_spec.specs.Value.{Bytes, Assignment, IsAssignment, value}
-use Rattle.term_spec.proofs.Sorts.{as_word, as_memory}
-use Rattle.term_spec.proofs.Soundness.{value-sort}
-use Rattle.walk_spec.specs.TransitionSystem.{TransitionSystem, after}
-use Rattle.graph_spec.specs.declared.Next.{Next}
-use Rattle.graph_spec.specs.declared.Next.TheVariants.{At, Ret, Err}
-use Rattle.graph_spec.specs.Graph.{Binding, AreBindings, Node, Basic, Cond, IsNode, Graph, Graphs, IsValid, node_at}
-use Rattle.graph_spec.specs.Graph as graph
-use Rattle.graph_spec.specs.Run.{Waiting, State, Running, Returned, Failed, step, go, act, leave, enter, bound, entered, resumed, is_shared, unset, is_truth, system_of}
-use Rattle.graph_spec.specs.Fixed.{has_byte, holds_byte, AlwaysHoldsFixed}
-use Rattle.graph_spec.proofs.Sorts.{bound_sorted, entered_sorted, resumed_sorted}
-use Rattle.c_type_spec.specs.declared.Scalar.{Scalar}
-use Rattle.c_type_spec.specs.declared.TestPlace.TheVariants.{Before, After}
-use Rattle.c_type_spec.specs.declared.Jump.TheVariants.{Break, Continue}
-use Rattle.c_type_spec.specs.Types.{word}
-use Rattle.c_type_spec.specs.Core.{Core, Body, Typed, Action, Store, Call, Loop, Groups, no_groups, groups, type_of}
-use Rattle.c_type_spec.specs.HasType as typed
-use Rattle.c_type_spec.specs.HasType.{HasType, IsTyped, AreTyped, IsTypedBody, IsTypedUnit, scope_of}
-use Rattle.c_meaning_spec.specs.Accesses.{some_byte, size_of}
+use Rattle.term_core_spec.specs.declared.Width.TheVariants.{W32}
+use Rattle.term_core_spec.specs.declared.Sort.TheVariants as sort
+use Rattle.term_core_spec.specs.declared.Variable.{Variable}
+use Rattle.term_core_spec.specs.Term.{Term, truth, open_term}
+use Rattle.term_core_spec.specs.Value.{Bytes, Assignment, IsAssignment, value}
+use Rattle.term_core_spec.proofs.Sorts.{as_word, as_memory}
+use Rattle.term_core_spec.proofs.Soundness.{value-sort}
+use Rattle.graph_core_spec.specs.TransitionSystem.{TransitionSystem, after}
+use Rattle.graph_core_spec.specs.declared.Next.{Next}
+use Rattle.graph_core_spec.specs.declared.Next.TheVariants.{At, Ret, Err}
+use Rattle.graph_core_spec.specs.Graph.{Binding, AreBindings, Node, Basic, Cond, IsNode, Graph, Graphs, IsValid, node_at}
+use Rattle.graph_core_spec.specs.Graph as graph
+use Rattle.graph_core_spec.specs.Run.{Waiting, State, Running, Returned, Failed, step, go, act, leave, enter, bound, entered, resumed, is_shared, unset, is_truth, system_of}
+use Rattle.graph_core_spec.specs.Fixed.{has_byte, holds_byte, AlwaysHoldsFixed}
+use Rattle.graph_core_spec.proofs.Sorts.{bound_sorted, entered_sorted, resumed_sorted}
+use Rattle.c_types_spec.specs.declared.Scalar.{Scalar}
+use Rattle.c_types_spec.specs.declared.TestPlace.TheVariants.{Before, After}
+use Rattle.c_types_spec.specs.declared.Jump.TheVariants.{Break, Continue}
+use Rattle.c_types_spec.specs.Types.{word}
+use Rattle.c_types_spec.specs.Core.{Core, Body, Typed, Action, Store, Call, Loop, Groups, no_groups, groups, type_of}
+use Rattle.c_types_spec.specs.HasType as typed
+use Rattle.c_types_spec.specs.HasType.{HasType, IsTyped, AreTyped, IsTypedBody, IsTypedUnit, scope_of}
+use Rattle.c_run_spec.specs.Accesses.{some_byte, size_of}
 use Rattle.c_graph_spec.specs.State.{width_of, local, is_set, memory, zone_low, zone_high, result}
 use Rattle.c_graph_spec.specs.Values.{Object, object, no_object, value_term}
 use Rattle.c_graph_spec.specs.Guards.{Place, tests, write_tests}
@@ -44,7 +44,7 @@ use Rattle.c_graph_laws.proofs.Extents.{ActionExtents, GroupExtents, BodyExtents
 use Rattle.c_graph_laws.proofs.Sorted.{number_sorted}
 use Rattle.c_graph_laws.proofs.ExpressionSorts.{sorted}
 use Rattle.c_graph_laws.proofs.Expressions.{global_small}
-use Rattle.c_graph_laws.proofs.Objects.{all_append}
+use Rattle.c_graph_laws.proofs.Conjunctions.{all_append}
 use Rattle.c_graph_laws.proofs.Accesses.{is_fixed}
 use Rattle.c_graph_laws.proofs.Serving.{at_item}
 use Rattle.c_graph_laws.proofs.ValidGraphs.{all_valid}

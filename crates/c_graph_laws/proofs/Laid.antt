@@ -1,15 +1,15 @@
 -- The nodes of a statement are where the layout puts them.
 use Rattle.std.proofs.Common.{◌≡◌, ◌∙◌, ℕ, zero, suc, ◌+◌, ℤ, if◌then◌else◌, refl, ap, subst, arith, List, [], ◌∷◌, ◌++◌, length, Some, None}
 use Rattle.std.specs.Prelude.{slice_get}
-use Rattle.term_spec.specs.Term.{Term}
-use Rattle.graph_spec.specs.declared.Next.{Next}
-use Rattle.graph_spec.specs.declared.Next.TheVariants.{At}
-use Rattle.graph_spec.specs.Graph.{Node, Basic, Cond, Graphs, node_at}
-use Rattle.graph_spec.specs.Graph as graph
-use Rattle.c_type_spec.specs.declared.Scalar.{Scalar}
-use Rattle.c_type_spec.specs.declared.TestPlace.TheVariants.{Before, After}
-use Rattle.c_type_spec.specs.declared.Jump.TheVariants.{Break, Continue}
-use Rattle.c_type_spec.specs.Core.{Core, Action, Skip, Sequence, Evaluate, Set, Unset, Store, Call, If, Loop, Leave, Switch, Return, MissingReturn, Groups, no_groups, groups, type_of}
+use Rattle.term_core_spec.specs.Term.{Term}
+use Rattle.graph_core_spec.specs.declared.Next.{Next}
+use Rattle.graph_core_spec.specs.declared.Next.TheVariants.{At}
+use Rattle.graph_core_spec.specs.Graph.{Node, Basic, Cond, Graphs, node_at}
+use Rattle.graph_core_spec.specs.Graph as graph
+use Rattle.c_types_spec.specs.declared.Scalar.{Scalar}
+use Rattle.c_types_spec.specs.declared.TestPlace.TheVariants.{Before, After}
+use Rattle.c_types_spec.specs.declared.Jump.TheVariants.{Break, Continue}
+use Rattle.c_types_spec.specs.Core.{Core, Action, Skip, Sequence, Evaluate, Set, Unset, Store, Call, If, Loop, Leave, Switch, Return, MissingReturn, Groups, no_groups, groups, type_of}
 use Rattle.c_graph_spec.specs.Layout.{Setting, Exits, exits, value_in, truth_in, tests_in, count, first, chain, guarded, store_tests, argument_tests, inputs, outputs, has_default, cases_to, selection, case_count, size, entry, otherwise, cases_of, step_entry, nodes, groups_nodes}
 use Rattle.c_graph_laws.proofs.Lengths.{chain_long, guarded_long, selection_long, all_cases_long, nodes_long}
 use Rattle.c_graph_laws.proofs.Occurs.{Comes, Tests, cases_at, default_at, Selects, Occurs, GroupsOccur}

@@ -1,13 +1,13 @@
 -- How many nodes the graph of a C function has.
 use Rattle.std.proofs.Common.{◌≡◌, ◌∙◌, ℕ, suc, ◌+◌, ℤ, refl, ap, arith, List, [], ◌∷◌, ◌++◌, length, length-append, Option, Some, None}
-use Rattle.term_spec.specs.Term.{Term}
-use Rattle.graph_spec.specs.declared.Next.{Next}
-use Rattle.graph_spec.specs.declared.Next.TheVariants.{At, Ret}
-use Rattle.graph_spec.specs.Graph.{Node, Basic, Cond}
-use Rattle.graph_spec.specs.Graph as graph
-use Rattle.c_type_spec.specs.declared.Scalar.{Scalar}
-use Rattle.c_type_spec.specs.declared.TestPlace.TheVariants.{Before, After}
-use Rattle.c_type_spec.specs.Core.{Action, Skip, Sequence, Evaluate, Set, Unset, Store, Call, If, Loop, Leave, Switch, Return, MissingReturn, Groups, no_groups, groups, type_of, Body, Typed}
+use Rattle.term_core_spec.specs.Term.{Term}
+use Rattle.graph_core_spec.specs.declared.Next.{Next}
+use Rattle.graph_core_spec.specs.declared.Next.TheVariants.{At, Ret}
+use Rattle.graph_core_spec.specs.Graph.{Node, Basic, Cond}
+use Rattle.graph_core_spec.specs.Graph as graph
+use Rattle.c_types_spec.specs.declared.Scalar.{Scalar}
+use Rattle.c_types_spec.specs.declared.TestPlace.TheVariants.{Before, After}
+use Rattle.c_types_spec.specs.Core.{Action, Skip, Sequence, Evaluate, Set, Unset, Store, Call, If, Loop, Leave, Switch, Return, MissingReturn, Groups, no_groups, groups, type_of, Body, Typed}
 use Rattle.c_graph_spec.specs.Guards.{Place}
 use Rattle.c_graph_spec.specs.Layout.{Setting, Exits, exits, value_in, truth_in, tests_in, count, first, chain, guarded, store_tests, argument_tests, inputs, outputs, cases_to, selection, case_count, size, groups_size, entry, otherwise, cases_of, step_entry, nodes, groups_nodes}
 use Rattle.c_graph_spec.specs.SourceGraph.{graph_of, setting_of}

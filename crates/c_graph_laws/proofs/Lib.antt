@@ -14,6 +14,7 @@ mod Sums
 mod Products
 pub mod Sorted
 mod Evaluates
+pub mod Conjunctions
 mod Operators
 pub mod Divisions
 mod Moves

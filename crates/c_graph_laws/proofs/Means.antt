@@ -1,11 +1,11 @@
 -- What it is that terms evaluate to what an expression does.
 use Rattle.std.specs.Prelude.{◌≡◌, ℕ, ◌^◌, ◌<◌, ℤ, pos, true, false, not, List, Ok, Err}
-use Rattle.term_spec.specs.Term.{Term}
-use Rattle.term_spec.specs.Value.{Truth, Number, Assignment, value}
-use Rattle.c_type_spec.specs.declared.Scalar.{Scalar}
-use Rattle.c_type_spec.specs.Values.{of_bits, same_value}
-use Rattle.c_meaning_spec.specs.Setting.{Broken}
-use Rattle.c_meaning_spec.specs.Evaluation.{Evaluated}
+use Rattle.term_core_spec.specs.Term.{Term}
+use Rattle.term_core_spec.specs.Value.{Truth, Number, Assignment, value}
+use Rattle.c_types_spec.specs.declared.Scalar.{Scalar}
+use Rattle.c_types_spec.specs.Values.{of_bits, same_value}
+use Rattle.c_run_spec.specs.Setting.{Broken}
+use Rattle.c_run_spec.specs.Evaluation.{Evaluated}
 use Rattle.c_graph_spec.specs.State.{width_of}
 use Rattle.c_graph_laws.proofs.Steps.{all_hold}
 

@@ -4,21 +4,21 @@ use Rattle.std.specs.Prelude.{◌&&◌, nat_lt, int_lt, bit_and, bit_xor, if◌t
 use Rattle.std.proofs.lemmas.Bool.{lt-ltb, le-ltb, lt-leb, le-leb, cases_lt}
 use Rattle.std.proofs.lemmas.Nat.{and_mask, mul-le}
 use Rattle.std.proofs.Math.Nat.{add-mul}
-use Rattle.term_spec.specs.declared.Width.{Width}
-use Rattle.term_spec.specs.declared.Width.TheVariants.{W8, W16, W32, W64}
-use Rattle.term_spec.specs.declared.WordOperator.TheVariants as word_op
-use Rattle.term_spec.specs.Term.{Term, constant, not_term, equal, less, zero_extend, bit_and as and_words, bit_xor as xor_term}
-use Rattle.term_spec.specs.Shapes.{sign_bit}
-use Rattle.term_spec.specs.Sort.{bits}
-use Rattle.term_spec.specs.Value.{Truth, Number, Assignment, value, operation, low_bits}
-use Rattle.c_type_spec.specs.declared.Scalar.{Scalar}
-use Rattle.c_type_spec.specs.declared.Comparison.{Comparison}
-use Rattle.c_type_spec.specs.declared.Comparison.TheVariants as comparison
-use Rattle.c_type_spec.specs.declared.Direction.{Direction}
-use Rattle.c_type_spec.specs.declared.Direction.TheVariants.{Up, Down}
-use Rattle.c_type_spec.specs.Types.{word}
-use Rattle.c_type_spec.specs.Values.{bits_of, of_bits, converted, is_of, compares}
-use Rattle.c_meaning_spec.specs.Evaluation as c
+use Rattle.term_core_spec.specs.declared.Width.{Width}
+use Rattle.term_core_spec.specs.declared.Width.TheVariants.{W8, W16, W32, W64}
+use Rattle.term_core_spec.specs.declared.WordOperator.TheVariants as word_op
+use Rattle.term_core_spec.specs.Term.{Term, constant, not_term, equal, less, zero_extend, bit_and as and_words, bit_xor as xor_term}
+use Rattle.term_core_spec.specs.Shapes.{sign_bit}
+use Rattle.term_core_spec.specs.Sort.{bits}
+use Rattle.term_core_spec.specs.Value.{Truth, Number, Assignment, value, operation, low_bits}
+use Rattle.c_types_spec.specs.declared.Scalar.{Scalar}
+use Rattle.c_types_spec.specs.declared.Comparison.{Comparison}
+use Rattle.c_types_spec.specs.declared.Comparison.TheVariants as comparison
+use Rattle.c_types_spec.specs.declared.Direction.{Direction}
+use Rattle.c_types_spec.specs.declared.Direction.TheVariants.{Up, Down}
+use Rattle.c_types_spec.specs.Types.{word}
+use Rattle.c_types_spec.specs.Values.{bits_of, of_bits, converted, is_of, compares}
+use Rattle.c_run_spec.specs.Evaluation as c
 use Rattle.c_graph_spec.specs.State.{width_of, number}
 use Rattle.c_graph_spec.specs.Values.{at_width, compared, less_of, scaled, scaled_by, exponent, moved}
 use Rattle.c_graph_spec.specs.Guards.{is_pointer_moved, is_within, is_aligned}

@@ -9,26 +9,27 @@ use Rattle.std.proofs.lemmas.Nat.{and_mask}
 use Rattle.std.proofs.Math.Nat.{mod-eq_of_lt}
 use Rattle.memory_spec.specs.Memory.{Memory, byte_at}
 use Rattle.memory_spec.specs.Runs.{Run}
-use Rattle.term_spec.specs.declared.Width.TheVariants.{W8, W16, W32}
-use Rattle.term_spec.specs.declared.WordOperator.TheVariants as word_op
-use Rattle.term_spec.specs.Term.{Term, constant, open_term, not_term, and_term, equal, less, load, store, byte as byte_term, bit_and as and_words}
-use Rattle.term_spec.specs.Shapes.{past, store_byte, store_half}
-use Rattle.term_spec.specs.Value.{Truth, Number, Bytes, Assignment, value, operation, with_byte}
-use Rattle.graph_spec.specs.Run.{is_truth}
-use Rattle.code_graph_laws.proofs.Values.{byte_evaluates, join_two_evaluates, join_four_evaluates, load_evaluates, store_evaluates}
-use Rattle.c_type_spec.specs.declared.Scalar.{Scalar}
-use Rattle.rv_spec.specs.Machine as machine
-use Rattle.rv_spec.proofs.Memory.{byte_at-store_byte}
-use Rattle.c_meaning_spec.specs.declared.Guard.{Guard}
-use Rattle.c_meaning_spec.specs.declared.Guard.TheVariants.{Access, BarredZone, FixedByte}
-use Rattle.c_meaning_spec.specs.Setting.{Setting}
-use Rattle.c_meaning_spec.specs.Accesses.{is_object, some_byte, in_zone, size_of, bytes_at, with_bytes, read_guard, write_guard}
+use Rattle.term_core_spec.specs.declared.Width.TheVariants.{W8, W16, W32}
+use Rattle.term_core_spec.specs.declared.WordOperator.TheVariants as word_op
+use Rattle.term_core_spec.specs.Term.{Term, constant, open_term, not_term, and_term, equal, less, load, store, byte as byte_term, bit_and as and_words}
+use Rattle.term_core_spec.specs.Shapes.{past, store_byte, store_half}
+use Rattle.term_core_spec.specs.Value.{Truth, Number, Bytes, Assignment, value, operation, with_byte}
+use Rattle.graph_core_spec.specs.Run.{is_truth}
+use Rattle.decompile_laws.proofs.Values.{byte_evaluates, join_two_evaluates, join_four_evaluates, load_evaluates, store_evaluates}
+use Rattle.c_types_spec.specs.declared.Scalar.{Scalar}
+use Rattle.rv_machine_spec.specs.Machine as machine
+use Rattle.rv_machine_spec.proofs.Memory.{byte_at-store_byte}
+use Rattle.c_run_spec.specs.declared.Guard.{Guard}
+use Rattle.c_run_spec.specs.declared.Guard.TheVariants.{Access, BarredZone, FixedByte}
+use Rattle.c_run_spec.specs.Setting.{Setting}
+use Rattle.c_run_spec.specs.Accesses.{is_object, some_byte, in_zone, size_of, bytes_at, with_bytes, read_guard, write_guard}
 use Rattle.c_graph_spec.specs.State.{width_of, number, zone_low, zone_high, memory}
 use Rattle.c_graph_spec.specs.Values.{Object, address_of, loaded, stored}
 use Rattle.c_graph_spec.specs.Guards.{is_accessible, avoids_zone, avoids_fixed, last_byte, read_tests, write_tests}
 use Rattle.c_graph_laws.proofs.Extents.{IsPlain, byte, half, full}
 use Rattle.c_graph_laws.proofs.Steps.{all_hold}
 use Rattle.c_graph_laws.proofs.Evaluates.{constant_is, words_is, less_is, equal_is, not_is, and_is}
+use Rattle.c_graph_laws.proofs.Conjunctions.{all_append}
 use Rattle.c_graph_laws.proofs.Accesses.{zone_is, fixed_is, is_fixed, some_same}
 
 -- ---- booleans
@@ -68,15 +69,6 @@ last_part false true true e = absurd (cc)
 last_part false true false e = absurd (cc)
 last_part false false true e = absurd (cc)
 last_part false false false e = absurd (cc)
-
--- tests one after the other
-pub all_append : (s : Assignment) (x y : List Term) → all_hold s (x ++ y) ≡ (all_hold s x && all_hold s y)
-all_append s [] y = refl
-all_append s (t ∷ x) y = ap (λ b. is_truth (value s t) && b) (all_append s x y) ∙ regrouped (is_truth (value s t)) (all_hold s x) (all_hold s y)
-  where
-    regrouped : (a b c : Bool) → (a && (b && c)) ≡ ((a && b) && c)
-    regrouped true b c = refl
-    regrouped false b c = refl
 
 -- ---- objects
 

@@ -1,14 +1,14 @@
 -- The nodes of a statement, by where they lead and not by their numbers.
 use Rattle.std.specs.Prelude.{◌≡◌, ℕ, ℤ, false, if◌then◌else◌, List, [], ◌∷◌, ◌++◌, Some, None}
-use Rattle.term_spec.specs.Term.{Term, truth, equal}
-use Rattle.graph_spec.specs.declared.Next.{Next}
-use Rattle.graph_spec.specs.declared.Next.TheVariants.{At, Ret, Err}
-use Rattle.graph_spec.specs.Graph.{Node, Basic, Cond, Graphs, node_at}
-use Rattle.graph_spec.specs.Graph as graph
-use Rattle.c_type_spec.specs.declared.Scalar.{Scalar}
-use Rattle.c_type_spec.specs.declared.TestPlace.TheVariants.{Before, After}
-use Rattle.c_type_spec.specs.declared.Jump.TheVariants.{Break, Continue}
-use Rattle.c_type_spec.specs.Core.{Action, Skip, Sequence, Evaluate, Set, Unset, Store, Call, If, Loop, Leave, Switch, Return, MissingReturn, Groups, no_groups, groups, type_of}
+use Rattle.term_core_spec.specs.Term.{Term, truth, equal}
+use Rattle.graph_core_spec.specs.declared.Next.{Next}
+use Rattle.graph_core_spec.specs.declared.Next.TheVariants.{At, Ret, Err}
+use Rattle.graph_core_spec.specs.Graph.{Node, Basic, Cond, Graphs, node_at}
+use Rattle.graph_core_spec.specs.Graph as graph
+use Rattle.c_types_spec.specs.declared.Scalar.{Scalar}
+use Rattle.c_types_spec.specs.declared.TestPlace.TheVariants.{Before, After}
+use Rattle.c_types_spec.specs.declared.Jump.TheVariants.{Break, Continue}
+use Rattle.c_types_spec.specs.Core.{Action, Skip, Sequence, Evaluate, Set, Unset, Store, Call, If, Loop, Leave, Switch, Return, MissingReturn, Groups, no_groups, groups, type_of}
 use Rattle.c_graph_spec.specs.State.{is_set, memory, result, value_constant}
 use Rattle.c_graph_spec.specs.Layout.{Setting, Exits, exits, value_in, truth_in, tests_in, binding, set_local, store_tests, memory_stored, argument_tests, inputs, outputs, has_default, cases_to}
 

@@ -4,18 +4,18 @@ use Rattle.std.specs.Prelude.{◌&&◌, int_lt, bit_and, bit_or, bit_xor, if◌t
 use Rattle.std.proofs.lemmas.Bool.{cases_lt}
 use Rattle.std.proofs.lemmas.Nat.{and_le_l, or_of_32, xor_of_32}
 use Rattle.std.proofs.Math.Nat.{mod-eq_of_lt}
-use Rattle.rv_spec.specs.Arithmetic.{word, number}
-use Rattle.term_spec.specs.declared.Width.TheVariants.{W32, W64}
-use Rattle.term_spec.specs.declared.WordOperator.TheVariants as word_op
-use Rattle.term_spec.specs.Term.{Term, constant, less, add, subtract, multiply, sign_extend, bit_xor as xor_term}
-use Rattle.term_spec.specs.Shapes.{sign_bit, signed_less}
-use Rattle.term_spec.specs.Value.{Truth, Number, Assignment, value, operation}
-use Rattle.code_graph_laws.proofs.Words.{number_low, number_high}
-use Rattle.c_type_spec.specs.declared.Scalar.{Scalar}
-use Rattle.c_type_spec.specs.declared.Arithmetic.{Arithmetic}
-use Rattle.c_type_spec.specs.declared.Arithmetic.TheVariants as arithmetic
-use Rattle.c_type_spec.specs.Values as c
-use Rattle.c_type_spec.specs.Values.{same_value, bits_of, of_bits, converted, is_of, arithmetic_value}
+use Rattle.rv_machine_spec.specs.Arithmetic.{word, number}
+use Rattle.term_core_spec.specs.declared.Width.TheVariants.{W32, W64}
+use Rattle.term_core_spec.specs.declared.WordOperator.TheVariants as word_op
+use Rattle.term_core_spec.specs.Term.{Term, constant, less, add, subtract, multiply, sign_extend, bit_xor as xor_term}
+use Rattle.term_core_spec.specs.Shapes.{sign_bit, signed_less}
+use Rattle.term_core_spec.specs.Value.{Truth, Number, Assignment, value, operation}
+use Rattle.decompile_laws.proofs.Words.{number_low, number_high}
+use Rattle.c_types_spec.specs.declared.Scalar.{Scalar}
+use Rattle.c_types_spec.specs.declared.Arithmetic.{Arithmetic}
+use Rattle.c_types_spec.specs.declared.Arithmetic.TheVariants as arithmetic
+use Rattle.c_types_spec.specs.Values as c
+use Rattle.c_types_spec.specs.Values.{same_value, bits_of, of_bits, converted, is_of, arithmetic_value}
 use Rattle.c_graph_spec.specs.State.{width_of}
 use Rattle.c_graph_spec.specs.Values.{computed}
 use Rattle.c_graph_spec.specs.Guards.{operator_tests, sum_fits, difference_fits, product_fits}

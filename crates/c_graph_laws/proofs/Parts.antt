@@ -1,16 +1,16 @@
 -- Parts of statements: tests and what comes after them.
 use Rattle.std.proofs.Common.{◌≡◌, ℕ, ◌<◌, ◌^◌, Bool, true, false, not, if◌then◌else◌, ℤ, pos, refl, ap, arith, List, [], ◌∷◌, ◌++◌, Option}
 use Rattle.memory_spec.specs.Zones.{Zone}
-use Rattle.term_spec.specs.Term.{Term}
-use Rattle.term_spec.specs.Value.{Truth, Number, Assignment, value}
-use Rattle.graph_spec.specs.declared.Next.{Next}
-use Rattle.graph_spec.specs.Graph.{Graphs, Cond}
-use Rattle.graph_spec.specs.Run.{Waiting, State, go, is_truth, system_of}
-use Rattle.walk_spec.specs.TransitionSystem.{TransitionSystem}
-use Rattle.c_type_spec.specs.declared.Scalar.{Scalar}
-use Rattle.c_type_spec.specs.Values.{of_bits, same_value}
-use Rattle.c_meaning_spec.specs.Evaluation.{Evaluated}
-use Rattle.c_meaning_spec.specs.Execution.{Flow, on_ok}
+use Rattle.term_core_spec.specs.Term.{Term}
+use Rattle.term_core_spec.specs.Value.{Truth, Number, Assignment, value}
+use Rattle.graph_core_spec.specs.declared.Next.{Next}
+use Rattle.graph_core_spec.specs.Graph.{Graphs, Cond}
+use Rattle.graph_core_spec.specs.Run.{Waiting, State, go, is_truth, system_of}
+use Rattle.graph_core_spec.specs.TransitionSystem.{TransitionSystem}
+use Rattle.c_types_spec.specs.declared.Scalar.{Scalar}
+use Rattle.c_types_spec.specs.Values.{of_bits, same_value}
+use Rattle.c_run_spec.specs.Evaluation.{Evaluated}
+use Rattle.c_run_spec.specs.Execution.{Flow, on_ok}
 use Rattle.c_graph_spec.specs.State.{width_of}
 use Rattle.c_graph_spec.specs.Layout.{Exits}
 use Rattle.c_graph_laws.proofs.Occurs.{Comes, Tests}

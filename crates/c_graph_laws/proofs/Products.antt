@@ -3,8 +3,8 @@ use Rattle.std.proofs.Common.{◌≡◌, ◌∙◌, inl, inr, ℕ, zero, suc, �
 use Rattle.std.proofs.lemmas.Bool.{le-leb, lt-leb, cases_lt, cases_eq, false_from_ne_true}
 use Rattle.std.proofs.lemmas.Nat.{mul-le}
 use Rattle.std.proofs.Math.Nat.{add-mul, mul-add, mul_comm}
-use Rattle.term_spec.specs.Value.{low_bits, ones_if, is_negative}
-use Rattle.c_type_spec.specs.Values.{same_value, bits_of}
+use Rattle.term_core_spec.specs.Value.{low_bits, ones_if, is_negative}
+use Rattle.c_types_spec.specs.Values.{same_value, bits_of}
 use Rattle.c_graph_laws.proofs.Bits.{same_value-true, same_value-same}
 use Rattle.c_graph_laws.proofs.Sums.{signed, low, high, Says}
 

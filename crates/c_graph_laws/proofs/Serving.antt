@@ -5,25 +5,25 @@ use Rattle.std.proofs.lemmas.List.Elements.{All-head, All-tail}
 use Rattle.std.proofs.lemmas.Slice.Eq.{bytes_eq-Decides}
 use Rattle.memory_spec.specs.Memory.{Memory}
 use Rattle.memory_spec.specs.Zones.{Zone}
-use Rattle.term_spec.specs.Value.{Assignment}
-use Rattle.graph_spec.specs.declared.Next.{Next}
-use Rattle.graph_spec.specs.declared.Next.TheVariants.{At, Ret}
-use Rattle.graph_spec.specs.Graph.{Graph, Graphs, Basic, node_at}
-use Rattle.graph_spec.specs.Run.{Waiting, State, Running, Failed, go, leave, enter, entered, resumed, system_of}
-use Rattle.walk_spec.specs.TransitionSystem.{after}
-use Rattle.c_spec.specs.Words.{entry_of}
-use Rattle.c_type_spec.specs.declared.Scalar.{Scalar}
-use Rattle.c_type_spec.specs.declared.Jump.TheVariants.{Break, Continue}
-use Rattle.c_type_spec.specs.Core.{Core, Call, FunctionType, Body, Typed}
-use Rattle.c_type_spec.specs.HasType as typed
-use Rattle.c_type_spec.specs.HasType.{HaveTypes, IsTyped, Receives, IsTypedBody, IsTypedUnit, scope_of}
-use Rattle.c_meaning_spec.specs.Setting.{Broken}
-use Rattle.c_meaning_spec.specs.Execution as c
-use Rattle.c_meaning_spec.specs.Execution.{Flow, More, Broke, Went, Jumped, Gave, Called, Unfinished, Returned, Calls, does, received, after_call, on_ok}
-use Rattle.c_meaning_spec.specs.Evaluation.{values}
-use Rattle.c_meaning_spec.specs.Calls as calling
-use Rattle.c_meaning_spec.specs.Calls.{body_named, locals_at_entry, runs_body, runs}
-use Rattle.pair_spec.specs.SourceReach.{Reaches, further}
+use Rattle.term_core_spec.specs.Value.{Assignment}
+use Rattle.graph_core_spec.specs.declared.Next.{Next}
+use Rattle.graph_core_spec.specs.declared.Next.TheVariants.{At, Ret}
+use Rattle.graph_core_spec.specs.Graph.{Graph, Graphs, Basic, node_at}
+use Rattle.graph_core_spec.specs.Run.{Waiting, State, Running, Failed, go, leave, enter, entered, resumed, system_of}
+use Rattle.graph_core_spec.specs.TransitionSystem.{after}
+use Rattle.c_token_spec.specs.Words.{entry_of}
+use Rattle.c_types_spec.specs.declared.Scalar.{Scalar}
+use Rattle.c_types_spec.specs.declared.Jump.TheVariants.{Break, Continue}
+use Rattle.c_types_spec.specs.Core.{Core, Call, FunctionType, Body, Typed}
+use Rattle.c_types_spec.specs.HasType as typed
+use Rattle.c_types_spec.specs.HasType.{HaveTypes, IsTyped, Receives, IsTypedBody, IsTypedUnit, scope_of}
+use Rattle.c_run_spec.specs.Setting.{Broken}
+use Rattle.c_run_spec.specs.Execution as c
+use Rattle.c_run_spec.specs.Execution.{Flow, More, Broke, Went, Jumped, Gave, Called, Unfinished, Returned, Calls, does, received, after_call, on_ok}
+use Rattle.c_run_spec.specs.Evaluation.{values}
+use Rattle.c_run_spec.specs.Calls as calling
+use Rattle.c_run_spec.specs.Calls.{body_named, locals_at_entry, runs_body, runs}
+use Rattle.pair_setup_spec.specs.SourceReach.{Reaches, further}
 use Rattle.c_graph_spec.specs.Guards.{Place}
 use Rattle.c_graph_laws.proofs.Extents.{IsPlain, ActionExtents, BodyExtents, ResultExtent, UnitExtents}
 use Rattle.c_graph_spec.specs.Layout.{Setting, Exits, exits, argument_tests, inputs, outputs, entry, nodes}

@@ -2,25 +2,25 @@
 use Rattle.std.proofs.Common.{◌≡◌, ◌∙◌, ℕ, ◌^◌, ◌<◌, Bool, true, false, refl, ap, arith, [], ◌∷◌, Option, Some, All}
 use Rattle.std.proofs.lemmas.Bool.{lt-ltb}
 use Rattle.std.proofs.lemmas.List.Elements.{All-nil, All-cons}
-use Rattle.term_spec.specs.declared.Width.{Width}
-use Rattle.term_spec.specs.declared.Width.TheVariants.{W8, W16, W32, W64}
-use Rattle.term_spec.specs.declared.Sort.{Sort}
-use Rattle.term_spec.specs.declared.Sort.TheVariants.{Truth, Word, Memory}
-use Rattle.term_spec.specs.declared.UnaryOperator.{UnaryOperator}
-use Rattle.term_spec.specs.declared.BinaryOperator.{BinaryOperator}
-use Rattle.term_spec.specs.declared.BinaryOperator.TheVariants as binary
-use Rattle.term_spec.specs.declared.UnaryOperator.TheVariants as unary
-use Rattle.term_spec.specs.declared.WordOperator.{WordOperator}
-use Rattle.term_spec.specs.declared.TernaryOperator.{TernaryOperator}
-use Rattle.term_spec.specs.declared.TernaryOperator.TheVariants as ternary
-use Rattle.term_spec.specs.Term.{Term, Unary, Binary, Ternary, open_term, on_words, constant, not_term, and_term, or_term, equal, less, choose}
-use Rattle.term_spec.specs.Sort.{bits, sort_of, sort_of_atom, sort_of_unary, sort_of_binary, sort_of_ternary, sort_of_quaternary, sort_if, with_one, with_two, with_three}
-use Rattle.term_spec.proofs.Sorts.{same_width-same, same_sort-same}
-use Rattle.c_type_spec.specs.declared.Scalar.{Scalar}
-use Rattle.c_type_spec.specs.declared.Arithmetic.{Arithmetic}
-use Rattle.c_type_spec.specs.declared.Arithmetic.TheVariants as arithmetic
-use Rattle.c_type_spec.specs.declared.Comparison.{Comparison}
-use Rattle.c_type_spec.specs.declared.Comparison.TheVariants as comparison
+use Rattle.term_core_spec.specs.declared.Width.{Width}
+use Rattle.term_core_spec.specs.declared.Width.TheVariants.{W8, W16, W32, W64}
+use Rattle.term_core_spec.specs.declared.Sort.{Sort}
+use Rattle.term_core_spec.specs.declared.Sort.TheVariants.{Truth, Word, Memory}
+use Rattle.term_core_spec.specs.declared.UnaryOperator.{UnaryOperator}
+use Rattle.term_core_spec.specs.declared.BinaryOperator.{BinaryOperator}
+use Rattle.term_core_spec.specs.declared.BinaryOperator.TheVariants as binary
+use Rattle.term_core_spec.specs.declared.UnaryOperator.TheVariants as unary
+use Rattle.term_core_spec.specs.declared.WordOperator.{WordOperator}
+use Rattle.term_core_spec.specs.declared.TernaryOperator.{TernaryOperator}
+use Rattle.term_core_spec.specs.declared.TernaryOperator.TheVariants as ternary
+use Rattle.term_core_spec.specs.Term.{Term, Unary, Binary, Ternary, open_term, on_words, constant, not_term, and_term, or_term, equal, less, choose}
+use Rattle.term_core_spec.specs.Sort.{bits, sort_of, sort_of_atom, sort_of_unary, sort_of_binary, sort_of_ternary, sort_of_quaternary, sort_if, with_one, with_two, with_three}
+use Rattle.term_core_spec.proofs.Sorts.{same_width-same, same_sort-same}
+use Rattle.c_types_spec.specs.declared.Scalar.{Scalar}
+use Rattle.c_types_spec.specs.declared.Arithmetic.{Arithmetic}
+use Rattle.c_types_spec.specs.declared.Arithmetic.TheVariants as arithmetic
+use Rattle.c_types_spec.specs.declared.Comparison.{Comparison}
+use Rattle.c_types_spec.specs.declared.Comparison.TheVariants as comparison
 use Rattle.c_graph_spec.specs.State.{width_of, number, memory}
 use Rattle.c_graph_spec.specs.Values.{Object, address_of, at_width, computed, compared, less_of, set_if, loaded, stored}
 use Rattle.c_graph_spec.specs.Guards.{operator_tests, read_tests, is_accessible, avoids_zone, last_byte}

@@ -1,12 +1,12 @@
 -- A variable that bindings don't bind keeps its value.
 use Rattle.std.proofs.Common.{◌≡◌, ◌≢◌, Bool, true, false, if◌then◌else◌, List, [], ◌∷◌, All, refl, sym}
 use Rattle.std.proofs.lemmas.List.Elements.{All-head, All-tail}
-use Rattle.term_spec.specs.declared.Variable.{Variable}
-use Rattle.term_spec.specs.Same.{same_variable}
-use Rattle.term_spec.proofs.Same.{variable-same}
-use Rattle.term_spec.specs.Value.{Assignment, value}
-use Rattle.graph_spec.specs.Graph.{Binding}
-use Rattle.graph_spec.specs.Run.{bound}
+use Rattle.term_core_spec.specs.declared.Variable.{Variable}
+use Rattle.term_core_spec.specs.Same.{same_variable}
+use Rattle.term_core_spec.proofs.Same.{variable-same}
+use Rattle.term_core_spec.specs.Value.{Assignment, value}
+use Rattle.graph_core_spec.specs.Graph.{Binding}
+use Rattle.graph_core_spec.specs.Run.{bound}
 
 module _ (u : Variable) where
   -- none of these binds it

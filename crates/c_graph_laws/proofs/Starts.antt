@@ -5,22 +5,22 @@ use Rattle.std.proofs.lemmas.List.Elements.{All-nil, All-cons, All-head, All-tai
 use Rattle.memory_spec.specs.Memory.{Memory, byte_at}
 use Rattle.memory_spec.specs.Zones.{Zone}
 use Rattle.memory_spec.specs.Runs.{Run}
-use Rattle.term_spec.specs.declared.Width.{Width}
-use Rattle.term_spec.specs.declared.Width.TheVariants.{W32}
-use Rattle.term_spec.specs.Sort.{bits}
+use Rattle.term_core_spec.specs.declared.Width.{Width}
+use Rattle.term_core_spec.specs.declared.Width.TheVariants.{W32}
+use Rattle.term_core_spec.specs.Sort.{bits}
 use Rattle.std.proofs.lemmas.Nat.{pow_pos}
-use Rattle.term_spec.specs.declared.Sort.{Sort}
-use Rattle.term_spec.specs.declared.Sort.TheVariants as sort
-use Rattle.term_spec.specs.declared.Variable.{Variable}
-use Rattle.term_spec.specs.Same.{same_variable}
-use Rattle.term_spec.proofs.Same.{variable-same}
-use Rattle.term_spec.specs.Value.{Value, Number, Bytes, Assignment, IsAssignment, IsOfSort}
-use Rattle.graph_spec.specs.Run.{unset, entered}
-use Rattle.c_type_spec.specs.declared.Scalar.{Scalar}
-use Rattle.c_type_spec.specs.Values.{bits_of}
-use Rattle.c_type_spec.specs.Core.{Core, Constant, Skip, Body, Typed}
-use Rattle.c_type_spec.specs.HasType.{IsTypedUnit, IsTypedBody, is_narrow}
-use Rattle.c_meaning_spec.specs.Calls.{locals_at_entry}
+use Rattle.term_core_spec.specs.declared.Sort.{Sort}
+use Rattle.term_core_spec.specs.declared.Sort.TheVariants as sort
+use Rattle.term_core_spec.specs.declared.Variable.{Variable}
+use Rattle.term_core_spec.specs.Same.{same_variable}
+use Rattle.term_core_spec.proofs.Same.{variable-same}
+use Rattle.term_core_spec.specs.Value.{Value, Number, Bytes, Assignment, IsAssignment, IsOfSort}
+use Rattle.graph_core_spec.specs.Run.{unset, entered}
+use Rattle.c_types_spec.specs.declared.Scalar.{Scalar}
+use Rattle.c_types_spec.specs.Values.{bits_of}
+use Rattle.c_types_spec.specs.Core.{Core, Constant, Skip, Body, Typed}
+use Rattle.c_types_spec.specs.HasType.{IsTypedUnit, IsTypedBody, is_narrow}
+use Rattle.c_run_spec.specs.Calls.{locals_at_entry}
 use Rattle.c_graph_spec.specs.State.{width_of, memory, zone_low, zone_high}
 use Rattle.c_graph_spec.specs.Values.{terms}
 use Rattle.c_graph_spec.specs.Guards.{Place}
@@ -38,7 +38,7 @@ no_place : Place
 no_place = record { globals = λ name. None; runs = [] }
 
 no_body : Body
-no_body = record { name = []; signature = record { parameters = []; result = None }; locals = []; loops = 0; calls = 0; action = Skip }
+no_body = record { name = []; signature = record { parameters = []; result = None }; locals = []; loops = 0; calls = 0; mentions = []; action = Skip }
 
 some_word : (w : Width) → 0 < 2 ^ bits w
 some_word w = pow_pos (bits w)

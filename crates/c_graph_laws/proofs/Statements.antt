@@ -6,31 +6,31 @@ use Rattle.std.proofs.lemmas.List.Elements.{All-cons, All-nil, All-weaker}
 use Rattle.memory_spec.specs.Memory.{Memory, byte_at}
 use Rattle.memory_spec.specs.Zones.{Zone}
 use Rattle.memory_spec.specs.Runs.{Run}
-use Rattle.term_spec.specs.declared.Width.TheVariants.{W32}
-use Rattle.term_spec.specs.declared.Sort.TheVariants as sort
-use Rattle.term_spec.specs.declared.Variable.{Variable}
-use Rattle.term_spec.specs.Term.{Term, truth, equal}
-use Rattle.term_spec.specs.Sort.{sort_of}
-use Rattle.term_spec.specs.Value.{Truth, Number, Bytes, Assignment, value}
-use Rattle.graph_spec.specs.declared.Next.{Next}
-use Rattle.graph_spec.specs.declared.Next.TheVariants.{Ret}
-use Rattle.graph_spec.specs.Graph.{Graphs, IsBinding, Basic}
-use Rattle.graph_spec.specs.Run.{Waiting, State, go, bound, is_truth, system_of}
-use Rattle.graph_spec.proofs.Sorts.{bound_sorted}
-use Rattle.walk_spec.specs.TransitionSystem.{TransitionSystem, after}
-use Rattle.c_type_spec.specs.declared.Scalar.{Scalar}
-use Rattle.c_type_spec.specs.Types.{word}
-use Rattle.c_type_spec.specs.Values.{bits_of, of_bits, same_value, is_of}
-use Rattle.c_type_spec.specs.Core.{Core, Set, Unset, Store, Return, Body, Typed}
-use Rattle.c_type_spec.specs.HasType.{HasType, IsReturned, scope_of}
-use Rattle.c_meaning_spec.specs.declared.Guard.{Guard}
-use Rattle.c_meaning_spec.specs.Setting.{Setting as MeaningSetting}
-use Rattle.c_meaning_spec.specs.Accesses as access
-use Rattle.c_meaning_spec.specs.Accesses.{size_of, with_bytes, write_guard}
-use Rattle.c_meaning_spec.specs.Execution as c
-use Rattle.c_meaning_spec.specs.Execution.{Flow, Went, Gave, Calls, does, on_ok}
-use Rattle.c_meaning_spec.specs.Evaluation as evaluation
-use Rattle.c_meaning_spec.specs.Evaluation.{Locals}
+use Rattle.term_core_spec.specs.declared.Width.TheVariants.{W32}
+use Rattle.term_core_spec.specs.declared.Sort.TheVariants as sort
+use Rattle.term_core_spec.specs.declared.Variable.{Variable}
+use Rattle.term_core_spec.specs.Term.{Term, truth, equal}
+use Rattle.term_core_spec.specs.Sort.{sort_of}
+use Rattle.term_core_spec.specs.Value.{Truth, Number, Bytes, Assignment, value}
+use Rattle.graph_core_spec.specs.declared.Next.{Next}
+use Rattle.graph_core_spec.specs.declared.Next.TheVariants.{Ret}
+use Rattle.graph_core_spec.specs.Graph.{Graphs, IsBinding, Basic}
+use Rattle.graph_core_spec.specs.Run.{Waiting, State, go, bound, is_truth, system_of}
+use Rattle.graph_core_spec.proofs.Sorts.{bound_sorted}
+use Rattle.graph_core_spec.specs.TransitionSystem.{TransitionSystem, after}
+use Rattle.c_types_spec.specs.declared.Scalar.{Scalar}
+use Rattle.c_types_spec.specs.Types.{word}
+use Rattle.c_types_spec.specs.Values.{bits_of, of_bits, same_value, is_of}
+use Rattle.c_types_spec.specs.Core.{Core, Set, Unset, Store, Return, Body, Typed}
+use Rattle.c_types_spec.specs.HasType.{HasType, IsReturned, scope_of}
+use Rattle.c_run_spec.specs.declared.Guard.{Guard}
+use Rattle.c_run_spec.specs.Setting.{Setting as MeaningSetting}
+use Rattle.c_run_spec.specs.Accesses as access
+use Rattle.c_run_spec.specs.Accesses.{size_of, with_bytes, write_guard}
+use Rattle.c_run_spec.specs.Execution as c
+use Rattle.c_run_spec.specs.Execution.{Flow, Went, Gave, Calls, does, on_ok}
+use Rattle.c_run_spec.specs.Evaluation as evaluation
+use Rattle.c_run_spec.specs.Evaluation.{Locals}
 use Rattle.c_graph_spec.specs.State.{width_of, is_set, memory, result, number, value_constant, zone_low, zone_high}
 use Rattle.c_graph_spec.specs.Values.{Object, object, no_object, stored, value_term, truth_term}
 use Rattle.c_graph_spec.specs.Guards.{Place, tests, write_tests}

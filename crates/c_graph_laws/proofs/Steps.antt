@@ -2,14 +2,14 @@
 use Rattle.std.proofs.Common.{◌≡◌, ◌∙◌, ℕ, ◌+◌, Bool, true, false, ◌&&◌, if◌then◌else◌, refl, ap, List, [], ◌∷◌, Some}
 use Rattle.std.specs.List.{list_all}
 use Rattle.std.proofs.lemmas.Bool.{and_parts}
-use Rattle.term_spec.specs.Term.{Term}
-use Rattle.term_spec.specs.Value.{Assignment, value}
-use Rattle.graph_spec.specs.declared.Next.{Next}
-use Rattle.graph_spec.specs.declared.Next.TheVariants.{Err}
-use Rattle.graph_spec.specs.Graph.{Binding, Node, Basic, Cond, Graphs}
-use Rattle.graph_spec.specs.Run.{Waiting, State, Running, Failed, step, go, act, bound, is_truth, system_of}
-use Rattle.walk_spec.specs.TransitionSystem.{TransitionSystem, after}
-use Rattle.walk_spec.proofs.Runs.{after-add}
+use Rattle.term_core_spec.specs.Term.{Term}
+use Rattle.term_core_spec.specs.Value.{Assignment, value}
+use Rattle.graph_core_spec.specs.declared.Next.{Next}
+use Rattle.graph_core_spec.specs.declared.Next.TheVariants.{Err}
+use Rattle.graph_core_spec.specs.Graph.{Binding, Node, Basic, Cond, Graphs}
+use Rattle.graph_core_spec.specs.Run.{Waiting, State, Running, Failed, step, go, act, bound, is_truth, system_of}
+use Rattle.graph_core_spec.specs.TransitionSystem.{TransitionSystem, after}
+use Rattle.graph_core_spec.proofs.Runs.{after-add}
 use Rattle.c_graph_laws.proofs.Occurs.{Comes, Tests}
 
 -- all of the tests hold

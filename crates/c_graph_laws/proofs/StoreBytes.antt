@@ -7,20 +7,20 @@ use Rattle.std.proofs.lemmas.Bool.{ne_eqb, cases_lt}
 use Rattle.std.proofs.lemmas.List.Elements.{All-weaker}
 use Rattle.memory_spec.specs.Runs.{Run}
 use Rattle.memory_spec.specs.Zones.{Zone}
-use Rattle.term_spec.specs.declared.Width.TheVariants.{W8, W16, W32}
-use Rattle.term_spec.specs.declared.WordOperator.TheVariants as word_op
-use Rattle.term_spec.specs.declared.Variable.{Variable}
-use Rattle.term_spec.specs.Term.{Term, constant, open_term, store, byte as byte_term}
-use Rattle.term_spec.specs.Shapes.{past, store_byte, store_half}
-use Rattle.term_spec.specs.Value.{Number, Bytes, Assignment, IsAssignment, value, operation, with_byte}
-use Rattle.term_spec.proofs.Sorts.{as_word}
-use Rattle.code_graph_laws.proofs.Values.{byte_evaluates, store_evaluates}
-use Rattle.c_type_spec.specs.declared.Scalar.{Scalar}
-use Rattle.c_type_spec.specs.Core.{Typed}
-use Rattle.c_meaning_spec.specs.declared.Guard.{Guard}
-use Rattle.c_meaning_spec.specs.declared.Guard.TheVariants.{FixedByte}
-use Rattle.c_meaning_spec.specs.Setting.{Setting}
-use Rattle.c_meaning_spec.specs.Accesses.{some_byte, size_of, write_guard}
+use Rattle.term_core_spec.specs.declared.Width.TheVariants.{W8, W16, W32}
+use Rattle.term_core_spec.specs.declared.WordOperator.TheVariants as word_op
+use Rattle.term_core_spec.specs.declared.Variable.{Variable}
+use Rattle.term_core_spec.specs.Term.{Term, constant, open_term, store, byte as byte_term}
+use Rattle.term_core_spec.specs.Shapes.{past, store_byte, store_half}
+use Rattle.term_core_spec.specs.Value.{Number, Bytes, Assignment, IsAssignment, value, operation, with_byte}
+use Rattle.term_core_spec.proofs.Sorts.{as_word}
+use Rattle.decompile_laws.proofs.Values.{byte_evaluates, store_evaluates}
+use Rattle.c_types_spec.specs.declared.Scalar.{Scalar}
+use Rattle.c_types_spec.specs.Core.{Typed}
+use Rattle.c_run_spec.specs.declared.Guard.{Guard}
+use Rattle.c_run_spec.specs.declared.Guard.TheVariants.{FixedByte}
+use Rattle.c_run_spec.specs.Setting.{Setting}
+use Rattle.c_run_spec.specs.Accesses.{some_byte, size_of, write_guard}
 use Rattle.c_graph_spec.specs.State.{width_of, zone_low, zone_high, memory}
 use Rattle.c_graph_spec.specs.Values.{Object, address_of, stored}
 use Rattle.c_graph_spec.specs.Guards.{Place, write_tests}

@@ -3,7 +3,7 @@ use Rattle.std.proofs.Common.{◌≡◌, ◌∙◌, inl, inr, ℕ, zero, suc, �
 use Rattle.std.specs.Prelude.{nat_lt, int_lt}
 use Rattle.std.proofs.lemmas.Bool.{lt-ltb, le-ltb, cases_lt}
 use Rattle.std.proofs.lemmas.Int.{ints}
-use Rattle.c_type_spec.specs.Values.{same_value, bits_of, of_bits}
+use Rattle.c_types_spec.specs.Values.{same_value, bits_of, of_bits}
 use Rattle.c_graph_laws.proofs.Extents.{scalar}
 use Rattle.c_graph_laws.proofs.Bits.{low_is, high_is}
 

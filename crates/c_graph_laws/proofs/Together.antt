@@ -3,15 +3,15 @@ use Rattle.std.proofs.Common.{◌≡◌, ◌∙◌, inl, inr, ℕ, suc, ◌+◌,
 use Rattle.std.proofs.lemmas.Bool.{cases_lt}
 use Rattle.memory_spec.specs.Memory.{Memory, byte_at}
 use Rattle.memory_spec.specs.Zones.{Zone}
-use Rattle.term_spec.specs.Value.{Bytes, Assignment}
-use Rattle.graph_spec.specs.Run.{State, Running, Returned, Failed, step, system_of}
-use Rattle.walk_spec.specs.TransitionSystem.{TransitionSystem, after}
-use Rattle.walk_spec.proofs.Runs.{after-add, still}
-use Rattle.c_type_spec.specs.Core.{Body, Typed}
-use Rattle.c_meaning_spec.specs.declared.Guard.{Guard}
-use Rattle.c_meaning_spec.specs.Execution.{Called}
-use Rattle.c_meaning_spec.specs.Calls.{More, Broke, Back, outcome_of, runs, c_run}
-use Rattle.pair_spec.specs.SourceReach.{itself}
+use Rattle.term_core_spec.specs.Value.{Bytes, Assignment}
+use Rattle.graph_core_spec.specs.Run.{State, Running, Returned, Failed, step, system_of}
+use Rattle.graph_core_spec.specs.TransitionSystem.{TransitionSystem, after}
+use Rattle.graph_core_spec.proofs.Runs.{after-add, still}
+use Rattle.c_types_spec.specs.Core.{Body, Typed}
+use Rattle.c_run_spec.specs.declared.Guard.{Guard}
+use Rattle.c_run_spec.specs.Execution.{Called}
+use Rattle.c_run_spec.specs.Calls.{More, Broke, Back, outcome_of, runs, c_run}
+use Rattle.pair_setup_spec.specs.SourceReach.{itself}
 use Rattle.c_graph_spec.specs.Guards.{Place}
 use Rattle.c_graph_spec.specs.SourceGraph.{body_number, graphs_of}
 use Rattle.c_graph_laws.specs.Together.{Gives, setting_at, IsStart, IsRunning, running, ReturnsAlike, RunTogether}

@@ -3,23 +3,23 @@ use Rattle.std.proofs.Common.{◌≡◌, ◌∙◌, ℕ, zero, suc, ◌+◌, ◌
 use Rattle.std.specs.Option.{option_map_or}
 use Rattle.std.proofs.lemmas.List.Elements.{All-nil, All-cons, All-append, All-head, All-tail}
 use Rattle.memory_spec.specs.Runs.{Run}
-use Rattle.term_spec.specs.declared.Width.TheVariants.{W32}
-use Rattle.term_spec.specs.declared.Sort.TheVariants as sort
-use Rattle.term_spec.specs.declared.Variable.{Variable}
-use Rattle.term_spec.specs.Term.{Term, truth, open_term, equal, less}
-use Rattle.term_spec.specs.Sort.{sort_of, sort_of_atom}
-use Rattle.graph_spec.specs.declared.Next.{Next}
-use Rattle.graph_spec.specs.declared.Next.TheVariants.{At, Ret, Err}
-use Rattle.graph_spec.specs.Graph.{Binding, Node, Basic, Cond, Graph, IsBinding, AreBindings, IsNext, IsNode, IsValid}
-use Rattle.graph_spec.specs.Graph as graph
-use Rattle.c_spec.specs.Words.{entry_of}
-use Rattle.c_type_spec.specs.declared.Scalar.{Scalar}
-use Rattle.c_type_spec.specs.declared.TestPlace.TheVariants.{Before, After}
-use Rattle.c_type_spec.specs.declared.Jump.TheVariants.{Break, Continue}
-use Rattle.c_type_spec.specs.Types.{int, word}
-use Rattle.c_type_spec.specs.Core.{Core, FunctionType, Body, Typed, Action, Skip, Sequence, Evaluate, Set, Unset, Store, Call, If, Loop, Leave, Switch, Return, MissingReturn, Groups, no_groups, groups, type_of}
-use Rattle.c_type_spec.specs.HasType as typed
-use Rattle.c_type_spec.specs.HasType.{HasType, HaveTypes, IsTyped, AreTyped, IsTypedBody, IsTypedUnit, Receives, scope_of}
+use Rattle.term_core_spec.specs.declared.Width.TheVariants.{W32}
+use Rattle.term_core_spec.specs.declared.Sort.TheVariants as sort
+use Rattle.term_core_spec.specs.declared.Variable.{Variable}
+use Rattle.term_core_spec.specs.Term.{Term, truth, open_term, equal, less}
+use Rattle.term_core_spec.specs.Sort.{sort_of, sort_of_atom}
+use Rattle.graph_core_spec.specs.declared.Next.{Next}
+use Rattle.graph_core_spec.specs.declared.Next.TheVariants.{At, Ret, Err}
+use Rattle.graph_core_spec.specs.Graph.{Binding, Node, Basic, Cond, Graph, IsBinding, AreBindings, IsNext, IsNode, IsValid}
+use Rattle.graph_core_spec.specs.Graph as graph
+use Rattle.c_token_spec.specs.Words.{entry_of}
+use Rattle.c_types_spec.specs.declared.Scalar.{Scalar}
+use Rattle.c_types_spec.specs.declared.TestPlace.TheVariants.{Before, After}
+use Rattle.c_types_spec.specs.declared.Jump.TheVariants.{Break, Continue}
+use Rattle.c_types_spec.specs.Types.{int, word}
+use Rattle.c_types_spec.specs.Core.{Core, FunctionType, Body, Typed, Action, Skip, Sequence, Evaluate, Set, Unset, Store, Call, If, Loop, Leave, Switch, Return, MissingReturn, Groups, no_groups, groups, type_of}
+use Rattle.c_types_spec.specs.HasType as typed
+use Rattle.c_types_spec.specs.HasType.{HasType, HaveTypes, IsTyped, AreTyped, IsTypedBody, IsTypedUnit, Receives, scope_of}
 use Rattle.c_graph_spec.specs.State.{width_of, local, is_set, memory, zone_low, zone_high, result, number, value_constant}
 use Rattle.c_graph_spec.specs.Values.{Object, object, no_object, address_of, at_width, terms, value_term}
 use Rattle.c_graph_spec.specs.Guards.{Place, tests, read_tests, write_tests, avoids_run, avoids_fixed, last_byte}
@@ -29,6 +29,7 @@ use Rattle.c_graph_spec.specs.Layout.{Setting, Exits, exits, value_in, truth_in,
 use Rattle.c_graph_spec.specs.SourceGraph.{setting_of, void_function, graph_of, graphs_of}
 use Rattle.c_graph_laws.specs.Together.{IsPlace}
 use Rattle.c_graph_laws.proofs.Lengths.{nodes_long, all_cases_long}
+use Rattle.c_graph_laws.proofs.Conjunctions.{conjunction_all}
 use Rattle.c_graph_laws.proofs.Sorted.{IsTest, IsOf, Is32, one, and_sorted, or_sorted, less_sorted, equal_sorted, words_sorted, number_sorted, at_width_sorted, address_sorted, read_tests_sorted, stored_sorted}
 use Rattle.c_graph_laws.proofs.ExpressionSorts.{type_is, plain_is, sorted, AreSorted, constant_value_sorted}
 use Rattle.c_graph_laws.proofs.Expressions.{global_small}
@@ -193,16 +194,20 @@ module _ (unit : Typed) (p : Place) (placed : IsPlace p) (extents : UnitExtents 
   abbrev IsRun : Run → Type 0
   IsRun r = (0 < length r.bytes) × (r.start + length r.bytes ≤ 2 ^ 32)
 
-  fixed_sorted : (x y : Term) → Is32 x → Is32 y → (runs : List Run) → All IsRun runs → IsTest (avoids_fixed x y runs)
-  unfolding avoids_fixed
-  fixed_sorted x y ex ey [] are = truth_sorted true
-  fixed_sorted x y ex ey (run ∷ rest) are =
-      let is = All-head IsRun run rest are in
-      and_sorted (avoids_run x y run) (avoids_fixed x y rest)
-      (or_sorted (less (number (run.start + length run.bytes - 1)) x) (less y (number run.start))
+  run_sorted : (x y : Term) → Is32 x → Is32 y → (run : Run) → IsRun run → IsTest (avoids_run x y run)
+  run_sorted x y ex ey run is =
+      or_sorted (less (number (run.start + length run.bytes - 1)) x) (less y (number run.start))
       (less_sorted W32 (number (run.start + length run.bytes - 1)) x (number_sorted (run.start + length run.bytes - 1) (omega (arith, is.0, is.1))) ex)
-      (less_sorted W32 y (number run.start) ey (number_sorted run.start (omega (arith, is.0, is.1)))))
-      (fixed_sorted x y ex ey rest (All-tail IsRun run rest are))
+      (less_sorted W32 y (number run.start) ey (number_sorted run.start (omega (arith, is.0, is.1))))
+
+  runs_sorted : (x y : Term) → Is32 x → Is32 y → (runs : List Run) → All IsRun runs → All IsTest (map (avoids_run x y) runs)
+  runs_sorted x y ex ey [] are = All-nil IsTest
+  runs_sorted x y ex ey (run ∷ rest) are =
+      All-cons IsTest (avoids_run x y run) (map (avoids_run x y) rest) (run_sorted x y ex ey run (All-head IsRun run rest are))
+      (runs_sorted x y ex ey rest (All-tail IsRun run rest are))
+
+  fixed_sorted : (x y : Term) → Is32 x → Is32 y → (runs : List Run) → All IsRun runs → IsTest (avoids_fixed x y runs)
+  fixed_sorted x y ex ey runs are = conjunction_all IsTest (truth_sorted true) and_sorted (map (avoids_run x y) runs) (runs_sorted x y ex ey runs are)
 
   store_sorted : (t : Scalar) (address : Core) (displacement : ℕ) (x : Core) (offset : ℕ) → HasType (scope_of unit body) None address word → HasType (scope_of unit body) (Some t) x t
       → ActionExtents (Store t address displacement x offset) → All IsTest (store_tests f t address displacement x) × (sort_of (memory_stored f t address displacement x) ≡ Some sort.Memory)

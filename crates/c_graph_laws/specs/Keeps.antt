@@ -1,13 +1,13 @@
 -- What the graphs of C keep: the bytes that no store may change, at every step, and the ends of the zone.
 use Rattle.std.specs.Prelude.{◌≡◌, ◌≢◌, ℕ, ◌^◌, ◌<◌, true, List, [], All, Option, Some, is_some}
 use Rattle.memory_spec.specs.Runs.{fixed_byte}
-use Rattle.term_spec.specs.Value.{Assignment, IsAssignment}
-use Rattle.graph_spec.specs.Graph.{Binding, Node, node_at}
-use Rattle.graph_spec.specs.Variables.{own_bindings}
-use Rattle.graph_spec.specs.Run.{Running}
-use Rattle.graph_spec.specs.Fixed.{has_byte, AlwaysHoldsFixed}
-use Rattle.c_type_spec.specs.Core.{Typed}
-use Rattle.c_type_spec.specs.HasType.{IsTypedUnit}
+use Rattle.term_core_spec.specs.Value.{Assignment, IsAssignment}
+use Rattle.graph_core_spec.specs.Graph.{Binding, Node, node_at}
+use Rattle.graph_core_spec.specs.Variables.{own_bindings}
+use Rattle.graph_core_spec.specs.Run.{Running}
+use Rattle.graph_core_spec.specs.Fixed.{has_byte, AlwaysHoldsFixed}
+use Rattle.c_types_spec.specs.Core.{Typed}
+use Rattle.c_types_spec.specs.HasType.{IsTypedUnit}
 use Rattle.c_graph_spec.specs.State.{memory, zone_low, zone_high}
 use Rattle.c_graph_spec.specs.Guards.{Place}
 use Rattle.c_graph_spec.specs.Sizes.{UnitSizes}

@@ -2,13 +2,13 @@
 use Rattle.std.specs.Prelude.{◌≡◌, ℕ, ℤ, IsSome, List, All, Some, Ok}
 use Rattle.memory_spec.specs.Memory.{Memory}
 use Rattle.memory_spec.specs.Zones.{Zone}
-use Rattle.term_spec.specs.Value.{Assignment}
-use Rattle.graph_spec.specs.Graph.{IsValid}
-use Rattle.c_tree_spec.specs.Unit.{TranslationUnit}
-use Rattle.c_type_spec.specs.Core.{Body, Typed}
-use Rattle.c_type_spec.specs.Units.{typed}
-use Rattle.c_meaning_spec.specs.Calls.{locals_at_entry, body_named}
-use Rattle.pair_spec.specs.SourceReach.{Reaches}
+use Rattle.term_core_spec.specs.Value.{Assignment}
+use Rattle.graph_core_spec.specs.Graph.{IsValid}
+use Rattle.c_syntax_spec.specs.Unit.{TranslationUnit}
+use Rattle.c_types_spec.specs.Core.{Body, Typed}
+use Rattle.c_types_spec.specs.Units.{typed}
+use Rattle.c_run_spec.specs.Calls.{locals_at_entry, body_named}
+use Rattle.pair_setup_spec.specs.SourceReach.{Reaches}
 use Rattle.c_graph_spec.specs.Guards.{Place}
 use Rattle.c_graph_spec.specs.SourceGraph.{graphs_of}
 use Rattle.c_graph_laws.specs.Together.{IsPlace, Alike, RunTogether}

@@ -1,21 +1,21 @@
 -- Small functions as typed cores, and the nodes of their graphs, counted by hand. Offsets are 0 where no fact speaks of
 -- them.
 use Rattle.std.specs.Prelude.{ℕ, ℤ, pos, negsuc, true, false, List, [], ◌∷◌, codes, Some, None}
-use Rattle.term_spec.specs.declared.Width.TheVariants.{W8, W32}
-use Rattle.term_spec.specs.Term.{Term, truth, open_term, not_term, and_term, or_term, equal, less, add, bit_and, choose, store, byte as byte_of, zero_extend, low}
-use Rattle.term_spec.specs.Shapes.{signed_quotient}
-use Rattle.graph_spec.specs.declared.Next.TheVariants.{At, Ret, Err}
-use Rattle.graph_spec.specs.Graph.{Node, Basic, Cond, Call}
-use Rattle.proof_spec.specs.declared.Place.{Place as Point}
-use Rattle.proof_spec.specs.declared.Place.TheVariants as point
-use Rattle.c_type_spec.specs.declared.Scalar.{Scalar}
-use Rattle.c_type_spec.specs.declared.Arithmetic.TheVariants as arithmetic
-use Rattle.c_type_spec.specs.declared.Comparison.TheVariants as comparison
-use Rattle.c_type_spec.specs.declared.TestPlace.TheVariants.{Before, After}
-use Rattle.c_type_spec.specs.declared.Jump.TheVariants.{Break, Continue}
-use Rattle.c_type_spec.specs.Types.{int, word}
-use Rattle.c_type_spec.specs.Core.{Core, Body, Typed, FunctionType}
-use Rattle.c_type_spec.specs.Core as core
+use Rattle.term_core_spec.specs.declared.Width.TheVariants.{W8, W32}
+use Rattle.term_core_spec.specs.Term.{Term, truth, open_term, not_term, and_term, or_term, equal, less, add, bit_and, choose, store, byte as byte_of, zero_extend, low}
+use Rattle.term_core_spec.specs.Shapes.{signed_quotient}
+use Rattle.graph_core_spec.specs.declared.Next.TheVariants.{At, Ret, Err}
+use Rattle.graph_core_spec.specs.Graph.{Node, Basic, Cond, Call}
+use Rattle.proof_tree_spec.specs.declared.Place.{Place as Point}
+use Rattle.proof_tree_spec.specs.declared.Place.TheVariants as point
+use Rattle.c_types_spec.specs.declared.Scalar.{Scalar}
+use Rattle.c_types_spec.specs.declared.Arithmetic.TheVariants as arithmetic
+use Rattle.c_types_spec.specs.declared.Comparison.TheVariants as comparison
+use Rattle.c_types_spec.specs.declared.TestPlace.TheVariants.{Before, After}
+use Rattle.c_types_spec.specs.declared.Jump.TheVariants.{Break, Continue}
+use Rattle.c_types_spec.specs.Types.{int, word}
+use Rattle.c_types_spec.specs.Core.{Core, Body, Typed, FunctionType}
+use Rattle.c_types_spec.specs.Core as core
 use Rattle.c_graph_spec.specs.State.{local, is_set, memory, zone_low, zone_high, result, number}
 use Rattle.c_graph_spec.specs.Guards.{Place, sum_fits}
 use Rattle.c_graph_spec.specs.Layout.{binding}
@@ -30,6 +30,7 @@ body parameters locals action = record {
   locals = locals;
   loops = 0;
   calls = 0;
+  mentions = [];
   action = action;
 }
 
@@ -226,7 +227,7 @@ store_nodes =
     ∷ tests (and_term (and_term (not_term (equal at_pointer (number 0))) (equal (bit_and at_pointer (number 3)) (number 0))) (not_term (less at_pointer v_pointer))) 3
     ∷ tests (or_term (not_term (less (open_term zone_low) (open_term zone_high)))
     (or_term (less (add at_pointer (number 3)) (open_term zone_low)) (not_term (less at_pointer (open_term zone_high))))) 4
-    ∷ tests (and_term (or_term (less (number 4098) at_pointer) (less (add at_pointer (number 3)) (number 4096))) (truth true)) 5
+    ∷ tests (or_term (less (number 4098) at_pointer) (less (add at_pointer (number 3)) (number 4096))) 5
     ∷ Basic (binding memory
     (store (store (store (store (open_term memory) at_pointer (byte_of 0 (number 7))) (add at_pointer (number 1)) (byte_of 1 (number 7)))
     (add at_pointer (number 2)) (byte_of 2 (number 7))) (add at_pointer (number 3)) (byte_of 3 (number 7))) ∷ []) Ret

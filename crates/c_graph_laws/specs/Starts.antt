@@ -2,12 +2,12 @@
 use Rattle.std.specs.Prelude.{ℕ, ◌^◌, ◌<◌, ℤ, List, [], ◌∷◌, IsTrue, Contains}
 use Rattle.memory_spec.specs.Memory.{Memory, byte_at}
 use Rattle.memory_spec.specs.Zones.{Zone}
-use Rattle.term_spec.specs.Value.{Assignment}
-use Rattle.c_type_spec.specs.declared.Scalar.{Scalar}
-use Rattle.c_type_spec.specs.Values.{is_of}
-use Rattle.c_type_spec.specs.Core.{Body, Typed}
-use Rattle.c_type_spec.specs.HasType.{IsTypedUnit}
-use Rattle.c_meaning_spec.specs.Calls.{locals_at_entry}
+use Rattle.term_core_spec.specs.Value.{Assignment}
+use Rattle.c_types_spec.specs.declared.Scalar.{Scalar}
+use Rattle.c_types_spec.specs.Values.{is_of}
+use Rattle.c_types_spec.specs.Core.{Body, Typed}
+use Rattle.c_types_spec.specs.HasType.{IsTypedUnit}
+use Rattle.c_run_spec.specs.Calls.{locals_at_entry}
 use Rattle.c_graph_laws.specs.Together.{Alike}
 
 -- as many values as types, each of its type

@@ -3,20 +3,20 @@ use Rattle.std.specs.Prelude.{◌≡◌, ℕ, ◌+◌, ◌^◌, ◌<◌, ◌≤�
 use Rattle.memory_spec.specs.Memory.{Memory, byte_at}
 use Rattle.memory_spec.specs.Zones.{Zone}
 use Rattle.memory_spec.specs.Runs.{Run, fixed_byte}
-use Rattle.term_spec.specs.declared.Variable.{Variable}
-use Rattle.term_spec.specs.declared.Width.TheVariants.{W32}
-use Rattle.term_spec.specs.Value.{Truth, Number, Bytes, Assignment, IsAssignment}
-use Rattle.graph_spec.specs.Run.{Waiting, State, Running, Returned, Failed, system_of}
-use Rattle.walk_spec.specs.TransitionSystem.{after}
-use Rattle.c_type_spec.specs.declared.Scalar.{Scalar}
-use Rattle.c_type_spec.specs.Values.{of_bits}
-use Rattle.c_type_spec.specs.Core.{Body, Typed}
-use Rattle.c_type_spec.specs.HasType.{IsTypedUnit}
-use Rattle.c_meaning_spec.specs.declared.Guard.{Guard}
-use Rattle.c_meaning_spec.specs.Setting.{Setting}
-use Rattle.c_meaning_spec.specs.Evaluation.{Locals}
-use Rattle.c_meaning_spec.specs.Calls.{More, Broke, Back, locals_at_entry, body_named, c_run}
-use Rattle.pair_spec.specs.SourceReach.{Reaches}
+use Rattle.term_core_spec.specs.declared.Variable.{Variable}
+use Rattle.term_core_spec.specs.declared.Width.TheVariants.{W32}
+use Rattle.term_core_spec.specs.Value.{Truth, Number, Bytes, Assignment, IsAssignment}
+use Rattle.graph_core_spec.specs.Run.{Waiting, State, Running, Returned, Failed, system_of}
+use Rattle.graph_core_spec.specs.TransitionSystem.{after}
+use Rattle.c_types_spec.specs.declared.Scalar.{Scalar}
+use Rattle.c_types_spec.specs.Values.{of_bits}
+use Rattle.c_types_spec.specs.Core.{Body, Typed}
+use Rattle.c_types_spec.specs.HasType.{IsTypedUnit}
+use Rattle.c_run_spec.specs.declared.Guard.{Guard}
+use Rattle.c_run_spec.specs.Setting.{Setting}
+use Rattle.c_run_spec.specs.Evaluation.{Locals}
+use Rattle.c_run_spec.specs.Calls.{More, Broke, Back, locals_at_entry, body_named, c_run}
+use Rattle.pair_setup_spec.specs.SourceReach.{Reaches}
 use Rattle.c_graph_spec.specs.State.{width_of, local, is_set, memory, zone_low, zone_high, result}
 use Rattle.c_graph_spec.specs.Sizes.{UnitSizes}
 use Rattle.c_graph_spec.specs.Guards.{Place}

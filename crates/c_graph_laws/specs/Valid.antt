@@ -1,8 +1,8 @@
 -- What it means that the graphs of a unit are valid.
 use Rattle.std.specs.Prelude.{All}
-use Rattle.graph_spec.specs.Graph.{IsValid}
-use Rattle.c_type_spec.specs.Core.{Typed}
-use Rattle.c_type_spec.specs.HasType.{IsTypedUnit}
+use Rattle.graph_core_spec.specs.Graph.{IsValid}
+use Rattle.c_types_spec.specs.Core.{Typed}
+use Rattle.c_types_spec.specs.HasType.{IsTypedUnit}
 use Rattle.c_graph_spec.specs.Guards.{Place}
 use Rattle.c_graph_spec.specs.Sizes.{UnitSizes}
 use Rattle.c_graph_spec.specs.SourceGraph.{graphs_of}

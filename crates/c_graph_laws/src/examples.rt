@@ -1,6 +1,8 @@
 //! Graphs of small functions, node by node, counted by hand.
 
-ghost use Rattle.std.specs.Prelude.{◌≡◌};
+ghost use Rattle.std.specs.Prelude.{◌≡◌, ◌∷◌, []};
+ghost use Rattle.term_core_spec.specs.Term.{Term, and_term};
+ghost use Rattle.c_graph_spec.specs.Guards as guards;
 ghost use Rattle.c_graph_laws.specs.Samples.{nodes, points, straight, straight_nodes};
 ghost use Rattle.c_graph_laws.specs.Samples.{choice, choice_nodes, while_loop, while_nodes};
 ghost use Rattle.c_graph_laws.specs.Samples.{while_points, for_loop, for_nodes, do_loop};
@@ -36,6 +38,13 @@ pub fn an_arm_is_tested_where_it_is_taken()
 /// A store through a pointer tests the access, then the zone, then the fixed bytes.
 pub fn a_store_is_tested()
     ensures { nodes store_body ≡ store_nodes }
+{}
+
+/// The test of the fixed bytes is a conjunction by halves, so it nests only as deep as the number of
+/// runs can be halved.
+pub fn a_conjunction_is_by_halves()
+    ensures { (s t u v w : Term) → guards.conjunction (s ∷ t ∷ u ∷ v ∷ w ∷ [])
+        ≡ and_term (and_term s t) (and_term u (and_term v w)) }
 {}
 
 /// A call binds the parameters, which are set, and the zone; its result is converted to the local

@@ -1,7 +1,7 @@
 //! The law that a C function and its graph run together.
 //!
 //! `specs/Together.antt` says when variables have what a C run has, and what it is that both runs
-//! end alike. The graphs are those of `c_graph_spec`, the runs of C those of `c_meaning_spec`.
+//! end alike. The graphs are those of `c_graph_spec`, the runs of C those of `c_run_spec`.
 
 ghost use Rattle.c_graph_laws.specs.Together.{RunsTogether};
 ghost use Rattle.c_graph_laws.specs.Starts.{StartsExist};

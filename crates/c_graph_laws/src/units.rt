@@ -1,7 +1,7 @@
 //! The laws of graphs for each unit that has a typed core: nothing is asked of the core.
 
-ghost use Rattle.c_tree_spec.specs.Unit.{TranslationUnit};
-ghost use Rattle.c_type_spec.specs.Core.{Typed};
+ghost use Rattle.c_syntax_spec.specs.Unit.{TranslationUnit};
+ghost use Rattle.c_types_spec.specs.Core.{Typed};
 ghost use Rattle.c_graph_laws.specs.OfUnits.{CallsRunTogether, HasValidGraphs};
 
 /// Each function of a unit that has a typed core runs as its graphs do.

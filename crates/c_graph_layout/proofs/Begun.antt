@@ -2,12 +2,12 @@
 use Rattle.std.proofs.Common.{◌≡◌, ◌∙◌, ℕ, suc, ◌+◌, ◌<◌, ◌≤◌, Bool, false, ◌||◌, if◌then◌else◌, List, [], ◌∷◌, length, map, drop, get_or, Option, Some, None, refl, sym, ap, arith, drop-cons}
 use Rattle.std.specs.Prelude.{ℤ}
 use Rattle.std.proofs.lemmas.List.{drop_all}
-use Rattle.graph_spec.specs.declared.Next.{Next}
-use Rattle.c_type_spec.specs.Core as tree
-use Rattle.c_type_spec.specs.Core.{Core, sequence}
-use Rattle.c_core.specs.declared.action.Action.{Action}
-use Rattle.c_core.specs.declared.action.Group.{Group, out-Group}
-use Rattle.c_core.specs.Actions.{action_of}
+use Rattle.graph_core_spec.specs.declared.Next.{Next}
+use Rattle.c_types_spec.specs.Core as tree
+use Rattle.c_types_spec.specs.Core.{Core, sequence}
+use Rattle.c_types_core.specs.declared.action.Action.{Action}
+use Rattle.c_types_core.specs.declared.action.Group.{Group, out-Group}
+use Rattle.c_types_core.specs.Actions.{action_of}
 use Rattle.c_graph_spec.specs.Layout as spec
 use Rattle.c_graph_spec.specs.Layout.{Setting, Exits, exits}
 use Rattle.c_graph_layout.specs.Lists.{block_of, groups_of}

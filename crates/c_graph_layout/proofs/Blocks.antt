@@ -4,14 +4,14 @@ use Rattle.std.specs.Prelude.{ℤ, is_some}
 use Rattle.std.specs.declared.alloc.Global.{Global}
 use Rattle.std.specs.declared.boxed.Box.{Box}
 use Rattle.std.proofs.lemmas.List.{drop_all}
-use Rattle.graph_spec.specs.declared.Next.TheVariants.{Ret}
-use Rattle.c_type_spec.specs.Core as tree
-use Rattle.c_type_spec.specs.Core.{Sequence, sequence}
-use Rattle.c_core.specs.Expressions.{core_of}
-use Rattle.c_core.specs.declared.expression.Core.{Core}
-use Rattle.c_core.specs.declared.action.Action.{Action}
-use Rattle.c_core.specs.declared.action.Group.{Group, out-Group, fold_out-Group}
-use Rattle.c_core.specs.Actions.{Grouped, action_of, group_of, action_step, group_step}
+use Rattle.graph_core_spec.specs.declared.Next.TheVariants.{Ret}
+use Rattle.c_types_spec.specs.Core as tree
+use Rattle.c_types_spec.specs.Core.{Sequence, sequence}
+use Rattle.c_types_core.specs.Expressions.{core_of}
+use Rattle.c_types_core.specs.declared.expression.Core.{Core}
+use Rattle.c_types_core.specs.declared.action.Action.{Action}
+use Rattle.c_types_core.specs.declared.action.Group.{Group, out-Group, fold_out-Group}
+use Rattle.c_types_core.specs.Actions.{Grouped, action_of, group_of, action_step, group_step}
 use Rattle.c_graph_spec.specs.Layout.{cases_to, case_count}
 use Rattle.c_graph_layout.specs.Counts.{test_count, argument_count, size_of, groups_size_of}
 use Rattle.c_graph_layout.specs.Lists.{cores_of, block_of, groups_of}

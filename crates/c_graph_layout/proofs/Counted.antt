@@ -1,13 +1,13 @@
 -- Tests and nodes are as many as is counted.
 use Rattle.std.proofs.Common.{◌≡◌, ◌∙◌, ℕ, ◌+◌, suc, Bool, true, false, if◌then◌else◌, List, [], ◌∷◌, ◌++◌, length, map, Some, None, refl, ap, ap₂, arith, length-append}
-use Rattle.term_spec.specs.Term.{Term, not_term}
-use Rattle.c_type_spec.specs.declared.Scalar.{Scalar}
-use Rattle.c_type_spec.specs.declared.Arithmetic.{Arithmetic}
-use Rattle.c_type_spec.specs.declared.Arithmetic.TheVariants as arithmetic
-use Rattle.c_type_spec.specs.declared.Order.{Order}
-use Rattle.c_type_spec.specs.declared.Order.TheVariants.{PointerFirst, IndexFirst}
-use Rattle.c_type_spec.specs.declared.TestPlace.TheVariants.{Before, After}
-use Rattle.c_type_spec.specs.Core.{Core, Constant, ReadLocal, GlobalAddress, Load, Target, Convert, Operate, Compare, Move, Within, Aligned, Choose, type_of, Action, Skip, Sequence, Evaluate, Set, Unset, Store, Call, If, Loop, Leave, Switch, Return, MissingReturn, Groups, no_groups, groups}
+use Rattle.term_core_spec.specs.Term.{Term, not_term}
+use Rattle.c_types_spec.specs.declared.Scalar.{Scalar}
+use Rattle.c_types_spec.specs.declared.Arithmetic.{Arithmetic}
+use Rattle.c_types_spec.specs.declared.Arithmetic.TheVariants as arithmetic
+use Rattle.c_types_spec.specs.declared.Order.{Order}
+use Rattle.c_types_spec.specs.declared.Order.TheVariants.{PointerFirst, IndexFirst}
+use Rattle.c_types_spec.specs.declared.TestPlace.TheVariants.{Before, After}
+use Rattle.c_types_spec.specs.Core.{Core, Constant, ReadLocal, GlobalAddress, Load, Target, Convert, Operate, Compare, Move, Within, Aligned, Choose, type_of, Action, Skip, Sequence, Evaluate, Set, Unset, Store, Call, If, Loop, Leave, Switch, Return, MissingReturn, Groups, no_groups, groups}
 use Rattle.c_graph_spec.specs.Values.{Globals, Object, object, no_object, terms}
 use Rattle.c_graph_spec.specs.Guards.{tests, operator_tests, in_order, under, write_tests}
 use Rattle.c_graph_spec.specs.Layout.{Setting, argument_tests, case_count, store_tests, value_in}

@@ -1,19 +1,19 @@
 //! How many nodes statements have.
 
 ghost use Rattle.std.specs.Prelude.{◌≡◌, ◌+◌, IfOk, if◌then◌else◌, is_some, length};
-ghost use Rattle.c_core.specs.Expressions.{core_of};
-ghost use Rattle.c_core.specs.Actions.{action_of, core_in};
-ghost use Rattle.c_type_spec.specs.Core as tree;
-ghost use Rattle.graph_spec.specs.declared.Next.TheVariants as next;
+ghost use Rattle.c_types_core.specs.Expressions.{core_of};
+ghost use Rattle.c_types_core.specs.Actions.{action_of, core_in};
+ghost use Rattle.c_types_spec.specs.Core as tree;
+ghost use Rattle.graph_core_spec.specs.declared.Next.TheVariants as next;
 ghost use Rattle.c_graph_spec.specs.Layout as spec;
 ghost use Rattle.c_graph_spec.specs.Layout.{Setting};
 ghost use Rattle.c_graph_layout.specs.Counts as counts;
 ghost use Rattle.c_graph_layout.specs.Lists.{block_of, cores_of, groups_of};
 
 use attempt::attempt;
-use c_core::action::{Action, Group};
-use c_core::expression::Core;
-use c_type_spec::{Arithmetic, Scalar, TestPlace};
+use c_types_core::action::{Action, Group};
+use c_types_core::expression::Core;
+use c_types_spec::{Arithmetic, Scalar, TestPlace};
 use std::alloc::AllocError;
 
 /// A sum, or out of memory where it is more than can be counted.
@@ -43,7 +43,7 @@ fn operator_count(operator: Arithmetic, of: Scalar) -> usize
 }
 
 /// So many tests, and those of an expression.
-#[tactic(auto, using(c_core::proofs::Views::views), unfolding(crate::specs::Counts::test_count))]
+#[tactic(auto, using(c_types_core::proofs::Views::views), unfolding(crate::specs::Counts::test_count))]
 fn with_tests(x: &Core<'_>, n: usize) -> Result<usize, AllocError>
     ensures { IfOk result (λ m. m ≡ n + counts.test_count (core_of x.now)) }
 {
@@ -134,7 +134,7 @@ pub fn with_cases(groups: &[Group<'_>], n: usize) -> Result<usize, AllocError>
 }
 
 /// So many nodes, and those of the end of a call.
-#[tactic(auto, using(c_core::proofs::ActionViews::action_views), unfolding(crate::specs::Counts::size_of))]
+#[tactic(auto, using(c_types_core::proofs::ActionViews::action_views), unfolding(crate::specs::Counts::size_of))]
 fn with_value(value: &Option<Box<Core<'_>>>, n: usize) -> Result<usize, AllocError>
     ensures { IfOk result (λ m. m ≡ n + counts.size_of (tree.Return (core_in value.now))) }
 {
@@ -149,7 +149,7 @@ fn with_value(value: &Option<Box<Core<'_>>>, n: usize) -> Result<usize, AllocErr
 
 /// So many nodes, and those of a statement.
 #[cycle(sizes)]
-#[tactic(auto, using(c_core::proofs::ActionViews::action_views), unfolding(crate::specs::Counts::size_of))]
+#[tactic(auto, using(c_types_core::proofs::ActionViews::action_views), unfolding(crate::specs::Counts::size_of))]
 fn with_size(action: &Action<'_>, n: usize) -> Result<usize, AllocError>
     ensures { IfOk result (λ m. m ≡ n + counts.size_of (action_of action.now)) }
 {

@@ -1,9 +1,9 @@
 //! Where statements begin.
 
 ghost use Rattle.std.specs.Prelude.{◌≡◌, IfOk, ℕ};
-ghost use Rattle.c_core.specs.Actions.{action_of, core_in};
-ghost use Rattle.c_type_spec.specs.Core as tree;
-ghost use Rattle.graph_spec.specs.declared.Next as next;
+ghost use Rattle.c_types_core.specs.Actions.{action_of, core_in};
+ghost use Rattle.c_types_spec.specs.Core as tree;
+ghost use Rattle.graph_core_spec.specs.declared.Next as next;
 ghost use Rattle.c_graph_spec.specs.Layout as spec;
 ghost use Rattle.c_graph_spec.specs.Layout.{Setting};
 ghost use Rattle.c_graph_layout.specs.Exits.{exits_of};
@@ -11,10 +11,10 @@ ghost use Rattle.c_graph_layout.specs.Lists.{block_of, groups_of};
 
 use crate::counts::{count, size, sum, with_cases, with_sizes};
 use attempt::attempt;
-use c_core::action::{Action, Group};
-use c_core::expression::Core;
-use c_type_spec::Jump;
-use graph_spec::Next;
+use c_types_core::action::{Action, Group};
+use c_types_core::expression::Core;
+use c_types_spec::Jump;
+use graph_core_spec::Next;
 use std::alloc::AllocError;
 
 /// Where `break` and `continue` go on.
@@ -81,7 +81,7 @@ fn end(value: &Option<Box<Core<'_>>>, at: usize) -> Next
 
 /// Where a statement begins whose nodes have the numbers from `at` on.
 #[cycle(entries)]
-#[tactic(auto, using(c_core::proofs::ActionViews::action_views), unfolding(c_graph_spec::specs::Layout::entry, c_graph_spec::specs::Layout::otherwise))]
+#[tactic(auto, using(c_types_core::proofs::ActionViews::action_views), unfolding(c_graph_spec::specs::Layout::entry, c_graph_spec::specs::Layout::otherwise))]
 pub fn entry(action: &Action<'_>, at: usize, to: Next, exits: Exits) -> Result<Next, AllocError>
     ensures { (f : Setting) → IfOk result (λ next. next
         ≡ spec.entry f (action_of action.now) at to (exits_of exits)) }

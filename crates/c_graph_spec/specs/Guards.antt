@@ -1,19 +1,19 @@
 -- The tests of the guards that an expression may break, in the order in which a run evaluates them: each holds where its
 -- guard is not broken. An arm of `&&`, `||` or `?:` is tested only where it is taken.
-use Rattle.std.specs.Prelude.{ℕ, ◌+◌, ◌-◌, ◌/◌, ◌^◌, true, if◌then◌else◌, List, [], ◌∷◌, ◌++◌, length, map}
+use Rattle.std.specs.Prelude.{ℕ, zero, suc, ◌+◌, ◌-◌, ◌/◌, ◌^◌, true, if◌then◌else◌, List, [], ◌∷◌, ◌++◌, length, map, take, drop}
 use Rattle.memory_spec.specs.Runs.{Run}
-use Rattle.term_spec.specs.declared.Width.{Width}
-use Rattle.term_spec.specs.declared.Width.TheVariants.{W32, W64}
-use Rattle.term_spec.specs.Term.{Term, truth, constant, open_term, not_term, and_term, or_term, equal, less, add, subtract, multiply, bit_and, zero_extend, sign_extend}
-use Rattle.term_spec.specs.Sort.{bits}
-use Rattle.term_spec.specs.Shapes.{sign_bit, signed_less}
-use Rattle.c_type_spec.specs.declared.Scalar.{Scalar}
-use Rattle.c_type_spec.specs.declared.Arithmetic.{Arithmetic}
-use Rattle.c_type_spec.specs.declared.Arithmetic.TheVariants as arithmetic
-use Rattle.c_type_spec.specs.declared.Direction.{Direction}
-use Rattle.c_type_spec.specs.declared.Order.{Order}
-use Rattle.c_type_spec.specs.declared.Order.TheVariants.{PointerFirst, IndexFirst}
-use Rattle.c_type_spec.specs.Core.{Core, Constant, ReadLocal, GlobalAddress, Load, Target, Convert, Operate, Compare, Move, Within, Aligned, Choose, type_of}
+use Rattle.term_core_spec.specs.declared.Width.{Width}
+use Rattle.term_core_spec.specs.declared.Width.TheVariants.{W32, W64}
+use Rattle.term_core_spec.specs.Term.{Term, truth, constant, open_term, not_term, and_term, or_term, equal, less, add, subtract, multiply, bit_and, zero_extend, sign_extend}
+use Rattle.term_core_spec.specs.Sort.{bits}
+use Rattle.term_core_spec.specs.Shapes.{sign_bit, signed_less}
+use Rattle.c_types_spec.specs.declared.Scalar.{Scalar}
+use Rattle.c_types_spec.specs.declared.Arithmetic.{Arithmetic}
+use Rattle.c_types_spec.specs.declared.Arithmetic.TheVariants as arithmetic
+use Rattle.c_types_spec.specs.declared.Direction.{Direction}
+use Rattle.c_types_spec.specs.declared.Order.{Order}
+use Rattle.c_types_spec.specs.declared.Order.TheVariants.{PointerFirst, IndexFirst}
+use Rattle.c_types_spec.specs.Core.{Core, Constant, ReadLocal, GlobalAddress, Load, Target, Convert, Operate, Compare, Move, Within, Aligned, Choose, type_of}
 use Rattle.c_graph_spec.specs.State.{width_of, is_set, zone_low, zone_high, number}
 use Rattle.c_graph_spec.specs.Values.{Globals, Object, object, address_of, at_width, moved, scaled, if_signed, value_term, truth_term}
 
@@ -98,10 +98,22 @@ avoids_zone a e =
 abbrev pub avoids_run : (a e : Term) → Run → Term
 avoids_run a e run = or_term (less (number (run.start + length run.bytes - 1)) a) (less e (number run.start))
 
+-- the conjunction of tests, by halves: it nests as deep as their count can be halved. A list can be halved less often
+-- than it is long
+unfoldable pub conjoined : (halvings : ℕ) → List Term → Term
+conjoined zero tests = truth true
+conjoined (suc halvings) [] = truth true
+conjoined (suc halvings) (test ∷ []) = test
+conjoined (suc halvings) (test ∷ next ∷ rest) =
+    let tests = test ∷ next ∷ rest in
+    and_term (conjoined halvings (take (length tests / 2) tests)) (conjoined halvings (drop (length tests / 2) tests))
+
+abbrev pub conjunction : List Term → Term
+conjunction tests = conjoined (length tests) tests
+
 -- guard 7: they meet no fixed byte
-unfoldable pub avoids_fixed : (a e : Term) → List Run → Term
-avoids_fixed a e [] = truth true
-avoids_fixed a e (run ∷ runs) = and_term (avoids_run a e run) (avoids_fixed a e runs)
+abbrev pub avoids_fixed : (a e : Term) → List Run → Term
+avoids_fixed a e runs = conjunction (map (avoids_run a e) runs)
 
 abbrev pub read_tests : Scalar → Object → List Term
 read_tests type x = is_accessible type x ∷ avoids_zone (address_of x) (last_byte type x) ∷ []

@@ -1,16 +1,16 @@
 -- The nodes of statements, one after the other. The nodes of a statement have the numbers from `at` on; where it ends,
 -- it goes on to `to`, by `break` and `continue` to other nodes, and where a guard's test doesn't hold, to an error.
 use Rattle.std.specs.Prelude.{ℕ, zero, suc, ◌+◌, Bool, true, false, ◌||◌, if◌then◌else◌, ℤ, List, [], ◌∷◌, ◌++◌, length, Option, Some, None}
-use Rattle.term_spec.specs.declared.Variable.{Variable}
-use Rattle.term_spec.specs.Term.{Term, truth, open_term, equal}
-use Rattle.graph_spec.specs.declared.Next.{Next}
-use Rattle.graph_spec.specs.declared.Next.TheVariants.{At, Ret, Err}
-use Rattle.graph_spec.specs.Graph.{Binding, Node, Basic, Cond}
-use Rattle.graph_spec.specs.Graph as graph
-use Rattle.c_type_spec.specs.declared.Scalar.{Scalar}
-use Rattle.c_type_spec.specs.declared.TestPlace.TheVariants.{Before, After}
-use Rattle.c_type_spec.specs.declared.Jump.TheVariants.{Break, Continue}
-use Rattle.c_type_spec.specs.Core.{Core, FunctionType, Action, Skip, Sequence, Evaluate, Set, Unset, Store, Call, If, Loop, Leave, Switch, Return, MissingReturn, Groups, no_groups, groups, type_of}
+use Rattle.term_core_spec.specs.declared.Variable.{Variable}
+use Rattle.term_core_spec.specs.Term.{Term, truth, open_term, equal}
+use Rattle.graph_core_spec.specs.declared.Next.{Next}
+use Rattle.graph_core_spec.specs.declared.Next.TheVariants.{At, Ret, Err}
+use Rattle.graph_core_spec.specs.Graph.{Binding, Node, Basic, Cond}
+use Rattle.graph_core_spec.specs.Graph as graph
+use Rattle.c_types_spec.specs.declared.Scalar.{Scalar}
+use Rattle.c_types_spec.specs.declared.TestPlace.TheVariants.{Before, After}
+use Rattle.c_types_spec.specs.declared.Jump.TheVariants.{Break, Continue}
+use Rattle.c_types_spec.specs.Core.{Core, FunctionType, Action, Skip, Sequence, Evaluate, Set, Unset, Store, Call, If, Loop, Leave, Switch, Return, MissingReturn, Groups, no_groups, groups, type_of}
 use Rattle.c_graph_spec.specs.State.{width_of, local, is_set, memory, zone_low, zone_high, result, value_constant}
 use Rattle.c_graph_spec.specs.Values.{object, no_object, at_width, stored, value_term, truth_term}
 use Rattle.c_graph_spec.specs.Guards.{Place, tests, write_tests}

@@ -1,8 +1,8 @@
 -- Sizes of objects are below the limit of sizes, and so are the distances and the bounds in them. Numbers of a typed core
 -- that typing alone doesn't bound are those of its loads and stores, moved pointers and indices.
 use Rattle.std.specs.Prelude.{◌<◌, ◌≤◌, List, [], ◌∷◌, All, Option, Some, None}
-use Rattle.c_type_spec.specs.declared.TheConstants.{SIZE_LIMIT}
-use Rattle.c_type_spec.specs.Core.{Core, Load, Convert, Operate, Compare, Move, Within, Aligned, Choose, Action, Sequence, Evaluate, Set, Store, Call, If, Loop, Switch, Return, Groups, no_groups, groups, Body, Typed}
+use Rattle.c_types_spec.specs.declared.TheConstants.{SIZE_LIMIT}
+use Rattle.c_types_spec.specs.Core.{Core, Load, Convert, Operate, Compare, Move, Within, Aligned, Choose, Action, Sequence, Evaluate, Set, Store, Call, If, Loop, Switch, Return, Groups, no_groups, groups, Body, Typed}
 
 abbrev pub HasSizes : Core → Type 0
 HasSizes (Load type address displacement offset) = (displacement < SIZE_LIMIT) × HasSizes address

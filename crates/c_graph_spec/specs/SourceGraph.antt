@@ -2,14 +2,14 @@
 -- each call.
 use Rattle.std.specs.Prelude.{ℕ, ◌+◌, List, [], ◌∷◌, ◌++◌, length, map, None, slice_get, bytes_eq, if◌then◌else◌}
 use Rattle.std.specs.Option.{option_map_or}
-use Rattle.graph_spec.specs.declared.Next.TheVariants.{Ret}
-use Rattle.graph_spec.specs.Graph.{Basic, Graph, Graphs}
-use Rattle.proof_spec.specs.declared.Place.{Place}
-use Rattle.proof_spec.specs.declared.Place.TheVariants as place
-use Rattle.c_spec.specs.Words.{entry_of}
-use Rattle.c_type_spec.specs.declared.TestPlace.TheVariants.{Before, After}
-use Rattle.c_type_spec.specs.Types.{int}
-use Rattle.c_type_spec.specs.Core.{FunctionType, Body, Typed, Action, Sequence, Call, If, Loop, Switch, Groups, no_groups, groups}
+use Rattle.graph_core_spec.specs.declared.Next.TheVariants.{Ret}
+use Rattle.graph_core_spec.specs.Graph.{Basic, Graph, Graphs}
+use Rattle.proof_tree_spec.specs.declared.Place.{Place}
+use Rattle.proof_tree_spec.specs.declared.Place.TheVariants as place
+use Rattle.c_token_spec.specs.Words.{entry_of}
+use Rattle.c_types_spec.specs.declared.TestPlace.TheVariants.{Before, After}
+use Rattle.c_types_spec.specs.Types.{int}
+use Rattle.c_types_spec.specs.Core.{FunctionType, Body, Typed, Action, Sequence, Call, If, Loop, Switch, Groups, no_groups, groups}
 use Rattle.c_graph_spec.specs.Guards as guards
 use Rattle.c_graph_spec.specs.Layout.{Setting, exits, count, size, case_count, argument_tests, entry, nodes}
 

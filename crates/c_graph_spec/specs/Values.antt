@@ -1,21 +1,21 @@
 -- The term of each form of expression: the word of its value, where no guard is broken. Words are those of the value's
 -- type: two's complement of its width. What an instruction computes too has the instruction's shape.
 use Rattle.std.specs.Prelude.{ℕ, zero, suc, ◌-◌, ◌^◌, ◌==◌, nat_lt, Bool, false, if◌then◌else◌, pos, List, Option, Some, None, unwrap_or}
-use Rattle.term_spec.specs.declared.Width.{Width}
-use Rattle.term_spec.specs.declared.Width.TheVariants.{W32}
-use Rattle.term_spec.specs.Term.{Term, constant, open_term, not_term, equal, less, add, subtract, multiply, bit_and, bit_or, bit_xor, shift_left, shift_right, shift_right_signed, divide, remainder, zero_extend, sign_extend, low, load, choose}
-use Rattle.term_spec.specs.Sort.{bits}
-use Rattle.term_spec.specs.Shapes.{signed_less, signed_quotient, signed_remainder, load_half, load_word, store_byte, store_half, store_word}
-use Rattle.c_type_spec.specs.declared.Scalar.{Scalar}
-use Rattle.c_type_spec.specs.declared.Arithmetic.{Arithmetic}
-use Rattle.c_type_spec.specs.declared.Arithmetic.TheVariants as arithmetic
-use Rattle.c_type_spec.specs.declared.Comparison.{Comparison}
-use Rattle.c_type_spec.specs.declared.Comparison.TheVariants as comparison
-use Rattle.c_type_spec.specs.declared.Direction.{Direction}
-use Rattle.c_type_spec.specs.declared.Direction.TheVariants.{Up, Down}
-use Rattle.c_type_spec.specs.Types.{word}
-use Rattle.c_type_spec.specs.Values.{same_value}
-use Rattle.c_type_spec.specs.Core.{Core, Constant, ReadLocal, GlobalAddress, Load, Target, Convert, Operate, Compare, Move, Within, Aligned, Choose, type_of}
+use Rattle.term_core_spec.specs.declared.Width.{Width}
+use Rattle.term_core_spec.specs.declared.Width.TheVariants.{W32}
+use Rattle.term_core_spec.specs.Term.{Term, constant, open_term, not_term, equal, less, add, subtract, multiply, bit_and, bit_or, bit_xor, shift_left, shift_right, shift_right_signed, divide, remainder, zero_extend, sign_extend, low, load, choose}
+use Rattle.term_core_spec.specs.Sort.{bits}
+use Rattle.term_core_spec.specs.Shapes.{signed_less, signed_quotient, signed_remainder, load_half, load_word, store_byte, store_half, store_word}
+use Rattle.c_types_spec.specs.declared.Scalar.{Scalar}
+use Rattle.c_types_spec.specs.declared.Arithmetic.{Arithmetic}
+use Rattle.c_types_spec.specs.declared.Arithmetic.TheVariants as arithmetic
+use Rattle.c_types_spec.specs.declared.Comparison.{Comparison}
+use Rattle.c_types_spec.specs.declared.Comparison.TheVariants as comparison
+use Rattle.c_types_spec.specs.declared.Direction.{Direction}
+use Rattle.c_types_spec.specs.declared.Direction.TheVariants.{Up, Down}
+use Rattle.c_types_spec.specs.Types.{word}
+use Rattle.c_types_spec.specs.Values.{same_value}
+use Rattle.c_types_spec.specs.Core.{Core, Constant, ReadLocal, GlobalAddress, Load, Target, Convert, Operate, Compare, Move, Within, Aligned, Choose, type_of}
 use Rattle.c_graph_spec.specs.State.{width_of, local, memory, number, value_constant}
 
 -- the addresses of the globals, by name

@@ -1,15 +1,16 @@
 -- Accesses by their parts.
-use Rattle.std.proofs.Common.{◌≡◌, ◌∙◌, ℕ, ◌<◌, List, [], ◌∷◌, ◌++◌, length, drop, sym, ap, ap₂, subst}
+use Rattle.std.proofs.Common.{◌≡◌, ◌∙◌, ℕ, zero, suc, ◌-◌, ◌/◌, ◌<◌, ◌≤◌, true, refl, arith, List, [], ◌∷◌, ◌++◌, length, map, take, drop, sym, ap, ap₂, subst}
+use Rattle.std.proofs.lemmas.List.{take-map, drop-map, length-map}
 use Rattle.memory_spec.specs.Runs.{Run}
 use Rattle.memory_spec.specs.Viewed.{run_of, runs_of}
 use Rattle.memory_spec.specs.declared.Run.{Run as KeptRun}
-use Rattle.term_spec.specs.declared.Width.{Width}
-use Rattle.term_spec.specs.Term.{Term, and_term}
+use Rattle.term_core_spec.specs.declared.Width.{Width}
+use Rattle.term_core_spec.specs.Term.{Term, truth, and_term}
 use Rattle.term_bank.specs.Nodes.{tree_at}
-use Rattle.c_type_spec.specs.declared.Scalar.{Scalar}
+use Rattle.c_types_spec.specs.declared.Scalar.{Scalar}
 use Rattle.c_graph_spec.specs.State.{width_of}
 use Rattle.c_graph_spec.specs.Values.{address_of, of_word, loaded, loaded_at, stored, stored_at}
-use Rattle.c_graph_spec.specs.Guards.{avoids_zone, avoids_fixed, avoids_run, read_tests, write_tests}
+use Rattle.c_graph_spec.specs.Guards.{conjoined, avoids_zone, avoids_fixed, avoids_run, read_tests, write_tests}
 use Rattle.c_graph_terms.specs.declared.values.ValueIds.{ValueIds}
 use Rattle.c_graph_terms.specs.declared.values.Object.{Object}
 use Rattle.c_graph_terms.specs.Built.{IsBuilt, AreBuilt}
@@ -45,23 +46,64 @@ fixed_tested a b c i j type address last test runs below one two j_is =
     subst (λ t. IsBuilt b c test (avoids_fixed t (last_of type (tree_at a address)) runs)) here at_last in
     tested_one a c i j test _ (built_then a b c test _ one.is_grown whole) j_is
 
--- no run, and one run before others
-pub no_runs : (a e : Term) (runs : List KeptRun) (i : ℕ) → drop i runs ≡ [] → avoids_fixed a e (runs_of (drop i runs)) ≡ avoids_fixed a e []
-no_runs a e runs i none = ap (λ rs. avoids_fixed a e (runs_of rs)) none
+-- ---- the tests of runs
 
-pub one_run : (a b c : List Term) (x e test more : ℕ) (runs rest : List KeptRun) (run : KeptRun) → x < length a → e < length a → runs ≡ run ∷ rest
-    → IsBuilt a b test (avoids_fixed (tree_at a x) (tree_at a e) (runs_of rest)) → IsBuilt b c more (and_term (avoids_run (tree_at b x) (tree_at b e) (run_of run)) (tree_at b test))
-    → IsBuilt a c more (avoids_fixed (tree_at a x) (tree_at a e) (runs_of runs))
-unfolding avoids_fixed
-one_run a b c x e test more runs rest run x_in e_in is one two =
-    let first : tree_at b x ≡ tree_at a x = kept a b x one.is_grown x_in in
-    let last : tree_at b e ≡ tree_at a e = kept a b e one.is_grown e_in in
-    let same : and_term (avoids_run (tree_at b x) (tree_at b e) (run_of run)) (tree_at b test)
-    ≡ and_term (avoids_run (tree_at a x) (tree_at a e) (run_of run)) (avoids_fixed (tree_at a x) (tree_at a e) (runs_of rest)) =
-    ap₂ (λ (s t : Term). and_term (avoids_run s t (run_of run)) (tree_at b test)) first last
-    ∙ ap (λ (t : Term). and_term (avoids_run (tree_at a x) (tree_at a e) (run_of run)) t) one.tree in
-    let whole : IsBuilt a c more (avoids_fixed (tree_at a x) (tree_at a e) (runs_of (run ∷ rest))) = built_then a b c more _ one.is_grown (built_as b c more _ _ same two) in
-    subst (λ (rs : List KeptRun). IsBuilt a c more (avoids_fixed (tree_at a x) (tree_at a e) (runs_of rs))) (sym is) whole
+abbrev runs_tests : (x e : Term) → List KeptRun → List Term
+runs_tests x e runs = map (avoids_run x e) (runs_of runs)
+
+tests_count : (x e : Term) (runs : List KeptRun) → length (runs_tests x e runs) ≡ length runs
+tests_count x e runs = length-map (runs_of runs) (avoids_run x e) ∙ length-map runs run_of
+
+front_tests : (x e : Term) (n : ℕ) (runs : List KeptRun) → take n (runs_tests x e runs) ≡ runs_tests x e (take n runs)
+front_tests x e n runs = take-map (avoids_run x e) n (runs_of runs) ∙ ap (map (avoids_run x e)) (take-map run_of n runs)
+
+back_tests : (x e : Term) (n : ℕ) (runs : List KeptRun) → drop n (runs_tests x e runs) ≡ runs_tests x e (drop n runs)
+back_tests x e n runs = drop-map (avoids_run x e) n (runs_of runs) ∙ ap (map (avoids_run x e)) (drop-map run_of n runs)
+
+pub no_runs : (x e : Term) (n : ℕ) (runs : List KeptRun) → length runs ≡ 0 → truth true ≡ conjoined n (runs_tests x e runs)
+unfolding conjoined
+no_runs x e zero [] none = refl
+no_runs x e (suc n) [] none = refl
+no_runs x e n (run ∷ runs) none = absurd (omega (arith, none))
+
+pub one_run : (x e : Term) (n : ℕ) (runs : List KeptRun) (run : KeptRun) → runs ≡ run ∷ [] → length runs ≤ n → avoids_run x e (run_of run) ≡ conjoined n (runs_tests x e runs)
+unfolding conjoined
+one_run x e zero runs run is short = absurd (omega (arith, short, ap length is))
+one_run x e (suc n) runs run is short = ap (λ rs. conjoined (suc n) (runs_tests x e rs)) (sym is)
+
+two_halves : (n : ℕ) (tests : List Term) → 2 ≤ length tests → length tests ≤ n
+    → and_term (conjoined (n - 1) (take (length tests / 2) tests)) (conjoined (n - 1) (drop (length tests / 2) tests)) ≡ conjoined n tests
+unfolding conjoined
+two_halves n [] many short = absurd (omega (arith, many))
+two_halves n (test ∷ []) many short = absurd (omega (arith, many))
+two_halves zero (test ∷ next ∷ rest) many short = absurd (omega (arith, short))
+two_halves (suc n) (test ∷ next ∷ rest) many short =
+    let tests : List Term = test ∷ next ∷ rest in
+    let one_less : suc n - 1 ≡ n = omega arith in
+    ap (λ (k : ℕ). and_term (conjoined k (take (length tests / 2) tests)) (conjoined k (drop (length tests / 2) tests))) one_less
+
+pub halves_built : (a b c d : List Term) (x e first second id n : ℕ) (runs front back : List KeptRun) → x < length a → e < length a → 2 ≤ length runs → length runs ≤ n
+    → front ≡ take (length runs / 2) runs → back ≡ drop (length runs / 2) runs
+    → IsBuilt a b first (conjoined (n - 1) (runs_tests (tree_at a x) (tree_at a e) front))
+    → IsBuilt b c second (conjoined (n - 1) (runs_tests (tree_at b x) (tree_at b e) back))
+    → IsBuilt c d id (and_term (tree_at c first) (tree_at c second))
+    → IsBuilt a d id (conjoined n (runs_tests (tree_at a x) (tree_at a e) runs))
+halves_built a b c d x e first second id n runs front back x_in e_in many short front_is back_is one two three =
+    let p : Term = tree_at a x in
+    let q : Term = tree_at a e in
+    let tests : List Term = runs_tests p q runs in
+    let count : length tests ≡ length runs = tests_count p q runs in
+    let half : ℕ = length runs / 2 in
+    let front_there : runs_tests p q front ≡ take (length tests / 2) tests =
+    ap (runs_tests p q) front_is ∙ sym (front_tests p q half runs) ∙ ap (λ k. take (k / 2) tests) (sym count) in
+    let back_there : runs_tests p q back ≡ drop (length tests / 2) tests =
+    ap (runs_tests p q) back_is ∙ sym (back_tests p q half runs) ∙ ap (λ k. drop (k / 2) tests) (sym count) in
+    let left : tree_at c first ≡ conjoined (n - 1) (take (length tests / 2) tests) =
+    kept b c first two.is_grown one.within ∙ one.tree ∙ ap (conjoined (n - 1)) front_there in
+    let right : tree_at c second ≡ conjoined (n - 1) (drop (length tests / 2) tests) =
+    two.tree ∙ ap₂ (λ s t. conjoined (n - 1) (runs_tests s t back)) (kept a b x one.is_grown x_in) (kept a b e one.is_grown e_in) ∙ ap (conjoined (n - 1)) back_there in
+    built_then a c d id _ (grown_then a b c one.is_grown two.is_grown)
+    (built_as c d id _ _ (ap₂ and_term left right ∙ two_halves n tests (omega (arith, count, many)) (omega (arith, count, short))) three)
 
 -- ---- reads
 

@@ -1,7 +1,7 @@
 -- Tests that are asked only where a condition holds, one after the other.
 use Rattle.std.proofs.Common.{◌≡◌, ◌∙◌, ℕ, ◌+◌, ◌<◌, ◌≤◌, List, [], ◌∷◌, ◌++◌, length, map, take, get_or, sym, ap, ap₂, subst}
 use Rattle.std.proofs.lemmas.List.{map_more, map-append, take_all}
-use Rattle.term_spec.specs.Term.{Term, or_term, not_term}
+use Rattle.term_core_spec.specs.Term.{Term, or_term, not_term}
 use Rattle.term_bank.specs.Nodes.{tree_at}
 use Rattle.c_graph_spec.specs.Guards.{under}
 use Rattle.c_graph_terms.specs.Built.{IsBuilt}

@@ -1,10 +1,10 @@
 -- An expression by its parts: what each form of expression gives, and the tests of its guards.
 use Rattle.std.proofs.Common.{◌≡◌, ◌∙◌, ℕ, ◌<◌, Bool, if◌then◌else◌, List, [], ◌++◌, length, map, refl, ap, subst, append_assoc}
 use Rattle.memory_spec.specs.Runs.{Run}
-use Rattle.term_spec.specs.Term.{Term, not_term}
+use Rattle.term_core_spec.specs.Term.{Term, not_term}
 use Rattle.term_bank.specs.Nodes.{tree_at}
-use Rattle.c_type_spec.specs.declared.Scalar.{Scalar}
-use Rattle.c_type_spec.specs.declared.Comparison.{Comparison}
+use Rattle.c_types_spec.specs.declared.Scalar.{Scalar}
+use Rattle.c_types_spec.specs.declared.Comparison.{Comparison}
 use Rattle.c_graph_spec.specs.Values as spec
 use Rattle.c_graph_spec.specs.Values.{Terms, of_truth, zero_test, compared, chosen, stored}
 use Rattle.c_graph_spec.specs.Guards.{under, write_tests}

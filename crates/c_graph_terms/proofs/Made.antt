@@ -1,8 +1,8 @@
 -- Terms that are built from others that were built.
 use Rattle.std.proofs.Common.{◌≡◌, ◌∙◌, ℕ, ◌<◌, List, length, refl, ap₂, subst}
-use Rattle.term_spec.specs.Term.{Term, constant, not_term, equal, choose}
+use Rattle.term_core_spec.specs.Term.{Term, constant, not_term, equal, choose}
 use Rattle.term_bank.specs.Nodes.{tree_at}
-use Rattle.c_type_spec.specs.declared.Scalar.{Scalar}
+use Rattle.c_types_spec.specs.declared.Scalar.{Scalar}
 use Rattle.c_graph_spec.specs.State.{width_of}
 use Rattle.c_graph_spec.specs.Values.{Terms, of_word, of_truth, set_if, chosen}
 use Rattle.c_graph_terms.specs.declared.values.ValueIds.{ValueIds}

@@ -1,9 +1,9 @@
 -- Accesses by the terms of an address and of the base that it is past.
 use Rattle.std.specs.Prelude.{◌≡◌, ℕ, ◌-◌, ◌<◌, List, [], ◌∷◌, ◌++◌, length, Result, IfOk}
 use Rattle.memory_spec.specs.Runs.{Run}
-use Rattle.term_spec.specs.Term.{Term, not_term, and_term, less, add}
+use Rattle.term_core_spec.specs.Term.{Term, not_term, and_term, less, add}
 use Rattle.term_bank.specs.Nodes.{tree_at}
-use Rattle.c_type_spec.specs.declared.Scalar.{Scalar}
+use Rattle.c_types_spec.specs.declared.Scalar.{Scalar}
 use Rattle.c_graph_spec.specs.State.{number}
 use Rattle.c_graph_spec.specs.Guards.{bytes, is_aligned, avoids_zone, avoids_fixed}
 use Rattle.c_graph_terms.specs.Tests.{IsTested}

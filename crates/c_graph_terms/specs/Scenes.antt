@@ -1,17 +1,17 @@
 -- What an expression is evaluated in.
 use Rattle.std.specs.Prelude.{◌≡◌, ℕ, ◌<◌, List, ◌++◌, length, map, Result, IfOk}
-use Rattle.term_spec.specs.Term.{Term}
+use Rattle.term_core_spec.specs.Term.{Term}
 use Rattle.term_bank.specs.Nodes.{tree_at}
 use Rattle.memory_spec.specs.Runs.{Run}
 use Rattle.memory_spec.specs.Viewed.{runs_of}
-use Rattle.c_type_spec.specs.declared.Scalar.{Scalar}
-use Rattle.c_type_spec.specs.Core.{Core}
+use Rattle.c_types_spec.specs.declared.Scalar.{Scalar}
+use Rattle.c_types_spec.specs.Core.{Core}
 use Rattle.c_graph_spec.specs.Values as spec
 use Rattle.c_graph_spec.specs.Values.{Globals, terms, stored}
 use Rattle.c_graph_spec.specs.Guards as guards
 use Rattle.c_graph_spec.specs.Guards.{tests, under, write_tests}
-use Rattle.c_value.specs.Settings.{address_in}
-use Rattle.c_value.specs.declared.setting.Place.{Place}
+use Rattle.c_run_value.specs.Settings.{address_in}
+use Rattle.c_run_value.specs.declared.setting.Place.{Place}
 use Rattle.c_graph_terms.specs.declared.values.ValueIds.{ValueIds}
 use Rattle.c_graph_terms.specs.declared.values.Operands.{Operands}
 use Rattle.c_graph_terms.specs.declared.values.Object.{Object}

@@ -1,6 +1,6 @@
 -- Tests of guards that are added to a list, one after the other.
 use Rattle.std.specs.Prelude.{◌≡◌, ℕ, ◌<◌, List, [], ◌∷◌, ◌++◌, length, map, slice_get, Option, Some, None, Result, IfOk, IfSome, OnOk}
-use Rattle.term_spec.specs.Term.{Term}
+use Rattle.term_core_spec.specs.Term.{Term}
 use Rattle.term_bank.specs.Nodes.{tree_at}
 use Rattle.c_graph_spec.specs.Values.{Terms}
 use Rattle.c_graph_terms.specs.declared.values.Operands.{Operands}

@@ -1,8 +1,8 @@
 //! Objects in memory: their addresses, the tests of an access, and what it reads or writes.
 
-ghost use Rattle.std.specs.Prelude.{◌≡◌, ◌+◌, ◌-◌, ◌<◌, ◌∷◌, [], length};
+ghost use Rattle.std.specs.Prelude.{◌≡◌, ℕ, ◌+◌, ◌-◌, ◌<◌, ◌≤◌, ◌∷◌, [], length, map};
 ghost use Rattle.memory_spec.specs.Viewed.{run_of, runs_of};
-ghost use Rattle.term_spec.specs.Term as tree;
+ghost use Rattle.term_core_spec.specs.Term as tree;
 ghost use Rattle.term_bank.specs.Nodes.{tree_at};
 ghost use Rattle.c_graph_spec.specs.State as state;
 ghost use Rattle.c_graph_spec.specs.Values as spec;
@@ -20,13 +20,13 @@ use crate::values::{Object, ValueIds};
 use crate::variables::{MEMORY, ZONE_HIGH, ZONE_LOW, width_of};
 use crate::words::{number, of_word};
 use attempt::attempt;
-use c_type_spec::Scalar;
+use c_types_spec::Scalar;
 use memory_spec::Run;
 use std::alloc::{AllocError, Global};
 use term_bank::TermNode::{Binary, Leaf, Quaternary, Ternary, Unary};
 use term_bank::{Bank, TermId};
-use term_spec::Atom::{Constant, Open, Truth};
-use term_spec::{BinaryOperator, QuaternaryOperator, TernaryOperator, UnaryOperator, Width};
+use term_core_spec::Atom::{Constant, Open, Truth};
+use term_core_spec::{BinaryOperator, QuaternaryOperator, TernaryOperator, UnaryOperator, Width};
 
 /// What an expression that is in no assignment to an object speaks of as its target.
 pub fn no_object(bank: &mut Bank) -> Result<Object, AllocError>
@@ -238,31 +238,71 @@ fn last_of_run(run: &Run) -> u64
     (u64::from(run.start) + run.bytes.len() as u64).saturating_sub(1)
 }
 
-/// The bytes from a to e meet none of a run, and what is known of the others.
+/// The bytes from a to e meet none of a run.
 fn run_test(
     alloc: Global,
     bank: &mut Bank,
     run: &Run,
     a: TermId,
     e: TermId,
-    others: TermId,
 ) -> Result<TermId, AllocError>
     requires a_within { a < length bank.old }
     requires e_within { e < length bank.old }
-    requires others_within { others < length bank.old }
-    ensures { Builds bank.old bank.new result (tree.and_term
-        (guards.avoids_run (tree_at bank.old a) (tree_at bank.old e) (run_of run.now))
-        (tree_at bank.old others)) }
+    ensures { Builds bank.old bank.new result
+        (guards.avoids_run (tree_at bank.old a) (tree_at bank.old e) (run_of run.now)) }
 {
     let nodes = [
         Leaf(Constant(Width::W32, last_of_run(run))),
-        Binary(BinaryOperator::Less, 3, 0),
+        Binary(BinaryOperator::Less, 2, 0),
         Leaf(Constant(Width::W32, u64::from(run.start))),
-        Binary(BinaryOperator::Less, 1, 5),
-        Binary(BinaryOperator::Or, 4, 6),
-        Binary(BinaryOperator::And, 7, 2),
+        Binary(BinaryOperator::Less, 1, 4),
+        Binary(BinaryOperator::Or, 3, 5),
     ];
-    build(alloc, bank, &[a, e, others], &nodes)
+    build(alloc, bank, &[a, e], &nodes)
+}
+
+/// Both of two tests.
+fn both_tests(
+    alloc: Global,
+    bank: &mut Bank,
+    first: TermId,
+    second: TermId,
+) -> Result<TermId, AllocError>
+    requires first_within { first < length bank.old }
+    requires second_within { second < length bank.old }
+    ensures { Builds bank.old bank.new result
+        (tree.and_term (tree_at bank.old first) (tree_at bank.old second)) }
+{
+    let nodes = [Binary(BinaryOperator::And, 0, 1)];
+    build(alloc, bank, &[first, second], &nodes)
+}
+
+/// The bytes from a to e meet none of the runs, by halves of these. Its calls of itself nest as
+/// deep as the number of runs can be halved, which is 16 times at most where a file has so many
+/// that their count is below 2 ^ 16.
+fn runs_test(
+    alloc: Global,
+    bank: &mut Bank,
+    runs: &[Run],
+    a: TermId,
+    e: TermId,
+) -> Result<TermId, AllocError>
+    requires a_within { a < length bank.old }
+    requires e_within { e < length bank.old }
+    ensures { (halvings : ℕ) → length runs.now ≤ halvings
+        → Builds bank.old bank.new result (guards.conjoined halvings
+        (map (guards.avoids_run (tree_at bank.old a) (tree_at bank.old e)) (runs_of runs.now))) }
+{
+    if runs.is_empty() {
+        return leaf(bank, Truth(true));
+    }
+    if runs.len() == 1 {
+        return run_test(alloc, bank, &runs[0], a, e);
+    }
+    let (front, back) = runs.split_at(runs.len() / 2);
+    let first = attempt!(runs_test(alloc, bank, front, a, e));
+    let second = attempt!(runs_test(alloc, bank, back, a, e));
+    both_tests(alloc, bank, first, second)
 }
 
 /// Guard 7: the bytes from a to e are not fixed.
@@ -278,13 +318,7 @@ fn fixed_test(
     ensures { Builds bank.old bank.new result
         (guards.avoids_fixed (tree_at bank.old a) (tree_at bank.old e) (runs_of runs.now)) }
 {
-    let mut i = runs.len();
-    let mut test = attempt!(leaf(bank, Truth(true)));
-    while i > 0 {
-        i -= 1;
-        test = attempt!(run_test(alloc, bank, &runs[i], a, e, test));
-    }
-    Ok(test)
+    runs_test(alloc, bank, runs, a, e)
 }
 
 /// Adds the tests of a read.

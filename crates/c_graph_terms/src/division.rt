@@ -1,7 +1,7 @@
 //! Signed division of words of 32 bits, by their magnitudes.
 
 ghost use Rattle.std.specs.Prelude.{◌<◌, length};
-ghost use Rattle.term_spec.specs.Shapes as shapes;
+ghost use Rattle.term_core_spec.specs.Shapes as shapes;
 ghost use Rattle.term_bank.specs.Nodes.{tree_at};
 ghost use Rattle.c_graph_terms.specs.Built.{Builds};
 
@@ -10,8 +10,8 @@ use crate::table::build;
 use std::alloc::{AllocError, Global};
 use term_bank::TermNode::{Binary, Leaf, Ternary, Unary};
 use term_bank::{Bank, TermId};
-use term_spec::Atom::Constant;
-use term_spec::{BinaryOperator, TernaryOperator, UnaryOperator, Width};
+use term_core_spec::Atom::Constant;
+use term_core_spec::{BinaryOperator, TernaryOperator, UnaryOperator, Width};
 
 const TOP: u64 = 0x8000_0000;
 

@@ -2,14 +2,14 @@
 
 ghost use Rattle.std.specs.Prelude.{◌≡◌, ◌<◌, ◌++◌, ◌∷◌, [], ℕ, List, length, map, if◌then◌else◌};
 ghost use Rattle.std.specs.Prelude.{unwrap_or};
-ghost use Rattle.term_spec.specs.Term as tree;
-ghost use Rattle.term_spec.specs.declared.Width.TheVariants.{W32};
+ghost use Rattle.term_core_spec.specs.Term as tree;
+ghost use Rattle.term_core_spec.specs.declared.Width.TheVariants.{W32};
 ghost use Rattle.term_bank.specs.Nodes.{tree_at};
 ghost use Rattle.memory_spec.specs.Viewed.{runs_of};
-ghost use Rattle.c_type_spec.specs.Core as core;
-ghost use Rattle.c_type_spec.specs.Types as types;
-ghost use Rattle.c_type_spec.specs.declared.Scalar as scalar;
-ghost use Rattle.c_core.specs.Expressions.{core_of};
+ghost use Rattle.c_types_spec.specs.Core as core;
+ghost use Rattle.c_types_spec.specs.Types as types;
+ghost use Rattle.c_types_spec.specs.declared.Scalar as scalar;
+ghost use Rattle.c_types_core.specs.Expressions.{core_of};
 ghost use Rattle.c_graph_spec.specs.State as state;
 ghost use Rattle.c_graph_spec.specs.Values as spec;
 ghost use Rattle.c_graph_spec.specs.Guards as guards;
@@ -30,16 +30,16 @@ use crate::words::{
     zero_test,
 };
 use attempt::attempt;
-use c_core::constants::{WORD, type_of};
-use c_core::expression::Core;
-use c_type_spec::{Arithmetic, Comparison, Direction, Order, Scalar};
-use c_value::setting::global_address;
+use c_run_value::setting::global_address;
+use c_types_core::constants::{WORD, type_of};
+use c_types_core::expression::Core;
+use c_types_spec::{Arithmetic, Comparison, Direction, Order, Scalar};
 use memory_spec::Run;
 use std::alloc::{AllocError, Global};
 use term_bank::TermNode::Binary;
 use term_bank::{Bank, TermId};
-use term_spec::Atom::{Constant, Open};
-use term_spec::{BinaryOperator, Width};
+use term_core_spec::Atom::{Constant, Open};
+use term_core_spec::{BinaryOperator, Width};
 
 // ---- what needs no other expression
 
@@ -116,7 +116,7 @@ fn operated(
 }
 
 /// A constant 0, converted or not.
-#[tactic(auto, using(c_core::proofs::Views::views))]
+#[tactic(auto, using(c_types_core::proofs::Views::views))]
 fn is_zero(x: &Core<'_>) -> bool
     ensures { result ≡ spec.is_zero (core_of x.now) }
 {
@@ -502,7 +502,7 @@ fn choose(
 /// The terms of an expression's value; the tests of its guards are added to those before, in the
 /// order in which a run evaluates them.
 #[cycle(expressions)]
-#[tactic(auto, using(c_core::proofs::Views::views))]
+#[tactic(auto, using(c_types_core::proofs::Views::views))]
 pub fn evaluate(
     x: &Core<'_>,
     scene: &Scene<'_>,

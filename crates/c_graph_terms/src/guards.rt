@@ -1,7 +1,7 @@
 //! Tests of operators, and lists of tests.
 
 ghost use Rattle.std.specs.Prelude.{◌≡◌, ◌<◌, ◌++◌, ◌∷◌, [], OnOk, List, ℕ, length};
-ghost use Rattle.term_spec.specs.Term.{Term, and_term};
+ghost use Rattle.term_core_spec.specs.Term.{Term, and_term};
 ghost use Rattle.term_bank.specs.Nodes.{tree_at};
 ghost use Rattle.c_graph_spec.specs.State.{width_of};
 ghost use Rattle.c_graph_spec.specs.Guards as guards;
@@ -12,13 +12,13 @@ use crate::numbers::{ADD, MULTIPLY, SUBTRACT, XOR, sign_bit};
 use crate::table::build;
 use crate::variables::width_of;
 use attempt::attempt;
-use c_type_spec::{Arithmetic, Scalar};
+use c_types_spec::{Arithmetic, Scalar};
 use std::alloc::{AllocError, Global};
 use term_bank::TermNode::{Binary, Leaf, Unary};
 use term_bank::{Bank, TermId};
 use term_core::all_ones;
-use term_spec::Atom::Constant;
-use term_spec::{BinaryOperator, UnaryOperator, Width};
+use term_core_spec::Atom::Constant;
+use term_core_spec::{BinaryOperator, UnaryOperator, Width};
 
 /// Adds a test to a list.
 pub(crate) fn keep(tests: &mut Vec<TermId>, test: TermId) -> Result<(), AllocError>

@@ -1,11 +1,11 @@
 //! Pointers that are moved, and indices.
 
 ghost use Rattle.std.specs.Prelude.{◌≡◌, ◌<◌, ◌≤◌, length};
-ghost use Rattle.term_spec.specs.Term as tree;
-ghost use Rattle.term_spec.specs.Term.{Term};
-ghost use Rattle.term_spec.specs.declared.Width.TheVariants.{W32, W64};
+ghost use Rattle.term_core_spec.specs.Term as tree;
+ghost use Rattle.term_core_spec.specs.Term.{Term};
+ghost use Rattle.term_core_spec.specs.declared.Width.TheVariants.{W32, W64};
 ghost use Rattle.term_bank.specs.Nodes.{tree_at};
-ghost use Rattle.c_type_spec.specs.Types as types;
+ghost use Rattle.c_types_spec.specs.Types as types;
 ghost use Rattle.c_graph_spec.specs.Values as spec;
 ghost use Rattle.c_graph_spec.specs.Guards as guards;
 ghost use Rattle.c_graph_terms.specs.Built.{Builds, BuildsTerms};
@@ -15,13 +15,13 @@ use crate::table::build;
 use crate::values::ValueIds;
 use crate::words::{at_width, of_word};
 use attempt::attempt;
-use c_core::constants::WORD;
-use c_type_spec::{Direction, Scalar};
+use c_types_core::constants::WORD;
+use c_types_spec::{Direction, Scalar};
 use std::alloc::{AllocError, Global};
 use term_bank::TermNode::{Binary, Leaf, Unary};
 use term_bank::{Bank, TermId};
-use term_spec::Atom::Constant;
-use term_spec::{BinaryOperator, UnaryOperator, Width};
+use term_core_spec::Atom::Constant;
+use term_core_spec::{BinaryOperator, UnaryOperator, Width};
 
 /// The exponent, below `most`, of a power of 2.
 #[tactic(auto, using(crate::proofs::Powers::exponents))]

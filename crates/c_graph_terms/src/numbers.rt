@@ -1,14 +1,14 @@
 //! Operators, and numbers that depend on a width.
 
 ghost use Rattle.std.specs.Prelude.{◌≡◌, ◌-◌, ◌/◌, ◌^◌, IfOk};
-ghost use Rattle.term_spec.specs.Sort.{bits};
-ghost use Rattle.c_type_spec.specs.Values as rule;
+ghost use Rattle.term_core_spec.specs.Sort.{bits};
+ghost use Rattle.c_types_spec.specs.Values as rule;
 
-use c_core::constants::has_width;
-use c_core::values::convert;
-use c_type_spec::Scalar;
+use c_types_core::constants::has_width;
+use c_types_core::values::convert;
+use c_types_spec::Scalar;
 use std::alloc::AllocError;
-use term_spec::{BinaryOperator, Width, WordOperator};
+use term_core_spec::{BinaryOperator, Width, WordOperator};
 
 pub(crate) const ADD: BinaryOperator = BinaryOperator::Word(WordOperator::Add);
 
@@ -64,7 +64,7 @@ pub(crate) fn last_place(width: Width) -> u64
 
 /// The bits of a value of a type. A typed core has no type without a bit, or of more than 64; such
 /// a value is answered as out of memory.
-#[tactic(auto, using(c_value::proofs::Bits::low_bits))]
+#[tactic(auto, using(c_run_value::proofs::Bits::low_bits))]
 pub(crate) fn bits_of(of: Scalar, value: i128) -> Result<u64, AllocError>
     ensures { IfOk result (λ n. n ≡ rule.bits_of of.width value) }
 {

@@ -1,7 +1,7 @@
 //! Terms from tables of nodes.
 
 ghost use Rattle.std.specs.Prelude.{◌≡◌, ◌+◌, ◌<◌, IsTrue, OnOk, length, map};
-ghost use Rattle.term_spec.specs.Term as tree;
+ghost use Rattle.term_core_spec.specs.Term as tree;
 ghost use Rattle.term_bank.specs.Nodes.{IsNode, tree_at};
 ghost use Rattle.c_graph_terms.specs.Tables as tables;
 ghost use Rattle.c_graph_terms.specs.Tables.{AreWithin, are_nodes, table_tree};
@@ -10,7 +10,7 @@ ghost use Rattle.c_graph_terms.specs.Built.{AreGrown, Builds};
 use attempt::attempt;
 use std::alloc::{AllocError, Global};
 use term_bank::{Bank, TermId, TermNode};
-use term_spec::Atom;
+use term_core_spec::Atom;
 
 /// The node with ids in place of the numbers of its arguments.
 pub fn placed(ids: &[TermId], node: TermNode) -> TermNode

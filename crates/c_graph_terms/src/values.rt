@@ -1,6 +1,6 @@
 //! What is known of a value, and what it is evaluated in.
 
-use c_value::setting;
+use c_run_value::setting;
 use std::alloc::Global;
 use term_bank::TermId;
 

@@ -3,8 +3,8 @@
 ghost use Rattle.std.specs.Prelude.{◌≡◌};
 ghost use Rattle.c_graph_spec.specs.State as state;
 
-use c_type_spec::Scalar;
-use term_spec::{Family, Sort, Variable, Width};
+use c_types_spec::Scalar;
+use term_core_spec::{Family, Sort, Variable, Width};
 
 /// The width of the words of a type.
 pub fn width_of(of: Scalar) -> Width

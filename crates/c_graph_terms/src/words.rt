@@ -1,9 +1,9 @@
 //! Words: conversions, operators and comparisons.
 
 ghost use Rattle.std.specs.Prelude.{◌≡◌, ◌<◌, IfOk, length};
-ghost use Rattle.term_spec.specs.Term as tree;
-ghost use Rattle.term_spec.specs.Shapes as shapes;
-ghost use Rattle.term_spec.specs.Sort.{bits};
+ghost use Rattle.term_core_spec.specs.Term as tree;
+ghost use Rattle.term_core_spec.specs.Shapes as shapes;
+ghost use Rattle.term_core_spec.specs.Sort.{bits};
 ghost use Rattle.term_bank.specs.Nodes.{tree_at};
 ghost use Rattle.c_graph_spec.specs.State as state;
 ghost use Rattle.c_graph_spec.specs.Values as spec;
@@ -17,12 +17,12 @@ use crate::table::{build, leaf};
 use crate::values::ValueIds;
 use crate::variables::width_of;
 use attempt::attempt;
-use c_type_spec::{Arithmetic, Comparison, Scalar};
+use c_types_spec::{Arithmetic, Comparison, Scalar};
 use std::alloc::{AllocError, Global};
 use term_bank::TermNode::{Binary, Leaf, Ternary, Unary};
 use term_bank::{Bank, TermId};
-use term_spec::Atom::{self, Constant};
-use term_spec::{BinaryOperator, TernaryOperator, UnaryOperator, Width, WordOperator};
+use term_core_spec::Atom::{self, Constant};
+use term_core_spec::{BinaryOperator, TernaryOperator, UnaryOperator, Width, WordOperator};
 
 /// How many bits a word has.
 fn bit_count(width: Width) -> u32

@@ -4,13 +4,13 @@ use Rattle.std.proofs.lemmas.List.{append_assoc, append-nil, map-append}
 use Rattle.std.specs.declared.alloc.Global.{Global}
 use Rattle.std.specs.declared.boxed.Box.{Box}
 use Rattle.std.specs.Prelude.{Vec}
-use Rattle.c_spec.specs.Lexical.{Placed}
-use Rattle.c_tree_spec.specs.Unit as unit
-use Rattle.c_grammar_spec.specs.declared.Role.{Role}
+use Rattle.c_token_spec.specs.Lexical.{Placed}
+use Rattle.c_syntax_spec.specs.Unit as unit
+use Rattle.c_parse_spec.specs.declared.Role.{Role}
 use Rattle.exact_read.specs.Reading.{Fault, Outcome}
 use Rattle.exact_read.specs.Going.{begins, Going}
 use Rattle.exact_read.proofs.Loops.{going-start, going-step, going-fault, going-end, going-same}
-use Rattle.c_statement_laws.specs.Units.{read_external_declaration, read_external_declarations}
+use Rattle.c_parse_laws.specs.Units.{read_external_declaration, read_external_declarations}
 use Rattle.c_syntax.specs.declared.unit.ExternalDeclaration.{ExternalDeclaration}
 use Rattle.c_syntax.specs.Expressions.{unboxed}
 use Rattle.c_syntax.specs.Units.{external_declaration_of}

@@ -1,19 +1,19 @@
 -- The loops over designators and over initial values, and braces around these.
 use Rattle.std.proofs.Common.{◌≡◌, ℕ, suc, ◌-◌, ◌<◌, true, false, if◌then◌else◌, List, [], ◌∷◌, length, refl, ap, sym, ◌∙◌, subst, Ok, Err, Option, Some, None}
-use Rattle.c_spec.specs.declared.token.Punctuator.TheVariants as punctuator
-use Rattle.c_spec.specs.Lexical.{Placed}
-use Rattle.c_tree_spec.specs.Expression as tree
-use Rattle.c_grammar_spec.specs.declared.Role.{Role}
-use Rattle.c_grammar_spec.specs.declared.Role.TheVariants.{Nothing}
-use Rattle.c_grammar_spec.specs.Leaves.{plain, expected, opens}
+use Rattle.c_token_spec.specs.declared.token.Punctuator.TheVariants as punctuator
+use Rattle.c_token_spec.specs.Lexical.{Placed}
+use Rattle.c_syntax_spec.specs.Expression as tree
+use Rattle.c_parse_spec.specs.declared.Role.{Role}
+use Rattle.c_parse_spec.specs.declared.Role.TheVariants.{Nothing}
+use Rattle.c_parse_spec.specs.Leaves.{plain, expected, opens}
 use Rattle.exact_read.specs.Reading.{Fault, Outcome, Parser}
 use Rattle.exact_read.specs.Grammar.{bind, context_after, read_many, read_map}
 use Rattle.exact_read.specs.Going.{begins, Going}
 use Rattle.exact_read.proofs.Loops.{bind-ok, bind-bind, going-start, going-step, going-fault, going-end, map-ok, map-err}
-use Rattle.c_expression_laws.specs.Classes.{is_mark, mark_offset}
-use Rattle.c_expression_laws.specs.Parsers.{Parsers, token, following, choose, next_is}
-use Rattle.c_statement_laws.specs.Initializers as initializers
-use Rattle.c_statement_laws.specs.Initializers.{ListPosition, AfterInitial, FollowingComma, next_position, end_of_position, end_of_initial, initials_start, begins_initial, begins_designator, read_initials_part, read_designated, read_designator, read_designators}
+use Rattle.c_parse_laws.specs.Classes.{is_mark, mark_offset}
+use Rattle.c_parse_laws.specs.Parsers.{Parsers, token, following, choose, next_is}
+use Rattle.c_parse_laws.specs.Initializers as initializers
+use Rattle.c_parse_laws.specs.Initializers.{ListPosition, AfterInitial, FollowingComma, next_position, end_of_position, end_of_initial, initials_start, begins_initial, begins_designator, read_initials_part, read_designated, read_designator, read_designators}
 use Rattle.c_parse_token.proofs.Steps.{begins-next}
 use Rattle.c_parse.proofs.StatementFuel.{initial-some}
 

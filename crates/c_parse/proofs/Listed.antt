@@ -4,24 +4,24 @@ use Rattle.std.proofs.lemmas.List.{append_assoc, append-nil, map-append}
 use Rattle.std.specs.declared.alloc.Global.{Global}
 use Rattle.std.specs.declared.boxed.Box.{Box}
 use Rattle.std.specs.Prelude.{Vec}
-use Rattle.c_spec.specs.declared.token.Punctuator.TheVariants as punctuator
-use Rattle.c_spec.specs.Lexical.{Placed}
-use Rattle.c_tree_spec.specs.Expression as tree
-use Rattle.c_tree_spec.specs.Unit as unit
-use Rattle.c_grammar_spec.specs.declared.Role.{Role}
-use Rattle.c_grammar_spec.specs.declared.Role.TheVariants.{Nothing}
-use Rattle.c_grammar_spec.specs.Leaves.{plain, expected}
-use Rattle.c_grammar_spec.specs.Units.{is_typedef, names_after}
+use Rattle.c_token_spec.specs.declared.token.Punctuator.TheVariants as punctuator
+use Rattle.c_token_spec.specs.Lexical.{Placed}
+use Rattle.c_syntax_spec.specs.Expression as tree
+use Rattle.c_syntax_spec.specs.Unit as unit
+use Rattle.c_parse_spec.specs.declared.Role.{Role}
+use Rattle.c_parse_spec.specs.declared.Role.TheVariants.{Nothing}
+use Rattle.c_parse_spec.specs.Leaves.{plain, expected}
+use Rattle.c_parse_spec.specs.Units.{is_typedef, names_after}
 use Rattle.exact_read.specs.Reading.{Fault, Outcome, Parser}
 use Rattle.exact_read.specs.Grammar.{bind, read_many, read_map}
 use Rattle.exact_read.specs.Going.{Going}
 use Rattle.exact_read.proofs.Loops.{bind-ok, bind-err, going-start, going-step, going-fault, going-end, going-same, map-ok, map-err}
-use Rattle.c_expression_laws.specs.Classes.{is_mark, mark_offset}
-use Rattle.c_expression_laws.specs.Parsers.{token, following, next_is}
-use Rattle.c_declaration_laws.specs.Parameters.{read_global}
-use Rattle.c_statement_laws.specs.Initializers.{read_initial}
-use Rattle.c_grammar_spec.specs.Limits.{statement_fuel}
-use Rattle.c_statement_laws.specs.Units.{Initial, Read, State, expressions, globals_of, end_of_global, state_after, state_following, next_state, read_initial_after, read_initial_declarator, read_globals, read_more_globals}
+use Rattle.c_parse_laws.specs.Classes.{is_mark, mark_offset}
+use Rattle.c_parse_laws.specs.Parsers.{token, following, next_is}
+use Rattle.c_parse_laws.specs.Parameters.{read_global}
+use Rattle.c_parse_laws.specs.Initializers.{read_initial}
+use Rattle.c_parse_spec.specs.Limits.{statement_fuel}
+use Rattle.c_parse_laws.specs.Units.{Initial, Read, State, expressions, globals_of, end_of_global, state_after, state_following, next_state, read_initial_after, read_initial_declarator, read_globals, read_more_globals}
 use Rattle.c_syntax.specs.declared.unit.Global.{Global as Global_row}
 use Rattle.c_syntax.specs.Expressions.{unboxed}
 use Rattle.c_syntax.specs.Units.{global_of}

@@ -1,6 +1,6 @@
 -- What declarators and specifiers say, as the program has them.
 use Rattle.std.proofs.Common.{◌≡◌, ap, sym, subst}
-use Rattle.c_grammar_spec.specs.Units.{is_typedef, name_of_declarator}
+use Rattle.c_parse_spec.specs.Units.{is_typedef, name_of_declarator}
 use Rattle.c_syntax.specs.declared.expression.Declarator.{Declarator, out-Declarator, roll-out-Declarator}
 use Rattle.c_syntax.specs.declared.expression.Specifiers.{Specifiers, out-Specifiers, roll-out-Specifiers}
 use Rattle.c_syntax.specs.Expressions.{declarator_of, specifiers_of}

@@ -1,21 +1,21 @@
 -- What the reader of units says of tokens, as the grammar has it.
 use Rattle.std.proofs.Common.{◌≡◌, ℕ, suc, ◌-◌, ◌≤◌, List, [], ◌∷◌, ◌++◌, length, drop, refl, ap, sym, ◌∙◌, subst, Ok, Err, arith}
 use Rattle.std.proofs.lemmas.List.{length-map}
-use Rattle.c_spec.specs.Lexical.{Placed}
+use Rattle.c_token_spec.specs.Lexical.{Placed}
 use Rattle.c_token.specs.declared.Token.{Token as TokenRow}
 use Rattle.c_token.specs.Pieces.{placed_of}
-use Rattle.c_tree_spec.specs.Unit.{TranslationUnit}
-use Rattle.c_grammar_spec.specs.declared.ParseFaultKind.{ParseFaultKind}
-use Rattle.c_grammar_spec.specs.declared.Role.{Role}
-use Rattle.c_grammar_spec.specs.declared.Role.TheVariants.{Nothing}
-use Rattle.c_grammar_spec.specs.Leaves.{marks}
-use Rattle.c_grammar_spec.specs.Faults as faults
-use Rattle.c_grammar_spec.specs.Faults.{IsUnit, IsFault}
+use Rattle.c_syntax_spec.specs.Unit.{TranslationUnit}
+use Rattle.c_parse_spec.specs.declared.ParseFaultKind.{ParseFaultKind}
+use Rattle.c_parse_spec.specs.declared.Role.{Role}
+use Rattle.c_parse_spec.specs.declared.Role.TheVariants.{Nothing}
+use Rattle.c_parse_spec.specs.Leaves.{marks}
+use Rattle.c_parse_spec.specs.Faults as faults
+use Rattle.c_parse_spec.specs.Faults.{IsUnit, IsFault}
 use Rattle.exact_read.specs.Reading.{Fault, LimitExceeded, Wrong, plains}
 use Rattle.exact_read.specs.Grammar.{at_end}
-use Rattle.c_statement_laws.specs.Units.{read_external_declarations, read_unit}
-use Rattle.c_statement_laws.proofs.UnitAll.{unit-is_exact}
-use Rattle.c_statement_laws.proofs.Faults.{unit-reports}
+use Rattle.c_parse_laws.specs.Units.{read_external_declarations, read_unit}
+use Rattle.c_parse_laws.proofs.UnitAll.{unit-is_exact}
+use Rattle.c_parse_laws.proofs.Faults.{unit-reports}
 use Rattle.c_parse_token.specs.Lists.{list_of}
 use Rattle.c_parse.specs.declared.ParseError.{ParseError}
 use Rattle.c_parse.specs.declared.ParseError.TheVariants.{Fault as a_fault, NoMemory}

@@ -1,15 +1,15 @@
 -- A conditional expression has a token at least.
 use Rattle.std.proofs.Common.{◌≡◌, ℕ, ◌<◌, List, [], ◌∷◌, ◌++◌, length, refl, sym, subst, Ok, arith}
 use Rattle.std.proofs.lemmas.List.{length-append, length-map}
-use Rattle.c_spec.specs.Lexical.{Placed}
-use Rattle.c_tree_spec.specs.Expression as tree
-use Rattle.c_grammar_spec.specs.Leaves.{Leaf, marks}
+use Rattle.c_token_spec.specs.Lexical.{Placed}
+use Rattle.c_syntax_spec.specs.Expression as tree
+use Rattle.c_parse_spec.specs.Leaves.{Leaf, marks}
 use Rattle.exact_read.specs.Reading.{plains, Stops}
 use Rattle.exact_read.specs.Grammar.{anything}
-use Rattle.c_grammar_spec.specs.Limits.{expression_fuel}
-use Rattle.c_expression_laws.specs.Fuel.{parsers}
-use Rattle.c_expression_laws.proofs.Firsts.{conditional_first}
-use Rattle.c_expression_laws.proofs.ExpressionFuel.{all-exact}
+use Rattle.c_parse_spec.specs.Limits.{expression_fuel}
+use Rattle.c_parse_laws.specs.Fuel.{parsers}
+use Rattle.c_parse_laws.proofs.Firsts.{conditional_first}
+use Rattle.c_parse_laws.proofs.ExpressionFuel.{all-exact}
 use Rattle.c_token.specs.declared.Token.{Token as TokenRow}
 use Rattle.c_token.specs.Pieces.{placed_of}
 use Rattle.c_parse_token.specs.Lists.{list_of}

@@ -1,9 +1,9 @@
 -- One brace more, or none.
 use Rattle.std.proofs.Common.{◌≡◌, ℕ, zero, suc, ◌-◌, List, refl, arith, Err}
-use Rattle.c_spec.specs.Lexical.{Placed}
+use Rattle.c_token_spec.specs.Lexical.{Placed}
 use Rattle.exact_read.specs.Reading.{LimitExceeded}
-use Rattle.c_expression_laws.specs.Parsers.{Parsers}
-use Rattle.c_statement_laws.specs.Initializers.{read_initial, read_initial_around}
+use Rattle.c_parse_laws.specs.Parsers.{Parsers}
+use Rattle.c_parse_laws.specs.Initializers.{read_initial, read_initial_around}
 
 pub initial-some : (names : List (List ℕ)) (inner : Parsers) (fuel depth : ℕ) (tokens : List Placed) → (fuel ≡ 0 → ⊥) → read_initial names inner fuel depth tokens ≡ read_initial_around names inner depth (read_initial names inner (fuel - 1) (suc depth)) tokens
 unfolding read_initial

@@ -1,22 +1,22 @@
 -- Parts of the reference parsers of external declarations and of initial values, as the program has them.
 use Rattle.std.specs.Prelude.{ℕ, List, [], ◌++◌, Option, Some, None, Bool, Ok}
-use Rattle.c_spec.specs.declared.token.Punctuator.TheVariants as punctuator
-use Rattle.c_spec.specs.Lexical.{Placed}
-use Rattle.c_tree_spec.specs.Expression as tree
-use Rattle.c_tree_spec.specs.Unit as unit
-use Rattle.c_grammar_spec.specs.declared.Role.{Role}
-use Rattle.c_grammar_spec.specs.declared.Role.TheVariants.{Nothing}
-use Rattle.c_grammar_spec.specs.Leaves.{plain, expected, opens}
-use Rattle.c_grammar_spec.specs.Units.{is_typedef}
+use Rattle.c_token_spec.specs.declared.token.Punctuator.TheVariants as punctuator
+use Rattle.c_token_spec.specs.Lexical.{Placed}
+use Rattle.c_syntax_spec.specs.Expression as tree
+use Rattle.c_syntax_spec.specs.Unit as unit
+use Rattle.c_parse_spec.specs.declared.Role.{Role}
+use Rattle.c_parse_spec.specs.declared.Role.TheVariants.{Nothing}
+use Rattle.c_parse_spec.specs.Leaves.{plain, expected, opens}
+use Rattle.c_parse_spec.specs.Units.{is_typedef}
 use Rattle.exact_read.specs.Reading.{Parser}
 use Rattle.exact_read.specs.Grammar.{bind, read_many, read_map, read_nothing, read_then}
-use Rattle.c_expression_laws.specs.Classes.{is_mark, mark_offset}
-use Rattle.c_expression_laws.specs.Parsers.{Parsers, token, following, before, choose}
-use Rattle.c_declaration_laws.specs.Parameters.{read_global}
-use Rattle.c_statement_laws.specs.Initializers as initializers
-use Rattle.c_statement_laws.specs.Statements.{read_parts, read_statement}
-use Rattle.c_grammar_spec.specs.Limits.{statement_fuel}
-use Rattle.c_statement_laws.specs.Units.{Initial, Read, State, expressions, globals_of, state_after, state_following, next_state, read_initial_declarator, read_after_global}
+use Rattle.c_parse_laws.specs.Classes.{is_mark, mark_offset}
+use Rattle.c_parse_laws.specs.Parsers.{Parsers, token, following, before, choose}
+use Rattle.c_parse_laws.specs.Parameters.{read_global}
+use Rattle.c_parse_laws.specs.Initializers as initializers
+use Rattle.c_parse_laws.specs.Statements.{read_parts, read_statement}
+use Rattle.c_parse_spec.specs.Limits.{statement_fuel}
+use Rattle.c_parse_laws.specs.Units.{Initial, Read, State, expressions, globals_of, state_after, state_following, next_state, read_initial_declarator, read_after_global}
 
 -- which member or element a value is for, and `=`
 abbrev pub read_designation : Parsers → (depth : ℕ) → Parser Placed Role (Unit {0})

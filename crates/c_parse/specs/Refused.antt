@@ -1,10 +1,10 @@
 -- Why tokens gave no unit.
 use Rattle.std.specs.Prelude.{◌≤◌, List, length, drop}
-use Rattle.c_spec.specs.Lexical.{Placed}
-use Rattle.c_grammar_spec.specs.declared.ParseFaultKind.{ParseFaultKind}
-use Rattle.c_grammar_spec.specs.declared.ParseFaultKind.TheVariants.{Depth}
-use Rattle.c_grammar_spec.specs.declared.Role.{Role}
-use Rattle.c_grammar_spec.specs.Faults.{IsFault, fault_kind}
+use Rattle.c_token_spec.specs.Lexical.{Placed}
+use Rattle.c_parse_spec.specs.declared.ParseFaultKind.{ParseFaultKind}
+use Rattle.c_parse_spec.specs.declared.ParseFaultKind.TheVariants.{Depth}
+use Rattle.c_parse_spec.specs.declared.Role.{Role}
+use Rattle.c_parse_spec.specs.Faults.{IsFault, fault_kind}
 use Rattle.exact_read.specs.Reading.{Fault as Stop, LimitExceeded, Wrong}
 use Rattle.c_parse.specs.declared.ParseError.{ParseError}
 use Rattle.c_parse.specs.declared.ParseError.TheVariants.{Fault, NoMemory}

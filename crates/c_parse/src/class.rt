@@ -1,11 +1,11 @@
 //! Classes of tokens in an initial value, and the typedef names that come into scope.
 
 ghost use Rattle.std.specs.Prelude.{◌≡◌, IfOk, false};
-ghost use Rattle.c_grammar_spec.specs.Expressions.{is_typedef_name};
-ghost use Rattle.c_grammar_spec.specs.Units.{is_typedef, name_of_global, names_after};
-ghost use Rattle.c_expression_laws.specs.Parsers.{next_is};
-ghost use Rattle.c_expression_laws.specs.Firsts as firsts;
-ghost use Rattle.c_statement_laws.specs.Initializers as initializers;
+ghost use Rattle.c_parse_spec.specs.Expressions.{is_typedef_name};
+ghost use Rattle.c_parse_spec.specs.Units.{is_typedef, name_of_global, names_after};
+ghost use Rattle.c_parse_laws.specs.Parsers.{next_is};
+ghost use Rattle.c_parse_laws.specs.Firsts as firsts;
+ghost use Rattle.c_parse_laws.specs.Initializers as initializers;
 ghost use Rattle.c_syntax.specs.Expressions.{specifiers_of};
 ghost use Rattle.c_syntax.specs.Units.{global_of};
 ghost use Rattle.c_parse_token.specs.Lists.{list_of, names_of};
@@ -13,10 +13,10 @@ ghost use Rattle.c_token.specs.Pieces.{token_of};
 
 use c_parse_token::class::is_mark;
 use c_parse_token::{Tokens, TypedefNames, attempt};
-use c_spec::token::{Keyword, Punctuator};
 use c_syntax::expression::Specifiers;
 use c_syntax::unit::Global;
 use c_token::Kind;
+use c_token_spec::token::{Keyword, Punctuator};
 use std::alloc::AllocError;
 
 // The token begins an expression.

@@ -1,10 +1,10 @@
 //! The globals of an external declaration, and the typedef names in scope after them (6.7, 6.7.9).
 
 ghost use Rattle.std.specs.Prelude.{◌≡◌, ◌++◌, ◌∷◌, [], IfOk, false, map};
-ghost use Rattle.c_grammar_spec.specs.Expressions.{is_typedef_name};
-ghost use Rattle.c_grammar_spec.specs.Units.{name_of_global, names_after};
+ghost use Rattle.c_parse_spec.specs.Expressions.{is_typedef_name};
+ghost use Rattle.c_parse_spec.specs.Units.{name_of_global, names_after};
 ghost use Rattle.exact_read.specs.Grammar.{read_map};
-ghost use Rattle.c_statement_laws.specs.Units as units;
+ghost use Rattle.c_parse_laws.specs.Units as units;
 ghost use Rattle.c_syntax.specs.Expressions.{specifiers_of, unboxed};
 ghost use Rattle.c_syntax.specs.Units.{global_of, external_declaration_of};
 ghost use Rattle.c_parse_token.specs.Lists.{names_of, Parses, IsShorter, IsNoLonger};
@@ -12,12 +12,12 @@ ghost use Rattle.c_parse.specs.Following.{read_value, read_globals_after, declar
 
 use crate::class::{declare, is_typedef};
 use crate::initial::initial;
-use c_grammar_spec::{Role, STATEMENT_FUEL};
 use c_parse_declaration::{Scope, global};
+use c_parse_spec::{Role, STATEMENT_FUEL};
 use c_parse_token::{Stopped, Tokens, TypedefNames, allocated, attempt};
-use c_spec::token::Punctuator;
 use c_syntax::expression::{Specifiers, boxed};
 use c_syntax::unit::{ExternalDeclaration, Global as GlobalDeclarator};
+use c_token_spec::token::Punctuator;
 use std::alloc::Global;
 
 // `=` and the initial value of a global, or nothing: what is expected after it.

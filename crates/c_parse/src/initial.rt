@@ -2,18 +2,18 @@
 
 ghost use Rattle.std.specs.Prelude.{◌≤◌, IfOk};
 ghost use Rattle.exact_read.specs.Grammar.{read_map};
-ghost use Rattle.c_statement_laws.specs.Initializers as initializers;
+ghost use Rattle.c_parse_laws.specs.Initializers as initializers;
 ghost use Rattle.c_parse_token.specs.Lists.{Parses, IsShorter};
 ghost use Rattle.c_parse_declaration.specs.Parts.{names_in, parsers_in};
 ghost use Rattle.c_parse.specs.Following.{read_designation};
-ghost use Rattle.c_grammar_spec.specs.Limits.{nesting_limit};
+ghost use Rattle.c_parse_spec.specs.Limits.{nesting_limit};
 
 use crate::class::{starts_designator, starts_initial};
-use c_grammar_spec::Role;
 use c_parse_declaration::Scope;
 use c_parse_expression::whole;
+use c_parse_spec::Role;
 use c_parse_token::{Fault, Stopped, Tokens, attempt};
-use c_spec::token::Punctuator;
+use c_token_spec::token::Punctuator;
 
 // `.` and a member, or an index in brackets.
 fn designator<'t>(scope: Scope<'_, 't>, tokens: &mut Tokens<'t>) -> Result<(), Stopped>

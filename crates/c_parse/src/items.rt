@@ -1,9 +1,9 @@
 //! External declarations, and the unit (6.9).
 
 ghost use Rattle.std.specs.Prelude.{◌≡◌, IfOk, [], false, map};
-ghost use Rattle.c_grammar_spec.specs.Expressions.{is_typedef_name};
-ghost use Rattle.c_grammar_spec.specs.Units.{name_of_global};
-ghost use Rattle.c_statement_laws.specs.Units as units;
+ghost use Rattle.c_parse_spec.specs.Expressions.{is_typedef_name};
+ghost use Rattle.c_parse_spec.specs.Units.{name_of_global};
+ghost use Rattle.c_parse_laws.specs.Units as units;
 ghost use Rattle.c_syntax.specs.Expressions.{specifiers_of, unboxed};
 ghost use Rattle.c_syntax.specs.Statements.{parts_in};
 ghost use Rattle.c_syntax.specs.Units.{function_of, global_of, external_declaration_of, unit_of};
@@ -12,16 +12,16 @@ ghost use Rattle.c_parse.specs.Following.{read_block, read_after_specifiers};
 
 use crate::class::is_typedef;
 use crate::globals::globals;
-use c_grammar_spec::Role;
 use c_parse_declaration::{Scope, external_specifiers, global};
+use c_parse_spec::Role;
 use c_parse_statement::parts;
 use c_parse_token::{Stopped, Tokens, TypedefNames, allocated, attempt};
-use c_spec::token::Punctuator;
 use c_syntax::expression::{Specifiers, boxed};
 use c_syntax::statement::Part;
 use c_syntax::unit::{
     ExternalDeclaration, FunctionDeclarator, Global as GlobalDeclarator, TranslationUnit,
 };
+use c_token_spec::token::Punctuator;
 use std::alloc::Global;
 
 // The body of a function in braces, and the offset of its `}`.

@@ -1,14 +1,14 @@
 //! The kind of a fault, by the token at fault and by what is expected in its place.
 
 ghost use Rattle.std.specs.Prelude.{◌≡◌};
-ghost use Rattle.c_grammar_spec.specs.declared.Role.TheVariants.{CallEnd};
-ghost use Rattle.c_grammar_spec.specs.Faults as faults;
+ghost use Rattle.c_parse_spec.specs.declared.Role.TheVariants.{CallEnd};
+ghost use Rattle.c_parse_spec.specs.Faults as faults;
 ghost use Rattle.c_parse_token.specs.Lists.{list_of};
 ghost use Rattle.c_token.specs.Pieces.{token_of};
 
-use c_grammar_spec::{LeftOut, ParseFaultKind, Role};
-use c_spec::token::{Keyword, Punctuator};
+use c_parse_spec::{LeftOut, ParseFaultKind, Role};
 use c_token::{Kind, Token};
+use c_token_spec::token::{Keyword, Punctuator};
 
 // The part of C that a keyword is of, where it is left out.
 fn left_out_keyword(word: Keyword) -> Option<LeftOut>

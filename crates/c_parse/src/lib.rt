@@ -1,28 +1,32 @@
 //! The syntax of C: what unit tokens are, or their first fault (ISO C11, 6.5 to 6.9).
 //!
 //! [`parse`] has the crate's contract: it gives the tree of a unit exactly where the tokens are
-//! one, and else the fault of the tokens with its kind. Both are defined in `c_grammar_spec`, by
-//! the grammar's derivations alone (`specs/Units.antt`, `specs/Faults.antt`).
+//! one, and else the fault of the tokens with its kind. Both are defined in `c_parse_spec`, by
+//! the grammar's derivations alone (`specs/Units.antt`, `specs/Faults.antt`). [`definition_in`] gives
+//! where the first struct or enum is defined within an initial value of a global, of which no tree
+//! is kept.
 #![tactic(auto)]
 
 ghost use Rattle.std.specs.Prelude.{◌≡◌, IfOk, IfErr, Err, drop};
-ghost use Rattle.c_tree_spec.specs.Unit as tree;
-ghost use Rattle.c_grammar_spec.specs.Faults.{IsUnit, offset_of};
+ghost use Rattle.c_syntax_spec.specs.Unit as tree;
+ghost use Rattle.c_parse_spec.specs.Faults.{IsUnit, offset_of};
 ghost use Rattle.c_syntax.specs.Units.{unit_of};
-ghost use Rattle.c_statement_laws.specs.Units.{read_external_declarations};
+ghost use Rattle.c_parse_laws.specs.Units.{read_external_declarations};
 ghost use Rattle.c_parse_token.specs.Lists.{list_of, fault_of, Gives};
 ghost use Rattle.c_parse.specs.Refused.{IsFaultOf, reported};
 
 mod class;
 mod globals;
 mod initial;
+mod initial_scan;
 mod items;
 mod kind;
 
-use c_grammar_spec::ParseFaultKind;
+use c_parse_spec::ParseFaultKind;
 use c_parse_token::{Fault, Stopped, Tokens};
 use c_syntax::unit::TranslationUnit;
 use c_token::Token;
+pub use initial_scan::definition_in;
 use items::unit;
 use kind::fault_kind;
 use std::alloc::Global;

@@ -3,22 +3,22 @@ use Rattle.std.proofs.Common.{◌≡◌, ℕ, ◌+◌, ◌<◌, true, false, Lis
 use Rattle.std.proofs.lemmas.List.{append_assoc, append-nil, map-append}
 use Rattle.std.specs.declared.alloc.Global.{Global}
 use Rattle.std.specs.declared.boxed.Box.{Box}
-use Rattle.c_spec.specs.declared.token.Punctuator.{Punctuator}
-use Rattle.c_spec.specs.declared.token.Punctuator.TheVariants as punctuator
-use Rattle.c_spec.specs.Lexical.{Placed}
-use Rattle.c_tree_spec.specs.Expression as tree
-use Rattle.c_grammar_spec.specs.declared.Role.{Role}
-use Rattle.c_grammar_spec.specs.declared.Role.TheVariants.{OperandEnd}
-use Rattle.c_grammar_spec.specs.Expressions.{operators}
-use Rattle.c_grammar_spec.specs.Leaves.{expected}
+use Rattle.c_token_spec.specs.declared.token.Punctuator.{Punctuator}
+use Rattle.c_token_spec.specs.declared.token.Punctuator.TheVariants as punctuator
+use Rattle.c_token_spec.specs.Lexical.{Placed}
+use Rattle.c_syntax_spec.specs.Expression as tree
+use Rattle.c_parse_spec.specs.declared.Role.{Role}
+use Rattle.c_parse_spec.specs.declared.Role.TheVariants.{OperandEnd}
+use Rattle.c_parse_spec.specs.Expressions.{operators}
+use Rattle.c_parse_spec.specs.Leaves.{expected}
 use Rattle.exact_read.specs.Reading.{Outcome, Parser}
 use Rattle.exact_read.specs.Grammar.{bind, context_after, read_many, read_map, read_then, read_nothing}
 use Rattle.exact_read.specs.Going.{Going}
 use Rattle.exact_read.proofs.Loops.{bind-ok, going-start, going-step, going-fault, going-end, going-same}
-use Rattle.c_expression_laws.specs.Classes.{is_mark, mark_offset}
-use Rattle.c_expression_laws.specs.Parsers.{Parsers, token, following, next_is}
-use Rattle.c_expression_laws.specs.Types as types
-use Rattle.c_declaration_laws.specs.Declarations.{read_list_from, last_of}
+use Rattle.c_parse_laws.specs.Classes.{is_mark, mark_offset}
+use Rattle.c_parse_laws.specs.Parsers.{Parsers, token, following, next_is}
+use Rattle.c_parse_laws.specs.Types as types
+use Rattle.c_parse_laws.specs.Declarations.{read_list_from, last_of}
 use Rattle.c_syntax.specs.Expressions as syntax
 use Rattle.c_token.specs.declared.Token.{Token}
 use Rattle.c_parse_token.specs.declared.outcome.Stopped.{Stopped}

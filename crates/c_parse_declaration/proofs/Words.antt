@@ -2,21 +2,21 @@
 use Rattle.std.proofs.Common.{◌≡◌, ℕ, ◌<◌, Bool, true, false, ◌||◌, List, [], ◌∷◌, length, drop, map, refl, ap, sym, ◌∙◌, Ok, Option, Some, None}
 use Rattle.std.specs.Prelude.{option_map, unwrap_or}
 use Rattle.std.specs.Option.{is_some}
-use Rattle.c_spec.specs.declared.token.Keyword.{Keyword}
-use Rattle.c_spec.specs.Lexical.{Placed}
-use Rattle.c_tree_spec.specs.Expression as tree
-use Rattle.c_grammar_spec.specs.declared.Role.{Role}
-use Rattle.c_grammar_spec.specs.declared.Role.TheVariants.{Nothing}
-use Rattle.c_grammar_spec.specs.Leaves.{plain}
-use Rattle.c_grammar_spec.specs.Expressions.{both}
+use Rattle.c_token_spec.specs.declared.token.Keyword.{Keyword}
+use Rattle.c_token_spec.specs.Lexical.{Placed}
+use Rattle.c_syntax_spec.specs.Expression as tree
+use Rattle.c_parse_spec.specs.declared.Role.{Role}
+use Rattle.c_parse_spec.specs.declared.Role.TheVariants.{Nothing}
+use Rattle.c_parse_spec.specs.Leaves.{plain}
+use Rattle.c_parse_spec.specs.Expressions.{both}
 use Rattle.exact_read.specs.Reading.{Outcome}
 use Rattle.exact_read.specs.Grammar.{read_map}
 use Rattle.exact_read.specs.Going.{Going}
 use Rattle.exact_read.proofs.Loops.{going-start, going-step, going-end, going-same}
-use Rattle.c_expression_laws.specs.Parsers.{token, next_is}
-use Rattle.c_expression_laws.specs.Types.{no_storage}
-use Rattle.c_expression_laws.specs.Specified.{read_around}
-use Rattle.c_declaration_laws.specs.Around.{LocalWord, LocalConst, LocalStatic, ExternalWord, ExternalConst, ExternalTypedef, ExternalExtern, ExternalStatic, ExternalInline, local_word, external_word, with_local, with_item, word_of, is_word, word_at, storage_of}
+use Rattle.c_parse_laws.specs.Parsers.{token, next_is}
+use Rattle.c_parse_laws.specs.Types.{no_storage}
+use Rattle.c_parse_laws.specs.Specified.{read_around}
+use Rattle.c_parse_laws.specs.Around.{LocalWord, LocalConst, LocalStatic, ExternalWord, ExternalConst, ExternalTypedef, ExternalExtern, ExternalStatic, ExternalInline, local_word, external_word, with_local, with_item, word_of, is_word, word_at, storage_of}
 use Rattle.c_parse_token.specs.Words.{first_with}
 use Rattle.c_parse_token.proofs.Steps.{begins-next}
 use Rattle.c_parse_declaration.specs.Words.{next_says, summary, read_words}

@@ -1,19 +1,19 @@
 -- Parts of calls, of expression statements and of declarations.
 use Rattle.std.specs.Prelude.{ℕ, ◌+◌, Bool, true, false, List}
-use Rattle.c_spec.specs.declared.token.Punctuator.TheVariants as punctuator
-use Rattle.c_spec.specs.Lexical.{Placed}
-use Rattle.c_tree_spec.specs.Expression as tree
-use Rattle.c_tree_spec.specs.Unit as unit
-use Rattle.c_grammar_spec.specs.declared.Role.{Role}
-use Rattle.c_grammar_spec.specs.declared.Role.TheVariants.{OperandEnd}
-use Rattle.c_grammar_spec.specs.Leaves.{expected}
-use Rattle.c_grammar_spec.specs.Expressions.{operators}
+use Rattle.c_token_spec.specs.declared.token.Punctuator.TheVariants as punctuator
+use Rattle.c_token_spec.specs.Lexical.{Placed}
+use Rattle.c_syntax_spec.specs.Expression as tree
+use Rattle.c_syntax_spec.specs.Unit as unit
+use Rattle.c_parse_spec.specs.declared.Role.{Role}
+use Rattle.c_parse_spec.specs.declared.Role.TheVariants.{OperandEnd}
+use Rattle.c_parse_spec.specs.Leaves.{expected}
+use Rattle.c_parse_spec.specs.Expressions.{operators}
 use Rattle.exact_read.specs.Reading.{Parser}
 use Rattle.exact_read.specs.Grammar.{read_then, read_map, read_many, read_nothing}
-use Rattle.c_expression_laws.specs.Classes.{is_mark, mark_offset}
-use Rattle.c_expression_laws.specs.Parsers.{Parsers, token, following}
-use Rattle.c_expression_laws.specs.Types.{expressions_of}
-use Rattle.c_declaration_laws.specs.Parameters as parameters
+use Rattle.c_parse_laws.specs.Classes.{is_mark, mark_offset}
+use Rattle.c_parse_laws.specs.Parsers.{Parsers, token, following}
+use Rattle.c_parse_laws.specs.Types.{expressions_of}
+use Rattle.c_parse_laws.specs.Parameters as parameters
 use Rattle.c_parse_token.specs.Lists.{names_of}
 use Rattle.c_parse_expression.specs.Whole.{expressions}
 use Rattle.c_parse_declaration.specs.declared.Scope.{Scope}

@@ -1,14 +1,14 @@
 -- What the words say that can be around a type specifier, and specifiers with them.
 use Rattle.std.specs.Prelude.{ℕ, Bool, true, false, List, [], ◌∷◌, Option, None, option_map, map}
-use Rattle.c_spec.specs.Lexical.{Placed, Token}
-use Rattle.c_tree_spec.specs.Expression as tree
-use Rattle.c_grammar_spec.specs.declared.Role.{Role}
+use Rattle.c_token_spec.specs.Lexical.{Placed, Token}
+use Rattle.c_syntax_spec.specs.Expression as tree
+use Rattle.c_parse_spec.specs.declared.Role.{Role}
 use Rattle.exact_read.specs.Reading.{Parser}
 use Rattle.exact_read.specs.Grammar.{read_map}
-use Rattle.c_expression_laws.specs.Parsers.{Parsers}
-use Rattle.c_expression_laws.specs.Types.{no_storage}
-use Rattle.c_expression_laws.specs.Specified.{read_around}
-use Rattle.c_declaration_laws.specs.Around as around
+use Rattle.c_parse_laws.specs.Parsers.{Parsers}
+use Rattle.c_parse_laws.specs.Types.{no_storage}
+use Rattle.c_parse_laws.specs.Specified.{read_around}
+use Rattle.c_parse_laws.specs.Around as around
 use Rattle.c_parse_token.specs.Words.{first_of}
 
 -- what a word says that can be around the type specifier of locals, or of an item

@@ -2,16 +2,16 @@
 
 ghost use Rattle.std.specs.Prelude.{◌≡◌, ◌≤◌, IfOk, IfSome, IfNone, Ok, Some, None};
 ghost use Rattle.std.specs.Prelude.{drop, map, [], option_map, false};
-ghost use Rattle.c_spec.specs.declared.token.Punctuator.TheVariants.{Semicolon};
-ghost use Rattle.c_grammar_spec.specs.declared.Role.TheVariants.{DeclaredName};
-ghost use Rattle.c_grammar_spec.specs.Expressions.{Alone, both, is_typedef_name};
-ghost use Rattle.c_grammar_spec.specs.Leaves.{expected};
-ghost use Rattle.c_grammar_spec.specs.Statements as grammar;
+ghost use Rattle.c_token_spec.specs.declared.token.Punctuator.TheVariants.{Semicolon};
+ghost use Rattle.c_parse_spec.specs.declared.Role.TheVariants.{DeclaredName};
+ghost use Rattle.c_parse_spec.specs.Expressions.{Alone, both, is_typedef_name};
+ghost use Rattle.c_parse_spec.specs.Leaves.{expected};
+ghost use Rattle.c_parse_spec.specs.Statements as grammar;
 ghost use Rattle.exact_read.specs.Grammar.{read_nothing};
-ghost use Rattle.c_expression_laws.specs.Parsers.{token, next_is};
-ghost use Rattle.c_expression_laws.specs.Types.{plain_name_at, read_declarator};
-ghost use Rattle.c_declaration_laws.specs.Around.{read_external_specifiers};
-ghost use Rattle.c_declaration_laws.specs.Declarations as declarations;
+ghost use Rattle.c_parse_laws.specs.Parsers.{token, next_is};
+ghost use Rattle.c_parse_laws.specs.Types.{plain_name_at, read_declarator};
+ghost use Rattle.c_parse_laws.specs.Around.{read_external_specifiers};
+ghost use Rattle.c_parse_laws.specs.Declarations as declarations;
 ghost use Rattle.c_syntax.specs.Names.{name_of, storage_of};
 ghost use Rattle.c_syntax.specs.Expressions.{specifiers_of, declarator_of, unboxed};
 ghost use Rattle.c_syntax.specs.Simples.{value_of};
@@ -22,21 +22,21 @@ ghost use Rattle.c_parse_token.specs.Lists.{Parses, TakesOne, IsShorter, IsNoLon
 ghost use Rattle.c_parse_expression.specs.Whole.{expressions};
 ghost use Rattle.c_parse_declaration.specs.Words.{says, next_says, read_words, read_specifiers};
 ghost use Rattle.c_parse_declaration.specs.Parts.{names_in, parsers_in};
-ghost use Rattle.c_grammar_spec.specs.Limits.{nesting_limit};
+ghost use Rattle.c_parse_spec.specs.Limits.{nesting_limit};
 
 use crate::statement::value;
 use crate::{Parsed, Scope};
-use c_grammar_spec::Role;
 use c_parse_expression::{base, dimensions};
+use c_parse_spec::Role;
 use c_parse_token::class::begins_type;
 use c_parse_token::{
     Fault, Stopped, Tokens, TypedefNames, allocated, attempt, pointer, type_specifier_head,
 };
-use c_spec::token::{Keyword, Punctuator};
 use c_syntax::expression::{Declarator, Name, Specifiers, Storage, boxed};
 use c_syntax::simple::Value;
 use c_syntax::statement::{Local, Locals};
 use c_token::Kind;
+use c_token_spec::token::{Keyword, Punctuator};
 use std::alloc::Global;
 
 /// Which of `typedef` and `static` are among some words.

@@ -2,15 +2,15 @@
 
 ghost use Rattle.std.specs.Prelude.{◌≡◌, ◌≤◌, IfOk, IfSome, IfNone, Ok, map};
 ghost use Rattle.std.specs.Prelude.{option_map, [], true, false};
-ghost use Rattle.c_spec.specs.declared.token.Punctuator.TheVariants.{RightParenthesis};
-ghost use Rattle.c_grammar_spec.specs.declared.Role.TheVariants.{Nothing};
-ghost use Rattle.c_grammar_spec.specs.Expressions.{is_typedef_name};
-ghost use Rattle.c_grammar_spec.specs.Leaves.{plain};
-ghost use Rattle.c_grammar_spec.specs.Units.{name_of_global};
+ghost use Rattle.c_token_spec.specs.declared.token.Punctuator.TheVariants.{RightParenthesis};
+ghost use Rattle.c_parse_spec.specs.declared.Role.TheVariants.{Nothing};
+ghost use Rattle.c_parse_spec.specs.Expressions.{is_typedef_name};
+ghost use Rattle.c_parse_spec.specs.Leaves.{plain};
+ghost use Rattle.c_parse_spec.specs.Units.{name_of_global};
 ghost use Rattle.exact_read.specs.Grammar.{read_map, read_nothing};
-ghost use Rattle.c_expression_laws.specs.Parsers.{token, next_is};
-ghost use Rattle.c_declaration_laws.specs.Declarations.{read_list_from};
-ghost use Rattle.c_declaration_laws.specs.Parameters as parameters;
+ghost use Rattle.c_parse_laws.specs.Parsers.{token, next_is};
+ghost use Rattle.c_parse_laws.specs.Declarations.{read_list_from};
+ghost use Rattle.c_parse_laws.specs.Parameters as parameters;
 ghost use Rattle.c_syntax.specs.Names.{name_of};
 ghost use Rattle.c_syntax.specs.Expressions.{specifiers_of, dimensions_of, unboxed};
 ghost use Rattle.c_syntax.specs.Units.{parameter_of, global_of};
@@ -19,17 +19,17 @@ ghost use Rattle.c_parse_token.specs.Lists.{Parses, TakesOne, IsShorter, IsNoLon
 ghost use Rattle.c_parse_expression.specs.Whole.{expressions};
 ghost use Rattle.c_parse_declaration.specs.Parts.{has_none, read_function};
 ghost use Rattle.c_parse_declaration.specs.Parts.{names_in, parsers_in};
-ghost use Rattle.c_grammar_spec.specs.Limits.{nesting_limit};
+ghost use Rattle.c_parse_spec.specs.Limits.{nesting_limit};
 
 use crate::declaration::{declared_name, stored};
 use crate::{Parsed, Scope};
-use c_grammar_spec::Role;
 use c_parse_expression::{dimensions, specifiers};
+use c_parse_spec::Role;
 use c_parse_token::{Stopped, Tokens, TypedefNames, allocated, attempt, consts, pointer};
-use c_spec::token::{Keyword, Punctuator};
 use c_syntax::expression::{Declarator, Dimensions, Name, Specifiers, TypeSpecifier, boxed};
 use c_syntax::unit::{FunctionDeclarator, Global as GlobalDeclarator, Parameter};
 use c_token::Kind;
+use c_token_spec::token::{Keyword, Punctuator};
 use std::alloc::Global;
 
 // `void`, if it is next: its offset.

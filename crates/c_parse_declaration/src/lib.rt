@@ -4,7 +4,7 @@
 //! The main calls are [`simple`], [`locals`] and [`global`]. Each parser takes its tokens off
 //! [`Tokens`](c_parse_token::Tokens), and gives exactly what the reference parser gives that its
 //! contract names, of `specs/Values.antt`, `specs/Declarations.antt` and `specs/Around.antt` of
-//! `c_declaration_laws` and of `specs/Parameters.antt` of `c_declaration_laws`.
+//! `c_parse_laws` and of `specs/Parameters.antt` of `c_parse_laws`.
 #![tactic(auto)]
 
 mod declaration;

@@ -2,29 +2,29 @@
 
 ghost use Rattle.std.specs.Prelude.{◌≡◌, ◌≤◌, IfOk, suc, [], option_map};
 ghost use Rattle.std.specs.Option.{is_some};
-ghost use Rattle.c_grammar_spec.specs.declared.Role.TheVariants.{Nothing};
-ghost use Rattle.c_grammar_spec.specs.Expressions.{operators};
-ghost use Rattle.c_grammar_spec.specs.Leaves.{operates};
-ghost use Rattle.c_expression_laws.specs.Classes.{with_offset};
-ghost use Rattle.c_expression_laws.specs.Parsers.{token, next_is};
-ghost use Rattle.c_declaration_laws.specs.Values as values;
+ghost use Rattle.c_parse_spec.specs.declared.Role.TheVariants.{Nothing};
+ghost use Rattle.c_parse_spec.specs.Expressions.{operators};
+ghost use Rattle.c_parse_spec.specs.Leaves.{operates};
+ghost use Rattle.c_parse_laws.specs.Classes.{with_offset};
+ghost use Rattle.c_parse_laws.specs.Parsers.{token, next_is};
+ghost use Rattle.c_parse_laws.specs.Values as values;
 ghost use Rattle.c_syntax.specs.Names.{name_of};
 ghost use Rattle.c_syntax.specs.Expressions.{expression_of, expressions_in};
 ghost use Rattle.c_syntax.specs.Simples.{call_of, value_of, simple_of};
 ghost use Rattle.c_token.specs.Pieces.{token_of};
 ghost use Rattle.c_parse_token.specs.Lists.{list_of, Parses, TakesOne, IsNoLonger};
 ghost use Rattle.c_parse_declaration.specs.Parts.{parsers_in, read_arguments_from};
-ghost use Rattle.c_grammar_spec.specs.Limits.{nesting_limit, operator_limit};
+ghost use Rattle.c_parse_spec.specs.Limits.{nesting_limit, operator_limit};
 
 use crate::{Parsed, Scope};
-use c_grammar_spec::{OPERATOR_LIMIT, Role};
 use c_parse_expression::{any_unary, conditional, whole};
+use c_parse_spec::{OPERATOR_LIMIT, Role};
 use c_parse_token::{Fault, Stopped, Tokens, allocated, attempt};
-use c_spec::token::Punctuator;
 use c_syntax::expression::{Expression, Name, boxed};
 use c_syntax::simple::{Call, Simple, Value};
+use c_syntax_spec::{BinaryOperator, StepOperator};
 use c_token::Kind;
-use c_tree_spec::{BinaryOperator, StepOperator};
+use c_token_spec::token::Punctuator;
 use std::alloc::Global;
 
 // The operator of an assignment with an operator.

@@ -1,18 +1,18 @@
 -- Lists in types from their first.
 use Rattle.std.proofs.Common.{◌≡◌, ℕ, suc, Bool, true, false, subst, List, [], ◌∷◌, ◌++◌, refl, ap, sym, ◌∙◌, Ok, Err, Option, Some, None}
-use Rattle.c_spec.specs.declared.token.Punctuator.TheVariants as punctuator
-use Rattle.c_spec.specs.Lexical.{Placed}
-use Rattle.c_tree_spec.specs.Expression as tree
-use Rattle.c_grammar_spec.specs.declared.Role.{Role}
-use Rattle.c_grammar_spec.specs.declared.Role.TheVariants.{Nothing}
-use Rattle.c_grammar_spec.specs.Leaves.{expected, opens, plain}
-use Rattle.c_grammar_spec.specs.Expressions.{Counting, advance, count_at, member_end, operators, operators_of_declarator}
+use Rattle.c_token_spec.specs.declared.token.Punctuator.TheVariants as punctuator
+use Rattle.c_token_spec.specs.Lexical.{Placed}
+use Rattle.c_syntax_spec.specs.Expression as tree
+use Rattle.c_parse_spec.specs.declared.Role.{Role}
+use Rattle.c_parse_spec.specs.declared.Role.TheVariants.{Nothing}
+use Rattle.c_parse_spec.specs.Leaves.{expected, opens, plain}
+use Rattle.c_parse_spec.specs.Expressions.{Counting, advance, count_at, member_end, operators, operators_of_declarator}
 use Rattle.exact_read.specs.Reading.{Outcome, Parser}
 use Rattle.exact_read.specs.Grammar.{bind, read_then, read_many}
 use Rattle.exact_read.proofs.Loops.{bind-ok}
-use Rattle.c_expression_laws.specs.Classes.{mark_offset, name_at}
-use Rattle.c_expression_laws.specs.Parsers.{Parsers, token}
-use Rattle.c_expression_laws.specs.Types as types
+use Rattle.c_parse_laws.specs.Classes.{mark_offset, name_at}
+use Rattle.c_parse_laws.specs.Parsers.{Parsers, token}
+use Rattle.c_parse_laws.specs.Types as types
 use Rattle.c_syntax.specs.Expressions as syntax
 use Rattle.c_parse_expression.specs.Steps.{starts_declarator, read_next_declarator, after_declarator, read_more_declarators, list_end, list_close, given, read_constants_from, counting_of, read_all_members, read_ended, read_open_array, read_given_array, read_lengths_from, starts_length, after_length}
 use Rattle.c_parse_expression.proofs.Constants.{Row}

@@ -1,21 +1,21 @@
 -- The loop over constants of an enumeration, and lists in types from their first.
 use Rattle.std.proofs.Common.{◌≡◌, ℕ, ◌<◌, Bool, true, false, List, [], ◌∷◌, ◌++◌, length, refl, ap, ◌∙◌, Ok, Err, Option, Some, None, cond}
 use Rattle.std.specs.Option.{is_some}
-use Rattle.c_spec.specs.declared.token.Punctuator.TheVariants as punctuator
-use Rattle.c_spec.specs.Lexical.{Placed, Token, Name, Word, Number, Character, Mark}
+use Rattle.c_token_spec.specs.declared.token.Punctuator.TheVariants as punctuator
+use Rattle.c_token_spec.specs.Lexical.{Placed, Token, Name, Word, Number, Character, Mark}
 use Rattle.c_token.specs.declared.Token.{Token as TokenRow}
-use Rattle.c_tree_spec.specs.Expression as tree
-use Rattle.c_grammar_spec.specs.declared.Role.{Role}
-use Rattle.c_grammar_spec.specs.declared.Role.TheVariants.{Nothing}
-use Rattle.c_grammar_spec.specs.Leaves.{plain}
-use Rattle.c_grammar_spec.specs.Expressions.{is_typedef_name, Counting}
+use Rattle.c_syntax_spec.specs.Expression as tree
+use Rattle.c_parse_spec.specs.declared.Role.{Role}
+use Rattle.c_parse_spec.specs.declared.Role.TheVariants.{Nothing}
+use Rattle.c_parse_spec.specs.Leaves.{plain}
+use Rattle.c_parse_spec.specs.Expressions.{is_typedef_name, Counting}
 use Rattle.exact_read.specs.Reading.{Fault, Outcome, Parser}
 use Rattle.exact_read.specs.Grammar.{bind}
 use Rattle.exact_read.specs.Going.{begins, Going}
 use Rattle.exact_read.proofs.Loops.{bind-ok, going-start, going-step, going-fault, going-end, going-same}
-use Rattle.c_expression_laws.specs.Classes.{is_mark, mark_offset}
-use Rattle.c_expression_laws.specs.Parsers.{Parsers, token, next_is}
-use Rattle.c_expression_laws.specs.Types as types
+use Rattle.c_parse_laws.specs.Classes.{is_mark, mark_offset}
+use Rattle.c_parse_laws.specs.Parsers.{Parsers, token, next_is}
+use Rattle.c_parse_laws.specs.Types as types
 use Rattle.c_parse_token.specs.Lists.{list_of}
 use Rattle.c_parse_token.proofs.Steps.{fewer}
 use Rattle.c_parse_expression.specs.Steps.{given, read_constants_from}

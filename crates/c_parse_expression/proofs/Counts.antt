@@ -1,8 +1,8 @@
 -- How many operators lists of parts of types have, and counting on.
 use Rattle.std.proofs.Common.{◌≡◌, ℕ, ◌+◌, Bool, true, false, List, [], ◌∷◌, ◌++◌, refl, ap, arith, Option, Some, None}
-use Rattle.c_tree_spec.specs.Expression as tree
-use Rattle.c_grammar_spec.specs.Expressions.{Within, advance, count_at, operators, operators_of_members, operators_of_declarators, operators_of_declarator, operators_of_lengths, operators_of_constants}
-use Rattle.c_expression_laws.specs.Types as types
+use Rattle.c_syntax_spec.specs.Expression as tree
+use Rattle.c_parse_spec.specs.Expressions.{Within, advance, count_at, operators, operators_of_members, operators_of_declarators, operators_of_declarator, operators_of_lengths, operators_of_constants}
+use Rattle.c_parse_laws.specs.Types as types
 use Rattle.c_syntax.specs.Expressions as syntax
 use Rattle.c_parse_expression.specs.Steps.{counting_of}
 

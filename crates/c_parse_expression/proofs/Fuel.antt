@@ -1,11 +1,11 @@
 -- The reference parsers with fuel left.
 use Rattle.std.proofs.Common.{◌≡◌, ℕ, zero, suc, ◌-◌, List, refl, arith, Err}
-use Rattle.c_spec.specs.Lexical.{Placed}
-use Rattle.c_grammar_spec.specs.Expressions.{Counting}
+use Rattle.c_token_spec.specs.Lexical.{Placed}
+use Rattle.c_parse_spec.specs.Expressions.{Counting}
 use Rattle.exact_read.specs.Reading.{LimitExceeded}
-use Rattle.c_expression_laws.specs.Parsers.{read_cast, read_unary, read_conditional}
-use Rattle.c_expression_laws.specs.Types.{read_specifiers, read_type_name}
-use Rattle.c_expression_laws.specs.Fuel.{parsers}
+use Rattle.c_parse_laws.specs.Parsers.{read_cast, read_unary, read_conditional}
+use Rattle.c_parse_laws.specs.Types.{read_specifiers, read_type_name}
+use Rattle.c_parse_laws.specs.Fuel.{parsers}
 
 pub cast-fueled : (names : List (List ℕ)) (fuel depth count : ℕ) (tokens : List Placed) → (fuel ≡ 0 → ⊥) → (parsers names fuel).cast depth count tokens ≡ read_cast names (parsers names (fuel - 1)) depth count tokens
 unfolding parsers

@@ -2,9 +2,9 @@
 use Rattle.std.proofs.Common.{◌≡◌, ◌<◌, Bool, true, false, List, [], ◌∷◌, ◌++◌, length, map, refl, ap, ◌∙◌, subst, Ok, Err}
 use Rattle.std.specs.declared.alloc.Global.{Global}
 use Rattle.std.specs.declared.boxed.Box.{Box}
-use Rattle.c_spec.specs.Lexical.{Placed}
+use Rattle.c_token_spec.specs.Lexical.{Placed}
 use Rattle.c_token.specs.declared.Token.{Token as TokenRow}
-use Rattle.c_grammar_spec.specs.declared.Role.{Role}
+use Rattle.c_parse_spec.specs.declared.Role.{Role}
 use Rattle.exact_read.specs.Reading.{Fault, Outcome, Parser}
 use Rattle.exact_read.specs.Grammar.{bind, read_many}
 use Rattle.exact_read.specs.Going.{begins, Going}

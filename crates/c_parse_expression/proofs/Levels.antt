@@ -1,10 +1,10 @@
 -- The levels of operators.
 use Rattle.std.proofs.Common.{◌≡◌, ℕ, zero, suc, ◌+◌, ◌-◌, ◌≤◌, List, refl, sym, subst, arith, Ok, Err}
-use Rattle.c_spec.specs.Lexical.{Placed}
-use Rattle.c_tree_spec.specs.Expression as tree
-use Rattle.c_grammar_spec.specs.declared.Role.{Role}
+use Rattle.c_token_spec.specs.Lexical.{Placed}
+use Rattle.c_syntax_spec.specs.Expression as tree
+use Rattle.c_parse_spec.specs.declared.Role.{Role}
 use Rattle.exact_read.specs.Reading.{Fault}
-use Rattle.c_expression_laws.specs.Parsers.{Parsers, read_binary, read_operations}
+use Rattle.c_parse_laws.specs.Parsers.{Parsers, read_binary, read_operations}
 
 -- a level begins with the one below it
 next_level : (inner : Parsers) (depth level below count : ℕ) (fault : Fault Role × List Placed) (tokens : List Placed) → suc below ≡ level → read_binary inner depth below count tokens ≡ Err fault → read_binary inner depth level count tokens ≡ Err fault

@@ -1,16 +1,16 @@
 -- The loop over the operations of a level.
 use Rattle.std.proofs.Common.{◌≡◌, ℕ, suc, ◌+◌, ◌<◌, Bool, true, false, List, [], ◌∷◌, length, refl, sym, ◌∙◌, subst, arith, Ok, Err, Option, Some, None, cond}
 use Rattle.std.specs.Option.{is_some}
-use Rattle.c_spec.specs.Lexical.{Placed, Token}
-use Rattle.c_tree_spec.specs.declared.BinaryOperator.{BinaryOperator}
-use Rattle.c_tree_spec.specs.Expression as tree
-use Rattle.c_grammar_spec.specs.declared.Role.{Role}
-use Rattle.c_grammar_spec.specs.Expressions.{operators}
+use Rattle.c_token_spec.specs.Lexical.{Placed, Token}
+use Rattle.c_syntax_spec.specs.declared.BinaryOperator.{BinaryOperator}
+use Rattle.c_syntax_spec.specs.Expression as tree
+use Rattle.c_parse_spec.specs.declared.Role.{Role}
+use Rattle.c_parse_spec.specs.Expressions.{operators}
 use Rattle.exact_read.specs.Reading.{Fault, Outcome}
 use Rattle.exact_read.specs.Going.{Folding}
 use Rattle.exact_read.proofs.Loops.{going-start, folding-step, folding-fault, going-end}
-use Rattle.c_expression_laws.specs.Classes.{binary_operator, is_level, of_level}
-use Rattle.c_expression_laws.specs.Parsers.{Parsers, Left, Operation, next_is, starts_level, starts_operation, with_operation, next_left, left_of, read_operation, read_operations}
+use Rattle.c_parse_laws.specs.Classes.{binary_operator, is_level, of_level}
+use Rattle.c_parse_laws.specs.Parsers.{Parsers, Left, Operation, next_is, starts_level, starts_operation, with_operation, next_left, left_of, read_operation, read_operations}
 use Rattle.c_token.specs.declared.Token.{Token as TokenRow}
 use Rattle.c_parse_token.specs.Lists.{list_of}
 use Rattle.c_parse_token.proofs.Steps.{begins-next, fewer}

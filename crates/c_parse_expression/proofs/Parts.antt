@@ -3,10 +3,10 @@ use Rattle.std.proofs.Common.{◌≡◌, true, false, List, [], ◌∷◌, map, 
 use Rattle.std.specs.declared.alloc.Global.{Global}
 use Rattle.std.specs.declared.boxed.Box.{Box}
 use Rattle.std.specs.Option.{option_map_or}
-use Rattle.c_tree_spec.specs.Expression as tree
-use Rattle.c_grammar_spec.specs.declared.Role.TheVariants.{Nothing, OperandEnd, MemberEnd}
-use Rattle.c_grammar_spec.specs.Expressions as grammar
-use Rattle.c_expression_laws.specs.Types as types
+use Rattle.c_syntax_spec.specs.Expression as tree
+use Rattle.c_parse_spec.specs.declared.Role.TheVariants.{Nothing, OperandEnd, MemberEnd}
+use Rattle.c_parse_spec.specs.Expressions as grammar
+use Rattle.c_parse_laws.specs.Types as types
 use Rattle.c_syntax.specs.declared.expression.Expression.{Expression}
 use Rattle.c_syntax.specs.declared.expression.Constant.{Constant, roll-out-Constant}
 use Rattle.c_syntax.specs.declared.expression.Declarator.{Declarator, out-Declarator, roll-out-Declarator}

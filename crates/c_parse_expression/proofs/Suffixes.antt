@@ -1,14 +1,14 @@
 -- The loop over suffixes.
 use Rattle.std.proofs.Common.{◌≡◌, ℕ, ◌+◌, ◌<◌, true, false, List, length, refl, ◌∙◌, subst, Ok, Err}
-use Rattle.c_spec.specs.Lexical.{Placed}
-use Rattle.c_tree_spec.specs.Expression as tree
-use Rattle.c_grammar_spec.specs.declared.Role.{Role}
-use Rattle.c_grammar_spec.specs.Expressions.{operators}
+use Rattle.c_token_spec.specs.Lexical.{Placed}
+use Rattle.c_syntax_spec.specs.Expression as tree
+use Rattle.c_parse_spec.specs.declared.Role.{Role}
+use Rattle.c_parse_spec.specs.Expressions.{operators}
 use Rattle.exact_read.specs.Reading.{Fault, Outcome}
 use Rattle.exact_read.specs.Going.{Folding}
 use Rattle.exact_read.proofs.Loops.{going-start, folding-step, folding-fault, going-end}
-use Rattle.c_expression_laws.specs.Classes.{is_suffix}
-use Rattle.c_expression_laws.specs.Parsers.{Parsers, Suffix, ByIndex, ByMember, next_is, starts_suffix, count_suffix, with_suffix, read_suffix, read_suffixes_after}
+use Rattle.c_parse_laws.specs.Classes.{is_suffix}
+use Rattle.c_parse_laws.specs.Parsers.{Parsers, Suffix, ByIndex, ByMember, next_is, starts_suffix, count_suffix, with_suffix, read_suffix, read_suffixes_after}
 use Rattle.c_token.specs.declared.Token.{Token as TokenRow}
 use Rattle.c_parse_token.specs.Lists.{list_of}
 use Rattle.c_parse_token.proofs.Steps.{begins-next, fewer}

@@ -1,22 +1,22 @@
--- The reference parsers of the program's functions, where `c_expression_laws` has no name for them.
+-- The reference parsers of the program's functions, where `c_parse_laws` has no name for them.
 use Rattle.std.specs.Prelude.{◌≡◌, ◌≤◌, ◌+◌, Result, ℕ, suc, Bool, true, false, List, [], ◌∷◌, ◌++◌, map, Option, Some, None, Ok, Err, Vec}
 use Rattle.std.specs.declared.alloc.Global.{Global}
 use Rattle.std.specs.declared.boxed.Box.{Box}
-use Rattle.c_spec.specs.declared.token.Punctuator.{Punctuator}
-use Rattle.c_spec.specs.declared.token.Punctuator.TheVariants as punctuator
-use Rattle.c_spec.specs.Lexical.{Placed}
-use Rattle.c_tree_spec.specs.Expression as tree
-use Rattle.c_grammar_spec.specs.Limits.{nesting_limit, operator_limit}
-use Rattle.c_grammar_spec.specs.declared.Role.{Role}
-use Rattle.c_grammar_spec.specs.declared.Role.TheVariants.{Nothing, OperandEnd}
-use Rattle.c_grammar_spec.specs.Leaves.{expected, plain}
-use Rattle.c_grammar_spec.specs.Expressions.{Counting, Alone, Within, advance, count_at, member_end, operators, operators_of_specifiers, operators_of_declarator, operators_of_lengths, operators_of_constants}
+use Rattle.c_token_spec.specs.declared.token.Punctuator.{Punctuator}
+use Rattle.c_token_spec.specs.declared.token.Punctuator.TheVariants as punctuator
+use Rattle.c_token_spec.specs.Lexical.{Placed}
+use Rattle.c_syntax_spec.specs.Expression as tree
+use Rattle.c_parse_spec.specs.Limits.{nesting_limit, operator_limit}
+use Rattle.c_parse_spec.specs.declared.Role.{Role}
+use Rattle.c_parse_spec.specs.declared.Role.TheVariants.{Nothing, OperandEnd}
+use Rattle.c_parse_spec.specs.Leaves.{expected, plain}
+use Rattle.c_parse_spec.specs.Expressions.{Counting, Alone, Within, advance, count_at, member_end, operators, operators_of_specifiers, operators_of_declarator, operators_of_lengths, operators_of_constants}
 use Rattle.exact_read.specs.Reading.{Outcome, Parser}
 use Rattle.exact_read.specs.Grammar.{bind, read_map, read_then, read_many}
-use Rattle.c_expression_laws.specs.Classes.{is_mark, mark_offset, name_at, begins_type}
-use Rattle.c_expression_laws.specs.Parsers.{Parsers, token, following, before, choose, with_suffix, with_operation, read_operation, read_suffix, read_index, read_member, read_open, read_type, read_bracketed}
-use Rattle.c_expression_laws.specs.Fuel.{parsers}
-use Rattle.c_expression_laws.specs.Types as types
+use Rattle.c_parse_laws.specs.Classes.{is_mark, mark_offset, name_at, begins_type}
+use Rattle.c_parse_laws.specs.Parsers.{Parsers, token, following, before, choose, with_suffix, with_operation, read_operation, read_suffix, read_index, read_member, read_open, read_type, read_bracketed}
+use Rattle.c_parse_laws.specs.Fuel.{parsers}
+use Rattle.c_parse_laws.specs.Types as types
 use Rattle.c_syntax.specs.declared.expression.TypeSpecifier.{TypeSpecifier}
 use Rattle.c_syntax.specs.declared.expression.Constant.{Constant}
 use Rattle.c_syntax.specs.declared.expression.Declarator.{Declarator}

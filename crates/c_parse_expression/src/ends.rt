@@ -1,11 +1,11 @@
 //! What is expected after a part.
 
 ghost use Rattle.std.specs.Prelude.{◌≡◌};
-ghost use Rattle.c_grammar_spec.specs.Expressions as grammar;
-ghost use Rattle.c_expression_laws.specs.Types as types;
+ghost use Rattle.c_parse_spec.specs.Expressions as grammar;
+ghost use Rattle.c_parse_laws.specs.Types as types;
 ghost use Rattle.c_syntax.specs.Expressions.{declarator_of, constant_of};
 
-use c_grammar_spec::Role;
+use c_parse_spec::Role;
 use c_syntax::expression::{Constant, Declarator};
 
 /// What is expected after a member's declarator.

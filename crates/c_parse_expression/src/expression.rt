@@ -1,22 +1,22 @@
 //! Expressions (6.5).
 
 ghost use Rattle.std.specs.Prelude.{◌≡◌, ◌≤◌, ◌<◌, ◌+◌, suc};
-ghost use Rattle.c_grammar_spec.specs.Expressions.{operators, operators_of_type};
-ghost use Rattle.c_expression_laws.specs.Parsers as parsers;
+ghost use Rattle.c_parse_spec.specs.Expressions.{operators, operators_of_type};
+ghost use Rattle.c_parse_laws.specs.Parsers as parsers;
 ghost use Rattle.c_parse_token.specs.Lists.{IsShorter, IsNoLonger};
 ghost use Rattle.c_parse_expression.specs.Steps.{tree_of, type_of, read_ended};
 ghost use Rattle.c_parse_expression.specs.Steps.{read_operation_after, read_suffix_after};
 ghost use Rattle.c_parse_expression.specs.Steps.{read_index_after, read_sized_in_brackets};
 ghost use Rattle.c_parse_expression.specs.Steps.{around, names_in, expression_in, Fits, Counts};
 ghost use Rattle.c_parse_expression.specs.Steps.{Reads, ReadsExpression, ReadsAfter};
-ghost use Rattle.c_grammar_spec.specs.Limits.{nesting_limit, operator_limit};
+ghost use Rattle.c_parse_spec.specs.Limits.{nesting_limit, operator_limit};
 
 use crate::operand::{atom, member as member_access};
 use crate::specifier::type_name;
-use c_grammar_spec::Role;
+use c_parse_spec::Role;
 use c_parse_token::{Fault, Stopped, Tokens, TypedefNames, allocated, attempt};
-use c_spec::token::Punctuator;
 use c_syntax::expression::{Expression, TypeName};
+use c_token_spec::token::Punctuator;
 use std::alloc::Global;
 
 /// Where a part is parsed.

@@ -2,7 +2,7 @@
 //!
 //! The main calls are [`conditional`] and [`specifiers`]. Each parser takes its tokens off
 //! [`Tokens`](c_parse_token::Tokens), and gives exactly what the reference parser gives that its
-//! contract names, of `specs/Parsers.antt` and `specs/Types.antt` of `c_expression_laws`.
+//! contract names, of `specs/Parsers.antt` and `specs/Types.antt` of `c_parse_laws`.
 #![tactic(auto)]
 
 mod ends;
@@ -11,20 +11,20 @@ mod operand;
 mod specifier;
 
 ghost use Rattle.std.specs.Prelude.{◌≡◌, ◌≤◌, IfOk};
-ghost use Rattle.c_grammar_spec.specs.Expressions.{operators, Alone};
-ghost use Rattle.c_expression_laws.specs.Types as types;
+ghost use Rattle.c_parse_spec.specs.Expressions.{operators, Alone};
+ghost use Rattle.c_parse_laws.specs.Types as types;
 ghost use Rattle.c_syntax.specs.Expressions.{expression_of, specifiers_of, type_specifier_of};
 ghost use Rattle.c_syntax.specs.Expressions.{dimensions_of};
 ghost use Rattle.c_parse_token.specs.Lists.{names_of, IsCounted, Parses, IsNoLonger};
 ghost use Rattle.c_parse_token.specs.Words.{head_of};
 ghost use Rattle.c_parse_expression.specs.Whole.{expressions, read_any_unary};
-ghost use Rattle.c_grammar_spec.specs.Limits.{nesting_limit, operator_limit, expression_fuel};
+ghost use Rattle.c_parse_spec.specs.Limits.{nesting_limit, operator_limit, expression_fuel};
 
 use crate::expression::Scope;
-use c_grammar_spec::EXPRESSION_FUEL;
+use c_parse_spec::EXPRESSION_FUEL;
 use c_parse_token::{Head, Stopped, Tokens, TypedefNames, attempt};
-use c_spec::token::Punctuator;
 use c_syntax::expression::{Dimensions, Expression, Specifiers, TypeSpecifier};
+use c_token_spec::token::Punctuator;
 use std::alloc::Global;
 
 // Where an expression is parsed.

@@ -1,17 +1,17 @@
 //! Parts of expressions that hold nothing inside.
 
 ghost use Rattle.std.specs.Prelude.{◌≡◌, ◌≤◌, IfOk};
-ghost use Rattle.c_grammar_spec.specs.declared.Role.TheVariants.{Nothing};
-ghost use Rattle.c_grammar_spec.specs.Leaves.{plain};
-ghost use Rattle.c_grammar_spec.specs.Expressions.{operators, count_at};
-ghost use Rattle.c_expression_laws.specs.Classes.{atom_at};
-ghost use Rattle.c_expression_laws.specs.Parsers.{token};
+ghost use Rattle.c_parse_spec.specs.declared.Role.TheVariants.{Nothing};
+ghost use Rattle.c_parse_spec.specs.Leaves.{plain};
+ghost use Rattle.c_parse_spec.specs.Expressions.{operators, count_at};
+ghost use Rattle.c_parse_laws.specs.Classes.{atom_at};
+ghost use Rattle.c_parse_laws.specs.Parsers.{token};
 ghost use Rattle.c_parse_token.specs.Lists.{names_of, Parses, IsShorter};
 ghost use Rattle.c_parse_expression.specs.Steps.{tree_of, read_member_after, counting_of};
 ghost use Rattle.c_parse_expression.specs.Steps.{ReadsAfter};
-ghost use Rattle.c_grammar_spec.specs.Limits.{operator_limit};
+ghost use Rattle.c_parse_spec.specs.Limits.{operator_limit};
 
-use c_grammar_spec::Role;
+use c_parse_spec::Role;
 use c_parse_token::{Fault, Stopped, Tokens, TypedefNames, allocated, attempt};
 use c_syntax::expression::{Expression, Name};
 use c_token::Kind;

@@ -1,9 +1,9 @@
 //! The types in expressions, and the specifiers and arrays of declarations (6.7).
 
 ghost use Rattle.std.specs.Prelude.{◌≡◌, ◌≤◌, ◌<◌};
-ghost use Rattle.c_grammar_spec.specs.Expressions as grammar;
-ghost use Rattle.c_expression_laws.specs.Classes.{name_at};
-ghost use Rattle.c_expression_laws.specs.Types as types;
+ghost use Rattle.c_parse_spec.specs.Expressions as grammar;
+ghost use Rattle.c_parse_laws.specs.Classes.{name_at};
+ghost use Rattle.c_parse_laws.specs.Types as types;
 ghost use Rattle.c_syntax.specs.Expressions.{expressions_in, declarators_in, members_in};
 ghost use Rattle.c_syntax.specs.Expressions.{constants_in};
 ghost use Rattle.c_parse_token.specs.Lists.{IsShorter, IsNoLonger};
@@ -18,21 +18,21 @@ ghost use Rattle.c_parse_expression.specs.Steps.{read_lengths_from, read_constan
 ghost use Rattle.c_parse_expression.specs.Steps.{operators_of_array, operators_of_rows};
 ghost use Rattle.c_parse_expression.specs.Steps.{counting_of, counting_in, around, names_in};
 ghost use Rattle.c_parse_expression.specs.Steps.{Fits, Advances, Reads, ReadsPart};
-ghost use Rattle.c_grammar_spec.specs.Limits.{nesting_limit, operator_limit};
+ghost use Rattle.c_parse_spec.specs.Limits.{nesting_limit, operator_limit};
 
 use crate::ends::{constant_end, member_end};
 use crate::expression::{Parsed, Scope, conditional, ended};
 use crate::operand::begin_whole;
-use c_grammar_spec::Role;
+use c_parse_spec::Role;
 use c_parse_token::{
     Fault, Head, Stopped, Tokens, allocated, attempt, consts, integer_type, pointer,
     type_specifier_head,
 };
-use c_spec::token::Punctuator;
 use c_syntax::expression::{
     Constant, Declarator, Dimensions, Expression, Member, Specifiers, Storage, TypeName,
     TypeSpecifier,
 };
+use c_token_spec::token::Punctuator;
 
 type Rows<T> = Result<Vec<Box<T>>, Stopped>;
 

@@ -1,17 +1,17 @@
 -- Statements of many parts: `for` and `switch`.
 use Rattle.std.proofs.Common.{◌≡◌, ℕ, suc, List, refl, Ok, Err, Option}
-use Rattle.c_spec.specs.declared.token.Keyword.TheVariants.{For, Switch}
-use Rattle.c_spec.specs.declared.token.Punctuator.TheVariants as punctuator
-use Rattle.c_spec.specs.Lexical.{Placed}
-use Rattle.c_tree_spec.specs.Expression as tree
-use Rattle.c_tree_spec.specs.Unit as unit
-use Rattle.c_grammar_spec.specs.declared.Role.TheVariants.{Nothing}
-use Rattle.c_grammar_spec.specs.Leaves.{plain, opens}
-use Rattle.c_grammar_spec.specs.declared.Role.{Role}
+use Rattle.c_token_spec.specs.declared.token.Keyword.TheVariants.{For, Switch}
+use Rattle.c_token_spec.specs.declared.token.Punctuator.TheVariants as punctuator
+use Rattle.c_token_spec.specs.Lexical.{Placed}
+use Rattle.c_syntax_spec.specs.Expression as tree
+use Rattle.c_syntax_spec.specs.Unit as unit
+use Rattle.c_parse_spec.specs.declared.Role.TheVariants.{Nothing}
+use Rattle.c_parse_spec.specs.Leaves.{plain, opens}
+use Rattle.c_parse_spec.specs.declared.Role.{Role}
 use Rattle.exact_read.specs.Reading.{Fault}
-use Rattle.c_expression_laws.specs.Classes.{mark_offset}
-use Rattle.c_expression_laws.specs.Parsers.{Parsers, token}
-use Rattle.c_statement_laws.specs.Statements as statements
+use Rattle.c_parse_laws.specs.Classes.{mark_offset}
+use Rattle.c_parse_laws.specs.Parsers.{Parsers, token}
+use Rattle.c_parse_laws.specs.Statements as statements
 
 -- a `for`
 pub for-found : (names : List (List ℕ)) (inner : Parsers) (inside : statements.Statements) (depth below within : ℕ) (offset : ℕ) (bracket : ℕ) (start : unit.ForStart) (test : Option tree.Expression) (step : Option unit.Simple) (body : unit.Statement) (t0 t1 t2 t3 t4 t5 t6 : List Placed) → below ≡ suc depth → within ≡ suc (suc depth) → token Nothing (opens (suc depth)) (statements.keyword_offset For) t0 ≡ Ok (offset, t1) → token Nothing (opens (suc below)) (mark_offset punctuator.LeftParenthesis) t1 ≡ Ok (bracket, t2) → statements.read_for_start names inner within t2 ≡ Ok (start, t3) → statements.read_for_test inner within t3 ≡ Ok (test, t4) → statements.read_for_step inner within t4 ≡ Ok (step, t5) → inside below t5 ≡ Ok (body, t6)

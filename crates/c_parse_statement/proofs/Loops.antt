@@ -3,20 +3,20 @@ use Rattle.std.proofs.Common.{◌≡◌, ℕ, ◌<◌, Bool, true, false, not, �
 use Rattle.std.specs.Prelude.{Vec}
 use Rattle.std.specs.declared.alloc.Global.{Global}
 use Rattle.std.proofs.lemmas.List.{append-nil}
-use Rattle.c_spec.specs.declared.token.Keyword.TheVariants.{Case, Default, Else}
-use Rattle.c_spec.specs.declared.token.Punctuator.TheVariants as punctuator
-use Rattle.c_spec.specs.Lexical.{Placed, Token}
+use Rattle.c_token_spec.specs.declared.token.Keyword.TheVariants.{Case, Default, Else}
+use Rattle.c_token_spec.specs.declared.token.Punctuator.TheVariants as punctuator
+use Rattle.c_token_spec.specs.Lexical.{Placed, Token}
 use Rattle.c_token.specs.declared.Token.{Token as TokenRow}
-use Rattle.c_tree_spec.specs.Unit as unit
-use Rattle.c_grammar_spec.specs.declared.Role.{Role}
+use Rattle.c_syntax_spec.specs.Unit as unit
+use Rattle.c_parse_spec.specs.declared.Role.{Role}
 use Rattle.exact_read.specs.Reading.{Fault, Outcome, Parser}
 use Rattle.exact_read.specs.Grammar.{read_map}
 use Rattle.exact_read.specs.Going.{begins, Going}
 use Rattle.exact_read.proofs.Loops.{bind-ok, bind-err, going-start, going-step, going-fault, going-end}
-use Rattle.c_expression_laws.specs.Classes.{is_mark}
-use Rattle.c_expression_laws.specs.Parsers.{Parsers, next_is}
-use Rattle.c_statement_laws.specs.Statements as statements
-use Rattle.c_statement_laws.specs.Statements.{collect, before_part, Element, ElementLabel, ElementPart}
+use Rattle.c_parse_laws.specs.Classes.{is_mark}
+use Rattle.c_parse_laws.specs.Parsers.{Parsers, next_is}
+use Rattle.c_parse_laws.specs.Statements as statements
+use Rattle.c_parse_laws.specs.Statements.{collect, before_part, Element, ElementLabel, ElementPart}
 use Rattle.c_syntax.specs.declared.statement.Part.{Part}
 use Rattle.c_syntax.specs.Statements.{Piece, Declares, States, part_of, parts_of, parts_in, groups_of}
 use Rattle.c_parse_token.specs.declared.outcome.Stopped.{Stopped}

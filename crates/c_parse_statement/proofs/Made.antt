@@ -2,8 +2,8 @@
 use Rattle.std.proofs.Common.{◌≡◌, sym, ap, ◌∙◌, subst, List, Result, Ok, Err}
 use Rattle.std.specs.Prelude.{IfOk}
 use Rattle.c_token.specs.declared.Token.{Token}
-use Rattle.c_spec.specs.Lexical.{Placed}
-use Rattle.c_grammar_spec.specs.declared.Role.{Role}
+use Rattle.c_token_spec.specs.Lexical.{Placed}
+use Rattle.c_parse_spec.specs.declared.Role.{Role}
 use Rattle.exact_read.specs.Reading.{Outcome}
 use Rattle.c_parse_token.specs.declared.outcome.Stopped.{Stopped}
 use Rattle.c_parse_token.specs.Lists.{list_of, Gives}

@@ -1,12 +1,12 @@
 -- The steps of a run of items.
 use Rattle.std.proofs.Common.{◌≡◌, suc, ◌<◌, Bool, true, false, List, [], ◌∷◌, ◌++◌, length, Result, Ok, Err, IsErrAnd, sym, subst, arith}
 use Rattle.std.proofs.lemmas.List.{length-map}
-use Rattle.c_spec.specs.Lexical.{Placed, Token}
+use Rattle.c_token_spec.specs.Lexical.{Placed, Token}
 use Rattle.c_token.specs.declared.Token.{Token as TokenRow}
 use Rattle.c_token.specs.Pieces.{placed_of}
-use Rattle.c_grammar_spec.specs.declared.Role.{Role}
+use Rattle.c_parse_spec.specs.declared.Role.{Role}
 use Rattle.exact_read.specs.Reading.{Parser}
-use Rattle.c_expression_laws.specs.Parsers.{next_is}
+use Rattle.c_parse_laws.specs.Parsers.{next_is}
 use Rattle.c_parse_token.specs.declared.outcome.Stopped.{Stopped}
 use Rattle.c_parse_token.specs.declared.outcome.Stopped.TheVariants.{NoMemory, At}
 use Rattle.c_parse_token.specs.Lists.{list_of, Gives}

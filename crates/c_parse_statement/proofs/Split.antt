@@ -1,13 +1,13 @@
 -- A statement of which parts are read apart.
 use Rattle.std.proofs.Common.{◌≡◌, ℕ, suc, List, refl, Ok}
-use Rattle.c_spec.specs.declared.token.Keyword.TheVariants.{If}
-use Rattle.c_spec.specs.Lexical.{Placed}
-use Rattle.c_tree_spec.specs.Expression as tree
-use Rattle.c_tree_spec.specs.Unit as unit
-use Rattle.c_grammar_spec.specs.declared.Role.TheVariants.{Nothing}
-use Rattle.c_grammar_spec.specs.Leaves.{opens}
-use Rattle.c_expression_laws.specs.Parsers.{Parsers, token}
-use Rattle.c_statement_laws.specs.Statements as statements
+use Rattle.c_token_spec.specs.declared.token.Keyword.TheVariants.{If}
+use Rattle.c_token_spec.specs.Lexical.{Placed}
+use Rattle.c_syntax_spec.specs.Expression as tree
+use Rattle.c_syntax_spec.specs.Unit as unit
+use Rattle.c_parse_spec.specs.declared.Role.TheVariants.{Nothing}
+use Rattle.c_parse_spec.specs.Leaves.{opens}
+use Rattle.c_parse_laws.specs.Parsers.{Parsers, token}
+use Rattle.c_parse_laws.specs.Statements as statements
 use Rattle.c_parse_statement.specs.Pieces.{read_else}
 
 -- an `if` up to its body

@@ -1,21 +1,21 @@
 -- Parts of the reference parsers of statements, and of what they give.
 use Rattle.std.specs.Prelude.{ℕ, suc, ◌&&◌, not, Bool, List, map, Vec, Result, Ok, Err}
 use Rattle.std.specs.declared.alloc.Global.{Global}
-use Rattle.c_spec.specs.declared.token.Keyword.TheVariants.{Break, Continue, Else, Return}
-use Rattle.c_spec.specs.declared.token.Punctuator.TheVariants as punctuator
-use Rattle.c_spec.specs.Lexical.{Placed, Token}
-use Rattle.c_tree_spec.specs.Expression as tree
-use Rattle.c_tree_spec.specs.Unit as unit
-use Rattle.c_grammar_spec.specs.declared.Role.{Role}
-use Rattle.c_grammar_spec.specs.declared.Role.TheVariants.{Nothing}
-use Rattle.c_grammar_spec.specs.Leaves.{opens, expected}
-use Rattle.c_grammar_spec.specs.Statements.{takes_else, simple_end}
+use Rattle.c_token_spec.specs.declared.token.Keyword.TheVariants.{Break, Continue, Else, Return}
+use Rattle.c_token_spec.specs.declared.token.Punctuator.TheVariants as punctuator
+use Rattle.c_token_spec.specs.Lexical.{Placed, Token}
+use Rattle.c_syntax_spec.specs.Expression as tree
+use Rattle.c_syntax_spec.specs.Unit as unit
+use Rattle.c_parse_spec.specs.declared.Role.{Role}
+use Rattle.c_parse_spec.specs.declared.Role.TheVariants.{Nothing}
+use Rattle.c_parse_spec.specs.Leaves.{opens, expected}
+use Rattle.c_parse_spec.specs.Statements.{takes_else, simple_end}
 use Rattle.exact_read.specs.Reading.{Parser}
 use Rattle.exact_read.specs.Grammar.{read_map, read_nothing, read_then}
-use Rattle.c_expression_laws.specs.Classes.{mark_offset}
-use Rattle.c_expression_laws.specs.Parsers.{Parsers, token, following, choose}
-use Rattle.c_declaration_laws.specs.Values.{read_simple}
-use Rattle.c_statement_laws.specs.Statements as statements
+use Rattle.c_parse_laws.specs.Classes.{mark_offset}
+use Rattle.c_parse_laws.specs.Parsers.{Parsers, token, following, choose}
+use Rattle.c_parse_laws.specs.Values.{read_simple}
+use Rattle.c_parse_laws.specs.Statements as statements
 use Rattle.c_syntax.specs.declared.statement.Label.{Label}
 use Rattle.c_syntax.specs.declared.statement.Part.{Part}
 use Rattle.c_syntax.specs.Locals.{label_of}

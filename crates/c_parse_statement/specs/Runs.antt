@@ -1,10 +1,10 @@
 -- Items that are parsed one after the other.
 use Rattle.std.specs.Prelude.{◌≡◌, ◌<◌, Bool, true, false, List, [], ◌∷◌, length, Result, Ok, Err}
-use Rattle.c_spec.specs.Lexical.{Placed, Token}
+use Rattle.c_token_spec.specs.Lexical.{Placed, Token}
 use Rattle.c_token.specs.declared.Token.{Token as TokenRow}
-use Rattle.c_grammar_spec.specs.declared.Role.{Role}
+use Rattle.c_parse_spec.specs.declared.Role.{Role}
 use Rattle.exact_read.specs.Reading.{Parser}
-use Rattle.c_expression_laws.specs.Parsers.{next_is}
+use Rattle.c_parse_laws.specs.Parsers.{next_is}
 use Rattle.c_parse_token.specs.declared.outcome.Stopped.{Stopped}
 use Rattle.c_parse_token.specs.declared.outcome.Stopped.TheVariants.{NoMemory, At}
 use Rattle.c_parse_token.specs.Lists.{list_of, fault_of}

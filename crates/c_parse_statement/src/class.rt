@@ -1,20 +1,20 @@
 //! What a token is where a statement is read, and parsers of keywords.
 
 ghost use Rattle.std.specs.Prelude.{◌≡◌, ◌<◌, IfOk, suc};
-ghost use Rattle.c_grammar_spec.specs.declared.Role.TheVariants.{Nothing};
-ghost use Rattle.c_grammar_spec.specs.Leaves.{plain, opens};
-ghost use Rattle.c_expression_laws.specs.Parsers.{token, next_is};
-ghost use Rattle.c_statement_laws.specs.Statements as statements;
+ghost use Rattle.c_parse_spec.specs.declared.Role.TheVariants.{Nothing};
+ghost use Rattle.c_parse_spec.specs.Leaves.{plain, opens};
+ghost use Rattle.c_parse_laws.specs.Parsers.{token, next_is};
+ghost use Rattle.c_parse_laws.specs.Statements as statements;
 ghost use Rattle.c_parse_token.specs.Lists.{list_of, Parses, TakesOne};
 ghost use Rattle.c_parse_statement.specs.Pieces.{starts_part};
 ghost use Rattle.c_token.specs.Pieces.{token_of};
-ghost use Rattle.c_grammar_spec.specs.Limits.{nesting_limit};
+ghost use Rattle.c_parse_spec.specs.Limits.{nesting_limit};
 
-use c_grammar_spec::{NESTING_LIMIT, Role};
+use c_parse_spec::{NESTING_LIMIT, Role};
 use c_parse_token::class::is_mark;
 use c_parse_token::{Fault, Stopped, Tokens};
-use c_spec::token::{Keyword, Punctuator};
 use c_token::Kind;
+use c_token_spec::token::{Keyword, Punctuator};
 
 // The token is this keyword.
 fn is_keyword(kind: Kind<'_>, wanted: Keyword) -> bool

@@ -1,14 +1,14 @@
 //! What is expected after values and expression statements, and what an `else` belongs to.
 
 ghost use Rattle.std.specs.Prelude.{◌≡◌};
-ghost use Rattle.c_grammar_spec.specs.Statements as grammar;
-ghost use Rattle.c_tree_spec.specs.Unit as tree;
+ghost use Rattle.c_parse_spec.specs.Statements as grammar;
+ghost use Rattle.c_syntax_spec.specs.Unit as tree;
 ghost use Rattle.c_syntax.specs.Expressions.{expression_of};
 ghost use Rattle.c_syntax.specs.Simples.{value_of, simple_of};
 ghost use Rattle.c_syntax.specs.Statements.{statement_of};
 
-use c_grammar_spec::Role;
 use c_parse_declaration::value_end;
+use c_parse_spec::Role;
 use c_syntax::expression::Expression;
 use c_syntax::simple::{Simple, Value};
 use c_syntax::statement::Statement;

@@ -2,12 +2,12 @@
 
 ghost use Rattle.std.specs.Prelude.{◌≡◌, ◌≤◌, IfOk};
 ghost use Rattle.std.specs.Option.{option_map};
-ghost use Rattle.c_spec.specs.declared.token.Punctuator.TheVariants as punctuator;
-ghost use Rattle.c_grammar_spec.specs.declared.Role.TheVariants.{Nothing};
-ghost use Rattle.c_grammar_spec.specs.Leaves.{plain};
-ghost use Rattle.c_expression_laws.specs.Classes.{mark_offset};
-ghost use Rattle.c_expression_laws.specs.Parsers.{token, before};
-ghost use Rattle.c_statement_laws.specs.Statements as statements;
+ghost use Rattle.c_token_spec.specs.declared.token.Punctuator.TheVariants as punctuator;
+ghost use Rattle.c_parse_spec.specs.declared.Role.TheVariants.{Nothing};
+ghost use Rattle.c_parse_spec.specs.Leaves.{plain};
+ghost use Rattle.c_parse_laws.specs.Classes.{mark_offset};
+ghost use Rattle.c_parse_laws.specs.Parsers.{token, before};
+ghost use Rattle.c_parse_laws.specs.Statements as statements;
 ghost use Rattle.c_syntax.specs.Expressions.{expression_of};
 ghost use Rattle.c_syntax.specs.Simples.{simple_of};
 ghost use Rattle.c_syntax.specs.Locals.{start_of, label_of};
@@ -16,18 +16,18 @@ ghost use Rattle.c_parse_token.specs.Lists.{Parses, IsShorter};
 ghost use Rattle.c_parse_declaration.specs.Parts.{names_in, parsers_in};
 ghost use Rattle.c_parse_statement.specs.Pieces.{read_plain, read_start_simple, taken_labels, kept};
 ghost use Rattle.c_parse_statement.specs.Runs.{Runs};
-ghost use Rattle.c_grammar_spec.specs.Limits.{nesting_limit};
+ghost use Rattle.c_parse_spec.specs.Limits.{nesting_limit};
 
 use crate::class::{keyword, next_keyword, starts_label};
 use crate::ends::{simple_end, statement_end};
-use c_grammar_spec::Role;
 use c_parse_declaration::{Parsed, Scope, locals, simple, starts_locals, value, value_end};
 use c_parse_expression::whole;
+use c_parse_spec::Role;
 use c_parse_token::{Stopped, Tokens, allocated, attempt};
-use c_spec::token::{Keyword, Punctuator};
 use c_syntax::expression::{Expression, boxed};
 use c_syntax::simple::Simple;
 use c_syntax::statement::{ForStart, Label, Statement};
+use c_token_spec::token::{Keyword, Punctuator};
 use std::alloc::AllocError;
 
 /// A test in brackets.

@@ -1,7 +1,7 @@
 //! Statements (6.8) and blocks.
 
 ghost use Rattle.std.specs.Prelude.{◌≤◌, IfOk};
-ghost use Rattle.c_statement_laws.specs.Statements as statements;
+ghost use Rattle.c_parse_laws.specs.Statements as statements;
 ghost use Rattle.c_syntax.specs.Expressions.{expression_of};
 ghost use Rattle.c_syntax.specs.Statements.{statement_of, part_of, parts_in, groups_in};
 ghost use Rattle.c_parse_token.specs.Lists.{Parses, IsShorter, IsNoLonger};
@@ -9,17 +9,17 @@ ghost use Rattle.c_parse_declaration.specs.Parts.{names_in, parsers_in};
 ghost use Rattle.c_parse_statement.specs.Pieces.{statements_in, read_of, read_else, starts_part};
 ghost use Rattle.c_parse_statement.specs.Pieces.{taken_parts};
 ghost use Rattle.c_parse_statement.specs.Runs.{Runs};
-ghost use Rattle.c_grammar_spec.specs.Limits.{nesting_limit, statement_fuel};
+ghost use Rattle.c_parse_spec.specs.Limits.{nesting_limit, statement_fuel};
 
 use crate::class::{keyword, next_keyword, opening, starts_label, starts_part};
 use crate::ends::takes_else;
 use crate::pieces::{for_start, for_step, for_test, labels, or_no_memory, plain_statement, test};
-use c_grammar_spec::{Role, STATEMENT_FUEL};
 use c_parse_declaration::{Parsed, Scope, locals, starts_locals};
+use c_parse_spec::{Role, STATEMENT_FUEL};
 use c_parse_token::{Fault, Stopped, Tokens, allocated, attempt};
-use c_spec::token::{Keyword, Punctuator};
 use c_syntax::expression::Expression;
 use c_syntax::statement::{Group, Part, Statement};
+use c_token_spec::token::{Keyword, Punctuator};
 
 // A declaration or a statement.
 #[cycle(statements)]

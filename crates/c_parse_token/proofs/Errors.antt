@@ -1,8 +1,8 @@
 -- A fault of a part is one of the whole.
 use Rattle.std.proofs.Common.{◌≡◌, List, sym, subst, Result, Ok, Err, IsErrAnd}
-use Rattle.c_spec.specs.Lexical.{Placed}
+use Rattle.c_token_spec.specs.Lexical.{Placed}
 use Rattle.c_token.specs.declared.Token.{Token}
-use Rattle.c_grammar_spec.specs.declared.Role.{Role}
+use Rattle.c_parse_spec.specs.declared.Role.{Role}
 use Rattle.exact_read.specs.Reading.{Fault, Outcome}
 use Rattle.c_parse_token.specs.declared.outcome.Stopped.{Stopped}
 use Rattle.c_parse_token.specs.declared.outcome.Stopped.TheVariants.{NoMemory, At}

@@ -5,7 +5,7 @@ use Rattle.std.proofs.lemmas.Cmp.{nat_list_eq_equiv}
 use Rattle.std.proofs.lemmas.List.{reverse-append, map-append}
 use Rattle.std.proofs.lemmas.List.Sorted.{list_any-IsPermutation, IsPermutation-reverse}
 use Rattle.indexmap.specs.IndexSet.{insert_key}
-use Rattle.c_grammar_spec.specs.Expressions.{is_typedef_name}
+use Rattle.c_parse_spec.specs.Expressions.{is_typedef_name}
 use Rattle.c_parse_token.specs.Lists.{with_name}
 
 in_order : (keys : List (Bor (List ℕ))) (spelling : List ℕ) → list_any (λ name. bytes_eq name spelling) (map (λ name. name.now) keys) ≡ list_any (λ key. bytes_eq spelling key.now) keys

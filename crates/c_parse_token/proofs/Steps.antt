@@ -7,21 +7,21 @@ use Rattle.exact_read.specs.Reading.{Outcome, Wrong}
 use Rattle.exact_read.specs.Grammar.{bind, read_map, read_many}
 use Rattle.exact_read.specs.Going.{begins, Going}
 use Rattle.exact_read.proofs.Loops.{going-start, going-step, going-end, going-same, bind-ok, map-ok}
-use Rattle.c_spec.specs.declared.token.Keyword.{Keyword}
-use Rattle.c_spec.specs.declared.token.Punctuator.TheVariants as punctuator
-use Rattle.c_spec.specs.Lexical.{Placed, Token}
+use Rattle.c_token_spec.specs.declared.token.Keyword.{Keyword}
+use Rattle.c_token_spec.specs.declared.token.Punctuator.TheVariants as punctuator
+use Rattle.c_token_spec.specs.Lexical.{Placed, Token}
 use Rattle.c_token.specs.declared.Token.{Token as TokenRow}
 use Rattle.c_token.specs.Pieces.{placed_of}
-use Rattle.c_tree_spec.specs.declared.IntegerType.{IntegerType}
-use Rattle.c_tree_spec.specs.declared.IntegerType.TheVariants.{Int}
-use Rattle.c_tree_spec.specs.Expression as tree
-use Rattle.c_grammar_spec.specs.declared.Role.{Role}
-use Rattle.c_grammar_spec.specs.declared.Role.TheVariants.{Nothing}
-use Rattle.c_grammar_spec.specs.Leaves.{plain}
-use Rattle.c_grammar_spec.specs.Expressions.{integer_type_of}
-use Rattle.c_expression_laws.specs.Classes.{is_mark, mark_offset}
-use Rattle.c_expression_laws.specs.Parsers.{token, next_is, before}
-use Rattle.c_expression_laws.specs.Types.{is_const, const_offset, read_consts, read_words, goes_on, word_of, integer_of}
+use Rattle.c_syntax_spec.specs.declared.IntegerType.{IntegerType}
+use Rattle.c_syntax_spec.specs.declared.IntegerType.TheVariants.{Int}
+use Rattle.c_syntax_spec.specs.Expression as tree
+use Rattle.c_parse_spec.specs.declared.Role.{Role}
+use Rattle.c_parse_spec.specs.declared.Role.TheVariants.{Nothing}
+use Rattle.c_parse_spec.specs.Leaves.{plain}
+use Rattle.c_parse_spec.specs.Expressions.{integer_type_of}
+use Rattle.c_parse_laws.specs.Classes.{is_mark, mark_offset}
+use Rattle.c_parse_laws.specs.Parsers.{token, next_is, before}
+use Rattle.c_parse_laws.specs.Types.{is_const, const_offset, read_consts, read_words, goes_on, word_of, integer_of}
 use Rattle.c_parse_token.specs.Lists.{list_of}
 use Rattle.c_parse_token.specs.Words.{first_of, first_with, next_word, with_next, type_next}
 

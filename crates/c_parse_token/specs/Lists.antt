@@ -1,11 +1,11 @@
 -- What the program's tokens, typedef names and errors are as lists and outcomes, and what a parser ensures.
 use Rattle.std.specs.Prelude.{◌≡◌, ◌+◌, ◌≤◌, ◌<◌, ℕ, suc, List, ◌∷◌, length, map, reverse, if◌then◌else◌, Result, Ok, Err}
-use Rattle.c_spec.specs.Lexical.{Placed}
+use Rattle.c_token_spec.specs.Lexical.{Placed}
 use Rattle.c_token.specs.Pieces.{placed_of}
 use Rattle.c_token.specs.declared.Token.{Token}
-use Rattle.c_grammar_spec.specs.Limits.{operator_limit}
-use Rattle.c_grammar_spec.specs.Expressions.{is_typedef_name}
-use Rattle.c_grammar_spec.specs.declared.Role.{Role}
+use Rattle.c_parse_spec.specs.Limits.{operator_limit}
+use Rattle.c_parse_spec.specs.Expressions.{is_typedef_name}
+use Rattle.c_parse_spec.specs.declared.Role.{Role}
 use Rattle.exact_read.specs.Reading.{Outcome, Parser, Fault, LimitExceeded, Wrong}
 use Rattle.c_parse_token.specs.declared.outcome.Fault.{Fault as FaultRow}
 use Rattle.c_parse_token.specs.declared.outcome.Fault.TheVariants.{LimitExceeded as a_deep, Wrong as a_wrong}

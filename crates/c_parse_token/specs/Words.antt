@@ -2,11 +2,11 @@
 use Rattle.std.specs.Prelude.{ℕ, List, [], ◌∷◌, ◌++◌, Option, Some, None, option_map, option_and_then, find}
 use Rattle.std.specs.Option.{option_map_or}
 use Rattle.std.specs.Borrow.{Bor}
-use Rattle.c_spec.specs.declared.token.Keyword.{Keyword}
-use Rattle.c_spec.specs.Lexical.{Placed}
-use Rattle.c_tree_spec.specs.declared.IntegerType.{IntegerType}
-use Rattle.c_grammar_spec.specs.Expressions.{same_words, integer_type_of}
-use Rattle.c_expression_laws.specs.Types as types
+use Rattle.c_token_spec.specs.declared.token.Keyword.{Keyword}
+use Rattle.c_token_spec.specs.Lexical.{Placed}
+use Rattle.c_syntax_spec.specs.declared.IntegerType.{IntegerType}
+use Rattle.c_parse_spec.specs.Expressions.{same_words, integer_type_of}
+use Rattle.c_parse_laws.specs.Types as types
 use Rattle.c_syntax.specs.Names.{name_of}
 use Rattle.c_parse_token.specs.declared.head.Head.{Head}
 use Rattle.c_parse_token.specs.declared.head.Head.TheVariants as head

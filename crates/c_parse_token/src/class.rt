@@ -1,15 +1,15 @@
 //! What a token is where an expression is read.
 
 ghost use Rattle.std.specs.Prelude.{◌≡◌};
-ghost use Rattle.c_grammar_spec.specs.Expressions as grammar;
-ghost use Rattle.c_expression_laws.specs.Classes as classes;
+ghost use Rattle.c_parse_spec.specs.Expressions as grammar;
+ghost use Rattle.c_parse_laws.specs.Classes as classes;
 ghost use Rattle.c_parse_token.specs.Lists.{names_of};
 ghost use Rattle.c_token.specs.Pieces.{token_of};
 
 use crate::names::TypedefNames;
-use c_spec::token::{Keyword, Punctuator};
+use c_syntax_spec::{Access, BinaryOperator, UnaryOperator};
 use c_token::Kind;
-use c_tree_spec::{Access, BinaryOperator, UnaryOperator};
+use c_token_spec::token::{Keyword, Punctuator};
 
 /// The operator before an operand.
 pub fn unary_operator(kind: Kind<'_>) -> Option<UnaryOperator>

@@ -1,10 +1,10 @@
 //! The first token of a type specifier.
 
 ghost use Rattle.std.specs.Prelude.{◌≡◌, IfOk, option_map};
-ghost use Rattle.c_grammar_spec.specs.declared.Role.TheVariants.{Nothing};
-ghost use Rattle.c_grammar_spec.specs.Leaves.{plain};
-ghost use Rattle.c_expression_laws.specs.Parsers.{token};
-ghost use Rattle.c_expression_laws.specs.Types as types;
+ghost use Rattle.c_parse_spec.specs.declared.Role.TheVariants.{Nothing};
+ghost use Rattle.c_parse_spec.specs.Leaves.{plain};
+ghost use Rattle.c_parse_laws.specs.Parsers.{token};
+ghost use Rattle.c_parse_laws.specs.Types as types;
 ghost use Rattle.c_token.specs.Pieces.{token_of};
 ghost use Rattle.c_parse_token.specs.Lists.{names_of, Parses, TakesOne};
 ghost use Rattle.c_parse_token.specs.Words.{head_of};
@@ -12,10 +12,10 @@ ghost use Rattle.c_parse_token.specs.Words.{head_of};
 use crate::names::TypedefNames;
 use crate::outcome::{Fault, Stopped};
 use crate::tokens::Tokens;
-use c_grammar_spec::Role;
-use c_spec::token::Keyword;
+use c_parse_spec::Role;
 use c_syntax::expression::Name;
 use c_token::Kind;
+use c_token_spec::token::Keyword;
 
 /// What a type specifier begins with.
 #[derive(Clone, Copy)]

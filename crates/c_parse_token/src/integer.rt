@@ -2,17 +2,17 @@
 
 ghost use Rattle.std.specs.Prelude.{◌≡◌, ◌∷◌, [], Ok, IfOk, IfSome, IfNone, length};
 ghost use Rattle.std.specs.Prelude.{filter, map, drop};
-ghost use Rattle.c_grammar_spec.specs.Expressions as grammar;
+ghost use Rattle.c_parse_spec.specs.Expressions as grammar;
 ghost use Rattle.exact_read.specs.Grammar.{read_map};
-ghost use Rattle.c_tree_spec.specs.Expression as tree;
-ghost use Rattle.c_expression_laws.specs.Types as types;
+ghost use Rattle.c_syntax_spec.specs.Expression as tree;
+ghost use Rattle.c_parse_laws.specs.Types as types;
 ghost use Rattle.c_parse_token.specs.Lists.{list_of, TakesOne, IsNoLonger};
 ghost use Rattle.c_parse_token.specs.Words.{type_among, entry_of, type_next, with_next};
 
 use crate::tokens::Tokens;
-use c_spec::token::Keyword::{self, Char, Int, Long, Short, Signed, Unsigned};
+use c_syntax_spec::IntegerType;
 use c_token::Kind;
-use c_tree_spec::IntegerType;
+use c_token_spec::token::Keyword::{self, Char, Int, Long, Short, Signed, Unsigned};
 use std::alloc::{AllocError, Global};
 
 /// Words, in any order, and the type that they name.
@@ -144,7 +144,7 @@ fn type_in(table: &[(&[Keyword], IntegerType)], words: &[Keyword]) -> Option<Int
 }
 
 // The type that words name.
-#[tactic(auto, unfolding(c_grammar_spec::specs::Expressions::integer_type_of))]
+#[tactic(auto, unfolding(c_parse_spec::specs::Expressions::integer_type_of))]
 fn type_of(words: &[Keyword]) -> Option<IntegerType>
     ensures { result ≡ grammar.integer_type_of words.now }
 {

@@ -4,7 +4,7 @@
 //! it gives a value and takes its token, or gives a [`Stopped`] and leaves the tokens from the one
 //! at fault on. Each parser has one contract (`Gives` of `specs/Lists.antt`): it gives exactly what
 //! the reference parser gives that it names, of `specs/Parsers.antt` and `specs/Types.antt` of
-//! `c_expression_laws`. [`TypedefNames`] are the typedef names in scope, [`class`] says what a
+//! `c_parse_laws`. [`TypedefNames`] are the typedef names in scope, [`class`] says what a
 //! token is, and [`Head`] is what a type specifier begins with.
 #![tactic(auto)]
 

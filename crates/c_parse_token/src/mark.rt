@@ -1,21 +1,21 @@
 //! `const` and `*`.
 
 ghost use Rattle.std.specs.Prelude.{◌≡◌, Ok, IfSome, IfNone, false, true};
-ghost use Rattle.c_spec.specs.declared.token.Punctuator.TheVariants as punctuator;
-ghost use Rattle.c_grammar_spec.specs.declared.Role.TheVariants.{Nothing};
-ghost use Rattle.c_grammar_spec.specs.Leaves.{plain};
+ghost use Rattle.c_token_spec.specs.declared.token.Punctuator.TheVariants as punctuator;
+ghost use Rattle.c_parse_spec.specs.declared.Role.TheVariants.{Nothing};
+ghost use Rattle.c_parse_spec.specs.Leaves.{plain};
 ghost use Rattle.exact_read.specs.Grammar.{read_map};
-ghost use Rattle.c_expression_laws.specs.Classes.{is_mark, mark_offset};
-ghost use Rattle.c_expression_laws.specs.Parsers.{token, next_is};
-ghost use Rattle.c_expression_laws.specs.Types as types;
+ghost use Rattle.c_parse_laws.specs.Classes.{is_mark, mark_offset};
+ghost use Rattle.c_parse_laws.specs.Parsers.{token, next_is};
+ghost use Rattle.c_parse_laws.specs.Types as types;
 ghost use Rattle.c_token.specs.Pieces.{token_of};
 ghost use Rattle.c_parse_token.specs.Lists.{list_of, TakesOne, IsNoLonger};
 ghost use Rattle.c_parse_token.specs.Words.{first_of};
 
 use crate::class::is_mark;
 use crate::tokens::Tokens;
-use c_spec::token::{Keyword, Punctuator};
 use c_token::Kind;
+use c_token_spec::token::{Keyword, Punctuator};
 
 // The keyword `const`.
 fn is_const(kind: Kind<'_>) -> bool

@@ -1,7 +1,7 @@
 //! Typedef names.
 
 ghost use Rattle.std.specs.Prelude.{◌≡◌, [], IfOk};
-ghost use Rattle.c_grammar_spec.specs.Expressions.{is_typedef_name};
+ghost use Rattle.c_parse_spec.specs.Expressions.{is_typedef_name};
 ghost use Rattle.c_parse_token.specs.Lists.{names_of, with_name};
 
 use indexmap::IndexSet;

@@ -1,6 +1,6 @@
 //! How a parser stops.
 
-use c_grammar_spec::Role;
+use c_parse_spec::Role;
 use std::alloc::{AllocError, AllocFailed};
 
 /// Why the next token is at fault.

@@ -2,26 +2,26 @@
 
 ghost use Rattle.std.specs.Prelude.{◌≡◌, ◌≤◌, ◌<◌, ◌||◌, IfOk, suc, nat_lt};
 ghost use Rattle.std.specs.Option.{is_some};
-ghost use Rattle.c_grammar_spec.specs.declared.Role.TheVariants.{Nothing};
-ghost use Rattle.c_grammar_spec.specs.Leaves.{expected, brackets, opens, plain, operates};
-ghost use Rattle.c_expression_laws.specs.Classes as classes;
-ghost use Rattle.c_expression_laws.specs.Parsers as parsers;
-ghost use Rattle.c_expression_laws.specs.Types as types;
+ghost use Rattle.c_parse_spec.specs.declared.Role.TheVariants.{Nothing};
+ghost use Rattle.c_parse_spec.specs.Leaves.{expected, brackets, opens, plain, operates};
+ghost use Rattle.c_parse_laws.specs.Classes as classes;
+ghost use Rattle.c_parse_laws.specs.Parsers as parsers;
+ghost use Rattle.c_parse_laws.specs.Types as types;
 ghost use Rattle.c_syntax.specs.Names.{name_of};
 ghost use Rattle.c_parse_token.specs.Lists.{list_of, names_of, Parses, TakesOne};
 ghost use Rattle.c_token.specs.Pieces.{token_of};
-ghost use Rattle.c_grammar_spec.specs.Limits.{nesting_limit, operator_limit};
+ghost use Rattle.c_parse_spec.specs.Limits.{nesting_limit, operator_limit};
 
 use crate::class::{
     access_operator, begins_type, binary_operator, is_mark, level_of, unary_operator,
 };
 use crate::names::TypedefNames;
 use crate::outcome::{Fault, Stopped};
-use c_grammar_spec::{NESTING_LIMIT, OPERATOR_LIMIT, Role};
-use c_spec::token::{Keyword, Punctuator};
+use c_parse_spec::{NESTING_LIMIT, OPERATOR_LIMIT, Role};
 use c_syntax::expression::Name;
+use c_syntax_spec::{Access, BinaryOperator, UnaryOperator};
 use c_token::{Kind, Token};
-use c_tree_spec::{Access, BinaryOperator, UnaryOperator};
+use c_token_spec::token::{Keyword, Punctuator};
 
 // A construct more exceeds the nesting limit, or one operator more the limit of an expression.
 fn is_full(depth: usize, count: usize) -> bool

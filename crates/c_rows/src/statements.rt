@@ -4,7 +4,7 @@ use crate::expressions::{put_declarator, put_expression, put_name, put_specifier
 use c_syntax::expression::Expression;
 use c_syntax::simple::{Call, Simple, Value};
 use c_syntax::statement::{ForStart, Group, Label, Local, Locals, Part, Statement};
-use c_tree_spec::StepOperator;
+use c_syntax_spec::StepOperator;
 use row_io::Out;
 
 fn put_call(call: &Call<'_>, out: &mut Out) {

@@ -1,7 +1,7 @@
 //! Tokens as text: what each is, with its offset.
 
-use c_spec::token::NumberType;
 use c_token::{Kind, Token};
+use c_token_spec::token::NumberType;
 use row_io::Out;
 
 /// A number: its value, and `u`, `ll` or `ull` where its type is not `int`.

@@ -5,26 +5,26 @@ use Rattle.std.specs.Borrow.{Bor}
 use Rattle.std.proofs.lemmas.List.{append_assoc}
 use Rattle.std.specs.declared.alloc.Global.{Global}
 use Rattle.memory_spec.specs.Memory.{Memory}
-use Rattle.c_type_spec.specs.declared.Scalar.{Scalar}
-use Rattle.c_type_spec.specs.declared.Jump.{Jump}
-use Rattle.c_type_spec.specs.declared.Jump.TheVariants as jump
-use Rattle.c_type_spec.specs.declared.TestPlace.{TestPlace}
-use Rattle.c_type_spec.specs.declared.TestPlace.TheVariants.{Before, After}
-use Rattle.c_type_spec.specs.Core.{Core, Action, Skip, Evaluate, Set, Unset, Store, Call, If, Loop, Leave, Return, MissingReturn, sequence}
-use Rattle.c_meaning_spec.specs.declared.Guard.TheVariants as guards
-use Rattle.c_meaning_spec.specs.Setting.{Setting, Broken}
-use Rattle.c_meaning_spec.specs.Accesses.{address_of, stored}
-use Rattle.c_meaning_spec.specs.Evaluation.{Evaluated, Locals, value, values}
-use Rattle.c_meaning_spec.specs.Execution.{State, state, Flow, More, Broke, Went, Jumped, Gave, on_ok, then_do, is_zero, again, continued, with_local, with_memory, after_call, does}
-use Rattle.c_meaning_laws.specs.Depth.{called, performed, looped, round_in}
-use Rattle.c_meaning_laws.proofs.Turns.{performed-Loop, looped-zero, looped-suc}
-use Rattle.c_core.specs.declared.action.Action as kept
-use Rattle.c_core.specs.declared.expression.Core as expression
-use Rattle.c_core.specs.Actions.{action_of}
-use Rattle.c_core.specs.Expressions.{core_of}
-use Rattle.c_value.specs.Gives.{Gives, GivesValue}
-use Rattle.c_value.specs.declared.setting.Stop.{Stop}
-use Rattle.c_value.specs.declared.setting.Stop.TheVariants as stop
+use Rattle.c_types_spec.specs.declared.Scalar.{Scalar}
+use Rattle.c_types_spec.specs.declared.Jump.{Jump}
+use Rattle.c_types_spec.specs.declared.Jump.TheVariants as jump
+use Rattle.c_types_spec.specs.declared.TestPlace.{TestPlace}
+use Rattle.c_types_spec.specs.declared.TestPlace.TheVariants.{Before, After}
+use Rattle.c_types_spec.specs.Core.{Core, Action, Skip, Evaluate, Set, Unset, Store, Call, If, Loop, Leave, Return, MissingReturn, sequence}
+use Rattle.c_run_spec.specs.declared.Guard.TheVariants as guards
+use Rattle.c_run_spec.specs.Setting.{Setting, Broken}
+use Rattle.c_run_spec.specs.Accesses.{address_of, stored}
+use Rattle.c_run_spec.specs.Evaluation.{Evaluated, Locals, value, values}
+use Rattle.c_run_spec.specs.Execution.{State, state, Flow, More, Broke, Went, Jumped, Gave, on_ok, then_do, is_zero, again, continued, with_local, with_memory, after_call, does}
+use Rattle.c_run_laws.specs.Depth.{called, performed, looped, round_in}
+use Rattle.c_run_laws.proofs.Turns.{performed-Loop, looped-zero, looped-suc}
+use Rattle.c_types_core.specs.declared.action.Action as kept
+use Rattle.c_types_core.specs.declared.expression.Core as expression
+use Rattle.c_types_core.specs.Actions.{action_of}
+use Rattle.c_types_core.specs.Expressions.{core_of}
+use Rattle.c_run_value.specs.Gives.{Gives, GivesValue}
+use Rattle.c_run_value.specs.declared.setting.Stop.{Stop}
+use Rattle.c_run_value.specs.declared.setting.Stop.TheVariants as stop
 use Rattle.c_run.specs.declared.frame.Task.{Task}
 use Rattle.c_run.specs.declared.frame.Task.TheVariants as task
 use Rattle.c_run.specs.declared.frame.Frame.{Frame}

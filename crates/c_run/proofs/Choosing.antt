@@ -5,18 +5,18 @@ use Rattle.std.specs.Option.{option_or}
 use Rattle.std.specs.List.{list_any}
 use Rattle.std.specs.Borrow.{Bor}
 use Rattle.memory_spec.specs.Memory.{Memory}
-use Rattle.c_type_spec.specs.declared.Scalar.{Scalar}
-use Rattle.c_type_spec.specs.Core.{Core, Action, Switch, Groups, no_groups, groups}
-use Rattle.c_type_spec.specs.Statements.{same_label}
-use Rattle.c_core.specs.declared.action.Action as kept
-use Rattle.c_core.specs.Actions.{action_of}
-use Rattle.c_meaning_spec.specs.Setting.{Setting}
-use Rattle.c_meaning_spec.specs.Evaluation.{value}
-use Rattle.c_meaning_spec.specs.Execution.{State, state, Flow, Went, Calls, on_ok, switched, labelled, chosen_group, does, does_group}
-use Rattle.c_meaning_spec.specs.Calls.{runs}
-use Rattle.c_meaning_laws.specs.Depth.{performed}
-use Rattle.c_value.specs.Gives.{GivesValue}
-use Rattle.c_value.specs.declared.setting.Stop.{Stop}
+use Rattle.c_types_spec.specs.declared.Scalar.{Scalar}
+use Rattle.c_types_spec.specs.Core.{Core, Action, Switch, Groups, no_groups, groups}
+use Rattle.c_types_spec.specs.Statements.{same_label}
+use Rattle.c_types_core.specs.declared.action.Action as kept
+use Rattle.c_types_core.specs.Actions.{action_of}
+use Rattle.c_run_spec.specs.Setting.{Setting}
+use Rattle.c_run_spec.specs.Evaluation.{value}
+use Rattle.c_run_spec.specs.Execution.{State, state, Flow, Went, Calls, on_ok, switched, labelled, chosen_group, does, does_group}
+use Rattle.c_run_spec.specs.Calls.{runs}
+use Rattle.c_run_laws.specs.Depth.{performed}
+use Rattle.c_run_value.specs.Gives.{GivesValue}
+use Rattle.c_run_value.specs.declared.setting.Stop.{Stop}
 use Rattle.c_run.specs.declared.frame.Task.TheVariants as task
 use Rattle.c_run.specs.declared.frame.Frame.{Frame}
 use Rattle.c_run.specs.declared.frame.Next.TheVariants as next

@@ -4,21 +4,21 @@ use Rattle.std.specs.Prelude.{ℤ, option_map, Vec, Result, Ok, Err}
 use Rattle.std.specs.Borrow.{Bor}
 use Rattle.std.specs.declared.alloc.Global.{Global}
 use Rattle.memory_spec.specs.Memory.{Memory}
-use Rattle.c_type_spec.specs.declared.Scalar.{Scalar}
-use Rattle.c_type_spec.specs.Core as tree
-use Rattle.c_core.specs.declared.action.Action as kept
-use Rattle.c_core.specs.Actions.{action_of}
-use Rattle.c_meaning_spec.specs.declared.Guard.{Guard}
-use Rattle.c_meaning_spec.specs.Setting.{Setting}
-use Rattle.c_meaning_spec.specs.Execution.{State, state, More, Went, Called, Unfinished, Failed, Returned, after_call}
-use Rattle.c_meaning_spec.specs.Calls as spec
-use Rattle.c_meaning_spec.specs.Calls.{returned, outcome_of, locals_at_entry, body_named, runs, c_run}
-use Rattle.c_meaning_laws.specs.Depth.{called, performed}
-use Rattle.c_meaning_laws.proofs.Turns.{called-suc, called-missing}
+use Rattle.c_types_spec.specs.declared.Scalar.{Scalar}
+use Rattle.c_types_spec.specs.Core as tree
+use Rattle.c_types_core.specs.declared.action.Action as kept
+use Rattle.c_types_core.specs.Actions.{action_of}
+use Rattle.c_run_spec.specs.declared.Guard.{Guard}
+use Rattle.c_run_spec.specs.Setting.{Setting}
+use Rattle.c_run_spec.specs.Execution.{State, state, More, Went, Called, Unfinished, Failed, Returned, after_call}
+use Rattle.c_run_spec.specs.Calls as spec
+use Rattle.c_run_spec.specs.Calls.{returned, outcome_of, locals_at_entry, body_named, runs, c_run}
+use Rattle.c_run_laws.specs.Depth.{called, performed}
+use Rattle.c_run_laws.proofs.Turns.{called-suc, called-missing}
 use Rattle.c_types.specs.declared.typed.Body.{Body}
 use Rattle.c_types.specs.Typed.{body_of_name}
-use Rattle.c_value.specs.declared.setting.Stop.{Stop}
-use Rattle.c_value.specs.declared.setting.Stop.TheVariants as stop
+use Rattle.c_run_value.specs.declared.setting.Stop.{Stop}
+use Rattle.c_run_value.specs.declared.setting.Stop.TheVariants as stop
 use Rattle.c_run.specs.declared.frame.Pause.{Pause}
 use Rattle.c_run.specs.declared.frame.Pause.TheVariants as pause
 use Rattle.c_run.specs.declared.frame.Frame.{Frame}

@@ -4,11 +4,11 @@ use Rattle.std.specs.Prelude.{ℤ, slice_get, slice_set, Vec}
 use Rattle.std.specs.Borrow.{Bor}
 use Rattle.std.specs.declared.alloc.Global.{Global}
 use Rattle.std.proofs.lemmas.List.{drop_all, append-nil, append_assoc}
-use Rattle.c_type_spec.specs.declared.Scalar.{Scalar}
-use Rattle.c_core.specs.declared.action.Action as kept
-use Rattle.c_meaning_spec.specs.Evaluation.{Locals}
-use Rattle.c_meaning_spec.specs.Execution.{as_local, received}
-use Rattle.c_meaning_spec.specs.Calls.{locals_at_entry}
+use Rattle.c_types_spec.specs.declared.Scalar.{Scalar}
+use Rattle.c_types_core.specs.declared.action.Action as kept
+use Rattle.c_run_spec.specs.Evaluation.{Locals}
+use Rattle.c_run_spec.specs.Execution.{as_local, received}
+use Rattle.c_run_spec.specs.Calls.{locals_at_entry}
 use Rattle.c_types.specs.declared.typed.Body.{Body}
 use Rattle.c_run.specs.declared.frame.Frame.{Frame}
 use Rattle.c_run.specs.declared.frame.Task.{Task}

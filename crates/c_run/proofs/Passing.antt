@@ -5,15 +5,15 @@ use Rattle.std.specs.Prelude.{ℤ, map, Option, Vec, Result, Ok, Err}
 use Rattle.std.specs.declared.alloc.Global.{Global}
 use Rattle.std.specs.declared.boxed.Box.{Box}
 use Rattle.memory_spec.specs.Memory.{Memory}
-use Rattle.c_core.specs.declared.expression.Core as kept
-use Rattle.c_core.specs.Expressions.{core_of}
-use Rattle.c_meaning_spec.specs.Setting.{Setting, Broken}
-use Rattle.c_meaning_spec.specs.Evaluation.{Locals, on_result, value, values}
+use Rattle.c_types_core.specs.declared.expression.Core as kept
+use Rattle.c_types_core.specs.Expressions.{core_of}
+use Rattle.c_run_spec.specs.Setting.{Setting, Broken}
+use Rattle.c_run_spec.specs.Evaluation.{Locals, on_result, value, values}
 use Rattle.c_run.specs.declared.frame.Frame.{Frame}
 use Rattle.c_run.specs.Frames.{IsPassed}
-use Rattle.c_value.specs.Gives.{Gives, GivesValue}
-use Rattle.c_value.specs.declared.setting.Stop.{Stop}
-use Rattle.c_value.specs.declared.setting.Stop.TheVariants as stop
+use Rattle.c_run_value.specs.Gives.{Gives, GivesValue}
+use Rattle.c_run_value.specs.declared.setting.Stop.{Stop}
+use Rattle.c_run_value.specs.declared.setting.Stop.TheVariants as stop
 
 abbrev pub prefixed : List ℤ → Result (List ℤ) Broken → Result (List ℤ) Broken
 prefixed done r = on_result r (λ rest. Ok (done ++ rest))

@@ -4,20 +4,20 @@ use Rattle.std.specs.Prelude.{ℤ, map, Vec, Result, Ok, Err}
 use Rattle.std.specs.Borrow.{Bor}
 use Rattle.std.specs.declared.alloc.Global.{Global}
 use Rattle.memory_spec.specs.Memory.{Memory}
-use Rattle.c_type_spec.specs.declared.Scalar.{Scalar}
-use Rattle.c_type_spec.specs.declared.Jump.TheVariants as jump
-use Rattle.c_type_spec.specs.Core.{Action, Skip, sequence}
-use Rattle.c_core.specs.declared.action.Action as kept
-use Rattle.c_core.specs.declared.expression.Core as expression
-use Rattle.c_core.specs.Actions.{action_of}
-use Rattle.c_core.specs.Expressions.{core_of}
-use Rattle.c_meaning_spec.specs.Setting.{Setting}
-use Rattle.c_meaning_spec.specs.Evaluation.{value}
-use Rattle.c_meaning_spec.specs.Execution.{State, state, Flow, More, Broke, Went, Jumped, Gave, on_ok, is_zero, then_do}
-use Rattle.c_meaning_laws.specs.Depth.{performed}
-use Rattle.c_meaning_laws.proofs.Turns.{performed-Sequence}
-use Rattle.c_value.specs.Gives.{Gives}
-use Rattle.c_value.specs.declared.setting.Stop.{Stop}
+use Rattle.c_types_spec.specs.declared.Scalar.{Scalar}
+use Rattle.c_types_spec.specs.declared.Jump.TheVariants as jump
+use Rattle.c_types_spec.specs.Core.{Action, Skip, sequence}
+use Rattle.c_types_core.specs.declared.action.Action as kept
+use Rattle.c_types_core.specs.declared.expression.Core as expression
+use Rattle.c_types_core.specs.Actions.{action_of}
+use Rattle.c_types_core.specs.Expressions.{core_of}
+use Rattle.c_run_spec.specs.Setting.{Setting}
+use Rattle.c_run_spec.specs.Evaluation.{value}
+use Rattle.c_run_spec.specs.Execution.{State, state, Flow, More, Broke, Went, Jumped, Gave, on_ok, is_zero, then_do}
+use Rattle.c_run_laws.specs.Depth.{performed}
+use Rattle.c_run_laws.proofs.Turns.{performed-Sequence}
+use Rattle.c_run_value.specs.Gives.{Gives}
+use Rattle.c_run_value.specs.declared.setting.Stop.{Stop}
 use Rattle.c_run.specs.declared.frame.Task.{Task}
 use Rattle.c_run.specs.declared.frame.Task.TheVariants as task
 use Rattle.c_run.specs.declared.frame.Frame.{Frame}

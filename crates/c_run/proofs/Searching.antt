@@ -3,9 +3,9 @@ use Rattle.std.proofs.Common.{◌≡◌, ℕ, suc, ◌+◌, ◌<◌, ◌≤◌, 
 use Rattle.std.specs.Prelude.{ℤ, map}
 use Rattle.std.specs.List.{list_any}
 use Rattle.std.proofs.lemmas.List.{drop_all}
-use Rattle.c_type_spec.specs.Statements.{groups_in, same_label}
-use Rattle.c_core.specs.declared.action.Group.{Group, out-Group, fold_out-Group}
-use Rattle.c_core.specs.Actions.{Grouped, action_of, group_of, action_step, group_step}
+use Rattle.c_types_spec.specs.Statements.{groups_in, same_label}
+use Rattle.c_types_core.specs.declared.action.Group.{Group, out-Group, fold_out-Group}
+use Rattle.c_types_core.specs.Actions.{Grouped, action_of, group_of, action_step, group_step}
 use Rattle.c_run.specs.Groups.{picked}
 
 item : {X : Type 0} (xs : List X) (i : ℕ) (x : X) → i < length xs → x ≡ get_or xs i x → drop i xs ≡ x ∷ drop (i + 1) xs

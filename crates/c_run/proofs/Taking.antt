@@ -4,12 +4,12 @@ use Rattle.std.specs.Prelude.{ℤ, Vec, Ok, Err}
 use Rattle.std.specs.Borrow.{Bor}
 use Rattle.std.specs.declared.alloc.Global.{Global}
 use Rattle.memory_spec.specs.Memory.{Memory}
-use Rattle.c_type_spec.specs.declared.Scalar.{Scalar}
-use Rattle.c_meaning_spec.specs.Setting.{Setting}
-use Rattle.c_meaning_spec.specs.Execution.{State, state, Flow, Went, Gave, Returned}
-use Rattle.c_meaning_spec.specs.Calls.{returned}
-use Rattle.c_value.specs.declared.setting.Stop.{Stop}
-use Rattle.c_value.specs.declared.setting.Stop.TheVariants as stop
+use Rattle.c_types_spec.specs.declared.Scalar.{Scalar}
+use Rattle.c_run_spec.specs.Setting.{Setting}
+use Rattle.c_run_spec.specs.Execution.{State, state, Flow, Went, Gave, Returned}
+use Rattle.c_run_spec.specs.Calls.{returned}
+use Rattle.c_run_value.specs.declared.setting.Stop.{Stop}
+use Rattle.c_run_value.specs.declared.setting.Stop.TheVariants as stop
 use Rattle.c_run.specs.declared.frame.Ending.{Ending}
 use Rattle.c_run.specs.declared.frame.Ending.TheVariants as ending
 use Rattle.c_run.specs.declared.frame.Pause.{Pause}

@@ -2,8 +2,8 @@
 use Rattle.std.specs.Prelude.{ℤ, if◌then◌else◌, Option, Some, None}
 use Rattle.std.specs.Option.{option_or}
 use Rattle.std.specs.List.{list_any}
-use Rattle.c_type_spec.specs.Core.{Action, Groups, no_groups, groups}
-use Rattle.c_type_spec.specs.Statements.{same_label}
+use Rattle.c_types_spec.specs.Core.{Action, Groups, no_groups, groups}
+use Rattle.c_types_spec.specs.Statements.{same_label}
 
 abbrev pub picked : Option ℤ → Groups → Option Action
 picked label no_groups = None

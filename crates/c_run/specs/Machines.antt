@@ -2,15 +2,15 @@
 use Rattle.std.specs.Prelude.{◌≡◌, ℕ, ◌+◌, ◌*◌, ◌<◌, length, ℤ, List, [], ◌∷◌, ◌++◌, Option, Some, None, Result, Ok, Err}
 use Rattle.std.specs.Borrow.{Bor}
 use Rattle.memory_spec.specs.Memory.{Memory}
-use Rattle.c_type_spec.specs.declared.Scalar.{Scalar}
-use Rattle.c_meaning_spec.specs.Setting.{Setting}
-use Rattle.c_meaning_spec.specs.Execution.{Called, after_call, received}
-use Rattle.c_meaning_spec.specs.Calls as spec
-use Rattle.c_meaning_spec.specs.Calls.{returned, outcome_of, locals_at_entry}
-use Rattle.c_core.specs.declared.action.Action.{Action}
+use Rattle.c_types_spec.specs.declared.Scalar.{Scalar}
+use Rattle.c_run_spec.specs.Setting.{Setting}
+use Rattle.c_run_spec.specs.Execution.{Called, after_call, received}
+use Rattle.c_run_spec.specs.Calls as spec
+use Rattle.c_run_spec.specs.Calls.{returned, outcome_of, locals_at_entry}
+use Rattle.c_types_core.specs.declared.action.Action.{Action}
 use Rattle.c_types.specs.declared.typed.Body.{Body}
-use Rattle.c_value.specs.declared.setting.Stop.{Stop}
-use Rattle.c_value.specs.declared.setting.Stop.TheVariants as stop
+use Rattle.c_run_value.specs.declared.setting.Stop.{Stop}
+use Rattle.c_run_value.specs.declared.setting.Stop.TheVariants as stop
 use Rattle.c_run.specs.declared.frame.Pause.{Pause}
 use Rattle.c_run.specs.declared.frame.Frame.{Frame}
 use Rattle.c_run.specs.declared.frame.Task.TheVariants as task

@@ -1,5 +1,5 @@
 -- The outcome of a run, as the definition has it.
-use Rattle.c_meaning_spec.specs.Calls as spec
+use Rattle.c_run_spec.specs.Calls as spec
 use Rattle.c_run.specs.declared.calls.Outcome.{Outcome}
 use Rattle.c_run.specs.declared.calls.Outcome.TheVariants as outcome
 

@@ -2,21 +2,21 @@
 use Rattle.std.specs.Prelude.{◌≡◌, ℕ, zero, suc, Bool, true, false, not, ℤ, List, [], ◌∷◌, map, Result, Ok, Err}
 use Rattle.std.specs.Borrow.{Bor}
 use Rattle.memory_spec.specs.Memory.{Memory}
-use Rattle.c_type_spec.specs.declared.Scalar.{Scalar}
-use Rattle.c_type_spec.specs.declared.Jump.{Jump}
-use Rattle.c_type_spec.specs.declared.Jump.TheVariants as jump
-use Rattle.c_type_spec.specs.declared.TestPlace.{TestPlace}
-use Rattle.c_type_spec.specs.declared.TestPlace.TheVariants.{Before, After}
-use Rattle.c_type_spec.specs.Core.{Action, sequence}
-use Rattle.c_core.specs.declared.action.Action as kept
-use Rattle.c_core.specs.declared.expression.Core as expression
-use Rattle.c_core.specs.Expressions.{core_of}
-use Rattle.c_core.specs.Actions.{action_of}
-use Rattle.c_meaning_spec.specs.Setting.{Setting, Broken}
-use Rattle.c_meaning_spec.specs.Evaluation.{Evaluated, Locals, on_result, value}
-use Rattle.c_meaning_spec.specs.Execution.{State, state, Flow, More, Broke, Went, Jumped, Gave, Called, Failed, then_do, is_zero, again, continued, while_true, switched, after_call}
-use Rattle.c_meaning_spec.specs.Calls.{returned}
-use Rattle.c_meaning_laws.specs.Depth.{called, performed, round_in}
+use Rattle.c_types_spec.specs.declared.Scalar.{Scalar}
+use Rattle.c_types_spec.specs.declared.Jump.{Jump}
+use Rattle.c_types_spec.specs.declared.Jump.TheVariants as jump
+use Rattle.c_types_spec.specs.declared.TestPlace.{TestPlace}
+use Rattle.c_types_spec.specs.declared.TestPlace.TheVariants.{Before, After}
+use Rattle.c_types_spec.specs.Core.{Action, sequence}
+use Rattle.c_types_core.specs.declared.action.Action as kept
+use Rattle.c_types_core.specs.declared.expression.Core as expression
+use Rattle.c_types_core.specs.Expressions.{core_of}
+use Rattle.c_types_core.specs.Actions.{action_of}
+use Rattle.c_run_spec.specs.Setting.{Setting, Broken}
+use Rattle.c_run_spec.specs.Evaluation.{Evaluated, Locals, on_result, value}
+use Rattle.c_run_spec.specs.Execution.{State, state, Flow, More, Broke, Went, Jumped, Gave, Called, Failed, then_do, is_zero, again, continued, while_true, switched, after_call}
+use Rattle.c_run_spec.specs.Calls.{returned}
+use Rattle.c_run_laws.specs.Depth.{called, performed, round_in}
 use Rattle.c_run.specs.declared.frame.Ending.{Ending}
 use Rattle.c_run.specs.declared.frame.Ending.TheVariants as ending
 use Rattle.c_run.specs.declared.frame.Pause.{Pause}
@@ -26,8 +26,8 @@ use Rattle.c_run.specs.declared.frame.Next.TheVariants as next
 use Rattle.c_run.specs.declared.frame.Frame.{Frame}
 use Rattle.c_run.specs.declared.frame.Task.{Task}
 use Rattle.c_run.specs.declared.frame.Task.TheVariants as task
-use Rattle.c_value.specs.declared.setting.Stop.{Stop}
-use Rattle.c_value.specs.declared.setting.Stop.TheVariants as stop
+use Rattle.c_run_value.specs.declared.setting.Stop.{Stop}
+use Rattle.c_run_value.specs.declared.setting.Stop.TheVariants as stop
 
 -- how control reaches a task, in a state, with so many turns left
 abbrev pub flow_of : Ending → State → (left : ℕ) → Flow

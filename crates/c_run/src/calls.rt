@@ -1,17 +1,17 @@
 //! The run of a call.
 
 ghost use Rattle.std.specs.Prelude.{◌≡◌, ◌<◌, IfOk};
-ghost use Rattle.c_meaning_spec.specs.Calls as spec;
-ghost use Rattle.c_value.specs.Settings.{setting_in, setting_of};
+ghost use Rattle.c_run_spec.specs.Calls as spec;
+ghost use Rattle.c_run_value.specs.Settings.{setting_in, setting_of};
 ghost use Rattle.c_run.specs.Machines.{Ends};
 ghost use Rattle.c_run.specs.Outcomes.{outcome_in};
 
 use crate::machine::{Ended, Machine, body_named, drive, enter};
 use attempt::attempt;
-use c_meaning_spec::Guard;
+use c_run_spec::Guard;
+use c_run_value::setting::{Place, Setting, Stop, Zone};
 use c_types::typed::Typed;
-use c_value::setting::{Place, Setting, Stop, Zone};
-use memory_core::Memory;
+use memory::Memory;
 use std::alloc::Global;
 
 /// A call of a function, in a memory.

@@ -3,9 +3,9 @@
 ghost use Rattle.std.specs.Prelude.{OnOk};
 ghost use Rattle.c_run.specs.Frames.{IsPushed, IsSet, IsTaken};
 
-use c_core::action::Action;
-use c_core::expression::Core;
-use c_type_spec::Scalar;
+use c_types_core::action::Action;
+use c_types_core::expression::Core;
+use c_types_spec::Scalar;
 use std::alloc::AllocError;
 
 /// How control reaches a task.

@@ -1,22 +1,22 @@
 //! Functions that run: the innermost one, and those that wait for their callees.
 
 ghost use Rattle.std.specs.Prelude.{◌≡◌, ◌<◌, ◌++◌, IfOk, OnOk, Ok, slice_get, option_map};
-ghost use Rattle.c_meaning_spec.specs.Calls as spec;
-ghost use Rattle.c_meaning_spec.specs.Execution as flow;
+ghost use Rattle.c_run_spec.specs.Calls as spec;
+ghost use Rattle.c_run_spec.specs.Execution as flow;
 ghost use Rattle.c_types.specs.Typed.{body_of_name};
-ghost use Rattle.c_value.specs.Settings.{setting_of};
+ghost use Rattle.c_run_value.specs.Settings.{setting_of};
 ghost use Rattle.c_run.specs.Machines.{Ends, Turns, Turned, comes_to};
 ghost use Rattle.c_run.specs.Machines.{IsBegun, IsCalled, IsEntered, IsReceived};
 
 use crate::frame::{Frame, Pause, Task};
 use crate::running::go;
 use attempt::attempt;
-use c_core::constants::has_width;
-use c_core::values::{TooWide, convert};
-use c_type_spec::Scalar;
+use c_run_value::setting::{Setting, Stop};
 use c_types::typed::Body;
-use c_value::setting::{Setting, Stop};
-use memory_core::Memory;
+use c_types_core::constants::has_width;
+use c_types_core::values::{TooWide, convert};
+use c_types_spec::Scalar;
+use memory::Memory;
 use std::alloc::{AllocError, Global};
 
 /// The functions that run.
@@ -40,7 +40,7 @@ pub enum Ended {
 }
 
 /// The body of the function of a name.
-#[tactic(auto, unfolding(c_value::specs::Settings::setting_in))]
+#[tactic(auto, unfolding(c_run_value::specs::Settings::setting_in))]
 pub fn body_named<'s, 'a>(setting: &Setting<'s, 'a>, name: &[u8]) -> Option<&'s Body<'a>>
     ensures { option_map (λ b. body_of_name name.now b.now) result ≡ spec.body_named (setting_of
         setting.now).bodies name.now }

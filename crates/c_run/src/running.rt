@@ -1,16 +1,16 @@
 //! The tasks of a function, one after the other.
 
 ghost use Rattle.std.specs.Prelude.{◌≡◌};
-ghost use Rattle.c_value.specs.Settings.{setting_of};
+ghost use Rattle.c_run_value.specs.Settings.{setting_of};
 ghost use Rattle.c_run.specs.Tasks.{Goes, Proceeds, after_break, follows_body};
 
 use crate::frame::{Ending, Frame, Next, Pause, Task};
 use crate::statement::{act, holds};
 use attempt::attempt;
-use c_core::action::Action;
-use c_core::expression::Core;
-use c_value::setting::{Setting, Stop};
-use memory_core::Memory;
+use c_run_value::setting::{Setting, Stop};
+use c_types_core::action::Action;
+use c_types_core::expression::Core;
+use memory::Memory;
 
 /// Statements one after the other.
 fn rest<'s, 'a>(

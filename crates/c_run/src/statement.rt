@@ -2,27 +2,27 @@
 
 ghost use Rattle.std.specs.Prelude.{◌≡◌, OnOk, map, option_map};
 ghost use Rattle.std.specs.List.{list_any};
-ghost use Rattle.c_type_spec.specs.Core as tree;
-ghost use Rattle.c_core.specs.Expressions.{core_of};
-ghost use Rattle.c_core.specs.Actions.{action_of, core_in, group_of};
-ghost use Rattle.c_type_spec.specs.Statements.{groups_in, same_label};
-ghost use Rattle.c_meaning_spec.specs.Evaluation as spec;
-ghost use Rattle.c_value.specs.Settings.{setting_of};
-ghost use Rattle.c_value.specs.Gives.{Gives, GivesValue};
+ghost use Rattle.c_types_spec.specs.Core as tree;
+ghost use Rattle.c_types_core.specs.Expressions.{core_of};
+ghost use Rattle.c_types_core.specs.Actions.{action_of, core_in, group_of};
+ghost use Rattle.c_types_spec.specs.Statements.{groups_in, same_label};
+ghost use Rattle.c_run_spec.specs.Evaluation as spec;
+ghost use Rattle.c_run_value.specs.Settings.{setting_of};
+ghost use Rattle.c_run_value.specs.Gives.{Gives, GivesValue};
 ghost use Rattle.c_run.specs.Tasks.{Acts, Repeats, ending_of, loop_tasks, truth};
 ghost use Rattle.c_run.specs.Frames.{ArePushed, IsPassed};
 ghost use Rattle.c_run.specs.Groups.{picked, chosen_action};
 
 use crate::frame::{Ending, Frame, Next, Pause, Task};
 use attempt::attempt;
-use c_core::action::{Action, Group};
-use c_core::expression::Core;
-use c_meaning_spec::Guard;
-use c_type_spec::{Jump, Scalar, TestPlace};
-use c_value::access::store_object;
-use c_value::evaluation::{Scene, address_past, value};
-use c_value::setting::{Setting, Stop};
-use memory_core::Memory;
+use c_run_spec::Guard;
+use c_run_value::access::store_object;
+use c_run_value::evaluation::{Scene, address_past, value};
+use c_run_value::setting::{Setting, Stop};
+use c_types_core::action::{Action, Group};
+use c_types_core::expression::Core;
+use c_types_spec::{Jump, Scalar, TestPlace};
+use memory::Memory;
 use std::alloc::AllocError;
 
 /// The value of an expression in a frame.
@@ -304,7 +304,7 @@ fn has_label(labels: &[Option<i128>], label: Option<i128>) -> bool
 }
 
 /// What the first group with a label does.
-#[tactic(auto, using(c_core::proofs::ActionViews::action_views))]
+#[tactic(auto, using(c_types_core::proofs::ActionViews::action_views))]
 fn labelled<'b, 'a>(groups: &'b [Group<'a>], label: Option<i128>) -> Option<&'b Action<'a>>
     ensures { option_map (λ a. action_of a.now) result ≡ picked label (groups_in (map group_of
         groups.now)) }
@@ -359,7 +359,7 @@ fn ending_of(jump: Jump) -> Ending
 }
 
 /// What a statement does.
-#[tactic(auto, using(c_core::proofs::ActionViews::action_views))]
+#[tactic(auto, using(c_types_core::proofs::ActionViews::action_views))]
 pub fn act<'s, 'a>(
     action: &'s Action<'a>,
     setting: &Setting<'s, 'a>,

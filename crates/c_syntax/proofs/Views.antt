@@ -3,12 +3,12 @@ use Rattle.std.proofs.Common.{◌≡◌, ℕ, Bool, List, [], ◌∷◌, map, ap
 use Rattle.std.specs.Prelude.{option_map, Vec}
 use Rattle.std.specs.declared.alloc.Global.{Global}
 use Rattle.std.specs.declared.boxed.Box.{Box}
-use Rattle.c_spec.specs.declared.token.NumberType.{NumberType}
-use Rattle.c_tree_spec.specs.declared.Access.{Access}
-use Rattle.c_tree_spec.specs.declared.UnaryOperator.{UnaryOperator}
-use Rattle.c_tree_spec.specs.declared.BinaryOperator.{BinaryOperator}
-use Rattle.c_tree_spec.specs.declared.IntegerType.{IntegerType}
-use Rattle.c_tree_spec.specs.Expression as tree
+use Rattle.c_token_spec.specs.declared.token.NumberType.{NumberType}
+use Rattle.c_syntax_spec.specs.declared.Access.{Access}
+use Rattle.c_syntax_spec.specs.declared.UnaryOperator.{UnaryOperator}
+use Rattle.c_syntax_spec.specs.declared.BinaryOperator.{BinaryOperator}
+use Rattle.c_syntax_spec.specs.declared.IntegerType.{IntegerType}
+use Rattle.c_syntax_spec.specs.Expression as tree
 use Rattle.c_syntax.specs.declared.expression.Expression.TheOpen as layer
 use Rattle.c_syntax.specs.declared.expression.TypeSpecifier.{TypeSpecifier, fold-roll-TypeSpecifier}
 use Rattle.c_syntax.specs.declared.expression.TypeSpecifier.TheVariants as type_specifier_made

@@ -2,7 +2,7 @@
 use Rattle.std.specs.Prelude.{List, [], ◌∷◌, Bool, Option, Some, None, option_map, map, Vec}
 use Rattle.std.specs.declared.alloc.Global.{Global}
 use Rattle.std.specs.declared.boxed.Box.{Box}
-use Rattle.c_tree_spec.specs.Expression as tree
+use Rattle.c_syntax_spec.specs.Expression as tree
 use Rattle.c_syntax.specs.declared.expression.TypeSpecifier.{TypeSpecifier, TypeSpecifier-F, fold-TypeSpecifier}
 use Rattle.c_syntax.specs.declared.expression.Expression.TheOpen as open_tree
 use Rattle.c_syntax.specs.declared.expression.Expression.{Expression, Expression-F, fold-Expression}

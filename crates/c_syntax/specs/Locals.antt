@@ -1,7 +1,7 @@
 -- The tree of a declaration of locals, and of the other parts of a statement, without the program's pointers.
 use Rattle.std.specs.Prelude.{map}
 use Rattle.std.specs.Option.{option_map}
-use Rattle.c_tree_spec.specs.Unit as tree
+use Rattle.c_syntax_spec.specs.Unit as tree
 use Rattle.c_syntax.specs.Expressions.{expression_of, specifiers_of, declarator_of, unboxed}
 use Rattle.c_syntax.specs.Simples.{value_of, simple_of}
 use Rattle.c_syntax.specs.declared.statement.Local.{Local}

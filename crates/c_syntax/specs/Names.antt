@@ -1,5 +1,5 @@
 -- Names and storage-class words, of the program and of the tree.
-use Rattle.c_tree_spec.specs.Expression as tree
+use Rattle.c_syntax_spec.specs.Expression as tree
 use Rattle.c_syntax.specs.declared.expression.Name.{Name}
 use Rattle.c_syntax.specs.declared.expression.Storage.{Storage}
 

@@ -1,5 +1,5 @@
 -- The tree of a call, a value and an expression statement without the program's pointers.
-use Rattle.c_tree_spec.specs.Unit as tree
+use Rattle.c_syntax_spec.specs.Unit as tree
 use Rattle.c_syntax.specs.declared.simple.Call.{Call}
 use Rattle.c_syntax.specs.declared.simple.Value.{Value}
 use Rattle.c_syntax.specs.declared.simple.Value.TheVariants.{Called, Computed}

@@ -3,7 +3,7 @@ use Rattle.std.specs.Prelude.{List, [], ◌∷◌, map, Vec}
 use Rattle.std.specs.declared.alloc.Global.{Global}
 use Rattle.std.specs.declared.boxed.Box.{Box}
 use Rattle.std.specs.Option.{option_map}
-use Rattle.c_tree_spec.specs.Unit as tree
+use Rattle.c_syntax_spec.specs.Unit as tree
 use Rattle.c_syntax.specs.Expressions.{expression_of, unboxed}
 use Rattle.c_syntax.specs.Simples.{value_of, simple_of}
 use Rattle.c_syntax.specs.declared.statement.Statement.{Statement, Statement-F, fold-Statement}

@@ -1,7 +1,7 @@
 -- The tree of a unit without the program's pointers.
 use Rattle.std.specs.Prelude.{map}
 use Rattle.std.specs.Option.{option_map}
-use Rattle.c_tree_spec.specs.Unit as tree
+use Rattle.c_syntax_spec.specs.Unit as tree
 use Rattle.c_syntax.specs.Names.{name_of}
 use Rattle.c_syntax.specs.Expressions.{specifiers_of, declarator_of, dimensions_of, unboxed}
 use Rattle.c_syntax.specs.declared.unit.Parameter.{Parameter}

@@ -1,7 +1,7 @@
 //! Expressions and types (6.5 to 6.7).
 
 ghost use Rattle.std.specs.Prelude.{◌≡◌, IfOk, option_map};
-ghost use Rattle.c_tree_spec.specs.Expression as tree;
+ghost use Rattle.c_syntax_spec.specs.Expression as tree;
 ghost use Rattle.c_syntax.specs.Names.{name_of, storage_of};
 ghost use Rattle.c_syntax.specs.Expressions.{expression_of, type_name_of, specifiers_of};
 ghost use Rattle.c_syntax.specs.Expressions.{type_specifier_of};
@@ -9,8 +9,8 @@ ghost use Rattle.c_syntax.specs.Expressions.{member_of, constant_of, declarator_
 ghost use Rattle.c_syntax.specs.Expressions.{expressions_in, declarators_in, members_in};
 ghost use Rattle.c_syntax.specs.Expressions.{constants_in, value_in};
 
-use c_spec::token::NumberType;
-use c_tree_spec::{Access, BinaryOperator, IntegerType, UnaryOperator};
+use c_syntax_spec::{Access, BinaryOperator, IntegerType, UnaryOperator};
+use c_token_spec::token::NumberType;
 use std::alloc::{AllocError, Global};
 
 /// A name, which borrows its bytes from the text.

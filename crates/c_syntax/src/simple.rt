@@ -1,7 +1,7 @@
 //! Calls, and the expression statements (6.5.2.2, 6.5.16, 6.8.3).
 
 use crate::expression::{Expression, Name};
-use c_tree_spec::{BinaryOperator, StepOperator};
+use c_syntax_spec::{BinaryOperator, StepOperator};
 
 /// `callee(arguments)`
 #[derive(Drop)]

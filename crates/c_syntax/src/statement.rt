@@ -2,7 +2,7 @@
 
 ghost use Rattle.std.specs.Prelude.{◌≡◌, IfOk, map};
 ghost use Rattle.std.specs.Option.{option_map};
-ghost use Rattle.c_tree_spec.specs.Unit as tree;
+ghost use Rattle.c_syntax_spec.specs.Unit as tree;
 ghost use Rattle.c_syntax.specs.Expressions.{expression_of};
 ghost use Rattle.c_syntax.specs.Simples.{value_of, simple_of};
 ghost use Rattle.c_syntax.specs.Locals.{start_of, locals_of, label_of};

@@ -3,7 +3,7 @@ use Rattle.std.proofs.Common.{◌≡◌, ℕ, suc, ◌+◌, ◌<◌, false, Opti
 use Rattle.std.specs.Prelude.{nat_eq, codes}
 use Rattle.std.specs.List.{starts_with}
 use Rattle.std.proofs.Math.Seq.{drop-cons}
-use Rattle.c_spec.specs.Blanks.{close_len}
+use Rattle.c_token_spec.specs.Blanks.{close_len}
 
 further : (i : ℕ) (found : Option ℕ) → option_map (λ n. i + n) (option_map suc found) ≡ option_map (λ n. i + 1 + n) found
 further i None = refl

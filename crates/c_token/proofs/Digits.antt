@@ -4,10 +4,10 @@ use Rattle.std.specs.Prelude.{fold, option_and_then, ◌==◌}
 use Rattle.std.specs.List.{prefix_len}
 use Rattle.std.proofs.lemmas.Grind.{common_steps}
 use Rattle.std.proofs.Math.Seq.{drop-cons}
-use Rattle.c_spec.specs.declared.token.Suffix.{Suffix}
-use Rattle.c_spec.specs.declared.token.NumberType.{NumberType}
-use Rattle.c_spec.specs.Words.{entry_of}
-use Rattle.c_spec.specs.Numbers.{digit_value, digits_value, is_digit_to, suffixes, type_of, number_to}
+use Rattle.c_token_spec.specs.declared.token.Suffix.{Suffix}
+use Rattle.c_token_spec.specs.declared.token.NumberType.{NumberType}
+use Rattle.c_token_spec.specs.Words.{entry_of}
+use Rattle.c_token_spec.specs.Numbers.{digit_value, digits_value, is_digit_to, suffixes, type_of, number_to}
 
 abbrev pub value_after : (base value : ℕ) → List ℕ → ℕ
 value_after base value digits = fold (λ v digit. base * v + digit_value digit) value digits

@@ -3,7 +3,7 @@ use Rattle.std.proofs.Common.{◌≡◌, ℕ, ◌<◌, Bool, true, false, cond, 
 use Rattle.std.specs.Prelude.{IfSome, nat_eq, nat_lt}
 use Rattle.std.specs.List.{starts_with, list_all}
 use Rattle.std.proofs.lemmas.Grind.{common_steps}
-use Rattle.c_spec.specs.Punctuators.{prefix_entry, punctuators, punctuator_of}
+use Rattle.c_token_spec.specs.Punctuators.{prefix_entry, punctuators, punctuator_of}
 use Rattle.c_token.specs.Tables.{measured}
 
 some_byte : {V : Type 0} (table : List (List ℕ × V)) (text : List ℕ) → list_all (λ entry. nat_lt 0 (length entry.0)) table ≡ true → IfSome (option_map measured (prefix_entry table text)) (λ front. 0 < front.1)

@@ -1,7 +1,7 @@
 -- The tokens of a text, one piece further.
 use Rattle.std.proofs.Common.{◌≡◌, ℕ, ◌+◌, Bool, true, false, List, [], ◌∷◌, ◌++◌, Result, Ok, Err, drop, refl, ap, sym, subst, append_assoc, append-nil}
-use Rattle.c_spec.specs.declared.token.TokenFaultKind.{TokenFaultKind}
-use Rattle.c_spec.specs.Lexical.{Token, Placed, Blank, Lexeme, Fault, first_piece, with_token, Lexes, ended, blank, lexeme, fault}
+use Rattle.c_token_spec.specs.declared.token.TokenFaultKind.{TokenFaultKind}
+use Rattle.c_token_spec.specs.Lexical.{Token, Placed, Blank, Lexeme, Fault, first_piece, with_token, Lexes, ended, blank, lexeme, fault}
 
 abbrev pub Outcome : Type 0
 Outcome = Result (List Placed) (TokenFaultKind × ℕ)

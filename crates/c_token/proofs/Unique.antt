@@ -1,7 +1,7 @@
 -- A text has one outcome: its tokens, or one first fault.
 use Rattle.std.proofs.Common.{◌≡◌, ℕ, ◌+◌, Bool, true, false, List, [], ◌∷◌, Ok, Err, drop, refl, ap, sym, ◌∙◌, subst}
-use Rattle.c_spec.specs.declared.token.TokenFaultKind.{TokenFaultKind}
-use Rattle.c_spec.specs.Lexical.{Token, Placed, Blank, Lexeme, Fault, first_piece, with_token, Lexes, ended, blank, lexeme, fault}
+use Rattle.c_token_spec.specs.declared.token.TokenFaultKind.{TokenFaultKind}
+use Rattle.c_token_spec.specs.Lexical.{Token, Placed, Blank, Lexeme, Fault, first_piece, with_token, Lexes, ended, blank, lexeme, fault}
 use Rattle.c_token.proofs.Steps.{Outcome}
 
 -- what follows a blank, whatever the outcome

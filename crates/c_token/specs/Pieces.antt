@@ -1,6 +1,6 @@
 -- The tokens and pieces of the definition that the program's are.
 use Rattle.std.specs.Prelude.{ℕ}
-use Rattle.c_spec.specs.Lexical.{Token, Name, Word, Number, Character, Mark, Placed, Piece, Blank, Lexeme, Fault}
+use Rattle.c_token_spec.specs.Lexical.{Token, Name, Word, Number, Character, Mark, Placed, Piece, Blank, Lexeme, Fault}
 use Rattle.c_token.specs.declared.Kind.{Kind}
 use Rattle.c_token.specs.declared.Kind.TheVariants.{Name as a_name, Word as a_word, Number as a_number, Character as a_character, Mark as a_mark}
 use Rattle.c_token.specs.declared.Token.{Token as TokenRow}

@@ -1,6 +1,6 @@
 -- When a text has no tokens.
 use Rattle.std.specs.Prelude.{ℕ, List}
-use Rattle.c_spec.specs.Lexical.{IsTokenFault}
+use Rattle.c_token_spec.specs.Lexical.{IsTokenFault}
 use Rattle.c_token.specs.declared.TokenError.{TokenError}
 use Rattle.c_token.specs.declared.TokenError.TheVariants.{Fault, NoMemory}
 

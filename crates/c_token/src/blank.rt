@@ -2,8 +2,8 @@
 
 ghost use Rattle.std.specs.Prelude.{◌≡◌, ◌≤◌, length, IfSome};
 ghost use Rattle.std.specs.List.{prefix_len};
-ghost use Rattle.c_spec.specs.Blanks.{is_blank_in_line, is_blank_byte, line_len, close_len};
-ghost use Rattle.c_spec.specs.Blanks.{is_marker};
+ghost use Rattle.c_token_spec.specs.Blanks.{is_blank_in_line, is_blank_byte, line_len, close_len};
+ghost use Rattle.c_token_spec.specs.Blanks.{is_marker};
 
 /// Whether a byte is blank and ends no line.
 fn is_blank_in_line(byte: u8) -> bool

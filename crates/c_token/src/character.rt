@@ -1,7 +1,7 @@
 //! Character constants.
 
 ghost use Rattle.std.specs.Prelude.{◌≡◌, ◌≤◌, ◌<◌, length, IfSome};
-ghost use Rattle.c_spec.specs.Characters.{escape_of, digits_of, escaped, element_of, character_of};
+ghost use Rattle.c_token_spec.specs.Characters.{escape_of, digits_of, escaped, element_of, character_of};
 
 use crate::number::{count_digits, digits_value};
 
@@ -78,7 +78,7 @@ fn element_of(text: &[u8]) -> Option<(u8, usize)>
 }
 
 /// Behind a quote: the value, and how many bytes there are with the quote that closes.
-#[tactic(auto, unfolding(c_spec::specs::Characters::character_of))]
+#[tactic(auto, unfolding(c_token_spec::specs::Characters::character_of))]
 pub fn character_of(text: &[u8]) -> Option<(u8, usize)>
     ensures value { result ≡ character_of text.now }
     ensures within { IfSome result (λ found. found.1 ≤ length text.now) }

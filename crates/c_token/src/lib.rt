@@ -2,11 +2,11 @@
 //!
 //! The main type is [`Token`], which borrows its bytes from the text. [`tokens`] has the crate's
 //! contract: it gives exactly the tokens of a text by longest match, or the first fault with its
-//! offset. What these are is defined in `c_spec`'s `specs/Lexical.antt`.
+//! offset. What these are is defined in `c_token_spec`'s `specs/Lexical.antt`.
 #![tactic(auto)]
 
 ghost use Rattle.std.specs.Prelude.{◌≡◌, IfOk, IfErr, List, map};
-ghost use Rattle.c_spec.specs.Lexical.{Placed, AreTokens};
+ghost use Rattle.c_token_spec.specs.Lexical.{Placed, AreTokens};
 ghost use Rattle.c_token.specs.Pieces.{placed_of};
 ghost use Rattle.c_token.specs.Refused.{IsFaultOf};
 
@@ -16,7 +16,7 @@ mod number;
 mod piece;
 mod word;
 
-use c_spec::token::{Keyword, NumberType, Punctuator, TokenFaultKind};
+use c_token_spec::token::{Keyword, NumberType, Punctuator, TokenFaultKind};
 use piece::{Piece, first_piece};
 use std::alloc::{AllocFailed, Global};
 

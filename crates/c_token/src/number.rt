@@ -2,12 +2,12 @@
 
 ghost use Rattle.std.specs.Prelude.{◌≡◌, ◌≤◌, ◌<◌, ◌^◌, length, SomeIff};
 ghost use Rattle.std.specs.List.{prefix_len};
-ghost use Rattle.c_spec.specs.Words.{entry_of};
-ghost use Rattle.c_spec.specs.Numbers.{goes_on, number_len, is_digit_to, digit_value, digits_value};
-ghost use Rattle.c_spec.specs.Numbers.{suffixes, type_of, number_to, number_of};
+ghost use Rattle.c_token_spec.specs.Words.{entry_of};
+ghost use Rattle.c_token_spec.specs.Numbers.{goes_on, number_len, is_digit_to, digit_value, digits_value};
+ghost use Rattle.c_token_spec.specs.Numbers.{suffixes, type_of, number_to, number_of};
 
 use crate::word::{entry_of, is_word_byte};
-use c_spec::token::{NumberType, Suffix};
+use c_token_spec::token::{NumberType, Suffix};
 
 const PLAIN: Suffix = Suffix {
     is_unsigned: false,
@@ -173,7 +173,7 @@ fn number_to(base: u8, text: &[u8]) -> Option<(u64, NumberType)>
 }
 
 /// The value and the type of a number.
-#[tactic(auto, unfolding(c_spec::specs::Numbers::number_of))]
+#[tactic(auto, unfolding(c_token_spec::specs::Numbers::number_of))]
 pub fn number_of(text: &[u8]) -> Option<(u64, NumberType)>
     ensures { result ≡ number_of text.now }
 {

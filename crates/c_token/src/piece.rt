@@ -2,9 +2,9 @@
 
 ghost use Rattle.std.specs.Prelude.{◌≡◌, ◌≤◌, ◌<◌, ◌+◌, ◌∷◌, length, Some};
 ghost use Rattle.std.specs.List.{prefix_len};
-ghost use Rattle.c_spec.specs.Words.{is_word_byte};
-ghost use Rattle.c_spec.specs.Lexical.{first_piece, word_piece, number_piece, character_piece};
-ghost use Rattle.c_spec.specs.Lexical.{comment_piece, mark_piece};
+ghost use Rattle.c_token_spec.specs.Words.{is_word_byte};
+ghost use Rattle.c_token_spec.specs.Lexical.{first_piece, word_piece, number_piece, character_piece};
+ghost use Rattle.c_token_spec.specs.Lexical.{comment_piece, mark_piece};
 ghost use Rattle.c_token.specs.Pieces.{piece_of, count_of};
 
 use crate::Kind;
@@ -12,7 +12,7 @@ use crate::blank::{close_len, is_blank_byte, is_marker, line_len};
 use crate::character::character_of;
 use crate::number::{number_len, number_of};
 use crate::word::{begins_word, keyword_of, punctuator_of, word_len};
-use c_spec::token::TokenFaultKind;
+use c_token_spec::token::TokenFaultKind;
 
 /// What a text begins with, and how many bytes it has.
 #[derive(Clone, Copy)]
@@ -94,7 +94,7 @@ fn mark_piece<'a>(text: &[u8]) -> Piece<'a>
 }
 
 /// What a text begins with; `fresh` says that only blank bytes are before it in its line.
-#[tactic(auto, unfolding(c_spec::specs::Lexical::first_piece))]
+#[tactic(auto, unfolding(c_token_spec::specs::Lexical::first_piece))]
 pub fn first_piece<'a>(fresh: bool, first: u8, rest: &[u8], text: &'a [u8]) -> Piece<'a>
     requires { text.now ≡ first ∷ rest.now }
     ensures piece { piece_of result ≡ first_piece fresh first rest.now }

@@ -2,11 +2,11 @@
 
 ghost use Rattle.std.specs.Prelude.{◌≡◌, ◌<◌, ◌≤◌, length, option_map, map, IfSome};
 ghost use Rattle.std.specs.List.{prefix_len};
-ghost use Rattle.c_spec.specs.Words.{is_word_byte, begins_word, entry_of, keyword_of};
-ghost use Rattle.c_spec.specs.Punctuators.{prefix_entry, punctuator_of};
+ghost use Rattle.c_token_spec.specs.Words.{is_word_byte, begins_word, entry_of, keyword_of};
+ghost use Rattle.c_token_spec.specs.Punctuators.{prefix_entry, punctuator_of};
 ghost use Rattle.c_token.specs.Tables.{spelled, measured};
 
-use c_spec::token::{Keyword, Punctuator};
+use c_token_spec::token::{Keyword, Punctuator};
 
 /// The keywords, each with its spelling.
 static KEYWORDS: [(&[u8], Keyword); 48] = [
@@ -146,7 +146,7 @@ pub fn entry_of<V: Copy>(table: &[(&[u8], V)], word: &[u8]) -> Option<V>
 }
 
 /// The keyword that a word is.
-#[tactic(auto, unfolding(c_spec::specs::Words::keyword_of))]
+#[tactic(auto, unfolding(c_token_spec::specs::Words::keyword_of))]
 pub fn keyword_of(word: &[u8]) -> Option<Keyword>
     ensures { result ≡ keyword_of word.now }
 {
@@ -167,7 +167,7 @@ fn find_front(table: &[(&[u8], Punctuator)], text: &[u8]) -> Option<(Punctuator,
 }
 
 /// The longest punctuator that a text begins with, and how many bytes it has.
-#[tactic(auto, unfolding(c_spec::specs::Punctuators::punctuator_of))]
+#[tactic(auto, unfolding(c_token_spec::specs::Punctuators::punctuator_of))]
 pub fn punctuator_of(text: &[u8]) -> Option<(Punctuator, usize)>
     ensures front { result ≡ option_map measured (punctuator_of text.now) }
     ensures within { IfSome result (λ front. front.1 ≤ length text.now) }

@@ -8,12 +8,12 @@ use Rattle.c_syntax.specs.declared.unit.Parameter.{Parameter}
 use Rattle.c_syntax.specs.declared.unit.Global.{Global}
 use Rattle.c_syntax.specs.declared.unit.ExternalDeclaration.{ExternalDeclaration}
 use Rattle.c_syntax.specs.Units.{parameter_of, global_of, external_declaration_of}
-use Rattle.c_type_spec.specs.declared.Scalar.{Scalar}
-use Rattle.c_type_spec.specs.Types as types
-use Rattle.c_type_spec.specs.Units.{scalars_of}
-use Rattle.c_type_layout.specs.declared.types.CType.{CType}
-use Rattle.c_type_layout.specs.Types.{type_of}
-use Rattle.c_type_expression.specs.Trees.{unboxed}
+use Rattle.c_types_spec.specs.declared.Scalar.{Scalar}
+use Rattle.c_types_spec.specs.Types as types
+use Rattle.c_types_spec.specs.Units.{scalars_of}
+use Rattle.c_types_layout.specs.declared.types.CType.{CType}
+use Rattle.c_types_layout.specs.Types.{type_of}
+use Rattle.c_types_expression.specs.Trees.{unboxed}
 
 pub parameters-more : (list : List (Box Parameter Allocator)) (i : ℕ) (d : Box Parameter Allocator) → i < length list → map parameter_of (unboxed (drop i list)) ≡ parameter_of (get_or list i d).value ∷ map parameter_of (unboxed (drop (i + 1) list))
 parameters-more list i d h = ap (λ l. map parameter_of (unboxed l)) (drop_more list i d h)

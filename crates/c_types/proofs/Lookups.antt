@@ -9,15 +9,15 @@ use Rattle.std.proofs.lemmas.Bool.{cases_Bool}
 use Rattle.std.proofs.lemmas.Slice.Eq.{bytes_eq-Decides}
 use Rattle.std.specs.Bool.{one_answer}
 use Rattle.std.proofs.lemmas.Bool.Decides.{Decides-like}
-use Rattle.c_spec.specs.Words.{entry_of}
-use Rattle.c_type_spec.specs.Types.{Structs, size_of}
-use Rattle.c_type_spec.specs.Core as core
-use Rattle.c_type_spec.specs.Units.{functions_in, globals_in}
-use Rattle.c_type_layout.specs.Types.{type_of}
-use Rattle.c_type_scope.specs.declared.meaning.Meaning.{Meaning}
-use Rattle.c_type_scope.specs.declared.meaning.Meaning.TheVariants.{Local, Object, Function, Typedef, Enumerator}
-use Rattle.c_type_scope.specs.Scopes.{file_of}
-use Rattle.c_type_scope.specs.Meanings.{seen_meaning, scope_by}
+use Rattle.c_token_spec.specs.Words.{entry_of}
+use Rattle.c_types_spec.specs.Types.{Structs}
+use Rattle.c_types_spec.specs.Core as core
+use Rattle.c_types_spec.specs.Units.{functions_in, global_size, globals_in}
+use Rattle.c_types_layout.specs.Types.{type_of}
+use Rattle.c_types_scope.specs.declared.meaning.Meaning.{Meaning}
+use Rattle.c_types_scope.specs.declared.meaning.Meaning.TheVariants.{Local, Object, Function, Typedef, Enumerator}
+use Rattle.c_types_scope.specs.Scopes.{file_of}
+use Rattle.c_types_scope.specs.Meanings.{seen_meaning, scope_by}
 use Rattle.c_types.specs.declared.typed.Body.{Body}
 use Rattle.c_types.specs.Typed.{AreDistinct, bodies_of, body_in, body_of_name, function_in, global_at, global_in, global_of}
 
@@ -136,7 +136,7 @@ globals-lack structs ((key, Enumerator value) ∷ entries) name lacks = globals-
 
 globals-at : (structs : Structs) (key : Bor (List ℕ)) (meaning : Meaning) (entries : Entries) (name : List ℕ) → bytes_eq key.now name ≡ true → Lacks name entries
     → global_at structs name meaning ≡ global_in (globals structs ((key, meaning) ∷ entries)) name
-globals-at structs key (Object type) entries name h lacks = rw h (ap (λ n. Some (global_of n (size_of structs (type_of type)))) (sym (same-bytes key.now name h)))
+globals-at structs key (Object type) entries name h lacks = rw h (ap (λ n. Some (global_of n (global_size structs (type_of type)))) (sym (same-bytes key.now name h)))
 globals-at structs key (Function signature has_body) entries name h lacks = sym (globals-lack structs entries name lacks)
 globals-at structs key (Local number type) entries name h lacks = sym (globals-lack structs entries name lacks)
 globals-at structs key (Typedef type) entries name h lacks = sym (globals-lack structs entries name lacks)

@@ -2,17 +2,18 @@
 use Rattle.std.specs.Prelude.{◌≡◌, ℕ, List, length, map, find, Option, Some, None, Result, Ok, Err, bytes_eq}
 use Rattle.std.specs.Borrow.{Bor}
 use Rattle.std.specs.List.{IsDistinct}
-use Rattle.c_core.specs.Actions.{action_of}
-use Rattle.c_type_spec.specs.Core as core
-use Rattle.c_type_spec.specs.Names.{Fault}
-use Rattle.c_type_spec.specs.Units as units
-use Rattle.c_type_layout.specs.Structs.{structs_of}
-use Rattle.c_type_scope.specs.Scopes.{file_of}
-use Rattle.c_type_layout.specs.Types.{type_of}
-use Rattle.c_type_spec.specs.Types.{Structs, size_of}
-use Rattle.c_type_scope.specs.Meanings.{seen_meaning, scope_by, signature_of}
-use Rattle.c_type_scope.specs.declared.meaning.Meaning.{Meaning}
-use Rattle.c_type_scope.specs.declared.meaning.Meaning.TheVariants as meaning
+use Rattle.c_types_core.specs.Actions.{action_of}
+use Rattle.c_types_spec.specs.Core as core
+use Rattle.c_types_spec.specs.Names.{Fault}
+use Rattle.c_types_spec.specs.Units as units
+use Rattle.c_types_layout.specs.Structs.{structs_of}
+use Rattle.c_types_scope.specs.Scopes.{file_of}
+use Rattle.c_types_layout.specs.Types.{type_of}
+use Rattle.c_types_spec.specs.Types.{Structs}
+use Rattle.c_types_scope.specs.States.{texts_in}
+use Rattle.c_types_scope.specs.Meanings.{seen_meaning, scope_by, signature_of}
+use Rattle.c_types_scope.specs.declared.meaning.Meaning.{Meaning}
+use Rattle.c_types_scope.specs.declared.meaning.Meaning.TheVariants as meaning
 use Rattle.c_types.specs.declared.typed.FunctionType.{FunctionType}
 use Rattle.c_types.specs.declared.typed.Body.{Body}
 use Rattle.c_types.specs.declared.typed.Counts.{Counts}
@@ -31,6 +32,7 @@ body_of_name name body = record {
   locals = body.locals.items;
   loops = body.loops;
   calls = body.calls;
+  mentions = texts_in body.mentions;
   action = action_of body.action.value;
 }
 
@@ -70,7 +72,7 @@ counts_in body = (length body.signature.parameters, body.loops, body.calls)
 abbrev pub counts_of : Counts → ℕ × ℕ × ℕ
 counts_of counts = (counts.params, counts.loops, counts.calls)
 
-abbrev pub global_of : List ℕ → (size : Option ℕ) → core.Global
+abbrev pub global_of : List ℕ → core.GlobalSize → core.Global
 global_of name size = record { global = name; size = size }
 
 -- no name is there twice
@@ -87,7 +89,7 @@ function_in (meaning.Enumerator value) = None
 
 -- a global, where a name means one
 abbrev pub global_at : Structs → List ℕ → Meaning → Option core.Global
-global_at structs name (meaning.Object type) = Some (global_of name (size_of structs (type_of type)))
+global_at structs name (meaning.Object type) = Some (global_of name (units.global_size structs (type_of type)))
 global_at structs name (meaning.Function signature has_body) = None
 global_at structs name (meaning.Local number type) = None
 global_at structs name (meaning.Typedef type) = None

@@ -3,34 +3,35 @@
 ghost use Rattle.std.specs.Prelude.{◌≡◌, ◌++◌, Ok, map};
 ghost use Rattle.c_syntax.specs.Statements.{part_of, parts_of};
 ghost use Rattle.c_syntax.specs.Units.{function_of};
-ghost use Rattle.c_type_layout.specs.Types.{type_of};
-ghost use Rattle.c_type_operator.specs.Gives.{Gives};
-ghost use Rattle.c_type_scope.specs.Meanings.{signature_of, types_in};
-ghost use Rattle.c_type_scope.specs.States.{nothing, state_of, Runs};
-ghost use Rattle.c_type_spec.specs.Expressions as expressions;
-ghost use Rattle.c_type_spec.specs.Units as rule;
-ghost use Rattle.c_type_simple.specs.Contexts.{action_in, context_of};
+ghost use Rattle.c_types_layout.specs.Types.{type_of};
+ghost use Rattle.c_types_operator.specs.Gives.{Gives};
+ghost use Rattle.c_types_scope.specs.Meanings.{signature_of, types_in};
+ghost use Rattle.c_types_scope.specs.States.{nothing, state_of, texts_in, Runs};
+ghost use Rattle.c_types_spec.specs.Expressions as expressions;
+ghost use Rattle.c_types_spec.specs.Units as rule;
+ghost use Rattle.c_types_statement.specs.Contexts.{action_in, context_of};
 ghost use Rattle.c_types.specs.Typed.{body_of, function_type_of};
 ghost use Rattle.c_types.specs.Functions as specs;
 
 use crate::parameters::parameters;
 use crate::typed::{Body, FunctionType};
 use attempt::attempt;
-use c_core::action::Action;
 use c_syntax::statement::Part;
 use c_syntax::unit::FunctionDeclarator;
-use c_type_declaration::declare::function;
-use c_type_declaration::sizes::is_void;
-use c_type_expression::types::pointers_to;
-use c_type_layout::types::CType;
-use c_type_operator::operand::{TypeFault, type_or_memory};
-use c_type_scope::meaning::Signature;
-use c_type_scope::state::{State, push};
-use c_type_simple::calls::both;
-use c_type_simple::context::{Context, action_or_memory};
-use c_type_spec::Scalar;
-use c_type_statement::counts::{locals_of, sum};
-use c_type_statement::statement::parts;
+use c_types_core::action::Action;
+use c_types_declaration::declare::function;
+use c_types_declaration::sizes::is_void;
+use c_types_expression::types::pointers_to;
+use c_types_layout::types::CType;
+use c_types_operator::attempt_or_drop;
+use c_types_operator::operand::{TypeFault, type_or_memory};
+use c_types_scope::meaning::Signature;
+use c_types_scope::state::{State, push};
+use c_types_spec::Scalar;
+use c_types_statement::calls::both;
+use c_types_statement::context::{Context, action_or_memory};
+use c_types_statement::counts::{locals_of, sum};
+use c_types_statement::statement::parts;
 use std::alloc::Global;
 
 /// The types of a function.
@@ -93,7 +94,7 @@ fn function_type(alloc: Global, of: &Signature) -> Result<Box<FunctionType>, Typ
 }
 
 /// A function without a body. Its parameters are in a block of their own.
-#[tactic(auto, unfolding(c_type_spec::specs::Units::declared_function))]
+#[tactic(auto, unfolding(c_types_spec::specs::Units::declared_function))]
 pub fn declared_function<'a>(
     alloc: Global,
     given: &FunctionDeclarator<'a>,
@@ -122,8 +123,20 @@ fn at_end<'a>(alloc: Global, returned: &CType, close: usize) -> Result<Box<Actio
     }
 }
 
+/// The globals that the body that has been read names.
+#[tactic(auto, unfolding(c_types_scope::specs::States::state_of))]
+fn mentions<'a>(alloc: Global, state: &State<'a>) -> Result<Vec<&'a [u8]>, TypeFault>
+    ensures { Gives texts_in result (Ok (state_of state.now).mentions) }
+{
+    let mut names = Vec::new(alloc);
+    match names.extend_from_slice(state.mentions.as_slice()) {
+        Ok(()) => Ok(names),
+        Err(_) => Err(TypeFault::Memory),
+    }
+}
+
 /// The body of the function that has been read.
-#[tactic(auto, unfolding(c_type_scope::specs::States::state_of), using(crate::proofs::Lists::scalar_lists))]
+#[tactic(auto, unfolding(c_types_scope::specs::States::state_of), using(crate::proofs::Lists::scalar_lists))]
 fn body<'a>(
     alloc: Global,
     name: &'a [u8],
@@ -137,12 +150,14 @@ fn body<'a>(
     let mut locals = Vec::new(alloc);
     attempt!(scalars(state.locals.as_slice(), &mut locals));
     attempt!(scalars(state.results.as_slice(), &mut locals));
+    let mentions = attempt!(mentions(alloc, state));
     let made = Body {
         name,
         signature,
         locals,
         loops: state.loops,
         calls: state.calls,
+        mentions,
         action,
     };
     match Box::new(alloc, made) {
@@ -189,14 +204,17 @@ fn function_of_types<'a>(
     let of = attempt!(signature(alloc, types, given.pointers, base));
     let made = attempt!(function_type(alloc, &of));
     let returned = attempt!(type_or_memory(of.returned.copy(alloc)));
-    attempt!(function(given.name, of, true, state));
+    attempt_or_drop!(function(given.name, of, true, state); returned);
+    state.start_body();
     let context = Context {
         returned: &returned,
         declared_locals,
         in_loop: false,
         in_switch: false,
     };
-    let done = attempt!(action(alloc, list, context, close, state));
+    let done = action(alloc, list, context, close, state);
+    drop(returned);
+    let done = attempt!(done);
     body(alloc, given.name.spelling, made, done, state)
 }
 
@@ -220,7 +238,7 @@ fn function_body<'a>(
 }
 
 /// A function with a body.
-#[tactic(auto, unfolding(c_type_spec::specs::Units::defined_function))]
+#[tactic(auto, unfolding(c_types_spec::specs::Units::defined_function))]
 pub fn defined_function<'a>(
     alloc: Global,
     given: &FunctionDeclarator<'a>,

@@ -2,24 +2,25 @@
 
 ghost use Rattle.std.specs.Prelude.{◌≡◌, map};
 ghost use Rattle.c_syntax.specs.Units.{parameter_of};
-ghost use Rattle.c_type_expression.specs.Trees.{unboxed};
-ghost use Rattle.c_type_layout.specs.Types.{type_of};
-ghost use Rattle.c_type_scope.specs.Meanings.{types_in};
-ghost use Rattle.c_type_scope.specs.States.{state_of, Runs};
-ghost use Rattle.c_type_spec.specs.Units as rule;
+ghost use Rattle.c_types_expression.specs.Trees.{unboxed};
+ghost use Rattle.c_types_layout.specs.Types.{type_of};
+ghost use Rattle.c_types_scope.specs.Meanings.{types_in};
+ghost use Rattle.c_types_scope.specs.States.{state_of, Runs};
+ghost use Rattle.c_types_spec.specs.Units as rule;
 
 use attempt::attempt;
 use c_syntax::unit::Parameter;
-use c_type_declaration::declare::parameter;
-use c_type_expression::expression::{lengths, specifiers};
-use c_type_expression::types::declared_type;
-use c_type_layout::types::CType;
-use c_type_operator::operand::TypeFault;
-use c_type_scope::state::{State, push};
+use c_types_declaration::declare::parameter;
+use c_types_expression::expression::{lengths, specifiers};
+use c_types_expression::types::declared_type;
+use c_types_layout::types::CType;
+use c_types_operator::attempt_or_drop;
+use c_types_operator::operand::TypeFault;
+use c_types_scope::state::{State, push};
 use std::alloc::Global;
 
 /// A parameter, and its type.
-#[tactic(auto, unfolding(c_type_spec::specs::Units::declared_parameter), using(c_type_expression::proofs::Parts::parts))]
+#[tactic(auto, unfolding(c_types_spec::specs::Units::declared_parameter), using(c_types_expression::proofs::Parts::parts))]
 fn declared_parameter<'a>(
     alloc: Global,
     given: &Parameter<'a>,
@@ -30,14 +31,12 @@ fn declared_parameter<'a>(
         (state_of state.old)) }
 {
     let base = attempt!(specifiers(alloc, &given.specifiers, state));
-    let found = attempt!(lengths(alloc, given.dimensions.lengths.as_slice(), state));
-    let of = attempt!(declared_type(
-        alloc,
-        given.pointers,
-        given.dimensions.is_open,
-        found.as_slice(),
-        &base,
-    ));
+    let list = given.dimensions.lengths.as_slice();
+    let found = attempt_or_drop!(lengths(alloc, list, state); base);
+    let is_open = given.dimensions.is_open;
+    let made = declared_type(alloc, given.pointers, is_open, found.as_slice(), &base);
+    drop(base);
+    let of = attempt!(made);
     parameter(
         alloc,
         given.name,
@@ -49,7 +48,7 @@ fn declared_parameter<'a>(
 }
 
 /// The types of parameters, after those so far.
-#[tactic(auto, unfolding(c_type_spec::specs::Units::parameters), using(crate::proofs::Lists::lists))]
+#[tactic(auto, unfolding(c_types_spec::specs::Units::parameters), using(crate::proofs::Lists::lists))]
 pub fn parameters<'a>(
     alloc: Global,
     list: &[Box<Parameter<'a>>],

@@ -2,20 +2,19 @@
 
 ghost use Rattle.std.specs.Prelude.{◌≡◌, bytes_eq, option_map};
 ghost use Rattle.std.specs.Map.{lookup};
-ghost use Rattle.c_spec.specs.Words.{entry_of};
-ghost use Rattle.c_type_spec.specs.Types as types;
-ghost use Rattle.c_type_spec.specs.Units as units;
-ghost use Rattle.c_type_layout.specs.Structs.{structs_of};
-ghost use Rattle.c_type_layout.specs.Types.{type_of};
-ghost use Rattle.c_type_scope.specs.Meanings.{signature_of};
+ghost use Rattle.c_token_spec.specs.Words.{entry_of};
+ghost use Rattle.c_types_spec.specs.Units as units;
+ghost use Rattle.c_types_layout.specs.Structs.{structs_of};
+ghost use Rattle.c_types_layout.specs.Types.{type_of};
+ghost use Rattle.c_types_scope.specs.Meanings.{signature_of};
 ghost use Rattle.c_types.specs.Typed.{AreDistinct, body_in, body_of_name, counts_in, counts_of};
 ghost use Rattle.c_types.specs.Typed.{function_in, global_at, global_in, global_of, typed_of};
 
-use c_core::action::Action;
-use c_type_layout::structs::Definition;
-use c_type_layout::types::CType;
-use c_type_scope::meaning::{Meaning, Signature};
-use c_type_spec::{Scalar, TypeFaultKind};
+use c_types_core::action::Action;
+use c_types_layout::structs::Definition;
+use c_types_layout::types::CType;
+use c_types_scope::meaning::{Meaning, Signature};
+use c_types_spec::{Scalar, TypeFaultKind};
 use indexmap::IndexMap;
 
 /// Why a unit has no typed core.
@@ -49,6 +48,8 @@ pub struct Body<'a> {
     pub loops: usize,
     /// How many calls it has.
     pub calls: usize,
+    /// The globals that its body names, under `sizeof` too, as often as it names them.
+    pub mentions: Vec<&'a [u8]>,
     /// What it does.
     pub action: Box<Action<'a>>,
 }
@@ -100,8 +101,8 @@ fn signature_in(meaning: &Meaning) -> Option<&Signature>
 
 /// The type of a global, where a name means one.
 fn object_in<'b>(structs: &[Definition<'_>], name: &[u8], meaning: &'b Meaning) -> Option<&'b CType>
-    ensures { option_map (λ t. global_of name.now (types.size_of (structs_of structs.now) (type_of
-        t.now))) result ≡ global_at (structs_of structs.now) name.now meaning.now }
+    ensures { option_map (λ t. global_of name.now (units.global_size (structs_of
+        structs.now) (type_of t.now))) result ≡ global_at (structs_of structs.now) name.now meaning.now }
 {
     match meaning {
         Meaning::Object(of) => Some(of),
@@ -155,9 +156,9 @@ impl<'a> Typed<'a> {
         }
     }
 
-    /// The type of the global of a name, or none; its size is that of the type.
+    /// The type of the global of a name, or none; its size is what the type gives it.
     pub fn global(&self, name: &[u8]) -> Option<&CType>
-        ensures { option_map (λ t. global_of name.now (types.size_of (structs_of
+        ensures { option_map (λ t. global_of name.now (units.global_size (structs_of
             self.now.structs.items) (type_of t.now))) result ≡ global_in (typed_of
             self.now).globals name.now }
     {

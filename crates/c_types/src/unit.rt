@@ -3,11 +3,11 @@
 ghost use Rattle.std.specs.Prelude.{◌≡◌, ◌++◌, ◌∷◌, [], Ok, map};
 ghost use Rattle.c_syntax.specs.Expressions.{declarator_of};
 ghost use Rattle.c_syntax.specs.Units.{external_declaration_of, global_of, unit_of};
-ghost use Rattle.c_type_expression.specs.Trees.{unboxed};
-ghost use Rattle.c_type_layout.specs.Types.{type_of};
-ghost use Rattle.c_type_operator.specs.Gives.{Gives};
-ghost use Rattle.c_type_scope.specs.States.{nothing, state_of, Runs};
-ghost use Rattle.c_type_spec.specs.Units as rule;
+ghost use Rattle.c_types_expression.specs.Trees.{unboxed};
+ghost use Rattle.c_types_layout.specs.Types.{type_of};
+ghost use Rattle.c_types_operator.specs.Gives.{Gives};
+ghost use Rattle.c_types_scope.specs.States.{nothing, state_of, Runs};
+ghost use Rattle.c_types_spec.specs.Units as rule;
 ghost use Rattle.c_types.specs.Typed.{IsChecked, bodies_of, body_of, typed_of};
 
 use crate::functions::{declared_function, defined_function};
@@ -15,16 +15,16 @@ use crate::typed::{Body, TypeError, Typed};
 use attempt::attempt;
 use c_syntax::expression::Declarator;
 use c_syntax::unit::{ExternalDeclaration, Global as Declared, TranslationUnit};
-use c_type_declaration::declare::{object, typedef};
-use c_type_expression::expression::{declarator, specifiers};
-use c_type_layout::types::CType;
-use c_type_operator::operand::TypeFault;
-use c_type_scope::state::State;
+use c_types_declaration::declare::{object, typedef};
+use c_types_expression::expression::{declarator, specifiers};
+use c_types_layout::types::CType;
+use c_types_operator::operand::TypeFault;
+use c_types_scope::state::State;
 use indexmap::IndexMap;
 use std::alloc::Global;
 
 /// An object, or a typedef name.
-#[tactic(auto, unfolding(c_type_spec::specs::Units::declared_object), using(c_type_expression::proofs::Parts::parts))]
+#[tactic(auto, unfolding(c_types_spec::specs::Units::declared_object), using(c_types_expression::proofs::Parts::parts))]
 fn declared_object<'a>(
     alloc: Global,
     given: &Declarator<'a>,
@@ -44,7 +44,7 @@ fn declared_object<'a>(
 }
 
 /// What one declarator declares.
-#[tactic(auto, unfolding(c_type_spec::specs::Units::global))]
+#[tactic(auto, unfolding(c_types_spec::specs::Units::global))]
 fn global<'a>(
     alloc: Global,
     given: &Declared<'a>,
@@ -62,7 +62,7 @@ fn global<'a>(
 }
 
 /// What the declarators of a declaration declare.
-#[tactic(auto, unfolding(c_type_spec::specs::Units::globals), using(crate::proofs::Lists::lists))]
+#[tactic(auto, unfolding(c_types_spec::specs::Units::globals), using(crate::proofs::Lists::lists))]
 fn globals<'a>(
     alloc: Global,
     list: &[Box<Declared<'a>>],
@@ -95,7 +95,7 @@ fn push_body<'a>(
 }
 
 /// An external declaration, after the bodies so far.
-#[tactic(auto, unfolding(c_type_spec::specs::Units::external_declaration), using(c_type_expression::proofs::Parts::parts))]
+#[tactic(auto, unfolding(c_types_spec::specs::Units::external_declaration), using(c_types_expression::proofs::Parts::parts))]
 fn external_declaration<'a>(
     alloc: Global,
     given: &ExternalDeclaration<'a>,
@@ -109,31 +109,23 @@ fn external_declaration<'a>(
         ExternalDeclaration::Empty => Ok(()),
         ExternalDeclaration::Declaration(words, list) => {
             let base = attempt!(specifiers(alloc, words, state));
-            globals(
-                alloc,
-                list.as_slice(),
-                &base,
-                words.storage.is_typedef,
-                state,
-            )
+            let is_typedef = words.storage.is_typedef;
+            let made = globals(alloc, list.as_slice(), &base, is_typedef, state);
+            drop(base);
+            made
         }
         ExternalDeclaration::Definition(words, given, list, close) => {
             let base = attempt!(specifiers(alloc, words, state));
-            let made = attempt!(defined_function(
-                alloc,
-                given,
-                &base,
-                list.as_slice(),
-                *close,
-                state,
-            ));
+            let defined = defined_function(alloc, given, &base, list.as_slice(), *close, state);
+            drop(base);
+            let made = attempt!(defined);
             push_body(bodies, made)
         }
     }
 }
 
 /// External declarations, after the bodies so far.
-#[tactic(auto, unfolding(c_type_spec::specs::Units::external_declarations), using(crate::proofs::Lists::lists))]
+#[tactic(auto, unfolding(c_types_spec::specs::Units::external_declarations), using(crate::proofs::Lists::lists))]
 fn external_declarations<'a>(
     alloc: Global,
     list: &[Box<ExternalDeclaration<'a>>],
@@ -151,7 +143,7 @@ fn external_declarations<'a>(
 }
 
 /// What has been read of a unit as its typed core.
-#[tactic(auto, unfolding(c_type_scope::specs::States::state_of))]
+#[tactic(auto, unfolding(c_types_scope::specs::States::state_of))]
 fn typed<'a>(bodies: IndexMap<&'a [u8], Body<'a>>, state: State<'a>) -> Typed<'a>
     ensures { typed_of result ≡ rule.typed_core (
       bodies_of bodies.entry.entries,
@@ -168,7 +160,7 @@ fn typed<'a>(bodies: IndexMap<&'a [u8], Body<'a>>, state: State<'a>) -> Typed<'a
 }
 
 /// The typed core of a unit, or its first fault.
-#[tactic(auto, unfolding(c_type_spec::specs::Units::typed))]
+#[tactic(auto, unfolding(c_types_spec::specs::Units::typed))]
 pub fn check<'a>(alloc: Global, unit: &TranslationUnit<'a>) -> Result<Typed<'a>, TypeError>
     ensures { IsChecked result (rule.typed (unit_of unit.now)) }
 {
@@ -176,7 +168,13 @@ pub fn check<'a>(alloc: Global, unit: &TranslationUnit<'a>) -> Result<Typed<'a>,
     let mut bodies = IndexMap::new(alloc);
     match external_declarations(alloc, unit.items.as_slice(), &mut bodies, &mut state) {
         Ok(()) => Ok(typed(bodies, state)),
-        Err(TypeFault::Memory) => Err(TypeError::NoMemory),
-        Err(TypeFault::At(kind, offset)) => Err(TypeError::Fault(kind, offset)),
+        Err(TypeFault::Memory) => {
+            drop(state);
+            Err(TypeError::NoMemory)
+        }
+        Err(TypeFault::At(kind, offset)) => {
+            drop(state);
+            Err(TypeError::Fault(kind, offset))
+        }
     }
 }

@@ -5,31 +5,31 @@ use Rattle.std.proofs.lemmas.List.{take_more, take_all, same_from_push}
 use Rattle.std.proofs.lemmas.List.Elements.{All-push}
 use Rattle.std.proofs.lemmas.Option.{slice_get_within}
 use Rattle.std.proofs.lemmas.Result.{on_ok_weaker}
-use Rattle.cert_lines.specs.declared.lines.Line.{Line as CodeLine}
-use Rattle.cert_lines.specs.declared.lines.Line.TheVariants as code
-use Rattle.cert_lines.specs.Views.{line_of}
-use Rattle.cert_spec.specs.declared.Symbol.{Symbol}
-use Rattle.cert_spec.specs.Lines.{Line, Header, Function, Relation, End}
-use Rattle.cert_spec.specs.Certificates.{Expected, AHeader, TheParts, BinaryInlines, SourceInlines, AProof, ARelation, ALog, AStep, after, can_stand, is_header, is_part}
-use Rattle.proof_spec.specs.Frames.{Frame}
-use Rattle.check_spec.specs.Verdict as spec
-use Rattle.check_spec.specs.Verdict.{State, Between, Inside, NotProof, Limit, Passes, Fails, begun}
-use Rattle.check_spec.specs.declared.RuleFault.TheVariants as fault
+use Rattle.cert_text_parse.specs.declared.lines.Line.{Line as CodeLine}
+use Rattle.cert_text_parse.specs.declared.lines.Line.TheVariants as code
+use Rattle.cert_text_parse.specs.Views.{line_of}
+use Rattle.cert_text_spec.specs.declared.Symbol.{Symbol}
+use Rattle.cert_text_spec.specs.Lines.{Line, Header, Function, Relation, End}
+use Rattle.cert_text_spec.specs.Certificates.{Expected, AHeader, TheParts, BinaryInlines, SourceInlines, AProof, ARelation, ALog, AStep, after, can_stand, is_header, is_part}
+use Rattle.proof_tree_spec.specs.Frames.{Frame}
+use Rattle.cert_check_spec.specs.Verdict as spec
+use Rattle.cert_check_spec.specs.Verdict.{State, Between, Inside, NotProof, Limit, Passes, Fails, begun}
+use Rattle.cert_check_spec.specs.declared.RuleFault.TheVariants as fault
 use Rattle.cert_check.specs.declared.fault.Named.TheVariants as named
 use Rattle.cert_check.specs.declared.fault.Fault.{Fault}
 use Rattle.cert_check.specs.declared.fault.Fault.TheVariants.{Broken, Above, NoMemory}
 use Rattle.cert_check.specs.declared.fault.PartFault.{PartFault}
 use Rattle.cert_check.specs.declared.fault.PartFault.TheVariants as inner
-use Rattle.cert_frames.specs.declared.jobs.Job.{Job}
-use Rattle.cert_frames.specs.declared.listed.Listed.{Listed}
+use Rattle.cert_check_frames.specs.declared.jobs.Job.{Job}
+use Rattle.cert_check_frames.specs.declared.listed.Listed.{Listed}
 use Rattle.cert_check.specs.declared.walk.Walk.{Walk}
-use Rattle.cert_frames.specs.Listed.{IsListed, AreListed, frame_at}
+use Rattle.cert_check_frames.specs.Listed.{IsListed, AreListed, frame_at}
 use Rattle.cert_check.specs.Jobs.{jobs_of}
 use Rattle.cert_check.specs.Expectations.{IsOfProof, of_binary, of_source, of_proof, AreOf, no_job, a_proof, a_log, IsNext, AreAfter, is_unchecked}
 use Rattle.cert_check.specs.Steps.{Comes, IsStep}
-use Rattle.cert_frames.specs.Parts.{AreIndices, IsNamed, HasPart, IsFreeAt, IsMissingAt}
+use Rattle.cert_check_frames.specs.Parts.{AreIndices, IsNamed, HasPart, IsFreeAt, IsMissingAt}
 use Rattle.cert_check.specs.Walks.{ArePicked, IsState, between, inside, Expecting, at_header, at_first, in_part, at_end, Keeps, IsSound, IsWalk, StepsTo, ExpectsAfter, Goes, IsInside, IsPlain, ComesAt, IsInPart, GoesInside, BeginsAt, Begins, Ends, named_fault}
-use Rattle.cert_frames.proofs.Indexed.{one_item}
+use Rattle.cert_check_frames.proofs.Indexed.{one_item}
 use Rattle.cert_check.proofs.Picked.{listed_there, state_picked, is_free, never_free, is_missing, none_missing}
 use Rattle.cert_check.proofs.Walked.{ends}
 

@@ -2,39 +2,39 @@
 use Rattle.std.proofs.Common.{◌≡◌, ◌∙◌, inl, inr, ℕ, true, Vec, Global, List, [], ◌∷◌, ◌++◌, length, map, Result, Ok, Err, sym, ap, subst}
 use Rattle.std.proofs.lemmas.List.{length-map}
 use Rattle.std.proofs.lemmas.Option.{get_or_from_slice_get, slice_get_within}
-use Rattle.term_spec.specs.Term.{Term, not_term}
+use Rattle.term_core_spec.specs.Term.{Term, not_term}
 use Rattle.term_bank.specs.Nodes.{tree_at, Extends}
-use Rattle.proof_spec.specs.Frames.{Frame}
-use Rattle.proof_spec.specs.Scope.{IsLine as IsProofLine}
+use Rattle.proof_tree_spec.specs.Frames.{Frame}
+use Rattle.proof_tree_spec.specs.Scope.{IsLine as IsProofLine}
 use Rattle.proof_tree.specs.Scope.{setting_of}
-use Rattle.rule_spec.specs.Obligations as rule
+use Rattle.sim_rules_spec.specs.Obligations as rule
 use Rattle.sim_rules.proofs.Held.{trees_held}
-use Rattle.rule_spec.specs.Points.{Convention}
-use Rattle.rule_spec.specs.Rules.{Opening, AreOfLeaf}
-use Rattle.rule_spec.specs.Sides.{binary_way, source_way}
-use Rattle.visit_spec.proofs.Order.{acyclic}
+use Rattle.sim_rules_spec.specs.Points.{Convention}
+use Rattle.sim_rules_spec.specs.Rules.{Opening, AreOfLeaf}
+use Rattle.sim_rules_spec.specs.Sides.{binary_way, source_way}
+use Rattle.visit_walk_spec.proofs.Order.{acyclic}
 use Rattle.sim_rules.specs.Outcome.{AreObligations, IsRuleFault, HasFewVisits}
 use Rattle.sim_rules.specs.declared.fault.RuleFault.{RuleFault as RuleError}
 use Rattle.sim_rules.specs.declared.fault.RuleFault.TheVariants as obligation
-use Rattle.cert_spec.specs.declared.Symbol.{Symbol}
-use Rattle.cert_spec.specs.Lines.{Line, Header, Function, InlineBinary, InlineSource, Leaf, Case, RestrictBinary, RestrictSource, Split, Call, Relation, Log, LogStep, End}
-use Rattle.tv_base.specs.declared.limits.TheConstants.{MAX_VISITS}
-use Rattle.check_spec.specs.declared.RuleFault.TheVariants as fault
-use Rattle.check_spec.specs.declared.Quantity.TheVariants as quantity
-use Rattle.check_spec.specs.Terms.{IsTermOf}
-use Rattle.check_spec.specs.Verdict as spec
-use Rattle.check_spec.specs.Verdict.{Inside, Passes, Fails, NotProof, Limit, IsTest, with_test}
-use Rattle.cert_terms.specs.declared.fault.TermFault.TheVariants as term_fault
-use Rattle.cert_terms.specs.Outcomes.{IsOfLine, IsRead}
-use Rattle.cert_terms.specs.Variables.{AreApart}
+use Rattle.cert_text_spec.specs.declared.Symbol.{Symbol}
+use Rattle.cert_text_spec.specs.Lines.{Line, Header, Function, InlineBinary, InlineSource, Leaf, Case, RestrictBinary, RestrictSource, Split, Call, Relation, Log, LogStep, End}
+use Rattle.tv_limits.specs.declared.TheConstants.{MAX_VISITS}
+use Rattle.cert_check_spec.specs.declared.RuleFault.TheVariants as fault
+use Rattle.cert_check_spec.specs.declared.Quantity.TheVariants as quantity
+use Rattle.cert_check_spec.specs.Terms.{IsTermOf}
+use Rattle.cert_check_spec.specs.Verdict as spec
+use Rattle.cert_check_spec.specs.Verdict.{Inside, Passes, Fails, NotProof, Limit, IsTest, with_test}
+use Rattle.cert_check_terms.specs.declared.fault.TermFault.TheVariants as term_fault
+use Rattle.cert_check_terms.specs.Outcomes.{IsOfLine, IsRead}
+use Rattle.cert_check_terms.specs.Variables.{AreApart}
 use Rattle.cert_check.specs.declared.fault.PartFault.{PartFault}
 use Rattle.cert_check.specs.declared.fault.PartFault.TheVariants.{Broken, Above, NoMemory}
-use Rattle.cert_frames.specs.declared.jobs.Branch.{Branch}
-use Rattle.cert_frames.specs.declared.jobs.Job.{Job}
-use Rattle.cert_frames.specs.declared.jobs.Job.TheVariants.{Prove}
-use Rattle.cert_frames.specs.declared.listed.Listed.{Listed}
-use Rattle.cert_frames.specs.Listed.{IsListed, frame_at}
-use Rattle.cert_frames.specs.Jobs.{premises_at, frame_with, logs_last, AreInside, HasBranches}
+use Rattle.cert_check_frames.specs.declared.jobs.Branch.{Branch}
+use Rattle.cert_check_frames.specs.declared.jobs.Job.{Job}
+use Rattle.cert_check_frames.specs.declared.jobs.Job.TheVariants.{Prove}
+use Rattle.cert_check_frames.specs.declared.listed.Listed.{Listed}
+use Rattle.cert_check_frames.specs.Listed.{IsListed, frame_at}
+use Rattle.cert_check_frames.specs.Jobs.{premises_at, frame_with, logs_last, AreInside, HasBranches}
 use Rattle.cert_check.specs.Jobs.{jobs_of}
 use Rattle.cert_check.specs.Expectations.{is_unchecked}
 use Rattle.cert_check.specs.Steps.{Comes, AreGoals, AreGoalsOf, HasLeaf, IsTestAt, goal_fault_of}

@@ -3,25 +3,25 @@ use Rattle.std.proofs.Common.{◌≡◌, ◌∙◌, ◌<◌, ℕ, Vec, Box, Glob
 use Rattle.std.specs.Prelude.{All, OnOk}
 use Rattle.std.proofs.lemmas.List.Elements.{All-append}
 use Rattle.std.specs.HashMap.{get}
-use Rattle.term_spec.specs.declared.Variable.{Variable}
-use Rattle.term_spec.specs.Same.{same_variable}
-use Rattle.term_spec.specs.Term.{Term}
+use Rattle.term_core_spec.specs.declared.Variable.{Variable}
+use Rattle.term_core_spec.specs.Same.{same_variable}
+use Rattle.term_core_spec.specs.Term.{Term}
 use Rattle.term_core.specs.declared.term.Term.{Term as CodeTerm}
 use Rattle.term_bank.specs.Nodes.{Extends}
 use Rattle.graph_core.specs.Graphs.{boxed_term}
-use Rattle.proof_spec.specs.Frames as frames
+use Rattle.proof_tree_spec.specs.Frames as frames
 use Rattle.proof_tree.specs.declared.frame.Frame.{Frame}
 use Rattle.proof_tree.specs.Frames.{frame_of}
-use Rattle.rule_terms.specs.declared.points.Opening.{Opening}
-use Rattle.rule_terms.proofs.Later.{map_later, map_for}
-use Rattle.rule_terms.specs.Openings.{IsOpening, IsOpeningIn}
-use Rattle.check_spec.specs.Verdict as spec
-use Rattle.cert_frames.specs.declared.jobs.Branch.{Branch}
-use Rattle.cert_frames.specs.declared.jobs.Job.{Job}
-use Rattle.cert_frames.specs.declared.jobs.Job.TheVariants.{Prove}
-use Rattle.cert_frames.specs.declared.listed.Listed.{Listed}
-use Rattle.cert_frames.specs.Listed.{IsListed, frame_at, terms_given}
-use Rattle.cert_frames.specs.Jobs.{tests_at, premises_at, premises_with, frame_with, logs_last, IsInside, AreInside, HasBranches}
+use Rattle.sim_rules_terms.specs.declared.points.Opening.{Opening}
+use Rattle.sim_rules_terms.proofs.Later.{map_later, map_for}
+use Rattle.sim_rules_terms.specs.Openings.{IsOpening, IsOpeningIn}
+use Rattle.cert_check_spec.specs.Verdict as spec
+use Rattle.cert_check_frames.specs.declared.jobs.Branch.{Branch}
+use Rattle.cert_check_frames.specs.declared.jobs.Job.{Job}
+use Rattle.cert_check_frames.specs.declared.jobs.Job.TheVariants.{Prove}
+use Rattle.cert_check_frames.specs.declared.listed.Listed.{Listed}
+use Rattle.cert_check_frames.specs.Listed.{IsListed, frame_at, terms_given}
+use Rattle.cert_check_frames.specs.Jobs.{tests_at, premises_at, premises_with, frame_with, logs_last, IsInside, AreInside, HasBranches}
 use Rattle.cert_check.specs.Steps.{AreOpened, IsKeptBy}
 use Rattle.cert_check.proofs.Pushed.{premises_given, inside_top, inside_later, logs_inside, below_later, branches_inside}
 

@@ -4,28 +4,28 @@ use Rattle.std.specs.Prelude.{slice_get, replicate, IfErr}
 use Rattle.std.proofs.lemmas.List.{same_from_push}
 use Rattle.memory_spec.specs.Runs.{Run}
 use Rattle.memory_spec.specs.Viewed.{runs_of}
-use Rattle.term_spec.specs.Term.{Term}
+use Rattle.term_core_spec.specs.Term.{Term}
 use Rattle.term_bank.specs.Nodes.{tree_at, Extends}
-use Rattle.clause_spec.specs.Log.{Step}
-use Rattle.closing_spec.specs.declared.GoalQuantity.TheVariants as above
-use Rattle.closing_spec.specs.Closing.{Closes, closing}
+use Rattle.clause_check_spec.specs.Log.{Step}
+use Rattle.discharge_spec.specs.declared.GoalQuantity.TheVariants as above
+use Rattle.discharge_spec.specs.Closing.{Closes, closing}
 use Rattle.discharge.specs.Answers.{Answers}
 use Rattle.discharge.specs.declared.error.CloseError.{CloseError}
 use Rattle.discharge.specs.declared.error.CloseError.TheVariants as close
-use Rattle.cert_lines.specs.declared.lines.Line.TheVariants as code
-use Rattle.cert_spec.specs.Lines.{Line, Log}
-use Rattle.cert_spec.specs.Certificates.{Expected, ALog}
-use Rattle.check_spec.specs.declared.RuleFault.TheVariants as fault
-use Rattle.check_spec.specs.declared.Quantity.TheVariants as quantity
-use Rattle.check_spec.specs.Verdict as spec
-use Rattle.check_spec.specs.Verdict.{State, Inside, AreSteps, Passes, Fails, NotProof, Limit}
-use Rattle.cert_frames.specs.declared.jobs.Job.{Job}
-use Rattle.cert_frames.specs.declared.jobs.Job.TheVariants.{Close}
-use Rattle.cert_frames.specs.declared.listed.Listed.{Listed}
-use Rattle.cert_frames.specs.Listed.{IsListed, AreListed, frame_at}
-use Rattle.cert_frames.specs.Jobs.{AreInside}
-use Rattle.cert_frames.specs.Parts.{IsNamed}
-use Rattle.cert_frames.proofs.Indexed.{one_item}
+use Rattle.cert_text_parse.specs.declared.lines.Line.TheVariants as code
+use Rattle.cert_text_spec.specs.Lines.{Line, Log}
+use Rattle.cert_text_spec.specs.Certificates.{Expected, ALog}
+use Rattle.cert_check_spec.specs.declared.RuleFault.TheVariants as fault
+use Rattle.cert_check_spec.specs.declared.Quantity.TheVariants as quantity
+use Rattle.cert_check_spec.specs.Verdict as spec
+use Rattle.cert_check_spec.specs.Verdict.{State, Inside, AreSteps, Passes, Fails, NotProof, Limit}
+use Rattle.cert_check_frames.specs.declared.jobs.Job.{Job}
+use Rattle.cert_check_frames.specs.declared.jobs.Job.TheVariants.{Close}
+use Rattle.cert_check_frames.specs.declared.listed.Listed.{Listed}
+use Rattle.cert_check_frames.specs.Listed.{IsListed, AreListed, frame_at}
+use Rattle.cert_check_frames.specs.Jobs.{AreInside}
+use Rattle.cert_check_frames.specs.Parts.{IsNamed}
+use Rattle.cert_check_frames.proofs.Indexed.{one_item}
 use Rattle.cert_check.specs.declared.fault.Fault.{Fault}
 use Rattle.cert_check.specs.declared.walk.Walk.{Walk}
 use Rattle.cert_check.specs.Jobs.{jobs_of}

@@ -1,7 +1,7 @@
 -- The names of functions.
 use Rattle.std.proofs.Common.{◌≡◌, None, refl}
-use Rattle.cert_lines.specs.declared.lines.Line.{Line}
-use Rattle.cert_lines.specs.declared.lines.Line.TheVariants as code
+use Rattle.cert_text_parse.specs.declared.lines.Line.{Line}
+use Rattle.cert_text_parse.specs.declared.lines.Line.TheVariants as code
 use Rattle.cert_check.specs.Outcomes.{part_name}
 
 -- no part begins at another line

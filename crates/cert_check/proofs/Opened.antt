@@ -1,20 +1,20 @@
 -- A part as it begins.
 use Rattle.std.proofs.Common.{◌≡◌, ◌∙◌, Vec, Global, List, [], ◌∷◌, ◌++◌, length, sym, ap, subst}
 use Rattle.std.specs.HashMap.{get}
-use Rattle.term_spec.specs.Same.{same_variable}
-use Rattle.term_spec.specs.Term.{Term}
+use Rattle.term_core_spec.specs.Same.{same_variable}
+use Rattle.term_core_spec.specs.Term.{Term}
 use Rattle.term_bank.specs.Nodes.{Extends}
 use Rattle.path_cond.specs.States.{IsMapOf}
-use Rattle.rule_terms.proofs.Later.{map_later}
-use Rattle.proof_spec.specs.Frames.{Frame}
-use Rattle.cert_spec.specs.Certificates.{TheParts, BinaryInlines}
-use Rattle.check_spec.specs.Verdict as spec
-use Rattle.cert_frames.specs.declared.jobs.Branch.{Branch}
-use Rattle.cert_frames.specs.declared.jobs.Job.TheVariants.{Prove}
-use Rattle.cert_frames.specs.declared.listed.Listed.{Listed}
+use Rattle.sim_rules_terms.proofs.Later.{map_later}
+use Rattle.proof_tree_spec.specs.Frames.{Frame}
+use Rattle.cert_text_spec.specs.Certificates.{TheParts, BinaryInlines}
+use Rattle.cert_check_spec.specs.Verdict as spec
+use Rattle.cert_check_frames.specs.declared.jobs.Branch.{Branch}
+use Rattle.cert_check_frames.specs.declared.jobs.Job.TheVariants.{Prove}
+use Rattle.cert_check_frames.specs.declared.listed.Listed.{Listed}
 use Rattle.cert_check.specs.declared.walk.Walk.{Walk}
-use Rattle.cert_frames.specs.Listed.{frame_at, terms_given}
-use Rattle.cert_frames.specs.Jobs.{frame_with, premises_at, AreInside}
+use Rattle.cert_check_frames.specs.Listed.{frame_at, terms_given}
+use Rattle.cert_check_frames.specs.Jobs.{frame_with, premises_at, AreInside}
 use Rattle.cert_check.specs.Jobs.{job_of}
 use Rattle.cert_check.specs.Expectations.{of_binary, no_job, a_proof}
 use Rattle.cert_check.specs.Walks.{IsOpened}

@@ -3,12 +3,12 @@ use Rattle.std.proofs.Common.{◌≡◌, ◌≢◌, ◌∙◌, inl, inr, ℕ, ze
 use Rattle.std.specs.Prelude.{slice_get, All}
 use Rattle.std.proofs.lemmas.List.{drop_more, length-take-le, get_or-take, get_or_at}
 use Rattle.std.proofs.lemmas.Option.{slice_get-get_or, slice_get_within, slice_get_cases, get_or_from_slice_get, same_Some}
-use Rattle.check_spec.specs.Verdict as spec
-use Rattle.check_spec.specs.Verdict.{State, Between, Inside, IsFree, IsMissing, begun}
-use Rattle.cert_frames.specs.declared.listed.Listed.{Listed}
+use Rattle.cert_check_spec.specs.Verdict as spec
+use Rattle.cert_check_spec.specs.Verdict.{State, Between, Inside, IsFree, IsMissing, begun}
+use Rattle.cert_check_frames.specs.declared.listed.Listed.{Listed}
 use Rattle.cert_check.specs.declared.walk.Walk.{Walk}
-use Rattle.cert_frames.specs.Listed.{IsListed, AreListed}
-use Rattle.cert_frames.specs.Parts.{HasPart, IsFreeAt, HaveParts, IsMissingAt}
+use Rattle.cert_check_frames.specs.Listed.{IsListed, AreListed}
+use Rattle.cert_check_frames.specs.Parts.{HasPart, IsFreeAt, HaveParts, IsMissingAt}
 use Rattle.cert_check.specs.Walks.{ArePicked, no_pick, one_pick, IsState, between, inside}
 
 -- ---- the other list

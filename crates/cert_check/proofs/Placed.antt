@@ -2,12 +2,12 @@
 use Rattle.std.proofs.Common.{ℕ, List, Err, sym, subst}
 use Rattle.cert_text.specs.declared.certificates.Cert.{Cert}
 use Rattle.cert_text.specs.Certificates.{certificate_of}
-use Rattle.check_spec.specs.Verdict as spec
-use Rattle.check_spec.specs.Verdict.{IsFault}
+use Rattle.cert_check_spec.specs.Verdict as spec
+use Rattle.cert_check_spec.specs.Verdict.{IsFault}
 use Rattle.cert_check.specs.declared.fault.Fault.{Fault}
 use Rattle.cert_check.specs.declared.fault.CheckFault.{CheckFault}
 use Rattle.cert_check.specs.declared.fault.CheckFault.TheVariants.{NotProof, Limit, NoMemory}
-use Rattle.cert_frames.specs.declared.listed.Listed.{Listed}
+use Rattle.cert_check_frames.specs.declared.listed.Listed.{Listed}
 use Rattle.cert_check.specs.Outcomes.{offset_of, IsFaultAt, IsPlaced, IsVerdictOf}
 
 pub placed_verdict : (codes : List Listed) (cert : Cert) (listed : List spec.Listed) (line : ℕ) (f : Fault) (result : CheckFault) → IsPlaced cert line f result

@@ -2,16 +2,16 @@
 use Rattle.std.proofs.Common.{◌≡◌, ◌∙◌, ℕ, ◌<◌, ◌≤◌, true, false, List, [], ◌∷◌, ◌++◌, length, map, refl, sym, ap, subst, arith, append_assoc, append-nil}
 use Rattle.std.specs.Prelude.{All}
 use Rattle.std.proofs.lemmas.List.Elements.{All-nil, All-cons, All-append, All-head, All-tail, All-weaker}
-use Rattle.term_spec.specs.Term.{Term, not_term}
+use Rattle.term_core_spec.specs.Term.{Term, not_term}
 use Rattle.term_bank.specs.Nodes.{tree_at, Extends}
 use Rattle.path_cond.proofs.Banks as banks
-use Rattle.proof_spec.specs.Frames.{Frame}
-use Rattle.check_spec.specs.Verdict as spec
-use Rattle.check_spec.specs.Verdict.{with_test}
-use Rattle.cert_frames.specs.declared.jobs.Branch.{Branch}
-use Rattle.cert_frames.specs.declared.jobs.Job.{Job}
-use Rattle.cert_frames.specs.declared.jobs.Job.TheVariants.{Prove, Close}
-use Rattle.cert_frames.specs.Jobs.{premise_of, premise_at, premises_at, tests_at, premises_with, frame_with, logs_last, AreBelow, IsInside, AreInside, HasBranches}
+use Rattle.proof_tree_spec.specs.Frames.{Frame}
+use Rattle.cert_check_spec.specs.Verdict as spec
+use Rattle.cert_check_spec.specs.Verdict.{with_test}
+use Rattle.cert_check_frames.specs.declared.jobs.Branch.{Branch}
+use Rattle.cert_check_frames.specs.declared.jobs.Job.{Job}
+use Rattle.cert_check_frames.specs.declared.jobs.Job.TheVariants.{Prove, Close}
+use Rattle.cert_check_frames.specs.Jobs.{premise_of, premise_at, premises_at, tests_at, premises_with, frame_with, logs_last, AreBelow, IsInside, AreInside, HasBranches}
 use Rattle.cert_check.specs.Jobs.{job_of, stacked, jobs_of}
 
 -- ---- the top

@@ -3,39 +3,39 @@ use Rattle.std.proofs.Common.{◌≡◌, ◌∙◌, ◌⊎◌, inl, inr, ℕ, ze
 use Rattle.std.specs.Prelude.{◌↔◌, OnOk, replicate}
 use Rattle.std.specs.List.{list_all}
 use Rattle.std.proofs.lemmas.Bool.{leb-false, lt-leb, and_right}
-use Rattle.clause_spec.specs.declared.Literal.{Literal}
-use Rattle.clause_spec.specs.declared.StepFaultKind.{StepFaultKind}
-use Rattle.clause_spec.specs.declared.StepFaultKind.TheVariants.{Literals}
-use Rattle.clause_spec.specs.Clause.{Clause, Cnf, is_of, negation}
-use Rattle.clause_spec.specs.Step.{Outcome, Follows, Refused, outcome, propagate, are_apart}
-use Rattle.clause_spec.specs.Log.{Step}
+use Rattle.clause_check_spec.specs.declared.Literal.{Literal}
+use Rattle.clause_check_spec.specs.declared.StepFaultKind.{StepFaultKind}
+use Rattle.clause_check_spec.specs.declared.StepFaultKind.TheVariants.{Literals}
+use Rattle.clause_check_spec.specs.Clause.{Clause, Cnf, is_of, negation}
+use Rattle.clause_check_spec.specs.Step.{Outcome, Follows, Refused, outcome, propagate, are_apart}
+use Rattle.clause_check_spec.specs.Log.{Step}
 use Rattle.clause_check.specs.Logged.{Logged, clauses_of}
 use Rattle.clause_check.specs.declared.log.StepError.{StepError}
 use Rattle.clause_check.specs.declared.log.StepError.TheVariants.{Fault, NoMemory}
 use Rattle.cnf_core.specs.declared.literals.TheConstants.{MAX_VARIABLE}
 use Rattle.memory_spec.specs.Runs.{Run}
-use Rattle.term_spec.specs.Term.{Term}
-use Rattle.term_spec.specs.Subterms.{subterm_count}
-use Rattle.normal_spec.specs.Normal.{normal}
-use Rattle.blast_spec.specs.Goal.{cnf_of}
-use Rattle.tv_base.specs.declared.limits.TheConstants.{MAX_TERMS, MAX_VARIABLES}
-use Rattle.closing_spec.specs.declared.GoalQuantity.TheVariants.{Terms, Variables}
-use Rattle.closing_spec.specs.Closing.{Closing, Closes, IsLarge, Fails, Unclosed, is_empty, is_truth, has_no_step, after, at_end, checked, closing, closing_of_form, closing_of_clauses}
+use Rattle.term_core_spec.specs.Term.{Term}
+use Rattle.term_core_spec.specs.Subterms.{subterm_count}
+use Rattle.term_norm_spec.specs.Normal.{normal}
+use Rattle.bit_blast_spec.specs.Goal.{cnf_of}
+use Rattle.tv_limits.specs.declared.TheConstants.{MAX_TERMS, MAX_VARIABLES}
+use Rattle.discharge_spec.specs.declared.GoalQuantity.TheVariants.{Terms, Variables}
+use Rattle.discharge_spec.specs.Closing.{Closing, Closes, IsLarge, Fails, Unclosed, is_empty, is_truth, has_no_step, after, at_end, checked, closing, closing_of_form, closing_of_clauses}
 use Rattle.discharge.specs.Answers.{Answers, TakesFirst}
 use Rattle.discharge.proofs.Rest.{step_taken}
 use Rattle.discharge.specs.declared.error.CloseError.{CloseError}
 use Rattle.discharge.specs.declared.error.CloseError.TheVariants as close
-use Rattle.cert_spec.specs.Derivation as derivation
-use Rattle.cert_spec.specs.Derivation.{Derives}
-use Rattle.cert_spec.specs.Lines.{Line, LogStep}
-use Rattle.cert_spec.specs.Certificates as grammar
-use Rattle.cert_spec.specs.Certificates.{Expected, AStep, Fits, can_stand}
-use Rattle.cert_lines.specs.declared.lines.Literal.{Literal as CodeLiteral}
-use Rattle.cert_lines.specs.declared.lines.Line.{Line as CodeLine}
-use Rattle.cert_lines.specs.declared.lines.Line.TheVariants as code
-use Rattle.cert_lines.specs.Views.{literal_of, line_at, literals_in, hints_in}
+use Rattle.cert_text_spec.specs.Derivation as derivation
+use Rattle.cert_text_spec.specs.Derivation.{Derives}
+use Rattle.cert_text_spec.specs.Lines.{Line, LogStep}
+use Rattle.cert_text_spec.specs.Certificates as grammar
+use Rattle.cert_text_spec.specs.Certificates.{Expected, AStep, Fits, can_stand}
+use Rattle.cert_text_parse.specs.declared.lines.Literal.{Literal as CodeLiteral}
+use Rattle.cert_text_parse.specs.declared.lines.Line.{Line as CodeLine}
+use Rattle.cert_text_parse.specs.declared.lines.Line.TheVariants as code
+use Rattle.cert_text_parse.specs.Views.{literal_of, line_at, literals_in, hints_in}
 use Rattle.cert_text.specs.Certificates.{lines_of}
-use Rattle.check_spec.specs.Verdict.{AreSteps}
+use Rattle.cert_check_spec.specs.Verdict.{AreSteps}
 use Rattle.cert_check.specs.Logs.{steps_of, clipped, number_in}
 
 -- ---- literals of no variable

@@ -2,13 +2,13 @@
 use Rattle.std.proofs.Common.{◌≡◌, ◌∙◌, ℕ, ◌-◌, true, false, Vec, Global, List, [], ◌∷◌, ◌++◌, length, refl, sym, ap, subst, append_assoc, append-nil}
 use Rattle.std.specs.Prelude.{replicate}
 use Rattle.std.proofs.lemmas.List.{same_from_push}
-use Rattle.cert_spec.specs.declared.Symbol.{Symbol}
-use Rattle.cert_spec.specs.Lines.{Line, Leaf, Case, Log}
-use Rattle.cert_spec.specs.Certificates.{Expected, TheParts, AProof, ALog, after, can_stand, root_room}
-use Rattle.cert_frames.specs.declared.jobs.Branch.{Branch}
-use Rattle.cert_frames.specs.declared.jobs.Job.{Job}
-use Rattle.cert_frames.specs.declared.jobs.Job.TheVariants.{Prove, Close}
-use Rattle.cert_frames.specs.Jobs.{IsProofOnTop, IsGoalOnTop, HasBranches, logs_last}
+use Rattle.cert_text_spec.specs.declared.Symbol.{Symbol}
+use Rattle.cert_text_spec.specs.Lines.{Line, Leaf, Case, Log}
+use Rattle.cert_text_spec.specs.Certificates.{Expected, TheParts, AProof, ALog, after, can_stand, root_room}
+use Rattle.cert_check_frames.specs.declared.jobs.Branch.{Branch}
+use Rattle.cert_check_frames.specs.declared.jobs.Job.{Job}
+use Rattle.cert_check_frames.specs.declared.jobs.Job.TheVariants.{Prove, Close}
+use Rattle.cert_check_frames.specs.Jobs.{IsProofOnTop, IsGoalOnTop, HasBranches, logs_last}
 use Rattle.cert_check.specs.Expectations.{IsOfProof, of_binary, of_source, of_proof, AreOf, no_job, a_proof, a_log, IsNext, AreAfter}
 
 from_false : {A : Type 0} → false ≡ true → A

@@ -1,15 +1,15 @@
 -- A turn of the walk along the lines: what the line of an index does.
 use Rattle.std.proofs.Common.{◌≡◌, ◌∙◌, ℕ, ◌+◌, ◌-◌, ◌<◌, List, length, get_or, take, drop, Result, Ok, Err, refl, sym, ap, subst, arith}
 use Rattle.std.proofs.lemmas.List.{length-drop, take_all}
-use Rattle.cert_lines.specs.declared.lines.Literal.{Literal}
-use Rattle.cert_lines.specs.declared.lines.Line.{Line as CodeLine}
-use Rattle.cert_lines.specs.declared.lines.Line.TheVariants as code
-use Rattle.cert_lines.specs.Views.{line_of}
+use Rattle.cert_text_parse.specs.declared.lines.Literal.{Literal}
+use Rattle.cert_text_parse.specs.declared.lines.Line.{Line as CodeLine}
+use Rattle.cert_text_parse.specs.declared.lines.Line.TheVariants as code
+use Rattle.cert_text_parse.specs.Views.{line_of}
 use Rattle.cert_text.specs.declared.certificates.Cert.{Cert}
-use Rattle.cert_spec.specs.Lines.{Log}
-use Rattle.check_spec.specs.Verdict as spec
-use Rattle.cert_frames.specs.declared.listed.Listed.{Listed}
-use Rattle.cert_frames.specs.Listed.{AreListed}
+use Rattle.cert_text_spec.specs.Lines.{Log}
+use Rattle.cert_check_spec.specs.Verdict as spec
+use Rattle.cert_check_frames.specs.declared.listed.Listed.{Listed}
+use Rattle.cert_check_frames.specs.Listed.{AreListed}
 use Rattle.cert_check.specs.declared.fault.Fault.{Fault}
 use Rattle.cert_check.specs.declared.walk.Walk.{Walk}
 use Rattle.cert_check.specs.Logs.{steps_of}

@@ -5,28 +5,28 @@ use Rattle.std.proofs.lemmas.Option.{slice_get-get_or}
 use Rattle.std.proofs.Math.Seq.{take-add}
 use Rattle.std.proofs.lemmas.Grind.{flat_map-append}
 use Rattle.std.proofs.lemmas.List.{drop_all, drop_more, flat_map_more, length-drop}
-use Rattle.cert_lines.specs.declared.lines.Literal.{Literal}
-use Rattle.cert_lines.specs.declared.lines.Line.{Line as CodeLine}
-use Rattle.cert_lines.specs.declared.lines.Line.TheVariants as code
-use Rattle.cert_lines.specs.Views.{literal_of, line_of, line_at, literals_in, hints_in}
+use Rattle.cert_text_parse.specs.declared.lines.Literal.{Literal}
+use Rattle.cert_text_parse.specs.declared.lines.Line.{Line as CodeLine}
+use Rattle.cert_text_parse.specs.declared.lines.Line.TheVariants as code
+use Rattle.cert_text_parse.specs.Views.{literal_of, line_of, line_at, literals_in, hints_in}
 use Rattle.cert_text.specs.declared.certificates.Cert.{Cert}
 use Rattle.cert_text.specs.Certificates.{lines_of, certificate_of, text_of}
 use Rattle.cert_text.specs.Laws.{AreLines}
-use Rattle.clause_spec.specs.Log.{Step}
-use Rattle.cert_spec.specs.Derivation as derivation
-use Rattle.cert_spec.specs.Derivation.{Derives}
-use Rattle.cert_spec.specs.Lines.{Line, Function, Log, LogStep, End, line_text}
-use Rattle.cert_spec.specs.Certificates.{Expected, AHeader, TheParts, BinaryInlines, SourceInlines, AProof, ARelation, ALog, AStep, Fits, after, can_stand, is_step}
-use Rattle.check_spec.specs.Verdict as spec
-use Rattle.check_spec.specs.Verdict.{State, Between, Inside, Fault, NotProof, Limit, AreSteps, Passes, Fails, Proves, Refutes, IsProof, IsFault}
+use Rattle.clause_check_spec.specs.Log.{Step}
+use Rattle.cert_text_spec.specs.Derivation as derivation
+use Rattle.cert_text_spec.specs.Derivation.{Derives}
+use Rattle.cert_text_spec.specs.Lines.{Line, Function, Log, LogStep, End, line_text}
+use Rattle.cert_text_spec.specs.Certificates.{Expected, AHeader, TheParts, BinaryInlines, SourceInlines, AProof, ARelation, ALog, AStep, Fits, after, can_stand, is_step}
+use Rattle.cert_check_spec.specs.Verdict as spec
+use Rattle.cert_check_spec.specs.Verdict.{State, Between, Inside, Fault, NotProof, Limit, AreSteps, Passes, Fails, Proves, Refutes, IsProof, IsFault}
 use Rattle.cert_check.specs.declared.fault.Named.{Named}
 use Rattle.cert_check.specs.declared.fault.Named.TheVariants as named
 use Rattle.cert_check.specs.declared.fault.Fault.{Fault as LineFault}
 use Rattle.cert_check.specs.declared.fault.Fault.TheVariants as broken
-use Rattle.cert_frames.specs.declared.jobs.Job.{Job}
-use Rattle.cert_frames.specs.declared.listed.Listed.{Listed}
+use Rattle.cert_check_frames.specs.declared.jobs.Job.{Job}
+use Rattle.cert_check_frames.specs.declared.listed.Listed.{Listed}
 use Rattle.cert_check.specs.declared.walk.Walk.{Walk}
-use Rattle.cert_frames.specs.Listed.{AreListed, frame_at}
+use Rattle.cert_check_frames.specs.Listed.{AreListed, frame_at}
 use Rattle.cert_check.specs.Expectations.{IsOfProof, of_binary, of_source, of_proof, AreOf, no_job, a_proof, a_log}
 use Rattle.cert_check.specs.Jobs.{jobs_of}
 use Rattle.cert_check.specs.Logs.{steps_of}

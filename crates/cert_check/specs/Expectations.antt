@@ -1,11 +1,11 @@
 -- What the grammar of certificates expects where these are the jobs of a part.
 use Rattle.std.specs.Prelude.{◌≡◌, ℕ, Bool, true, false, Vec, List, [], ◌∷◌, ◌++◌}
 use Rattle.std.specs.Global.{Global}
-use Rattle.cert_spec.specs.Lines.{Line, InlineBinary, InlineSource, RestrictBinary, RestrictSource, Split, Call}
-use Rattle.cert_spec.specs.Certificates.{Expected, TheParts, BinaryInlines, SourceInlines, AProof, ALog, after, can_stand}
-use Rattle.cert_frames.specs.declared.jobs.Branch.{Branch}
-use Rattle.cert_frames.specs.declared.jobs.Job.{Job}
-use Rattle.cert_frames.specs.declared.jobs.Job.TheVariants.{Prove, Close}
+use Rattle.cert_text_spec.specs.Lines.{Line, InlineBinary, InlineSource, RestrictBinary, RestrictSource, Split, Call}
+use Rattle.cert_text_spec.specs.Certificates.{Expected, TheParts, BinaryInlines, SourceInlines, AProof, ALog, after, can_stand}
+use Rattle.cert_check_frames.specs.declared.jobs.Branch.{Branch}
+use Rattle.cert_check_frames.specs.declared.jobs.Job.{Job}
+use Rattle.cert_check_frames.specs.declared.jobs.Job.TheVariants.{Prove, Close}
 
 -- a proof is expected, perhaps after calls that are inlined
 pub data IsOfProof : Expected → Type 0 where

@@ -1,12 +1,12 @@
 -- What is expected inside a part, of the program as the definitions have it.
-use Rattle.cert_frames.specs.Jobs.{premises_at, frame_with}
+use Rattle.cert_check_frames.specs.Jobs.{premises_at, frame_with}
 use Rattle.std.specs.Prelude.{List, [], ◌∷◌}
-use Rattle.term_spec.specs.Term.{Term}
+use Rattle.term_core_spec.specs.Term.{Term}
 use Rattle.term_bank.specs.Nodes.{tree_at}
-use Rattle.proof_spec.specs.Frames.{Frame}
-use Rattle.check_spec.specs.Verdict as spec
-use Rattle.cert_frames.specs.declared.jobs.Job.{Job}
-use Rattle.cert_frames.specs.declared.jobs.Job.TheVariants.{Prove, Close}
+use Rattle.proof_tree_spec.specs.Frames.{Frame}
+use Rattle.cert_check_spec.specs.Verdict as spec
+use Rattle.cert_check_frames.specs.declared.jobs.Job.{Job}
+use Rattle.cert_check_frames.specs.declared.jobs.Job.TheVariants.{Prove, Close}
 
 abbrev pub job_of : (trees : List Term) → Frame → Job → spec.Job
 job_of trees f (Prove premises) = spec.Prove (frame_with f (premises_at trees premises.items))

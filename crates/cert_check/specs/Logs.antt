@@ -1,16 +1,16 @@
 -- Logs, as the lines of their steps with the literals and hints from the first on.
 use Rattle.std.specs.Prelude.{ℕ, ◌+◌, nat_le, if◌then◌else◌, List, [], ◌∷◌, map, take, drop}
-use Rattle.clause_spec.specs.declared.Literal as clause
-use Rattle.clause_spec.specs.Log.{Step}
+use Rattle.clause_check_spec.specs.declared.Literal as clause
+use Rattle.clause_check_spec.specs.Log.{Step}
 use Rattle.cnf_core.specs.declared.literals.TheConstants.{MAX_VARIABLE}
-use Rattle.closing_spec.specs.declared.GoalQuantity.TheVariants as above
+use Rattle.discharge_spec.specs.declared.GoalQuantity.TheVariants as above
 use Rattle.discharge.specs.declared.error.CloseError.{CloseError}
 use Rattle.discharge.specs.declared.error.CloseError.TheVariants as close
-use Rattle.check_spec.specs.declared.RuleFault.TheVariants as fault
-use Rattle.check_spec.specs.declared.Quantity.TheVariants as quantity
-use Rattle.cert_lines.specs.declared.lines.Literal.{Literal}
-use Rattle.cert_lines.specs.declared.lines.Line.{Line}
-use Rattle.cert_lines.specs.Views.{literal_of, literals_in, hints_in}
+use Rattle.cert_check_spec.specs.declared.RuleFault.TheVariants as fault
+use Rattle.cert_check_spec.specs.declared.Quantity.TheVariants as quantity
+use Rattle.cert_text_parse.specs.declared.lines.Literal.{Literal}
+use Rattle.cert_text_parse.specs.declared.lines.Line.{Line}
+use Rattle.cert_text_parse.specs.Views.{literal_of, literals_in, hints_in}
 use Rattle.cert_check.specs.declared.fault.Named.TheVariants as named
 use Rattle.cert_check.specs.declared.fault.Fault.{Fault}
 use Rattle.cert_check.specs.declared.fault.Fault.TheVariants.{Broken, Above, NoMemory}

@@ -1,20 +1,20 @@
 -- What the check of a certificate answers.
 use Rattle.std.specs.Prelude.{◌≡◌, ℕ, ◌<◌, List, length, take, Option, Some, None, option_map, option_and_then, slice_get, Result, Ok, Err}
 use Rattle.std.specs.Borrow.{Bor}
-use Rattle.cert_lines.specs.declared.lines.Line.{Line}
-use Rattle.cert_lines.specs.declared.lines.Line.TheVariants as code
+use Rattle.cert_text_parse.specs.declared.lines.Line.{Line}
+use Rattle.cert_text_parse.specs.declared.lines.Line.TheVariants as code
 use Rattle.cert_text.specs.declared.certificates.Cert.{Cert}
 use Rattle.cert_text.specs.Certificates.{certificate_of, text_of}
-use Rattle.check_spec.specs.Verdict as spec
-use Rattle.check_spec.specs.Verdict.{IsProof, IsFault}
+use Rattle.cert_check_spec.specs.Verdict as spec
+use Rattle.cert_check_spec.specs.Verdict.{IsProof, IsFault}
 use Rattle.cert_check.specs.declared.fault.Named.{Named}
 use Rattle.cert_check.specs.declared.fault.Named.TheVariants as named
 use Rattle.cert_check.specs.declared.fault.Fault.{Fault}
 use Rattle.cert_check.specs.declared.fault.Fault.TheVariants as fault
 use Rattle.cert_check.specs.declared.fault.CheckFault.{CheckFault}
 use Rattle.cert_check.specs.declared.fault.CheckFault.TheVariants.{NotProof, Limit, NoMemory}
-use Rattle.cert_frames.specs.declared.listed.Listed.{Listed}
-use Rattle.cert_frames.specs.Listed.{AreListed}
+use Rattle.cert_check_frames.specs.declared.listed.Listed.{Listed}
+use Rattle.cert_check_frames.specs.Listed.{AreListed}
 
 -- ---- names
 

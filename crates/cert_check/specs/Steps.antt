@@ -2,32 +2,32 @@
 use Rattle.std.specs.Prelude.{◌≡◌, ℕ, ◌<◌, Vec, List, [], length, Option, Result, Ok, Err}
 use Rattle.std.specs.Global.{Global}
 use Rattle.std.specs.HashMap.{get}
-use Rattle.term_spec.specs.declared.Variable.{Variable}
-use Rattle.term_spec.specs.Same.{same_variable}
-use Rattle.term_spec.specs.Term.{Term}
+use Rattle.term_core_spec.specs.declared.Variable.{Variable}
+use Rattle.term_core_spec.specs.Same.{same_variable}
+use Rattle.term_core_spec.specs.Term.{Term}
 use Rattle.path_cond.specs.States.{IsMapOf}
-use Rattle.rule_spec.specs.Points.{Convention}
-use Rattle.rule_spec.specs.Rules as rules
-use Rattle.rule_terms.specs.declared.points.Opening.{Opening}
-use Rattle.proof_spec.specs.Frames.{Frame}
-use Rattle.rule_spec.specs.Obligations as rule
-use Rattle.rule_spec.specs.Obligations.{IsCyclicRule, IsLargeRule}
+use Rattle.sim_rules_spec.specs.Points.{Convention}
+use Rattle.sim_rules_spec.specs.Rules as rules
+use Rattle.sim_rules_terms.specs.declared.points.Opening.{Opening}
+use Rattle.proof_tree_spec.specs.Frames.{Frame}
+use Rattle.sim_rules_spec.specs.Obligations as rule
+use Rattle.sim_rules_spec.specs.Obligations.{IsCyclicRule, IsLargeRule}
 use Rattle.sim_rules.specs.Outcome.{AreObligations, HasFewVisits}
 use Rattle.sim_rules.specs.declared.fault.RuleFault.{RuleFault as RuleError}
 use Rattle.sim_rules.specs.declared.fault.RuleFault.TheVariants as obligation
-use Rattle.cert_spec.specs.declared.Symbol.{Symbol}
-use Rattle.cert_spec.specs.Lines.{Line}
-use Rattle.tv_base.specs.declared.limits.TheConstants.{MAX_VISITS}
-use Rattle.check_spec.specs.declared.RuleFault.TheVariants as fault
-use Rattle.check_spec.specs.declared.Quantity.TheVariants as quantity
-use Rattle.check_spec.specs.Verdict as spec
-use Rattle.check_spec.specs.Verdict.{Inside, Passes, Fails, NotProof, Limit, IsTest}
+use Rattle.cert_text_spec.specs.declared.Symbol.{Symbol}
+use Rattle.cert_text_spec.specs.Lines.{Line}
+use Rattle.tv_limits.specs.declared.TheConstants.{MAX_VISITS}
+use Rattle.cert_check_spec.specs.declared.RuleFault.TheVariants as fault
+use Rattle.cert_check_spec.specs.declared.Quantity.TheVariants as quantity
+use Rattle.cert_check_spec.specs.Verdict as spec
+use Rattle.cert_check_spec.specs.Verdict.{Inside, Passes, Fails, NotProof, Limit, IsTest}
 use Rattle.cert_check.specs.declared.fault.PartFault.{PartFault}
 use Rattle.cert_check.specs.declared.fault.PartFault.TheVariants.{Broken, Above, NoMemory}
-use Rattle.cert_frames.specs.declared.jobs.Job.{Job}
-use Rattle.cert_frames.specs.declared.listed.Listed.{Listed}
-use Rattle.cert_frames.specs.Listed.{IsListed, frame_at, terms_given}
-use Rattle.cert_frames.specs.Jobs.{AreInside, frame_with}
+use Rattle.cert_check_frames.specs.declared.jobs.Job.{Job}
+use Rattle.cert_check_frames.specs.declared.listed.Listed.{Listed}
+use Rattle.cert_check_frames.specs.Listed.{IsListed, frame_at, terms_given}
+use Rattle.cert_check_frames.specs.Jobs.{AreInside, frame_with}
 use Rattle.cert_check.specs.Jobs.{jobs_of}
 use Rattle.term_bank.specs.Nodes.{tree_at}
 

@@ -1,34 +1,34 @@
 -- What a line does to a walk along the lines of a certificate.
 use Rattle.std.specs.Prelude.{◌≡◌, ◌⊎◌, ℕ, ◌+◌, ◌<◌, ◌≤◌, Bool, true, false, List, [], ◌∷◌, ◌++◌, length, replicate, Some, None, slice_get, Result, Ok, Err, OnOk, IfErr}
 use Rattle.std.specs.HashMap.{get}
-use Rattle.term_spec.specs.Same.{same_variable}
-use Rattle.cert_lines.specs.declared.lines.Line.{Line as CodeLine}
-use Rattle.cert_lines.specs.declared.lines.Line.TheVariants as code
+use Rattle.term_core_spec.specs.Same.{same_variable}
+use Rattle.cert_text_parse.specs.declared.lines.Line.{Line as CodeLine}
+use Rattle.cert_text_parse.specs.declared.lines.Line.TheVariants as code
 use Rattle.memory_spec.specs.Viewed.{runs_of}
 use Rattle.term_bank.specs.Nodes.{Extends, tree_at}
-use Rattle.clause_spec.specs.Log.{Step}
-use Rattle.closing_spec.specs.Closing.{closing}
+use Rattle.clause_check_spec.specs.Log.{Step}
+use Rattle.discharge_spec.specs.Closing.{closing}
 use Rattle.discharge.specs.Answers.{Answers}
 use Rattle.discharge.specs.declared.error.CloseError.{CloseError}
-use Rattle.cert_spec.specs.Lines.{Line, Function, Log, End}
-use Rattle.cert_spec.specs.Certificates.{Expected, AHeader, TheParts, BinaryInlines, ALog, after, can_stand}
-use Rattle.check_spec.specs.Verdict as spec
-use Rattle.check_spec.specs.Verdict.{State, Between, Inside, AreSteps, Passes, Fails, NotProof, Limit}
-use Rattle.check_spec.specs.declared.RuleFault.TheVariants as fault
+use Rattle.cert_text_spec.specs.Lines.{Line, Function, Log, End}
+use Rattle.cert_text_spec.specs.Certificates.{Expected, AHeader, TheParts, BinaryInlines, ALog, after, can_stand}
+use Rattle.cert_check_spec.specs.Verdict as spec
+use Rattle.cert_check_spec.specs.Verdict.{State, Between, Inside, AreSteps, Passes, Fails, NotProof, Limit}
+use Rattle.cert_check_spec.specs.declared.RuleFault.TheVariants as fault
 use Rattle.cert_check.specs.declared.fault.Named.{Named}
 use Rattle.cert_check.specs.declared.fault.Named.TheVariants as named
 use Rattle.cert_check.specs.declared.fault.Fault.{Fault}
 use Rattle.cert_check.specs.declared.fault.Fault.TheVariants.{Broken, Above, NoMemory}
 use Rattle.cert_check.specs.declared.fault.PartFault.{PartFault}
 use Rattle.cert_check.specs.declared.fault.PartFault.TheVariants as part
-use Rattle.cert_frames.specs.declared.jobs.Job.TheVariants.{Close}
-use Rattle.cert_frames.specs.declared.listed.Listed.{Listed}
+use Rattle.cert_check_frames.specs.declared.jobs.Job.TheVariants.{Close}
+use Rattle.cert_check_frames.specs.declared.listed.Listed.{Listed}
 use Rattle.cert_check.specs.declared.walk.Walk.{Walk}
-use Rattle.cert_frames.specs.Listed.{AreListed, IsListed, frame_at}
+use Rattle.cert_check_frames.specs.Listed.{AreListed, IsListed, frame_at}
 use Rattle.cert_check.specs.Jobs.{jobs_of}
 use Rattle.cert_check.specs.Expectations.{AreOf, IsNext, AreAfter}
 use Rattle.cert_check.specs.Steps.{IsKeptBy}
-use Rattle.cert_frames.specs.Parts.{AreIndices, IsNamed, IsMissingAt}
+use Rattle.cert_check_frames.specs.Parts.{AreIndices, IsNamed, IsMissingAt}
 
 -- ---- where a walk is
 

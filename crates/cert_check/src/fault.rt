@@ -3,10 +3,10 @@
 ghost use Rattle.cert_check.specs.Outcomes as outcomes;
 ghost use Rattle.cert_check.specs.Outcomes.{HasName, name_in};
 
-use cert_frames::Listed;
-use cert_lines::Line;
+use cert_check_frames::Listed;
+use cert_check_spec::{Quantity, RuleFault};
 use cert_text::Cert;
-use check_spec::{Quantity, RuleFault};
+use cert_text_parse::Line;
 
 /// The function that a fault names.
 #[derive(Clone, Copy)]

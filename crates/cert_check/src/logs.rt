@@ -1,18 +1,18 @@
 //! The steps of a log, where they are in a certificate.
 
 ghost use Rattle.std.specs.Prelude.{◌≡◌, ◌+◌, ◌<◌, ◌^◌, IfOk, drop, map, take};
-ghost use Rattle.cert_lines.specs.Views as views;
-ghost use Rattle.cert_lines.specs.Views.{hints_in, literals_in};
+ghost use Rattle.cert_text_parse.specs.Views as views;
+ghost use Rattle.cert_text_parse.specs.Views.{hints_in, literals_in};
 ghost use Rattle.cert_check.specs.Logs.{clipped, line_fault, number_in, steps_of};
 
 use crate::fault::{Fault, Named};
 use attempt::attempt;
-use cert_lines::Line;
-use check_spec::{Quantity, RuleFault};
+use cert_check_spec::{Quantity, RuleFault};
+use cert_text_parse::Line;
 use clause_check::{Log, StepError};
-use closing_spec::GoalQuantity;
 use cnf_core::Literal;
 use discharge::{CloseError, Steps};
+use discharge_spec::GoalQuantity;
 use std::alloc::{AllocError, Global};
 
 /// The steps of a log that are left: their lines, and the literals and hints from the first on.
@@ -21,7 +21,7 @@ pub(crate) struct LogSteps<'a> {
     /// The lines.
     pub lines: &'a [Line],
     /// The literals.
-    pub literals: &'a [cert_lines::Literal],
+    pub literals: &'a [cert_text_parse::Literal],
     /// The hints.
     pub hints: &'a [u32],
 }
@@ -59,7 +59,7 @@ fn counts(line: &Line) -> (usize, usize)
 }
 
 // A literal; where its variable is above those that can be kept, one of no variable.
-fn literal(literal: cert_lines::Literal) -> Literal
+fn literal(literal: cert_text_parse::Literal) -> Literal
     ensures { result ≡ clipped (views.literal_of literal) }
 {
     match Literal::try_new(literal.variable as usize, literal.is_negated) {
@@ -71,7 +71,7 @@ fn literal(literal: cert_lines::Literal) -> Literal
 // Literals as their checker has them.
 fn kept_literals(
     alloc: Global,
-    literals: &[cert_lines::Literal],
+    literals: &[cert_text_parse::Literal],
 ) -> Result<Vec<Literal>, AllocError>
     ensures { IfOk result (λ kept. kept.items ≡ map clipped (map views.literal_of literals.now)) }
 {

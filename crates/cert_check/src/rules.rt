@@ -2,29 +2,29 @@
 
 ghost use Rattle.std.specs.Prelude.{◌≡◌, ◌<◌, All, IfOk, OnOk, length};
 ghost use Rattle.term_bank.specs.Nodes.{Extends};
-ghost use Rattle.cert_spec.specs.Lines as spec;
-ghost use Rattle.cert_frames.specs.Jobs.{AreBelow, premises_at};
+ghost use Rattle.cert_text_spec.specs.Lines as spec;
+ghost use Rattle.cert_check_frames.specs.Jobs.{AreBelow, premises_at};
 ghost use Rattle.cert_check.specs.Expectations.{IsNext, AreAfter};
-ghost use Rattle.rule_spec.specs.Points as points;
-ghost use Rattle.rule_spec.specs.Rules as opened;
-ghost use Rattle.rule_terms.specs.Conventions.{IsConventionOf};
-ghost use Rattle.rule_terms.specs.Openings.{IsOpening, IsOpeningIn};
+ghost use Rattle.sim_rules_spec.specs.Points as points;
+ghost use Rattle.sim_rules_spec.specs.Rules as opened;
+ghost use Rattle.sim_rules_terms.specs.Conventions.{IsConventionOf};
+ghost use Rattle.sim_rules_terms.specs.Openings.{IsOpening, IsOpeningIn};
 ghost use Rattle.proof_tree.specs.Frames.{frame_of};
 ghost use Rattle.cert_check.specs.Steps.{AreGoalsOf, AreOpened, HasGoals, IsKept, IsStep};
 ghost use Rattle.cert_check.specs.Steps.{IsTested, goal_fault_of};
 
 use crate::fault::PartFault;
 use attempt::attempt;
-use cert_frames::{Branch, Job, Listed, frame, push_branches, push_goals, take_proof, tests};
-use cert_spec::Symbol;
-use cert_terms::{TermFault, read_line};
-use check_spec::{Quantity, RuleFault};
+use cert_check_frames::{Branch, Job, Listed, frame, push_branches, push_goals, take_proof, tests};
+use cert_check_spec::{Quantity, RuleFault};
+use cert_check_terms::{TermFault, read_line};
+use cert_text_spec::Symbol;
 use proof_tree::Frame;
-use rule_terms::{Convention, Opening};
 use sim_rules::{Rule, Setup, obligations};
+use sim_rules_terms::{Convention, Opening};
 use std::alloc::Global;
 use term_bank::{Bank, TermId};
-use tv_base::limits::MAX_VISITS;
+use tv_limits::MAX_VISITS;
 
 // ---- Leaf
 

@@ -1,13 +1,13 @@
 //! The walk along the lines of a certificate.
 
 ghost use Rattle.std.specs.Prelude.{◌≡◌, ℕ, ◌+◌, ◌<◌, ◌^◌, [], OnOk, length};
-ghost use Rattle.cert_lines.specs.Views.{line_of};
+ghost use Rattle.cert_text_parse.specs.Views.{line_of};
 ghost use Rattle.cert_text.specs.Certificates.{certificate_of};
 ghost use Rattle.cert_text.specs.Laws.{AreLines};
-ghost use Rattle.cert_spec.specs.Lines as spec;
+ghost use Rattle.cert_text_spec.specs.Lines as spec;
 ghost use Rattle.cert_check.specs.Outcomes.{IsChecked, IsPlaced, IsVerdict};
-ghost use Rattle.cert_frames.specs.Jobs.{IsGoalOnTop};
-ghost use Rattle.cert_frames.specs.Parts.{AreIndices};
+ghost use Rattle.cert_check_frames.specs.Jobs.{IsGoalOnTop};
+ghost use Rattle.cert_check_frames.specs.Parts.{AreIndices};
 ghost use Rattle.cert_check.specs.Expectations as expectations;
 ghost use Rattle.cert_check.specs.Expectations.{IsNext, AreAfter};
 ghost use Rattle.cert_check.specs.Steps.{IsKept, IsStep};
@@ -20,12 +20,12 @@ use crate::fault::{CheckFault, Fault, Named, PartFault};
 use crate::logs::{LogSteps, front, log_fault, rest};
 use crate::rules::{case, leaf};
 use attempt::attempt;
-use cert_frames::{Job, Listed, free, known, missing, push_proof, take_goal};
-use cert_lines::{Line, Part};
+use cert_check_frames::{Job, Listed, free, known, missing, push_proof, take_goal};
+use cert_check_spec::RuleFault;
 use cert_text::{Cert, offset};
-use check_spec::RuleFault;
+use cert_text_parse::{Line, Part};
 use discharge::{CloseError, close};
-use rule_terms::{Known, Opening};
+use sim_rules_terms::{Known, Opening};
 use std::alloc::{AllocError, Global};
 use std::collections::HashMap;
 use term_bank::Bank;

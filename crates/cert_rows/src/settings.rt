@@ -4,7 +4,7 @@ use attempt::attempt;
 use proof_tree::{Body, Setting};
 use row_io::decimal;
 use std::alloc::{AllocError, Global};
-use term_spec::{Sort, Width};
+use term_core_spec::{Sort, Width};
 
 const BYTE: Sort = Sort::Word(Width::W8);
 

@@ -11,7 +11,7 @@ use row_io::{Out, decimal, split};
 use std::alloc::{AllocError, Global};
 use term_bank::{Bank, TermId, TermNode};
 use term_core::Term;
-use term_spec::{
+use term_core_spec::{
     Atom, BinaryOperator, Family, QuaternaryOperator, Sort, UnaryOperator, Variable, Width,
     WordOperator,
 };

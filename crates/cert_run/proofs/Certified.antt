@@ -2,16 +2,16 @@
 use Rattle.std.proofs.Common.{◌≡◌, ◌∙◌, ℕ, List, Some, None, sym, ap, subst}
 use Rattle.std.specs.Borrow.{Bor}
 use Rattle.std.proofs.lemmas.Option.{same_Some}
-use Rattle.check_spec.specs.declared.RuleFault.{RuleFault}
-use Rattle.check_spec.specs.declared.Quantity.{Quantity}
+use Rattle.cert_check_spec.specs.declared.RuleFault.{RuleFault}
+use Rattle.cert_check_spec.specs.declared.Quantity.{Quantity}
 use Rattle.cert_text.specs.declared.certificates.Cert.{Cert}
 use Rattle.cert_text.specs.Certificates.{certificate_of}
-use Rattle.cert_frames.specs.declared.listed.Listed.{Listed}
+use Rattle.cert_check_frames.specs.declared.listed.Listed.{Listed}
 use Rattle.cert_check.specs.declared.fault.Named.{Named}
 use Rattle.cert_check.specs.declared.fault.CheckFault.TheVariants.{NotProof, Limit}
 use Rattle.cert_check.specs.Outcomes.{HasName, name_in}
-use Rattle.cert_verdict_spec.specs.Verdict as verdict
-use Rattle.cert_verdict_spec.specs.Verdict.{IsOutcome, broken, above}
+use Rattle.cert_run_spec.specs.Verdict as verdict
+use Rattle.cert_run_spec.specs.Verdict.{IsOutcome, broken, above}
 use Rattle.cert_run.specs.Outcomes.{IsFaultOf, outcome_of}
 use Rattle.cert_run.specs.declared.outcome.Outcome.{Outcome}
 use Rattle.cert_run.specs.declared.outcome.Outcome.TheVariants.{Above}

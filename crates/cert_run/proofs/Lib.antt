@@ -1,4 +1,15 @@
-mod Sides
+mod SideFacts
 mod Numbers
 mod Searching
 mod Certified
+mod Files
+mod Numbered
+mod Coded
+mod Placing
+mod Named
+mod Ready
+mod Sound
+mod Listing
+mod Whole
+mod Listed
+mod Valid

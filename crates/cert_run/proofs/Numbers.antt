@@ -2,20 +2,20 @@
 use Rattle.std.proofs.Common.{◌≡◌, ◌+◌, ◌≤◌, ℕ, zero, suc, List, [], ◌∷◌, ◌++◌, length, map, take, drop, sym, subst, arith}
 use Rattle.std.specs.Prelude.{All}
 use Rattle.std.proofs.lemmas.List.Elements.{All-nil, All-cons, All-head, All-tail, All-take, All-drop}
-use Rattle.clause_spec.specs.Log.{Step}
-use Rattle.cert_spec.specs.Points.{IsNumber}
-use Rattle.cert_spec.specs.Lines as spec
-use Rattle.cert_spec.specs.Lines.{Header, Function, Leaf, Log, LogStep, End}
-use Rattle.cert_lines.specs.declared.lines.Line.{Line}
-use Rattle.cert_lines.specs.declared.lines.Line.TheVariants as code
-use Rattle.cert_lines.specs.declared.lines.Literal.{Literal}
-use Rattle.cert_lines.specs.Views.{line_at, literals_in, hints_in}
+use Rattle.clause_check_spec.specs.Log.{Step}
+use Rattle.cert_text_spec.specs.Points.{IsNumber}
+use Rattle.cert_text_spec.specs.Lines as spec
+use Rattle.cert_text_spec.specs.Lines.{Header, Function, Leaf, Log, LogStep, End}
+use Rattle.cert_text_parse.specs.declared.lines.Line.{Line}
+use Rattle.cert_text_parse.specs.declared.lines.Line.TheVariants as code
+use Rattle.cert_text_parse.specs.declared.lines.Literal.{Literal}
+use Rattle.cert_text_parse.specs.Views.{line_at, literals_in, hints_in}
 use Rattle.cert_text.specs.declared.certificates.Cert.{Cert}
 use Rattle.cert_text.specs.Certificates.{certificate_of, lines_of}
-use Rattle.check_spec.specs.Verdict.{Listed}
-use Rattle.trail_spec.specs.Trails.{Found, Proved, Unproved}
-use Rattle.trail_spec.specs.Written.{log_lines, logs_lines, part_lines, parts_lines, proof_lines}
-use Rattle.cert_verdict_spec.specs.Written.{HasSmallHints}
+use Rattle.cert_check_spec.specs.Verdict.{Listed}
+use Rattle.prove_run_spec.specs.Trails.{Found, Proved, Unproved}
+use Rattle.prove_run_spec.specs.Written.{log_lines, logs_lines, part_lines, parts_lines, proof_lines}
+use Rattle.cert_run_spec.specs.Written.{HasSmallHints}
 
 -- its hints are, if it is a step
 abbrev HasNumbers : spec.Line → Type 0

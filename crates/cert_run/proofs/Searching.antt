@@ -6,14 +6,14 @@ use Rattle.std.specs.declared.alloc.AllocError.{AllocError}
 use Rattle.std.proofs.lemmas.List.{take_more, map-append}
 use Rattle.cert_text.specs.declared.certificates.Cert.{Cert}
 use Rattle.cert_text.specs.Certificates.{certificate_of, text_of}
-use Rattle.check_spec.specs.Verdict.{Listed}
-use Rattle.trail_spec.specs.Trails as spec
-use Rattle.trail_spec.specs.Written.{failures, proof_lines}
+use Rattle.cert_check_spec.specs.Verdict.{Listed}
+use Rattle.prove_run_spec.specs.Trails as spec
+use Rattle.prove_run_spec.specs.Written.{failures, proof_lines}
 use Rattle.prove_run.specs.declared.trail.Found.{Found}
 use Rattle.prove_run.specs.Found.{found_of}
 use Rattle.prove_run.specs.Trails.{failures_of, over_in, unproved_in}
-use Rattle.tv_base.specs.declared.limits.TheConstants.{MAX_CERTIFICATE_BYTES}
-use Rattle.cert_verdict_spec.specs.Written.{text_by, HasSmallHints}
+use Rattle.tv_limits.specs.declared.TheConstants.{MAX_CERTIFICATE_BYTES}
+use Rattle.cert_run_spec.specs.Written.{text_by, HasSmallHints}
 use Rattle.cert_run.specs.Searches.{IsSearch, is_proved}
 use Rattle.cert_run.specs.declared.finding.Search.{Search}
 

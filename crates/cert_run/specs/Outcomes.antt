@@ -1,16 +1,16 @@
 -- The verdict on the bytes of a certificate, as the program answers it.
 use Rattle.std.specs.Prelude.{ℕ, List, Err}
-use Rattle.cert_spec.specs.Certificates.{IsCertificate}
+use Rattle.cert_text_spec.specs.Certificates.{IsCertificate}
 use Rattle.cert_text.specs.declared.certificates.Cert.{Cert}
 use Rattle.cert_text.specs.declared.certificates.ReadError.{ReadError}
 use Rattle.cert_text.specs.Certificates.{certificate_of, IsRead}
-use Rattle.cert_frames.specs.declared.listed.Listed.{Listed}
-use Rattle.cert_frames.specs.Listed.{AreListed}
+use Rattle.cert_check_frames.specs.declared.listed.Listed.{Listed}
+use Rattle.cert_check_frames.specs.Listed.{AreListed}
 use Rattle.cert_check.specs.declared.fault.CheckFault.{CheckFault}
 use Rattle.cert_check.specs.Outcomes.{IsVerdictOf}
-use Rattle.check_spec.specs.Verdict as spec
-use Rattle.cert_verdict_spec.specs.Verdict as verdict
-use Rattle.cert_verdict_spec.specs.Verdict.{IsOutcome}
+use Rattle.cert_check_spec.specs.Verdict as spec
+use Rattle.cert_run_spec.specs.Verdict as verdict
+use Rattle.cert_run_spec.specs.Verdict.{IsOutcome}
 use Rattle.cert_run.specs.declared.outcome.Outcome.{Outcome}
 use Rattle.cert_run.specs.declared.outcome.Outcome.TheVariants.{Unread, Broken, Above, Proof}
 

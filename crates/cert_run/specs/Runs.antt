@@ -1,22 +1,22 @@
 -- What certificates say of the functions of a list with pairs, as the program answers it.
 use Rattle.std.specs.Prelude.{◌≡◌, ℕ, true, List, map, All, Some, slice_get}
-use Rattle.elf_spec.specs.Image.{Image}
-use Rattle.c_type_spec.specs.Core.{Typed}
-use Rattle.c_type_spec.specs.HasType.{IsTypedUnit}
+use Rattle.elf_read_spec.specs.Image.{Image}
+use Rattle.c_types_spec.specs.Core.{Typed}
+use Rattle.c_types_spec.specs.HasType.{IsTypedUnit}
 use Rattle.c_graph_spec.specs.Sizes.{UnitSizes}
-use Rattle.pair_outcome_spec.specs.Outcome.{IsPaired, Pairs}
-use Rattle.claim_spec.specs.Claim.{IsValid}
+use Rattle.pair_setup_spec.specs.Outcome.{IsPaired, Pairs}
+use Rattle.validity_spec.specs.Claim.{IsValid}
 use Rattle.agreement_laws.specs.EntryFrame.{Pair}
-use Rattle.proof_laws.specs.Derivation.{Function}
-use Rattle.check_spec.specs.Verdict.{Listed}
-use Rattle.check_laws.specs.Statements.{listed_of}
-use Rattle.cert_verdict_spec.specs.Files.{AreListed}
-use Rattle.cert_verdict_spec.specs.Verdict.{IsOutcome}
-use Rattle.check_setup.specs.Entries.{AreEntries, AreGraphs}
-use Rattle.check_sides.specs.Sides.{IsRead}
-use Rattle.check_sides.specs.declared.sides.Sides.{Sides}
-use Rattle.trail_spec.specs.Proofs.{HasTruths}
-use Rattle.trail_spec.specs.Trails.{Found, AreFound}
+use Rattle.validity_laws.specs.Derivation.{Function}
+use Rattle.cert_check_spec.specs.Verdict.{Listed}
+use Rattle.validity_laws.specs.CheckStatements.{listed_of}
+use Rattle.cert_run_spec.specs.Files.{AreListed}
+use Rattle.cert_run_spec.specs.Verdict.{IsOutcome}
+use Rattle.cert_check_frames.specs.Entries.{AreEntries, AreGraphs}
+use Rattle.cert_run.specs.Sides.{IsRead}
+use Rattle.cert_run.specs.declared.sides.Sides.{Sides}
+use Rattle.prove_run_spec.specs.Proofs.{HasTruths}
+use Rattle.prove_run_spec.specs.Trails.{Found, AreFound}
 use Rattle.cert_run.specs.Searches.{IsSearch, is_proved}
 use Rattle.cert_run.specs.declared.finding.Search.{Search}
 use Rattle.cert_run.specs.Outcomes.{outcome_of}

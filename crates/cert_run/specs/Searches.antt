@@ -3,15 +3,15 @@ use Rattle.std.specs.Prelude.{◌≡◌, ◌<◌, ◌≤◌, ◌⊎◌, Bool, tr
 use Rattle.std.specs.Global.{Global}
 use Rattle.cert_text.specs.declared.certificates.Cert.{Cert}
 use Rattle.cert_text.specs.Certificates.{certificate_of}
-use Rattle.cert_frames.specs.declared.listed.Listed.{Listed as CodeListed}
-use Rattle.cert_frames.specs.Listed.{AreListed}
-use Rattle.check_spec.specs.Verdict.{Listed}
-use Rattle.cert_verdict_spec.specs.Written.{text_by, HasSmallHints}
-use Rattle.trail_spec.specs.Proofs.{HasTruths}
-use Rattle.trail_spec.specs.Trails.{Found, Proved, Unproved, AreFound}
-use Rattle.trail_spec.specs.Written.{failures, proof_lines}
+use Rattle.cert_check_frames.specs.declared.listed.Listed.{Listed as CodeListed}
+use Rattle.cert_check_frames.specs.Listed.{AreListed}
+use Rattle.cert_check_spec.specs.Verdict.{Listed}
+use Rattle.cert_run_spec.specs.Written.{text_by, HasSmallHints}
+use Rattle.prove_run_spec.specs.Proofs.{HasTruths}
+use Rattle.prove_run_spec.specs.Trails.{Found, Proved, Unproved, AreFound}
+use Rattle.prove_run_spec.specs.Written.{failures, proof_lines}
 use Rattle.prove_run.specs.Trails.{unproved_in, over_in, failures_of}
-use Rattle.tv_base.specs.declared.limits.TheConstants.{MAX_CERTIFICATE_BYTES}
+use Rattle.tv_limits.specs.declared.TheConstants.{MAX_CERTIFICATE_BYTES}
 use Rattle.cert_run.specs.declared.finding.Search.{Search}
 
 abbrev pub is_proved : Found → Bool

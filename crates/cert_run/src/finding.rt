@@ -2,21 +2,21 @@
 
 ghost use Rattle.std.specs.Prelude.{◌≡◌, [], All, IfOk, List, None, Some};
 ghost use Rattle.std.specs.Prelude.{length, map};
-ghost use Rattle.cert_spec.specs.Points.{IsNumber};
+ghost use Rattle.cert_text_spec.specs.Points.{IsNumber};
 ghost use Rattle.cert_text.specs.Certificates.{certificate_of};
-ghost use Rattle.cert_frames.specs.Listed.{AreListed};
-ghost use Rattle.check_spec.specs.Verdict as spec;
-ghost use Rattle.trail_spec.specs.Written.{failures, proof_lines};
+ghost use Rattle.cert_check_frames.specs.Listed.{AreListed};
+ghost use Rattle.cert_check_spec.specs.Verdict as spec;
+ghost use Rattle.prove_run_spec.specs.Written.{failures, proof_lines};
 ghost use Rattle.prove_run.specs.Found.{found_of};
 ghost use Rattle.prove_run.specs.Trails.{failures_of, over_in, unproved_in};
 ghost use Rattle.cert_run.specs.Searches.{IsSearch, Searches, is_proved};
 
 use attempt::attempt;
-use cert_frames::Listed;
+use cert_check_frames::Listed;
 use cert_text::{Cert, write};
 use prove_run::{Found, Trails, certificate, prove};
 use std::alloc::{AllocError, Global};
-use tv_base::limits::MAX_CERTIFICATE_BYTES;
+use tv_limits::MAX_CERTIFICATE_BYTES;
 
 /// What the search for proofs of the functions of a list finds.
 #[derive(Drop)]

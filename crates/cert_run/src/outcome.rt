@@ -3,17 +3,17 @@
 ghost use Rattle.std.specs.Prelude.{◌≡◌, IfOk};
 ghost use Rattle.cert_text.specs.Certificates.{certificate_of};
 ghost use Rattle.cert_text.specs.Laws.{AreLines};
-ghost use Rattle.cert_verdict_spec.specs.Verdict as spec;
+ghost use Rattle.cert_run_spec.specs.Verdict as spec;
 ghost use Rattle.cert_run.specs.Outcomes.{IsFaultOf, IsOutcomeOf, IsOutcomeOn, IsUnreadOf};
 ghost use Rattle.cert_run.specs.Outcomes.{outcome_of};
 
 use attempt::attempt;
 use cert_check::{CheckFault, check, name};
-use cert_frames::Listed;
+use cert_check_frames::Listed;
+use cert_check_spec::{Quantity, RuleFault};
 use cert_text::{Cert, ReadError, read};
-use check_spec::{Quantity, RuleFault};
 use std::alloc::{AllocError, Global};
-use tv_bytes::Bytes;
+use tv_base::Bytes;
 
 /// The verdict on the bytes of a certificate.
 #[derive(Drop)]

@@ -2,20 +2,20 @@
 
 ghost use Rattle.std.specs.Prelude.{IfOk};
 ghost use Rattle.c_types.specs.Typed.{typed_of};
-ghost use Rattle.c_reach.specs.Names.{texts_of};
+ghost use Rattle.pair_setup_calls.specs.Names.{texts_of};
 ghost use Rattle.pair_setup.specs.Answers.{pairs_of};
 ghost use Rattle.cert_run.specs.Runs.{Answers, CanRun, Finds, IsOutcomeBy, SearchesSides};
 
+use crate::Sides;
 use crate::finding::{Search, find};
 use crate::outcome::{Outcome, verdict};
 use attempt::attempt;
 use c_types::typed::Typed;
-use cert_verdict_spec::laws::{files_have_words, logged_leaves_are_valid, proofs_are_valid};
-use check_sides::Sides;
+use cert_run_spec::laws::{files_have_words, logged_leaves_are_valid, proofs_are_valid};
 use elf_read::Image;
 use pair_setup::Pairs;
 use std::alloc::{AllocError, Global};
-use trail_laws::laws::functions_have_truths;
+use validity_laws::trails::functions_have_truths;
 
 // The verdict on the bytes of a certificate, of functions of both sides.
 fn outcome_of_sides(

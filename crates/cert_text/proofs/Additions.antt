@@ -4,24 +4,24 @@ use Rattle.std.proofs.Common.{◌≡◌, ℕ, ◌+◌, ◌≤◌, ◌<◌, List,
 use Rattle.std.proofs.lemmas.List.{take-append-le, drop-append-le}
 use Rattle.exact_read.specs.Reading as reading
 use Rattle.exact_read.specs.Grammar.{at_end}
-use Rattle.cert_spec.specs.Lines as spec
-use Rattle.cert_spec.specs.Certificates as certificates
-use Rattle.cert_laws.specs.Readers.{given, refused, read_items}
-use Rattle.cert_laws.specs.Lines.{read_line, read_certificate}
-use Rattle.cert_laws.specs.Going.{ItemsLeft}
-use Rattle.cert_laws.proofs.Bytes.{simply-exact}
-use Rattle.cert_laws.proofs.Loops.{items-start, items-step, items-fault, items-end}
-use Rattle.cert_laws.proofs.Lines.{line_read}
-use Rattle.cert_laws.proofs.Certificates.{line_shorter}
-use Rattle.cert_cursor.specs.declared.stopped.Stopped.{Stopped}
-use Rattle.cert_cursor.specs.declared.stopped.Stopped.TheVariants.{NoMemory, Wrong}
-use Rattle.cert_cursor.specs.declared.cursor.Cursor.{Cursor}
-use Rattle.cert_lines.specs.declared.lines.Literal.{Literal}
-use Rattle.cert_lines.specs.declared.lines.Line.{Line}
-use Rattle.cert_lines.specs.declared.lines.Line.TheVariants as code
-use Rattle.cert_lines.specs.declared.keywords.Expected.{Expected}
-use Rattle.cert_lines.specs.Keywords.{expected_of}
-use Rattle.cert_lines.specs.Views.{line_of, line_at, step_of, literals_in, hints_in}
+use Rattle.cert_text_spec.specs.Lines as spec
+use Rattle.cert_text_spec.specs.Certificates as certificates
+use Rattle.cert_text_laws.specs.Readers.{given, refused, read_items}
+use Rattle.cert_text_laws.specs.Lines.{read_line, read_certificate}
+use Rattle.cert_text_laws.specs.Going.{ItemsLeft}
+use Rattle.cert_text_laws.proofs.Bytes.{simply-exact}
+use Rattle.cert_text_laws.proofs.Loops.{items-start, items-step, items-fault, items-end}
+use Rattle.cert_text_laws.proofs.Lines.{line_read}
+use Rattle.cert_text_laws.proofs.Certificates.{line_shorter}
+use Rattle.cert_text_parse.specs.declared.stopped.Stopped.{Stopped}
+use Rattle.cert_text_parse.specs.declared.stopped.Stopped.TheVariants.{NoMemory, Wrong}
+use Rattle.cert_text_parse.specs.declared.cursor.Cursor.{Cursor}
+use Rattle.cert_text_parse.specs.declared.lines.Literal.{Literal}
+use Rattle.cert_text_parse.specs.declared.lines.Line.{Line}
+use Rattle.cert_text_parse.specs.declared.lines.Line.TheVariants as code
+use Rattle.cert_text_parse.specs.declared.keywords.Expected.{Expected}
+use Rattle.cert_text_parse.specs.Keywords.{expected_of}
+use Rattle.cert_text_parse.specs.Views.{line_of, line_at, step_of, literals_in, hints_in}
 use Rattle.cert_text.specs.declared.certificates.Cert.{Cert}
 use Rattle.cert_text.specs.declared.stack.Group.{Group}
 use Rattle.cert_text.specs.Certificates.{lines_of, certificate_of, all_literals, all_hints, IsEmpty}

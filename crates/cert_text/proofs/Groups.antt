@@ -1,9 +1,9 @@
 -- What is expected, group by group.
 use Rattle.std.specs.Prelude.{replicate}
 use Rattle.std.proofs.Common.{◌≡◌, ℕ, suc, List, [], ◌∷◌, ◌++◌, length, refl, ap, sym, ◌∙◌, arith}
-use Rattle.cert_spec.specs.Certificates as spec
-use Rattle.cert_lines.specs.declared.keywords.Expected.{Expected}
-use Rattle.cert_lines.specs.Keywords.{expected_of}
+use Rattle.cert_text_spec.specs.Certificates as spec
+use Rattle.cert_text_parse.specs.declared.keywords.Expected.{Expected}
+use Rattle.cert_text_parse.specs.Keywords.{expected_of}
 use Rattle.cert_text.specs.declared.stack.Group.{Group}
 use Rattle.cert_text.specs.Stack.{group_of, stacked, stack_of}
 

@@ -1,8 +1,8 @@
 -- Reading and writing undo each other.
 use Rattle.std.proofs.Common.{Result, Ok, Err, refl, sym}
-use Rattle.cert_spec.specs.Certificates.{IsCertificate}
-use Rattle.cert_laws.proofs.Certificates.{only, same_lines}
-use Rattle.cert_laws.specs.Lines.{read_certificate}
+use Rattle.cert_text_spec.specs.Certificates.{IsCertificate}
+use Rattle.cert_text_laws.proofs.Certificates.{only, same_lines}
+use Rattle.cert_text_laws.specs.Lines.{read_certificate}
 use Rattle.cert_text.specs.declared.certificates.Cert.{Cert}
 use Rattle.cert_text.specs.declared.certificates.ReadError.{ReadError}
 use Rattle.cert_text.specs.declared.certificates.ReadError.TheVariants.{NoMemory, Refused}

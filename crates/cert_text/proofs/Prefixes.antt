@@ -1,9 +1,9 @@
 -- The first lines of a certificate.
 use Rattle.std.specs.Prelude.{take, drop}
 use Rattle.std.proofs.Common.{◌≡◌, ◌∙◌, ℕ, zero, suc, List, [], ◌∷◌, length, refl, ap}
-use Rattle.cert_lines.specs.declared.lines.Literal.{Literal}
-use Rattle.cert_lines.specs.declared.lines.Line.{Line}
-use Rattle.cert_lines.specs.Views.{line_at, literals_in, hints_in}
+use Rattle.cert_text_parse.specs.declared.lines.Literal.{Literal}
+use Rattle.cert_text_parse.specs.declared.lines.Line.{Line}
+use Rattle.cert_text_parse.specs.Views.{line_at, literals_in, hints_in}
 use Rattle.cert_text.specs.Certificates.{lines_of, text_of}
 
 -- a line takes its literals and hints, whatever comes after it

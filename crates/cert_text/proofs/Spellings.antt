@@ -1,11 +1,11 @@
 -- The text of a term, symbol by symbol.
 use Rattle.std.specs.Prelude.{pred, replicate, drop, if◌then◌else◌}
 use Rattle.std.proofs.Common.{◌≡◌, ℕ, zero, suc, ◌+◌, ◌<◌, ◌≤◌, Bool, true, false, List, [], ◌∷◌, ◌++◌, length, get_or, refl, ap, sym, ◌∙◌, subst, append_assoc, append-nil, arith, drop-cons, eqb-true, add-one}
-use Rattle.proof_spec.specs.declared.TheConstants.{NESTING_LIMIT}
-use Rattle.cert_spec.specs.declared.Symbol.{Symbol}
-use Rattle.cert_spec.specs.declared.Symbol.TheVariants as symbol
-use Rattle.cert_spec.specs.Derivation.{spelled}
-use Rattle.cert_spec.specs.Terms.{Expected, ATerm, AVariable, Arguments, after, after_first, after_argument, text_at, term_text}
+use Rattle.tv_limits.specs.declared.TheConstants.{NESTING_LIMIT}
+use Rattle.cert_text_spec.specs.declared.Symbol.{Symbol}
+use Rattle.cert_text_spec.specs.declared.Symbol.TheVariants as symbol
+use Rattle.cert_text_spec.specs.Derivation.{spelled}
+use Rattle.cert_text_spec.specs.Terms.{Expected, ATerm, AVariable, Arguments, after, after_first, after_argument, text_at, term_text}
 use Rattle.cert_text.specs.declared.terms.Going.{Going}
 use Rattle.cert_text.specs.Texts.{is_done, next_going, text_going}
 

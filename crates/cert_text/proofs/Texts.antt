@@ -3,10 +3,10 @@ use Rattle.std.specs.Prelude.{take, drop, flat_map, codes}
 use Rattle.std.proofs.Common.{◌≡◌, ℕ, suc, ◌+◌, ◌<◌, ◌≤◌, List, [], ◌∷◌, ◌++◌, length, get_or, ap, sym, ◌∙◌, append_assoc, append-nil, drop-cons, add-one}
 use Rattle.std.proofs.lemmas.List.{flat_map_more, take_more, drop_all}
 use Rattle.std.proofs.lemmas.List.Folds.{flat_map-map}
-use Rattle.cert_spec.specs.Lines as spec
-use Rattle.cert_lines.specs.declared.lines.Literal.{Literal}
-use Rattle.cert_lines.specs.declared.lines.Line.{Line}
-use Rattle.cert_lines.specs.Views.{literal_of, step_of, line_at, literals_in, hints_in}
+use Rattle.cert_text_spec.specs.Lines as spec
+use Rattle.cert_text_parse.specs.declared.lines.Literal.{Literal}
+use Rattle.cert_text_parse.specs.declared.lines.Line.{Line}
+use Rattle.cert_text_parse.specs.Views.{literal_of, step_of, line_at, literals_in, hints_in}
 use Rattle.cert_text.specs.Certificates.{lines_of, text_of}
 use Rattle.cert_text.specs.Texts.{literal_text, hint_text}
 

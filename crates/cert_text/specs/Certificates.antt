@@ -1,10 +1,10 @@
 -- Certificates of the program as those that the definitions speak of.
 use Rattle.std.specs.Prelude.{◌≡◌, ◌+◌, ℕ, List, [], ◌∷◌, drop, flat_map, Result, Ok, Err}
-use Rattle.cert_spec.specs.Lines as spec
-use Rattle.cert_spec.specs.Certificates.{IsCertificate, IsFault}
-use Rattle.cert_lines.specs.declared.lines.Literal.{Literal}
-use Rattle.cert_lines.specs.declared.lines.Line.{Line}
-use Rattle.cert_lines.specs.Views.{line_at, literals_in, hints_in}
+use Rattle.cert_text_spec.specs.Lines as spec
+use Rattle.cert_text_spec.specs.Certificates.{IsCertificate, IsFault}
+use Rattle.cert_text_parse.specs.declared.lines.Literal.{Literal}
+use Rattle.cert_text_parse.specs.declared.lines.Line.{Line}
+use Rattle.cert_text_parse.specs.Views.{line_at, literals_in, hints_in}
 use Rattle.cert_text.specs.declared.certificates.Cert.{Cert}
 use Rattle.cert_text.specs.declared.certificates.ReadError.{ReadError}
 use Rattle.cert_text.specs.declared.certificates.ReadError.TheVariants.{NoMemory, Refused}

@@ -1,8 +1,8 @@
 -- Reading and writing undo each other.
 use Rattle.std.specs.Prelude.{◌≡◌, ℕ, List, ◌∷◌, [], Ok, Err, Result}
-use Rattle.cert_spec.specs.Lines as spec
-use Rattle.cert_spec.specs.Derivation.{Derives}
-use Rattle.cert_spec.specs.Certificates.{AHeader, Fits, after}
+use Rattle.cert_text_spec.specs.Lines as spec
+use Rattle.cert_text_spec.specs.Derivation.{Derives}
+use Rattle.cert_text_spec.specs.Certificates.{AHeader, Fits, after}
 use Rattle.cert_text.specs.declared.certificates.Cert.{Cert}
 use Rattle.cert_text.specs.Certificates.{certificate_of, text_of, IsRead}
 use Rattle.cert_text.specs.declared.certificates.ReadError.{ReadError}

@@ -1,16 +1,16 @@
 -- What the steps of reading give, beside the reference parser.
 use Rattle.std.specs.Prelude.{◌≡◌, ◌≤◌, List, [], ◌∷◌, ◌++◌, length, Result, Ok, Err}
 use Rattle.exact_read.specs.Reading as reading
-use Rattle.cert_spec.specs.Lines as spec
-use Rattle.cert_spec.specs.Certificates as certificates
-use Rattle.cert_laws.specs.Readers.{Reader, given, refused}
-use Rattle.cert_laws.specs.Lines.{read_line, read_certificate}
-use Rattle.cert_cursor.specs.declared.stopped.Stopped.{Stopped}
-use Rattle.cert_cursor.specs.declared.stopped.Stopped.TheVariants.{NoMemory, Wrong}
-use Rattle.cert_cursor.specs.declared.cursor.Cursor.{Cursor}
-use Rattle.cert_lines.specs.declared.lines.Line.{Line}
-use Rattle.cert_lines.specs.Views.{line_of}
-use Rattle.cert_lines.specs.Outcomes.{IsAdded}
+use Rattle.cert_text_spec.specs.Lines as spec
+use Rattle.cert_text_spec.specs.Certificates as certificates
+use Rattle.cert_text_laws.specs.Readers.{Reader, given, refused}
+use Rattle.cert_text_laws.specs.Lines.{read_line, read_certificate}
+use Rattle.cert_text_parse.specs.declared.stopped.Stopped.{Stopped}
+use Rattle.cert_text_parse.specs.declared.stopped.Stopped.TheVariants.{NoMemory, Wrong}
+use Rattle.cert_text_parse.specs.declared.cursor.Cursor.{Cursor}
+use Rattle.cert_text_parse.specs.declared.lines.Line.{Line}
+use Rattle.cert_text_parse.specs.Views.{line_of}
+use Rattle.cert_text_parse.specs.LineOutcomes.{IsAdded}
 use Rattle.cert_text.specs.declared.certificates.Cert.{Cert}
 use Rattle.cert_text.specs.declared.stack.Group.{Group}
 use Rattle.cert_text.specs.Certificates.{certificate_of}

@@ -1,8 +1,8 @@
 -- What is expected, as the program keeps it: groups of the same, the first of them last.
 use Rattle.std.specs.Prelude.{◌≡◌, suc, List, [], ◌∷◌, ◌++◌, replicate, Option, Some, None}
-use Rattle.cert_spec.specs.Certificates as spec
-use Rattle.cert_lines.specs.declared.keywords.Expected.{Expected}
-use Rattle.cert_lines.specs.Keywords.{expected_of}
+use Rattle.cert_text_spec.specs.Certificates as spec
+use Rattle.cert_text_parse.specs.declared.keywords.Expected.{Expected}
+use Rattle.cert_text_parse.specs.Keywords.{expected_of}
 use Rattle.cert_text.specs.declared.stack.Group.{Group}
 
 abbrev pub group_of : Group → List spec.Expected

@@ -1,14 +1,14 @@
 -- The texts of the parts of lines, from the values of the program.
 use Rattle.std.specs.Prelude.{◌≡◌, ℕ, suc, pred, ◌==◌, ◌&&◌, not, Bool, true, false, if◌then◌else◌, List, [], ◌++◌, take, drop, Option, Some, None, codes, decimal}
-use Rattle.cert_spec.specs.declared.Symbol.{Symbol}
-use Rattle.cert_spec.specs.declared.Symbol.TheVariants as symbol
-use Rattle.cert_spec.specs.Points.{address_text}
-use Rattle.cert_spec.specs.Terms.{symbol_text, argument_text}
-use Rattle.cert_spec.specs.Lines as spec
-use Rattle.cert_lines.specs.declared.lines.Literal.{Literal}
-use Rattle.cert_lines.specs.declared.lines.Line.{Line}
-use Rattle.cert_lines.specs.declared.lines.Line.TheVariants as code
-use Rattle.cert_lines.specs.Views.{literal_of, step_of, literals_in, hints_in}
+use Rattle.cert_text_spec.specs.declared.Symbol.{Symbol}
+use Rattle.cert_text_spec.specs.declared.Symbol.TheVariants as symbol
+use Rattle.cert_text_spec.specs.Points.{address_text}
+use Rattle.cert_text_spec.specs.Terms.{symbol_text, argument_text}
+use Rattle.cert_text_spec.specs.Lines as spec
+use Rattle.cert_text_parse.specs.declared.lines.Literal.{Literal}
+use Rattle.cert_text_parse.specs.declared.lines.Line.{Line}
+use Rattle.cert_text_parse.specs.declared.lines.Line.TheVariants as code
+use Rattle.cert_text_parse.specs.Views.{literal_of, step_of, literals_in, hints_in}
 use Rattle.cert_text.specs.declared.terms.Going.{Going}
 use Rattle.cert_text.specs.declared.writing.Left.{Left}
 

@@ -1,6 +1,6 @@
 //! A certificate.
 
-use cert_lines::{Line, Logs};
+use cert_text_parse::{Line, Logs};
 
 /// A certificate: its lines, and the literals and hints of their logs.
 #[derive(Drop)]

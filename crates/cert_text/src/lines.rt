@@ -2,17 +2,17 @@
 
 ghost use Rattle.std.specs.Prelude.{◌≡◌, ◌++◌, OnOk, codes, true};
 ghost use Rattle.proof_tree.specs.Proofs.{binary_point_of, points_of, source_point_of};
-ghost use Rattle.cert_spec.specs.Lines as spec;
-ghost use Rattle.cert_spec.specs.Terms.{term_text};
-ghost use Rattle.cert_lines.specs.Views.{line_of};
+ghost use Rattle.cert_text_spec.specs.Lines as spec;
+ghost use Rattle.cert_text_spec.specs.Terms.{term_text};
+ghost use Rattle.cert_text_parse.specs.Views.{line_of};
 ghost use Rattle.cert_text.specs.Texts.{is_cut, is_short};
 
 use crate::numbers::{push_counts, push_number};
 use crate::points::{push_binary, push_points, push_source};
 use crate::terms::push_term;
 use attempt::attempt;
-use cert_lines::{BinaryRestriction, Call, Line, Part, SourceRestriction, Split};
-use cert_spec::Symbol;
+use cert_text_parse::{BinaryRestriction, Call, Line, Part, SourceRestriction, Split};
+use cert_text_spec::Symbol;
 use proof_tree::{BinaryPoint, SourcePoint};
 use std::alloc::{AllocError, Global};
 

@@ -1,12 +1,12 @@
 //! Numbers and addresses as text.
 
 ghost use Rattle.std.specs.Prelude.{◌≡◌, ◌++◌, OnOk, decimal};
-ghost use Rattle.cert_spec.specs.Points.{address_text};
-ghost use Rattle.cert_spec.specs.Lines.{counts_text};
+ghost use Rattle.cert_text_spec.specs.Points.{address_text};
+ghost use Rattle.cert_text_spec.specs.Lines.{counts_text};
 
 use attempt::attempt;
 use itoa::Buffer;
-use proof_spec::Counts;
+use proof_tree_spec::Counts;
 use std::alloc::{AllocError, Global};
 
 /// Adds a number, and what ends it.

@@ -1,15 +1,15 @@
 //! Points as text.
 
 ghost use Rattle.std.specs.Prelude.{◌≡◌, ◌++◌, OnOk, decimal, flat_map};
-ghost use Rattle.cert_spec.specs.Points.{binary_text, place_text, source_text};
-ghost use Rattle.cert_spec.specs.Lines.{points_text};
+ghost use Rattle.cert_text_spec.specs.Points.{binary_text, place_text, source_text};
+ghost use Rattle.cert_text_spec.specs.Lines.{points_text};
 ghost use Rattle.proof_tree.specs.Proofs.{binary_point_of, points_of, source_point_of};
 ghost use Rattle.cert_text.specs.Texts.{inlined_address, inlined_call};
 
 use crate::numbers::{push_address, push_number};
 use attempt::attempt;
-use proof_spec::Place;
 use proof_tree::{BinaryPoint, Points, SourcePoint};
+use proof_tree_spec::Place;
 use std::alloc::{AllocError, Global};
 
 // Adds the addresses of the calls of a path.

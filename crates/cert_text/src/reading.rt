@@ -1,10 +1,10 @@
 //! Bytes to a certificate.
 
 ghost use Rattle.std.specs.Prelude.{◌∷◌, []};
-ghost use Rattle.cert_spec.specs.Certificates.{AHeader, after};
-ghost use Rattle.cert_laws.specs.Lines as lines;
-ghost use Rattle.cert_laws.specs.Readers.{read_items};
-ghost use Rattle.cert_lines.specs.Keywords.{expected_of};
+ghost use Rattle.cert_text_spec.specs.Certificates.{AHeader, after};
+ghost use Rattle.cert_text_laws.specs.Lines as lines;
+ghost use Rattle.cert_text_laws.specs.Readers.{read_items};
+ghost use Rattle.cert_text_parse.specs.Keywords.{expected_of};
 ghost use Rattle.cert_text.specs.Certificates.{IsEmpty, IsRead};
 ghost use Rattle.cert_text.specs.Outcomes.{AddsOne, ReadsLines, ReadsWhole};
 ghost use Rattle.cert_text.specs.Stack.{stack_of};
@@ -13,8 +13,7 @@ use crate::certificates::{Cert, ReadError};
 use crate::sizes::empty;
 use crate::stack::{Group, next_expected, push_after, push_expected};
 use attempt::attempt;
-use cert_cursor::{Cursor, Stopped};
-use cert_lines::{Expected, next_line};
+use cert_text_parse::{Cursor, Expected, Stopped, next_line};
 use std::alloc::Global;
 
 // A line where this is expected is added to the certificate, and what is expected after it to the

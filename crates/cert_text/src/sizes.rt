@@ -6,7 +6,7 @@ ghost use Rattle.cert_text.specs.Certificates.{IsEmpty};
 
 use crate::certificates::Cert;
 use attempt::attempt;
-use cert_lines::Logs;
+use cert_text_parse::Logs;
 use std::alloc::{AllocError, Global};
 
 /// Where in a line a byte is.

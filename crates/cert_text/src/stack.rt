@@ -1,15 +1,15 @@
 //! What is expected in a certificate.
 
 ghost use Rattle.std.specs.Prelude.{◌≡◌, ◌++◌, ◌∷◌, ◌-◌, IfOk, OnOk, replicate};
-ghost use Rattle.cert_spec.specs.Certificates as spec;
-ghost use Rattle.cert_lines.specs.Keywords.{expected_of};
-ghost use Rattle.cert_lines.specs.Views.{line_of};
+ghost use Rattle.cert_text_spec.specs.Certificates as spec;
+ghost use Rattle.cert_text_parse.specs.Keywords.{expected_of};
+ghost use Rattle.cert_text_parse.specs.Views.{line_of};
 ghost use Rattle.cert_text.specs.Stack.{IsNext, stack_of};
 
 use attempt::attempt;
-use cert_lines::{Expected, Line};
-use proof_spec::NESTING_LIMIT;
+use cert_text_parse::{Expected, Line};
 use std::alloc::AllocError;
+use tv_limits::NESTING_LIMIT;
 
 /// Lines of one kind, one after the other.
 #[derive(Clone, Copy)]

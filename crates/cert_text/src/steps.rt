@@ -1,13 +1,13 @@
 //! Steps of logs as text.
 
 ghost use Rattle.std.specs.Prelude.{◌≡◌, ◌++◌, OnOk, flat_map};
-ghost use Rattle.cert_spec.specs.Lines.{line_text};
-ghost use Rattle.cert_lines.specs.Views.{step_of};
+ghost use Rattle.cert_text_spec.specs.Lines.{line_text};
+ghost use Rattle.cert_text_parse.specs.Views.{step_of};
 ghost use Rattle.cert_text.specs.Texts.{hint_text, literal_text};
 
 use crate::numbers::push_number;
 use attempt::attempt;
-use cert_lines::Literal;
+use cert_text_parse::Literal;
 use std::alloc::AllocError;
 
 // Adds a literal, and a space.

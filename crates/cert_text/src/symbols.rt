@@ -2,14 +2,14 @@
 
 ghost use Rattle.std.specs.Prelude.{◌≡◌, ◌++◌, OnOk};
 ghost use Rattle.std.specs.Option.{option_map};
-ghost use Rattle.cert_spec.specs.Terms as terms;
+ghost use Rattle.cert_text_spec.specs.Terms as terms;
 ghost use Rattle.cert_text.specs.Texts.{optional_text};
 
 use crate::numbers::push_number;
 use attempt::attempt;
-use cert_spec::{Operator, Symbol};
+use cert_text_spec::{Operator, Symbol};
 use std::alloc::AllocError;
-use term_spec::Width;
+use term_core_spec::Width;
 
 // The word of an operator.
 fn operator_word(operator: Operator) -> &'static [u8]

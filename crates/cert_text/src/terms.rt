@@ -1,12 +1,12 @@
 //! Terms as text.
 
 ghost use Rattle.std.specs.Prelude.{◌≡◌, ◌++◌, ◌-◌, ◌<◌, ◌^◌, OnOk};
-ghost use Rattle.cert_spec.specs.Terms as terms;
+ghost use Rattle.cert_text_spec.specs.Terms as terms;
 ghost use Rattle.cert_text.specs.Texts.{is_close, is_done, next_going, text_going};
 
 use crate::symbols::push_symbol;
 use attempt::attempt;
-use cert_spec::Symbol;
+use cert_text_spec::Symbol;
 use std::alloc::AllocError;
 
 /// Where in a term a symbol is.

@@ -1,8 +1,8 @@
 //! A certificate to bytes.
 
 ghost use Rattle.std.specs.Prelude.{◌≡◌, ◌++◌, IfOk, OnOk};
-ghost use Rattle.cert_spec.specs.Lines.{line_text};
-ghost use Rattle.cert_lines.specs.Views.{line_at};
+ghost use Rattle.cert_text_spec.specs.Lines.{line_text};
+ghost use Rattle.cert_text_parse.specs.Views.{line_at};
 ghost use Rattle.cert_text.specs.Certificates.{certificate_of, lines_of, text_of};
 ghost use Rattle.cert_text.specs.Texts.{AreLeft, IsAfter, step_next};
 
@@ -10,7 +10,7 @@ use crate::certificates::Cert;
 use crate::lines::push_line;
 use crate::steps::push_step;
 use attempt::attempt;
-use cert_lines::{Line, Literal};
+use cert_text_parse::{Line, Literal};
 use std::alloc::{AllocError, Global};
 
 /// The literals and hints that are left.

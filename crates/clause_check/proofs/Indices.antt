@@ -4,9 +4,9 @@ use Rattle.std.specs.Prelude.{slice_get, if◌then◌else◌, ◌==◌}
 use Rattle.std.specs.List.{list_all}
 use Rattle.std.proofs.lemmas.Option.{slice_get_within, get_or_from_slice_get}
 use Rattle.std.proofs.lemmas.List.Sums.{AllPass-from_list_all}
-use Rattle.clause_spec.specs.declared.Literal.{Literal}
-use Rattle.clause_spec.specs.Clause.{Clause, is_of, are_of}
-use Rattle.clause_spec.specs.Step.{Missing, finding_of, finding_at}
+use Rattle.clause_check_spec.specs.declared.Literal.{Literal}
+use Rattle.clause_check_spec.specs.Clause.{Clause, is_of, are_of}
+use Rattle.clause_check_spec.specs.Step.{Missing, finding_of, finding_at}
 
 -- its literals are of the variables
 pub named_at : (variables : ℕ) (clauses : List Clause) (index : ℕ) (clause : Clause) → are_of variables clauses ≡ true

@@ -6,10 +6,10 @@ use Rattle.std.proofs.lemmas.List.{take-append-le, take-append-drop}
 use Rattle.std.proofs.lemmas.List.Folds.{list_all-append}
 use Rattle.std.proofs.lemmas.List.Sums.{AllPass-from_list_all}
 use Rattle.std.proofs.lemmas.Option.{slice_get_within, get_or_from_slice_get}
-use Rattle.clause_spec.specs.declared.Literal.{Literal}
-use Rattle.clause_spec.specs.Clause.{Clause, Valuation, is_of, are_of, satisfies_clause, satisfies}
-use Rattle.clause_spec.specs.Step.{Follows, are_fit, are_apart, outcome}
-use Rattle.clause_spec.proofs.Sound.{outcome_sound}
+use Rattle.clause_check_spec.specs.declared.Literal.{Literal}
+use Rattle.clause_check_spec.specs.Clause.{Clause, Valuation, is_of, are_of, satisfies_clause, satisfies}
+use Rattle.clause_check_spec.specs.Step.{Follows, are_fit, are_apart, outcome}
+use Rattle.clause_check_spec.proofs.Sound.{outcome_sound}
 use Rattle.clause_check.specs.Logged.{Logged, clauses_of}
 use Rattle.clause_check.specs.Kept.{IsKept}
 use Rattle.clause_check.proofs.Propagation.{unfit_outcome}

@@ -4,9 +4,9 @@ use Rattle.std.specs.Prelude.{◌==◌, ◌&&◌, ◌||◌, not, is_some}
 use Rattle.std.specs.List.{list_any, list_all}
 use Rattle.std.proofs.lemmas.List.{map_push, take_more, take-append-drop}
 use Rattle.std.proofs.lemmas.List.Folds.{list_any-append, list_all-append}
-use Rattle.clause_spec.specs.declared.Literal.{Literal}
-use Rattle.clause_spec.specs.Clause.{is_of, negation, same_sign, same_literal}
-use Rattle.clause_spec.specs.Step.{is_true, are_apart, are_fit}
+use Rattle.clause_check_spec.specs.declared.Literal.{Literal}
+use Rattle.clause_check_spec.specs.Clause.{is_of, negation, same_sign, same_literal}
+use Rattle.clause_check_spec.specs.Step.{is_true, are_apart, are_fit}
 use Rattle.clause_check.specs.Signs.{is_sign, sign_of, Reports}
 
 -- ---- one more true literal

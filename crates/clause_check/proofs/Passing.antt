@@ -5,9 +5,9 @@ use Rattle.std.specs.List.{list_any, list_all}
 use Rattle.std.proofs.lemmas.List.{drop_more, drop_all}
 use Rattle.std.proofs.lemmas.List.Folds.{list_any-append}
 use Rattle.std.proofs.lemmas.List.Elements.{filter-append}
-use Rattle.clause_spec.specs.declared.Literal.{Literal}
-use Rattle.clause_spec.specs.Clause.{Clause, is_of}
-use Rattle.clause_spec.specs.Step.{Holds, Forces, Fails, is_true, found_among, finding}
+use Rattle.clause_check_spec.specs.declared.Literal.{Literal}
+use Rattle.clause_check_spec.specs.Clause.{Clause, is_of}
+use Rattle.clause_check_spec.specs.Step.{Holds, Forces, Fails, is_true, found_among, finding}
 use Rattle.clause_check.specs.Signs.{is_sign, sign_of, Reports}
 use Rattle.clause_check.proofs.Indices.{literal_named}
 use Rattle.clause_check.proofs.Reported.{not_false, true_by_sign, not_false_by_sign, not_true_by_false}

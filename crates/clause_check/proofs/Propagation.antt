@@ -2,11 +2,11 @@
 use Rattle.std.proofs.Common.{◌≡◌, ◌<◌, ◌≤◌, ◌+◌, ◌-◌, ℕ, suc, Bool, true, false, List, [], ◌∷◌, ◌++◌, length, get_or, drop, Result, Option, refl, ap, sym, ◌∙◌, arith, length-drop}
 use Rattle.std.specs.Prelude.{◌==◌, if◌then◌else◌, map}
 use Rattle.std.proofs.lemmas.List.{drop_more, drop_all}
-use Rattle.clause_spec.specs.declared.Literal.{Literal}
-use Rattle.clause_spec.specs.declared.StepFaultKind.{StepFaultKind}
-use Rattle.clause_spec.specs.declared.StepFaultKind.TheVariants.{Literals, Open}
-use Rattle.clause_spec.specs.Clause.{Clause, negation}
-use Rattle.clause_spec.specs.Step.{Finding, Outcome, Refused, outcome_of, is_nothing, finding_at, propagate, are_fit, outcome}
+use Rattle.clause_check_spec.specs.declared.Literal.{Literal}
+use Rattle.clause_check_spec.specs.declared.StepFaultKind.{StepFaultKind}
+use Rattle.clause_check_spec.specs.declared.StepFaultKind.TheVariants.{Literals, Open}
+use Rattle.clause_check_spec.specs.Clause.{Clause, negation}
+use Rattle.clause_check_spec.specs.Step.{Finding, Outcome, Refused, outcome_of, is_nothing, finding_at, propagate, are_fit, outcome}
 use Rattle.clause_check.specs.Answers.{outcome_after}
 
 nothing_left : (xs : List ℕ) → is_nothing xs ≡ (length xs == 0)

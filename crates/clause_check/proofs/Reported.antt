@@ -5,9 +5,9 @@ use Rattle.std.specs.List.{list_any}
 use Rattle.std.proofs.lemmas.List.Folds.{list_any-append}
 use Rattle.std.proofs.lemmas.List.{append-nil}
 use Rattle.std.proofs.lemmas.List.Elements.{filter-append}
-use Rattle.clause_spec.specs.declared.Literal.{Literal}
-use Rattle.clause_spec.specs.Clause.{Clause, is_of, negation}
-use Rattle.clause_spec.specs.Step.{is_true, is_false, Finding, Holds, found_among, finding}
+use Rattle.clause_check_spec.specs.declared.Literal.{Literal}
+use Rattle.clause_check_spec.specs.Clause.{Clause, is_of, negation}
+use Rattle.clause_check_spec.specs.Step.{is_true, is_false, Finding, Holds, found_among, finding}
 use Rattle.clause_check.specs.Signs.{is_sign, sign_of, Reports}
 
 abbrev pub not_false : List Literal → Literal → Bool

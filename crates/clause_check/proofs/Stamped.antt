@@ -5,8 +5,8 @@ use Rattle.std.specs.Int.{from_bool}
 use Rattle.std.proofs.lemmas.Bool.{eqb-true, ne_eqb, eq-eqb}
 use Rattle.std.proofs.lemmas.Grind.{common_steps}
 use Rattle.std.proofs.lemmas.List.{length-replicate}
-use Rattle.clause_spec.specs.declared.Literal.{Literal}
-use Rattle.clause_spec.specs.Clause.{is_of, negation}
+use Rattle.clause_check_spec.specs.declared.Literal.{Literal}
+use Rattle.clause_check_spec.specs.Clause.{is_of, negation}
 use Rattle.cnf_core.specs.Codes.{code_of}
 use Rattle.clause_check.specs.Signs.{is_sign, sign_of}
 use Rattle.clause_check.specs.Stamps.{sign_by, signs_in, AreApart, AreStamps}

@@ -1,9 +1,9 @@
 -- What the code's answers say of a step.
 use Rattle.std.specs.Prelude.{◌≡◌, ℕ, Bool, true, List, length, Option, Some, None, Result, Ok, Err}
-use Rattle.clause_spec.specs.declared.Literal.{Literal}
-use Rattle.clause_spec.specs.declared.StepFaultKind.{StepFaultKind}
-use Rattle.clause_spec.specs.Clause.{is_of}
-use Rattle.clause_spec.specs.Step as spec
+use Rattle.clause_check_spec.specs.declared.Literal.{Literal}
+use Rattle.clause_check_spec.specs.declared.StepFaultKind.{StepFaultKind}
+use Rattle.clause_check_spec.specs.Clause.{is_of}
+use Rattle.clause_check_spec.specs.Step as spec
 use Rattle.clause_check.specs.Signs.{sign_of}
 use Rattle.clause_check.specs.declared.hints.Finding.{Finding}
 use Rattle.clause_check.specs.declared.hints.Finding.TheVariants.{Missing, Holds, Several, Forces, Fails}

@@ -1,6 +1,6 @@
 -- A log as contracts see it.
 use Rattle.std.specs.Prelude.{ℕ, List, ◌++◌}
-use Rattle.clause_spec.specs.Clause.{Clause, Cnf}
+use Rattle.clause_check_spec.specs.Clause.{Clause, Cnf}
 
 pub record Logged : Type 0 where
   -- the clauses that it began with

@@ -1,8 +1,8 @@
 -- Which literals are true, as a sign for each variable: whether its true literal is the negation, or none.
 use Rattle.std.specs.Prelude.{◌≡◌, ◌-◌, Bool, true, false, List, length, get_or, Option, Some, None}
-use Rattle.clause_spec.specs.declared.Literal.{Literal}
-use Rattle.clause_spec.specs.Clause.{is_of, same_sign}
-use Rattle.clause_spec.specs.Step.{is_true}
+use Rattle.clause_check_spec.specs.declared.Literal.{Literal}
+use Rattle.clause_check_spec.specs.Clause.{is_of, same_sign}
+use Rattle.clause_check_spec.specs.Step.{is_true}
 
 abbrev pub is_sign : Option Bool → Bool → Bool
 is_sign None is_negated = false

@@ -2,15 +2,15 @@ ghost use Rattle.std.specs.Prelude.{◌≡◌, ◌+◌, ◌-◌, ◌++◌, ◌�
 ghost use Rattle.std.specs.Prelude.{map, replicate, true, None, Some, IsTrue, drop, not};
 ghost use Rattle.std.specs.Prelude.{◌≤◌, slice_get, false};
 ghost use Rattle.std.specs.List.{list_all};
-ghost use Rattle.clause_spec.specs.Clause as spec;
-ghost use Rattle.clause_spec.specs.Step as step;
-ghost use Rattle.clause_spec.specs.declared.Literal.{Literal as Lit};
+ghost use Rattle.clause_check_spec.specs.Clause as spec;
+ghost use Rattle.clause_check_spec.specs.Step as step;
+ghost use Rattle.clause_check_spec.specs.declared.Literal.{Literal as Lit};
 ghost use Rattle.clause_check.specs.Signs.{Reports, is_sign, sign_of};
 ghost use Rattle.clause_check.specs.Answers.{reported, outcome_of, outcome_after, IsOpen};
 ghost use Rattle.clause_check.specs.Answers.{IsOpenAfter};
 
 use crate::stamps::Stamps;
-use clause_spec::StepFaultKind;
+use clause_check_spec::StepFaultKind;
 use cnf_core::{ClauseList, Literal, negation};
 use thiserror::Error;
 

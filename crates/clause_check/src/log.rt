@@ -1,8 +1,8 @@
 ghost use Rattle.std.specs.Prelude.{◌≡◌, ◌+◌, ◌-◌, ◌≤◌, ◌++◌, ◌∷◌, ◌↔◌, ℕ, [], length, slice_get};
 ghost use Rattle.std.specs.Prelude.{false, Some, Err, IfOk, OnOk, OnErr, IsOk, IsTrue};
-ghost use Rattle.clause_spec.specs.Clause.{Valuation, satisfies};
-ghost use Rattle.clause_spec.specs.Step.{outcome, Follows, Refused};
-ghost use Rattle.clause_spec.specs.declared.StepFaultKind.{StepFaultKind};
+ghost use Rattle.clause_check_spec.specs.Clause.{Valuation, satisfies};
+ghost use Rattle.clause_check_spec.specs.Step.{outcome, Follows, Refused};
+ghost use Rattle.clause_check_spec.specs.declared.StepFaultKind.{StepFaultKind};
 ghost use Rattle.clause_check.specs.Logged.{clauses_of};
 ghost use Rattle.clause_check.specs.declared.hints.StepFault.{StepFault};
 

@@ -1,6 +1,6 @@
 ghost use Rattle.std.specs.Prelude.{◌≡◌, ◌-◌, ◌<◌, ◌≤◌, length, replicate, not, true, None, Some};
 ghost use Rattle.std.specs.Prelude.{is_some, IfOk, slice_set, All};
-ghost use Rattle.clause_spec.specs.Clause.{is_of};
+ghost use Rattle.clause_check_spec.specs.Clause.{is_of};
 ghost use Rattle.clause_check.specs.Signs.{is_sign, sign_of};
 
 use cnf_core::{Literal, negation};

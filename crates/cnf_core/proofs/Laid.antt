@@ -3,7 +3,7 @@ use Rattle.std.proofs.Common.{◌≡◌, ◌≤◌, ◌-◌, ◌++◌, ℕ, zero
 use Rattle.std.specs.Prelude.{slice_get, slice_range}
 use Rattle.std.proofs.lemmas.List.{length-drop, length-append, take-append-le, drop-append-le, take_all}
 use Rattle.std.proofs.Math.Seq.{drop-append_seam}
-use Rattle.clause_spec.specs.declared.Literal.{Literal}
+use Rattle.clause_check_spec.specs.declared.Literal.{Literal}
 use Rattle.cnf_core.specs.Laid.{clauses_from, clauses_in, start_of, AreEnds}
 
 -- ---- indices

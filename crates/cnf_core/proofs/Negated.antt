@@ -3,7 +3,7 @@ use Rattle.std.proofs.Common.{◌≡◌, ◌<◌, ◌/◌, ◌%◌, ℕ, zero, s
 use Rattle.std.specs.Prelude.{◌==◌, not}
 use Rattle.std.proofs.lemmas.Nat.{xor_shr, xor_mod}
 use lib.Bits.{bit_xor, xor_zero_r}
-use Rattle.clause_spec.specs.Clause.{negation}
+use Rattle.clause_check_spec.specs.Clause.{negation}
 use Rattle.cnf_core.specs.Codes.{literal_at}
 
 other_digit : (rest : ℕ) → rest < 2 → (bit_xor rest 1 == 1) ≡ not (rest == 1)

@@ -1,7 +1,7 @@
 -- Clauses in one list of literals, with the offsets at which they end.
 use Rattle.std.specs.Prelude.{◌≡◌, ◌≤◌, ℕ, zero, suc, get_or, List, [], ◌∷◌, slice_range}
-use Rattle.clause_spec.specs.declared.Literal.{Literal}
-use Rattle.clause_spec.specs.Clause.{Clause}
+use Rattle.clause_check_spec.specs.declared.Literal.{Literal}
+use Rattle.clause_check_spec.specs.Clause.{Clause}
 
 -- the clauses that begin at an offset
 abbrev pub clauses_from : (from : ℕ) → List Literal → List ℕ → List Clause

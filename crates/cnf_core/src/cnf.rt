@@ -2,7 +2,7 @@ ghost use Rattle.std.specs.Prelude.{◌≡◌, ◌==◌, ◌+◌, ◌-◌, ◌^�
 ghost use Rattle.std.specs.Prelude.{slice_get, true, IfSome, OnOk, OnErr};
 ghost use Rattle.std.specs.List.{list_all};
 ghost use Rattle.std.specs.Option.{option_map};
-ghost use Rattle.clause_spec.specs.Clause as spec;
+ghost use Rattle.clause_check_spec.specs.Clause as spec;
 
 use crate::{ClauseList, Literal};
 use std::alloc::{AllocError, Global};
@@ -17,7 +17,7 @@ pub struct Cnf {
 
 impl Model for Cnf {
     ghost use Rattle.std.specs.Prelude.{◌≡◌, true};
-    ghost use Rattle.clause_spec.specs.Clause.{Cnf as cnf, are_of};
+    ghost use Rattle.clause_check_spec.specs.Clause.{Cnf as cnf, are_of};
 
     ghost Value = { cnf };
 

@@ -1,6 +1,6 @@
 ghost use Rattle.std.specs.Prelude.{◌≡◌, true, length};
 ghost use Rattle.std.specs.List.{list_all};
-ghost use Rattle.clause_spec.specs.Clause as spec;
+ghost use Rattle.clause_check_spec.specs.Clause as spec;
 ghost use Rattle.cnf_core.specs.Bits.{valuation};
 
 use crate::{Cnf, Literal};

@@ -1,6 +1,6 @@
 //! Clauses over numbered variables.
 //!
-//! The main type is [`Cnf`], which a contract sees as the clauses of `clause_spec`
+//! The main type is [`Cnf`], which a contract sees as the clauses of `clause_check_spec`
 //! (`specs/Clause.antt`), over a [`ClauseList`]: four bytes a [`Literal`], which a contract sees as
 //! a variable and a sign. [`eval`] says whether an assignment satisfies all clauses.
 #![tactic(auto)]

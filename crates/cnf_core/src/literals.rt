@@ -1,5 +1,5 @@
 ghost use Rattle.std.specs.Prelude.{◌≡◌, ◌+◌, ◌<◌, ◌≤◌, ◌^◌, ◌↔◌, IsSome, IfSome};
-ghost use Rattle.clause_spec.specs.Clause as spec;
+ghost use Rattle.clause_check_spec.specs.Clause as spec;
 ghost use Rattle.cnf_core.specs.Codes.{code_of};
 
 use std::marker::Model;
@@ -16,7 +16,7 @@ pub struct Literal {
 }
 
 impl Model for Literal {
-    ghost use Rattle.clause_spec.specs.declared.Literal.{Literal as literal};
+    ghost use Rattle.clause_check_spec.specs.declared.Literal.{Literal as literal};
     ghost use Rattle.cnf_core.specs.Codes.{code_of, literal_at, code_of-literal_at};
 
     ghost Value = { literal };

@@ -1,8 +1,8 @@
 -- Where a cycle of calls is reached there is no stack.
 use Rattle.std.proofs.Common.{◌≡◌, ◌⊎◌, ℕ, refl, subst, inl, inr}
 use Rattle.std.specs.Prelude.{Option, Some, None, IfSome}
-use Rattle.elf_spec.specs.Image.{Image, size_at}
-use Rattle.code_spec.specs.Code.{CallsOn, Reaches, itself, further, IsStack, IsCyclic, deep}
+use Rattle.elf_read_spec.specs.Image.{Image, size_at}
+use Rattle.code_reach_spec.specs.Code.{CallsOn, Reaches, itself, further, IsStack, IsCyclic, deep}
 use Rattle.code_reach.specs.Found.{IsDepth}
 
 -- the function calls another one, from which a third is reached

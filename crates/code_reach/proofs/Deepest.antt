@@ -4,9 +4,9 @@ use Rattle.std.specs.Prelude.{Contains, All}
 use Rattle.std.proofs.lemmas.Bool.{cases_lt}
 use Rattle.std.proofs.lemmas.List.{get_or_default}
 use Rattle.std.proofs.lemmas.List.Elements.{Contains-get_or}
-use Rattle.elf_spec.specs.Image.{Image}
-use Rattle.code_spec.specs.declared.CodeKind.{CodeKind}
-use Rattle.code_spec.specs.Code.{IsGreatest, IsRangeFault}
+use Rattle.elf_read_spec.specs.Image.{Image}
+use Rattle.code_reach_spec.specs.declared.CodeKind.{CodeKind}
+use Rattle.code_reach_spec.specs.Code.{IsGreatest, IsRangeFault}
 use Rattle.code_reach.specs.Growth.{AreReached}
 use Rattle.code_reach.specs.Surveys.{CallsOut}
 use Rattle.code_reach.specs.Stacks.{Known, known_or_zero, AreCalls, IsDeepest}

@@ -6,9 +6,9 @@ use Rattle.std.proofs.lemmas.List.{append-nil}
 use Rattle.std.proofs.lemmas.List.Elements.{Contains-append_left, Contains-append_right, Contains-append_cases, Contains-push}
 use Rattle.indexmap.specs.IndexSet.{insert_key}
 use Rattle.indexmap.proofs.CallerLemmas.{Contains-list_any}
-use Rattle.elf_spec.specs.Image.{Image}
-use Rattle.code_spec.specs.Code.{InRange, aligned, Flow, nexts_of}
-use Rattle.code_spec.specs.Faults.{direct_flow}
+use Rattle.elf_read_spec.specs.Image.{Image}
+use Rattle.code_reach_spec.specs.Code.{InRange, aligned, Flow, nexts_of}
+use Rattle.code_reach_spec.specs.Faults.{direct_flow}
 use Rattle.code_reach.specs.Growth.{Grows, IsInside, GoesTo}
 use Rattle.code_reach.specs.Flows.{in_range}
 

@@ -6,12 +6,12 @@ use Rattle.std.proofs.lemmas.List.Elements.{All-nil, All-push, Contains-get_or}
 use Rattle.std.proofs.lemmas.Bool.{leb-true, leb-false}
 use Rattle.std.specs.List.Sorted.{IsStrictlyIncreasing}
 use Rattle.std.proofs.lemmas.Map.Keys.{non_decreasing_from_sorted, sorted_from_strictly_increasing}
-use Rattle.elf_spec.specs.Image.{Image, size_at}
-use Rattle.code_spec.specs.declared.CodeKind.{CodeKind}
-use Rattle.code_spec.specs.Code.{HasCode, IsRangeFault, empty, writable, misplaced}
-use Rattle.code_spec.specs.Code.{word_at}
-use Rattle.code_spec.specs.Faults.{IsDirectlyReachable, IsInstructionFault, IsFunctionFault, of_range, of_instruction, HasNoFault, IsFirst, rank}
-use Rattle.code_spec.proofs.Direct.{reachable-direct, direct-reachable}
+use Rattle.elf_read_spec.specs.Image.{Image, size_at}
+use Rattle.code_reach_spec.specs.declared.CodeKind.{CodeKind}
+use Rattle.code_reach_spec.specs.Code.{HasCode, IsRangeFault, empty, writable, misplaced}
+use Rattle.code_reach_spec.specs.Code.{word_at}
+use Rattle.code_reach_spec.specs.Faults.{IsDirectlyReachable, IsInstructionFault, IsFunctionFault, of_range, of_instruction, HasNoFault, IsFirst, rank}
+use Rattle.code_reach_spec.proofs.Direct.{reachable-direct, direct-reachable}
 use Rattle.code_reach.specs.Flows.{fault_at}
 use Rattle.code_reach.specs.Growth.{IsPlace, AreReached}
 use Rattle.code_reach.specs.Listing.{AreWords, IsStop, IsListingError}

@@ -4,10 +4,10 @@ use Rattle.std.specs.Prelude.{Some}
 use Rattle.std.specs.List.Sorted.{IsStrictlyIncreasing}
 use Rattle.std.proofs.lemmas.Bool.{cases_lt}
 use Rattle.std.proofs.lemmas.Map.Keys.{below_from_sorted, sorted_from_strictly_increasing, non_decreasing_from_sorted}
-use Rattle.elf_spec.specs.Image.{Image, size_at}
-use Rattle.code_spec.specs.declared.CodeKind.{CodeKind}
-use Rattle.code_spec.specs.declared.CodeKind.TheVariants.{Overlap}
-use Rattle.code_spec.specs.Faults.{IsFirst, rank}
+use Rattle.elf_read_spec.specs.Image.{Image, size_at}
+use Rattle.code_reach_spec.specs.declared.CodeKind.{CodeKind}
+use Rattle.code_reach_spec.specs.declared.CodeKind.TheVariants.{Overlap}
+use Rattle.code_reach_spec.specs.Faults.{IsFirst, rank}
 use Rattle.code_reach.specs.Surveys.{OverlapsAt, IsOverlap}
 
 -- a range of one of the first so many ends there

@@ -6,9 +6,9 @@ use Rattle.std.specs.List.{IsDistinct}
 use Rattle.std.specs.Ordering.{nat_cmp}
 use Rattle.std.proofs.lemmas.List.Sorted.{IsNonDecreasingBy-from_sort, IsPermutation-sym, Contains-permutation}
 use Rattle.std.proofs.lemmas.Map.Keys.{IsStrictlyIncreasing-from_distinct}
-use Rattle.elf_spec.specs.Image.{Image}
-use Rattle.code_spec.specs.Code.{InRange, HasCode, aligned, Flow, Falls, Branches, Jumps, Calls, Links, Returns, Stops, nexts_of}
-use Rattle.code_spec.specs.Faults.{IsDirectlyReachable, here, next as onward}
+use Rattle.elf_read_spec.specs.Image.{Image}
+use Rattle.code_reach_spec.specs.Code.{InRange, HasCode, aligned, Flow, Falls, Branches, Jumps, Calls, Links, Returns, Stops, nexts_of}
+use Rattle.code_reach_spec.specs.Faults.{IsDirectlyReachable, here, next as onward}
 use Rattle.code_reach.specs.Growth.{IsPlace, GoesTo, Reaches, AreReached}
 use Rattle.code_reach.proofs.Growing.{none_contained, only_contained}
 use Rattle.code_reach.proofs.Walks.{IsWalked, walked-all}

@@ -1,7 +1,7 @@
 -- The bytes of a range, one after the other.
 use Rattle.std.proofs.Common.{◌≡◌, ◌⊎◌, ◌+◌, ℕ, IsSome, arith, subst, sym, inl, inr}
-use Rattle.elf_spec.specs.Image.{Image, fixed_byte}
-use Rattle.code_spec.specs.Code.{InRange}
+use Rattle.elf_read_spec.specs.Image.{Image, fixed_byte}
+use Rattle.code_reach_spec.specs.Code.{InRange}
 
 pub none_yet : (image : Image) (entry address : ℕ) → InRange entry 0 address → IsSome (fixed_byte image address)
 none_yet image entry address r = absurd (omega (arith, r.from, r.below))

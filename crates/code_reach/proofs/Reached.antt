@@ -9,11 +9,11 @@ use Rattle.std.proofs.lemmas.List.{get_or_default}
 use Rattle.std.proofs.lemmas.List.Elements.{Contains-get_or}
 use Rattle.std.proofs.lemmas.List.Sorted.{IsNonDecreasingBy-from_sort, IsPermutation-sym, Contains-permutation, All-permutation}
 use Rattle.std.proofs.lemmas.Map.Keys.{IsStrictlyIncreasing-from_distinct, below_from_sorted, sorted_from_strictly_increasing, non_decreasing_from_sorted}
-use Rattle.elf_spec.specs.Image.{Image, size_at}
-use Rattle.code_spec.specs.declared.CodeKind.{CodeKind}
-use Rattle.code_spec.specs.declared.CodeKind.TheVariants.{Overlap}
-use Rattle.code_spec.specs.Faults.{RangesMeet, ReachesDirectly, IsReachFault, of_function, overlap, ReachesNoFault}
-use Rattle.code_spec.proofs.Direct.{reaches-direct, direct-reaches}
+use Rattle.elf_read_spec.specs.Image.{Image, size_at}
+use Rattle.code_reach_spec.specs.declared.CodeKind.{CodeKind}
+use Rattle.code_reach_spec.specs.declared.CodeKind.TheVariants.{Overlap}
+use Rattle.code_reach_spec.specs.Faults.{RangesMeet, ReachesDirectly, IsReachFault, of_function, overlap, ReachesNoFault}
+use Rattle.code_reach_spec.proofs.Direct.{reaches-direct, direct-reaches}
 use Rattle.code_reach.specs.Surveys.{AnyHasFault, OverlapsAt, IsOverlap, IsFirstOf, AreEntries, earlier}
 use Rattle.code_reach.specs.Found.{IsReach}
 use Rattle.code_reach.specs.declared.faults.CodeFault.{CodeFault}

@@ -5,11 +5,11 @@ use Rattle.std.specs.List.{list_any}
 use Rattle.std.proofs.lemmas.List.{append-nil, reverse-append, length-append, length-map}
 use Rattle.std.proofs.lemmas.List.Folds.{list_any_at}
 use Rattle.std.proofs.lemmas.List.Elements.{Contains-append_cases, Contains-append_right}
-use Rattle.elf_spec.specs.Image.{Image, size_at}
-use Rattle.code_spec.specs.Code.{CallsOn, Reaches, IsStack, IsCyclic, deep}
-use Rattle.code_spec.specs.Code as code
-use Rattle.code_spec.specs.Faults.{CallsDirectly, ReachesDirectly, itself, further, ReachesNoFault, HasNoFault}
-use Rattle.code_spec.proofs.Direct.{reachable-direct, direct-reachable, calls-direct, direct-calls, reaches-direct, each_without}
+use Rattle.elf_read_spec.specs.Image.{Image, size_at}
+use Rattle.code_reach_spec.specs.Code.{CallsOn, Reaches, IsStack, IsCyclic, deep}
+use Rattle.code_reach_spec.specs.Code as code
+use Rattle.code_reach_spec.specs.Faults.{CallsDirectly, ReachesDirectly, itself, further, ReachesNoFault, HasNoFault}
+use Rattle.code_reach_spec.proofs.Direct.{reachable-direct, direct-reachable, calls-direct, direct-calls, reaches-direct, each_without}
 use Rattle.code_reach.specs.Growth.{Grows}
 use Rattle.code_reach.specs.Surveys.{CallsOut}
 use Rattle.code_reach.specs.Stacks.{Known, known_or_zero, AreCalls, IsTotal, IsEntered}

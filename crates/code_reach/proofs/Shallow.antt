@@ -18,11 +18,11 @@ use Rattle.rv_instr.specs.declared.Instr.{Instr}
 use Rattle.rv_instr.specs.declared.Instr.TheVariants.{Branch, Load, Store, Immediate, Shift, Arithmetic}
 use Rattle.rv_instr.specs.declared.ImmediateOperation.{ImmediateOperation}
 use Rattle.rv_instr.specs.declared.ImmediateOperation.TheVariants.{Add, SetLess, SetLessUnsigned, Xor, Or, And}
-use Rattle.elf_spec.specs.Image.{Image, size_at}
-use Rattle.code_spec.specs.declared.CodeKind.TheVariants.{Overlap}
-use Rattle.code_spec.specs.Code.{word_at, instr_at, InRange, opening_of, IsReachable, CallsOn, Reaches, itself, further, IsCyclic, IsStack, deep}
-use Rattle.code_spec.specs.Faults.{overlap, ReachesNoFault}
-use Rattle.code_spec.proofs.Direct.{direct-reachable, direct-reaches, each_without}
+use Rattle.elf_read_spec.specs.Image.{Image, size_at}
+use Rattle.code_reach_spec.specs.declared.CodeKind.TheVariants.{Overlap}
+use Rattle.code_reach_spec.specs.Code.{word_at, instr_at, InRange, opening_of, IsReachable, CallsOn, Reaches, itself, further, IsCyclic, IsStack, deep}
+use Rattle.code_reach_spec.specs.Faults.{overlap, ReachesNoFault}
+use Rattle.code_reach_spec.proofs.Direct.{direct-reachable, direct-reaches, each_without}
 use Rattle.code_reach.specs.Growth.{IsPlace}
 use Rattle.code_reach.proofs.Acyclic.{stack-acyclic}
 use Rattle.code_reach.proofs.Places.{place}

@@ -3,9 +3,9 @@ use Rattle.std.proofs.Common.{◌≡◌, ◌⊎◌, ◌+◌, ◌<◌, ◌≤◌,
 use Rattle.std.specs.Prelude.{Option, None, IsSome, Contains}
 use Rattle.std.proofs.lemmas.List.{get_or_append_left, get_or_default}
 use Rattle.std.proofs.lemmas.List.Elements.{Contains-get_or}
-use Rattle.elf_spec.specs.Image.{Image, size_at}
-use Rattle.code_spec.specs.declared.CodeKind.{CodeKind}
-use Rattle.code_spec.specs.Faults.{CallsDirectly, call, ReachesDirectly, itself, further}
+use Rattle.elf_read_spec.specs.Image.{Image, size_at}
+use Rattle.code_reach_spec.specs.declared.CodeKind.{CodeKind}
+use Rattle.code_reach_spec.specs.Faults.{CallsDirectly, call, ReachesDirectly, itself, further}
 use Rattle.code_reach.specs.Growth.{Grows}
 use Rattle.code_reach.specs.Surveys.{CallsOut, HasFault, AnyHasFault, IsFirstOf, AreEntries, earlier}
 use Rattle.code_reach.specs.declared.faults.CodeFault.{CodeFault}

@@ -2,10 +2,10 @@
 use Rattle.std.proofs.Common.{◌≡◌, ◌⊎◌, ◌+◌, ◌<◌, ◌≤◌, ◌^◌, ℕ, List, length, get_or, sym, ◌∙◌, ap, subst, inl, inr, arith}
 use Rattle.std.specs.Prelude.{Option, Some, None, IsSome, All, MatchOption}
 use Rattle.std.proofs.lemmas.List.Elements.{Contains-get_or}
-use Rattle.elf_spec.specs.Image.{Image, size_at}
-use Rattle.code_spec.specs.declared.CodeKind.{CodeKind}
-use Rattle.code_spec.specs.Code.{Calls, HasCode, IsRangeFault}
-use Rattle.code_spec.specs.Faults.{direct_flow, CallsDirectly, call, IsFunctionFault, IsFirst}
+use Rattle.elf_read_spec.specs.Image.{Image, size_at}
+use Rattle.code_reach_spec.specs.declared.CodeKind.{CodeKind}
+use Rattle.code_reach_spec.specs.Code.{Calls, HasCode, IsRangeFault}
+use Rattle.code_reach_spec.specs.Faults.{direct_flow, CallsDirectly, call, IsFunctionFault, IsFirst}
 use Rattle.code_reach.specs.Growth.{Grows, AreReached}
 use Rattle.code_reach.specs.Listing.{IsStop}
 use Rattle.code_reach.specs.Surveys.{CallsFrom, CallsAmong, CallsOut, HasFault, AreSound, IsFirstOf}

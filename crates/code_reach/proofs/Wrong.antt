@@ -4,13 +4,13 @@ use Rattle.std.specs.Prelude.{Contains, Option, Some, None, is_some, option_and_
 use Rattle.std.proofs.lemmas.Bool.{and_parts}
 use Rattle.std.proofs.lemmas.List.Elements.{Contains-append_cases, Contains-append_right}
 use Rattle.rv_instr.specs.declared.Instr.{Instr}
-use Rattle.elf_spec.specs.Image.{Image, size_at}
-use Rattle.code_spec.specs.declared.CodeKind.{CodeKind}
-use Rattle.code_spec.specs.declared.CodeKind.TheVariants.{NoFunction, Undecoded, Indirect, Leaves}
-use Rattle.code_spec.specs.Code.{instr_at, InRange, Flow, Falls, Branches, Jumps, Calls, Links, Returns, Stops, flow_of}
+use Rattle.elf_read_spec.specs.Image.{Image, size_at}
+use Rattle.code_reach_spec.specs.declared.CodeKind.{CodeKind}
+use Rattle.code_reach_spec.specs.declared.CodeKind.TheVariants.{NoFunction, Undecoded, Indirect, Leaves}
+use Rattle.code_reach_spec.specs.Code.{instr_at, InRange, Flow, Falls, Branches, Jumps, Calls, Links, Returns, Stops, flow_of}
 use Rattle.rv_instr.specs.Instr.{instr}
-use Rattle.code_spec.specs.Code.{word_at}
-use Rattle.code_spec.specs.Faults.{direct_flow, is_indirect, goes_to, IsInstructionFault, no_function, undecoded, indirect, leaves}
+use Rattle.code_reach_spec.specs.Code.{word_at}
+use Rattle.code_reach_spec.specs.Faults.{direct_flow, is_indirect, goes_to, IsInstructionFault, no_function, undecoded, indirect, leaves}
 use Rattle.code_reach.specs.Flows.{in_range, stays, open_fault, flow_fault, fault_of, fault_at}
 use Rattle.code_reach.proofs.Growing.{none_contained, only_contained, in-range, out-range}
 

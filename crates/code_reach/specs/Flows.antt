@@ -2,12 +2,12 @@
 use Rattle.std.specs.Prelude.{ℕ, ◌+◌, ◌&&◌, nat_le, nat_lt, Bool, if◌then◌else◌, List, Option, Some, None, is_some}
 use Rattle.std.specs.List.{list_all}
 use Rattle.rv_instr.specs.declared.Instr.{Instr}
-use Rattle.elf_spec.specs.Image.{Image, size_at}
-use Rattle.code_spec.specs.declared.CodeKind.{CodeKind}
-use Rattle.code_spec.specs.declared.CodeKind.TheVariants.{NoFunction, Undecoded, Indirect, Leaves}
-use Rattle.code_spec.specs.Code as spec
-use Rattle.code_spec.specs.Code.{instr_at, flow_of}
-use Rattle.code_spec.specs.Faults.{is_indirect, goes_to}
+use Rattle.elf_read_spec.specs.Image.{Image, size_at}
+use Rattle.code_reach_spec.specs.declared.CodeKind.{CodeKind}
+use Rattle.code_reach_spec.specs.declared.CodeKind.TheVariants.{NoFunction, Undecoded, Indirect, Leaves}
+use Rattle.code_reach_spec.specs.Code as spec
+use Rattle.code_reach_spec.specs.Code.{instr_at, flow_of}
+use Rattle.code_reach_spec.specs.Faults.{is_indirect, goes_to}
 use Rattle.code_reach.specs.declared.flows.Flow.{Flow}
 use Rattle.code_reach.specs.declared.flows.Flow.TheVariants.{Falls, Branches, Jumps, Calls, Links, Returns, Stops}
 

@@ -1,11 +1,11 @@
 -- What the calls answer.
 use Rattle.std.specs.Prelude.{◌≡◌, ◌↔◌, ℕ, List, map, All, Contains, Option, Some, None}
 use Rattle.std.specs.List.Sorted.{IsStrictlyIncreasing}
-use Rattle.elf_spec.specs.Image.{Image, size_at}
-use Rattle.code_spec.specs.declared.CodeKind.{CodeKind}
-use Rattle.code_spec.specs.Code.{AreReachable, Reaches, IsStack, IsCyclic}
-use Rattle.code_spec.specs.Code.{word_at}
-use Rattle.code_spec.specs.Faults.{IsFunctionFault, HasNoFault, IsReachFault, ReachesNoFault, IsFirst}
+use Rattle.elf_read_spec.specs.Image.{Image, size_at}
+use Rattle.code_reach_spec.specs.declared.CodeKind.{CodeKind}
+use Rattle.code_reach_spec.specs.Code.{AreReachable, Reaches, IsStack, IsCyclic}
+use Rattle.code_reach_spec.specs.Code.{word_at}
+use Rattle.code_reach_spec.specs.Faults.{IsFunctionFault, HasNoFault, IsReachFault, ReachesNoFault, IsFirst}
 use Rattle.code_reach.specs.declared.faults.CodeError.{CodeError}
 use Rattle.code_reach.specs.declared.faults.CodeError.TheVariants.{Fault, NoMemory}
 

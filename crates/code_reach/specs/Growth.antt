@@ -1,9 +1,9 @@
 -- Lists that grow as a walk goes on.
 use Rattle.std.specs.Prelude.{◌≡◌, ◌↔◌, ◌+◌, ◌%◌, ◌^◌, ◌≤◌, ℕ, List, ◌++◌, Contains, Some}
 use Rattle.std.specs.List.Sorted.{IsStrictlyIncreasing}
-use Rattle.elf_spec.specs.Image.{Image}
-use Rattle.code_spec.specs.Code.{Flow, InRange, nexts_of}
-use Rattle.code_spec.specs.Faults.{direct_flow, IsDirectlyReachable}
+use Rattle.elf_read_spec.specs.Image.{Image}
+use Rattle.code_reach_spec.specs.Code.{Flow, InRange, nexts_of}
+use Rattle.code_reach_spec.specs.Faults.{direct_flow, IsDirectlyReachable}
 
 -- after the items of the old list come items that have the property, and whatever has it is in the new list
 pub record Grows (P : ℕ → Type 0) (old new : List ℕ) : Type 0 where

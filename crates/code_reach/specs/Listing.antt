@@ -1,8 +1,8 @@
 -- The words at some addresses, and where they stop.
 use Rattle.std.specs.Prelude.{◌≡◌, ◌<◌, ℕ, List, length, map, All, slice_index, Some, None}
-use Rattle.elf_spec.specs.Image.{Image}
-use Rattle.code_spec.specs.declared.CodeKind.{CodeKind}
-use Rattle.code_spec.specs.Code.{word_at}
+use Rattle.elf_read_spec.specs.Image.{Image}
+use Rattle.code_reach_spec.specs.declared.CodeKind.{CodeKind}
+use Rattle.code_reach_spec.specs.Code.{word_at}
 use Rattle.code_reach.specs.Flows.{fault_at}
 use Rattle.code_reach.specs.declared.faults.CodeError.{CodeError}
 use Rattle.code_reach.specs.declared.faults.CodeError.TheVariants.{Fault, NoMemory}

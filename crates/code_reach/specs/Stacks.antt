@@ -1,7 +1,7 @@
 -- The search for the stack of a function: what is done, what is open, and what is to do.
 use Rattle.std.specs.Prelude.{◌≡◌, ◌⊎◌, ◌↔◌, ◌+◌, ◌^◌, ◌<◌, ◌≤◌, ℕ, List, [], ◌∷◌, ◌++◌, length, map, sum_by, Contains, slice_index, Option, Some, None, unwrap_or}
-use Rattle.elf_spec.specs.Image.{Image, size_at}
-use Rattle.code_spec.specs.Code.{instr_at, opening_of, IsGreatest}
+use Rattle.elf_read_spec.specs.Image.{Image, size_at}
+use Rattle.code_reach_spec.specs.Code.{instr_at, opening_of, IsGreatest}
 use Rattle.code_reach.specs.Growth.{AreReached}
 use Rattle.code_reach.specs.Surveys.{CallsOut}
 use Rattle.code_reach.specs.declared.stacks.Task.{Task}

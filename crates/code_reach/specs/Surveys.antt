@@ -1,10 +1,10 @@
 -- The functions that are reached: what each calls, its faults, and which of several faults is the first.
 use Rattle.std.specs.Prelude.{◌≡◌, ◌↔◌, ◌<◌, ◌==◌, ◌&&◌, ◌||◌, nat_lt, ℕ, Bool, if◌then◌else◌, List, length, Contains, All, slice_index, Option, Some, None, IsSome, MatchOption}
-use Rattle.elf_spec.specs.Image.{Image, size_at}
-use Rattle.code_spec.specs.declared.CodeKind.{CodeKind}
-use Rattle.code_spec.specs.declared.CodeKind.TheVariants.{Overlap}
-use Rattle.code_spec.specs.Code.{Calls}
-use Rattle.code_spec.specs.Faults.{direct_flow, CallsDirectly, ReachesDirectly, IsFunctionFault, RangesMeet, IsFirst, rank}
+use Rattle.elf_read_spec.specs.Image.{Image, size_at}
+use Rattle.code_reach_spec.specs.declared.CodeKind.{CodeKind}
+use Rattle.code_reach_spec.specs.declared.CodeKind.TheVariants.{Overlap}
+use Rattle.code_reach_spec.specs.Code.{Calls}
+use Rattle.code_reach_spec.specs.Faults.{direct_flow, CallsDirectly, ReachesDirectly, IsFunctionFault, RangesMeet, IsFirst, rank}
 use Rattle.code_reach.specs.Flows.{fault_at}
 use Rattle.code_reach.specs.declared.faults.CodeFault.{CodeFault}
 

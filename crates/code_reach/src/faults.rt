@@ -2,14 +2,14 @@
 
 ghost use Rattle.std.specs.Prelude.{◌≡◌, ◌+◌, ◌<◌, ◌≤◌, ◌^◌, is_some, if◌then◌else◌, IfOk, IfErr};
 ghost use Rattle.std.specs.Prelude.{Some, None, ◌∷◌, []};
-ghost use Rattle.code_spec.specs.Code as code;
-ghost use Rattle.code_spec.specs.Code.{word_at};
-ghost use Rattle.code_spec.specs.Faults.{is_indirect};
+ghost use Rattle.code_reach_spec.specs.Code as code;
+ghost use Rattle.code_reach_spec.specs.Code.{word_at};
+ghost use Rattle.code_reach_spec.specs.Faults.{is_indirect};
 ghost use Rattle.code_reach.specs.Flows as spec;
 ghost use Rattle.code_reach.specs.declared.faults.CodeError.TheVariants.{NoMemory, Fault};
 
 use crate::flows::{Flow, flow_of, instruction_at, word};
-use code_spec::CodeKind;
+use code_reach_spec::CodeKind;
 use elf_read::Image;
 use rv_instr::Instr;
 use std::alloc::{AllocError, AllocFailed};

@@ -2,11 +2,11 @@
 
 ghost use Rattle.std.specs.Prelude.{◌≡◌, ◌+◌, ◌≤◌, ◌^◌, ◌==◌, if◌then◌else◌, None};
 ghost use Rattle.std.specs.Option.{option_map};
-ghost use Rattle.rv_spec.specs.Arithmetic.{word as word_of};
-ghost use Rattle.rv_spec.specs.Machine.{past};
-ghost use Rattle.code_spec.specs.Code as spec;
-ghost use Rattle.code_spec.specs.Code.{word_at};
-ghost use Rattle.code_spec.specs.Faults.{direct_flow as direct};
+ghost use Rattle.rv_machine_spec.specs.Arithmetic.{word as word_of};
+ghost use Rattle.rv_machine_spec.specs.Machine.{past};
+ghost use Rattle.code_reach_spec.specs.Code as spec;
+ghost use Rattle.code_reach_spec.specs.Code.{word_at};
+ghost use Rattle.code_reach_spec.specs.Faults.{direct_flow as direct};
 ghost use Rattle.code_reach.specs.Flows.{flow_seen};
 
 use byteorder::{ByteOrder, LittleEndian};
@@ -47,7 +47,7 @@ pub(crate) fn word(image: &Image<'_>, address: u32) -> Option<u32>
 }
 
 /// The instruction at an address, if its four bytes are fixed and have a form.
-#[tactic(auto, unfolding(code_spec::specs::Code::instr_at))]
+#[tactic(auto, unfolding(code_reach_spec::specs::Code::instr_at))]
 pub fn instruction_at(image: &Image<'_>, address: u32) -> Option<Instr>
     requires { address + 4 ≤ 2 ^ 32 }
     ensures { result ≡ spec.instr_at image.now address }
@@ -101,7 +101,7 @@ pub(crate) fn flow_of(address: u32, instruction: &Instr) -> Flow
 }
 
 /// The flow of the instruction at an address, looked at alone.
-#[tactic(auto, unfolding(code_spec::specs::Faults::direct_flow))]
+#[tactic(auto, unfolding(code_reach_spec::specs::Faults::direct_flow))]
 pub(crate) fn direct_flow(image: &Image<'_>, address: u32) -> Option<Flow>
     requires { address + 4 ≤ 2 ^ 32 }
     ensures { option_map flow_seen result ≡ direct image.now address }

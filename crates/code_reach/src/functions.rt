@@ -2,8 +2,8 @@
 
 ghost use Rattle.std.specs.Prelude.{◌≡◌, ◌+◌, ◌<◌, ◌≤◌, ◌^◌, length, All, IfOk, OnOk, IsSome};
 ghost use Rattle.std.specs.Prelude.{MatchOption};
-ghost use Rattle.elf_spec.specs.Image.{size_at};
-ghost use Rattle.code_spec.specs.Faults.{rank as rank_of};
+ghost use Rattle.elf_read_spec.specs.Image.{size_at};
+ghost use Rattle.code_reach_spec.specs.Faults.{rank as rank_of};
 ghost use Rattle.code_reach.specs.Growth.{Grows, IsPlace};
 ghost use Rattle.code_reach.specs.Listing.{IsStop};
 ghost use Rattle.code_reach.specs.Surveys as spec;
@@ -14,7 +14,7 @@ use crate::faults::{CodeFault, fault_at};
 use crate::flows::{Flow, direct_flow};
 use crate::range::range_fault;
 use crate::walk::{add, reached};
-use code_spec::CodeKind;
+use code_reach_spec::CodeKind;
 use elf_read::Image;
 use indexmap::IndexSet;
 use std::alloc::{AllocError, Global};

@@ -4,7 +4,7 @@
 //! it, and [`stack`] gives the stack that it takes with them. Each answers the first fault where
 //! there is one: `code` of the function alone, `reach` and `stack` of all that is reached.
 //! [`range_fault`] says whether the range of a function is one that has code: not empty, fixed by
-//! the file and aligned. The meaning is defined in `code_spec`: what is reached in
+//! the file and aligned. The meaning is defined in `code_reach_spec`: what is reached in
 //! `specs/Code.antt`, the faults and which of them is the first in `specs/Faults.antt`.
 #![tactic(auto)]
 

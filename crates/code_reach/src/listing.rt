@@ -1,8 +1,8 @@
 //! The words of a function.
 
 ghost use Rattle.std.specs.Prelude.{◌≡◌, ◌+◌, ◌<◌, ◌≤◌, ◌^◌, All, IfOk, IfErr, IsSome, Some, None};
-ghost use Rattle.elf_spec.specs.Image.{size_at};
-ghost use Rattle.code_spec.specs.Code.{word_at};
+ghost use Rattle.elf_read_spec.specs.Image.{size_at};
+ghost use Rattle.code_reach_spec.specs.Code.{word_at};
 ghost use Rattle.code_reach.specs.Flows as spec;
 ghost use Rattle.code_reach.specs.Growth.{IsPlace};
 ghost use Rattle.code_reach.specs.Listing.{AreWords, IsListingError};
@@ -12,7 +12,7 @@ use crate::faults::{CodeError, CodeFault, fault_at};
 use crate::flows::word;
 use crate::range::range_fault;
 use crate::walk::reached;
-use code_spec::CodeKind;
+use code_reach_spec::CodeKind;
 use elf_read::Image;
 use std::alloc::Global;
 

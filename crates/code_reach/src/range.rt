@@ -1,7 +1,7 @@
 ghost use Rattle.std.specs.Prelude.{◌≡◌, ◌+◌, ◌≤◌, ◌<◌, ◌^◌, ◌%◌, ◌↔◌, IsTrue, MatchOption};
-ghost use Rattle.code_spec.specs.Code.{HasCode, IsFixedRange, IsRangeFault};
+ghost use Rattle.code_reach_spec.specs.Code.{HasCode, IsFixedRange, IsRangeFault};
 
-use code_spec::CodeKind;
+use code_reach_spec::CodeKind;
 use elf_read::Image;
 
 /// Whether every byte of the range of a function is fixed by the file, and the range ends at 2^32

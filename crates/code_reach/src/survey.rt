@@ -3,7 +3,7 @@
 ghost use Rattle.std.specs.Prelude.{◌≡◌, ◌+◌, ◌<◌, ◌≤◌, ◌^◌, ◌↔◌, [], All, IfOk, IfErr, OnOk};
 ghost use Rattle.std.specs.Prelude.{IsSome, IsTrue};
 ghost use Rattle.std.specs.List.Sorted.{IsStrictlyIncreasing};
-ghost use Rattle.elf_spec.specs.Image.{size_at};
+ghost use Rattle.elf_read_spec.specs.Image.{size_at};
 ghost use Rattle.code_reach.specs.Surveys.{AnyHasFault, AreEntries, IsFirstOf, IsOverlap};
 ghost use Rattle.code_reach.specs.Found.{IsReach, IsReachError};
 
@@ -11,7 +11,7 @@ use crate::faults::{CodeError, CodeFault};
 use crate::functions::{earlier, visit};
 use crate::walk::add;
 use attempt::attempt;
-use code_spec::CodeKind;
+use code_reach_spec::CodeKind;
 use elf_read::Image;
 use indexmap::IndexSet;
 use std::alloc::{AllocError, Global};

@@ -1,8 +1,8 @@
 //! The addresses that a function reaches.
 
 ghost use Rattle.std.specs.Prelude.{◌≡◌, ◌+◌, ◌<◌, ◌≤◌, ◌^◌, ◌%◌, ◌∷◌, [], IfOk, OnOk};
-ghost use Rattle.code_spec.specs.Code as spec;
-ghost use Rattle.code_spec.specs.Code.{HasCode};
+ghost use Rattle.code_reach_spec.specs.Code as spec;
+ghost use Rattle.code_reach_spec.specs.Code.{HasCode};
 ghost use Rattle.code_reach.specs.Flows.{flow_seen};
 ghost use Rattle.code_reach.specs.Growth.{Grows, IsInside, GoesTo, Reaches, AreReached};
 

@@ -10,7 +10,7 @@
 use crate::{address, number};
 use elf_make::{Parts, write};
 use elf_read::{ElfError, Image, Run, Segment, Symbol, read};
-use elf_spec::SymbolValues;
+use elf_read_spec::SymbolValues;
 use row_io::{Out, split};
 use std::alloc::{AllocError, Global};
 

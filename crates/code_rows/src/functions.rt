@@ -2,12 +2,12 @@
 //! instructions, the entries of all that it reaches and its stack, or a fault in the place of each;
 //! `graphs PART..` the graph of each function that it reaches, a line a node, and whether all are
 //! valid; `within MAXIMUM PART..` how many nodes its graph has and which variables, where it has at
-//! most so many nodes; `alone MAXIMUM PART..` the same, where no other function is listed. `row_files`
+//! most so many nodes; `alone MAXIMUM PART..` the same, where no other function is listed. `row_io`
 //! has the parts of an executable.
 
 ghost use Rattle.std.specs.List.Sorted.{IsStrictlyIncreasing};
 ghost use Rattle.std.specs.Option.{IsSome};
-ghost use Rattle.elf_spec.specs.Image.{size_at};
+ghost use Rattle.elf_read_spec.specs.Image.{size_at};
 
 use crate::number;
 use crate::texts::{put_graph, put_variable};
@@ -16,8 +16,7 @@ use decompile::{
 };
 use elf_read::{Image, read};
 use graph_core::{Graph, GraphRun, Walks, callee_runs_as_alone, run_goes_on, validate};
-use row_files::put_executable;
-use row_io::{Out, split};
+use row_io::{Out, put_executable, split};
 use std::alloc::{AllocError, Global};
 
 fn put_error(error: CodeError, out: &mut Out) {

@@ -10,7 +10,7 @@ use graph_core::{Binding, Graph, Next, Node, validate};
 use row_io::{Out, decimal, split};
 use std::alloc::{AllocError, Global};
 use term_core::Term;
-use term_spec::{Atom, BinaryOperator, Family, Sort, Variable, Width, WordOperator};
+use term_core_spec::{Atom, BinaryOperator, Family, Sort, Variable, Width, WordOperator};
 
 const fn variable(family: Family) -> Variable {
     Variable {

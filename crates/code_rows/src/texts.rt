@@ -8,7 +8,7 @@ use graph_core::{Next, SharedBinding, SharedNode};
 use row_io::Out;
 use std::fmt::Debug;
 use term_bank::{Bank, TermId, TermNode};
-use term_spec::{Atom, BinaryOperator, Family, Variable};
+use term_core_spec::{Atom, BinaryOperator, Family, Variable};
 
 /// A variable after a blank.
 pub(crate) fn put_variable(variable: Variable, out: &mut Out) {

@@ -3,15 +3,15 @@ use Rattle.std.proofs.Common.{◌≡◌, ◌≢◌, ◌∙◌, ℕ, ◌+◌, ◌
 use Rattle.std.proofs.lemmas.Bool.{ne_eqb}
 use Rattle.rv_instr.specs.declared.Instr.{Instr}
 use Rattle.rv_instr.specs.declared.Instr.TheVariants.{Jalr}
-use Rattle.rv_spec.specs.Machine.{past}
-use Rattle.code_spec.specs.Code.{Flow, flow_of, Falls, Branches, Jumps, Calls, Links, Returns, Stops}
-use Rattle.term_spec.specs.Term.{Term}
-use Rattle.graph_spec.specs.declared.Next.{Next}
-use Rattle.graph_spec.specs.declared.Next.TheVariants as next
-use Rattle.graph_spec.specs.Graph.{Binding, Node, Basic, Cond, Call, Graph, with_nodes}
-use Rattle.code_graph_spec.specs.InstructionTerms.{access_tests, returns_home, effects, branch_test}
-use Rattle.code_graph_spec.specs.Blocks.{Following, call_nodes, Setting, toward, call_inputs}
-use Rattle.code_graph_laws.specs.Layout.{Item, block, blocks}
+use Rattle.rv_machine_spec.specs.Machine.{past}
+use Rattle.code_reach_spec.specs.Code.{Flow, flow_of, Falls, Branches, Jumps, Calls, Links, Returns, Stops}
+use Rattle.term_core_spec.specs.Term.{Term}
+use Rattle.graph_core_spec.specs.declared.Next.{Next}
+use Rattle.graph_core_spec.specs.declared.Next.TheVariants as next
+use Rattle.graph_core_spec.specs.Graph.{Binding, Node, Basic, Cond, Call, Graph, with_nodes}
+use Rattle.decompile_spec.specs.InstructionTerms.{access_tests, returns_home, effects, branch_test}
+use Rattle.decompile_spec.specs.Blocks.{Following, call_nodes, Setting, toward, call_inputs}
+use Rattle.decompile_laws.specs.Layout.{Item, block, blocks}
 use Rattle.decompile.specs.Items.{is_return_flow}
 use Rattle.decompile.specs.Settings.{asks, Stays}
 use Rattle.decompile.proofs.Asked.{with-with}

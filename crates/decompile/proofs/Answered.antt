@@ -1,13 +1,13 @@
 -- What is answered of a function whose instructions and runs were read.
 use Rattle.std.proofs.Common.{◌≡◌, ℕ, refl, arith, List, All, Some, length, map}
 use Rattle.std.specs.Prelude.{Contains}
-use Rattle.elf_spec.specs.Image.{Image, size_at}
+use Rattle.elf_read_spec.specs.Image.{Image, size_at}
 use Rattle.elf_read.specs.declared.parts.Extent.{Extent}
-use Rattle.code_spec.specs.Faults.{HasNoFault}
-use Rattle.graph_spec.specs.Graph.{Graph}
-use Rattle.code_graph_spec.specs.CodeGraph.{IsCall}
-use Rattle.code_graph_laws.specs.Layout.{AreItems, laid, LaidAreCodeGraphs}
-use Rattle.code_graph_laws.specs.Valid.{CodeGraphsAreValid}
+use Rattle.code_reach_spec.specs.Faults.{HasNoFault}
+use Rattle.graph_core_spec.specs.Graph.{Graph}
+use Rattle.decompile_spec.specs.CodeGraph.{IsCall}
+use Rattle.decompile_laws.specs.Layout.{AreItems, laid, LaidAreCodeGraphs}
+use Rattle.decompile_laws.specs.Valid.{CodeGraphsAreValid}
 use Rattle.decompile.specs.declared.items.Item.{Item}
 use Rattle.decompile.specs.declared.error.GraphError.{GraphError}
 use Rattle.decompile.specs.declared.error.GraphError.TheVariants.{Fault, Unlisted, Large, NoMemory}

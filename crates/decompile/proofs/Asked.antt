@@ -1,10 +1,10 @@
 -- The nodes of tests, one after the other.
 use Rattle.std.proofs.Common.{◌≡◌, ◌∙◌, ℕ, suc, ◌+◌, refl, sym, ap, arith, List, [], ◌∷◌, ◌++◌, length}
 use Rattle.std.proofs.lemmas.List.{append_assoc, append-nil}
-use Rattle.term_spec.specs.Term.{Term}
-use Rattle.graph_spec.specs.declared.Next.TheVariants as next
-use Rattle.graph_spec.specs.Graph.{Node, Cond, Graph, with_nodes}
-use Rattle.code_graph_spec.specs.Blocks.{Of, Setting, Does, chain}
+use Rattle.term_core_spec.specs.Term.{Term}
+use Rattle.graph_core_spec.specs.declared.Next.TheVariants as next
+use Rattle.graph_core_spec.specs.Graph.{Node, Cond, Graph, with_nodes}
+use Rattle.decompile_spec.specs.Blocks.{Of, Setting, Does, chain}
 use Rattle.decompile.specs.Settings.{asks}
 
 abbrev pub ask : Setting → (address index : ℕ) → Term → Node

@@ -4,14 +4,14 @@ use Rattle.std.proofs.lemmas.List.{length-replicate}
 use Rattle.rv_instr.specs.declared.Instr.{Instr}
 use Rattle.rv_instr.specs.declared.Instr.TheVariants as instr
 use Rattle.memory_spec.specs.Runs.{Run}
-use Rattle.code_spec.specs.Code.{Flow, Falls, Branches, Jumps, Calls, Links, Returns, Stops}
-use Rattle.term_spec.specs.Term.{Term, or_term, less}
-use Rattle.graph_spec.specs.declared.Next.{Next}
-use Rattle.graph_spec.specs.declared.Next.TheVariants as next
-use Rattle.graph_spec.specs.Graph.{Node, Basic, Graph}
-use Rattle.code_graph_spec.specs.InstructionTerms.{number, avoids, access_tests, address, aligned_for, last_written}
-use Rattle.code_graph_spec.specs.Blocks.{Of, Setting, Ending, Does, Goes, onward, toward, chain, tests_of, ending_of, nodes_at, landing_of}
-use Rattle.code_graph_laws.specs.Layout.{Item, block, blocks, laid, landing_node}
+use Rattle.code_reach_spec.specs.Code.{Flow, Falls, Branches, Jumps, Calls, Links, Returns, Stops}
+use Rattle.term_core_spec.specs.Term.{Term, or_term, less}
+use Rattle.graph_core_spec.specs.declared.Next.{Next}
+use Rattle.graph_core_spec.specs.declared.Next.TheVariants as next
+use Rattle.graph_core_spec.specs.Graph.{Node, Basic, Graph}
+use Rattle.decompile_spec.specs.InstructionTerms.{number, avoids, access_tests, address, aligned_for, last_written}
+use Rattle.decompile_spec.specs.Blocks.{Of, Setting, Ending, Does, Goes, onward, toward, chain, tests_of, ending_of, nodes_at, landing_of}
+use Rattle.decompile_laws.specs.Layout.{Item, block, blocks, laid, landing_node}
 use Rattle.decompile.specs.Settings.{blanked}
 
 avoids_blank : (a e : Term) (run : Run) → avoids a e (blanked run) ≡ avoids a e run

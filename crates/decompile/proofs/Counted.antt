@@ -2,8 +2,8 @@
 use Rattle.std.proofs.Common.{◌≡◌, ◌∙◌, ℕ, suc, ◌+◌, ◌<◌, ◌≤◌, sym, ap, subst, arith, List, [], ◌∷◌, length}
 use Rattle.std.specs.Prelude.{Contains}
 use Rattle.std.proofs.lemmas.List.{length-append}
-use Rattle.code_graph_spec.specs.Blocks.{Setting}
-use Rattle.code_graph_laws.specs.Layout.{Item, block, blocks, laid}
+use Rattle.decompile_spec.specs.Blocks.{Setting}
+use Rattle.decompile_laws.specs.Layout.{Item, block, blocks, laid}
 use Rattle.decompile.specs.declared.error.GraphError.{GraphError}
 use Rattle.decompile.specs.declared.error.GraphError.TheVariants.{Large}
 use Rattle.decompile.specs.Counts.{further_nodes, counted, IsTooMany}

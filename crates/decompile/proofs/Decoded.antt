@@ -6,12 +6,12 @@ use Rattle.std.specs.List.Sorted.{IsStrictlyIncreasing}
 use Rattle.std.proofs.lemmas.List.{take_more}
 use Rattle.std.proofs.lemmas.List.Elements.{All-contains}
 use Rattle.rv_instr.specs.Instr.{instr}
-use Rattle.elf_spec.specs.Image.{Image}
-use Rattle.code_spec.specs.Code.{flow_of, instr_at, flow_at, IsReachable}
-use Rattle.code_spec.specs.Code.{word_at}
+use Rattle.elf_read_spec.specs.Image.{Image}
+use Rattle.code_reach_spec.specs.Code.{flow_of, instr_at, flow_at, IsReachable}
+use Rattle.code_reach_spec.specs.Code.{word_at}
 use Rattle.code_reach.specs.Found.{IsCode}
-use Rattle.code_graph_laws.proofs.Reached.{has_instruction, has_flow, flow_alone}
-use Rattle.code_graph_laws.specs.Layout as spec
+use Rattle.decompile_laws.proofs.Reached.{has_instruction, has_flow, flow_alone}
+use Rattle.decompile_laws.specs.Layout as spec
 use Rattle.decompile.specs.declared.items.Item.{Item}
 use Rattle.decompile.specs.Items.{item_of, AreInstructions}
 

@@ -6,16 +6,16 @@ use Rattle.std.proofs.lemmas.Bool.{cases_lt}
 use Rattle.std.proofs.lemmas.List.{take_more, take_all, map_push, length_push, length-replicate, drop_more, append_assoc}
 use Rattle.std.proofs.lemmas.List.Elements.{All-push}
 use Rattle.std.proofs.lemmas.Option.{slice_get_within, get_or_from_slice_get, slice_get-get_or}
-use Rattle.elf_spec.specs.Image.{Image}
+use Rattle.elf_read_spec.specs.Image.{Image}
 use Rattle.memory_spec.specs.Runs.{Run}
-use Rattle.elf_spec.specs.Runs.{AreRuns}
+use Rattle.elf_read_spec.specs.Runs.{AreRuns}
 use Rattle.elf_read.specs.declared.parts.Extent.{Extent}
 use Rattle.elf_read.specs.Values.{Extends, MayExtend, IsExtentAt}
 use Rattle.term_core.specs.declared.term.Term.{Term as CodeTerm}
 use Rattle.graph_core.specs.Graphs.{boxed_term}
-use Rattle.term_spec.specs.Term.{Term, or_term, less}
-use Rattle.code_graph_spec.specs.InstructionTerms.{number, avoids}
-use Rattle.code_terms.specs.Between.{avoids_between}
+use Rattle.term_core_spec.specs.Term.{Term, or_term, less}
+use Rattle.decompile_spec.specs.InstructionTerms.{number, avoids}
+use Rattle.decompile_terms.specs.Between.{avoids_between}
 use Rattle.decompile.specs.Settings.{blank, blanked, run_of, HaveExtents}
 use Rattle.decompile.proofs.Rising.{one_list, starts_low}
 

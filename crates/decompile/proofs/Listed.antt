@@ -6,15 +6,15 @@ use Rattle.std.proofs.lemmas.List.{length-map, get_or-map}
 use Rattle.std.proofs.lemmas.List.Kept.{AllPairs-from_increasing}
 use Rattle.std.proofs.lemmas.Option.{same_Some}
 use Rattle.rv_instr.specs.declared.Instr.TheVariants as instr
-use Rattle.elf_spec.specs.Image.{Image, size_at}
-use Rattle.code_spec.specs.Code.{Flow, Falls, Branches, Jumps, Calls, Links, Returns, Stops, flow_at}
-use Rattle.code_spec.specs.Faults.{HasNoFault}
+use Rattle.elf_read_spec.specs.Image.{Image, size_at}
+use Rattle.code_reach_spec.specs.Code.{Flow, Falls, Branches, Jumps, Calls, Links, Returns, Stops, flow_at}
+use Rattle.code_reach_spec.specs.Faults.{HasNoFault}
 use Rattle.code_reach.specs.Found.{IsCodeError}
 use Rattle.code_reach.specs.declared.faults.CodeError.{CodeError}
 use Rattle.code_reach.specs.declared.faults.CodeError.TheVariants as code
-use Rattle.code_graph_spec.specs.Blocks.{Setting, callee_of}
-use Rattle.code_graph_spec.specs.CodeGraph.{IsCall}
-use Rattle.code_graph_laws.specs.Layout.{Item, AreItems}
+use Rattle.decompile_spec.specs.Blocks.{Setting, callee_of}
+use Rattle.decompile_spec.specs.CodeGraph.{IsCall}
+use Rattle.decompile_laws.specs.Layout.{Item, AreItems}
 use Rattle.decompile.specs.declared.items.Item.{Item as CodeItem}
 use Rattle.decompile.specs.declared.error.GraphError.{GraphError}
 use Rattle.decompile.specs.declared.error.GraphError.TheVariants.{Fault, Unlisted, Large, NoMemory}

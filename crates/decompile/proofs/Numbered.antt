@@ -8,11 +8,11 @@ use Rattle.indexmap.specs.IndexMap.{insert_entry}
 use Rattle.std.proofs.lemmas.Bool.{ne_eqb}
 use Rattle.std.proofs.lemmas.List.{append_assoc, map-append, length-map, get_or_at}
 use Rattle.std.proofs.lemmas.Map.Keys.{sorted_from_strictly_increasing, below_from_sorted, sorted_tail}
-use Rattle.elf_spec.specs.Image.{Image}
-use Rattle.code_spec.specs.Code.{IsReachable}
-use Rattle.code_graph_spec.specs.Blocks.{Of, Setting}
-use Rattle.code_graph_spec.specs.CodeGraph.{AreFirstNodes}
-use Rattle.code_graph_laws.specs.Layout.{Item, block, AreNumbered, AreItems}
+use Rattle.elf_read_spec.specs.Image.{Image}
+use Rattle.code_reach_spec.specs.Code.{IsReachable}
+use Rattle.decompile_spec.specs.Blocks.{Of, Setting}
+use Rattle.decompile_spec.specs.CodeGraph.{AreFirstNodes}
+use Rattle.decompile_laws.specs.Layout.{Item, block, AreNumbered, AreItems}
 use Rattle.decompile.specs.declared.items.Item.{Item as CodeItem}
 use Rattle.decompile.specs.Items.{item_of}
 use Rattle.decompile.specs.Answer.{first_in}

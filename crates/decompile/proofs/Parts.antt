@@ -3,13 +3,13 @@ use Rattle.std.proofs.Common.{◌≡◌, ◌≢◌, ◌∙◌, ℕ, ◌+◌, ◌
 use Rattle.std.proofs.lemmas.Bool.{ne_eqb}
 use Rattle.std.proofs.lemmas.List.{append-nil}
 use Rattle.rv_instr.specs.declared.Instr.{Instr}
-use Rattle.rv_spec.specs.Machine.{past}
-use Rattle.code_spec.specs.Code.{Falls, Branches, Jumps, Calls, Links, Returns, Stops}
-use Rattle.graph_spec.specs.declared.Next.TheVariants as next
-use Rattle.graph_spec.specs.Graph.{Basic, Cond, Call}
-use Rattle.code_graph_spec.specs.InstructionTerms.{access_tests, returns_home, effects, branch_test}
-use Rattle.code_graph_spec.specs.Blocks.{Following, call_nodes, Setting, Does, leaves, toward, chain, tests_of, ending_of, nodes_at, landing_of, call_inputs}
-use Rattle.code_graph_laws.specs.Layout.{block}
+use Rattle.rv_machine_spec.specs.Machine.{past}
+use Rattle.code_reach_spec.specs.Code.{Falls, Branches, Jumps, Calls, Links, Returns, Stops}
+use Rattle.graph_core_spec.specs.declared.Next.TheVariants as next
+use Rattle.graph_core_spec.specs.Graph.{Basic, Cond, Call}
+use Rattle.decompile_spec.specs.InstructionTerms.{access_tests, returns_home, effects, branch_test}
+use Rattle.decompile_spec.specs.Blocks.{Following, call_nodes, Setting, Does, leaves, toward, chain, tests_of, ending_of, nodes_at, landing_of, call_inputs}
+use Rattle.decompile_laws.specs.Layout.{block}
 use Rattle.decompile.specs.Settings.{asks}
 use Rattle.decompile.proofs.Asked.{chain-asks}
 

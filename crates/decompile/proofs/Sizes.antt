@@ -7,13 +7,13 @@ use Rattle.rv_instr.specs.declared.LoadKind.{LoadKind}
 use Rattle.rv_instr.specs.declared.LoadKind.TheVariants as load_kind
 use Rattle.rv_instr.specs.declared.StoreKind.{StoreKind}
 use Rattle.rv_instr.specs.declared.StoreKind.TheVariants as store_kind
-use Rattle.code_spec.specs.Code.{Flow, Falls, Branches, Jumps, Calls, Links, Returns, Stops}
-use Rattle.term_spec.specs.Term.{Term}
-use Rattle.graph_spec.specs.declared.Next.TheVariants as next
-use Rattle.graph_spec.specs.Graph.{Node, Basic, Call}
-use Rattle.code_graph_spec.specs.InstructionTerms as forms
-use Rattle.code_graph_spec.specs.Blocks.{Following, call_nodes, Setting, Does, leaves, toward, chain, tests_of, ending_of, nodes_at, landing_of, call_inputs}
-use Rattle.code_graph_laws.specs.Layout.{Item, landing_node, block}
+use Rattle.code_reach_spec.specs.Code.{Flow, Falls, Branches, Jumps, Calls, Links, Returns, Stops}
+use Rattle.term_core_spec.specs.Term.{Term}
+use Rattle.graph_core_spec.specs.declared.Next.TheVariants as next
+use Rattle.graph_core_spec.specs.Graph.{Node, Basic, Call}
+use Rattle.decompile_spec.specs.InstructionTerms as forms
+use Rattle.decompile_spec.specs.Blocks.{Following, call_nodes, Setting, Does, leaves, toward, chain, tests_of, ending_of, nodes_at, landing_of, call_inputs}
+use Rattle.decompile_laws.specs.Layout.{Item, landing_node, block}
 use Rattle.decompile.specs.Counts.{load_tests, alignments, access_tests, further_by, further_nodes}
 use Rattle.decompile.specs.Settings.{Stays}
 

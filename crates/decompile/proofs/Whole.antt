@@ -6,17 +6,17 @@ use Rattle.std.proofs.lemmas.Bool.{le-leb, lt-ltb}
 use Rattle.std.proofs.lemmas.List.{length-map, length-replicate, get_or-map}
 use Rattle.std.proofs.lemmas.Option.{same_Some}
 use Rattle.std.proofs.lemmas.List.Elements.{All-head, All-tail}
-use Rattle.elf_spec.specs.Image.{Image, size_at}
+use Rattle.elf_read_spec.specs.Image.{Image, size_at}
 use Rattle.memory_spec.specs.Runs.{Run}
 use Rattle.elf_read.specs.declared.parts.Extent.{Extent}
-use Rattle.code_spec.specs.Code.{InRange, Flow, Falls, Branches, Jumps, Calls, Links, Returns, Stops, flow_of, instr_at, flow_at, IsReachable}
-use Rattle.code_spec.specs.Faults.{HasNoFault, goes_to}
-use Rattle.graph_spec.specs.Graph.{Graph}
-use Rattle.code_graph_spec.specs.Blocks.{Setting, leaves}
-use Rattle.code_graph_spec.specs.CodeGraph.{IsCodeGraph, IsCall}
-use Rattle.code_graph_laws.proofs.Reached.{flow_alone, stays_inside, code_there}
-use Rattle.code_graph_laws.specs.Layout.{Item, laid, AreItems, AreNumbered, LaidAreCodeGraphs}
-use Rattle.code_graph_laws.specs.Valid.{CodeGraphsAreValid}
+use Rattle.code_reach_spec.specs.Code.{InRange, Flow, Falls, Branches, Jumps, Calls, Links, Returns, Stops, flow_of, instr_at, flow_at, IsReachable}
+use Rattle.code_reach_spec.specs.Faults.{HasNoFault, goes_to}
+use Rattle.graph_core_spec.specs.Graph.{Graph}
+use Rattle.decompile_spec.specs.Blocks.{Setting, leaves}
+use Rattle.decompile_spec.specs.CodeGraph.{IsCodeGraph, IsCall}
+use Rattle.decompile_laws.proofs.Reached.{flow_alone, stays_inside, code_there}
+use Rattle.decompile_laws.specs.Layout.{Item, laid, AreItems, AreNumbered, LaidAreCodeGraphs}
+use Rattle.decompile_laws.specs.Valid.{CodeGraphsAreValid}
 use Rattle.decompile.specs.declared.items.Item.{Item as CodeItem}
 use Rattle.decompile.specs.Items.{item_of, AreInstructions}
 use Rattle.decompile.specs.Answer.{first_in, setting, IsFunctionGraph}

@@ -2,14 +2,14 @@
 use Rattle.std.specs.Prelude.{◌≡◌, ◌==◌, ℕ, List, length, Some, nat_eq, unwrap_or, Contains}
 use Rattle.std.specs.List.{position_or_len}
 use Rattle.std.specs.Map.{lookup}
-use Rattle.elf_spec.specs.Image.{Image, size_at}
+use Rattle.elf_read_spec.specs.Image.{Image, size_at}
 use Rattle.memory_spec.specs.Runs.{Run}
-use Rattle.elf_spec.specs.Runs.{AreRuns}
-use Rattle.code_spec.specs.Faults.{HasNoFault}
-use Rattle.graph_spec.specs.Graph.{Graph, IsValid}
-use Rattle.code_graph_spec.specs.Blocks.{Setting}
-use Rattle.code_graph_spec.specs.CodeGraph.{IsCodeGraph, AreFirstNodes, IsCall}
-use Rattle.code_graph_laws.specs.Layout.{Item, AreItems, numbers_by}
+use Rattle.elf_read_spec.specs.Runs.{AreRuns}
+use Rattle.code_reach_spec.specs.Faults.{HasNoFault}
+use Rattle.graph_core_spec.specs.Graph.{Graph, IsValid}
+use Rattle.decompile_spec.specs.Blocks.{Setting}
+use Rattle.decompile_spec.specs.CodeGraph.{IsCodeGraph, AreFirstNodes, IsCall}
+use Rattle.decompile_laws.specs.Layout.{Item, AreItems, numbers_by}
 use Rattle.decompile.specs.Counts.{numbered}
 
 -- the number of a function's graph is the index of its entry in a list; where it isn't there, the list's length

@@ -1,15 +1,15 @@
 -- What calls answer that build tests and bindings, or add nodes.
 use Rattle.std.specs.Prelude.{◌≡◌, Box, Vec, Result, IfOk, List, map}
 use Rattle.std.specs.Global.{Global}
-use Rattle.term_spec.specs.Term.{Term}
+use Rattle.term_core_spec.specs.Term.{Term}
 use Rattle.term_core.specs.declared.term.Term.{Term as CodeTerm}
-use Rattle.graph_spec.specs.Graph as spec
+use Rattle.graph_core_spec.specs.Graph as spec
 use Rattle.graph_core.specs.declared.graph.Binding.{Binding}
 use Rattle.graph_core.specs.declared.graph.Graph.{Graph}
 use Rattle.graph_core.specs.Graphs.{boxed_term, bindings_of, graph_of}
-use Rattle.code_graph_laws.specs.Layout.{Item, block}
+use Rattle.decompile_laws.specs.Layout.{Item, block}
 use Rattle.decompile.specs.declared.function.Function.{Function}
-use Rattle.code_spec.specs.Code.{Flow}
+use Rattle.code_reach_spec.specs.Code.{Flow}
 use Rattle.decompile.specs.declared.items.Item.{Item as CodeItem}
 use Rattle.decompile.specs.Items.{item_with}
 use Rattle.decompile.specs.Settings.{setting_of}

@@ -1,6 +1,6 @@
 -- Calls whose callees are listed.
 use Rattle.std.specs.Prelude.{◌≡◌, ℕ, ◌<◌, ◌%◌, ◌==◌, if◌then◌else◌, List, length, get_or, Contains, Option, Some, None}
-use Rattle.code_spec.specs.Code.{Flow, Calls}
+use Rattle.code_reach_spec.specs.Code.{Flow, Calls}
 use Rattle.decompile.specs.declared.items.Item.{Item}
 use Rattle.decompile.specs.declared.error.GraphError.{GraphError}
 use Rattle.decompile.specs.declared.error.GraphError.TheVariants.{Unlisted}

@@ -6,8 +6,8 @@ use Rattle.rv_instr.specs.declared.LoadKind.{LoadKind}
 use Rattle.rv_instr.specs.declared.LoadKind.TheVariants as load_kind
 use Rattle.rv_instr.specs.declared.StoreKind.{StoreKind}
 use Rattle.rv_instr.specs.declared.StoreKind.TheVariants as store_kind
-use Rattle.code_spec.specs.Code.{Flow, Falls, Calls}
-use Rattle.code_graph_laws.specs.Layout.{Item}
+use Rattle.code_reach_spec.specs.Code.{Flow, Falls, Calls}
+use Rattle.decompile_laws.specs.Layout.{Item}
 use Rattle.decompile.specs.declared.error.GraphError.{GraphError}
 use Rattle.decompile.specs.declared.error.GraphError.TheVariants.{Large, NoMemory}
 

@@ -1,12 +1,12 @@
 -- Why there is no graph of a function.
 use Rattle.std.specs.Prelude.{◌≡◌, ℕ, ◌<◌, ◌≤◌, List, length, Contains, Some}
-use Rattle.elf_spec.specs.Image.{Image, size_at}
-use Rattle.code_spec.specs.Faults.{HasNoFault}
+use Rattle.elf_read_spec.specs.Image.{Image, size_at}
+use Rattle.code_reach_spec.specs.Faults.{HasNoFault}
 use Rattle.code_reach.specs.Found.{IsFirstFault}
 use Rattle.code_reach.specs.declared.faults.CodeError.{CodeError}
 use Rattle.code_reach.specs.declared.faults.CodeError.TheVariants as code
-use Rattle.graph_spec.specs.Graph.{Graph}
-use Rattle.code_graph_spec.specs.CodeGraph.{IsCall}
+use Rattle.graph_core_spec.specs.Graph.{Graph}
+use Rattle.decompile_spec.specs.CodeGraph.{IsCall}
 use Rattle.decompile.specs.Answer.{IsFunctionGraph}
 use Rattle.decompile.specs.declared.error.GraphError.{GraphError}
 use Rattle.decompile.specs.declared.error.GraphError.TheVariants.{Fault, Unlisted, Large, NoMemory}

@@ -1,9 +1,9 @@
 -- The instructions that a function reaches, as the program has them.
 use Rattle.std.specs.Prelude.{◌≡◌, ℕ, ◌==◌, if◌then◌else◌, Bool, true, false, List, map, Some, None}
-use Rattle.elf_spec.specs.Image.{Image, size_at}
-use Rattle.code_spec.specs.Code.{Flow, Falls, Branches, Jumps, Calls, Links, Returns, Stops, flow_of}
-use Rattle.code_spec.specs.Faults.{HasNoFault}
-use Rattle.code_graph_laws.specs.Layout as spec
+use Rattle.elf_read_spec.specs.Image.{Image, size_at}
+use Rattle.code_reach_spec.specs.Code.{Flow, Falls, Branches, Jumps, Calls, Links, Returns, Stops, flow_of}
+use Rattle.code_reach_spec.specs.Faults.{HasNoFault}
+use Rattle.decompile_laws.specs.Layout as spec
 use Rattle.decompile.specs.declared.items.Item.{Item}
 
 -- an instruction with a flow, and with that which it has alone: no pair is taken

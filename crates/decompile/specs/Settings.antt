@@ -1,14 +1,14 @@
 -- A function as the program has it, and the runs of fixed bytes by their addresses.
 use Rattle.std.specs.Prelude.{◌≡◌, ℕ, ◌+◌, ◌-◌, ◌^◌, ◌<◌, ◌≤◌, false, ⊤, List, [], ◌∷◌, length, map, replicate, All}
-use Rattle.elf_spec.specs.Image.{Image}
+use Rattle.elf_read_spec.specs.Image.{Image}
 use Rattle.memory_spec.specs.Runs.{Run}
-use Rattle.elf_spec.specs.Runs.{AreRuns}
+use Rattle.elf_read_spec.specs.Runs.{AreRuns}
 use Rattle.elf_read.specs.declared.parts.Extent.{Extent}
-use Rattle.code_spec.specs.Code.{Flow, Jumps}
-use Rattle.term_spec.specs.Term.{Term}
-use Rattle.graph_spec.specs.declared.Next.TheVariants as next
-use Rattle.graph_spec.specs.Graph.{Node, Cond}
-use Rattle.code_graph_spec.specs.Blocks.{Setting, Of, leaves}
+use Rattle.code_reach_spec.specs.Code.{Flow, Jumps}
+use Rattle.term_core_spec.specs.Term.{Term}
+use Rattle.graph_core_spec.specs.declared.Next.TheVariants as next
+use Rattle.graph_core_spec.specs.Graph.{Node, Cond}
+use Rattle.decompile_spec.specs.Blocks.{Setting, Of, leaves}
 use Rattle.decompile.specs.Answer.{setting}
 use Rattle.decompile.specs.declared.function.Function.{Function}
 

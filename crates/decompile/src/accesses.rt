@@ -3,12 +3,12 @@
 ghost use Rattle.std.specs.Prelude.{◌≡◌, ◌++◌, ◌∷◌, [], ◌≤◌, map, All, OnOk};
 ghost use Rattle.term_core.specs.Trees.{term_of};
 ghost use Rattle.graph_core.specs.Graphs.{boxed_term};
-ghost use Rattle.code_graph_spec.specs.InstructionTerms as spec;
+ghost use Rattle.decompile_spec.specs.InstructionTerms as spec;
 ghost use Rattle.decompile.specs.Settings.{run_of};
 ghost use Rattle.decompile.specs.Built.{BuildsTests};
 
 use attempt::attempt;
-use code_terms::{address, avoids, is_multiple, last_written};
+use decompile_terms::{address, avoids, is_multiple, last_written};
 use elf_read::Extent;
 use rv_instr::{Instr, LoadKind, StoreKind};
 use std::alloc::{AllocError, Global};

@@ -1,17 +1,17 @@
 //! What instructions bind that continue at the next one, and what a called function starts with.
 
 ghost use Rattle.std.specs.Prelude.{◌≡◌, ◌*◌, ◌%◌, ◌^◌, ◌∷◌, [], ◌++◌, ◌<◌, map, All, IfOk, OnOk};
-ghost use Rattle.rv_spec.specs.Arithmetic.{of_immediate as of_immediate_is};
-ghost use Rattle.rv_spec.specs.Arithmetic.{of_shift as of_shift_is};
+ghost use Rattle.rv_machine_spec.specs.Arithmetic.{of_immediate as of_immediate_is};
+ghost use Rattle.rv_machine_spec.specs.Arithmetic.{of_shift as of_shift_is};
 ghost use Rattle.graph_core.specs.Graphs.{binding_of, bindings_of, boxed_term};
-ghost use Rattle.code_graph_spec.specs.State.{memory as memory_is};
-ghost use Rattle.code_graph_spec.specs.InstructionTerms as spec;
-ghost use Rattle.code_graph_spec.specs.Blocks.{call_inputs as call_inputs_are};
-ghost use Rattle.code_graph_spec.specs.Blocks.{entry_binding as entry_binding_is};
+ghost use Rattle.decompile_spec.specs.State.{memory as memory_is};
+ghost use Rattle.decompile_spec.specs.InstructionTerms as spec;
+ghost use Rattle.decompile_spec.specs.Blocks.{call_inputs as call_inputs_are};
+ghost use Rattle.decompile_spec.specs.Blocks.{entry_binding as entry_binding_is};
 ghost use Rattle.decompile.specs.Built.{BuildsBindings};
 
 use attempt::attempt;
-use code_terms::{
+use decompile_terms::{
     address, computed, entry_register, loaded, memory, number, operand, register, stored,
 };
 use graph_core::Binding;
@@ -20,7 +20,7 @@ use rv_instr::{
 };
 use std::alloc::{AllocError, Global};
 use term_core::Term;
-use term_spec::{Atom, Variable};
+use term_core_spec::{Atom, Variable};
 
 /// Binds a variable.
 fn bind(alloc: Global, variable: Variable, term: Box<Term>) -> Result<Vec<Binding>, AllocError>
@@ -167,7 +167,7 @@ fn upper(imm: u32) -> u32
 }
 
 /// What an instruction at an address binds that continues at the next one.
-#[tactic(auto, unfolding(code_graph_spec::specs::InstructionTerms::effects))]
+#[tactic(auto, unfolding(decompile_spec::specs::InstructionTerms::effects))]
 pub(crate) fn effects(
     alloc: Global,
     pc: u32,
@@ -261,7 +261,7 @@ fn bind_number(
 }
 
 /// Adds what a called function starts with, where this is the address after the call.
-#[tactic(auto, unfolding(code_graph_spec::specs::Blocks::call_inputs))]
+#[tactic(auto, unfolding(decompile_spec::specs::Blocks::call_inputs))]
 fn add_inputs(alloc: Global, inputs: &mut Vec<Binding>, back: u32) -> Result<(), AllocError>
     ensures { OnOk result (bindings_of inputs.new
         ≡ bindings_of inputs.old ++ call_inputs_are back) }

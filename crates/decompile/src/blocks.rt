@@ -1,11 +1,11 @@
 //! The nodes of an instruction.
 
 ghost use Rattle.std.specs.Prelude.{◌≡◌, ◌==◌, ◌∷◌, [], map, if◌then◌else◌, IfOk, OnOk, None};
-ghost use Rattle.code_spec.specs.Code.{Flow, flow_of, Falls, Branches, Jumps, Calls, Links};
-ghost use Rattle.code_spec.specs.Code.{Returns, Stops};
-ghost use Rattle.graph_spec.specs.Graph.{Basic, with_nodes};
+ghost use Rattle.code_reach_spec.specs.Code.{Flow, flow_of, Falls, Branches, Jumps, Calls, Links};
+ghost use Rattle.code_reach_spec.specs.Code.{Returns, Stops};
+ghost use Rattle.graph_core_spec.specs.Graph.{Basic, with_nodes};
 ghost use Rattle.graph_core.specs.Graphs.{boxed_term, graph_of, node_of};
-ghost use Rattle.code_graph_spec.specs.InstructionTerms.{branch_test as branch_test_is};
+ghost use Rattle.decompile_spec.specs.InstructionTerms.{branch_test as branch_test_is};
 ghost use Rattle.decompile.specs.Built.{AddsBlock, AddsFlow};
 ghost use Rattle.decompile.specs.Items.{item_of, jal_flow, is_return_flow};
 ghost use Rattle.decompile.specs.Settings.{setting_of, Stays, asks};
@@ -16,9 +16,9 @@ use crate::function::{Function, graph_number};
 use crate::items::Item;
 use crate::numbers::plus;
 use attempt::attempt;
-use code_terms::{branch_test, returns_home};
+use decompile_terms::{branch_test, returns_home};
 use graph_core::{Graph, Node};
-use graph_spec::Next;
+use graph_core_spec::Next;
 use rv_instr::{Instr, Reg};
 use std::alloc::{AllocError, Global};
 use term_core::Term;
@@ -176,7 +176,7 @@ impl Function<'_> {
     }
 
     /// Adds the nodes of an instruction, and the landing node after a call.
-    #[tactic(auto, unfolding(code_graph_spec::specs::InstructionTerms::branch_test))]
+    #[tactic(auto, unfolding(decompile_spec::specs::InstructionTerms::branch_test))]
     pub(crate) fn add_block(
         &self,
         alloc: Global,

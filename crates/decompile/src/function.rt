@@ -6,7 +6,7 @@ ghost use Rattle.decompile.specs.Answer.{number_in};
 
 use crate::numbers::plus;
 use elf_read::Extent;
-use graph_spec::Next;
+use graph_core_spec::Next;
 use indexmap::IndexMap;
 use std::alloc::AllocError;
 
@@ -30,7 +30,7 @@ pub(crate) struct Function<'a> {
 
 impl Function<'_> {
     ghost use Rattle.std.specs.Prelude.{◌≡◌, ◌+◌, IfOk};
-    ghost use Rattle.code_graph_spec.specs.Blocks as spec;
+    ghost use Rattle.decompile_spec.specs.Blocks as spec;
     ghost use Rattle.decompile.specs.Answer.{first_in};
     ghost use Rattle.decompile.specs.Settings.{setting_of};
 
@@ -57,7 +57,7 @@ impl Function<'_> {
     }
 
     /// On to the instruction at an address; an error at no multiple of 4, and outside the range.
-    #[tactic(auto, unfolding(code_graph_spec::specs::Blocks::toward))]
+    #[tactic(auto, unfolding(decompile_spec::specs::Blocks::toward))]
     pub(crate) fn toward(&self, target: u32) -> Next
         ensures { result ≡ spec.toward (setting_of self.now) target }
     {
@@ -69,7 +69,7 @@ impl Function<'_> {
     }
 
     /// On to the instruction after the one at an address.
-    #[tactic(auto, unfolding(code_graph_spec::specs::Blocks::toward))]
+    #[tactic(auto, unfolding(decompile_spec::specs::Blocks::toward))]
     pub(crate) fn onward(&self, address: u32) -> Next
         ensures { result ≡ spec.toward (setting_of self.now) (address + 4) }
     {

@@ -2,7 +2,7 @@
 
 ghost use Rattle.std.specs.Prelude.{◌≡◌, ◌≤◌, ◌-◌, ◌^◌, ℕ, length, map, IfOk, IfErr, IsSome, All};
 ghost use Rattle.std.specs.List.Sorted.{IsStrictlyIncreasing};
-ghost use Rattle.elf_spec.specs.Image.{size_at};
+ghost use Rattle.elf_read_spec.specs.Image.{size_at};
 ghost use Rattle.graph_core.specs.Graphs.{graph_of};
 ghost use Rattle.decompile.specs.Answer.{AreFirsts, IsFunctionGraph};
 ghost use Rattle.decompile.specs.Callees.{IsListed};
@@ -16,11 +16,11 @@ use crate::items::{Item, instructions};
 use crate::numbers::{count_nodes, first_nodes};
 use crate::runs::runs;
 use attempt::attempt;
-use code_graph_laws::layout::laid_are_code_graphs;
-use code_graph_laws::validity::code_graphs_are_valid;
+use decompile_laws::layout::laid_are_code_graphs;
+use decompile_laws::validity::code_graphs_are_valid;
 use elf_read::Image;
 use graph_core::{Graph, Node};
-use graph_spec::Next;
+use graph_core_spec::Next;
 use indexmap::IndexMap;
 use std::alloc::{AllocError, Global};
 
@@ -36,8 +36,8 @@ pub struct CodeGraph {
 
 impl Function<'_> {
     ghost use Rattle.std.specs.Prelude.{◌≡◌, map, All, IfOk, OnOk};
-    ghost use Rattle.graph_spec.specs.Graph.{empty};
-    ghost use Rattle.code_graph_laws.specs.Layout.{laid};
+    ghost use Rattle.graph_core_spec.specs.Graph.{empty};
+    ghost use Rattle.decompile_laws.specs.Layout.{laid};
     ghost use Rattle.graph_core.specs.Graphs.{graph_of as seen};
     ghost use Rattle.decompile.specs.Items.{item_of};
     ghost use Rattle.decompile.specs.Settings.{setting_of, Stays};

@@ -1,9 +1,9 @@
 //! The instructions that a function reaches.
 
 ghost use Rattle.std.specs.Prelude.{◌≡◌, IfOk, IfErr, IsSome};
-ghost use Rattle.rv_spec.specs.Arithmetic.{word};
-ghost use Rattle.rv_spec.specs.Machine.{past};
-ghost use Rattle.elf_spec.specs.Image.{size_at};
+ghost use Rattle.rv_machine_spec.specs.Arithmetic.{word};
+ghost use Rattle.rv_machine_spec.specs.Machine.{past};
+ghost use Rattle.elf_read_spec.specs.Image.{size_at};
 ghost use Rattle.code_reach.specs.Found.{IsCodeError};
 
 use code_reach::{CodeError, code};

@@ -2,8 +2,8 @@
 //!
 //! [`decompile`] answers the graph and, for the address of each instruction, the number of its
 //! first node; [`decompile_within`] does so for at most so many nodes. When a graph is that of a
-//! function is defined in `code_graph_spec`, what the machine and such graphs do together is the
-//! law of `code_graph_laws`.
+//! function is defined in `decompile_spec`, what the machine and such graphs do together is the
+//! law of `decompile_laws`.
 #![tactic(auto)]
 
 mod accesses;

@@ -9,26 +9,26 @@ use Rattle.std.proofs.lemmas.List.{append_assoc, append-nil}
 use Rattle.std.specs.Prelude.{◌&&◌, ◌≤◌, if◌then◌else◌, Result, Ok, Err}
 use Rattle.std.specs.Prelude.{OnOk, nat_le, ◌<◌, ◌↔◌}
 use Rattle.memory_spec.specs.Runs.{Run}
-use Rattle.term_spec.specs.Term.{Term}
-use Rattle.term_spec.specs.Subterms.{subterm_count}
-use Rattle.term_spec.specs.Value.{value}
+use Rattle.term_core_spec.specs.Term.{Term}
+use Rattle.term_core_spec.specs.Subterms.{subterm_count}
+use Rattle.term_core_spec.specs.Value.{value}
 use Rattle.term_core.specs.Assignment.{assignment_of}
-use Rattle.normal_spec.specs.Normal.{normal}
-use Rattle.tv_base.specs.declared.limits.TheConstants.{MAX_TERMS, MAX_VARIABLES}
-use Rattle.clause_spec.specs.declared.Literal.{Literal}
-use Rattle.clause_spec.specs.declared.StepFaultKind.{StepFaultKind}
-use Rattle.clause_spec.specs.Clause.{Clause, Cnf}
-use Rattle.clause_spec.specs.Step.{Outcome, Follows, Refused, outcome}
-use Rattle.clause_spec.specs.Log.{Step, AllFollow, none, some, Refutes}
-use Rattle.closing_spec.specs.Closing.{Closing, Closes, Unclosed, Fails, is_empty, after, at_end, checked}
-use Rattle.closing_spec.specs.Closing.{IsLarge, has_no_step, is_truth, closing_of_clauses, closing_of_form, closing}
-use Rattle.closing_spec.specs.declared.GoalQuantity.{GoalQuantity}
-use Rattle.closing_spec.specs.declared.GoalQuantity.TheVariants.{Terms, Variables}
+use Rattle.term_norm_spec.specs.Normal.{normal}
+use Rattle.tv_limits.specs.declared.TheConstants.{MAX_TERMS, MAX_VARIABLES}
+use Rattle.clause_check_spec.specs.declared.Literal.{Literal}
+use Rattle.clause_check_spec.specs.declared.StepFaultKind.{StepFaultKind}
+use Rattle.clause_check_spec.specs.Clause.{Clause, Cnf}
+use Rattle.clause_check_spec.specs.Step.{Outcome, Follows, Refused, outcome}
+use Rattle.clause_check_spec.specs.Log.{Step, AllFollow, none, some, Refutes}
+use Rattle.discharge_spec.specs.Closing.{Closing, Closes, Unclosed, Fails, is_empty, after, at_end, checked}
+use Rattle.discharge_spec.specs.Closing.{IsLarge, has_no_step, is_truth, closing_of_clauses, closing_of_form, closing}
+use Rattle.discharge_spec.specs.declared.GoalQuantity.{GoalQuantity}
+use Rattle.discharge_spec.specs.declared.GoalQuantity.TheVariants.{Terms, Variables}
 use Rattle.clause_check.specs.Logged.{Logged, clauses_of}
 use Rattle.clause_check.specs.declared.log.StepError.{StepError}
 use Rattle.clause_check.specs.declared.log.StepError.TheVariants.{Fault, NoMemory}
-use Rattle.blast_spec.specs.Goal.{cnf_of}
-use Rattle.sat_spec.specs.Logs.{Lean, Spent}
+use Rattle.bit_blast_spec.specs.Goal.{cnf_of}
+use Rattle.sat_search_spec.specs.Logs.{Lean, Spent}
 use Rattle.discharge.specs.declared.error.CloseError.{CloseError}
 use Rattle.discharge.specs.declared.error.CloseError.TheVariants as close
 use Rattle.discharge.specs.declared.error.SeekError.{SeekError}
@@ -170,6 +170,7 @@ lean_none cnf limit = record {
   is_new = λ i step there e. cc;
   used = λ i step there more. cc;
   chained = λ i step there. cc;
+  named = λ i step there more. cc;
 }
 
 pub closes_plain : (form : Term) → is_truth form ≡ true → closing_of_form form [] ≡ Closes

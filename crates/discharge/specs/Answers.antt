@@ -1,23 +1,23 @@
 -- What closing and seeking answer.
 use Rattle.std.specs.Prelude.{◌≡◌, ℕ, ◌+◌, ◌-◌, ◌<◌, ◌≤◌, Bool, false, List, [], ◌∷◌, ◌++◌, length, Option, Some, None, slice_get, Result, Ok, Err}
 use Rattle.memory_spec.specs.Runs.{Run}
-use Rattle.term_spec.specs.Term.{Term}
-use Rattle.term_spec.specs.Value.{Truth, value}
+use Rattle.term_core_spec.specs.Term.{Term}
+use Rattle.term_core_spec.specs.Value.{Truth, value}
 use Rattle.term_core.specs.Assignment.{assignment_of}
-use Rattle.normal_spec.specs.Normal.{normal}
-use Rattle.clause_spec.specs.declared.StepFaultKind.{StepFaultKind}
-use Rattle.clause_spec.specs.Clause.{Clause, Cnf}
-use Rattle.clause_spec.specs.Log.{Step}
-use Rattle.clause_spec.specs.Step.{Follows, Refused, outcome}
+use Rattle.term_norm_spec.specs.Normal.{normal}
+use Rattle.clause_check_spec.specs.declared.StepFaultKind.{StepFaultKind}
+use Rattle.clause_check_spec.specs.Clause.{Clause, Cnf}
+use Rattle.clause_check_spec.specs.Log.{Step}
+use Rattle.clause_check_spec.specs.Step.{Follows, Refused, outcome}
 use Rattle.clause_check.specs.Logged.{Logged, clauses_of}
 use Rattle.clause_check.specs.declared.log.StepError.{StepError}
 use Rattle.clause_check.specs.declared.log.StepError.TheVariants.{Fault, NoMemory}
-use Rattle.blast_spec.specs.Goal.{cnf_of}
-use Rattle.sat_spec.specs.Logs.{Spent, Lean}
-use Rattle.closing_spec.specs.declared.GoalQuantity.{GoalQuantity}
-use Rattle.closing_spec.specs.declared.GoalQuantity.TheVariants.{Variables}
-use Rattle.tv_base.specs.declared.limits.TheConstants.{MAX_VARIABLES}
-use Rattle.closing_spec.specs.Closing.{Closing, Closes, IsLarge, Fails, Unclosed, is_empty, closing_of_form, closing, measured, maximum}
+use Rattle.bit_blast_spec.specs.Goal.{cnf_of}
+use Rattle.sat_search_spec.specs.Logs.{Spent, Lean}
+use Rattle.discharge_spec.specs.declared.GoalQuantity.{GoalQuantity}
+use Rattle.discharge_spec.specs.declared.GoalQuantity.TheVariants.{Variables}
+use Rattle.tv_limits.specs.declared.TheConstants.{MAX_VARIABLES}
+use Rattle.discharge_spec.specs.Closing.{Closing, Closes, IsLarge, Fails, Unclosed, is_empty, closing_of_form, closing, measured, maximum}
 use Rattle.discharge.specs.declared.error.CloseError.{CloseError}
 use Rattle.discharge.specs.declared.error.CloseError.TheVariants as close
 use Rattle.discharge.specs.declared.error.SeekError.{SeekError}

@@ -2,12 +2,12 @@
 
 ghost use Rattle.std.specs.Prelude.{◌≡◌, ◌<◌, ◌≤◌, length, Some, OnOk, [], true, false};
 ghost use Rattle.memory_spec.specs.Viewed.{runs_of};
-ghost use Rattle.term_spec.specs.declared.Sort.TheVariants as sort;
-ghost use Rattle.term_spec.specs.Sort.{sort_of};
-ghost use Rattle.term_spec.specs.Value as term_value;
-ghost use Rattle.normal_spec.specs.Fixed.{HoldsFixed};
+ghost use Rattle.term_core_spec.specs.declared.Sort.TheVariants as sort;
+ghost use Rattle.term_core_spec.specs.Sort.{sort_of};
+ghost use Rattle.term_core_spec.specs.Value as term_value;
+ghost use Rattle.term_norm_spec.specs.Fixed.{HoldsFixed};
 ghost use Rattle.term_bank.specs.Nodes.{tree_at, Extends};
-ghost use Rattle.closing_spec.specs.Closing as spec;
+ghost use Rattle.discharge_spec.specs.Closing as spec;
 ghost use Rattle.discharge.specs.Answers.{Answers, CountsLarge, CountsVariables, refusal};
 
 use crate::error::CloseError;
@@ -15,14 +15,14 @@ use crate::limits::is_within;
 use crate::steps::Steps;
 use bit_blast::{BlastError, Blasted, blast};
 use clause_check::{Log, StepError};
-use closing_spec::GoalQuantity;
 use cnf_core::{Cnf, MAX_VARIABLE};
+use discharge_spec::GoalQuantity;
 use memory_spec::Run;
 use std::alloc::Global;
 use term_bank::{Bank, TermId, TermNode};
+use term_core_spec::Atom;
 use term_norm::normal;
-use term_spec::Atom;
-use tv_base::limits::{MAX_TERMS, MAX_VARIABLES};
+use tv_limits::{MAX_TERMS, MAX_VARIABLES};
 
 /// Whether a term is the truth value true.
 pub fn is_truth(bank: &Bank, form: TermId) -> bool

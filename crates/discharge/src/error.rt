@@ -2,7 +2,7 @@
 
 ghost use Rattle.std.specs.Prelude.{◌≡◌};
 
-use closing_spec::GoalQuantity;
+use discharge_spec::GoalQuantity;
 use std::alloc::AllocError;
 use thiserror::Error;
 

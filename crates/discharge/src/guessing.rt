@@ -2,18 +2,18 @@
 
 ghost use Rattle.std.specs.Prelude.{◌≡◌, ◌<◌, false, length, IfOk, IfSome};
 ghost use Rattle.memory_spec.specs.Viewed.{runs_of};
-ghost use Rattle.normal_spec.specs.Normal as spec;
-ghost use Rattle.term_spec.specs.Value.{Truth, value};
+ghost use Rattle.term_norm_spec.specs.Normal as spec;
+ghost use Rattle.term_core_spec.specs.Value.{Truth, value};
 ghost use Rattle.term_core.specs.Assignment.{assignment_of};
 ghost use Rattle.term_bank.specs.Nodes.{Extends, tree_at};
 
 use crate::closing::is_truth;
+use crate::guess;
 use crate::limits::is_within;
 use memory_spec::Run;
 use std::alloc::{AllocError, Global};
 use term_bank::{Bank, TermId};
 use term_core::Assignment;
-use term_guess::guess;
 use term_norm::normal;
 
 // An assignment under which a term in normal form is false, if one of a few that are tried is.

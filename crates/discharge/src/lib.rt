@@ -1,8 +1,10 @@
 //! Closes goals: [`close`] says whether a log shows that a goal is true, [`seek`] searches for such
-//! a log.
+//! a log, and [`refute`] tries a few assignments before any search.
 //!
-//! When a log closes a goal is defined in `closing_spec` (`specs/Closing.antt`). A goal that is
-//! closed is true under each assignment whose memories of the source hold the fixed bytes.
+//! When a log closes a goal is defined in `discharge_spec` (`specs/Closing.antt`). A goal that is
+//! closed is true under each assignment whose memories of the source hold the fixed bytes. Which
+//! assignments are tried no contract says: zeros first, then words that look random, and after
+//! those what the values of the bank's terms suggest (`src/values.rt`).
 #![tactic(auto)]
 
 mod closing;
@@ -10,14 +12,18 @@ mod error;
 mod guessing;
 mod laws;
 mod limits;
+mod own;
+mod rounds;
 mod seeking;
 mod steps;
+mod values;
 
 pub use closing::close;
-pub use closing_spec::GoalQuantity;
+pub use discharge_spec::GoalQuantity;
 pub use error::{CloseError, SeekError};
 pub use guessing::refute;
 pub use laws::closed_goals_are_true;
 pub use memory_spec::Run;
+pub use rounds::guess;
 pub use seeking::{Sought, seek};
 pub use steps::{Listing, Steps};

@@ -1,12 +1,12 @@
 //! The limits on a goal.
 
 ghost use Rattle.std.specs.Prelude.{◌≡◌, ◌<◌, nat_le, length, IfOk};
-ghost use Rattle.term_spec.specs.Subterms.{subterm_count};
+ghost use Rattle.term_core_spec.specs.Subterms.{subterm_count};
 ghost use Rattle.term_bank.specs.Nodes.{tree_at};
 
 use std::alloc::{AllocError, Global};
 use term_bank::{Bank, TermId};
-use tv_base::limits::MAX_TERMS;
+use tv_limits::MAX_TERMS;
 
 /// Whether a goal has at most as many distinct subterms as the maximum.
 pub fn is_within(alloc: Global, bank: &Bank, goal: TermId) -> Result<bool, AllocError>

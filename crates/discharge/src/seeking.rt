@@ -2,29 +2,29 @@
 
 ghost use Rattle.std.specs.Prelude.{◌≡◌, ◌<◌, ◌≤◌, ℕ, [], length, Some, false};
 ghost use Rattle.memory_spec.specs.Viewed.{runs_of};
-ghost use Rattle.term_spec.specs.declared.Sort.TheVariants as sort;
-ghost use Rattle.term_spec.specs.Term.{Term};
-ghost use Rattle.term_spec.specs.Sort.{sort_of};
-ghost use Rattle.blast_spec.specs.Goal.{cnf_of, visit};
+ghost use Rattle.term_core_spec.specs.declared.Sort.TheVariants as sort;
+ghost use Rattle.term_core_spec.specs.Term.{Term};
+ghost use Rattle.term_core_spec.specs.Sort.{sort_of};
+ghost use Rattle.bit_blast_spec.specs.Goal.{cnf_of, visit};
 ghost use Rattle.bit_blast_laws.specs.Back.{TableLoadsFromVariables};
 ghost use Rattle.term_bank.specs.Nodes.{tree_at, Extends};
 ghost use Rattle.sat_search.specs.Found.{IsFound};
-ghost use Rattle.closing_spec.specs.Closing.{is_truth as is_truth_term};
+ghost use Rattle.discharge_spec.specs.Closing.{is_truth as is_truth_term};
 ghost use Rattle.discharge.specs.Answers.{Seeks, SeeksForm};
 
 use crate::closing::is_truth;
 use crate::error::SeekError;
 use crate::limits::is_within;
 use bit_blast::{BlastError, Blasted, blast, read_back};
-use closing_spec::GoalQuantity;
+use discharge_spec::GoalQuantity;
 use memory_spec::Run;
-use sat_log::Step;
 use sat_search::{Found, solve};
+use sat_search_analysis::Step;
 use std::alloc::Global;
 use term_bank::{Bank, TermId};
 use term_core::Assignment;
 use term_norm::{hold_runs, normal};
-use tv_base::limits::{MAX_TERMS, MAX_VARIABLES};
+use tv_limits::{MAX_TERMS, MAX_VARIABLES};
 
 /// What a search for a log finds.
 #[derive(Drop)]

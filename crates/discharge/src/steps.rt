@@ -1,12 +1,12 @@
 //! Logs as their checker sees them.
 
 ghost use Rattle.std.specs.Prelude.{◌≡◌, ◌<◌, ◌≤◌, length, List};
-ghost use Rattle.clause_spec.specs.Log.{Step as step};
+ghost use Rattle.clause_check_spec.specs.Log.{Step as step};
 ghost use Rattle.discharge.specs.Answers.{TakesFirst};
 
 use clause_check::{Log, StepError};
 use cnf_core::MAX_VARIABLE;
-use sat_log::Step;
+use sat_search_analysis::Step;
 use std::alloc::Global;
 
 /// The steps of a log that are left, wherever their literals and hints lie.

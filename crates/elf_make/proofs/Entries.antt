@@ -4,8 +4,8 @@ use Rattle.std.specs.List.{before_first, position_or_len}
 use Rattle.std.proofs.Math.Seq.{take-append_seam, get_or-append_seam}
 use Rattle.std.proofs.lemmas.List.{get_or_default, get_or_append_left, get_or-drop}
 use Rattle.std.proofs.lemmas.List.Sums.{position_or_len_is}
-use Rattle.elf_spec.specs.Image.{Symbol}
-use Rattle.elf_spec.specs.File as spec
+use Rattle.elf_read_spec.specs.Image.{Symbol}
+use Rattle.elf_read_spec.specs.File as spec
 use Rattle.elf_make.specs.Layout as layout
 use Rattle.elf_make.specs.Parts.{IsSymbolOfWords, IsNamed}
 use Rattle.elf_make.proofs.Read.{front_word, word_at, half_at, filter_taken}

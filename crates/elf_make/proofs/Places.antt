@@ -2,7 +2,7 @@
 use Rattle.std.proofs.Common.{◌≡◌, ◌+◌, ◌*◌, ◌++◌, ◌∙◌, ℕ, List, [], ◌∷◌, length, length-append, drop, append_assoc, replicate, ap, sym, refl, arith}
 use Rattle.std.proofs.Math.Seq.{drop-append_seam}
 use Rattle.std.proofs.lemmas.List.{drop-drop, length-drop}
-use Rattle.elf_spec.specs.Image.{Image, Segment, Symbol}
+use Rattle.elf_read_spec.specs.Image.{Image, Segment, Symbol}
 use Rattle.elf_make.specs.Layout as layout
 
 -- after a part of a known length comes the rest

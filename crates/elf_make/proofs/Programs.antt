@@ -2,8 +2,8 @@
 use Rattle.std.proofs.Common.{◌≡◌, ◌==◌, ◌+◌, ◌*◌, ◌^◌, ◌<◌, ◌≤◌, ◌++◌, ◌∙◌, ℕ, zero, suc, List, [], ◌∷◌, All, length, length-append, get_or, take, drop, filter, map, append_assoc, ap, refl, arith, subst, eq-eqb, lit<}
 use Rattle.std.proofs.Math.Seq.{take-append_seam}
 use Rattle.std.proofs.lemmas.List.{length-drop}
-use Rattle.elf_spec.specs.Image.{Segment}
-use Rattle.elf_spec.specs.File as spec
+use Rattle.elf_read_spec.specs.Image.{Segment}
+use Rattle.elf_read_spec.specs.File as spec
 use Rattle.elf_make.specs.Layout as layout
 use Rattle.elf_make.specs.Parts.{IsSegmentOfWords}
 use Rattle.elf_make.proofs.Read.{front_word, word_at, filter_taken}

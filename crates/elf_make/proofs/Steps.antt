@@ -3,7 +3,7 @@ use Rattle.std.proofs.Common.{◌≡◌, ◌+◌, ◌++◌, ◌<◌, ◌∙◌, 
 use Rattle.std.proofs.Math.ListN.{get_or-map}
 use Rattle.std.proofs.lemmas.List.{append-nil, drop_all, length-replicate, length-map, get_or_default}
 use Rattle.std.proofs.Math.Seq.{drop-cons}
-use Rattle.elf_spec.specs.Image as spec
+use Rattle.elf_read_spec.specs.Image as spec
 use Rattle.elf_read.specs.declared.parts.Segment.{Segment}
 use Rattle.elf_read.specs.declared.parts.Symbol.{Symbol}
 use Rattle.elf_read.specs.Values.{segment_of, symbol_of}

@@ -3,10 +3,10 @@ use Rattle.std.proofs.Common.{◌≡◌, ◌==◌, ◌+◌, ◌*◌, ◌/◌, �
 use Rattle.std.proofs.Math.Seq.{take-append_seam}
 use Rattle.std.proofs.lemmas.List.Elements.{All-contains, All-filter}
 use Rattle.memory_spec.specs.Zones.{InZone}
-use Rattle.elf_spec.specs.declared.ElfKind.{ElfKind}
-use Rattle.elf_spec.specs.declared.ElfKind.TheVariants.{Short, Magic, Class, Endian, Version, Kind, Machine, Flags, HeaderSize, Table, SegmentRange, SegmentOverlap, NoSymbols, SymbolTable, StringTable}
-use Rattle.elf_spec.specs.Image.{Image, Segment, Symbol}
-use Rattle.elf_spec.specs.File as spec
+use Rattle.elf_read_spec.specs.declared.ElfKind.{ElfKind}
+use Rattle.elf_read_spec.specs.declared.ElfKind.TheVariants.{Short, Magic, Class, Endian, Version, Kind, Machine, Flags, HeaderSize, Table, SegmentRange, SegmentOverlap, NoSymbols, SymbolTable, StringTable}
+use Rattle.elf_read_spec.specs.Image.{Image, Segment, Symbol}
+use Rattle.elf_read_spec.specs.File as spec
 use Rattle.elf_make.specs.Layout as layout
 use Rattle.elf_make.specs.Parts.{CanBeWritten, IsWritten, IsPlaced, AreApart, memory_of, IsSegmentOfWords, IsSymbolOfWords}
 use Rattle.elf_make.proofs.Read.{front_word, front_half, word_at, half_at}

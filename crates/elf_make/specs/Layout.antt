@@ -2,8 +2,8 @@
 -- the string table, 0 bytes up to a multiple of 4, and three section headers. (System V ABI, chapters 4 and 5.)
 use Rattle.std.specs.Prelude.{ℕ, ◌+◌, ◌-◌, ◌*◌, ◌%◌, List, [], ◌∷◌, ◌++◌, length, flat_map, replicate}
 use Rattle.byteorder.specs.Endian.{little_bytes}
-use Rattle.elf_spec.specs.declared.fields.TheConstants.{EHDR_SIZE, PHDR_SIZE, SHDR_SIZE, SYM_SIZE, ELFCLASS32, ELFDATA2LSB, EV_CURRENT, ET_EXEC, EM_RISCV, PT_LOAD, SHT_SYMTAB, SHT_STRTAB}
-use Rattle.elf_spec.specs.Image.{Image, Segment, Symbol}
+use Rattle.elf_read_spec.specs.declared.fields.TheConstants.{EHDR_SIZE, PHDR_SIZE, SHDR_SIZE, SYM_SIZE, ELFCLASS32, ELFDATA2LSB, EV_CURRENT, ET_EXEC, EM_RISCV, PT_LOAD, SHT_SYMTAB, SHT_STRTAB}
+use Rattle.elf_read_spec.specs.Image.{Image, Segment, Symbol}
 
 -- a number of two or four bytes
 unfoldable pub half : ℕ → List ℕ

@@ -1,9 +1,9 @@
 -- Which parts can be written, and what was written.
 use Rattle.std.specs.Prelude.{◌≡◌, ◌+◌, ◌-◌, ◌*◌, ◌^◌, ◌%◌, ◌<◌, ◌≤◌, ℕ, List, length, map, All, AllPairs, Contains}
 use Rattle.memory_spec.specs.Zones.{Zone, AreDisjoint, zone_from}
-use Rattle.elf_spec.specs.Image.{Image, Segment, Symbol}
-use Rattle.elf_spec.specs.File.{IsElf, u32_at}
-use Rattle.elf_spec.specs.declared.fields.TheConstants.{E_FLAGS, SHDR_SIZE}
+use Rattle.elf_read_spec.specs.Image.{Image, Segment, Symbol}
+use Rattle.elf_read_spec.specs.File.{IsElf, u32_at}
+use Rattle.elf_read_spec.specs.declared.fields.TheConstants.{E_FLAGS, SHDR_SIZE}
 use Rattle.elf_read.specs.Values.{segment_of, symbol_of}
 use Rattle.elf_make.specs.declared.parts.Parts.{Parts}
 use Rattle.elf_make.specs.declared.writer.Places.{Places}

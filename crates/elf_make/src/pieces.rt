@@ -9,7 +9,7 @@ ghost use Rattle.elf_make.specs.Parts.{IsSegmentOfWords, IsSymbolOfWords};
 use crate::fields::{put_half, put_word};
 use attempt::attempt;
 use elf_read::{Segment, Symbol};
-use elf_spec::fields::{
+use elf_read_spec::fields::{
     EHDR_SIZE, EM_RISCV, ET_EXEC, EV_CURRENT, PHDR_SIZE, PT_LOAD, SHDR_SIZE, SHT_STRTAB,
     SHT_SYMTAB, SYM_SIZE,
 };

@@ -11,7 +11,7 @@ use crate::pieces::{
 };
 use attempt::attempt;
 use elf_read::{Segment, Symbol};
-use elf_spec::fields::{EHDR_SIZE, PHDR_SIZE, SYM_SIZE};
+use elf_read_spec::fields::{EHDR_SIZE, PHDR_SIZE, SYM_SIZE};
 use std::alloc::{AllocError, Global};
 
 /// Writes an executable of these parts. The only error is out of memory.

@@ -2,11 +2,11 @@
 use Rattle.std.proofs.Common.{◌≡◌, ◌+◌, ◌^◌, ◌<◌, ◌≤◌, ℕ, List, All, Contains, Some, length, get_or, map, drop, arith, refl, sym, subst, ◌∙◌}
 use Rattle.std.proofs.lemmas.List.{get_or_default, length-take, length-map}
 use Rattle.std.proofs.Math.ListN.{get_or-map}
-use Rattle.elf_spec.specs.declared.ElfKind.{ElfKind}
-use Rattle.elf_spec.specs.declared.ElfKind.TheVariants.{SegmentRange, SegmentOverlap}
+use Rattle.elf_read_spec.specs.declared.ElfKind.{ElfKind}
+use Rattle.elf_read_spec.specs.declared.ElfKind.TheVariants.{SegmentRange, SegmentOverlap}
 use Rattle.memory_spec.specs.Zones.{InZone}
-use Rattle.elf_spec.specs.Image.{Image, Segment, Symbol}
-use Rattle.elf_spec.specs.File as spec
+use Rattle.elf_read_spec.specs.Image.{Image, Segment, Symbol}
+use Rattle.elf_read_spec.specs.File as spec
 use Rattle.elf_read.specs.Offsets.{IsRising}
 use Rattle.elf_read.specs.Separate.{Covers, IsApart, AreSeparate}
 

@@ -1,12 +1,12 @@
 -- Following the chain of a bucket passes over symbols of other names only.
 use Rattle.std.proofs.Common.{◌≡◌, ◌==◌, ◌+◌, ◌<◌, ◌≤◌, ◌∙◌, ◌&&◌, ℕ, suc, Bool, true, false, not, List, [], ◌∷◌, length, get_or, drop, map, filter, bytes_eq, ap, sym, refl, arith, subst, add-one, eqb-true, eq-eqb, find, Some, if◌then◌else◌}
-use Rattle.elf_spec.specs.declared.SymbolValues.TheVariants.{One}
+use Rattle.elf_read_spec.specs.declared.SymbolValues.TheVariants.{One}
 use Rattle.std.specs.List.{position_or_len}
 use Rattle.std.proofs.Math.Seq.{drop-cons}
 use Rattle.std.proofs.lemmas.List.{length-drop, drop-drop, drop_all, get_or-drop}
 use Rattle.std.proofs.lemmas.List.Sums.{prefix_len-le-length, passes_at_first}
 use Rattle.std.proofs.lemmas.Slice.Eq.{bytes_eq-Decides}
-use Rattle.elf_spec.specs.Image as spec
+use Rattle.elf_read_spec.specs.Image as spec
 use Rattle.elf_read.specs.declared.parts.Symbol.{Symbol}
 use Rattle.elf_read.specs.Values.{symbol_of}
 use Rattle.elf_read.specs.Buckets.{AreChained, bucket_of, next_in}

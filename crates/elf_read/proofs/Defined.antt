@@ -2,7 +2,7 @@
 use Rattle.std.proofs.Common.{◌≡◌, ◌+◌, ◌*◌, ◌-◌, ◌<◌, ◌++◌, ℕ, Bool, true, false, List, [], ◌∷◌, filter, map, append_assoc, refl, ap, sym, ◌∙◌, ◌/◌, subst, All, Contains}
 use Rattle.std.proofs.lemmas.List.{map-append}
 use Rattle.std.proofs.lemmas.List.Elements.{All-contains}
-use Rattle.elf_spec.specs.File as spec
+use Rattle.elf_read_spec.specs.File as spec
 use Rattle.elf_read.proofs.Tables.{entries_next, contains_entry, all_entries, first_entry}
 use Rattle.elf_read.specs.Names.{IsFirstUnended}
 

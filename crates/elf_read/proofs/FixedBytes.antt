@@ -6,7 +6,7 @@ use Rattle.std.proofs.lemmas.Bool.{leb-true, le-leb}
 use Rattle.std.proofs.lemmas.List.{get_or_default}
 use Rattle.std.proofs.lemmas.List.Elements.{Contains-append_right}
 use Rattle.std.proofs.lemmas.Option.{slice_get_within, slice_get-get_or}
-use Rattle.elf_spec.specs.Image.{fixed_among, is_fixed, byte_in}
+use Rattle.elf_read_spec.specs.Image.{fixed_among, is_fixed, byte_in}
 use Rattle.elf_read.specs.declared.parts.Segment.{Segment}
 use Rattle.elf_read.specs.Values.{segment_of}
 use Rattle.elf_read.specs.Separate.{Covers, IsApart}

@@ -7,7 +7,7 @@ use Rattle.std.proofs.lemmas.List.Elements.{All-filter, filter_passes}
 use Rattle.std.proofs.lemmas.List.Kept.{AllPairs-filter}
 use Rattle.std.proofs.lemmas.List.Sorted.{All-permutation, Contains-permutation, IsPermutation-sym}
 use Rattle.std.proofs.Math.ListN.{get_or-map}
-use Rattle.elf_spec.specs.Image.{is_fixed}
+use Rattle.elf_read_spec.specs.Image.{is_fixed}
 use Rattle.elf_read.specs.declared.parts.Segment.{Segment}
 use Rattle.elf_read.specs.Values.{segment_of}
 use Rattle.elf_read.specs.Separate.{IsApart, AreSeparate, bytes_zone}

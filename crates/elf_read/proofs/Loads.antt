@@ -1,8 +1,8 @@
 -- The PT_LOAD headers of a file, collected in order, and their first faults.
 use Rattle.std.proofs.Common.{◌≡◌, ◌==◌, Bool, below_more, ◌+◌, ◌*◌, ◌-◌, ◌<◌, ◌≤◌, ◌++◌, ℕ, List, [], ◌∷◌, All, Contains, filter, length, get_or, true, false, arith, subst, sym, ap, ◌∙◌, append_assoc}
 use Rattle.std.proofs.lemmas.List.Elements.{All-push}
-use Rattle.elf_spec.specs.declared.ElfKind.TheVariants.{SegmentRange, SegmentOverlap}
-use Rattle.elf_spec.specs.File as spec
+use Rattle.elf_read_spec.specs.declared.ElfKind.TheVariants.{SegmentRange, SegmentOverlap}
+use Rattle.elf_read_spec.specs.File as spec
 use Rattle.elf_read.specs.Faults.{IsFirstOfKind}
 use Rattle.elf_read.specs.Offsets.{IsRising}
 use Rattle.elf_read.proofs.Tables.{entries_next}

@@ -1,10 +1,10 @@
 -- The order in which the kinds of faults are tried.
 use Rattle.std.proofs.Common.{◌≡◌, ◌+◌, ◌<◌, ℕ, List, All, Contains, Some, subst, sym, ◌∙◌, below_more, refl, lit<}
 use Rattle.std.proofs.lemmas.List.Elements.{All-contains}
-use Rattle.elf_spec.specs.declared.ElfKind.TheVariants.{Short, Magic, Class, Endian, Version, Kind, Machine, Flags, HeaderSize, Table, SegmentRange, SegmentOverlap, NoSymbols, SymbolTable, StringTable}
-use Rattle.elf_spec.specs.declared.ElfKind.{ElfKind}
-use Rattle.elf_spec.specs.File.{Keeps, IsRefusedFile, rank, symbol_table, HasStrings, IsEnded, symbols}
-use Rattle.elf_spec.proofs.Verdicts.{rank_apart}
+use Rattle.elf_read_spec.specs.declared.ElfKind.TheVariants.{Short, Magic, Class, Endian, Version, Kind, Machine, Flags, HeaderSize, Table, SegmentRange, SegmentOverlap, NoSymbols, SymbolTable, StringTable}
+use Rattle.elf_read_spec.specs.declared.ElfKind.{ElfKind}
+use Rattle.elf_read_spec.specs.File.{Keeps, IsRefusedFile, rank, symbol_table, HasStrings, IsEnded, symbols}
+use Rattle.elf_read_spec.proofs.Verdicts.{rank_apart}
 use Rattle.elf_read.specs.Faults.{KeepsKind, KeepsBelow}
 use Rattle.elf_read.specs.Names.{IsFirstUnended}
 

@@ -10,8 +10,8 @@ use Rattle.std.proofs.Math.Nat.{eq-or-lt_of_le}
 use Rattle.std.proofs.lemmas.Bool.{cases_order}
 use Rattle.std.proofs.lemmas.Map.Keys.{ge_from_not_lt}
 use Rattle.memory_spec.specs.Zones.{InZone}
-use Rattle.elf_spec.specs.File as spec
-use Rattle.elf_spec.specs.declared.ElfKind.TheVariants.{SegmentOverlap}
+use Rattle.elf_read_spec.specs.File as spec
+use Rattle.elf_read_spec.specs.declared.ElfKind.TheVariants.{SegmentOverlap}
 use Rattle.elf_read.specs.ByStart.{AreByStart}
 use Rattle.elf_read.specs.Faults.{IsFirstOfKind}
 use Rattle.elf_read.specs.Offsets.{IsRising}

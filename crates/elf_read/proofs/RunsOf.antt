@@ -4,14 +4,14 @@ use Rattle.std.proofs.Math.ListN.{get_or-map}
 use Rattle.std.proofs.lemmas.List.{get_or_default, length-map, ext_get_or, map-append, take_all, take_more}
 use Rattle.std.proofs.lemmas.List.Elements.{All-push}
 use Rattle.std.proofs.lemmas.Option.{slice_get-map, slice_get-get_or, slice_get_within}
-use Rattle.elf_spec.specs.Image as spec
+use Rattle.elf_read_spec.specs.Image as spec
 use Rattle.memory_spec.specs.Runs.{Run, AreBytes}
 use Rattle.memory_spec.specs.Viewed.{runs_of}
 use Rattle.memory_spec.specs.Viewed.{run_of as kept}
 use Rattle.memory_spec.specs.declared.Run.{Run as KeptRun}
 use Rattle.memory_spec.proofs.Runs.{are_bytes}
-use Rattle.elf_spec.specs.Runs.{IsRun, AreRuns, bytes_from}
-use Rattle.elf_spec.proofs.Runs.{length-bytes_from, bytes_from-read}
+use Rattle.elf_read_spec.specs.Runs.{IsRun, AreRuns, bytes_from}
+use Rattle.elf_read_spec.proofs.Runs.{length-bytes_from, bytes_from-read}
 use Rattle.elf_read.specs.declared.parts.Extent.{Extent}
 use Rattle.elf_read.specs.declared.parts.Segment.{Segment}
 use Rattle.elf_read.specs.Values.{segment_of, MayExtend, IsExtentAt}

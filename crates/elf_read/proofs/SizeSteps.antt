@@ -5,7 +5,7 @@ use Rattle.std.specs.Ordering.{is_eq, MatchOrdering}
 use Rattle.std.specs.declared.cmp.Ordering.{Ordering}
 use Rattle.std.specs.declared.cmp.Ordering.TheVariants.{Less, Equal, Greater}
 use Rattle.std.proofs.Math.Seq.{drop-cons}
-use Rattle.elf_spec.specs.Image as spec
+use Rattle.elf_read_spec.specs.Image as spec
 use Rattle.elf_read.specs.declared.parts.Symbol.{Symbol}
 use Rattle.elf_read.specs.Values.{symbol_of}
 

@@ -1,7 +1,7 @@
 -- The entries of a table, one after the other.
 use Rattle.std.proofs.Common.{◌≡◌, ◌+◌, ◌*◌, ◌-◌, ◌<◌, ℕ, zero, suc, ◌∷◌, length, get_or, refl, ap, sym, ◌∙◌, arith, Bool, false, find, length, get_or, mul-suc, subst, Contains, All}
 use Rattle.std.proofs.lemmas.List.{get_or_default}
-use Rattle.elf_spec.specs.File.{entries}
+use Rattle.elf_read_spec.specs.File.{entries}
 
 entries_front : (from size rest count : ℕ) → count ≡ suc rest → entries from size count ≡ from ∷ entries (from + size) size rest
 entries_front from size rest count e = ap (λ n. entries from size n) e

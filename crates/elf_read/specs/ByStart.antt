@@ -2,8 +2,8 @@
 use Rattle.std.specs.Prelude.{◌≡◌, ◌+◌, ◌<◌, ◌≤◌, ℕ, List, Some, length}
 use Rattle.std.specs.Ordering.{nat_cmp}
 use Rattle.std.specs.BTreeMap.{BTreeMap, get}
-use Rattle.elf_spec.specs.declared.fields.TheConstants.{P_VADDR, P_MEMSZ, PHDR_SIZE}
-use Rattle.elf_spec.specs.File.{u32_at, AreApart}
+use Rattle.elf_read_spec.specs.declared.fields.TheConstants.{P_VADDR, P_MEMSZ, PHDR_SIZE}
+use Rattle.elf_read_spec.specs.File.{u32_at, AreApart}
 
 -- a program header whose memory begins at an address and isn't empty
 pub record BeginsAt (bytes : List ℕ) (start at : ℕ) : Type 0 where

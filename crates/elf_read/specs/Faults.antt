@@ -1,7 +1,7 @@
 -- The first fault of a file, kind by kind.
 use Rattle.std.specs.Prelude.{◌<◌, ℕ, List, Option, MatchOption}
-use Rattle.elf_spec.specs.declared.ElfKind.{ElfKind}
-use Rattle.elf_spec.specs.File.{Keeps, rank}
+use Rattle.elf_read_spec.specs.declared.ElfKind.{ElfKind}
+use Rattle.elf_read_spec.specs.File.{Keeps, rank}
 
 -- the file has no fault of this kind
 abbrev pub KeepsKind : List ℕ → ElfKind → Type 0

@@ -1,6 +1,6 @@
 -- The fixed segments of an image in the order of their addresses.
 use Rattle.std.specs.Prelude.{◌≡◌, ◌+◌, ◌^◌, ◌<◌, ◌≤◌, ℕ, Bool, true, not, ◌==◌, ◌&&◌, List, length, map, All, AllPairs}
-use Rattle.elf_spec.specs.Image.{fixed_among, is_fixed}
+use Rattle.elf_read_spec.specs.Image.{fixed_among, is_fixed}
 use Rattle.elf_read.specs.declared.parts.Segment.{Segment}
 use Rattle.elf_read.specs.Values.{segment_of}
 

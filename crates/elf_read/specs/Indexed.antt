@@ -2,7 +2,7 @@
 use Rattle.std.specs.Prelude.{◌≡◌, ℕ, map}
 use Rattle.std.specs.Ordering.{nat_cmp}
 use Rattle.std.specs.BTreeMap.{get}
-use Rattle.elf_spec.specs.Image as spec
+use Rattle.elf_read_spec.specs.Image as spec
 use Rattle.elf_read.specs.declared.loaded.Image.TheInside.{Inside}
 use Rattle.elf_read.specs.Values.{segment_of, symbol_of}
 use Rattle.elf_read.specs.Fixed.{AreFixed}

@@ -1,6 +1,6 @@
 -- When a file is refused.
 use Rattle.std.specs.Prelude.{ℕ, List, ⊤}
-use Rattle.elf_spec.specs.File.{IsRefusedFile}
+use Rattle.elf_read_spec.specs.File.{IsRefusedFile}
 use Rattle.elf_read.specs.declared.reader.ElfError.{ElfError}
 use Rattle.elf_read.specs.declared.reader.ElfError.TheVariants.{Fault, NoMemory}
 

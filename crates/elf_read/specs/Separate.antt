@@ -1,7 +1,7 @@
 -- Segments that share no address.
 use Rattle.std.specs.Prelude.{◌+◌, ◌^◌, ◌≤◌, ℕ, List, length, All, AllPairs}
 use Rattle.memory_spec.specs.Zones.{Zone, InZone, AreDisjoint, zone_from}
-use Rattle.elf_spec.specs.Image.{Segment}
+use Rattle.elf_read_spec.specs.Image.{Segment}
 
 -- the addresses of the bytes of a segment
 abbrev pub bytes_zone : Segment → Zone

@@ -1,8 +1,8 @@
 -- The values of the program as those of the definitions.
 use Rattle.std.specs.Prelude.{◌≡◌, ◌+◌, ℕ, List, length, slice_get, Option, Some, None}
-use Rattle.elf_spec.specs.Image as spec
+use Rattle.elf_read_spec.specs.Image as spec
 use Rattle.memory_spec.specs.Runs.{Run}
-use Rattle.elf_spec.specs.Runs.{AreRuns}
+use Rattle.elf_read_spec.specs.Runs.{AreRuns}
 use Rattle.elf_read.specs.declared.parts.Segment.{Segment}
 use Rattle.elf_read.specs.declared.parts.Symbol.{Symbol}
 use Rattle.elf_read.specs.declared.parts.Extent.{Extent}

@@ -3,7 +3,7 @@
 ghost use Rattle.std.specs.Prelude.{◌≡◌, ◌+◌, ◌^◌, ◌≤◌, ◌<◌, ◌↔◌, ℕ, length, map, All, AllPairs};
 ghost use Rattle.std.specs.Prelude.{IfOk, IsTrue, slice_get};
 ghost use Rattle.std.specs.List.{AllWithin};
-ghost use Rattle.elf_spec.specs.Image as spec;
+ghost use Rattle.elf_read_spec.specs.Image as spec;
 ghost use Rattle.elf_read.specs.Values.{segment_of};
 ghost use Rattle.elf_read.specs.Separate.{AreSeparate};
 ghost use Rattle.elf_read.specs.Fixed.{AreInOrder, AreFixed};

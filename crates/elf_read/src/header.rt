@@ -1,13 +1,13 @@
 //! The faults of an ELF header, kind by kind.
 
 ghost use Rattle.std.specs.Prelude.{◌≡◌, ◌≤◌, ◌<◌, ◌+◌, ◌*◌, length, IfErr, OnOk};
-ghost use Rattle.elf_spec.specs.File as spec;
+ghost use Rattle.elf_read_spec.specs.File as spec;
 ghost use Rattle.elf_read.specs.Faults.{IsFirst, KeepsBelow};
 
 use crate::fields::{u16_at, u32_at};
 use crate::reader::ElfFault;
-use elf_spec::ElfKind;
-use elf_spec::fields::{
+use elf_read_spec::ElfKind;
+use elf_read_spec::fields::{
     E_EHSIZE, E_FLAGS, E_MACHINE, E_PHENTSIZE, E_PHNUM, E_PHOFF, E_SHENTSIZE, E_SHNUM, E_SHOFF,
     E_TYPE, E_VERSION, EHDR_SIZE, EI_CLASS, EI_DATA, EI_VERSION, ELFCLASS32, ELFDATA2LSB, ELFMAG,
     EM_RISCV, ET_EXEC, EV_CURRENT, PHDR_SIZE, SHDR_SIZE,

@@ -5,14 +5,14 @@ ghost use Rattle.std.specs.Prelude.{◌∷◌, if◌then◌else◌, max};
 ghost use Rattle.std.specs.Prelude.{unwrap_or, bytes_eq, map, filter, slice_get, None, Some, IfOk};
 ghost use Rattle.std.specs.Bool.{OnTrue, OnFalse};
 ghost use Rattle.std.specs.Option.{option_map};
-ghost use Rattle.elf_spec.specs.Image as spec;
+ghost use Rattle.elf_read_spec.specs.Image as spec;
 
 use crate::fixed::{byte_at, extent_at, extents, fixed_segments};
 use crate::names::Chains;
 use crate::sizes::sizes;
 use crate::{Extent, Segment, Symbol};
-use elf_spec::SymbolValues;
-use elf_spec::fields::{PF_W, STT_FUNC, STT_OBJECT};
+use elf_read_spec::SymbolValues;
+use elf_read_spec::fields::{PF_W, STT_FUNC, STT_OBJECT};
 use memory_spec::Run;
 use std::alloc::{AllocError, Global};
 use std::collections::BTreeMap;
@@ -36,7 +36,7 @@ pub struct Image<'a> {
 }
 
 impl<'a> Model for Image<'a> {
-    ghost use Rattle.elf_spec.specs.Image.{Image as image};
+    ghost use Rattle.elf_read_spec.specs.Image.{Image as image};
 
     ghost Value = { image };
 
@@ -50,7 +50,7 @@ impl<'a> Model for Image<'a> {
 impl<'a> Image<'a> {
     ghost use Rattle.elf_read.specs.Values.{segment_of, symbol_of, IsExtentAt};
     ghost use Rattle.elf_read.specs.Separate.{AreSeparate};
-    ghost use Rattle.elf_spec.specs.Runs.{AreRuns, bytes_from};
+    ghost use Rattle.elf_read_spec.specs.Runs.{AreRuns, bytes_from};
     ghost use Rattle.memory_spec.specs.Runs.{AreBytes};
     ghost use Rattle.memory_spec.specs.Viewed.{runs_of};
 

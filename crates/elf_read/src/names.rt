@@ -2,13 +2,13 @@
 
 ghost use Rattle.std.specs.Prelude.{◌≡◌, ◌<◌, true, IfOk, map, filter, length, drop};
 ghost use Rattle.std.specs.Prelude.{slice_index_or};
-ghost use Rattle.elf_spec.specs.Image as spec;
+ghost use Rattle.elf_read_spec.specs.Image as spec;
 ghost use Rattle.elf_read.specs.declared.parts.Symbol.{Symbol as symbol};
 ghost use Rattle.elf_read.specs.Values.{symbol_of};
 ghost use Rattle.elf_read.specs.Buckets.{AreChained, bucket_of, mixed};
 
 use crate::Symbol;
-use elf_spec::SymbolValues;
+use elf_read_spec::SymbolValues;
 use std::alloc::{AllocError, Global};
 
 /// The symbols in chains, one for each bucket of names: the index of the first symbol of each

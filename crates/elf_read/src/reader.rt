@@ -1,8 +1,8 @@
 //! Reading an executable.
 
 ghost use Rattle.std.specs.Prelude.{◌≡◌, ◌+◌, ◌*◌, ◌≤◌, ℕ, length, Some, All, IfOk, IfErr, OnOk};
-ghost use Rattle.elf_spec.specs.File as spec;
-ghost use Rattle.elf_spec.specs.declared.ElfKind.{ElfKind};
+ghost use Rattle.elf_read_spec.specs.File as spec;
+ghost use Rattle.elf_read_spec.specs.declared.ElfKind.{ElfKind};
 ghost use Rattle.elf_read.specs.Faults.{KeepsBelow};
 ghost use Rattle.elf_read.specs.Offsets.{IsRising};
 ghost use Rattle.elf_read.specs.Refusal.{IsRefusal};
@@ -13,8 +13,8 @@ use crate::header::check_header;
 use crate::segments::{loads, overlap_fault, range_fault, segments};
 use crate::strings::Strings;
 use crate::symbols::{defined_symbols, has_strings, is_table, name_fault, strings, symbol_table};
-use elf_spec::ElfKind;
-use elf_spec::fields::{E_SHNUM, E_SHOFF, EHDR_SIZE, PHDR_SIZE, SHDR_SIZE};
+use elf_read_spec::ElfKind;
+use elf_read_spec::fields::{E_SHNUM, E_SHOFF, EHDR_SIZE, PHDR_SIZE, SHDR_SIZE};
 use std::alloc::{AllocError, Global};
 use thiserror::Error;
 

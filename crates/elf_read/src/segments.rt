@@ -5,7 +5,7 @@ ghost use Rattle.std.specs.Prelude.{Some, IfOk, IsTrue};
 ghost use Rattle.std.specs.Bool.{OnTrue, OnFalse};
 ghost use Rattle.std.specs.Ordering.{nat_cmp};
 ghost use Rattle.std.specs.BTreeMap.{get};
-ghost use Rattle.elf_spec.specs.File as spec;
+ghost use Rattle.elf_read_spec.specs.File as spec;
 ghost use Rattle.elf_read.specs.ByStart.{AreByStart};
 ghost use Rattle.elf_read.specs.Faults.{IsFirst};
 ghost use Rattle.elf_read.specs.Offsets.{IsRising};
@@ -14,8 +14,8 @@ ghost use Rattle.elf_read.specs.Values.{segment_of};
 use crate::Segment;
 use crate::fields::{u16_at, u32_at};
 use attempt::attempt;
-use elf_spec::ElfKind;
-use elf_spec::fields::{
+use elf_read_spec::ElfKind;
+use elf_read_spec::fields::{
     E_PHNUM, E_PHOFF, EHDR_SIZE, P_FILESZ, P_FLAGS, P_MEMSZ, P_OFFSET, P_VADDR, PHDR_SIZE, PT_LOAD,
 };
 use std::alloc::{AllocError, Global};

@@ -3,11 +3,11 @@
 ghost use Rattle.std.specs.Prelude.{◌≡◌, ℕ, map, max, unwrap_or, IfOk};
 ghost use Rattle.std.specs.Ordering.{nat_cmp};
 ghost use Rattle.std.specs.BTreeMap.{get};
-ghost use Rattle.elf_spec.specs.Image as spec;
+ghost use Rattle.elf_read_spec.specs.Image as spec;
 ghost use Rattle.elf_read.specs.Values.{symbol_of};
 
 use crate::Symbol;
-use elf_spec::fields::STT_FUNC;
+use elf_read_spec::fields::STT_FUNC;
 use std::alloc::{AllocError, Global};
 use std::collections::BTreeMap;
 

@@ -2,7 +2,7 @@
 
 ghost use Rattle.std.specs.Prelude.{◌≡◌, ◌==◌, ◌<◌, ◌^◌, ◌↔◌, drop, length, Contains, IfOk, IfSome};
 ghost use Rattle.std.specs.Prelude.{IsSome, MatchOption};
-ghost use Rattle.elf_spec.specs.File.{name_in};
+ghost use Rattle.elf_read_spec.specs.File.{name_in};
 ghost use Rattle.elf_read.specs.Zeros.{AreZeros, IsNextZero, HasNoZero};
 
 use std::alloc::{AllocError, Global};

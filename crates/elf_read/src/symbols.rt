@@ -2,21 +2,21 @@
 
 ghost use Rattle.std.specs.Prelude.{◌≡◌, ◌==◌, ◌+◌, ◌*◌, ◌≤◌, ◌<◌, ◌^◌, ◌↔◌, ℕ, length, drop, map};
 ghost use Rattle.std.specs.Prelude.{Some, All, IfOk, IfSome, IsTrue, MatchOption};
-ghost use Rattle.elf_spec.specs.File as spec;
+ghost use Rattle.elf_read_spec.specs.File as spec;
 ghost use Rattle.elf_read.specs.Values.{symbol_of};
 ghost use Rattle.elf_read.specs.Names.{IsFirstUnended};
 
 use crate::Symbol;
 use crate::fields::{u16_at, u32_at};
 use crate::strings::Strings;
-use elf_spec::fields::{
+use elf_read_spec::fields::{
     E_SHNUM, E_SHOFF, EHDR_SIZE, SH_ENTSIZE, SH_LINK, SH_OFFSET, SH_SIZE, SH_TYPE, SHDR_SIZE,
     SHN_UNDEF, SHT_STRTAB, SHT_SYMTAB, ST_INFO, ST_SHNDX, ST_SIZE, ST_VALUE, SYM_SIZE,
 };
 use std::alloc::{AllocError, Global};
 
 /// The offset of the header of the first section of type `SHT_SYMTAB`.
-#[tactic(auto, unfolding(elf_spec::specs::File::symbol_table))]
+#[tactic(auto, unfolding(elf_read_spec::specs::File::symbol_table))]
 pub(crate) fn symbol_table(bytes: &[u8]) -> Option<usize>
     requires long { EHDR_SIZE ≤ length bytes.now }
     requires table { spec.sections_end bytes.now ≤ length bytes.now }

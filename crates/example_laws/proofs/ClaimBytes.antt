@@ -10,9 +10,9 @@ use Rattle.std.proofs.lemmas.Bool.{leb-true, le-leb, ltb-true}
 use Rattle.std.proofs.lemmas.List.Sums.{AllPass-from_list_all}
 use Rattle.std.proofs.lemmas.Map.Views.{Contains-from_lookup}
 use Rattle.std.proofs.lemmas.Option.{slice_get_within, get_or_from_slice_get}
-use Rattle.elf_spec.specs.Image.{fixed_byte}
+use Rattle.elf_read_spec.specs.Image.{fixed_byte}
 use Rattle.memory_spec.specs.Memory.{byte_at}
-use Rattle.code_spec.specs.Code.{HoldsFixed}
+use Rattle.code_reach_spec.specs.Code.{HoldsFixed}
 use Rattle.example_laws.specs.AddTwoArguments.{code}
 use Rattle.example_laws.specs.AddTwoArgumentsCalled.{image, code_bytes}
 

@@ -3,10 +3,10 @@ use Rattle.std.proofs.Common.{◌≡◌, ℕ, zero, suc, ◌+◌, ◌^◌, Bool,
 use Rattle.std.specs.Prelude.{◌==◌, nat_lt, Some, None}
 use Rattle.std.proofs.lemmas.Bool.{ltb-true}
 use Rattle.std.proofs.lemmas.List.Sums.{AllPass-from_list_all}
-use Rattle.elf_spec.specs.Image.{size_at, global_pointer}
-use Rattle.rv_spec.specs.Machine.{IsMachine, read_register}
-use Rattle.code_spec.specs.Code.{InRange}
-use Rattle.claim_spec.specs.Convention.{argument_words, ArePassed, Meets}
+use Rattle.elf_read_spec.specs.Image.{size_at, global_pointer}
+use Rattle.rv_machine_spec.specs.Machine.{IsMachine, read_register}
+use Rattle.code_reach_spec.specs.Code.{InRange}
+use Rattle.validity_spec.specs.Convention.{argument_words, ArePassed, Meets}
 use Rattle.example_laws.specs.AddTwoArguments.{start}
 use Rattle.example_laws.specs.AddTwoArgumentsCalled.{image, values}
 use Rattle.example_laws.proofs.ClaimBytes.{holds_fixed, code_cells}

@@ -1,8 +1,8 @@
 -- The bytes of the file are an executable.
 use Rattle.std.proofs.Common.{◌≡◌, ℕ, zero, suc, ◌<◌, List, [], ◌∷◌, Contains, Some, IsSome, refl, sym, subst, arith, lit<, lit≤}
-use Rattle.elf_spec.specs.declared.ElfKind.{ElfKind}
-use Rattle.elf_spec.specs.declared.ElfKind.TheVariants.{Short, Magic, Class, Endian, Version, Kind, Machine, Flags, HeaderSize, Table, SegmentRange, SegmentOverlap, NoSymbols, SymbolTable, StringTable}
-use Rattle.elf_spec.specs.File.{u16_at, u32_at, symbol_table, symbols, loads, IsPlaced, IsTable, HasStrings, IsEnded, AreApart, Keeps, IsElf, image_of}
+use Rattle.elf_read_spec.specs.declared.ElfKind.{ElfKind}
+use Rattle.elf_read_spec.specs.declared.ElfKind.TheVariants.{Short, Magic, Class, Endian, Version, Kind, Machine, Flags, HeaderSize, Table, SegmentRange, SegmentOverlap, NoSymbols, SymbolTable, StringTable}
+use Rattle.elf_read_spec.specs.File.{u16_at, u32_at, symbol_table, symbols, loads, IsPlaced, IsTable, HasStrings, IsEnded, AreApart, Keeps, IsElf, image_of}
 use Rattle.example_laws.specs.AddTwoArgumentsCalled.{file, image}
 
 in_one : (x y : ℕ) → Contains (x ∷ []) y → y ≡ x

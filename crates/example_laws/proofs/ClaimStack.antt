@@ -3,8 +3,8 @@ use Rattle.std.proofs.Common.{◌≡◌, ℕ, zero, suc, ◌+◌, ◌-◌, ◌<�
 use Rattle.std.specs.Prelude.{◌⊎◌, IsSome, slice_get}
 use Rattle.std.specs.List.Sorted.{IsStrictlyIncreasing}
 use Rattle.rv_instr.specs.Instr.{instr, instr_of}
-use Rattle.elf_spec.specs.Image.{size_at, fixed_byte}
-use Rattle.code_spec.specs.Code.{instr_at, InRange, HasCode, Flow, Falls, Returns, Calls, Jumps, flow_at, nexts_of, IsReachable, here, next, CallsOn, call, tail, AreReachable, IsStack, deep}
+use Rattle.elf_read_spec.specs.Image.{size_at, fixed_byte}
+use Rattle.code_reach_spec.specs.Code.{instr_at, InRange, HasCode, Flow, Falls, Returns, Calls, Jumps, flow_at, nexts_of, IsReachable, here, next, CallsOn, call, tail, AreReachable, IsStack, deep}
 use Rattle.example_laws.specs.AddTwoArgumentsCalled.{image, code_bytes}
 use Rattle.example_laws.proofs.ClaimBytes.{file_byte}
 

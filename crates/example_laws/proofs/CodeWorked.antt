@@ -4,10 +4,10 @@ use Rattle.std.specs.Prelude.{⊤, Contains}
 use Rattle.std.specs.Option.{option_or}
 use Rattle.std.proofs.lemmas.Option.{slice_get-get_or}
 use Rattle.memory_spec.proofs.Runs.{le_true}
-use Rattle.elf_spec.specs.Image.{Image, Symbol, fixed_byte, size_at}
+use Rattle.elf_read_spec.specs.Image.{Image, Symbol, fixed_byte, size_at}
 use Rattle.rv_instr.specs.Instr.{instr, instr_of, instr_of_immediate}
-use Rattle.code_spec.specs.Code.{instr_at, Flow, Falls, Jumps, Calls, Returns, flow_at, nexts_of, InRange, HasCode, IsReachable, here, next, AreReachable, CallsOn, call, tail, IsStack, deep}
-use Rattle.code_spec.specs.Faults.{direct_flow}
+use Rattle.code_reach_spec.specs.Code.{instr_at, Flow, Falls, Jumps, Calls, Returns, flow_at, nexts_of, InRange, HasCode, IsReachable, here, next, AreReachable, CallsOn, call, tail, IsStack, deep}
+use Rattle.code_reach_spec.specs.Faults.{direct_flow}
 use Rattle.example_laws.specs.CodeSamples.{image_with, pair, tail_call, circle, frame, frame_bytes}
 
 -- what computes a flow

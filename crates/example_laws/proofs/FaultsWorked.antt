@@ -1,18 +1,18 @@
 -- The worked samples: the parser of units computes on them, and what it calls wrong is their fault.
 use Rattle.std.proofs.Common.{◌≡◌, ℕ, List, drop, refl, Err}
-use Rattle.c_spec.specs.Lexical.{Placed}
-use Rattle.c_grammar_spec.specs.declared.LeftOut.TheVariants as left_out
-use Rattle.c_grammar_spec.specs.declared.ParseFaultKind.TheVariants.{Unexpected, LeftOut}
-use Rattle.c_grammar_spec.specs.declared.Role.{Role}
-use Rattle.c_grammar_spec.specs.declared.Role.TheVariants.{Nothing, DeclaredName, MemberEnd, OperandEnd, CallEnd, StatementEnd, NameStatementEnd, CallStatementEnd}
-use Rattle.c_grammar_spec.specs.Expressions.{integer_type_of}
-use Rattle.c_grammar_spec.specs.Faults.{fault_kind, offset_of}
+use Rattle.c_token_spec.specs.Lexical.{Placed}
+use Rattle.c_parse_spec.specs.declared.LeftOut.TheVariants as left_out
+use Rattle.c_parse_spec.specs.declared.ParseFaultKind.TheVariants.{Unexpected, LeftOut}
+use Rattle.c_parse_spec.specs.declared.Role.{Role}
+use Rattle.c_parse_spec.specs.declared.Role.TheVariants.{Nothing, DeclaredName, MemberEnd, OperandEnd, CallEnd, StatementEnd, NameStatementEnd, CallStatementEnd}
+use Rattle.c_parse_spec.specs.Expressions.{integer_type_of}
+use Rattle.c_parse_spec.specs.Faults.{fault_kind, offset_of}
 use Rattle.exact_read.specs.Reading.{Wrong}
-use Rattle.c_expression_laws.specs.Fuel.{parsers}
-use Rattle.c_statement_laws.specs.Statements.{read_statement}
-use Rattle.c_statement_laws.specs.Initializers.{read_initial}
-use Rattle.c_statement_laws.specs.Units.{read_unit}
-use Rattle.c_statement_laws.proofs.Faults.{unit-reports}
+use Rattle.c_parse_laws.specs.Fuel.{parsers}
+use Rattle.c_parse_laws.specs.Statements.{read_statement}
+use Rattle.c_parse_laws.specs.Initializers.{read_initial}
+use Rattle.c_parse_laws.specs.Units.{read_unit}
+use Rattle.c_parse_laws.proofs.Faults.{unit-reports}
 use Rattle.example_laws.specs.FaultSamples as samples
 use Rattle.example_laws.specs.FaultSamples.{IsFaultAt}
 

@@ -2,7 +2,7 @@
 use Rattle.std.proofs.Common.{◌≡◌, ◌∙◌, ℕ, ◌-◌, ◌==◌, ◌&&◌, not, true, false, refl, sym, arith}
 use Rattle.std.specs.Prelude.{⊤}
 use Rattle.std.proofs.lemmas.Bool.{and_parts, eqb-true, not-true}
-use Rattle.walk_spec.specs.TransitionSystem.{IsTransitionSystem}
+use Rattle.graph_core_spec.specs.TransitionSystem.{IsTransitionSystem}
 use Rattle.example_laws.specs.Countdown.{countdown, leads_back, no_call}
 
 node_is : (m n : ℕ) → (m == 0 && not (n == 0)) ≡ true → m ≡ 0

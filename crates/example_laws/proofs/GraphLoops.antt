@@ -1,8 +1,8 @@
 -- Transition systems that end alike or unlike.
 use Rattle.std.proofs.Common.{◌≡◌, ℕ, zero, suc, ◌<◌, ◌==◌, ◌||◌, Bool, true, false, [], refl, ap, subst, inl, inr, arith}
 use Rattle.std.proofs.lemmas.Bool.{eqb-true, eq-eqb, or_cases}
-use Rattle.walk_spec.specs.TransitionSystem.{TransitionSystem, after, reached, stopped, StopsAt, IsSafe, KeepsBounds}
-use Rattle.walk_spec.specs.Simulation.{Agree, both_return, IsStart, Simulates, IsHeld, held}
+use Rattle.graph_core_spec.specs.TransitionSystem.{TransitionSystem, after, reached, stopped, StopsAt, IsSafe, KeepsBounds}
+use Rattle.graph_core_spec.specs.Simulation.{Agree, both_return, IsStart, Simulates, IsHeld, held}
 use Rattle.example_laws.specs.Countdown.{countdown}
 use Rattle.example_laws.specs.Loops.{endless, failing, frame_of, any_state}
 

@@ -1,11 +1,11 @@
 -- What is defined within initial values of small texts, computed from their tokens.
 use Rattle.std.proofs.Common.{◌≡◌, ℕ, true, List, Option, Some, None, refl}
 use Rattle.std.specs.Prelude.{codes, option_map}
-use Rattle.c_spec.specs.Words.{keyword_of}
-use Rattle.c_spec.specs.Numbers.{number_of}
-use Rattle.c_spec.specs.Punctuators.{punctuator_of}
-use Rattle.c_spec.specs.Lexical.{Placed, first_piece}
-use Rattle.claim_spec.specs.Initials.{DefinesIn, DefinesNothing, definition_in}
+use Rattle.c_token_spec.specs.Words.{keyword_of}
+use Rattle.c_token_spec.specs.Numbers.{number_of}
+use Rattle.c_token_spec.specs.Punctuators.{punctuator_of}
+use Rattle.c_token_spec.specs.Lexical.{Placed, first_piece}
+use Rattle.c_parse_spec.specs.Initials.{DefinesIn, DefinesNothing, definition_in}
 use Rattle.example_laws.proofs.Lexed.{lexed, tokens_are}
 
 defines_by : (most : ℕ) (text : List ℕ) (offset : ℕ) (made : Option (List Placed)) → lexed most true 0 text ≡ made

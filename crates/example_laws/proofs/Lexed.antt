@@ -1,7 +1,7 @@
 -- The tokens of a text, computed.
 use Rattle.std.proofs.Common.{◌≡◌, ℕ, zero, suc, ◌+◌, Bool, true, false, List, [], ◌∷◌, drop, refl, ap, subst}
 use Rattle.std.specs.Prelude.{option_map, Option, Some, None, Ok}
-use Rattle.c_spec.specs.Lexical.{Placed, Token, Piece, Blank, Lexeme, Fault, first_piece, Lexes, ended, blank, lexeme, AreTokens}
+use Rattle.c_token_spec.specs.Lexical.{Placed, Token, Piece, Blank, Lexeme, Fault, first_piece, Lexes, ended, blank, lexeme, AreTokens}
 
 abbrev placed : Token → ℕ → Placed
 placed token offset = record { token = token; offset = offset }

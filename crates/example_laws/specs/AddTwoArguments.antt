@@ -2,7 +2,7 @@
 use Rattle.std.specs.Prelude.{[], ◌∷◌, replicate}
 use Rattle.std.specs.FinMap.{from_entries}
 use Rattle.memory_spec.specs.Memory.{Memory}
-use Rattle.rv_spec.specs.Machine.{Machine}
+use Rattle.rv_machine_spec.specs.Machine.{Machine}
 
 unfoldable pub code : Memory
 code =

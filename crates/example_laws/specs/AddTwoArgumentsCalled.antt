@@ -1,10 +1,10 @@
 -- The worked example `add_two_arguments`: `add x10, x10, x11` and `jalr x0, 0(x1)` at 00010000, and its source.
 use Rattle.std.specs.Prelude.{ℕ, ℤ, pos, List, [], ◌∷◌, codes}
-use Rattle.elf_spec.specs.Image.{Image}
-use Rattle.elf_spec.specs.declared.fields.TheConstants.{STT_FUNC}
-use Rattle.c_meaning_spec.specs.Calls.{Outcome}
-use Rattle.claim_spec.specs.Convention.{dead_stack}
-use Rattle.claim_spec.specs.Claim.{run_from}
+use Rattle.elf_read_spec.specs.Image.{Image}
+use Rattle.elf_read_spec.specs.declared.fields.TheConstants.{STT_FUNC}
+use Rattle.c_run_spec.specs.Calls.{Outcome}
+use Rattle.validity_spec.specs.Convention.{dead_stack}
+use Rattle.validity_spec.specs.Claim.{run_from}
 use Rattle.example_laws.specs.AddTwoArguments.{start}
 use Rattle.example_laws.specs.Sum.{sum_unit}
 

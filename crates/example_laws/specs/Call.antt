@@ -1,17 +1,17 @@
 -- Two small graphs. The caller calls with its parameter and 1, and adds 2 to what comes back; the callee fails
 -- where its parameter isn't below 10, writes it to the byte at address 0, and gives twice of it.
 use Rattle.std.specs.Prelude.{ℕ, Bool, true, false, [], ◌∷◌, length, Option, Some, None}
-use Rattle.term_spec.specs.declared.Width.TheVariants.{W8, W32}
-use Rattle.term_spec.specs.declared.Sort.TheVariants.{Word, Memory}
-use Rattle.term_spec.specs.declared.Family.{Family}
-use Rattle.term_spec.specs.declared.Family.TheVariants.{Parameter, Local, SourceMemory}
-use Rattle.term_spec.specs.declared.Variable.{Variable}
-use Rattle.term_spec.specs.Term.{Term, constant, open_term, add, multiply, less, low, store}
-use Rattle.term_spec.specs.Value.{Value, Truth, Number, Bytes, Assignment}
-use Rattle.walk_spec.specs.TransitionSystem.{TransitionSystem, Mark}
-use Rattle.graph_spec.specs.declared.Next.TheVariants.{At, Ret, Err}
-use Rattle.graph_spec.specs.Graph.{Node, Basic, Cond, Call, Graph}
-use Rattle.graph_spec.specs.Run.{State, Running, Returned, Failed, system_of}
+use Rattle.term_core_spec.specs.declared.Width.TheVariants.{W8, W32}
+use Rattle.term_core_spec.specs.declared.Sort.TheVariants.{Word, Memory}
+use Rattle.term_core_spec.specs.declared.Family.{Family}
+use Rattle.term_core_spec.specs.declared.Family.TheVariants.{Parameter, Local, SourceMemory}
+use Rattle.term_core_spec.specs.declared.Variable.{Variable}
+use Rattle.term_core_spec.specs.Term.{Term, constant, open_term, add, multiply, less, low, store}
+use Rattle.term_core_spec.specs.Value.{Value, Truth, Number, Bytes, Assignment}
+use Rattle.graph_core_spec.specs.TransitionSystem.{TransitionSystem, Mark}
+use Rattle.graph_core_spec.specs.declared.Next.TheVariants.{At, Ret, Err}
+use Rattle.graph_core_spec.specs.Graph.{Node, Basic, Cond, Call, Graph}
+use Rattle.graph_core_spec.specs.Run.{State, Running, Returned, Failed, system_of}
 
 abbrev pub parameter : Variable
 parameter = record { family = Parameter; index = 0; instance = 0; sort = Word W32 }

@@ -1,8 +1,8 @@
 -- Images of a few words each.
 use Rattle.std.specs.Prelude.{ℕ, List, [], ◌∷◌, codes, flat_map, length}
 use Rattle.byteorder.specs.Endian.{little_bytes}
-use Rattle.elf_spec.specs.declared.fields.TheConstants.{STT_FUNC}
-use Rattle.elf_spec.specs.Image.{Image, Symbol}
+use Rattle.elf_read_spec.specs.declared.fields.TheConstants.{STT_FUNC}
+use Rattle.elf_read_spec.specs.Image.{Image, Symbol}
 
 abbrev pub bytes_of : (words : List ℕ) → List ℕ
 bytes_of words = flat_map (little_bytes 4) words

@@ -1,6 +1,6 @@
 -- A transition system that has nothing of graphs: it counts down to 0 and returns there. Above 0 it is at its one node.
 use Rattle.std.specs.Prelude.{◌≡◌, ℕ, ◌-◌, ◌==◌, ◌&&◌, not, false}
-use Rattle.walk_spec.specs.TransitionSystem.{TransitionSystem}
+use Rattle.graph_core_spec.specs.TransitionSystem.{TransitionSystem}
 
 abbrev pub countdown : TransitionSystem ℕ
 countdown = record {

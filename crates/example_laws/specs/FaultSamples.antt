@@ -1,12 +1,12 @@
 -- Worked samples: token lists that are no units, with the offset of each token, and their faults.
 use Rattle.std.specs.Prelude.{◌≡◌, ℕ, List, [], ◌∷◌}
-use Rattle.c_spec.specs.declared.token.Keyword.TheVariants as keyword
-use Rattle.c_spec.specs.declared.token.NumberType.TheVariants.{SignedInt}
-use Rattle.c_spec.specs.declared.token.Punctuator.TheVariants as punctuator
-use Rattle.c_spec.specs.Lexical.{Placed}
-use Rattle.c_grammar_spec.specs.declared.ParseFaultKind.{ParseFaultKind}
-use Rattle.c_grammar_spec.specs.Faults.{IsFault, offset_of}
-use Rattle.c_grammar_spec.specs.Leaves.{mark, keyword_at, named, number}
+use Rattle.c_token_spec.specs.declared.token.Keyword.TheVariants as keyword
+use Rattle.c_token_spec.specs.declared.token.NumberType.TheVariants.{SignedInt}
+use Rattle.c_token_spec.specs.declared.token.Punctuator.TheVariants as punctuator
+use Rattle.c_token_spec.specs.Lexical.{Placed}
+use Rattle.c_parse_spec.specs.declared.ParseFaultKind.{ParseFaultKind}
+use Rattle.c_parse_spec.specs.Faults.{IsFault, offset_of}
+use Rattle.c_parse_spec.specs.Leaves.{mark, keyword_at, named, number}
 
 -- tokens of a text that ends there have a fault of this kind at this offset
 abbrev pub IsFaultAt : (tokens : List Placed) → (end : ℕ) → ParseFaultKind → (offset : ℕ) → Type 0

@@ -1,12 +1,12 @@
 -- Variables of goals, and literals by the numbers of their variables.
 use Rattle.std.specs.Prelude.{ℕ, Bool, true, false}
-use Rattle.term_spec.specs.declared.Width.TheVariants.{W8, W32}
-use Rattle.term_spec.specs.declared.Sort.{Sort}
-use Rattle.term_spec.specs.declared.Sort.TheVariants.{Truth, Word, Memory}
-use Rattle.term_spec.specs.declared.Family.TheVariants.{Local, SourceMemory}
-use Rattle.term_spec.specs.declared.Variable.{Variable}
-use Rattle.term_spec.specs.Term.{Term, open_term}
-use Rattle.clause_spec.specs.declared.Literal.{Literal}
+use Rattle.term_core_spec.specs.declared.Width.TheVariants.{W8, W32}
+use Rattle.term_core_spec.specs.declared.Sort.{Sort}
+use Rattle.term_core_spec.specs.declared.Sort.TheVariants.{Truth, Word, Memory}
+use Rattle.term_core_spec.specs.declared.Family.TheVariants.{Local, SourceMemory}
+use Rattle.term_core_spec.specs.declared.Variable.{Variable}
+use Rattle.term_core_spec.specs.Term.{Term, open_term}
+use Rattle.clause_check_spec.specs.declared.Literal.{Literal}
 
 abbrev pub is : ℕ → Literal
 is number = record { variable = number; is_negated = false }

@@ -1,7 +1,7 @@
 -- Frames of two systems that count down or run for ever, without goals.
 use Rattle.std.specs.Prelude.{ℕ, ◌==◌, ◌&&◌, not, true, false, [], ⊤}
-use Rattle.walk_spec.specs.TransitionSystem.{TransitionSystem}
-use Rattle.walk_spec.specs.Simulation.{Frame}
+use Rattle.graph_core_spec.specs.TransitionSystem.{TransitionSystem}
+use Rattle.graph_core_spec.specs.Simulation.{Frame}
 
 -- it never ends, and is always at its one node
 abbrev pub endless : TransitionSystem ℕ

@@ -2,14 +2,14 @@
 -- 10000 hex and 4 k more is 10 k + 1, and its further nodes follow; the landing node after it is 10 k + 10.
 use Rattle.std.specs.Prelude.{ℕ, ◌+◌, ◌-◌, ◌*◌, ◌/◌, List, [], ◌∷◌, replicate, Option, None, option_map, option_and_then}
 use Rattle.rv_instr.specs.Instr.{instr}
-use Rattle.code_spec.specs.Code.{flow_of}
-use Rattle.term_spec.specs.Term.{Term, open_term, equal, add, less, or_term}
-use Rattle.graph_spec.specs.declared.Next.{Next}
-use Rattle.graph_spec.specs.declared.Next.TheVariants as next
-use Rattle.graph_spec.specs.Graph.{Node, Basic, Cond}
-use Rattle.code_graph_spec.specs.State.{register, entry_register, memory}
-use Rattle.code_graph_spec.specs.InstructionTerms.{number}
-use Rattle.code_graph_spec.specs.Blocks.{NodeName, Entrance, Of, Following, Setting, nodes_at, landing_of}
+use Rattle.code_reach_spec.specs.Code.{flow_of}
+use Rattle.term_core_spec.specs.Term.{Term, open_term, equal, add, less, or_term}
+use Rattle.graph_core_spec.specs.declared.Next.{Next}
+use Rattle.graph_core_spec.specs.declared.Next.TheVariants as next
+use Rattle.graph_core_spec.specs.Graph.{Node, Basic, Cond}
+use Rattle.decompile_spec.specs.State.{register, entry_register, memory}
+use Rattle.decompile_spec.specs.InstructionTerms.{number}
+use Rattle.decompile_spec.specs.Blocks.{NodeName, Entrance, Of, Following, Setting, nodes_at, landing_of}
 
 abbrev pub number_of : NodeName → ℕ
 number_of Entrance = 0

@@ -1,18 +1,18 @@
 -- Two small sources: the text of the first, with its tokens and its tree, and the typed cores of both.
 use Rattle.std.specs.Prelude.{ℕ, Bool, List, [], ◌∷◌, codes, Option, Some}
 use Rattle.memory_spec.specs.Zones.{Zone}
-use Rattle.c_spec.specs.declared.token.Keyword.TheVariants.{Unsigned, Return as return_word}
-use Rattle.c_spec.specs.declared.token.Punctuator.TheVariants.{LeftParenthesis, RightParenthesis, LeftBrace, RightBrace, Comma, Semicolon, Plus}
-use Rattle.c_spec.specs.Lexical.{Placed}
-use Rattle.c_tree_spec.specs.Unit.{TranslationUnit}
-use Rattle.c_grammar_spec.specs.Leaves.{mark, keyword_at, named}
-use Rattle.c_type_spec.specs.declared.Arithmetic.{Arithmetic}
-use Rattle.c_type_spec.specs.declared.Arithmetic.TheVariants as arithmetic
-use Rattle.c_type_spec.specs.Types.{unsigned_int}
-use Rattle.c_type_spec.specs.Core as core
-use Rattle.c_type_laws.specs.Samples as samples
-use Rattle.c_type_laws.specs.Samples.{name_at}
-use Rattle.c_meaning_spec.specs.Setting.{Setting}
+use Rattle.c_token_spec.specs.declared.token.Keyword.TheVariants.{Unsigned, Return as return_word}
+use Rattle.c_token_spec.specs.declared.token.Punctuator.TheVariants.{LeftParenthesis, RightParenthesis, LeftBrace, RightBrace, Comma, Semicolon, Plus}
+use Rattle.c_token_spec.specs.Lexical.{Placed}
+use Rattle.c_syntax_spec.specs.Unit.{TranslationUnit}
+use Rattle.c_parse_spec.specs.Leaves.{mark, keyword_at, named}
+use Rattle.c_types_spec.specs.declared.Arithmetic.{Arithmetic}
+use Rattle.c_types_spec.specs.declared.Arithmetic.TheVariants as arithmetic
+use Rattle.c_types_spec.specs.Types.{unsigned_int}
+use Rattle.c_types_spec.specs.Core as core
+use Rattle.c_types_laws.specs.TypeSamples as samples
+use Rattle.c_types_laws.specs.TypeSamples.{name_at}
+use Rattle.c_run_spec.specs.Setting.{Setting}
 
 abbrev pub sum_text : List ℕ
 sum_text = codes "unsigned f(unsigned a,unsigned b){return a+b;}"
@@ -40,6 +40,7 @@ binary_body operator = record {
   locals = unsigned_int ∷ unsigned_int ∷ [];
   loops = 0;
   calls = 0;
+  mentions = [];
   action = core.Sequence
       (core.Return (Some (core.Operate operator unsigned_int (core.ReadLocal unsigned_int 0 41) (core.ReadLocal unsigned_int 1 43) 42)))
       (core.MissingReturn 45);

@@ -1,7 +1,7 @@
 -- Goals over truth values, and their clauses: variable 1 is truth, then the subterms follow in post-order.
 use Rattle.std.specs.Prelude.{true, false, [], ◌∷◌}
-use Rattle.term_spec.specs.Term.{Term, truth, not_term, and_term, or_term, equal, choose}
-use Rattle.clause_spec.specs.Clause.{Cnf}
+use Rattle.term_core_spec.specs.Term.{Term, truth, not_term, and_term, or_term, equal, choose}
+use Rattle.clause_check_spec.specs.Clause.{Cnf}
 use Rattle.example_laws.specs.Goals.{is, isnt, p, q, r}
 
 -- no gate: the literal of `true` is truth itself

@@ -1,8 +1,8 @@
 -- Goals over words of 8 bits, and their clauses, worked out by another program from the tables of gates.
 use Rattle.std.specs.Prelude.{[], ◌∷◌}
-use Rattle.term_spec.specs.declared.Width.TheVariants.{W8, W16}
-use Rattle.term_spec.specs.Term.{Term, constant, equal, less, add, subtract, shift_left, shift_right_signed, load, zero_extend, byte, join_two}
-use Rattle.clause_spec.specs.Clause.{Cnf}
+use Rattle.term_core_spec.specs.declared.Width.TheVariants.{W8, W16}
+use Rattle.term_core_spec.specs.Term.{Term, constant, equal, less, add, subtract, shift_left, shift_right_signed, load, zero_extend, byte, join_two}
+use Rattle.clause_check_spec.specs.Clause.{Cnf}
 use Rattle.example_laws.specs.Goals.{is, isnt, x, y, a, b, m}
 
 -- x has variables 2 to 9 and y 10 to 17; 18 to 25 are the carries of x and the complement of y and 1

@@ -1,6 +1,6 @@
 ghost use Rattle.std.specs.Prelude.{◌≡◌, IsSomeAnd};
-ghost use Rattle.rv_spec.specs.Machine.{read_register};
-ghost use Rattle.rv_spec.specs.Step.{after};
+ghost use Rattle.rv_machine_spec.specs.Machine.{read_register};
+ghost use Rattle.rv_machine_spec.specs.Step.{after};
 ghost use Rattle.example_laws.specs.AddTwoArguments.{start};
 
 /// The worked example `add_two_arguments`: `add x10, x10, x11` and a return. From 5 in x10 and 7 in

@@ -5,14 +5,14 @@
 //! of which all holds that agreement asks.
 
 ghost use Rattle.std.specs.Prelude.{◌≡◌, Some, codes};
-ghost use Rattle.elf_spec.specs.Image.{function_named};
-ghost use Rattle.elf_spec.specs.File.{IsElf};
-ghost use Rattle.elf_spec.specs.declared.SymbolValues.TheVariants.{One};
-ghost use Rattle.code_spec.specs.Code.{IsStack};
-ghost use Rattle.c_type_spec.specs.declared.Arithmetic.TheVariants.{Add};
-ghost use Rattle.c_meaning_spec.specs.Calls.{body_named};
-ghost use Rattle.claim_spec.specs.Convention.{argument_words, Meets};
-ghost use Rattle.claim_spec.specs.Claim.{HaveTypes, BreaksNoGuard, RunsBack};
+ghost use Rattle.elf_read_spec.specs.Image.{function_named};
+ghost use Rattle.elf_read_spec.specs.File.{IsElf};
+ghost use Rattle.elf_read_spec.specs.declared.SymbolValues.TheVariants.{One};
+ghost use Rattle.code_reach_spec.specs.Code.{IsStack};
+ghost use Rattle.c_types_spec.specs.declared.Arithmetic.TheVariants.{Add};
+ghost use Rattle.c_run_spec.specs.Calls.{body_named};
+ghost use Rattle.validity_spec.specs.Convention.{argument_words, Meets};
+ghost use Rattle.validity_spec.specs.Claim.{HaveTypes, BreaksNoGuard, RunsBack};
 ghost use Rattle.example_laws.specs.AddTwoArguments.{start};
 ghost use Rattle.example_laws.specs.Sum.{binary_body, binary_type, sum_unit};
 ghost use Rattle.example_laws.specs.AddTwoArgumentsCalled.{file, image, values, run};

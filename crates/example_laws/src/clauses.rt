@@ -5,8 +5,8 @@
 //! of gates.
 
 ghost use Rattle.std.specs.Prelude.{◌≡◌, true, false};
-ghost use Rattle.term_spec.specs.Term.{truth, not_term, and_term, equal, choose};
-ghost use Rattle.blast_spec.specs.Goal.{cnf_of};
+ghost use Rattle.term_core_spec.specs.Term.{truth, not_term, and_term, equal, choose};
+ghost use Rattle.bit_blast_spec.specs.Goal.{cnf_of};
 ghost use Rattle.example_laws.specs.Goals.{p, q, r};
 ghost use Rattle.example_laws.specs.Truths as truths;
 ghost use Rattle.example_laws.specs.Words as words;

@@ -2,10 +2,10 @@
 //! of each image are in `specs/CodeSamples.antt`.
 
 ghost use Rattle.std.specs.Prelude.{◌≡◌, Some, [], ◌∷◌};
-ghost use Rattle.code_spec.specs.declared.CodeKind.TheVariants.{Indirect, Leaves};
-ghost use Rattle.code_spec.specs.Code.{Calls, Jumps, Stops, flow_at, IsReachable, AreReachable};
-ghost use Rattle.code_spec.specs.Code.{CallsOn, Reaches, IsCyclic, IsStack};
-ghost use Rattle.code_spec.specs.Faults.{direct_flow, IsInstructionFault};
+ghost use Rattle.code_reach_spec.specs.declared.CodeKind.TheVariants.{Indirect, Leaves};
+ghost use Rattle.code_reach_spec.specs.Code.{Calls, Jumps, Stops, flow_at, IsReachable, AreReachable};
+ghost use Rattle.code_reach_spec.specs.Code.{CallsOn, Reaches, IsCyclic, IsStack};
+ghost use Rattle.code_reach_spec.specs.Faults.{direct_flow, IsInstructionFault};
 ghost use Rattle.example_laws.specs.CodeSamples.{pair, tail_call, circle, frame};
 
 /// `auipc x5,0; jalr x1,12(x5); ret`: the two words together are a call of the function 12 bytes

@@ -1,17 +1,17 @@
 //! Worked facts of the definition of code graphs: the nodes of six small functions, written out by
 //! hand.
 //!
-//! Each function's clauses are facts about the definitions of `code_graph_spec`, and its body is
+//! Each function's clauses are facts about the definitions of `decompile_spec`, and its body is
 //! empty. The nodes have the numbers of `specs/Numbered.antt`. Each word is from the RISC-V
 //! unprivileged specification.
 
 ghost use Rattle.std.specs.Prelude.{◌≡◌, Some, None, [], ◌∷◌};
-ghost use Rattle.term_spec.specs.Term.{add, bit_and, equal, not_term, load};
-ghost use Rattle.term_spec.specs.Term.{join_four, store, byte};
-ghost use Rattle.graph_spec.specs.declared.Next.TheVariants.{At, Ret, Err};
-ghost use Rattle.graph_spec.specs.Graph.{Basic, Cond, Call};
-ghost use Rattle.code_graph_spec.specs.InstructionTerms.{number};
-ghost use Rattle.code_graph_spec.specs.Blocks.{call_inputs, tail_inputs};
+ghost use Rattle.term_core_spec.specs.Term.{add, bit_and, equal, not_term, load};
+ghost use Rattle.term_core_spec.specs.Term.{join_four, store, byte};
+ghost use Rattle.graph_core_spec.specs.declared.Next.TheVariants.{At, Ret, Err};
+ghost use Rattle.graph_core_spec.specs.Graph.{Basic, Cond, Call};
+ghost use Rattle.decompile_spec.specs.InstructionTerms.{number};
+ghost use Rattle.decompile_spec.specs.Blocks.{call_inputs, tail_inputs};
 ghost use Rattle.example_laws.specs.Numbered.{nodes_of, landing_after, x, e, m, sets, writes, asks};
 ghost use Rattle.example_laws.specs.Numbered.{avoiding, comes_home, x10_plus};
 

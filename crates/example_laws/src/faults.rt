@@ -1,8 +1,8 @@
-//! Worked examples of `IsFault` (`c_grammar_spec`), with its table of kinds: of which kind the
+//! Worked examples of `IsFault` (`c_parse_spec`), with its table of kinds: of which kind the
 //! first fault of a text is, and its offset.
 
-ghost use Rattle.c_grammar_spec.specs.declared.LeftOut.TheVariants as left_out;
-ghost use Rattle.c_grammar_spec.specs.declared.ParseFaultKind.TheVariants.{LeftOut, Unexpected};
+ghost use Rattle.c_parse_spec.specs.declared.LeftOut.TheVariants as left_out;
+ghost use Rattle.c_parse_spec.specs.declared.ParseFaultKind.TheVariants.{LeftOut, Unexpected};
 ghost use Rattle.example_laws.specs.FaultSamples as samples;
 
 /// `int (*p)(int);`. A bracket where a declared name is expected: a pointer to a function.

@@ -1,18 +1,18 @@
 //! Worked facts of the definitions of graphs and walks: each function's clause is one fact, and its
 //! body is empty.
 //!
-//! They hold the runs of `graph_spec` against two small graphs (`specs/Call.antt`), of which one
-//! calls the other, worked by hand; and the simulation of `walk_spec` against walks that end alike
+//! They hold the runs of `graph_core_spec` against two small graphs (`specs/Call.antt`), of which one
+//! calls the other, worked by hand; and the simulation of `graph_core_spec` against walks that end alike
 //! or unlike (`specs/Loops.antt`).
 
 ghost use Rattle.std.specs.Prelude.{◌≡◌, ℕ, Some, None, true, false, [], ◌∷◌};
-ghost use Rattle.walk_spec.specs.TransitionSystem.{after, arrivals, KeepsBounds, StopsAt};
-ghost use Rattle.walk_spec.specs.Simulation.{Simulates};
+ghost use Rattle.graph_core_spec.specs.TransitionSystem.{after, arrivals, KeepsBounds, StopsAt};
+ghost use Rattle.graph_core_spec.specs.Simulation.{Simulates};
 ghost use Rattle.example_laws.specs.Countdown.{countdown};
 ghost use Rattle.example_laws.specs.Loops.{any_state, endless, failing, frame_of};
-ghost use Rattle.term_spec.specs.Value.{Assignment};
-ghost use Rattle.graph_spec.specs.Graph.{IsValid};
-ghost use Rattle.graph_spec.specs.Run.{Running, Failed};
+ghost use Rattle.term_core_spec.specs.Value.{Assignment};
+ghost use Rattle.graph_core_spec.specs.Graph.{IsValid};
+ghost use Rattle.graph_core_spec.specs.Run.{Running, Failed};
 ghost use Rattle.example_laws.specs.Call.{caller, callee, walk, start, start_with, place, words};
 ghost use Rattle.example_laws.specs.Call.{first_byte, mark, ended};
 

@@ -5,9 +5,9 @@
 ghost use Rattle.std.specs.Prelude.{◌≡◌, ℕ, Bool, List, [], ◌∷◌, Option, Some, pos, codes};
 ghost use Rattle.memory_spec.specs.Memory.{Memory};
 ghost use Rattle.memory_spec.specs.Zones.{Zone};
-ghost use Rattle.c_meaning_spec.specs.Calls.{More, Back, c_run};
-ghost use Rattle.claim_spec.specs.Initials.{DefinesIn, DefinesNothing};
-ghost use Rattle.claim_spec.specs.Source.{IsC};
+ghost use Rattle.c_run_spec.specs.Calls.{More, Back, c_run};
+ghost use Rattle.c_parse_spec.specs.Initials.{DefinesIn, DefinesNothing};
+ghost use Rattle.validity_spec.specs.Source.{IsC};
 ghost use Rattle.example_laws.specs.Sum.{sum_unit, difference_unit, setting};
 
 /// The text `unsigned f(unsigned a,unsigned b){return a+b;}` is a source, and this is its typed

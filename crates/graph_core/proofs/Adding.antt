@@ -1,9 +1,9 @@
 -- Variables that are added in parts.
 use Rattle.std.proofs.Common.{◌≡◌, ◌∙◌, List, ◌∷◌, ◌++◌, sym, ap}
 use Rattle.std.proofs.lemmas.List.Sums.{fold-append}
-use Rattle.term_spec.specs.declared.Variable.{Variable}
-use Rattle.graph_spec.specs.Graph.{Binding}
-use Rattle.graph_spec.specs.Variables.{occurrences, occurrences_in_bindings, with_variable, with_variables}
+use Rattle.term_core_spec.specs.declared.Variable.{Variable}
+use Rattle.graph_core_spec.specs.Graph.{Binding}
+use Rattle.graph_core_spec.specs.Variables.{occurrences, occurrences_in_bindings, with_variable, with_variables}
 
 -- those of one part, then those of the next
 pub then : (seen middle new first second : List Variable) → middle ≡ with_variables seen first → new ≡ with_variables middle second

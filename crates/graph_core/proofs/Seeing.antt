@@ -4,16 +4,16 @@ use Rattle.std.specs.Prelude.{nat_eq}
 use Rattle.std.specs.List.{list_any}
 use Rattle.std.proofs.lemmas.Bool.{or_left, or_right, or_cases}
 use Rattle.std.proofs.lemmas.List.Folds.{list_any-append}
-use Rattle.term_spec.specs.declared.Variable.{Variable}
-use Rattle.term_spec.specs.contracts.VariableEq.TheImpl.Laws as variable_laws
-use Rattle.term_spec.specs.Same.{same_variable}
-use Rattle.term_spec.specs.Term.{Term}
+use Rattle.term_core_spec.specs.declared.Variable.{Variable}
+use Rattle.term_core_spec.specs.contracts.VariableEq.TheImpl.Laws as variable_laws
+use Rattle.term_core_spec.specs.Same.{same_variable}
+use Rattle.term_core_spec.specs.Term.{Term}
 use Rattle.term_bank.specs.declared.node.TermNode.{TermNode}
 use Rattle.term_bank.specs.declared.node.TermNode.TheVariants.{Leaf, Unary, Binary, Ternary, Quaternary, Octonary}
 use Rattle.term_bank.specs.Nodes.{tree_at, build, Holds}
 use Rattle.term_bank.proofs.Substitution.{is_at}
 use Rattle.term_bank.specs.Subterms.{arguments_of}
-use Rattle.graph_spec.specs.Variables.{occurrences, with_variable, with_variables}
+use Rattle.graph_core_spec.specs.Variables.{occurrences, with_variable, with_variables}
 use Rattle.graph_core.specs.Seen.{HasAll, AreSeen, own_variables, occurrences_of_all}
 
 abbrev IsListed : List Variable → Variable → Type 0

@@ -4,16 +4,16 @@ use Rattle.std.specs.Prelude.{◌↔◌, slice_get}
 use Rattle.std.specs.List.{All}
 use Rattle.std.proofs.lemmas.Bool.{cases_lt}
 use Rattle.std.proofs.lemmas.Option.{same_Some, get_or_from_slice_get}
-use Rattle.term_spec.specs.declared.Sort.{Sort}
-use Rattle.term_spec.specs.declared.Sort.TheVariants as sort
-use Rattle.term_spec.specs.Term.{Term}
-use Rattle.term_spec.specs.Sort.{sort_of}
+use Rattle.term_core_spec.specs.declared.Sort.{Sort}
+use Rattle.term_core_spec.specs.declared.Sort.TheVariants as sort
+use Rattle.term_core_spec.specs.Term.{Term}
+use Rattle.term_core_spec.specs.Sort.{sort_of}
 use Rattle.term_bank.specs.declared.node.TermNode.{TermNode}
 use Rattle.term_bank.specs.declared.node.TermNode.TheVariants.{Leaf, Unary, Binary, Ternary, Quaternary, Octonary}
 use Rattle.term_bank.specs.Nodes.{IsNode, tree_at, build, Holds, Extends}
 use Rattle.term_bank.proofs.Growth.{slice_get-front, slice_get-seam, tree_at-front, length-Extends}
 use Rattle.term_bank.proofs.Substitution.{is_at}
-use Rattle.graph_spec.specs.Graph as spec
+use Rattle.graph_core_spec.specs.Graph as spec
 use Rattle.graph_core.specs.declared.shared.SharedBinding.{SharedBinding}
 use Rattle.graph_core.specs.declared.shared.SharedNode.{SharedNode}
 use Rattle.graph_core.specs.declared.shared.SharedNode.TheVariants.{Basic, Cond, Call}

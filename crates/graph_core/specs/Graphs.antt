@@ -1,11 +1,11 @@
 -- A graph of the code as one that the definitions speak of.
 use Rattle.std.specs.Prelude.{◌≡◌, ℕ, Box, List, Vec, map, length, Result, IfOk, OnOk, OnErr}
 use Rattle.std.specs.Global.{Global}
-use Rattle.term_spec.specs.Term.{Term}
+use Rattle.term_core_spec.specs.Term.{Term}
 use Rattle.term_core.specs.declared.term.Term.{Term as CodeTerm}
 use Rattle.term_core.specs.Trees.{term_of}
 use Rattle.term_bank.specs.Nodes.{Extends}
-use Rattle.graph_spec.specs.Graph as spec
+use Rattle.graph_core_spec.specs.Graph as spec
 use Rattle.graph_core.specs.declared.graph.Binding.{Binding}
 use Rattle.graph_core.specs.declared.graph.Node.{Node}
 use Rattle.graph_core.specs.declared.graph.Node.TheVariants.{Basic, Cond, Call}

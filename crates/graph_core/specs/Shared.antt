@@ -2,10 +2,10 @@
 use Rattle.std.specs.Prelude.{ℕ, ◌<◌, List, map, All, Vec, refl}
 use Rattle.std.specs.Global.{Global}
 use Rattle.std.specs.Coded.{Coded, code_by, coded×, coded_list, coded_ℕ}
-use Rattle.term_spec.specs.Term.{Term}
-use Rattle.term_spec.specs.Coded.{term_code}
+use Rattle.term_core_spec.specs.Term.{Term}
+use Rattle.term_core_spec.specs.Coded.{term_code}
 use Rattle.term_bank.specs.Nodes.{tree_at}
-use Rattle.graph_spec.specs.Graph as spec
+use Rattle.graph_core_spec.specs.Graph as spec
 use Rattle.graph_core.specs.declared.shared.SharedBinding.{SharedBinding}
 use Rattle.graph_core.specs.declared.shared.SharedNode.{SharedNode}
 use Rattle.graph_core.specs.declared.shared.SharedNode.TheVariants.{Basic, Cond, Call}

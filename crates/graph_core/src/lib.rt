@@ -3,7 +3,7 @@
 //! The main type is [`Graph`], whose nodes share the terms of a bank; [`validate`] is true exactly
 //! where each node that is named exists and each term is well sorted. The trait [`Walks`] is what
 //! the proofs of simulation know of a transition system; the run of a set of graphs ([`GraphRun`])
-//! is one. Graphs and their runs are defined in `graph_spec`, transition systems in `walk_spec`;
+//! is one. Graphs and their runs are defined in `graph_core_spec`, transition systems in `graph_core_spec`;
 //! `specs/Graphs.antt` has the graph of trees that a [`Graph`] is.
 #![tactic(auto)]
 
@@ -17,7 +17,7 @@ mod variables;
 mod walks;
 
 pub use graph::{Binding, Graph, Node};
-pub use graph_spec::Next;
+pub use graph_core_spec::Next;
 pub use run::{GraphRun, callee_runs_as_alone, steps_keep_fixed_bytes, valid_run_keeps_sorts};
 pub use shared::{SharedBinding, SharedNode};
 pub use validity::validate;

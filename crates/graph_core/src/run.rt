@@ -1,20 +1,20 @@
 //! The run of a set of graphs, as a transition system.
 
 ghost use Rattle.std.specs.Prelude.{◌≡◌, ◌<◌, ℕ, List, Option, false};
-ghost use Rattle.term_spec.specs.declared.Variable.{Variable};
-ghost use Rattle.walk_spec.specs.TransitionSystem.{after};
-ghost use Rattle.graph_spec.specs.Graph.{node_count};
-ghost use Rattle.graph_spec.specs.Fixed.{AlwaysHoldsFixed};
-ghost use Rattle.graph_spec.specs.Sorts.{IsSorted};
-ghost use Rattle.graph_spec.specs.Run as spec;
-ghost use Rattle.graph_spec.proofs.Walks as proved;
-ghost use Rattle.graph_spec.proofs.Sorts.{stays_sorted};
+ghost use Rattle.term_core_spec.specs.declared.Variable.{Variable};
+ghost use Rattle.graph_core_spec.specs.TransitionSystem.{after};
+ghost use Rattle.graph_core_spec.specs.Graph.{node_count};
+ghost use Rattle.graph_core_spec.specs.Fixed.{AlwaysHoldsFixed};
+ghost use Rattle.graph_core_spec.specs.Sorts.{IsSorted};
+ghost use Rattle.graph_core_spec.specs.Run as spec;
+ghost use Rattle.graph_core_spec.proofs.Walks as proved;
+ghost use Rattle.graph_core_spec.proofs.Sorts.{stays_sorted};
 ghost use Rattle.graph_core.specs.Graphs.{graphs_of};
 
 use crate::graph::Graph;
 use crate::walks::Walks;
 
-/// The run of one graph of a set, the outermost, which calls others of it (`graph_spec`,
+/// The run of one graph of a set, the outermost, which calls others of it (`graph_core_spec`,
 /// `specs/Run.antt`).
 #[derive(Clone, Copy)]
 pub struct GraphRun<'a> {

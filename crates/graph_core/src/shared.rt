@@ -1,8 +1,8 @@
 //! Nodes whose terms are in a bank.
 
-use graph_spec::Next;
+use graph_core_spec::Next;
 use term_bank::TermId;
-use term_spec::Variable;
+use term_core_spec::Variable;
 
 /// A variable, and the index of the term whose value it gets.
 #[derive(Clone, Copy)]

@@ -1,7 +1,7 @@
 //! The sorts of the terms of a bank, each made once.
 
 ghost use Rattle.std.specs.Prelude.{◌≡◌, length, OnOk};
-ghost use Rattle.term_spec.specs.Sort as spec;
+ghost use Rattle.term_core_spec.specs.Sort as spec;
 ghost use Rattle.term_bank.specs.Nodes.{IsNode};
 ghost use Rattle.graph_core.specs.Sorts.{AreSorts, HasMoreSorts, sort_of_node};
 
@@ -11,7 +11,7 @@ use term_core::{
     sort_of_atom, sort_of_binary, sort_of_octonary, sort_of_quaternary, sort_of_ternary,
     sort_of_unary,
 };
-use term_spec::{BinaryOperator, QuaternaryOperator, Sort, TernaryOperator, UnaryOperator};
+use term_core_spec::{BinaryOperator, QuaternaryOperator, Sort, TernaryOperator, UnaryOperator};
 
 fn with_one(operator: UnaryOperator, first: Option<Sort>) -> Option<Sort>
     ensures { result ≡ spec.with_one (spec.sort_of_unary operator) first }

@@ -2,15 +2,15 @@
 
 ghost use Rattle.std.specs.Prelude.{◌≡◌, ◌↔◌, ◌<◌, IsTrue, Some};
 ghost use Rattle.std.specs.List.{All};
-ghost use Rattle.graph_spec.specs.Graph as spec;
+ghost use Rattle.graph_core_spec.specs.Graph as spec;
 ghost use Rattle.graph_core.specs.Graphs.{graph_of};
 ghost use Rattle.graph_core.specs.Sorts.{AreSorted, HasSort, IsSortedNode};
 
 use crate::graph::Graph;
 use crate::shared::{SharedBinding, SharedNode};
-use graph_spec::Next;
+use graph_core_spec::Next;
 use term_bank::TermId;
-use term_spec::Sort;
+use term_core_spec::Sort;
 
 /// Whether a graph is valid: whether each node that it names is there, and each term is well
 /// sorted. The sort of each term was made once, so the work is linear in the nodes.

@@ -2,7 +2,7 @@
 
 ghost use Rattle.std.specs.Prelude.{◌≡◌, ◌<◌, All, length, map, IfOk, OnOk};
 ghost use Rattle.term_bank.specs.Nodes.{tree_at};
-ghost use Rattle.graph_spec.specs.Variables as spec;
+ghost use Rattle.graph_core_spec.specs.Variables as spec;
 ghost use Rattle.graph_core.specs.Graphs.{graph_of};
 ghost use Rattle.graph_core.specs.Seen.{own_variables, AreSeen};
 ghost use Rattle.graph_core.specs.Shared.{shared_binding_of, shared_node_of};
@@ -14,7 +14,7 @@ use attempt::attempt;
 use indexmap::IndexSet;
 use std::alloc::{AllocError, Global};
 use term_bank::{Bank, TermId, TermNode};
-use term_spec::{Atom, Variable};
+use term_core_spec::{Atom, Variable};
 use term_substitution::arguments;
 
 /// Adds the variable that a term is, if it is one.

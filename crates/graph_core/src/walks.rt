@@ -1,11 +1,11 @@
 //! Transition systems as a trait, and the laws of their runs.
 
 ghost use Rattle.std.specs.Prelude.{◌≡◌, ◌⊎◌, ℕ, ◌+◌, Bool, true, false, List};
-ghost use Rattle.walk_spec.specs.TransitionSystem.{TransitionSystem, IsTransitionSystem, Mark};
-ghost use Rattle.walk_spec.specs.TransitionSystem.{AreCounted, Always, StopsAt, after, arrivals};
-ghost use Rattle.walk_spec.specs.TransitionSystem.{marks_left, stopped};
+ghost use Rattle.graph_core_spec.specs.TransitionSystem.{TransitionSystem, IsTransitionSystem, Mark};
+ghost use Rattle.graph_core_spec.specs.TransitionSystem.{AreCounted, Always, StopsAt, after, arrivals};
+ghost use Rattle.graph_core_spec.specs.TransitionSystem.{marks_left, stopped};
 
-/// A deterministic transition system whose states may be at numbered nodes (`walk_spec`,
+/// A deterministic transition system whose states may be at numbered nodes (`graph_core_spec`,
 /// `specs/TransitionSystem.antt`). Nothing of it runs but [`Walks::nodes`].
 pub trait Walks {
     // What its states are.

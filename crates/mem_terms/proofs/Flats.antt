@@ -1,8 +1,8 @@
 -- The flat term of a term, when the walk is over.
 use Rattle.std.proofs.Common.{◌≡◌, ℕ, ◌<◌, List, map, length, Option, sym, ap, ◌∙◌, subst}
-use Rattle.term_spec.specs.Term.{Term, not_term, or_term}
+use Rattle.term_core_spec.specs.Term.{Term, not_term, or_term}
 use Rattle.term_bank.specs.Nodes.{tree_at, Extends}
-use Rattle.flat_spec.specs.Flat.{FlatLoad, loads_of, without_loads, flat_loads, consistent, flat_of}
+use Rattle.mem_terms_spec.specs.Flat.{FlatLoad, loads_of, without_loads, flat_loads, consistent, flat_of}
 use Rattle.mem_terms.specs.declared.ids.LoadIds.{LoadIds}
 use Rattle.mem_terms.specs.Ids.{IsTreeAt, load_at, AreWithin}
 use Rattle.mem_terms.specs.Walk.{flat_id}

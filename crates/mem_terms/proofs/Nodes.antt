@@ -3,19 +3,19 @@ use Rattle.std.proofs.Common.{◌≡◌, ℕ, zero, suc, ◌+◌, ◌<◌, ◌�
 use Rattle.std.proofs.Math.ListN.{set}
 use Rattle.std.specs.Prelude.{slice_get, option_map}
 use Rattle.std.proofs.lemmas.Option.{get_or_from_slice_get, slice_get-get_or, same_Some}
-use Rattle.term_spec.specs.declared.Atom.TheVariants as atom
-use Rattle.term_spec.specs.declared.Variable.{Variable}
-use Rattle.term_spec.specs.declared.BinaryOperator.{BinaryOperator}
-use Rattle.term_spec.specs.declared.BinaryOperator.TheVariants as binary
-use Rattle.term_spec.specs.Term as tree
-use Rattle.term_spec.specs.Term.{Term}
+use Rattle.term_core_spec.specs.declared.Atom.TheVariants as atom
+use Rattle.term_core_spec.specs.declared.Variable.{Variable}
+use Rattle.term_core_spec.specs.declared.BinaryOperator.{BinaryOperator}
+use Rattle.term_core_spec.specs.declared.BinaryOperator.TheVariants as binary
+use Rattle.term_core_spec.specs.Term as tree
+use Rattle.term_core_spec.specs.Term.{Term}
 use Rattle.term_bank.specs.declared.node.TermNode.{TermNode}
 use Rattle.term_bank.specs.declared.node.TermNode.TheVariants.{Leaf, Unary, Binary, Ternary, Quaternary, Octonary}
 use Rattle.term_bank.specs.Nodes.{IsNode, tree_at, build, Extends}
-use Rattle.flat_spec.specs.Flat.{VariableLoad, load_of, with_load, byte_or, without_loads}
-use Rattle.flat_spec.specs.Assignments.{term_of}
-use Rattle.flat_spec.proofs.Lists.{with_load-there}
-use Rattle.flat_spec.proofs.Loads.{IfIn, AreIn}
+use Rattle.mem_terms_spec.specs.Flat.{VariableLoad, load_of, with_load, byte_or, without_loads}
+use Rattle.mem_terms_spec.specs.Assignments.{term_of}
+use Rattle.mem_terms_spec.proofs.Lists.{with_load-there}
+use Rattle.mem_terms_spec.proofs.Loads.{IfIn, AreIn}
 use Rattle.mem_terms.specs.declared.walk.LoadNode.{LoadNode}
 use Rattle.mem_terms.specs.Walk.{variable_of, load_from, load_in, flat_id, replaced, EachArgument, with_root, IsDone}
 use Rattle.mem_terms.proofs.Trees.{kept_tree}

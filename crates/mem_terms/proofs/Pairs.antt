@@ -5,10 +5,10 @@ use Rattle.std.proofs.lemmas.List.{take_more, take_all, map-append}
 use Rattle.std.proofs.Math.Seq.{drop-cons}
 use Rattle.term_bank.specs.Nodes.{Extends}
 use Rattle.mem_terms.proofs.Trees.{load_later, loads_later}
-use Rattle.term_spec.specs.declared.Variable.{Variable}
-use Rattle.term_spec.specs.Same.{same_variable}
-use Rattle.term_spec.specs.Term.{Term, and_term}
-use Rattle.flat_spec.specs.Flat.{FlatLoad, agree, pairs, is_from, pairs_of, all_of}
+use Rattle.term_core_spec.specs.declared.Variable.{Variable}
+use Rattle.term_core_spec.specs.Same.{same_variable}
+use Rattle.term_core_spec.specs.Term.{Term, and_term}
+use Rattle.mem_terms_spec.specs.Flat.{FlatLoad, agree, pairs, is_from, pairs_of, all_of}
 use Rattle.mem_terms.specs.declared.ids.LoadIds.{LoadIds}
 use Rattle.mem_terms.specs.Ids.{load_at, is_load_from, AreWithin, IsWithin}
 

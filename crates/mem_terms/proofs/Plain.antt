@@ -1,12 +1,12 @@
 -- The tree at the index of a flat term.
 use Rattle.std.proofs.Common.{◌≡◌, ◌↔◌, List, Some, sym, ap, ◌∙◌, subst}
-use Rattle.term_spec.specs.declared.Sort.TheVariants as sort
-use Rattle.term_spec.specs.Term.{Term}
-use Rattle.term_spec.specs.Sort.{sort_of}
+use Rattle.term_core_spec.specs.declared.Sort.TheVariants as sort
+use Rattle.term_core_spec.specs.Term.{Term}
+use Rattle.term_core_spec.specs.Sort.{sort_of}
 use Rattle.term_bank.specs.Nodes.{tree_at}
-use Rattle.flat_spec.specs.Assignments.{LoadsFromVariables, IsWithoutMemory, HasNoBytes, IsAlwaysTrue}
-use Rattle.flat_spec.proofs.Forms.{flat_plain}
-use Rattle.flat_spec.proofs.Validity.{equally}
+use Rattle.mem_terms_spec.specs.Assignments.{LoadsFromVariables, IsWithoutMemory, HasNoBytes, IsAlwaysTrue}
+use Rattle.mem_terms_spec.proofs.Forms.{flat_plain}
+use Rattle.mem_terms_spec.proofs.Validity.{equally}
 use Rattle.mem_terms.specs.Ids.{IsFlatOf}
 use Rattle.mem_terms.specs.declared.ids.Flat.{Flat}
 

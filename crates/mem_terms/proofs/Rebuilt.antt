@@ -4,26 +4,26 @@ use Rattle.std.specs.Prelude.{◌==◌, ◌&&◌, filter}
 use Rattle.std.proofs.Math.Path.{fun_ext}
 use Rattle.std.proofs.Math.ListN.{get_or-map}
 use Rattle.std.proofs.lemmas.List.{take_more, take_all}
-use Rattle.term_spec.specs.declared.Atom.TheVariants as atom
-use Rattle.term_spec.specs.declared.Sort.{Sort}
-use Rattle.term_spec.specs.declared.Sort.TheVariants as sort
-use Rattle.term_spec.specs.declared.Variable.{Variable}
-use Rattle.term_spec.specs.Term as tree
-use Rattle.term_spec.specs.Term.{Term}
-use Rattle.term_spec.specs.Sort.{is_memory, sort_of}
-use Rattle.term_spec.specs.Same.{same_variable}
-use Rattle.term_spec.specs.Value as spec
-use Rattle.term_spec.specs.Value.{Assignment, IsAssignment, value, low_bits, with_byte}
-use Rattle.term_spec.proofs.Same.{variable-same}
+use Rattle.term_core_spec.specs.declared.Atom.TheVariants as atom
+use Rattle.term_core_spec.specs.declared.Sort.{Sort}
+use Rattle.term_core_spec.specs.declared.Sort.TheVariants as sort
+use Rattle.term_core_spec.specs.declared.Variable.{Variable}
+use Rattle.term_core_spec.specs.Term as tree
+use Rattle.term_core_spec.specs.Term.{Term}
+use Rattle.term_core_spec.specs.Sort.{is_memory, sort_of}
+use Rattle.term_core_spec.specs.Same.{same_variable}
+use Rattle.term_core_spec.specs.Value as spec
+use Rattle.term_core_spec.specs.Value.{Assignment, IsAssignment, value, low_bits, with_byte}
+use Rattle.term_core_spec.proofs.Same.{variable-same}
 use Rattle.term_core.specs.declared.value.Value.TheVariants as code
 use Rattle.term_core.specs.declared.memory.Memory.{Memory}
 use Rattle.term_core.specs.Memory.{bytes_of}
 use Rattle.term_core.specs.Assignment.{given_or_default}
 use Rattle.term_bank.specs.Nodes.{tree_at, value_at}
-use Rattle.flat_spec.specs.Flat.{is_among, memories_of}
-use Rattle.flat_spec.specs.Assignments.{LoadsFromVariables, number_of, first_byte, memory_back, rebuilt}
-use Rattle.flat_spec.proofs.Lists.{variable_itself}
-use Rattle.flat_spec.proofs.Validity.{term_false}
+use Rattle.mem_terms_spec.specs.Flat.{is_among, memories_of}
+use Rattle.mem_terms_spec.specs.Assignments.{LoadsFromVariables, number_of, first_byte, memory_back, rebuilt}
+use Rattle.mem_terms_spec.proofs.Lists.{variable_itself}
+use Rattle.mem_terms_spec.proofs.Validity.{term_false}
 use Rattle.mem_terms.specs.declared.ids.LoadIds.{LoadIds}
 use Rattle.mem_terms.specs.declared.ids.Flat.{Flat}
 use Rattle.mem_terms.specs.Ids.{load_at, is_load_from, IsFlatOf}

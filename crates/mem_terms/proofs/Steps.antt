@@ -4,14 +4,14 @@ use Rattle.std.proofs.Math.ListN.{set}
 use Rattle.std.proofs.lemmas.List.{length-set, length-replicate}
 use Rattle.std.specs.Prelude.{slice_get}
 use Rattle.std.proofs.lemmas.Option.{slice_get_within, same_Some, slice_get-get_or}
-use Rattle.term_spec.specs.declared.Variable.{Variable}
-use Rattle.term_spec.specs.Term.{Term, open_term}
+use Rattle.term_core_spec.specs.declared.Variable.{Variable}
+use Rattle.term_core_spec.specs.Term.{Term, open_term}
 use Rattle.term_bank.specs.declared.node.TermNode.{TermNode}
 use Rattle.term_bank.specs.Nodes.{IsNode, tree_at, build, Holds, Extends, AreDistinct}
-use Rattle.flat_spec.specs.Flat.{VariableLoad, FlatLoad, is_in, with_load, with_loads, loads_of, index_of, same_load, byte_variable, byte_or, without_loads, flattened, flat_loads}
-use Rattle.flat_spec.specs.Assignments.{term_of}
-use Rattle.flat_spec.proofs.Lists.{is_in-front, is_in-last, load-same, load_itself}
-use Rattle.flat_spec.proofs.Loads.{IfIn, AreIn, are_in-front, with_loads-there, without_loads-front}
+use Rattle.mem_terms_spec.specs.Flat.{VariableLoad, FlatLoad, is_in, with_load, with_loads, loads_of, index_of, same_load, byte_variable, byte_or, without_loads, flattened, flat_loads}
+use Rattle.mem_terms_spec.specs.Assignments.{term_of}
+use Rattle.mem_terms_spec.proofs.Lists.{is_in-front, is_in-last, load-same, load_itself}
+use Rattle.mem_terms_spec.proofs.Loads.{IfIn, AreIn, are_in-front, with_loads-there, without_loads-front}
 use Rattle.mem_terms.specs.declared.ids.LoadIds.{LoadIds}
 use Rattle.mem_terms.specs.declared.walk.Task.{Task}
 use Rattle.mem_terms.specs.declared.walk.Task.TheVariants.{Visit, Finish}

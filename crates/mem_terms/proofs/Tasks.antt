@@ -2,11 +2,11 @@
 use Rattle.std.proofs.Common.{◌≡◌, ℕ, zero, suc, ◌+◌, ◌*◌, ◌^◌, ◌<◌, ◌≤◌, List, [], ◌∷◌, ◌++◌, Option, Some, None, ◌⊎◌, inl, inr, refl, ap, sym, ◌∙◌, subst, arith}
 use Rattle.std.proofs.Math.Nat.{one-le-pow, pow-le-pow_right}
 use Rattle.std.proofs.lemmas.Grind.{pow_more}
-use Rattle.term_spec.specs.Term.{Term}
+use Rattle.term_core_spec.specs.Term.{Term}
 use Rattle.term_bank.specs.declared.node.TermNode.{TermNode}
 use Rattle.term_bank.specs.declared.node.TermNode.TheVariants.{Leaf, Unary, Binary, Ternary, Quaternary, Octonary}
 use Rattle.term_bank.specs.Nodes.{IsNode, build}
-use Rattle.flat_spec.specs.Flat.{VariableLoad, with_loads}
+use Rattle.mem_terms_spec.specs.Flat.{VariableLoad, with_loads}
 use Rattle.mem_terms.specs.declared.walk.Task.{Task}
 use Rattle.mem_terms.specs.declared.walk.Task.TheVariants.{Visit, Finish}
 use Rattle.mem_terms.specs.Walk.{EachArgument, visits, id_of, after_task, after_tasks, weight, total_weight, IsDone, HasTask, Comes, IsPrepared, ArePrepared, IsTask, AreTasks}

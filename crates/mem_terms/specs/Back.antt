@@ -1,10 +1,10 @@
 -- Memories by the values of a bank's terms.
 use Rattle.std.specs.Prelude.{ℕ, ◌==◌, if◌then◌else◌, List, [], ◌∷◌, filter}
-use Rattle.term_spec.specs.declared.Variable.{Variable}
-use Rattle.term_spec.specs.Value as spec
-use Rattle.term_spec.specs.Value.{low_bits}
+use Rattle.term_core_spec.specs.declared.Variable.{Variable}
+use Rattle.term_core_spec.specs.Value as spec
+use Rattle.term_core_spec.specs.Value.{low_bits}
 use Rattle.term_bank.specs.Nodes.{value_at}
-use Rattle.flat_spec.specs.Assignments.{number_of}
+use Rattle.mem_terms_spec.specs.Assignments.{number_of}
 use Rattle.mem_terms.specs.declared.ids.LoadIds.{LoadIds}
 use Rattle.mem_terms.specs.Ids.{is_load_from}
 

@@ -1,10 +1,10 @@
 -- Flat terms and their loads, by their indices among the trees of a bank.
 use Rattle.std.specs.Prelude.{◌≡◌, ℕ, ◌<◌, Bool, List, [], ◌∷◌, length, map}
-use Rattle.term_spec.specs.declared.Variable.{Variable}
-use Rattle.term_spec.specs.Term.{Term}
-use Rattle.term_spec.specs.Same.{same_variable}
+use Rattle.term_core_spec.specs.declared.Variable.{Variable}
+use Rattle.term_core_spec.specs.Term.{Term}
+use Rattle.term_core_spec.specs.Same.{same_variable}
 use Rattle.term_bank.specs.Nodes.{tree_at}
-use Rattle.flat_spec.specs.Flat.{FlatLoad, flat_loads, flat_of}
+use Rattle.mem_terms_spec.specs.Flat.{FlatLoad, flat_loads, flat_of}
 use Rattle.mem_terms.specs.declared.ids.LoadIds.{LoadIds}
 use Rattle.mem_terms.specs.declared.ids.Flat.{Flat}
 

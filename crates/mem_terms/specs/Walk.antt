@@ -1,17 +1,17 @@
 -- What the walk over a term keeps.
 use Rattle.std.specs.Prelude.{◌≡◌, ℕ, ◌+◌, ◌^◌, ◌<◌, ◌≤◌, ◌⊎◌, true, List, [], ◌∷◌, ◌++◌, length, get_or, slice_get, slice_set, Option, Some, None, unwrap_or}
-use Rattle.term_spec.specs.declared.Variable.{Variable}
-use Rattle.term_spec.specs.declared.BinaryOperator.{BinaryOperator}
-use Rattle.term_spec.specs.declared.BinaryOperator.TheVariants as binary
-use Rattle.term_spec.specs.declared.Atom.TheVariants as atom
-use Rattle.term_spec.specs.Term as tree
-use Rattle.term_spec.specs.Term.{Term, open_term}
+use Rattle.term_core_spec.specs.declared.Variable.{Variable}
+use Rattle.term_core_spec.specs.declared.BinaryOperator.{BinaryOperator}
+use Rattle.term_core_spec.specs.declared.BinaryOperator.TheVariants as binary
+use Rattle.term_core_spec.specs.declared.Atom.TheVariants as atom
+use Rattle.term_core_spec.specs.Term as tree
+use Rattle.term_core_spec.specs.Term.{Term, open_term}
 use Rattle.term_bank.specs.declared.node.TermNode.{TermNode}
 use Rattle.term_bank.specs.declared.node.TermNode.TheVariants.{Leaf, Unary, Binary, Ternary, Quaternary, Octonary}
 use Rattle.term_bank.specs.Nodes.{IsNode, tree_at, build, Holds, Extends, AreDistinct}
-use Rattle.flat_spec.specs.Flat.{VariableLoad, load_of, is_in, with_load, with_loads, byte_variable, without_loads}
-use Rattle.flat_spec.specs.Assignments.{term_of}
-use Rattle.flat_spec.proofs.Loads.{AreIn}
+use Rattle.mem_terms_spec.specs.Flat.{VariableLoad, load_of, is_in, with_load, with_loads, byte_variable, without_loads}
+use Rattle.mem_terms_spec.specs.Assignments.{term_of}
+use Rattle.mem_terms_spec.proofs.Loads.{AreIn}
 use Rattle.mem_terms.specs.Ids.{IsTreeAt}
 use Rattle.mem_terms.specs.declared.ids.LoadIds.{LoadIds}
 use Rattle.mem_terms.specs.declared.walk.Task.{Task}

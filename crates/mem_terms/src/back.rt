@@ -2,18 +2,18 @@
 
 ghost use Rattle.std.specs.Prelude.{◌≡◌, ◌<◌, ◌&&◌, length, map, false, if◌then◌else◌, Some, IfOk};
 ghost use Rattle.std.specs.Prelude.{OnOk};
-ghost use Rattle.term_spec.specs.declared.Sort.TheVariants as sort;
-ghost use Rattle.term_spec.specs.declared.Variable.{Variable};
-ghost use Rattle.term_spec.specs.Term.{Term};
-ghost use Rattle.term_spec.specs.Sort.{is_memory, sort_of};
-ghost use Rattle.term_spec.specs.Same.{same_variable};
-ghost use Rattle.term_spec.specs.Value as spec;
-ghost use Rattle.term_spec.specs.Value.{value, low_bits};
+ghost use Rattle.term_core_spec.specs.declared.Sort.TheVariants as sort;
+ghost use Rattle.term_core_spec.specs.declared.Variable.{Variable};
+ghost use Rattle.term_core_spec.specs.Term.{Term};
+ghost use Rattle.term_core_spec.specs.Sort.{is_memory, sort_of};
+ghost use Rattle.term_core_spec.specs.Same.{same_variable};
+ghost use Rattle.term_core_spec.specs.Value as spec;
+ghost use Rattle.term_core_spec.specs.Value.{value, low_bits};
 ghost use Rattle.term_core.specs.Values.{value_of};
 ghost use Rattle.term_core.specs.Memory.{bytes_of};
 ghost use Rattle.term_core.specs.Assignment.{assignment_of};
 ghost use Rattle.term_bank.specs.Nodes.{tree_at, value_at};
-ghost use Rattle.flat_spec.specs.Assignments.{LoadsFromVariables, number_of, rebuilt};
+ghost use Rattle.mem_terms_spec.specs.Assignments.{LoadsFromVariables, number_of, rebuilt};
 ghost use Rattle.mem_terms.specs.Ids.{load_at, AreWithin, IsFlatOf};
 ghost use Rattle.mem_terms.specs.Back.{first_among, memory_among};
 
@@ -22,7 +22,7 @@ use crate::ties::{loads_from, memories};
 use std::alloc::{AllocError, Global};
 use term_bank::Bank;
 use term_core::{Assignment, Memory, Value};
-use term_spec::{Sort, Variable};
+use term_core_spec::{Sort, Variable};
 
 /// The number of a word, 0 where the value is none.
 fn number_of(value: &Value) -> u64

@@ -1,15 +1,15 @@
 // Terms that are added to a bank by their operators.
 
 ghost use Rattle.std.specs.Prelude.{◌<◌, ◌≡◌, length, true, IfOk};
-ghost use Rattle.term_spec.specs.Term.{truth, open_term, not_term, and_term, or_term, equal};
+ghost use Rattle.term_core_spec.specs.Term.{truth, open_term, not_term, and_term, or_term, equal};
 ghost use Rattle.term_bank.specs.Nodes.{tree_at, Extends, AreDistinct};
-ghost use Rattle.flat_spec.specs.Flat.{byte_variable};
+ghost use Rattle.mem_terms_spec.specs.Flat.{byte_variable};
 ghost use Rattle.mem_terms.specs.Ids.{IsTreeAt};
 
 use attempt::attempt;
 use std::alloc::AllocError;
 use term_bank::{Bank, TermId, TermNode};
-use term_spec::{Atom, BinaryOperator, Family, Sort, UnaryOperator, Variable, Width};
+use term_core_spec::{Atom, BinaryOperator, Family, Sort, UnaryOperator, Variable, Width};
 
 /// The truth value that holds. After it equal trees have one index.
 pub fn truth(bank: &mut Bank) -> Result<TermId, AllocError>

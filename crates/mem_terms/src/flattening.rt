@@ -1,11 +1,11 @@
 // The flat term of a term.
 
 ghost use Rattle.std.specs.Prelude.{◌≡◌, ◌↔◌, ◌<◌, length, Some, IfOk};
-ghost use Rattle.term_spec.specs.declared.Sort.TheVariants as sort;
-ghost use Rattle.term_spec.specs.Sort.{sort_of};
+ghost use Rattle.term_core_spec.specs.declared.Sort.TheVariants as sort;
+ghost use Rattle.term_core_spec.specs.Sort.{sort_of};
 ghost use Rattle.term_bank.specs.Nodes.{tree_at, Extends};
-ghost use Rattle.flat_spec.specs.Assignments.{LoadsFromVariables, IsWithoutMemory, HasNoBytes};
-ghost use Rattle.flat_spec.specs.Assignments.{IsAlwaysTrue};
+ghost use Rattle.mem_terms_spec.specs.Assignments.{LoadsFromVariables, IsWithoutMemory, HasNoBytes};
+ghost use Rattle.mem_terms_spec.specs.Assignments.{IsAlwaysTrue};
 ghost use Rattle.mem_terms.specs.Ids.{IsFlatOf};
 
 use crate::build::{implied, truth};

@@ -1,7 +1,7 @@
 // Flat terms and their loads by their indices in a bank.
 
 use term_bank::TermId;
-use term_spec::Variable;
+use term_core_spec::Variable;
 
 /// A load by terms without loads. The byte is a variable of the family `LoadedByte`, whose index is
 /// the load's number among the loads of its term.

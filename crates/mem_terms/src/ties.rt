@@ -2,11 +2,11 @@
 
 ghost use Rattle.std.specs.Prelude.{◌<◌, ◌≡◌, ◌∷◌, ◌++◌, [], List, length, map, filter, true};
 ghost use Rattle.std.specs.Prelude.{if◌then◌else◌, IfOk, OnOk, OnErr};
-ghost use Rattle.term_spec.specs.Term.{Term, truth, and_term};
-ghost use Rattle.term_spec.specs.Same.{same_variable};
+ghost use Rattle.term_core_spec.specs.Term.{Term, truth, and_term};
+ghost use Rattle.term_core_spec.specs.Same.{same_variable};
 ghost use Rattle.term_bank.specs.Nodes.{tree_at, Extends};
-ghost use Rattle.flat_spec.specs.Flat.{agree, pairs, is_among, memories_of, is_from, pairs_of};
-ghost use Rattle.flat_spec.specs.Flat.{all_of, consistent};
+ghost use Rattle.mem_terms_spec.specs.Flat.{agree, pairs, is_among, memories_of, is_from, pairs_of};
+ghost use Rattle.mem_terms_spec.specs.Flat.{all_of, consistent};
 ghost use Rattle.mem_terms.specs.Ids.{load_at, is_load_from, IsWithin, AreWithin, IsTreeAt};
 
 use crate::build::{and, equal, implied, truth};
@@ -14,7 +14,7 @@ use crate::ids::LoadIds;
 use attempt::attempt;
 use std::alloc::{AllocError, Global};
 use term_bank::{Bank, TermId};
-use term_spec::Variable;
+use term_core_spec::Variable;
 
 /// Where the addresses are equal, so are the bytes.
 fn agree(bank: &mut Bank, x: LoadIds, y: LoadIds) -> Result<TermId, AllocError>

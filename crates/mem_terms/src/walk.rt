@@ -2,9 +2,9 @@
 
 ghost use Rattle.std.specs.Prelude.{◌≡◌, ◌<◌, ℕ, List, [], ◌∷◌, ◌++◌, length, replicate, get_or};
 ghost use Rattle.std.specs.Prelude.{is_some, None, IfOk, OnOk};
-ghost use Rattle.term_spec.specs.Term.{Term, open_term};
+ghost use Rattle.term_core_spec.specs.Term.{Term, open_term};
 ghost use Rattle.term_bank.specs.Nodes.{IsNode, tree_at, Extends, AreDistinct};
-ghost use Rattle.flat_spec.specs.Flat.{byte_variable};
+ghost use Rattle.mem_terms_spec.specs.Flat.{byte_variable};
 ghost use Rattle.mem_terms.specs.Ids.{IsTreeAt};
 ghost use Rattle.mem_terms.specs.Walk.{variable_of, load_in, flat_id, replaced, visits};
 ghost use Rattle.mem_terms.specs.Walk.{total_weight, IsEntered, IsReplaced, IsWalk, IsSomeWalk};
@@ -14,7 +14,7 @@ use crate::ids::LoadIds;
 use attempt::attempt;
 use std::alloc::{AllocError, Global};
 use term_bank::{Bank, TermId, TermNode};
-use term_spec::{Atom, BinaryOperator, Variable};
+use term_core_spec::{Atom, BinaryOperator, Variable};
 
 /// What is left to do at a term.
 #[derive(Clone, Copy)]

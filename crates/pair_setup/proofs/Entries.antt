@@ -5,17 +5,17 @@ use Rattle.std.proofs.lemmas.List.{get_or_append_left, get_or-append_right, leng
 use Rattle.std.proofs.lemmas.List.Elements.{All-from_get_or, Contains-append_left, Contains-append_cases}
 use Rattle.std.proofs.lemmas.Option.{slice_get_within, slice_get-get_or}
 use Rattle.std.proofs.lemmas.Bool.{cases_lt}
-use Rattle.elf_spec.specs.Image.{Image, function_named, size_at}
-use Rattle.elf_spec.specs.declared.SymbolValues.TheVariants.{One}
-use Rattle.elf_spec.proofs.Functions.{entry_has_size, entry_is_first, first_named}
-use Rattle.code_spec.specs.Code.{Reaches, itself, further}
-use Rattle.code_spec.specs.Faults.{ReachesNoFault, IsReachFault, of_function, overlap, ReachesDirectly}
-use Rattle.code_spec.specs.Faults as faults
-use Rattle.code_spec.proofs.Direct.{direct-reaches}
+use Rattle.elf_read_spec.specs.Image.{Image, function_named, size_at}
+use Rattle.elf_read_spec.specs.declared.SymbolValues.TheVariants.{One}
+use Rattle.elf_read_spec.proofs.Functions.{entry_has_size, entry_is_first, first_named}
+use Rattle.code_reach_spec.specs.Code.{Reaches, itself, further}
+use Rattle.code_reach_spec.specs.Faults.{ReachesNoFault, IsReachFault, of_function, overlap, ReachesDirectly}
+use Rattle.code_reach_spec.specs.Faults as faults
+use Rattle.code_reach_spec.proofs.Direct.{direct-reaches}
 use Rattle.call_graph.specs.Graph.{Grows}
 use Rattle.code_reach.specs.Found.{IsReach}
-use Rattle.pair_outcome_spec.specs.Code.{HasSoundCode, IsSoundCode, of_reach}
-use Rattle.pair_outcome_spec.specs.Outcome.{IsReached}
+use Rattle.pair_setup_spec.specs.Code.{HasSoundCode, IsSoundCode, of_reach}
+use Rattle.pair_setup_spec.specs.Outcome.{IsReached}
 use Rattle.pair_setup.specs.Codes.{AreSound, AddsSound, AddsNamed, AreCodedOf, IsReachErrorAt, IsCodeErrorAt, IsFirstCodeError}
 use Rattle.pair_setup.specs.Walks.{AreSoundOf}
 use Rattle.pair_setup.specs.declared.outcome.PairError.{PairError}

@@ -1,11 +1,11 @@
 -- What a function of a number adds: its number where it has no body, and the marked globals that its body names.
 use Rattle.std.proofs.Common.{◌≡◌, ◌∙◌, ℕ, List, sym, ap, subst, true≢false}
 use Rattle.std.specs.Prelude.{Bool, true, false, Contains, get_or, Some, None, IsSome, slice_get}
-use Rattle.c_type_spec.specs.Core.{Body, Typed}
-use Rattle.pair_spec.specs.SourceReach.{body_of, globals_in}
+use Rattle.c_types_spec.specs.Core.{Body, Typed}
+use Rattle.pair_setup_spec.specs.SourceReach.{body_of}
 use Rattle.call_graph.specs.Graph.{Grows}
 use Rattle.call_graph.proofs.Growing.{grows-as, grows-kept}
-use Rattle.c_reach.specs.Names.{IsNumber}
+use Rattle.pair_setup_calls.specs.Names.{IsNumber}
 use Rattle.pair_setup.specs.Names.{LacksBodyAt, NamesMarked, IsMarked, IsOf}
 use Rattle.pair_setup.proofs.Added.{some-of}
 
@@ -40,7 +40,7 @@ module _ (unit : Typed) (names : List (List ℕ)) (number : ℕ) where
       never t h = let is = h.0.body_is in let other = none h.0.name h.0.name_is in cc
 
   pub body-names : (marks : List Bool) (bodies : List ℕ → Body) (list : List (List ℕ)) → IsSome (slice_get names number)
-      → ((name : List ℕ) → IsNumber names number name → Some (bodies name) ≡ body_of unit name) → ((name : List ℕ) → list ≡ globals_in (bodies name).action)
+      → ((name : List ℕ) → IsNumber names number name → Some (bodies name) ≡ body_of unit name) → ((name : List ℕ) → list ≡ (bodies name).mentions)
       → (xs ys : List ℕ) → Grows (IsOf (λ name t. IsNumber names t name × IsMarked marks t) list) xs ys → Grows (NamesMarked unit names marks number) xs ys
   body-names marks bodies list named found list_is xs ys g =
       grows-as (IsOf (λ name t. IsNumber names t name × IsMarked marks t) list) (NamesMarked unit names marks number) xs ys there back g
@@ -64,7 +64,7 @@ module _ (unit : Typed) (names : List (List ℕ)) (number : ℕ) where
       back t (usage, marked) =
           let same : bodies usage.name ≡ usage.body = (let one = found usage.name usage.name_is in let other = usage.body_is in
           let both : Some (bodies usage.name) ≡ Some usage.body = one ∙ other in cc) in
-          (usage.other, subst (λ l. Contains l usage.other) (sym (list_is usage.name ∙ ap (λ (b : Body). globals_in b.action) same)) usage.named, (usage.global_is, marked))
+          (usage.other, subst (λ l. Contains l usage.other) (sym (list_is usage.name ∙ ap (λ (b : Body). b.mentions) same)) usage.named, (usage.global_is, marked))
 
 -- ---- marks
 

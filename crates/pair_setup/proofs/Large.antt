@@ -3,22 +3,22 @@ use Rattle.std.proofs.Common.{◌≡◌, ◌∙◌, ◌<◌, ◌≤◌, ℕ, suc
 use Rattle.std.specs.Prelude.{◌↔◌, nat_le, IsTrue, Some, None, IsSome, slice_get}
 use Rattle.std.proofs.lemmas.Bool.{le-leb, leb-true}
 use Rattle.std.proofs.lemmas.List.Elements.{Contains-get_or}
-use Rattle.elf_spec.specs.Image.{Image}
+use Rattle.elf_read_spec.specs.Image.{Image}
 use Rattle.memory_spec.specs.Runs.{Run}
-use Rattle.graph_spec.specs.Graph.{Graph}
-use Rattle.code_graph_spec.specs.CodeGraph.{IsCodeGraph}
-use Rattle.code_graph_laws.specs.Layout.{numbers_by}
-use Rattle.code_graph_laws.specs.Valid.{CodeGraphsHaveOneSize}
+use Rattle.graph_core_spec.specs.Graph.{Graph}
+use Rattle.decompile_spec.specs.CodeGraph.{IsCodeGraph}
+use Rattle.decompile_laws.specs.Layout.{numbers_by}
+use Rattle.decompile_laws.specs.Valid.{CodeGraphsHaveOneSize}
 use Rattle.decompile.specs.Answer.{IsFunctionGraph, number_in, first_in}
 use Rattle.decompile.specs.Errors.{IsLarge}
-use Rattle.c_type_spec.specs.Core.{Action, Body, Typed}
+use Rattle.c_types_spec.specs.Core.{Action, Body, Typed}
 use Rattle.c_graph_spec.specs.Guards.{Place}
 use Rattle.c_graph_spec.specs.Layout.{Setting, size}
 use Rattle.c_graph_spec.specs.SourceGraph.{graph_of, setting_of}
-use Rattle.c_reach.specs.Names.{IsNumber}
-use Rattle.pair_spec.specs.SourceReach.{body_of}
-use Rattle.tv_base.specs.declared.limits.TheConstants.{MAX_NODES}
-use Rattle.pair_outcome_spec.specs.Nodes.{IsLargeCode}
+use Rattle.pair_setup_calls.specs.Names.{IsNumber}
+use Rattle.pair_setup_spec.specs.SourceReach.{body_of}
+use Rattle.tv_limits.specs.declared.TheConstants.{MAX_NODES}
+use Rattle.pair_setup_spec.specs.Nodes.{IsLargeCode}
 use Rattle.pair_setup.specs.Sizes.{AnyLargeCode, AnyLargeSource, IsLargeAt}
 use Rattle.call_graph.proofs.Cycles.{NoneBelow, none-all}
 use Rattle.pair_setup.proofs.Added.{some-of}

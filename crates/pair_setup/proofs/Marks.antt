@@ -4,8 +4,8 @@ use Rattle.std.specs.Prelude.{◌↔◌, Bool, true, false}
 use Rattle.std.proofs.lemmas.Bool.{cases_lt}
 use Rattle.std.proofs.lemmas.List.{get_or_append_left, get_or-append_right, get_or_past, length-append}
 use Rattle.std.proofs.lemmas.Option.{slice_get_within}
-use Rattle.elf_spec.specs.Image.{Image}
-use Rattle.c_type_spec.specs.Core.{Typed}
+use Rattle.elf_read_spec.specs.Image.{Image}
+use Rattle.c_types_spec.specs.Core.{Typed}
 use Rattle.pair_setup.specs.Globals.{IsMisplacedAt, AreMisplaced}
 
 module _ (image : Image) (unit : Typed) (names : List (List ℕ)) where

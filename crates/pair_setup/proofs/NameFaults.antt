@@ -3,19 +3,19 @@ use Rattle.std.proofs.Common.{◌≡◌, ◌≢◌, ◌⊎◌, ◌∙◌, ℕ, �
 use Rattle.std.specs.Prelude.{Bool, Contains, IsSome}
 use Rattle.std.specs.List.{AllByRecursion}
 use Rattle.std.proofs.lemmas.List.Elements.{All-from_recursion, Contains-get_or}
-use Rattle.elf_spec.specs.Image.{Image, function_named}
-use Rattle.elf_spec.specs.declared.SymbolValues.TheVariants.{Absent}
-use Rattle.c_spec.specs.Words.{entry_of}
-use Rattle.c_type_spec.specs.Core.{Body, Typed}
-use Rattle.c_type_spec.specs.HasType.{IsTypedUnit}
-use Rattle.pair_spec.specs.SourceReach as source
-use Rattle.pair_spec.specs.SourceReach.{body_of, globals_in}
-use Rattle.pair_spec.specs.Faults.{LacksBody, IsMisplaced, IsFirstOf, function_names, global_names, HasNames, HasNameFault, no_source, misplaced_global}
-use Rattle.pair_spec.specs.declared.PairKind.TheVariants.{NoSource, ObjectSize}
+use Rattle.elf_read_spec.specs.Image.{Image, function_named}
+use Rattle.elf_read_spec.specs.declared.SymbolValues.TheVariants.{Absent}
+use Rattle.c_token_spec.specs.Words.{entry_of}
+use Rattle.c_types_spec.specs.Core.{Body, Typed}
+use Rattle.c_types_spec.specs.HasType.{IsTypedUnit}
+use Rattle.pair_setup_spec.specs.SourceReach as source
+use Rattle.pair_setup_spec.specs.SourceReach.{body_of}
+use Rattle.pair_setup_spec.specs.Faults.{LacksBody, IsMisplaced, IsFirstOf, function_names, global_names, HasNames, HasNameFault, no_source, misplaced_global}
+use Rattle.pair_setup_spec.specs.declared.PairKind.TheVariants.{NoSource, ObjectSize}
 use Rattle.call_graph.specs.Graph.{Reaches}
-use Rattle.c_reach.specs.Names.{IsNumber, IsCallGraph}
-use Rattle.c_reach.proofs.Declared.{Splits}
-use Rattle.c_reach.proofs.Sources.{AreDeclared, one-name, reaches-there, reaches-at, reaches-back}
+use Rattle.pair_setup_calls.specs.Names.{IsNumber, IsCallGraph}
+use Rattle.pair_setup_calls.proofs.Declared.{Splits}
+use Rattle.pair_setup_calls.proofs.Sources.{AreDeclared, one-name, reaches-there, reaches-at, reaches-back}
 use Rattle.pair_setup.specs.Globals.{IsMisplacedAt, AreMisplaced}
 use Rattle.pair_setup.specs.Names.{LacksBodyAt, NamesMarked, IsLacking, IsUsedMarked, IsLeast, IsFineAt, NoFunction}
 use Rattle.pair_setup.proofs.Typing.{called-declared, reached-declared, undeclared-alone, body-declared, listed-declared}
@@ -139,7 +139,7 @@ module _ (unit : Typed) (names : List (List ℕ)) (typed : IsTypedUnit unit) (n 
             reached = subst (source.Reaches unit listed) (one-name names user there.0 usage.name there.1 usage.name_is) there.2;
             body = usage.body;
             body_is = usage.body_is;
-            named = subst (Contains (globals_in usage.body.action)) (one-name names number usage.other global usage.global_is of_global) usage.named;
+            named = subst (Contains usage.body.mentions) (one-name names number usage.other global usage.global_is of_global) usage.named;
           }
 
       module _ (bodies : (other : List ℕ) → LacksBody unit listed other → ⊥) (symbol : function_named image listed ≢ Absent) where

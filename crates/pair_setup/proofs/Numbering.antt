@@ -1,14 +1,14 @@
 -- What the numbers of a unit's names give.
 use Rattle.std.proofs.Common.{◌≡◌, ℕ, List, map, Option, Some, None}
 use Rattle.std.specs.Prelude.{Contains, IsSome, IfSome, MatchOption}
-use Rattle.c_spec.specs.Words.{entry_of}
-use Rattle.c_type_spec.specs.Core.{FunctionType, Typed, Global}
-use Rattle.c_type_layout.specs.Structs.{structs_of}
+use Rattle.c_token_spec.specs.Words.{entry_of}
+use Rattle.c_types_spec.specs.Core.{FunctionType, Typed, Global}
+use Rattle.c_types_layout.specs.Structs.{structs_of}
 use Rattle.c_types.specs.declared.typed.Typed as program
 use Rattle.c_types.specs.Typed.{typed_of}
-use Rattle.pair_spec.specs.Faults.{global_names}
-use Rattle.c_reach.specs.Names.{IsNumber, AreApart, names_of}
-use Rattle.c_reach.proofs.Declared.{Splits, function-numbered, function-splits, global-numbered, global-splits}
+use Rattle.pair_setup_spec.specs.Faults.{global_names}
+use Rattle.pair_setup_calls.specs.Names.{IsNumber, AreApart, names_of}
+use Rattle.pair_setup_calls.proofs.Declared.{Splits, function-numbered, function-splits, global-numbered, global-splits}
 use Rattle.pair_setup.specs.Names.{IsDeclaredAt, NoFunction}
 
 abbrev pub declared_names : Typed → List (List ℕ)

@@ -6,18 +6,18 @@ use Rattle.std.specs.List.Sorted.{IsStrictlyIncreasing}
 use Rattle.std.proofs.lemmas.List.{nil_from_length}
 use Rattle.std.proofs.lemmas.List.Elements.{All-from_recursion, All-from_get_or, All-get_or, All-weaker, Contains-get_or}
 use Rattle.std.proofs.lemmas.Option.{slice_get-get_or}
-use Rattle.elf_spec.specs.Image.{Image, function_named, size_at}
-use Rattle.elf_spec.specs.declared.SymbolValues.TheVariants.{Absent}
-use Rattle.code_spec.specs.Code.{Reaches, itself, further, CallsOn, call, tail}
-use Rattle.c_type_spec.specs.Core.{Typed}
-use Rattle.pair_spec.specs.declared.PairKind.TheVariants.{NothingListed}
-use Rattle.pair_spec.specs.SourceReach as source
-use Rattle.pair_spec.specs.Faults.{HasNames}
-use Rattle.c_reach.proofs.Sources.{one-name}
-use Rattle.pair_outcome_spec.specs.Code.{IsSoundCode}
-use Rattle.pair_outcome_spec.specs.Nodes.{HasLargeGraph, in_code, in_source}
-use Rattle.pair_outcome_spec.specs.Outcome as spec
-use Rattle.pair_outcome_spec.specs.Outcome.{nothing_listed, of_names, of_reach, HasNoFault, IsReached, IsPaired, IsFunction}
+use Rattle.elf_read_spec.specs.Image.{Image, function_named, size_at}
+use Rattle.elf_read_spec.specs.declared.SymbolValues.TheVariants.{Absent}
+use Rattle.code_reach_spec.specs.Code.{Reaches, itself, further, CallsOn, call, tail}
+use Rattle.c_types_spec.specs.Core.{Typed}
+use Rattle.pair_setup_spec.specs.declared.PairKind.TheVariants.{NothingListed}
+use Rattle.pair_setup_spec.specs.SourceReach as source
+use Rattle.pair_setup_spec.specs.Faults.{HasNames}
+use Rattle.pair_setup_calls.proofs.Sources.{one-name}
+use Rattle.pair_setup_spec.specs.Code.{IsSoundCode}
+use Rattle.pair_setup_spec.specs.Nodes.{HasLargeGraph, in_code, in_source}
+use Rattle.pair_setup_spec.specs.Outcome as spec
+use Rattle.pair_setup_spec.specs.Outcome.{nothing_listed, of_names, of_reach, HasNoFault, IsReached, IsPaired, IsFunction}
 use Rattle.pair_setup.specs.Codes.{AreCoded, IsFirstCodeError}
 use Rattle.pair_setup.specs.Names.{ArePassed}
 use Rattle.pair_setup.specs.Depths.{AreFunctions, IsSoundFunction, IsFirstDepthError}

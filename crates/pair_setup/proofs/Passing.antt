@@ -3,15 +3,15 @@ use Rattle.std.proofs.Common.{◌≡◌, ◌≢◌, ◌⊎◌, ◌∙◌, ℕ, �
 use Rattle.std.specs.Prelude.{◌↔◌, Bool, true, false, Contains, All, IfErr, IsTrue, OnOk, slice_get}
 use Rattle.std.proofs.lemmas.List.{drop_at}
 use Rattle.std.proofs.lemmas.List.Elements.{All-nil, All-push, Contains-append_left, Contains-append_cases, Contains-push}
-use Rattle.elf_spec.specs.Image.{Image, function_named}
-use Rattle.elf_spec.specs.declared.SymbolValues.TheVariants.{Absent}
-use Rattle.c_type_spec.specs.Core.{Typed}
-use Rattle.c_type_spec.specs.HasType.{IsTypedUnit}
-use Rattle.pair_spec.specs.SourceReach as source
-use Rattle.pair_spec.specs.Faults.{HasNames, no_symbol}
+use Rattle.elf_read_spec.specs.Image.{Image, function_named}
+use Rattle.elf_read_spec.specs.declared.SymbolValues.TheVariants.{Absent}
+use Rattle.c_types_spec.specs.Core.{Typed}
+use Rattle.c_types_spec.specs.HasType.{IsTypedUnit}
+use Rattle.pair_setup_spec.specs.SourceReach as source
+use Rattle.pair_setup_spec.specs.Faults.{HasNames, no_symbol}
 use Rattle.call_graph.specs.Graph.{Reaches, Grows, IsClosed}
-use Rattle.c_reach.specs.Names.{IsCallGraph}
-use Rattle.c_reach.proofs.Sources.{reaches-there, reaches-back}
+use Rattle.pair_setup_calls.specs.Names.{IsCallGraph}
+use Rattle.pair_setup_calls.proofs.Sources.{reaches-there, reaches-back}
 use Rattle.pair_setup.specs.Globals.{AreMisplaced}
 use Rattle.pair_setup.specs.Names.{IsDeclaredAt, IsLacking, IsUsedMarked, IsLeast, IsFineAt, AreFine, AddsReached, IsReachedFrom, IsPassed, ArePassed, IsNameError, refusal_of}
 use Rattle.pair_setup.specs.Answers.{IsFirstNameError}

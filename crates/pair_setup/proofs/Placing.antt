@@ -3,20 +3,21 @@ use Rattle.std.proofs.Common.{◌≡◌, ◌∙◌, ℕ, zero, suc, List, [], �
 use Rattle.std.proofs.lemmas.Option.{some_pair_parts}
 use Rattle.std.specs.Prelude.{◌↔◌, is_some, Bool, IsTrue, Contains, slice_get}
 use Rattle.std.specs.Borrow.{Bor}
-use Rattle.elf_spec.specs.Image.{Image}
-use Rattle.c_type_spec.specs.Types.{Structs, size_of}
-use Rattle.c_type_spec.specs.Core.{Global}
-use Rattle.c_type_layout.specs.Types.{type_of}
-use Rattle.c_type_layout.specs.Structs.{structs_of}
-use Rattle.c_type_layout.specs.declared.types.CType.{CType}
-use Rattle.c_type_scope.specs.declared.meaning.Meaning.{Meaning}
-use Rattle.c_type_scope.specs.declared.meaning.Meaning.TheVariants.{Local, Object, Function, Typedef, Enumerator}
+use Rattle.elf_read_spec.specs.Image.{Image}
+use Rattle.c_types_spec.specs.Types.{Structs}
+use Rattle.c_types_spec.specs.Units.{global_size}
+use Rattle.c_types_spec.specs.Core.{Global}
+use Rattle.c_types_layout.specs.Types.{type_of}
+use Rattle.c_types_layout.specs.Structs.{structs_of}
+use Rattle.c_types_layout.specs.declared.types.CType.{CType}
+use Rattle.c_types_scope.specs.declared.meaning.Meaning.{Meaning}
+use Rattle.c_types_scope.specs.declared.meaning.Meaning.TheVariants.{Local, Object, Function, Typedef, Enumerator}
 use Rattle.c_types.specs.declared.typed.Typed as program
 use Rattle.c_types.specs.Typed.{typed_of, global_of}
-use Rattle.c_reach.specs.Names.{IsNumber, AreApart, names_of}
-use Rattle.c_reach.proofs.Indices.{Entries, names_in, name-read}
-use Rattle.c_reach.proofs.Declared.{globals_by}
-use Rattle.pair_spec.specs.Faults.{IsPlaced}
+use Rattle.pair_setup_calls.specs.Names.{IsNumber, AreApart, names_of}
+use Rattle.pair_setup_calls.proofs.Indices.{Entries, names_in, name-read}
+use Rattle.pair_setup_calls.proofs.Declared.{globals_by}
+use Rattle.pair_setup_spec.specs.Faults.{IsPlaced}
 use Rattle.pair_setup.specs.Globals.{IsMisplacedAt, IsUnplaced, object_type}
 use Rattle.pair_setup.proofs.Added.{none_contained}
 
@@ -29,7 +30,7 @@ record IsObject (structs : Structs) (entries : Entries) (declared : Global) : Ty
   key : Bor (List ℕ)
   type : CType
   entry_is : slice_get entries index ≡ Some (key, Object type)
-  declared_is : declared ≡ global_of key.now (size_of structs (type_of type))
+  declared_is : declared ≡ global_of key.now (global_size structs (type_of type))
 
 later : (structs : Structs) (entry : Entry) (entries : Entries) (declared : Global) → IsObject structs entries declared → IsObject structs (entry ∷ entries) declared
 later structs entry entries declared o = record { index = suc o.index; key = o.key; type = o.type; entry_is = o.entry_is; declared_is = o.declared_is }
@@ -63,21 +64,21 @@ same-object : (type other : CType) → ◌≡◌ {A = Meaning} (Object type) (Ob
 same-object type other e = cc
 
 object-there : (structs : Structs) (entries : Entries) (index : ℕ) (key : Bor (List ℕ)) (type : CType) → slice_get entries index ≡ Some (key, Object type)
-    → Contains (globals_by structs entries) (global_of key.now (size_of structs (type_of type)))
+    → Contains (globals_by structs entries) (global_of key.now (global_size structs (type_of type)))
 object-there structs [] index key type is = absurd (cc)
 object-there structs ((one, Object of) ∷ entries) zero key type is =
     let both = same-entry one key (Object of) (Object type) is in (
       0,
       omega arith,
-      ap (λ (k : Bor (List ℕ)). global_of k.now (size_of structs (type_of of))) both.0
-          ∙ ap (λ (t : CType). global_of key.now (size_of structs (type_of t))) (same-object of type both.1),
+      ap (λ (k : Bor (List ℕ)). global_of k.now (global_size structs (type_of of))) both.0
+          ∙ ap (λ (t : CType). global_of key.now (global_size structs (type_of t))) (same-object of type both.1),
     )
 object-there structs ((one, Local n of) ∷ entries) zero key type is = absurd (let both : (Local n of) ≡ Object type = (same-entry one key (Local n of) (Object type) is).1 in cc)
 object-there structs ((one, Function signature has_body) ∷ entries) zero key type is = absurd (let both : (Function signature has_body) ≡ Object type = (same-entry one key (Function signature has_body) (Object type) is).1 in cc)
 object-there structs ((one, Typedef of) ∷ entries) zero key type is = absurd (let both : (Typedef of) ≡ Object type = (same-entry one key (Typedef of) (Object type) is).1 in cc)
 object-there structs ((one, Enumerator value) ∷ entries) zero key type is = absurd (let both : (Enumerator value) ≡ Object type = (same-entry one key (Enumerator value) (Object type) is).1 in cc)
 object-there structs ((one, Object of) ∷ entries) (suc index) key type is =
-    moved structs (global_of one.now (size_of structs (type_of of))) (globals_by structs entries) _ (object-there structs entries index key type is)
+    moved structs (global_of one.now (global_size structs (type_of of))) (globals_by structs entries) _ (object-there structs entries index key type is)
 object-there structs ((one, Local n of) ∷ entries) (suc index) key type is = object-there structs entries index key type is
 object-there structs ((one, Function signature has_body) ∷ entries) (suc index) key type is = object-there structs entries index key type is
 object-there structs ((one, Typedef of) ∷ entries) (suc index) key type is = object-there structs entries index key type is
@@ -99,7 +100,7 @@ module _ (image : Image) (u : program.Typed) (apart : AreApart (names_of u)) (nu
     key : Bor (List ℕ)
     type : CType
     entry_is : slice_get u.names.entries number ≡ Some (key, Object type)
-    declared_is : m.declared ≡ global_of key.now (size_of (structs_of u.structs.items) (type_of type))
+    declared_is : m.declared ≡ global_of key.now (global_size (structs_of u.structs.items) (type_of type))
 
   at-number : (m : IsMisplacedAt image (typed_of u) (names_of u) number) → IsAt m
   at-number m = record {
@@ -129,13 +130,13 @@ module _ (image : Image) (u : program.Typed) (apart : AreApart (names_of u)) (nu
             none-some a.type (sym e ∙ ap object_type same)
     at-object m (Some type) e = λ placed. m.misplaced (at (at-number m) placed)
       where
-        at : IsAt m → IsPlaced image (global_of key.now (size_of (structs_of u.structs.items) (type_of type))) → IsPlaced image m.declared
+        at : IsAt m → IsPlaced image (global_of key.now (global_size (structs_of u.structs.items) (type_of type))) → IsPlaced image m.declared
         at a placed =
             let both = same-entry key a.key meaning (Object a.type) (is ∙ a.entry_is) in
             let same_key : key ≡ a.key = both.0 in
             let same_type : type ≡ a.type = same-some type a.type (sym e ∙ ap object_type both.1) in
-            subst (IsPlaced image) (ap (λ (k : Bor (List ℕ)). global_of k.now (size_of (structs_of u.structs.items) (type_of type))) same_key
-            ∙ ap (λ (t : CType). global_of a.key.now (size_of (structs_of u.structs.items) (type_of t))) same_type ∙ sym a.declared_is) placed
+            subst (IsPlaced image) (ap (λ (k : Bor (List ℕ)). global_of k.now (global_size (structs_of u.structs.items) (type_of type))) same_key
+            ∙ ap (λ (t : CType). global_of a.key.now (global_size (structs_of u.structs.items) (type_of t))) same_type ∙ sym a.declared_is) placed
 
     from-object : (o : Option CType) → o ≡ object_type meaning → IsUnplaced image (structs_of u.structs.items) key.now o → IsMisplacedAt image (typed_of u) (names_of u) number
     from-object None e h = absurd h
@@ -143,7 +144,7 @@ module _ (image : Image) (u : program.Typed) (apart : AreApart (names_of u)) (nu
         let meaning_is = meaning-object meaning type e in
         let there : slice_get u.names.entries number ≡ Some (key, Object type) = sym is ∙ ap (λ (m : Meaning). Some (key, m)) meaning_is in
         record {
-          declared = global_of key.now (size_of (structs_of u.structs.items) (type_of type));
+          declared = global_of key.now (global_size (structs_of u.structs.items) (type_of type));
           is_declared = object-there (structs_of u.structs.items) u.names.entries number key type there;
           number_is = name-at u.names.entries number (key, Object type) there;
           misplaced = h;

@@ -5,23 +5,23 @@ use Rattle.std.proofs.lemmas.Bool.{cases_Bool, cases_lt, ltb-true, ltb-false}
 use Rattle.std.proofs.lemmas.List.{get_or_append_left, get_or-append_right, length-append}
 use Rattle.std.proofs.lemmas.List.Elements.{All-from_get_or}
 use Rattle.std.proofs.lemmas.Option.{slice_get_within, slice_get-get_or}
-use Rattle.elf_spec.specs.Image.{Image, function_named, size_at}
-use Rattle.elf_spec.specs.declared.SymbolValues.TheVariants.{One}
-use Rattle.code_spec.specs.Code as code
-use Rattle.code_spec.specs.Code.{IsStack}
-use Rattle.c_spec.specs.Words.{entry_of}
-use Rattle.c_type_spec.specs.Core.{Body, Typed}
-use Rattle.c_type_spec.specs.HasType.{IsTypedUnit}
+use Rattle.elf_read_spec.specs.Image.{Image, function_named, size_at}
+use Rattle.elf_read_spec.specs.declared.SymbolValues.TheVariants.{One}
+use Rattle.code_reach_spec.specs.Code as code
+use Rattle.code_reach_spec.specs.Code.{IsStack}
+use Rattle.c_token_spec.specs.Words.{entry_of}
+use Rattle.c_types_spec.specs.Core.{Body, Typed}
+use Rattle.c_types_spec.specs.HasType.{IsTypedUnit}
 use Rattle.call_graph.specs.Graph.{IsCyclic}
-use Rattle.c_reach.specs.Names.{IsCallGraph}
-use Rattle.c_reach.proofs.Sources.{cyclic-there, cyclic-back}
-use Rattle.pair_spec.specs.declared.TheConstants.{MAX_STACK}
-use Rattle.pair_spec.specs.declared.PairKind.TheVariants.{Recursive, StackTooDeep}
-use Rattle.pair_spec.specs.SourceReach as source
-use Rattle.pair_spec.specs.SourceReach.{body_of}
-use Rattle.pair_spec.specs.Faults.{HasNames, IsRecursive, in_source, in_code, HasReachFault, recursive, too_deep, IsShallow, IsTooDeep}
-use Rattle.pair_outcome_spec.specs.Code.{HasSoundCode}
-use Rattle.pair_outcome_spec.proofs.Stacks.{one_stack}
+use Rattle.pair_setup_calls.specs.Names.{IsCallGraph}
+use Rattle.pair_setup_calls.proofs.Sources.{cyclic-there, cyclic-back}
+use Rattle.tv_limits.specs.declared.TheConstants.{MAX_STACK}
+use Rattle.pair_setup_spec.specs.declared.PairKind.TheVariants.{Recursive, StackTooDeep}
+use Rattle.pair_setup_spec.specs.SourceReach as source
+use Rattle.pair_setup_spec.specs.SourceReach.{body_of}
+use Rattle.pair_setup_spec.specs.Faults.{HasNames, IsRecursive, in_source, in_code, HasReachFault, recursive, too_deep, IsShallow, IsTooDeep}
+use Rattle.pair_setup_spec.specs.Code.{HasSoundCode}
+use Rattle.pair_setup_spec.proofs.Stacks.{one_stack}
 use Rattle.pair_setup.specs.Names.{IsDeclaredAt, NoFunction}
 use Rattle.pair_setup.specs.Depths.{IsShallowStack, IsDepthOf, IsSoundFunction, AreFunctions, IsDepthErrorAt, IsFirstDepthError}
 use Rattle.pair_setup.specs.declared.reach.Depth.TheVariants.{Stack, Fault}

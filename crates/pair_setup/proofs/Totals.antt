@@ -6,11 +6,11 @@ use Rattle.std.proofs.lemmas.List.Elements.{All-contains, Contains-append_left, 
 use Rattle.std.proofs.lemmas.List.Sums.{sum_by-cons, sum_by_push}
 use Rattle.rv_instr.specs.declared.Instr.{Instr}
 use Rattle.rv_instr.specs.Instr.{instr}
-use Rattle.elf_spec.specs.Image.{Image, size_at}
-use Rattle.code_spec.specs.Code.{Flow, Falls, Branches, Jumps, Calls, Links, Returns, Stops, flow_of, opening_of, instr_at, word_at, IsReachable, CallsOn, IsGreatest, IsStack, deep}
-use Rattle.code_spec.specs.Faults.{direct_flow, CallsDirectly}
-use Rattle.code_spec.specs.Faults as direct
-use Rattle.code_spec.proofs.Direct.{reachable-direct, direct-reachable, calls-direct, direct-calls}
+use Rattle.elf_read_spec.specs.Image.{Image, size_at}
+use Rattle.code_reach_spec.specs.Code.{Flow, Falls, Branches, Jumps, Calls, Links, Returns, Stops, flow_of, opening_of, instr_at, word_at, IsReachable, CallsOn, IsGreatest, IsStack, deep}
+use Rattle.code_reach_spec.specs.Faults.{direct_flow, CallsDirectly}
+use Rattle.code_reach_spec.specs.Faults as direct
+use Rattle.code_reach_spec.proofs.Direct.{reachable-direct, direct-reachable, calls-direct, direct-calls}
 use Rattle.code_reach.specs.Found.{IsCode}
 use Rattle.pair_setup.specs.Calling.{called, callee_of, opening_at}
 use Rattle.pair_setup.specs.Stacks.{Known, AreStacks, IsTally, IsRaised, IsMore, IsTotal}

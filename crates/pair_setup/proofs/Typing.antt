@@ -4,12 +4,12 @@ use Rattle.std.specs.Prelude.{true, bytes_eq, find, Contains, IsSome}
 use Rattle.std.proofs.lemmas.Bool.{cases_Bool}
 use Rattle.std.proofs.lemmas.List.Elements.{Contains-append_cases, All-contains}
 use Rattle.std.proofs.lemmas.Slice.Eq.{bytes_eq-Decides}
-use Rattle.c_spec.specs.Words.{entry_of}
-use Rattle.c_type_spec.specs.declared.Scalar.{Scalar}
-use Rattle.c_type_spec.specs.Core.{FunctionType, Body, Typed, Action, Groups}
-use Rattle.c_type_spec.specs.HasType.{Scope, IsTyped, AreTyped, IsTypedBody, IsTypedUnit, scope_of, skip, sequence, evaluate, set, unset, store, call, choice, repeat, leave, switch, give_back, missing_return, last_group, one_group}
+use Rattle.c_token_spec.specs.Words.{entry_of}
+use Rattle.c_types_spec.specs.declared.Scalar.{Scalar}
+use Rattle.c_types_spec.specs.Core.{FunctionType, Body, Typed, Action, Groups}
+use Rattle.c_types_spec.specs.HasType.{Scope, IsTyped, AreTyped, IsTypedBody, IsTypedUnit, scope_of, skip, sequence, evaluate, set, unset, store, call, choice, repeat, leave, switch, give_back, missing_return, last_group, one_group}
 use Rattle.pair_setup.proofs.Added.{none_contained, only_contained, some-is}
-use Rattle.pair_spec.specs.SourceReach.{calls_in, calls_in_groups, body_of, CallsOn, Reaches, itself, further}
+use Rattle.pair_setup_spec.specs.SourceReach.{calls_in, calls_in_groups, body_of, CallsOn, Reaches, itself, further}
 
 abbrev IsDeclared : Scope → List ℕ → Type 0
 IsDeclared scope name = IsSome (entry_of scope.functions name)

@@ -7,15 +7,15 @@ use Rattle.std.proofs.lemmas.List.Elements.{Contains-append_left, Contains-appen
 use Rattle.std.proofs.lemmas.List.Sorted.{Contains-permutation, IsPermutation-sym}
 use Rattle.rv_instr.specs.declared.Instr.{Instr}
 use Rattle.rv_instr.specs.Instr.{instr}
-use Rattle.elf_spec.specs.Image.{Image, size_at}
-use Rattle.code_spec.specs.Code.{flow_of, CallsOn, Reaches, itself, further}
-use Rattle.code_spec.specs.Faults.{ReachesDirectly, ReachesNoFault, of_function, overlap}
-use Rattle.code_spec.specs.Faults as direct
-use Rattle.code_spec.proofs.Direct.{calls-direct}
+use Rattle.elf_read_spec.specs.Image.{Image, size_at}
+use Rattle.code_reach_spec.specs.Code.{flow_of, CallsOn, Reaches, itself, further}
+use Rattle.code_reach_spec.specs.Faults.{ReachesDirectly, ReachesNoFault, of_function, overlap}
+use Rattle.code_reach_spec.specs.Faults as direct
+use Rattle.code_reach_spec.proofs.Direct.{calls-direct}
 use Rattle.code_reach.specs.Found.{IsCode}
-use Rattle.code_graph_laws.proofs.Reached.{calls_function}
+use Rattle.decompile_laws.proofs.Reached.{calls_function}
 use Rattle.call_graph.specs.Graph.{Grows}
-use Rattle.pair_outcome_spec.specs.Outcome.{IsReached}
+use Rattle.pair_setup_spec.specs.Outcome.{IsReached}
 use Rattle.pair_setup.specs.Calling.{called, callee_of}
 use Rattle.pair_setup.specs.Codes.{AreSound}
 use Rattle.pair_setup.specs.Names.{IsOf}

@@ -1,13 +1,13 @@
 -- What pairing answers, as the program has it.
 use Rattle.std.specs.Prelude.{◌≡◌, ◌↔◌, ◌⊎◌, ℕ, List, [], ◌∷◌, codes, All, Contains, Some, slice_get}
 use Rattle.std.specs.List.Sorted.{IsStrictlyIncreasing}
-use Rattle.elf_spec.specs.Image.{Image}
-use Rattle.c_type_spec.specs.Core.{Typed}
-use Rattle.c_reach.specs.Names.{IsNumber}
-use Rattle.pair_spec.specs.Faults.{HasNames, IsFirstNameFault}
-use Rattle.pair_outcome_spec.specs.Code.{IsSoundCode}
-use Rattle.pair_outcome_spec.specs.Outcome as spec
-use Rattle.pair_outcome_spec.specs.Outcome.{IsPairFault, IsCodeFault, IsReached, IsTooLarge}
+use Rattle.elf_read_spec.specs.Image.{Image}
+use Rattle.c_types_spec.specs.Core.{Typed}
+use Rattle.pair_setup_calls.specs.Names.{IsNumber}
+use Rattle.pair_setup_spec.specs.Faults.{HasNames, IsFirstNameFault}
+use Rattle.pair_setup_spec.specs.Code.{IsSoundCode}
+use Rattle.pair_setup_spec.specs.Outcome as spec
+use Rattle.pair_setup_spec.specs.Outcome.{IsPairFault, IsCodeFault, IsReached, IsTooLarge}
 use Rattle.pair_setup.specs.Names.{AreReachedNumbers}
 use Rattle.pair_setup.specs.Depths.{AreFunctions, with_name}
 use Rattle.pair_setup.specs.Sizes.{AnyLargeCode, AnyLargeSource}

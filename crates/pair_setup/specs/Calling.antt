@@ -1,7 +1,7 @@
 -- The words of functions: which functions they call, and by how much they lower the stack pointer.
 use Rattle.std.specs.Prelude.{ℕ, Option, Some, None, option_and_then}
 use Rattle.rv_instr.specs.Instr.{instr}
-use Rattle.code_spec.specs.Code.{Flow, Calls, flow_of, opening_of}
+use Rattle.code_reach_spec.specs.Code.{Flow, Calls, flow_of, opening_of}
 
 -- the function that is called by an instruction of this flow, of a function without faults: no jump leaves it
 abbrev pub called : Flow → Option ℕ

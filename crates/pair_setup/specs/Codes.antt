@@ -1,11 +1,11 @@
 -- What is answered of the code of listed functions.
 use Rattle.std.specs.Prelude.{◌≡◌, ◌⊎◌, ℕ, List, length, get_or, slice_get, Contains, Some}
-use Rattle.elf_spec.specs.Image.{Image, function_named}
-use Rattle.elf_spec.specs.declared.SymbolValues.TheVariants.{One}
-use Rattle.code_spec.specs.Code.{Reaches}
-use Rattle.code_spec.specs.Faults.{IsReachFault, ReachesNoFault, IsFirst}
-use Rattle.pair_outcome_spec.specs.Code.{HasCodeFault, HasSoundCode, IsFirstCodeFault}
-use Rattle.pair_outcome_spec.specs.Outcome.{IsReached}
+use Rattle.elf_read_spec.specs.Image.{Image, function_named}
+use Rattle.elf_read_spec.specs.declared.SymbolValues.TheVariants.{One}
+use Rattle.code_reach_spec.specs.Code.{Reaches}
+use Rattle.code_reach_spec.specs.Faults.{IsReachFault, ReachesNoFault, IsFirst}
+use Rattle.pair_setup_spec.specs.Code.{HasCodeFault, HasSoundCode, IsFirstCodeFault}
+use Rattle.pair_setup_spec.specs.Outcome.{IsReached}
 use Rattle.pair_setup.specs.declared.outcome.PairError.{PairError}
 use Rattle.pair_setup.specs.declared.outcome.PairError.TheVariants.{Refused, Code, Nodes, NoMemory}
 

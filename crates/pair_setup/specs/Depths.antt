@@ -1,18 +1,18 @@
 -- What is answered of the stack of listed functions.
 use Rattle.std.specs.Prelude.{◌≡◌, ◌≤◌, ℕ, List, length, get_or, slice_get, Some}
-use Rattle.elf_spec.specs.Image.{Image}
-use Rattle.code_spec.specs.Code.{IsStack}
-use Rattle.c_type_spec.specs.Core.{Typed}
-use Rattle.pair_spec.specs.declared.TheConstants.{MAX_STACK}
-use Rattle.pair_spec.specs.Faults.{IsRecursive, HasReachFault, IsFirstReachFault, IsShallow}
-use Rattle.pair_outcome_spec.specs.Outcome.{IsFunction}
+use Rattle.elf_read_spec.specs.Image.{Image}
+use Rattle.code_reach_spec.specs.Code.{IsStack}
+use Rattle.c_types_spec.specs.Core.{Typed}
+use Rattle.tv_limits.specs.declared.TheConstants.{MAX_STACK}
+use Rattle.pair_setup_spec.specs.Faults.{IsRecursive, HasReachFault, IsFirstReachFault, IsShallow}
+use Rattle.pair_setup_spec.specs.Outcome.{IsFunction}
 use Rattle.pair_setup.specs.declared.reach.Depth.{Depth}
 use Rattle.pair_setup.specs.declared.reach.Depth.TheVariants.{Stack, Fault}
 use Rattle.pair_setup.specs.declared.outcome.Function.{Function}
 use Rattle.pair_setup.specs.declared.outcome.Named.TheVariants.{Nothing, Listed, Declared}
 use Rattle.pair_setup.specs.declared.outcome.PairError.{PairError}
 use Rattle.pair_setup.specs.declared.outcome.PairError.TheVariants.{Refused, Code, Nodes, NoMemory}
-use Rattle.pair_outcome_spec.specs.Outcome as spec
+use Rattle.pair_setup_spec.specs.Outcome as spec
 
 -- neither side reaches a cycle, and this is the stack, within the limit
 pub record IsShallowStack (image : Image) (unit : Typed) (name : List ℕ) (entry stack : ℕ) : Type 0 where

@@ -1,13 +1,13 @@
 -- The faults of the names of listed functions, by the numbers of names.
 use Rattle.std.specs.Prelude.{◌≡◌, ◌⊎◌, ◌≤◌, ℕ, Bool, true, false, List, get_or, Contains, All, Option, Some, None, IsSome, Result, Ok, Err}
-use Rattle.elf_spec.specs.Image.{Image}
-use Rattle.c_spec.specs.Words.{entry_of}
-use Rattle.c_type_spec.specs.Core.{Body, Typed}
+use Rattle.elf_read_spec.specs.Image.{Image}
+use Rattle.c_token_spec.specs.Words.{entry_of}
+use Rattle.c_types_spec.specs.Core.{Body, Typed}
 use Rattle.call_graph.specs.Graph.{IsClosed}
-use Rattle.c_reach.specs.Names.{IsNumber}
-use Rattle.pair_spec.specs.SourceReach.{Reaches, body_of, globals_in}
-use Rattle.pair_spec.specs.declared.PairKind.TheVariants.{NoSource, NoSymbol, ObjectSize}
-use Rattle.pair_spec.specs.Faults.{HasNames, HasNameFault}
+use Rattle.pair_setup_calls.specs.Names.{IsNumber}
+use Rattle.pair_setup_spec.specs.SourceReach.{Reaches, body_of}
+use Rattle.pair_setup_spec.specs.declared.PairKind.TheVariants.{NoSource, NoSymbol, ObjectSize}
+use Rattle.pair_setup_spec.specs.Faults.{HasNames, HasNameFault}
 use Rattle.pair_setup.specs.declared.outcome.Named.{Named}
 use Rattle.pair_setup.specs.declared.outcome.Named.TheVariants.{Nothing, Listed, Declared}
 use Rattle.pair_setup.specs.declared.outcome.PairError.{PairError}
@@ -35,7 +35,7 @@ pub record NamesAt (unit : Typed) (names : List (List ℕ)) (number global : ℕ
   pub body : Body
   pub body_is : body_of unit name ≡ Some body
   pub other : List ℕ
-  pub named : Contains (globals_in body.action) other
+  pub named : Contains body.mentions other
   pub global_is : IsNumber names global other
 
 abbrev pub IsMarked : List Bool → (number : ℕ) → Type 0

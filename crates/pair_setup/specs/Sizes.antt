@@ -1,9 +1,9 @@
 -- Which graphs are too large, by entries and by the numbers of names.
 use Rattle.std.specs.Prelude.{ℕ, List, Contains}
-use Rattle.elf_spec.specs.Image.{Image}
-use Rattle.c_type_spec.specs.Core.{Typed}
-use Rattle.c_reach.specs.Names.{IsNumber}
-use Rattle.pair_outcome_spec.specs.Nodes.{IsLargeCode, IsLargeSource}
+use Rattle.elf_read_spec.specs.Image.{Image}
+use Rattle.c_types_spec.specs.Core.{Typed}
+use Rattle.pair_setup_calls.specs.Names.{IsNumber}
+use Rattle.pair_setup_spec.specs.Nodes.{IsLargeCode, IsLargeSource}
 
 pub record AnyLargeCode (image : Image) (entries : List ℕ) : Type 0 where
   pub entry : ℕ

@@ -1,7 +1,7 @@
 -- The stacks of functions, from those of what they call.
 use Rattle.std.specs.Prelude.{◌≡◌, ◌⊎◌, ◌+◌, ◌≤◌, ℕ, List, max, sum_by, Contains, Option, Some, None}
-use Rattle.elf_spec.specs.Image.{Image}
-use Rattle.code_spec.specs.Code.{IsStack}
+use Rattle.elf_read_spec.specs.Image.{Image}
+use Rattle.code_reach_spec.specs.Code.{IsStack}
 use Rattle.pair_setup.specs.Calling.{callee_of, opening_at}
 use Rattle.pair_setup.specs.declared.stacks.Tally.{Tally}
 

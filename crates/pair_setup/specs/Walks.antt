@@ -1,12 +1,12 @@
 -- One walk over the code of all listed functions.
 use Rattle.std.specs.Prelude.{◌≡◌, ◌+◌, ◌<◌, ◌≤◌, ℕ, List, length, get_or, Contains, Some}
-use Rattle.elf_spec.specs.Image.{Image, function_named, size_at}
-use Rattle.elf_spec.specs.declared.SymbolValues.TheVariants.{One}
-use Rattle.code_spec.specs.Code.{CallsOn, Reaches}
-use Rattle.code_spec.specs.Faults.{HasNoFault}
+use Rattle.elf_read_spec.specs.Image.{Image, function_named, size_at}
+use Rattle.elf_read_spec.specs.declared.SymbolValues.TheVariants.{One}
+use Rattle.code_reach_spec.specs.Code.{CallsOn, Reaches}
+use Rattle.code_reach_spec.specs.Faults.{HasNoFault}
 use Rattle.code_reach.specs.Found.{IsCode}
 use Rattle.call_graph.specs.Graph.{Grows}
-use Rattle.pair_outcome_spec.specs.Outcome.{IsReached}
+use Rattle.pair_setup_spec.specs.Outcome.{IsReached}
 use Rattle.pair_setup.specs.Calling.{callee_of}
 use Rattle.pair_setup.specs.Codes.{AreSound}
 use Rattle.pair_setup.specs.Names.{IsOf}

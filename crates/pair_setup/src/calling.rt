@@ -1,10 +1,10 @@
 //! The words of functions: which functions they call, and by how much they lower the stack pointer.
 
 ghost use Rattle.std.specs.Prelude.{◌≡◌, None, IfOk, IfSome, IsSome};
-ghost use Rattle.rv_spec.specs.Arithmetic.{word as word_of};
-ghost use Rattle.rv_spec.specs.Machine.{past};
-ghost use Rattle.elf_spec.specs.Image.{size_at};
-ghost use Rattle.code_spec.specs.Code.{flow_of};
+ghost use Rattle.rv_machine_spec.specs.Arithmetic.{word as word_of};
+ghost use Rattle.rv_machine_spec.specs.Machine.{past};
+ghost use Rattle.elf_read_spec.specs.Image.{size_at};
+ghost use Rattle.code_reach_spec.specs.Code.{flow_of};
 ghost use Rattle.code_reach.specs.Found.{IsCode};
 ghost use Rattle.pair_setup.specs.Calling as spec;
 

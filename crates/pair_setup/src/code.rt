@@ -2,11 +2,11 @@
 
 ghost use Rattle.std.specs.Prelude.{◌≡◌, ◌≢◌, [], All, Contains, IfErr, IfOk, IsSome, IsTrue, OnOk};
 ghost use Rattle.std.specs.Prelude.{◌↔◌};
-ghost use Rattle.elf_spec.specs.Image.{function_named, size_at};
-ghost use Rattle.elf_spec.specs.declared.SymbolValues.TheVariants.{Absent};
+ghost use Rattle.elf_read_spec.specs.Image.{function_named, size_at};
+ghost use Rattle.elf_read_spec.specs.declared.SymbolValues.TheVariants.{Absent};
 ghost use Rattle.call_graph.specs.Graph.{Grows};
 ghost use Rattle.code_reach.specs.Found.{IsReachError};
-ghost use Rattle.c_reach.specs.Names.{texts_of};
+ghost use Rattle.pair_setup_calls.specs.Names.{texts_of};
 ghost use Rattle.pair_setup.specs.Codes.{AddsNamed, AddsSound, AreCoded, AreSound};
 ghost use Rattle.pair_setup.specs.Codes.{IsCodeErrorAt, IsFirstCodeError, IsReachErrorAt};
 ghost use Rattle.pair_setup.specs.Walks.{AreSoundOf};
@@ -15,7 +15,7 @@ use crate::outcome::PairError;
 use crate::walk::add_sound;
 use attempt::attempt;
 use code_reach::{CodeError, CodeFault, reach};
-use code_spec::CodeKind;
+use code_reach_spec::CodeKind;
 use elf_read::{Image, SymbolValues};
 use indexmap::IndexSet;
 use std::alloc::{AllocError, Global};

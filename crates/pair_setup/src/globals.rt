@@ -2,25 +2,26 @@
 
 ghost use Rattle.std.specs.Prelude.{◌≡◌, ◌↔◌, ℕ, [], Option, Some, IfOk, IsTrue, OnOk};
 ghost use Rattle.std.specs.Prelude.{option_map};
-ghost use Rattle.elf_spec.specs.Image.{has_name};
+ghost use Rattle.elf_read_spec.specs.Image.{has_name};
 ghost use Rattle.elf_read.specs.Values.{symbol_of};
-ghost use Rattle.c_type_layout.specs.Structs.{capped, structs_of};
-ghost use Rattle.c_type_layout.specs.Types.{type_of};
-ghost use Rattle.c_type_spec.specs.Types.{size_of};
+ghost use Rattle.c_types_layout.specs.Structs.{capped, structs_of};
+ghost use Rattle.c_types_layout.specs.Types.{type_of};
+ghost use Rattle.c_types_spec.specs.Types as types;
+ghost use Rattle.c_types_spec.specs.Units.{global_size, known_size};
 ghost use Rattle.c_types.specs.Typed.{global_of, typed_of};
-ghost use Rattle.c_reach.specs.Names.{AreApart, names_of};
-ghost use Rattle.pair_spec.specs.Faults as spec;
-ghost use Rattle.pair_spec.specs.Faults.{IsPlaced};
+ghost use Rattle.pair_setup_calls.specs.Names.{AreApart, names_of};
+ghost use Rattle.pair_setup_spec.specs.Faults as spec;
+ghost use Rattle.pair_setup_spec.specs.Faults.{IsPlaced};
 ghost use Rattle.pair_setup.specs.Globals.{AreMisplaced, IsMisplacedAt, IsUnplaced, object_type};
 
 use attempt::attempt;
-use c_type_layout::structs::size;
-use c_type_layout::types::CType;
-use c_type_scope::meaning::Meaning;
-use c_type_spec::SIZE_LIMIT;
 use c_types::typed::Typed;
+use c_types_layout::structs::size;
+use c_types_layout::types::{CType, Outer};
+use c_types_scope::meaning::Meaning;
+use c_types_spec::SIZE_LIMIT;
 use elf_read::{Image, Symbol, SymbolValues};
-use elf_spec::fields::STT_OBJECT;
+use elf_read_spec::fields::STT_OBJECT;
 use std::alloc::{AllocError, Global};
 
 /// Whether a symbol is an OBJECT symbol of a name.
@@ -58,14 +59,15 @@ fn has_size(image: &Image<'_>, name: &[u8], size: u64) -> Result<bool, AllocErro
     }
 }
 
-/// Whether the first OBJECT symbol of a name has the size of a global, unless that has none. A size
-/// from the limit of sizes on is answered as out of memory: no unit has an object of such a size.
+/// Whether the first OBJECT symbol of a name has the size of a type; it hasn't where that has none.
+/// A size from the limit of sizes on is answered as out of memory: no unit has an object of such a
+/// size.
 fn is_sized(image: &Image<'_>, name: &[u8], size: Option<u64>) -> Result<bool, AllocError>
     ensures { IfOk result (λ sized. (full : Option ℕ) → size ≡ capped full → (IsTrue sized
-        ↔ spec.HasSize image.now (global_of name.now full))) }
+        ↔ spec.HasSize image.now name.now (known_size full))) }
 {
     match size {
-        None => Ok(true),
+        None => Ok(false),
         Some(size) => {
             if size >= SIZE_LIMIT {
                 return Err(AllocError);
@@ -75,14 +77,43 @@ fn is_sized(image: &Image<'_>, name: &[u8], size: Option<u64>) -> Result<bool, A
     }
 }
 
-/// Whether the executable has a global of a name and a size: OBJECT symbols of one value, the first
-/// of them of that size, unless it has none.
-fn is_placed(image: &Image<'_>, name: &[u8], size: Option<u64>) -> Result<bool, AllocError>
-    ensures { IfOk result (λ placed. (full : Option ℕ) → size ≡ capped full → (IsTrue placed
-        ↔ IsPlaced image.now (global_of name.now full))) }
+/// Whether a type is an array without length.
+#[tactic(auto, using(crate::proofs::Symbols::open_types))]
+fn is_open_array(of: &CType) -> bool
+    ensures { result ≡ types.is_open_array (type_of of.now) }
+{
+    match of.outer() {
+        Outer::Array(None) => true,
+        Outer::Array(Some(_)) => false,
+        Outer::Void | Outer::Integer(_) | Outer::Pointer | Outer::Struct(_) => false,
+    }
+}
+
+/// Whether the first OBJECT symbol of a name has a size that a type gives a global.
+fn fits(image: &Image<'_>, unit: &Typed<'_>, name: &[u8], of: &CType) -> Result<bool, AllocError>
+    ensures { IfOk result (λ fits. IsTrue fits ↔ spec.HasSize image.now name.now (global_size
+        (structs_of unit.now.structs.items) (type_of of.now))) }
+{
+    if is_open_array(of) {
+        return Ok(true);
+    }
+    let size = size(unit.structs.as_slice(), of);
+    is_sized(image, name, size)
+}
+
+/// Whether the executable has a global of a name and a type: OBJECT symbols of one value, the first
+/// of them of a size that the type gives it.
+fn is_placed(
+    image: &Image<'_>,
+    unit: &Typed<'_>,
+    name: &[u8],
+    of: &CType,
+) -> Result<bool, AllocError>
+    ensures { IfOk result (λ placed. IsTrue placed ↔ IsPlaced image.now (global_of name.now
+        (global_size (structs_of unit.now.structs.items) (type_of of.now)))) }
 {
     match image.object(name) {
-        SymbolValues::One(_) => is_sized(image, name, size),
+        SymbolValues::One(_) => fits(image, unit, name, of),
         SymbolValues::Absent => Ok(false),
         SymbolValues::Two(_, _) => Ok(false),
     }
@@ -95,11 +126,10 @@ fn lacks_place(
     name: &[u8],
     of: &CType,
 ) -> Result<bool, AllocError>
-    ensures { IfOk result (λ found. IsTrue found ↔ (IsPlaced image.now (global_of name.now (size_of
-        (structs_of unit.now.structs.items) (type_of of.now))) → ⊥)) }
+    ensures { IfOk result (λ found. IsTrue found ↔ (IsPlaced image.now (global_of name.now
+        (global_size (structs_of unit.now.structs.items) (type_of of.now))) → ⊥)) }
 {
-    let size = size(unit.structs.as_slice(), of);
-    let placed = attempt!(is_placed(image, name, size));
+    let placed = attempt!(is_placed(image, unit, name, of));
     Ok(!placed)
 }
 

@@ -3,12 +3,11 @@
 ghost use Rattle.std.specs.Prelude.{◌≡◌, ◌↔◌, ℕ, [], drop, length, ◌≤◌, min, unwrap_or};
 ghost use Rattle.std.specs.Prelude.{get_or, Contains, false, true, IfErr, IfOk, IsTrue, OnOk, Some};
 ghost use Rattle.std.specs.Prelude.{MatchOption};
-ghost use Rattle.elf_spec.specs.Image.{function_named};
-ghost use Rattle.elf_spec.specs.declared.SymbolValues.TheVariants.{Absent};
-ghost use Rattle.c_core.specs.Actions.{action_of};
-ghost use Rattle.c_type_spec.specs.HasType.{IsTypedUnit};
+ghost use Rattle.elf_read_spec.specs.Image.{function_named};
+ghost use Rattle.elf_read_spec.specs.declared.SymbolValues.TheVariants.{Absent};
+ghost use Rattle.c_types_spec.specs.HasType.{IsTypedUnit};
 ghost use Rattle.c_types.specs.Typed.{typed_of};
-ghost use Rattle.c_reach.specs.Names.{IsNumber, names_of, texts_of};
+ghost use Rattle.pair_setup_calls.specs.Names.{IsNumber, names_of, texts_of};
 ghost use Rattle.call_graph.specs.Graph.{Grows, graph_of};
 ghost use Rattle.pair_setup.specs.Surveys.{IsSurvey};
 ghost use Rattle.pair_setup.specs.Names.{AreFine, ArePassed, IsDeclaredAt, IsLacking, IsLeast};
@@ -19,12 +18,12 @@ ghost use Rattle.pair_setup.specs.Answers.{IsFirstNameError};
 use crate::outcome::{Named, PairError};
 use crate::survey::Survey;
 use attempt::attempt;
-use c_reach::{body_at, globals_of, number};
 use c_types::typed::Typed;
 use call_graph::extend;
 use elf_read::{Image, SymbolValues};
 use indexmap::IndexSet;
-use pair_spec::PairKind;
+use pair_setup_calls::{body_at, number};
+use pair_setup_spec::PairKind;
 use std::alloc::{AllocError, Global};
 
 /// The number of a function that is declared.
@@ -164,7 +163,6 @@ fn add_of_names(
 
 /// Adds the numbers of the globals that the body of a number names and that are marked.
 fn add_of_body(
-    alloc: Global,
     found: &mut Vec<usize>,
     unit: &Typed<'_>,
     marks: &[bool],
@@ -174,17 +172,13 @@ fn add_of_body(
         number) found.old.items found.new.items) }
 {
     match body_at(unit, number) {
-        Some(body) => {
-            let names = attempt!(globals_of(alloc, &body.action));
-            add_of_names(found, unit, marks, names.as_slice())
-        }
+        Some(body) => add_of_names(found, unit, marks, body.mentions.as_slice()),
         None => Ok(()),
     }
 }
 
 /// Adds those that the bodies of some numbers name.
 fn add_of_bodies(
-    alloc: Global,
     found: &mut Vec<usize>,
     unit: &Typed<'_>,
     marks: &[bool],
@@ -194,7 +188,7 @@ fn add_of_bodies(
         numbers.now) found.old.items found.new.items) }
 {
     for number in numbers {
-        attempt!(add_of_body(alloc, found, unit, marks, *number));
+        attempt!(add_of_body(found, unit, marks, *number));
     }
     Ok(())
 }
@@ -210,7 +204,7 @@ fn first_marked(
         numbers.now)) }
 {
     let mut found = Vec::new(alloc);
-    attempt!(add_of_bodies(alloc, &mut found, unit, marks, numbers));
+    attempt!(add_of_bodies(&mut found, unit, marks, numbers));
     Ok(first_of(found.as_slice()))
 }
 

@@ -2,22 +2,22 @@
 
 ghost use Rattle.std.specs.Prelude.{◌↔◌, ◌⊎◌, All, IfErr, IfOk, IsSome, IsTrue, OnOk};
 ghost use Rattle.std.specs.List.Sorted.{IsStrictlyIncreasing};
-ghost use Rattle.elf_spec.specs.Image.{size_at};
+ghost use Rattle.elf_read_spec.specs.Image.{size_at};
 ghost use Rattle.decompile.specs.Errors.{IsGraphError};
 ghost use Rattle.c_types.specs.Typed.{typed_of};
-ghost use Rattle.c_reach.specs.Names.{names_of};
-ghost use Rattle.pair_outcome_spec.specs.Nodes.{IsLargeCode};
+ghost use Rattle.pair_setup_calls.specs.Names.{names_of};
+ghost use Rattle.pair_setup_spec.specs.Nodes.{IsLargeCode};
 ghost use Rattle.pair_setup.specs.Sizes.{AnyLargeCode, AnyLargeSource, IsLargeAt};
 
 use attempt::attempt;
 use c_graph_layout::size;
-use c_reach::body_at;
 use c_types::typed::Typed;
-use code_graph_laws::validity::code_graphs_have_one_size;
 use decompile::{GraphError, decompile_within};
+use decompile_laws::validity::code_graphs_have_one_size;
 use elf_read::Image;
+use pair_setup_calls::body_at;
 use std::alloc::{AllocError, Global};
-use tv_base::limits::MAX_NODES;
+use tv_limits::MAX_NODES;
 
 /// Nothing, where the graph of the function at an entry has no more nodes than the limit, or else
 /// why there is no such graph.

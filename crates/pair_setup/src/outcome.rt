@@ -1,7 +1,7 @@
 //! What pairing answers.
 
 use code_reach::CodeFault;
-use pair_spec::PairKind;
+use pair_setup_spec::PairKind;
 
 /// A listed function.
 #[derive(Clone, Copy)]
@@ -30,7 +30,7 @@ pub enum Named {
     Nothing,
     /// The one at an index of the list.
     Listed(usize),
-    /// The one of a number, as [`c_reach::name_at`] gives it.
+    /// The one of a number, as [`pair_setup_calls::name_at`] gives it.
     Declared(usize),
 }
 
@@ -41,7 +41,7 @@ pub enum PairError {
     Refused(PairKind, Named),
     /// The code of the function at an index of the list has a fault; this is the first.
     Code(CodeFault, usize),
-    /// A graph has more than [`tv_base::limits::MAX_NODES`] nodes.
+    /// A graph has more than [`tv_limits::MAX_NODES`] nodes.
     Nodes,
     /// There was no memory.
     NoMemory,

@@ -1,11 +1,11 @@
 //! The pairs of a list.
 
 ghost use Rattle.std.specs.Prelude.{◌≡◌, ◌≢◌, [], All, IfErr, IfOk, IsSome};
-ghost use Rattle.elf_spec.specs.Image.{size_at};
-ghost use Rattle.c_type_spec.specs.HasType.{IsTypedUnit};
+ghost use Rattle.elf_read_spec.specs.Image.{size_at};
+ghost use Rattle.c_types_spec.specs.HasType.{IsTypedUnit};
 ghost use Rattle.c_types.specs.Typed.{typed_of};
-ghost use Rattle.c_reach.specs.Names.{names_of, texts_of};
-ghost use Rattle.pair_outcome_spec.specs.Outcome.{IsPaired};
+ghost use Rattle.pair_setup_calls.specs.Names.{names_of, texts_of};
+ghost use Rattle.pair_setup_spec.specs.Outcome.{IsPaired};
 ghost use Rattle.pair_setup.specs.Surveys.{IsSurvey};
 ghost use Rattle.pair_setup.specs.Answers.{AreChecked, AreSmall, IsLargeError, IsPairError};
 ghost use Rattle.pair_setup.specs.Answers.{pairs_of};
@@ -20,7 +20,7 @@ use attempt::attempt;
 use c_types::typed::Typed;
 use elf_read::Image;
 use indexmap::IndexSet;
-use pair_spec::PairKind;
+use pair_setup_spec::PairKind;
 use std::alloc::Global;
 
 /// The listed functions, where none has a fault; or else the fault of the list. The numbers of all

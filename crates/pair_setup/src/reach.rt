@@ -4,15 +4,15 @@ ghost use Rattle.std.specs.Prelude.{◌≡◌, ◌↔◌, ℕ, List, [], All, ge
 ghost use Rattle.std.specs.Prelude.{if◌then◌else◌, IfErr, IfOk, IfSome, IsSome, IsTrue, OnOk, Some};
 ghost use Rattle.std.specs.Prelude.{slice_get};
 ghost use Rattle.indexmap.specs.IndexMap.{get};
-ghost use Rattle.elf_spec.specs.Image.{size_at};
-ghost use Rattle.code_spec.specs.Code as code;
+ghost use Rattle.elf_read_spec.specs.Image.{size_at};
+ghost use Rattle.code_reach_spec.specs.Code as code;
 ghost use Rattle.code_reach.specs.Found.{IsDepth};
-ghost use Rattle.c_type_spec.specs.HasType.{IsTypedUnit};
+ghost use Rattle.c_types_spec.specs.HasType.{IsTypedUnit};
 ghost use Rattle.c_types.specs.Typed.{typed_of};
-ghost use Rattle.c_reach.specs.Names.{names_of, texts_of};
+ghost use Rattle.pair_setup_calls.specs.Names.{names_of, texts_of};
 ghost use Rattle.call_graph.specs.Graph.{IsCyclic, graph_of};
-ghost use Rattle.pair_spec.specs.Faults.{HasNames};
-ghost use Rattle.pair_outcome_spec.specs.Code.{HasSoundCode};
+ghost use Rattle.pair_setup_spec.specs.Faults.{HasNames};
+ghost use Rattle.pair_setup_spec.specs.Code.{HasSoundCode};
 ghost use Rattle.pair_setup.specs.Surveys.{AreAcyclic, IsSurvey};
 ghost use Rattle.pair_setup.specs.Names.{IsDeclaredAt};
 ghost use Rattle.pair_setup.specs.Depths.{AreFunctions, IsDepthErrorAt, IsDepthOf};
@@ -29,8 +29,9 @@ use call_graph::is_cyclic;
 use code_reach::stack;
 use elf_read::Image;
 use indexmap::IndexMap;
-use pair_spec::{MAX_STACK, PairKind};
+use pair_setup_spec::PairKind;
 use std::alloc::{AllocError, Global};
+use tv_limits::MAX_STACK;
 
 /// How many bytes of stack a function takes, or why that isn't answered.
 #[derive(Clone, Copy)]

@@ -4,7 +4,7 @@
 
 ghost use Rattle.std.specs.Prelude.{ℕ, ◌≡◌, ◌+◌, nat_eq, None, IfOk, IfSome, OnOk};
 ghost use Rattle.indexmap.specs.IndexMap.{get};
-ghost use Rattle.code_spec.specs.Code.{IsStack};
+ghost use Rattle.code_reach_spec.specs.Code.{IsStack};
 ghost use Rattle.pair_setup.specs.Stacks.{AreStacks, IsMore, IsRaised, IsTally, IsTotal};
 
 use crate::calling::{callee, opening, words_at};

@@ -2,15 +2,15 @@
 
 ghost use Rattle.std.specs.Prelude.{IfOk};
 ghost use Rattle.c_types.specs.Typed.{typed_of};
-ghost use Rattle.c_reach.specs.Names.{names_of};
+ghost use Rattle.pair_setup_calls.specs.Names.{names_of};
 ghost use Rattle.pair_setup.specs.Surveys.{IsSurvey};
 
 use crate::globals::misplaced_globals;
 use attempt::attempt;
-use c_reach::call_graph;
 use c_types::typed::Typed;
 use call_graph::depths;
 use elf_read::Image;
+use pair_setup_calls::call_graph;
 use std::alloc::{AllocError, Global};
 
 /// What is known of the names of the file scope, by their numbers.

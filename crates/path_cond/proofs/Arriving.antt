@@ -5,14 +5,14 @@ use Rattle.std.specs.Option.{option_map_or}
 use Rattle.std.specs.List.{All}
 use Rattle.std.proofs.lemmas.List.Elements.{All-head, All-tail, All-map}
 use Rattle.std.proofs.lemmas.Option.{slice_get-get_or, slice_get_within}
-use Rattle.term_spec.specs.declared.Variable.{Variable}
-use Rattle.term_spec.specs.Term.{Term}
-use Rattle.term_spec.specs.Substitution.{State}
+use Rattle.term_core_spec.specs.declared.Variable.{Variable}
+use Rattle.term_core_spec.specs.Term.{Term}
+use Rattle.term_core_spec.specs.Substitution.{State}
 use Rattle.term_bank.specs.Nodes.{tree_at, Holds}
-use Rattle.graph_spec.specs.Graph.{Graph}
-use Rattle.visit_spec.specs.declared.Incoming.{Incoming}
-use Rattle.condition_spec.specs.Junctions.{Junction}
-use Rattle.condition_spec.specs.Conditions.{Conditional, united, conditional_at, along}
+use Rattle.graph_core_spec.specs.Graph.{Graph}
+use Rattle.visit_walk_spec.specs.declared.Incoming.{Incoming}
+use Rattle.path_cond_spec.specs.Junctions.{Junction}
+use Rattle.path_cond_spec.specs.Conditions.{Conditional, united, conditional_at, along}
 use Rattle.path_cond.specs.declared.ids.Ids.{Ids}
 use Rattle.path_cond.specs.declared.leave.Leaving.{Leaving}
 use Rattle.path_cond.specs.declared.known.Known.{Known}

@@ -2,15 +2,15 @@
 use Rattle.std.proofs.Common.{◌≡◌, ◌∙◌, ℕ, Bool, true, false, List, [], ◌∷◌, Option, Some, sym, ap, ap₂}
 use Rattle.std.specs.Prelude.{slice_get, if◌then◌else◌, is_some}
 use Rattle.std.proofs.lemmas.Bool.{false_from_ne_true, false≢true}
-use Rattle.term_spec.specs.declared.Variable.{Variable}
-use Rattle.term_spec.specs.Same.{same_variable}
-use Rattle.term_spec.specs.Term.{Term, and_term}
-use Rattle.term_spec.specs.Substitution.{State, substituted}
-use Rattle.term_spec.proofs.Same.{variable-same}
+use Rattle.term_core_spec.specs.declared.Variable.{Variable}
+use Rattle.term_core_spec.specs.Same.{same_variable}
+use Rattle.term_core_spec.specs.Term.{Term, and_term}
+use Rattle.term_core_spec.specs.Substitution.{State, substituted}
+use Rattle.term_core_spec.proofs.Same.{variable-same}
 use Rattle.term_bank.specs.Nodes.{tree_at, Holds, Extends}
 use Rattle.term_bank.proofs.Substitution.{kept}
-use Rattle.graph_spec.specs.Graph.{Binding}
-use Rattle.condition_spec.specs.Conditions.{assigned}
+use Rattle.graph_core_spec.specs.Graph.{Binding}
+use Rattle.path_cond_spec.specs.Conditions.{assigned}
 use Rattle.path_cond.specs.Bound.{has}
 use Rattle.path_cond.specs.States.{HasState, IsPut, IsFull, IsNumbered}
 

@@ -3,12 +3,12 @@ use Rattle.std.proofs.Common.{◌≡◌, ◌∙◌, ◌<◌, Bool, true, ◌&&�
 use Rattle.std.specs.List.{All}
 use Rattle.std.proofs.lemmas.List.Elements.{All-head, All-tail}
 use Rattle.std.proofs.lemmas.List.Folds.{fold-map, list_all-map}
-use Rattle.term_spec.specs.declared.Variable.{Variable}
-use Rattle.term_spec.specs.Term.{Term, or_term, choose}
-use Rattle.term_spec.specs.Same.{same_term}
-use Rattle.term_spec.specs.Substitution.{State}
-use Rattle.term_spec.proofs.Same.{same_itself}
-use Rattle.condition_spec.specs.Conditions.{Conditional, any_of, is_common, chosen, merged}
+use Rattle.term_core_spec.specs.declared.Variable.{Variable}
+use Rattle.term_core_spec.specs.Term.{Term, or_term, choose}
+use Rattle.term_core_spec.specs.Same.{same_term}
+use Rattle.term_core_spec.specs.Substitution.{State}
+use Rattle.term_core_spec.proofs.Same.{same_itself}
+use Rattle.path_cond_spec.specs.Conditions.{Conditional, any_of, is_common, chosen, merged}
 use Rattle.path_cond.specs.Merged.{any_term, chosen_term, merged_term}
 
 abbrev pub condition_of : Conditional → Term

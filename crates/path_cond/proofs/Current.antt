@@ -3,11 +3,11 @@ use Rattle.std.proofs.Common.{◌≡◌, ◌∙◌, ℕ, ◌<◌, zero, suc, tru
 use Rattle.std.specs.Prelude.{slice_get}
 use Rattle.std.proofs.lemmas.Bool.{cases_Bool, or_cases, false≢true}
 use Rattle.std.proofs.lemmas.Option.{same_Some, slice_get_within}
-use Rattle.term_spec.specs.declared.Variable.{Variable}
-use Rattle.term_spec.specs.Same.{same_variable}
-use Rattle.term_spec.specs.Term.{Term, open_term}
-use Rattle.term_spec.specs.Substitution.{State}
-use Rattle.term_spec.proofs.Same.{variable-same}
+use Rattle.term_core_spec.specs.declared.Variable.{Variable}
+use Rattle.term_core_spec.specs.Same.{same_variable}
+use Rattle.term_core_spec.specs.Term.{Term, open_term}
+use Rattle.term_core_spec.specs.Substitution.{State}
+use Rattle.term_core_spec.proofs.Same.{variable-same}
 use Rattle.term_bank.specs.Nodes.{Extends}
 use Rattle.term_substitution.specs.States.{tree_or, state_of, AreBelow}
 use Rattle.path_cond.specs.Bound.{has}

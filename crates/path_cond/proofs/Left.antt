@@ -1,16 +1,16 @@
 -- What leaves a node.
 use Rattle.std.proofs.Common.{◌≡◌, List, Some, subst}
 use Rattle.std.proofs.lemmas.Option.{slice_get_within, get_or_from_slice_get}
-use Rattle.term_spec.specs.declared.Variable.{Variable}
-use Rattle.term_spec.specs.Term.{Term}
-use Rattle.term_spec.specs.Substitution.{State, substituted}
+use Rattle.term_core_spec.specs.declared.Variable.{Variable}
+use Rattle.term_core_spec.specs.Term.{Term}
+use Rattle.term_core_spec.specs.Substitution.{State, substituted}
 use Rattle.term_bank.specs.Nodes.{Holds}
-use Rattle.graph_spec.specs.declared.Next.{Next}
-use Rattle.graph_spec.specs.declared.Next.TheVariants as next
-use Rattle.graph_spec.specs.Graph.{Node, Cond, Graph}
-use Rattle.visit_spec.specs.declared.Branch.{Branch}
-use Rattle.visit_spec.specs.declared.Branch.TheVariants.{Only, IfTrue, IfFalse}
-use Rattle.condition_spec.specs.Conditions.{Conditional, with_test, node_of_place}
+use Rattle.graph_core_spec.specs.declared.Next.{Next}
+use Rattle.graph_core_spec.specs.declared.Next.TheVariants as next
+use Rattle.graph_core_spec.specs.Graph.{Node, Cond, Graph}
+use Rattle.visit_walk_spec.specs.declared.Branch.{Branch}
+use Rattle.visit_walk_spec.specs.declared.Branch.TheVariants.{Only, IfTrue, IfFalse}
+use Rattle.path_cond_spec.specs.Conditions.{Conditional, with_test, node_of_place}
 use Rattle.path_cond.specs.declared.ids.Ids.{Ids}
 use Rattle.path_cond.specs.declared.leave.Leaving.{Leaving}
 use Rattle.path_cond.specs.Bound.{IsListedNode, ListsAll}

@@ -1,12 +1,12 @@
 -- Listed visits are those of a walk.
 use Rattle.std.proofs.Common.{◌≡◌, ◌∙◌, ℕ, ◌<◌, zero, suc, List, [], ◌∷◌, length, get_or, map, refl, sym, ap, subst, arith}
-use Rattle.visit_spec.specs.declared.Incoming.{Incoming}
-use Rattle.visit_spec.specs.Visits.{Walk, Visit}
-use Rattle.visit_spec.specs.EdgesInto.{edges_into}
-use Rattle.visit_spec.specs.Listing.{Listing, IsListing}
+use Rattle.visit_walk_spec.specs.declared.Incoming.{Incoming}
+use Rattle.visit_walk_spec.specs.Visits.{Walk, Visit}
+use Rattle.visit_walk_spec.specs.EdgesInto.{edges_into}
+use Rattle.visit_walk_spec.specs.Listing.{Listing, IsListing}
 use Rattle.visit_walk.specs.Tables.{stray}
-use Rattle.condition_spec.specs.Junctions.{Junction, junctions, junction_at}
-use Rattle.condition_spec.proofs.Links.{onward}
+use Rattle.path_cond_spec.specs.Junctions.{Junction, junctions, junction_at}
+use Rattle.path_cond_spec.proofs.Links.{onward}
 use Rattle.path_cond.specs.Listed.{joined, junctions_of}
 use Rattle.path_cond.specs.Table.{AreEarlier}
 

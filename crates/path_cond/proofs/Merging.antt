@@ -5,8 +5,8 @@ use Rattle.std.proofs.lemmas.Bool.{eq-eqb}
 use Rattle.std.proofs.lemmas.List.{take_more, map-append, length-map, take_all, drop_more}
 use Rattle.std.proofs.lemmas.List.Elements.{All-head, All-tail}
 use Rattle.std.proofs.lemmas.List.Sums.{fold-append}
-use Rattle.term_spec.specs.Term.{Term, or_term, choose}
-use Rattle.term_spec.specs.Same.{same_term}
+use Rattle.term_core_spec.specs.Term.{Term, or_term, choose}
+use Rattle.term_core_spec.specs.Same.{same_term}
 use Rattle.term_bank.specs.Nodes.{tree_at, AreDistinct}
 use Rattle.path_cond.specs.Merged.{AreIds, any_term, chosen_term, merged_term}
 use Rattle.path_cond.proofs.Banks.{same_ids}

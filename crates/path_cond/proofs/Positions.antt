@@ -4,13 +4,13 @@ use Rattle.std.specs.Prelude.{slice_get, option_and_then}
 use Rattle.std.specs.List.{All}
 use Rattle.std.proofs.lemmas.List.Elements.{All-head, All-tail, All-map}
 use Rattle.std.proofs.lemmas.Option.{slice_get-get_or, get_or_from_slice_get, slice_get_within}
-use Rattle.term_spec.specs.declared.Variable.{Variable}
-use Rattle.term_spec.specs.Term.{Term, truth}
-use Rattle.term_spec.specs.Substitution.{State}
+use Rattle.term_core_spec.specs.declared.Variable.{Variable}
+use Rattle.term_core_spec.specs.Term.{Term, truth}
+use Rattle.term_core_spec.specs.Substitution.{State}
 use Rattle.term_bank.specs.Nodes.{tree_at, Holds}
-use Rattle.graph_spec.specs.Graph.{Graph}
-use Rattle.condition_spec.specs.Junctions.{Junction}
-use Rattle.condition_spec.specs.Conditions.{Conditional, united, merged, conditional_at, conditionals}
+use Rattle.graph_core_spec.specs.Graph.{Graph}
+use Rattle.path_cond_spec.specs.Junctions.{Junction}
+use Rattle.path_cond_spec.specs.Conditions.{Conditional, united, merged, conditional_at, conditionals}
 use Rattle.path_cond.specs.declared.ids.Ids.{Ids}
 use Rattle.path_cond.specs.declared.known.Known.{Known}
 use Rattle.path_cond.specs.Ids.{id_at}

@@ -1,7 +1,7 @@
 -- The terms of the start, in a map that has what the start has.
 use Rattle.std.proofs.Common.{◌≡◌, ◌∙◌, ℕ, List, length, Option, sym, ap}
-use Rattle.term_spec.specs.declared.Variable.{Variable}
-use Rattle.term_spec.specs.Term.{Term, open_term}
+use Rattle.term_core_spec.specs.declared.Variable.{Variable}
+use Rattle.term_core_spec.specs.Term.{Term, open_term}
 use Rattle.term_bank.specs.Nodes.{Extends}
 use Rattle.term_substitution.specs.States.{tree_or, state_of, AreBelow}
 use Rattle.path_cond.specs.States.{HasState, IsStart}

@@ -3,14 +3,14 @@ use Rattle.std.proofs.Common.{◌≡◌, ◌∙◌, ℕ, ◌+◌, ◌<◌, zero,
 use Rattle.std.specs.Prelude.{slice_get}
 use Rattle.std.proofs.lemmas.Bool.{cases_lt}
 use Rattle.std.proofs.lemmas.Option.{same_Some, slice_get_within}
-use Rattle.term_spec.specs.declared.Variable.{Variable}
-use Rattle.term_spec.specs.Term.{Term}
-use Rattle.term_spec.specs.Substitution.{State}
+use Rattle.term_core_spec.specs.declared.Variable.{Variable}
+use Rattle.term_core_spec.specs.Term.{Term}
+use Rattle.term_core_spec.specs.Substitution.{State}
 use Rattle.term_bank.specs.Nodes.{Extends}
 use Rattle.term_bank.proofs.Substitution.{kept}
-use Rattle.graph_spec.specs.Graph.{Graph, Node}
-use Rattle.condition_spec.specs.Junctions.{Junction}
-use Rattle.condition_spec.specs.Conditions.{Conditional, node_of_junction, state_after, condition_after}
+use Rattle.graph_core_spec.specs.Graph.{Graph, Node}
+use Rattle.path_cond_spec.specs.Junctions.{Junction}
+use Rattle.path_cond_spec.specs.Conditions.{Conditional, node_of_junction, state_after, condition_after}
 use Rattle.path_cond.specs.declared.ids.Ids.{Ids}
 use Rattle.path_cond.specs.declared.leave.Leaving.{Leaving}
 use Rattle.path_cond.specs.declared.known.Known.{Known}

@@ -1,7 +1,7 @@
 -- Where nothing was taken from another bank, all that was taken is right.
 use Rattle.std.proofs.Common.{◌≡◌, ◌∙◌, ℕ, List, Option, Some, None, sym}
-use Rattle.term_spec.specs.Term.{Term}
-use Rattle.term_spec.specs.Substitution.{State}
+use Rattle.term_core_spec.specs.Term.{Term}
+use Rattle.term_core_spec.specs.Substitution.{State}
 use Rattle.term_substitution.specs.Transfers.{AreTaken, AreWithin}
 use Rattle.path_cond.specs.States.{IsUntaken}
 

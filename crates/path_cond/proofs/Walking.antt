@@ -5,15 +5,15 @@ use Rattle.std.specs.List.{All}
 use Rattle.std.proofs.lemmas.List.{take_more}
 use Rattle.std.proofs.lemmas.Option.{slice_get-get_or}
 use Rattle.std.proofs.lemmas.List.Elements.{Contains-get_or}
-use Rattle.term_spec.specs.declared.Variable.{Variable}
-use Rattle.term_spec.specs.Term.{Term}
-use Rattle.term_spec.specs.Substitution.{State}
-use Rattle.graph_spec.specs.declared.Next.TheVariants as next
-use Rattle.graph_spec.specs.Graph.{Graph}
-use Rattle.visit_spec.specs.declared.Incoming.{Incoming}
-use Rattle.condition_spec.specs.Junctions.{Junction, junction_at}
-use Rattle.condition_spec.specs.Conditions.{Conditional, united, conditional_next, conditionals}
-use Rattle.condition_spec.proofs.Growing.{grown-at, length-grown}
+use Rattle.term_core_spec.specs.declared.Variable.{Variable}
+use Rattle.term_core_spec.specs.Term.{Term}
+use Rattle.term_core_spec.specs.Substitution.{State}
+use Rattle.graph_core_spec.specs.declared.Next.TheVariants as next
+use Rattle.graph_core_spec.specs.Graph.{Graph}
+use Rattle.visit_walk_spec.specs.declared.Incoming.{Incoming}
+use Rattle.path_cond_spec.specs.Junctions.{Junction, junction_at}
+use Rattle.path_cond_spec.specs.Conditions.{Conditional, united, conditional_next, conditionals}
+use Rattle.path_cond_spec.proofs.Growing.{grown-at, length-grown}
 use Rattle.path_cond.specs.declared.known.Known.{Known}
 use Rattle.path_cond.specs.Table.{AreKnown, AreEarlier, IsNothing}
 

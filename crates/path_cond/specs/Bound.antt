@@ -1,9 +1,9 @@
 -- Lists that have the variables that some nodes bind.
 use Rattle.std.specs.Prelude.{◌≡◌, Bool, true, List, ⊤, All}
 use Rattle.std.specs.List.{list_any}
-use Rattle.term_spec.specs.declared.Variable.{Variable}
-use Rattle.term_spec.specs.Same.{same_variable}
-use Rattle.graph_spec.specs.Graph.{Binding, Node, Basic, Cond, Call}
+use Rattle.term_core_spec.specs.declared.Variable.{Variable}
+use Rattle.term_core_spec.specs.Same.{same_variable}
+use Rattle.graph_core_spec.specs.Graph.{Binding, Node, Basic, Cond, Call}
 
 -- the list has the variable
 abbrev pub has : List Variable → Variable → Bool

@@ -1,13 +1,13 @@
 -- The conditions of the branches of a node.
 use Rattle.std.specs.Prelude.{ℕ, List, Option}
-use Rattle.term_spec.specs.declared.Variable.{Variable}
-use Rattle.term_spec.specs.Term.{Term}
-use Rattle.term_spec.specs.Substitution.{State}
-use Rattle.graph_spec.specs.Graph.{Node}
+use Rattle.term_core_spec.specs.declared.Variable.{Variable}
+use Rattle.term_core_spec.specs.Term.{Term}
+use Rattle.term_core_spec.specs.Substitution.{State}
+use Rattle.graph_core_spec.specs.Graph.{Node}
 use Rattle.term_bank.specs.Nodes.{Holds}
-use Rattle.visit_spec.specs.declared.Branch.{Branch}
-use Rattle.visit_spec.specs.declared.Branch.TheVariants.{Only, IfTrue, IfFalse}
-use Rattle.condition_spec.specs.Conditions.{Conditional, with_test, condition_after, state_after}
+use Rattle.visit_walk_spec.specs.declared.Branch.{Branch}
+use Rattle.visit_walk_spec.specs.declared.Branch.TheVariants.{Only, IfTrue, IfFalse}
+use Rattle.path_cond_spec.specs.Conditions.{Conditional, with_test, condition_after, state_after}
 use Rattle.path_cond.specs.declared.ids.Ids.{Ids}
 use Rattle.path_cond.specs.declared.leave.Leaving.{Leaving}
 use Rattle.path_cond.specs.Ids.{id_at}

@@ -1,10 +1,10 @@
 -- Conditions and states in a bank, and what is known of the visits so far.
 use Rattle.std.specs.Prelude.{◌≡◌, ℕ, ◌<◌, false, List, map, slice_get, Some, All}
-use Rattle.term_spec.specs.declared.Variable.{Variable}
-use Rattle.term_spec.specs.Term.{Term}
-use Rattle.term_spec.specs.Substitution.{State}
+use Rattle.term_core_spec.specs.declared.Variable.{Variable}
+use Rattle.term_core_spec.specs.Term.{Term}
+use Rattle.term_core_spec.specs.Substitution.{State}
 use Rattle.term_bank.specs.Nodes.{tree_at, Holds}
-use Rattle.condition_spec.specs.Conditions.{Conditional}
+use Rattle.path_cond_spec.specs.Conditions.{Conditional}
 use Rattle.path_cond.specs.declared.ids.Ids.{Ids}
 use Rattle.path_cond.specs.Bound.{has}
 use Rattle.path_cond.specs.Ids.{id_at}

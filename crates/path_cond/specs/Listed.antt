@@ -1,9 +1,9 @@
 -- Listed visits, each with the edges into it.
 use Rattle.std.specs.Prelude.{List, [], ◌∷◌}
-use Rattle.visit_spec.specs.declared.Incoming.{Incoming}
-use Rattle.visit_spec.specs.Visits.{Visit}
-use Rattle.visit_spec.specs.Listing.{Listing}
-use Rattle.condition_spec.specs.Junctions.{Junction}
+use Rattle.visit_walk_spec.specs.declared.Incoming.{Incoming}
+use Rattle.visit_walk_spec.specs.Visits.{Visit}
+use Rattle.visit_walk_spec.specs.Listing.{Listing}
+use Rattle.path_cond_spec.specs.Junctions.{Junction}
 
 abbrev pub joined : List Visit → List (List Incoming) → List Junction
 joined [] incoming = []

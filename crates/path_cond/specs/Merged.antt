@@ -1,8 +1,8 @@
 -- Conditions and terms of one variable as one, by lists.
 use Rattle.std.specs.Prelude.{ℕ, ◌<◌, false, if◌then◌else◌, List, [], ◌∷◌, All}
 use Rattle.std.specs.List.{fold, list_all}
-use Rattle.term_spec.specs.Term.{Term, truth, or_term, choose}
-use Rattle.term_spec.specs.Same.{same_term}
+use Rattle.term_core_spec.specs.Term.{Term, truth, or_term, choose}
+use Rattle.term_core_spec.specs.Same.{same_term}
 
 -- each is an id of a bank of so many terms
 abbrev pub AreIds : ℕ → List ℕ → Type 0

@@ -1,10 +1,10 @@
 -- The conditions of a walk's visits, in a bank.
 use Rattle.std.specs.Prelude.{ℕ, ◌<◌, List, length, map, get_or, All}
-use Rattle.term_spec.specs.Term.{Term}
-use Rattle.term_spec.specs.Substitution.{State}
-use Rattle.graph_spec.specs.Graph.{Graph}
-use Rattle.condition_spec.specs.Junctions.{Junction}
-use Rattle.condition_spec.specs.Conditions.{conditionals}
+use Rattle.term_core_spec.specs.Term.{Term}
+use Rattle.term_core_spec.specs.Substitution.{State}
+use Rattle.graph_core_spec.specs.Graph.{Graph}
+use Rattle.path_cond_spec.specs.Junctions.{Junction}
+use Rattle.path_cond_spec.specs.Conditions.{conditionals}
 use Rattle.path_cond.specs.declared.found.Conditions.{Conditions}
 use Rattle.path_cond.specs.Ids.{id_at}
 use Rattle.path_cond.specs.States.{HasState}

@@ -1,15 +1,15 @@
 -- What is known of the visits so far, by their positions.
 use Rattle.std.specs.Prelude.{◌≡◌, ℕ, ◌<◌, List, [], ◌∷◌, ◌++◌, length, slice_get, Some, All}
 use Rattle.std.specs.Option.{option_map_or}
-use Rattle.term_spec.specs.declared.Variable.{Variable}
-use Rattle.term_spec.specs.Term.{Term}
-use Rattle.term_spec.specs.Substitution.{State}
+use Rattle.term_core_spec.specs.declared.Variable.{Variable}
+use Rattle.term_core_spec.specs.Term.{Term}
+use Rattle.term_core_spec.specs.Substitution.{State}
 use Rattle.term_bank.specs.Nodes.{Holds}
-use Rattle.graph_spec.specs.Graph.{Graph}
-use Rattle.visit_spec.specs.declared.Incoming.{Incoming}
-use Rattle.condition_spec.specs.Junctions.{Junction}
-use Rattle.condition_spec.specs.Conditions.{Conditional, node_of_junction}
-use Rattle.condition_spec.specs.Passages.{IsInto}
+use Rattle.graph_core_spec.specs.Graph.{Graph}
+use Rattle.visit_walk_spec.specs.declared.Incoming.{Incoming}
+use Rattle.path_cond_spec.specs.Junctions.{Junction}
+use Rattle.path_cond_spec.specs.Conditions.{Conditional, node_of_junction}
+use Rattle.path_cond_spec.specs.Passages.{IsInto}
 use Rattle.path_cond.specs.declared.ids.Ids.{Ids}
 use Rattle.path_cond.specs.declared.leave.Leaving.{Leaving}
 use Rattle.path_cond.specs.declared.known.Known.{Known}

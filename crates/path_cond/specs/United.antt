@@ -1,7 +1,7 @@
 -- Several states as one, by the numbers of variables.
 use Rattle.std.specs.Prelude.{◌≡◌, ℕ, ◌<◌, List, map, slice_get, Option, option_and_then, Some, All}
 use Rattle.std.specs.List.{filter_map}
-use Rattle.term_spec.specs.Term.{Term}
+use Rattle.term_core_spec.specs.Term.{Term}
 use Rattle.term_bank.specs.Nodes.{tree_at, Holds}
 use Rattle.path_cond.specs.declared.ids.Ids.{Ids}
 use Rattle.path_cond.specs.Ids.{id_at}

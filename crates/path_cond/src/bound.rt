@@ -1,7 +1,7 @@
 //! The variables that the basic nodes of a graph bind.
 
 ghost use Rattle.std.specs.Prelude.{◌≡◌, ℕ, ◌<◌, List, map, IfOk, OnOk};
-ghost use Rattle.term_spec.specs.Term.{Term};
+ghost use Rattle.term_core_spec.specs.Term.{Term};
 ghost use Rattle.graph_core.specs.Graphs.{graph_of};
 ghost use Rattle.graph_core.specs.Shared.{shared_binding_of, shared_node_of};
 ghost use Rattle.path_cond.specs.Bound.{AreListed, IsListedNode, KeepsListed, ListsAll};
@@ -9,7 +9,7 @@ ghost use Rattle.path_cond.specs.Bound.{AreListed, IsListedNode, KeepsListed, Li
 use graph_core::{Graph, SharedBinding, SharedNode};
 use indexmap::IndexSet;
 use std::alloc::{AllocError, Global};
-use term_spec::Variable;
+use term_core_spec::Variable;
 
 // Adds the variables of some bindings.
 fn add_bindings(

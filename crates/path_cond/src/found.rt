@@ -3,7 +3,7 @@
 use crate::ids::Ids;
 use crate::known::Known;
 use indexmap::IndexSet;
-use term_spec::Variable;
+use term_core_spec::Variable;
 
 /// The conditions and the states of the visits of a walk.
 #[derive(Drop)]

@@ -4,15 +4,15 @@ ghost use Rattle.std.specs.Prelude.{◌≡◌, ◌++◌, ◌∷◌, ℕ, ◌<◌
 ghost use Rattle.std.specs.Prelude.{slice_get, Some};
 ghost use Rattle.std.specs.List.{All};
 ghost use Rattle.std.specs.HashMap.{get};
-ghost use Rattle.term_spec.specs.Same.{same_variable};
-ghost use Rattle.term_spec.specs.Substitution.{State as Terms};
+ghost use Rattle.term_core_spec.specs.Same.{same_variable};
+ghost use Rattle.term_core_spec.specs.Substitution.{State as Terms};
 ghost use Rattle.term_bank.specs.Nodes.{Extends};
 ghost use Rattle.term_substitution.specs.States.{AreBelow};
 ghost use Rattle.graph_core.specs.Graphs.{graph_of};
-ghost use Rattle.visit_spec.specs.declared.Incoming.{Incoming as Edge};
-ghost use Rattle.condition_spec.specs.Junctions.{Junction};
-ghost use Rattle.condition_spec.specs.Conditions.{Conditional, conditional_next, entered_by};
-ghost use Rattle.condition_spec.specs.Conditions.{united};
+ghost use Rattle.visit_walk_spec.specs.declared.Incoming.{Incoming as Edge};
+ghost use Rattle.path_cond_spec.specs.Junctions.{Junction};
+ghost use Rattle.path_cond_spec.specs.Conditions.{Conditional, conditional_next, entered_by};
+ghost use Rattle.path_cond_spec.specs.Conditions.{united};
 ghost use Rattle.path_cond.specs.Bound.{ListsAll};
 ghost use Rattle.path_cond.specs.Ids.{id_at};
 ghost use Rattle.path_cond.specs.Known.{HasConditional, IsFullConditional};
@@ -27,8 +27,8 @@ use graph_core::{Graph, Next};
 use indexmap::IndexSet;
 use std::alloc::{AllocError, Global};
 use term_bank::{Bank, TermId, TermNode};
-use term_spec::{Atom, Variable};
-use visit_spec::{Branch, Incoming};
+use term_core_spec::{Atom, Variable};
+use visit_walk_spec::{Branch, Incoming};
 
 /// What is known of the visits so far, by their positions.
 #[derive(Drop)]

@@ -3,16 +3,16 @@
 ghost use Rattle.std.specs.Prelude.{◌≡◌, ◌<◌, length, map, IfOk, OnOk, Some, None, List};
 ghost use Rattle.std.specs.Prelude.{option_map, IfSome};
 ghost use Rattle.std.specs.HashMap.{get};
-ghost use Rattle.term_spec.specs.Same.{same_variable};
-ghost use Rattle.term_spec.specs.Term as tree;
-ghost use Rattle.term_spec.specs.Substitution.{State as Terms, substituted};
-ghost use Rattle.term_spec.specs.declared.Variable as spec;
+ghost use Rattle.term_core_spec.specs.Same.{same_variable};
+ghost use Rattle.term_core_spec.specs.Term as tree;
+ghost use Rattle.term_core_spec.specs.Substitution.{State as Terms, substituted};
+ghost use Rattle.term_core_spec.specs.declared.Variable as spec;
 ghost use Rattle.term_bank.specs.Nodes.{tree_at, Extends, Holds};
 ghost use Rattle.term_substitution.specs.States.{AreBelow};
-ghost use Rattle.visit_spec.specs.declared.Branch.{Branch};
-ghost use Rattle.condition_spec.specs.Conditions.{Conditional, node_of_place};
+ghost use Rattle.visit_walk_spec.specs.declared.Branch.{Branch};
+ghost use Rattle.path_cond_spec.specs.Conditions.{Conditional, node_of_place};
 ghost use Rattle.path_cond.specs.Branches.{HasBranches, IsLeft, id_by};
-ghost use Rattle.condition_spec.specs.Conditions.{assigned};
+ghost use Rattle.path_cond_spec.specs.Conditions.{assigned};
 ghost use Rattle.graph_core.specs.Graphs.{graph_of};
 ghost use Rattle.graph_core.specs.Shared.{shared_binding_of, shared_node_of};
 ghost use Rattle.graph_core.specs.Shared.{AreSharedBindings, IsSharedNode};
@@ -29,7 +29,7 @@ use indexmap::IndexSet;
 use std::alloc::{AllocError, Global};
 use std::collections::HashMap;
 use term_bank::{Bank, TermId, TermNode};
-use term_spec::{BinaryOperator, UnaryOperator, Variable};
+use term_core_spec::{BinaryOperator, UnaryOperator, Variable};
 use term_substitution::transfer_one;
 
 /// The conditions of the branches of a node: all are the node's own, unless it has a test.

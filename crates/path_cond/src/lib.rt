@@ -1,6 +1,6 @@
 //! The condition of each visit of a walk, and the state there, as terms of a bank.
 //!
-//! [`conditions`] gives exactly the terms of `condition_spec` (`specs/Conditions.antt` there, with
+//! [`conditions`] gives exactly the terms of `path_cond_spec` (`specs/Conditions.antt` there, with
 //! what they say of runs): for each visit, for each stop, for the error and for each bounded
 //! arrival. States share what they have in common ([`Ids`]).
 

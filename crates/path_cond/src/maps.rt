@@ -2,9 +2,9 @@
 
 ghost use Rattle.std.specs.Prelude.{length, IfOk, List};
 ghost use Rattle.std.specs.HashMap.{get};
-ghost use Rattle.term_spec.specs.Same.{same_variable};
-ghost use Rattle.term_spec.specs.Substitution.{State as Terms};
-ghost use Rattle.term_spec.specs.Term.{Term};
+ghost use Rattle.term_core_spec.specs.Same.{same_variable};
+ghost use Rattle.term_core_spec.specs.Substitution.{State as Terms};
+ghost use Rattle.term_core_spec.specs.Term.{Term};
 ghost use Rattle.term_bank.specs.Nodes.{Extends};
 ghost use Rattle.term_substitution.specs.States.{AreBelow, state_of};
 ghost use Rattle.path_cond.specs.Ids.{id_at};

@@ -2,12 +2,12 @@
 
 ghost use Rattle.std.specs.Prelude.{◌≡◌, ℕ, ◌<◌, [], length, IfOk, OnOk, List};
 ghost use Rattle.std.specs.List.{All};
-ghost use Rattle.term_spec.specs.declared.Variable.{Variable};
-ghost use Rattle.term_spec.specs.Substitution.{State as Terms};
+ghost use Rattle.term_core_spec.specs.declared.Variable.{Variable};
+ghost use Rattle.term_core_spec.specs.Substitution.{State as Terms};
 ghost use Rattle.term_bank.specs.Nodes.{Extends};
-ghost use Rattle.graph_spec.specs.Graph.{Graph as Nodes};
-ghost use Rattle.condition_spec.specs.Junctions.{Junction};
-ghost use Rattle.condition_spec.specs.Conditions.{conditional_of, conditionals, united};
+ghost use Rattle.graph_core_spec.specs.Graph.{Graph as Nodes};
+ghost use Rattle.path_cond_spec.specs.Junctions.{Junction};
+ghost use Rattle.path_cond_spec.specs.Conditions.{conditional_of, conditionals, united};
 ghost use Rattle.path_cond.specs.Ids.{id_at};
 ghost use Rattle.path_cond.specs.Known.{HasConditional};
 ghost use Rattle.path_cond.specs.Result.{AreConditions, AreMembers, conditions_at};
@@ -18,7 +18,7 @@ use crate::ids::Ids;
 use crate::unite::unite_all;
 use std::alloc::{AllocError, Global};
 use term_bank::{Bank, TermId, TermNode};
-use term_spec::Atom;
+use term_core_spec::Atom;
 
 // The conditions of some visits.
 fn find_conditions(
@@ -77,7 +77,7 @@ fn some(
 }
 
 /// The visits at some positions as one: their condition, which is false where there is none, and
-/// the state there, as `conditional_of` of `condition_spec` says. Out of memory, the bank may have
+/// the state there, as `conditional_of` of `path_cond_spec` says. Out of memory, the bank may have
 /// some more terms.
 pub fn several(
     alloc: Global,

@@ -8,7 +8,7 @@ ghost use Rattle.path_cond.specs.Merged.{AreIds, any_term, chosen_term, merged_t
 
 use std::alloc::AllocError;
 use term_bank::{Bank, TermId, TermNode};
-use term_spec::{Atom, BinaryOperator, TernaryOperator};
+use term_core_spec::{Atom, BinaryOperator, TernaryOperator};
 
 /// `or` of conditions, nested to the left; of none, `false`.
 pub fn any_of(bank: &mut Bank, conditions: &[TermId]) -> Result<TermId, AllocError>

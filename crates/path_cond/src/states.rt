@@ -3,14 +3,14 @@
 
 ghost use Rattle.std.specs.Prelude.{◌≡◌, ◌<◌, ◌∷◌, true, length, map, nat_eq, List, IfOk, OnOk};
 ghost use Rattle.std.specs.HashMap.{get};
-ghost use Rattle.term_spec.specs.Same.{same_variable};
-ghost use Rattle.term_spec.specs.Substitution.{State as Terms};
+ghost use Rattle.term_core_spec.specs.Same.{same_variable};
+ghost use Rattle.term_core_spec.specs.Substitution.{State as Terms};
 ghost use Rattle.term_bank.specs.Nodes.{Extends};
 ghost use Rattle.term_substitution.specs.States.{AreBelow};
 ghost use Rattle.term_substitution.specs.Transfers.{AreTaken, AreWithin, TakesMore};
-ghost use Rattle.condition_spec.specs.Conditions.{assigned};
+ghost use Rattle.path_cond_spec.specs.Conditions.{assigned};
 ghost use Rattle.graph_core.specs.Shared.{shared_binding_of, AreSharedBindings};
-ghost use Rattle.graph_spec.specs.Graph as spec;
+ghost use Rattle.graph_core_spec.specs.Graph as spec;
 ghost use Rattle.path_cond.specs.Bound.{AreListed, has};
 ghost use Rattle.path_cond.specs.Ids.{id_at};
 ghost use Rattle.path_cond.specs.States.{HasState, IsCurrent, IsNumbered, IsPut, IsSet};
@@ -22,7 +22,7 @@ use indexmap::IndexSet;
 use std::alloc::{AllocError, Global};
 use std::collections::HashMap;
 use term_bank::{Bank, TermId};
-use term_spec::Variable;
+use term_core_spec::Variable;
 use term_substitution::{Taken, transfer};
 
 /// The term of each variable; one that has none is itself.

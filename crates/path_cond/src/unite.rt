@@ -2,9 +2,9 @@
 
 ghost use Rattle.std.specs.Prelude.{◌≡◌, ℕ, ◌<◌, ◌==◌, if◌then◌else◌, length, get_or, Some};
 ghost use Rattle.std.specs.Prelude.{IfOk, OnOk, List};
-ghost use Rattle.term_spec.specs.Substitution.{State as Terms};
+ghost use Rattle.term_core_spec.specs.Substitution.{State as Terms};
 ghost use Rattle.term_bank.specs.Nodes.{Extends};
-ghost use Rattle.condition_spec.specs.Conditions.{Conditional, united};
+ghost use Rattle.path_cond_spec.specs.Conditions.{Conditional, united};
 ghost use Rattle.path_cond.specs.Ids.{id_at};
 ghost use Rattle.path_cond.specs.Known.{AreConditionals, HasConditional};
 ghost use Rattle.path_cond.specs.Known.{IsFullConditional};
@@ -17,7 +17,7 @@ use crate::merge::{any_of, merged};
 use indexmap::IndexSet;
 use std::alloc::{AllocError, Global};
 use term_bank::{Bank, TermId};
-use term_spec::Variable;
+use term_core_spec::Variable;
 
 // The id that a state of a list has at a number.
 fn id_in(states: &[Ids], source: usize, number: usize) -> Option<TermId>

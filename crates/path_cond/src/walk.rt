@@ -2,15 +2,15 @@
 
 ghost use Rattle.std.specs.Prelude.{◌≡◌, ℕ, length, IfOk, OnOk};
 ghost use Rattle.std.specs.HashMap.{get};
-ghost use Rattle.term_spec.specs.Same.{same_variable};
-ghost use Rattle.term_spec.specs.Substitution.{State as Terms};
+ghost use Rattle.term_core_spec.specs.Same.{same_variable};
+ghost use Rattle.term_core_spec.specs.Substitution.{State as Terms};
 ghost use Rattle.term_bank.specs.Nodes.{Extends};
 ghost use Rattle.term_substitution.specs.States.{AreBelow, IsAt, state_of};
 ghost use Rattle.graph_core.specs.Graphs.{graph_of};
-ghost use Rattle.visit_spec.specs.Listing.{IsListing};
-ghost use Rattle.visit_spec.specs.Visits.{Walk};
-ghost use Rattle.condition_spec.specs.Junctions.{junctions};
-ghost use Rattle.condition_spec.specs.Conditions.{conditionals};
+ghost use Rattle.visit_walk_spec.specs.Listing.{IsListing};
+ghost use Rattle.visit_walk_spec.specs.Visits.{Walk};
+ghost use Rattle.path_cond_spec.specs.Junctions.{junctions};
+ghost use Rattle.path_cond_spec.specs.Conditions.{conditionals};
 ghost use Rattle.path_cond.specs.Bound.{ListsAll};
 ghost use Rattle.path_cond.specs.Ids.{id_at};
 ghost use Rattle.path_cond.specs.Listed.{junctions_of};
@@ -27,7 +27,7 @@ use graph_core::Graph;
 use indexmap::IndexSet;
 use std::alloc::{AllocError, Global};
 use term_bank::{Bank, TermId, TermNode};
-use term_spec::{Atom, Variable};
+use term_core_spec::{Atom, Variable};
 use visit_walk::Visits;
 
 // The term of a variable in a state; one that has none is itself.

@@ -7,8 +7,8 @@ use Rattle.std.proofs.lemmas.List.Elements.{Contains-append_left, Contains-appen
 use Rattle.std.proofs.lemmas.List.Folds.{list_any_at}
 use Rattle.indexmap.specs.IndexSet.{insert_key}
 use Rattle.indexmap.proofs.CallerLemmas.{Contains-list_any}
-use Rattle.graph_spec.specs.Graph.{Graph, Graphs, Node, node_at}
-use Rattle.graph_spec.specs.Run.{GoesTo, IsEdge, IsPath, first, on}
+use Rattle.graph_core_spec.specs.Graph.{Graph, Graphs, Node, node_at}
+use Rattle.graph_core_spec.specs.Run.{GoesTo, IsEdge, IsPath, first, on}
 use Rattle.proof_tree.specs.Ahead.{Grows, AreAhead}
 
 -- ---- growth

@@ -2,7 +2,7 @@
 use Rattle.std.proofs.Common.{◌≡◌, ◌∙◌, ℕ, ◌+◌, ◌<◌, List, [], ◌∷◌, ◌++◌, Box, map, length, get_or, take, sym, ap, append_assoc}
 use Rattle.std.specs.Global.{Global}
 use Rattle.std.proofs.lemmas.List.{map-append, take_more}
-use Rattle.term_spec.specs.Term as tree
+use Rattle.term_core_spec.specs.Term as tree
 use Rattle.term_core.specs.declared.term.Term.{Term}
 use Rattle.graph_core.specs.Graphs.{boxed_term}
 use Rattle.proof_tree.specs.declared.frame.Premise.{Premise}

@@ -1,6 +1,6 @@
 -- A proof has a node at least.
 use Rattle.std.proofs.Common.{◌≤◌, arith}
-use Rattle.proof_spec.specs.Proofs.{Proof, Leaf, Case, Restrict, Split, Call, Hold, Wait, nesting}
+use Rattle.proof_tree_spec.specs.Proofs.{Proof, Leaf, Case, Restrict, Split, Call, Hold, Wait, nesting}
 
 pub some_nesting : (proof : Proof) → 1 ≤ nesting proof
 unfolding nesting

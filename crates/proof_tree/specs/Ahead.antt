@@ -1,7 +1,7 @@
 -- The nodes that a node of a graph leads to.
 use Rattle.std.specs.Prelude.{◌≡◌, ◌↔◌, ℕ, List, ◌++◌, Contains}
-use Rattle.graph_spec.specs.Graph.{Graphs}
-use Rattle.graph_spec.specs.Run.{IsPath}
+use Rattle.graph_core_spec.specs.Graph.{Graphs}
+use Rattle.graph_core_spec.specs.Run.{IsPath}
 
 -- after the items of the old list come items that have the property, and whatever has it is in the new list
 pub record Grows (P : ℕ → Type 0) (old new : List ℕ) : Type 0 where

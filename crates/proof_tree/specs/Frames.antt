@@ -1,13 +1,13 @@
 -- A frame of the code as one that the definitions speak of.
 use Rattle.std.specs.Prelude.{List, map, All, if◌then◌else◌, Box}
 use Rattle.std.specs.Global.{Global}
-use Rattle.term_spec.specs.Term as tree
+use Rattle.term_core_spec.specs.Term as tree
 use Rattle.term_core.specs.declared.term.Term.{Term}
 use Rattle.term_core.specs.Trees.{term_of}
-use Rattle.walk_spec.specs.TransitionSystem as walk
+use Rattle.graph_core_spec.specs.TransitionSystem as walk
 use Rattle.graph_core.specs.Graphs.{boxed_term, graphs_of}
-use Rattle.proof_spec.specs.declared.Mark.{Mark}
-use Rattle.proof_spec.specs.Frames as spec
+use Rattle.proof_tree_spec.specs.declared.Mark.{Mark}
+use Rattle.proof_tree_spec.specs.Frames as spec
 use Rattle.proof_tree.specs.declared.frame.Start.{Start}
 use Rattle.proof_tree.specs.declared.reachable.Reachable.{Reachable}
 use Rattle.graph_core.specs.declared.run.GraphRun.{GraphRun}

@@ -1,7 +1,7 @@
 -- Points and proofs of the code as those that the definitions speak of.
 use Rattle.std.specs.Prelude.{Box, List, Vec}
 use Rattle.std.specs.Global.{Global}
-use Rattle.proof_spec.specs.Proofs as spec
+use Rattle.proof_tree_spec.specs.Proofs as spec
 use Rattle.proof_tree.specs.declared.proof.BinaryPoint.{BinaryPoint}
 use Rattle.proof_tree.specs.declared.proof.SourcePoint.{SourcePoint}
 use Rattle.proof_tree.specs.declared.proof.Point.{Point}
@@ -9,7 +9,7 @@ use Rattle.proof_tree.specs.declared.proof.Point.TheVariants.{OnBinary, OnSource
 use Rattle.proof_tree.specs.declared.proof.Points.{Points}
 use Rattle.proof_tree.specs.declared.proof.Proof.{Proof}
 use Rattle.proof_tree.specs.declared.proof.Proof.TheVariants.{Leaf, Case', Restrict', Split', Call', Hold', Wait}
-use Rattle.term_spec.specs.Term as tree
+use Rattle.term_core_spec.specs.Term as tree
 use Rattle.term_core.specs.declared.term.Term.{Term}
 use Rattle.graph_core.specs.Graphs.{boxed_term}
 use Rattle.proof_tree.specs.Frames.{terms_of}

@@ -1,9 +1,9 @@
 -- What the variables of a proof are, of the code as the definitions have it.
 use Rattle.std.specs.Prelude.{◌≡◌, ◌<◌, ℕ, List, length, map, Some, slice_get}
-use Rattle.term_spec.specs.declared.Family.{Family}
-use Rattle.term_spec.specs.declared.Family.TheVariants as family
-use Rattle.term_spec.specs.declared.Variable.{Variable}
-use Rattle.proof_spec.specs.Scope as spec
+use Rattle.term_core_spec.specs.declared.Family.{Family}
+use Rattle.term_core_spec.specs.declared.Family.TheVariants as family
+use Rattle.term_core_spec.specs.declared.Variable.{Variable}
+use Rattle.proof_tree_spec.specs.Scope as spec
 use Rattle.proof_tree.specs.declared.scope.Body.{Body}
 use Rattle.proof_tree.specs.declared.scope.Setting.{Setting}
 

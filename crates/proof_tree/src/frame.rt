@@ -3,7 +3,7 @@
 use crate::reachable::Reachable;
 use crate::scope::Setting;
 use graph_core::GraphRun;
-use proof_spec::{Mark, Nodes};
+use proof_tree_spec::{Mark, Nodes};
 use term_core::Term;
 
 /// A premise: a term, or its negation.
@@ -62,7 +62,7 @@ pub struct Hold<'a> {
 }
 
 /// What a proof has to show: that two runs agree up to their stops, from a start on
-/// (`proof_spec`, `specs/Frames.antt`).
+/// (`proof_tree_spec`, `specs/Frames.antt`).
 #[derive(Drop)]
 pub struct Frame<'a> {
     /// The run of the binary.

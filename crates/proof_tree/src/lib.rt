@@ -2,7 +2,7 @@
 //!
 //! The main types are [`Frame`] and [`Reachable`], the nodes that a node of a graph leads to: a
 //! frame keeps them for its starts and goals, so that a cut can be judged without memory. A clause
-//! sees a frame as one of `proof_spec` (`specs/Frames.antt` there).
+//! sees a frame as one of `proof_tree_spec` (`specs/Frames.antt` there).
 #![tactic(auto)]
 
 mod frame;

@@ -2,10 +2,10 @@
 
 ghost use Rattle.std.specs.Prelude.{◌≤◌, ◌↔◌, IsTrue};
 ghost use Rattle.term_core.specs.Trees.{term_of};
-ghost use Rattle.proof_spec.specs.Proofs as spec;
+ghost use Rattle.proof_tree_spec.specs.Proofs as spec;
 ghost use Rattle.proof_tree.specs.Proofs.{proof_of};
 
-use proof_spec::{Counts, Place};
+use proof_tree_spec::{Counts, Place};
 use term_core::Term;
 
 /// The first node of an instruction, in the code of the function or of an inlined call.
@@ -67,7 +67,7 @@ pub enum Proof {
 }
 
 /// Whether a term nests at most so deep: it has at most so many operators on a path.
-#[tactic(auto, unfolding(proof_spec::specs::Proofs::term_nesting))]
+#[tactic(auto, unfolding(proof_tree_spec::specs::Proofs::term_nesting))]
 pub fn term_nests_within(term: &Term, room: usize) -> bool
     ensures { IsTrue result ↔ (spec.term_nesting (term_of term.now) ≤ room) }
 {
@@ -103,7 +103,7 @@ pub fn term_nests_within(term: &Term, room: usize) -> bool
 
 /// Whether a proof nests at most so deep: it has at most so many nodes on a path, its last node
 /// among them.
-#[tactic(auto, unfolding(proof_spec::specs::Proofs::nesting))]
+#[tactic(auto, unfolding(proof_tree_spec::specs::Proofs::nesting))]
 pub fn nests_within(proof: &Proof, room: usize) -> bool
     ensures { IsTrue result ↔ (spec.nesting (proof_of proof.now) ≤ room) }
 {

@@ -1,8 +1,8 @@
 //! The nodes that a node of a graph leads to.
 
 ghost use Rattle.std.specs.Prelude.{◌≡◌, ◌⊎◌, ◌↔◌, [], ◌∷◌, List, IsTrue, IfOk, OnOk, Contains};
-ghost use Rattle.term_spec.specs.Term.{Term};
-ghost use Rattle.graph_spec.specs.Run.{GoesTo, IsEdge};
+ghost use Rattle.term_core_spec.specs.Term.{Term};
+ghost use Rattle.graph_core_spec.specs.Run.{GoesTo, IsEdge};
 ghost use Rattle.graph_core.specs.Graphs.{graph_of, graphs_of};
 ghost use Rattle.graph_core.specs.Shared.{shared_node_of};
 ghost use Rattle.proof_tree.specs.Ahead.{Grows, AreAhead};

@@ -1,13 +1,13 @@
 //! Which terms may be lines of a proof.
 
 ghost use Rattle.std.specs.Prelude.{◌≡◌, ◌⊎◌, ◌+◌, ◌<◌, ◌≤◌, ◌↔◌, Any, IsTrue, Some, map, slice_get};
-ghost use Rattle.term_spec.specs.Term.{Occurs, OccursInAtom};
+ghost use Rattle.term_core_spec.specs.Term.{Occurs, OccursInAtom};
 ghost use Rattle.term_core.specs.Trees.{term_of};
-ghost use Rattle.proof_spec.specs.Scope as spec;
+ghost use Rattle.proof_tree_spec.specs.Scope as spec;
 ghost use Rattle.proof_tree.specs.Scope.{body_of, setting_of, Owns};
 
 use term_core::{Term, sort};
-use term_spec::{Atom, Family, Sort, Variable, Width};
+use term_core_spec::{Atom, Family, Sort, Variable, Width};
 
 /// The body of the source's function, or of a call that is inlined in it.
 #[derive(Drop)]
@@ -40,7 +40,7 @@ pub fn is_line(setting: &Setting, path: &[u32], term: &Term) -> bool
 }
 
 /// Whether each variable of a term is in scope.
-#[tactic(auto, unfolding(term_spec::specs::Term::Occurs))]
+#[tactic(auto, unfolding(term_core_spec::specs::Term::Occurs))]
 fn sees_all(setting: &Setting, path: &[u32], term: &Term) -> bool
     ensures { IsTrue result ↔ ((v : Variable) → Occurs v (term_of term.now)
         → spec.IsInScope (setting_of setting.now) path.now v) }

@@ -2,9 +2,9 @@
 //! after it; a cut's start takes the place of the frame's by `std::mem::swap`.
 
 ghost use Rattle.std.specs.Prelude.{◌≡◌, IfOk, OnErr, OnOk, map, ◌++◌};
-ghost use Rattle.term_spec.specs.Term as tree;
-ghost use Rattle.walk_spec.specs.TransitionSystem as walk;
-ghost use Rattle.proof_spec.specs.Frames as spec;
+ghost use Rattle.term_core_spec.specs.Term as tree;
+ghost use Rattle.graph_core_spec.specs.TransitionSystem as walk;
+ghost use Rattle.proof_tree_spec.specs.Frames as spec;
 ghost use Rattle.proof_tree.specs.Frames.{HasPaths, KnowsPaths, frame_of, goal_of, hold_of};
 ghost use Rattle.proof_tree.specs.Frames.{mark_of, premise_of, start_of, stop_of, terms_of};
 
@@ -12,7 +12,7 @@ use crate::frame::{Frame, Goal, Hold, Premise, Start, Stop};
 use crate::reachable::Reachable;
 use attempt::attempt;
 use graph_core::GraphRun;
-use proof_spec::{Counts, Mark, Nodes};
+use proof_tree_spec::{Counts, Mark, Nodes};
 use std::alloc::{AllocError, Global};
 use term_core::Term;
 

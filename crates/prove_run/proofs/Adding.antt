@@ -1,17 +1,17 @@
 -- Lines that are added to a certificate.
 use Rattle.std.proofs.Common.{◌≡◌, ◌∙◌, ◌+◌, ◌<◌, ◌≤◌, ℕ, Vec, Global, true, false, List, [], ◌∷◌, ◌++◌, length, map, take, get_or, refl, sym, ap, ap₂, subst, arith, append_assoc, append-nil, length-append}
 use Rattle.std.proofs.lemmas.List.{length-map, map_push, take_more, take_all}
-use Rattle.clause_spec.specs.declared.Literal as clause
-use Rattle.clause_spec.specs.Log.{Step}
-use Rattle.cert_spec.specs.Lines as spec
-use Rattle.cert_lines.specs.declared.lines.Literal.{Literal}
-use Rattle.cert_lines.specs.declared.lines.Line.{Line}
-use Rattle.cert_lines.specs.declared.lines.Line.TheVariants as code
-use Rattle.cert_lines.specs.Views.{literal_of, line_of, line_at, step_of, is_step, literals_in, hints_in}
+use Rattle.clause_check_spec.specs.declared.Literal as clause
+use Rattle.clause_check_spec.specs.Log.{Step}
+use Rattle.cert_text_spec.specs.Lines as spec
+use Rattle.cert_text_parse.specs.declared.lines.Literal.{Literal}
+use Rattle.cert_text_parse.specs.declared.lines.Line.{Line}
+use Rattle.cert_text_parse.specs.declared.lines.Line.TheVariants as code
+use Rattle.cert_text_parse.specs.Views.{literal_of, line_of, line_at, step_of, is_step, literals_in, hints_in}
 use Rattle.cert_text.specs.declared.certificates.Cert.{Cert}
 use Rattle.cert_text.specs.Certificates.{lines_of, certificate_of, all_literals, all_hints}
 use Rattle.cert_text.proofs.Additions.{literals_more, hints_more, one_more}
-use Rattle.trail_spec.specs.Written.{log_lines, logs_lines}
+use Rattle.prove_run_spec.specs.Written.{log_lines, logs_lines}
 use Rattle.prove_run.specs.Found.{logs_of}
 use Rattle.prove_run.specs.Written.{AddsLiterals, AddsLines}
 

@@ -5,14 +5,14 @@ use Rattle.std.proofs.lemmas.Bool.{cases_lt}
 use Rattle.std.proofs.lemmas.List.{length-append, length-map, map_push, take_all}
 use Rattle.std.proofs.lemmas.List.Elements.{All-contains}
 use Rattle.std.proofs.lemmas.Option.{same_Some, slice_get-get_or, slice_get-map, slice_get_within, get_or_from_slice_get}
-use Rattle.cert_spec.specs.Lines as lines
-use Rattle.check_spec.specs.Verdict as spec
-use Rattle.cert_frames.specs.declared.listed.Listed.{Listed}
-use Rattle.cert_frames.specs.Listed.{AreListed, IsListed}
-use Rattle.trail_spec.specs.Proofs.{HasTruths}
-use Rattle.trail_spec.specs.Trails as trails
-use Rattle.trail_spec.specs.Trails.{IsFound, AreFound}
-use Rattle.trail_spec.specs.Written.{Failure, part_lines, parts_lines, proof_lines, failures}
+use Rattle.cert_text_spec.specs.Lines as lines
+use Rattle.cert_check_spec.specs.Verdict as spec
+use Rattle.cert_check_frames.specs.declared.listed.Listed.{Listed}
+use Rattle.cert_check_frames.specs.Listed.{AreListed, IsListed}
+use Rattle.prove_run_spec.specs.Proofs.{HasTruths}
+use Rattle.prove_run_spec.specs.Trails as trails
+use Rattle.prove_run_spec.specs.Trails.{IsFound, AreFound}
+use Rattle.prove_run_spec.specs.Written.{Failure, part_lines, parts_lines, proof_lines, failures}
 use Rattle.prove_run.specs.declared.trail.Found.{Found}
 use Rattle.prove_run.specs.declared.trail.Found.TheVariants.{Proved, Unproved}
 use Rattle.prove_run.specs.Found.{found_of, logs_of, trail_of}

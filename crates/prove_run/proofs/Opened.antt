@@ -1,28 +1,28 @@
 -- The obligations of a Leaf at a function's entry, in a bank.
 use Rattle.std.proofs.Common.{◌≡◌, ◌∙◌, true, Box, Global, List, [], length, map, refl, sym, ap, append-nil}
 use Rattle.std.specs.HashMap.{get}
-use Rattle.term_spec.specs.Same.{same_variable}
-use Rattle.term_spec.specs.Term.{Term, open_term}
+use Rattle.term_core_spec.specs.Same.{same_variable}
+use Rattle.term_core_spec.specs.Term.{Term, open_term}
 use Rattle.term_core.specs.declared.term.Term.{Term as CodeTerm}
 use Rattle.term_bank.specs.Nodes.{Extends}
 use Rattle.path_cond.specs.States.{IsMapOf}
-use Rattle.rule_terms.proofs.Later.{map_later}
-use Rattle.rule_terms.specs.declared.points.Opening.{Opening}
-use Rattle.rule_terms.proofs.Later.{map_for}
-use Rattle.rule_terms.specs.Openings.{IsOpening, IsOpeningIn}
-use Rattle.rule_spec.specs.Rules as rules
-use Rattle.rule_spec.specs.Obligations as rule
+use Rattle.sim_rules_terms.proofs.Later.{map_later}
+use Rattle.sim_rules_terms.specs.declared.points.Opening.{Opening}
+use Rattle.sim_rules_terms.proofs.Later.{map_for}
+use Rattle.sim_rules_terms.specs.Openings.{IsOpening, IsOpeningIn}
+use Rattle.sim_rules_spec.specs.Rules as rules
+use Rattle.sim_rules_spec.specs.Obligations as rule
 use Rattle.graph_core.specs.Graphs.{boxed_term}
-use Rattle.proof_spec.specs.Frames as frames
+use Rattle.proof_tree_spec.specs.Frames as frames
 use Rattle.sim_rules.specs.Outcome.{IsRuleFault}
 use Rattle.sim_rules.specs.declared.fault.RuleFault.{RuleFault}
 use Rattle.sim_rules.specs.declared.fault.RuleFault.TheVariants.{Sort, Cyclic, Large, NoMemory}
-use Rattle.tv_base.specs.declared.limits.TheConstants.{MAX_VISITS}
-use Rattle.check_spec.specs.Verdict as spec
-use Rattle.cert_frames.specs.declared.jobs.Branch.{Branch}
-use Rattle.cert_frames.specs.declared.listed.Listed.{Listed}
-use Rattle.cert_frames.specs.Listed.{IsListed, frame_at, terms_given}
-use Rattle.cert_frames.specs.Jobs.{premises_with, frame_with}
+use Rattle.tv_limits.specs.declared.TheConstants.{MAX_VISITS}
+use Rattle.cert_check_spec.specs.Verdict as spec
+use Rattle.cert_check_frames.specs.declared.jobs.Branch.{Branch}
+use Rattle.cert_check_frames.specs.declared.listed.Listed.{Listed}
+use Rattle.cert_check_frames.specs.Listed.{IsListed, frame_at, terms_given}
+use Rattle.cert_check_frames.specs.Jobs.{premises_with, frame_with}
 use Rattle.prove_run.specs.Goals.{AreOpened, IsLeafFault}
 
 -- ---- faults

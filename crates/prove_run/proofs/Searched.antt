@@ -6,28 +6,28 @@ use Rattle.std.proofs.lemmas.List.Elements.{All-head, All-tail, All-weaker}
 use Rattle.std.proofs.lemmas.Option.{slice_get-get_or, slice_get-map, get_or_from_slice_get}
 use Rattle.memory_spec.specs.Runs.{Run}
 use Rattle.memory_spec.specs.Viewed.{runs_of}
-use Rattle.term_spec.specs.declared.Sort.TheVariants as sort
-use Rattle.term_spec.specs.Term.{Term}
-use Rattle.term_spec.specs.Sort.{sort_of}
+use Rattle.term_core_spec.specs.declared.Sort.TheVariants as sort
+use Rattle.term_core_spec.specs.Term.{Term}
+use Rattle.term_core_spec.specs.Sort.{sort_of}
 use Rattle.term_bank.specs.Nodes.{Extends, tree_at}
 use Rattle.path_cond.proofs.Banks.{kept_tree, within_longer}
-use Rattle.visit_spec.proofs.Order.{acyclic}
-use Rattle.proof_spec.specs.Frames.{Frame}
-use Rattle.rule_spec.specs.Points.{Convention}
-use Rattle.rule_spec.specs.Sides.{binary_way, source_way}
-use Rattle.rule_spec.specs.Rules.{Opening, AreOfLeaf}
-use Rattle.rule_spec.specs.Obligations as rule
-use Rattle.rule_spec.specs.Obligations.{IsCyclicRule}
+use Rattle.visit_walk_spec.proofs.Order.{acyclic}
+use Rattle.proof_tree_spec.specs.Frames.{Frame}
+use Rattle.sim_rules_spec.specs.Points.{Convention}
+use Rattle.sim_rules_spec.specs.Sides.{binary_way, source_way}
+use Rattle.sim_rules_spec.specs.Rules.{Opening, AreOfLeaf}
+use Rattle.sim_rules_spec.specs.Obligations as rule
+use Rattle.sim_rules_spec.specs.Obligations.{IsCyclicRule}
 use Rattle.sim_rules.proofs.Held.{trees_held}
-use Rattle.clause_spec.specs.Log.{Step}
-use Rattle.closing_spec.specs.Closing.{Closes, closing}
-use Rattle.check_spec.specs.Verdict as spec
-use Rattle.cert_frames.specs.declared.listed.Listed.{Listed}
-use Rattle.cert_frames.specs.Listed.{IsListed}
-use Rattle.trail_spec.specs.declared.Measure.TheVariants as measure
-use Rattle.trail_spec.specs.Proofs.{AreClosedBy, AreLean, HasTruths}
-use Rattle.trail_spec.specs.Trails as trails
-use Rattle.trail_spec.specs.Trails.{IsTrail, IsFound, IsObligation}
+use Rattle.clause_check_spec.specs.Log.{Step}
+use Rattle.discharge_spec.specs.Closing.{Closes, closing}
+use Rattle.cert_check_spec.specs.Verdict as spec
+use Rattle.cert_check_frames.specs.declared.listed.Listed.{Listed}
+use Rattle.cert_check_frames.specs.Listed.{IsListed}
+use Rattle.prove_run_spec.specs.declared.Measure.TheVariants as measure
+use Rattle.prove_run_spec.specs.Proofs.{AreClosedBy, AreLean, HasTruths}
+use Rattle.prove_run_spec.specs.Trails as trails
+use Rattle.prove_run_spec.specs.Trails.{IsTrail, IsFound, IsObligation}
 use Rattle.prove_run.specs.declared.trail.Found.{Found}
 use Rattle.prove_run.specs.declared.trail.Found.TheVariants.{Proved, Unproved}
 use Rattle.prove_run.specs.declared.trail.Trail.{Trail}

@@ -1,28 +1,28 @@
 -- Which side's walk from a function's entry has no list of visits.
 use Rattle.std.proofs.Common.{◌≡◌, ℕ, [], List, Option, Some, None, Result, Ok, Err, inl, inr, refl, sym, ap, subst}
 use Rattle.std.specs.Prelude.{IfOk, IfErr}
-use Rattle.visit_spec.specs.declared.Mark.{Mark}
-use Rattle.visit_spec.specs.Shape.{Shape, shape_of}
-use Rattle.visit_spec.specs.Visits.{Walk}
-use Rattle.visit_spec.specs.Listing.{Listing, IsListing}
-use Rattle.visit_spec.specs.Outcomes.{IsAcyclic, IsCyclicAt, AreTooMany}
-use Rattle.visit_spec.proofs.Order.{acyclic}
+use Rattle.visit_walk_spec.specs.declared.Mark.{Mark}
+use Rattle.visit_walk_spec.specs.Shape.{Shape, shape_of}
+use Rattle.visit_walk_spec.specs.Visits.{Walk}
+use Rattle.visit_walk_spec.specs.Listing.{Listing, IsListing}
+use Rattle.visit_walk_spec.specs.Outcomes.{IsAcyclic, IsCyclicAt, AreTooMany}
+use Rattle.visit_walk_spec.proofs.Order.{acyclic}
 use Rattle.visit_walk.specs.declared.found.WalkFault.{WalkFault}
 use Rattle.visit_walk.specs.declared.found.WalkFault.TheVariants.{Cyclic, TooMany, NoMemory}
 use Rattle.visit_walk.specs.Found.{IsWalkFault, walk_of}
-use Rattle.proof_spec.specs.Frames.{Side, Frame}
+use Rattle.proof_tree_spec.specs.Frames.{Side, Frame}
 use Rattle.proof_tree.specs.Frames.{side_of}
-use Rattle.rule_spec.specs.Sides.{graph_at, binary_way}
-use Rattle.rule_spec.specs.Obligations as rule
-use Rattle.rule_spec.specs.Obligations.{IsCyclicRule, IsLargeRule}
+use Rattle.sim_rules_spec.specs.Sides.{graph_at, binary_way}
+use Rattle.sim_rules_spec.specs.Obligations as rule
+use Rattle.sim_rules_spec.specs.Obligations.{IsCyclicRule, IsLargeRule}
 use Rattle.sim_rules.proofs.Counting.{never_too_many}
-use Rattle.tv_base.specs.declared.limits.TheConstants.{MAX_VISITS}
-use Rattle.check_spec.specs.Verdict.{Listed}
-use Rattle.cert_frames.specs.declared.listed.Listed as code
-use Rattle.cert_frames.specs.Listed.{IsListed, frame_at}
-use Rattle.trail_spec.specs.declared.Side.TheVariants.{Binary, Source}
-use Rattle.trail_spec.specs.Trails as trails
-use Rattle.trail_spec.specs.Trails.{IsTrail}
+use Rattle.tv_limits.specs.declared.TheConstants.{MAX_VISITS}
+use Rattle.cert_check_spec.specs.Verdict.{Listed}
+use Rattle.cert_check_frames.specs.declared.listed.Listed as code
+use Rattle.cert_check_frames.specs.Listed.{IsListed, frame_at}
+use Rattle.prove_run_spec.specs.declared.Side.TheVariants.{Binary, Source}
+use Rattle.prove_run_spec.specs.Trails as trails
+use Rattle.prove_run_spec.specs.Trails.{IsTrail}
 use Rattle.prove_run.specs.Walks.{IsFaultIf, IsMany, IsRound, IsVisited, fault_in, walk_from}
 
 -- ---- one walk

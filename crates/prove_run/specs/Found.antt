@@ -1,9 +1,9 @@
 -- What the search finds, as the definitions have it.
 use Rattle.std.specs.Prelude.{Vec, List, map}
 use Rattle.std.specs.Global.{Global}
-use Rattle.clause_spec.specs.Log.{Step}
+use Rattle.clause_check_spec.specs.Log.{Step}
 use Rattle.term_core.specs.Assignment.{assignment_of}
-use Rattle.trail_spec.specs.Trails as spec
+use Rattle.prove_run_spec.specs.Trails as spec
 use Rattle.prove_run.specs.declared.trail.Trail.{Trail}
 use Rattle.prove_run.specs.declared.trail.Trail.TheVariants.{Later, Large, Refuted, Spent}
 use Rattle.prove_run.specs.declared.trail.Found.{Found}

@@ -2,20 +2,20 @@
 use Rattle.std.specs.Prelude.{ℕ, Vec, List, Result, Ok, Err}
 use Rattle.std.specs.Global.{Global}
 use Rattle.std.specs.HashMap.{get}
-use Rattle.term_spec.specs.Same.{same_variable}
-use Rattle.term_spec.specs.Term.{Term}
+use Rattle.term_core_spec.specs.Same.{same_variable}
+use Rattle.term_core_spec.specs.Term.{Term}
 use Rattle.path_cond.specs.States.{IsMapOf}
-use Rattle.proof_spec.specs.Frames.{Frame}
-use Rattle.rule_spec.specs.Points.{Convention}
-use Rattle.rule_spec.specs.Rules as rules
-use Rattle.rule_spec.specs.Obligations as rule
-use Rattle.rule_terms.specs.declared.points.Opening.{Opening}
+use Rattle.proof_tree_spec.specs.Frames.{Frame}
+use Rattle.sim_rules_spec.specs.Points.{Convention}
+use Rattle.sim_rules_spec.specs.Rules as rules
+use Rattle.sim_rules_spec.specs.Obligations as rule
+use Rattle.sim_rules_terms.specs.declared.points.Opening.{Opening}
 use Rattle.sim_rules.specs.Outcome.{AreObligations, HasFewVisits, IsRuleFault}
 use Rattle.sim_rules.specs.declared.fault.RuleFault.{RuleFault}
 use Rattle.sim_rules.specs.declared.fault.RuleFault.TheVariants.{Sort, Cyclic, Large, NoMemory}
-use Rattle.tv_base.specs.declared.limits.TheConstants.{MAX_VISITS}
-use Rattle.cert_frames.specs.declared.listed.Listed.{Listed}
-use Rattle.cert_frames.specs.Listed.{terms_given}
+use Rattle.tv_limits.specs.declared.TheConstants.{MAX_VISITS}
+use Rattle.cert_check_frames.specs.declared.listed.Listed.{Listed}
+use Rattle.cert_check_frames.specs.Listed.{terms_given}
 
 -- the maps have the terms of the function's entry
 pub record AreOpened (f : Listed) (trees : List Term) (o : Opening) : Type 0 where

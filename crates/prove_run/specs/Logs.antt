@@ -2,19 +2,19 @@
 use Rattle.std.specs.Prelude.{◌≡◌, ◌<◌, ◌≤◌, ℕ, false, Vec, List, [], ◌∷◌, ◌++◌, All, Option, Some, None, slice_get}
 use Rattle.std.specs.Global.{Global}
 use Rattle.memory_spec.specs.Runs.{Run}
-use Rattle.term_spec.specs.declared.Sort.TheVariants as sort
-use Rattle.term_spec.specs.Term.{Term}
-use Rattle.term_spec.specs.Sort.{sort_of}
-use Rattle.term_spec.specs.Value.{Truth, IsAssignment, value}
-use Rattle.normal_spec.specs.Normal.{normal}
-use Rattle.clause_spec.specs.Log.{Step}
-use Rattle.blast_spec.specs.Goal.{cnf_of}
-use Rattle.closing_spec.specs.Closing.{Closes, closing, measured, maximum}
-use Rattle.sat_spec.specs.Logs as logs
-use Rattle.trail_spec.specs.declared.TheConstants.{SEARCH_LIMIT}
-use Rattle.trail_spec.specs.declared.Measure.TheVariants.{Visits, Obligation}
-use Rattle.trail_spec.specs.Trails as spec
-use Rattle.trail_spec.specs.Proofs.{AreClosedBy, AreLean}
+use Rattle.term_core_spec.specs.declared.Sort.TheVariants as sort
+use Rattle.term_core_spec.specs.Term.{Term}
+use Rattle.term_core_spec.specs.Sort.{sort_of}
+use Rattle.term_core_spec.specs.Value.{Truth, IsAssignment, value}
+use Rattle.term_norm_spec.specs.Normal.{normal}
+use Rattle.clause_check_spec.specs.Log.{Step}
+use Rattle.bit_blast_spec.specs.Goal.{cnf_of}
+use Rattle.discharge_spec.specs.Closing.{Closes, closing, measured, maximum}
+use Rattle.sat_search_spec.specs.Logs as logs
+use Rattle.tv_limits.specs.declared.TheConstants.{SEARCH_LIMIT}
+use Rattle.prove_run_spec.specs.declared.Measure.TheVariants.{Visits, Obligation}
+use Rattle.prove_run_spec.specs.Trails as spec
+use Rattle.prove_run_spec.specs.Proofs.{AreClosedBy, AreLean}
 use Rattle.prove_run.specs.declared.trail.Trail.{Trail}
 use Rattle.prove_run.specs.declared.trail.Found.{Found}
 use Rattle.prove_run.specs.declared.trail.Found.TheVariants.{Proved, Unproved}

@@ -1,10 +1,10 @@
 -- The functions that are unproved, as the definitions have them.
 use Rattle.std.specs.Prelude.{ℕ, List, [], ◌∷◌, ◌++◌, map, Option}
 use Rattle.cert_text.specs.declared.certificates.Cert.{Cert}
-use Rattle.trail_spec.specs.Written.{Failure}
+use Rattle.prove_run_spec.specs.Written.{Failure}
 use Rattle.prove_run.specs.declared.trails.Unproved.{Unproved}
 use Rattle.prove_run.specs.declared.trails.Trails.{Trails}
-use Rattle.cert_frames.specs.declared.listed.Listed.{Listed}
+use Rattle.cert_check_frames.specs.declared.listed.Listed.{Listed}
 use Rattle.prove_run.specs.declared.trail.Found.{Found}
 use Rattle.prove_run.specs.declared.trail.Found.TheVariants.{Proved, Unproved as is_unproved}
 use Rattle.prove_run.specs.Found.{trail_of}

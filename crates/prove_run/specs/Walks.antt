@@ -1,18 +1,18 @@
 -- The walk of a side from the entry of a function, why it has no list of visits, and the trail that says so.
 use Rattle.std.specs.Prelude.{◌≡◌, ℕ, [], Option, Some, None, Result, Ok, Err}
-use Rattle.visit_spec.specs.Shape.{shape_of}
-use Rattle.visit_spec.specs.Visits.{Walk}
-use Rattle.visit_spec.specs.Listing.{Listing, IsListing}
-use Rattle.visit_spec.specs.Outcomes.{IsAcyclic, IsCyclicAt, AreTooMany}
+use Rattle.visit_walk_spec.specs.Shape.{shape_of}
+use Rattle.visit_walk_spec.specs.Visits.{Walk}
+use Rattle.visit_walk_spec.specs.Listing.{Listing, IsListing}
+use Rattle.visit_walk_spec.specs.Outcomes.{IsAcyclic, IsCyclicAt, AreTooMany}
 use Rattle.visit_walk.specs.declared.found.WalkFault.{WalkFault}
 use Rattle.visit_walk.specs.declared.found.WalkFault.TheVariants.{Cyclic, TooMany, NoMemory}
 use Rattle.visit_walk.specs.Found.{IsWalkFault}
-use Rattle.proof_spec.specs.Frames.{Side}
-use Rattle.rule_spec.specs.Sides.{graph_at}
-use Rattle.tv_base.specs.declared.limits.TheConstants.{MAX_VISITS}
-use Rattle.trail_spec.specs.declared.Side.TheVariants.{Binary, Source}
-use Rattle.trail_spec.specs.declared.Measure.TheVariants.{Visits}
-use Rattle.trail_spec.specs.Trails.{Trail, Later, Large}
+use Rattle.proof_tree_spec.specs.Frames.{Side}
+use Rattle.sim_rules_spec.specs.Sides.{graph_at}
+use Rattle.tv_limits.specs.declared.TheConstants.{MAX_VISITS}
+use Rattle.prove_run_spec.specs.declared.Side.TheVariants.{Binary, Source}
+use Rattle.prove_run_spec.specs.declared.Measure.TheVariants.{Visits}
+use Rattle.prove_run_spec.specs.Trails.{Trail, Later, Large}
 
 -- from a node, without stops and bounds
 abbrev pub walk_from : Side → (start : ℕ) → Walk

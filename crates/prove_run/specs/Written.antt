@@ -1,14 +1,14 @@
 -- The lines of a certificate as they are added.
 use Rattle.std.specs.Prelude.{◌≡◌, ◌+◌, List, [], ◌∷◌, ◌++◌, length, map}
-use Rattle.clause_spec.specs.declared.Literal as clause
-use Rattle.cert_spec.specs.Lines as spec
-use Rattle.cert_lines.specs.declared.lines.Line.{Line}
-use Rattle.cert_lines.specs.declared.lines.Literal.{Literal}
-use Rattle.cert_lines.specs.Views.{literal_of}
+use Rattle.clause_check_spec.specs.declared.Literal as clause
+use Rattle.cert_text_spec.specs.Lines as spec
+use Rattle.cert_text_parse.specs.declared.lines.Line.{Line}
+use Rattle.cert_text_parse.specs.declared.lines.Literal.{Literal}
+use Rattle.cert_text_parse.specs.Views.{literal_of}
 use Rattle.cert_text.specs.declared.certificates.Cert.{Cert}
 use Rattle.cert_text.specs.Certificates.{certificate_of, all_literals, all_hints}
-use Rattle.cert_frames.specs.declared.listed.Listed.{Listed}
-use Rattle.trail_spec.specs.Written.{part_lines}
+use Rattle.cert_check_frames.specs.declared.listed.Listed.{Listed}
+use Rattle.prove_run_spec.specs.Written.{part_lines}
 use Rattle.prove_run.specs.declared.trail.Found.{Found}
 use Rattle.prove_run.specs.declared.trail.Found.TheVariants.{Proved, Unproved}
 use Rattle.prove_run.specs.Found.{logs_of}

@@ -2,22 +2,22 @@
 
 ghost use Rattle.std.specs.Prelude.{◌<◌, All, IfErr, IfOk, length};
 ghost use Rattle.proof_tree.specs.Frames.{frame_of};
-ghost use Rattle.rule_spec.specs.Points as points;
-ghost use Rattle.rule_spec.specs.Rules as opened;
-ghost use Rattle.rule_terms.specs.Conventions.{IsConventionOf};
-ghost use Rattle.rule_terms.specs.Openings.{IsOpening, IsOpeningIn};
-ghost use Rattle.check_spec.specs.Verdict as spec;
-ghost use Rattle.cert_frames.specs.Listed.{IsListed};
+ghost use Rattle.sim_rules_spec.specs.Points as points;
+ghost use Rattle.sim_rules_spec.specs.Rules as opened;
+ghost use Rattle.sim_rules_terms.specs.Conventions.{IsConventionOf};
+ghost use Rattle.sim_rules_terms.specs.Openings.{IsOpening, IsOpeningIn};
+ghost use Rattle.cert_check_spec.specs.Verdict as spec;
+ghost use Rattle.cert_check_frames.specs.Listed.{IsListed};
 ghost use Rattle.prove_run.specs.Goals.{AnswersGoals, AreOpened, IsLeafFault};
 
 use attempt::attempt;
-use cert_frames::{Listed, frame};
+use cert_check_frames::{Listed, frame};
 use proof_tree::Frame;
-use rule_terms::{Convention, Opening};
 use sim_rules::{Rule, RuleFault, Setup, obligations};
+use sim_rules_terms::{Convention, Opening};
 use std::alloc::Global;
 use term_bank::{Bank, TermId};
-use tv_base::limits::MAX_VISITS;
+use tv_limits::MAX_VISITS;
 
 // The obligations of a Leaf at a frame, or why it has none.
 fn frame_goals(

@@ -1,7 +1,7 @@
 //! The search for proofs of listed functions by a bare Leaf.
 //!
 //! [`prove`] finds for each function the logs of its obligations, or a [`Trail`], which says why
-//! there are none, as `trail_spec` defines them (`specs/Proofs.antt`, `specs/Trails.antt` there).
+//! there are none, as `prove_run_spec` defines them (`specs/Proofs.antt`, `specs/Trails.antt` there).
 //! [`certificate`] is the certificate of the functions that are proved, and [`Trails`] keeps the
 //! names of the others.
 #![tactic(auto)]
@@ -14,8 +14,9 @@ mod trails;
 mod walks;
 mod writing;
 
+pub use prove_run_spec::{Measure, Side};
 pub use search::prove;
 pub use trail::{Found, Trail};
-pub use trail_spec::{Measure, SEARCH_LIMIT, Side};
 pub use trails::{Trails, Unproved};
+pub use tv_limits::SEARCH_LIMIT;
 pub use writing::certificate;

@@ -3,9 +3,9 @@
 ghost use Rattle.std.specs.Prelude.{◌≡◌, ◌<◌, ℕ, [], All, IfOk, List, Some, length, map};
 ghost use Rattle.memory_spec.specs.Runs as fixed;
 ghost use Rattle.memory_spec.specs.Viewed.{runs_of};
-ghost use Rattle.term_spec.specs.declared.Sort.TheVariants as sort;
-ghost use Rattle.term_spec.specs.Term.{Term};
-ghost use Rattle.term_spec.specs.Sort.{sort_of};
+ghost use Rattle.term_core_spec.specs.declared.Sort.TheVariants as sort;
+ghost use Rattle.term_core_spec.specs.Term.{Term};
+ghost use Rattle.term_core_spec.specs.Sort.{sort_of};
 ghost use Rattle.term_bank.specs.Nodes.{Extends, tree_at};
 ghost use Rattle.prove_run.specs.Found.{logs_of};
 ghost use Rattle.prove_run.specs.Logs.{AreTruths, HasLog, HaveLogs, IsLeanLog, IsSearched};
@@ -15,10 +15,11 @@ use crate::trail::{Found, Trail};
 use attempt::attempt;
 use discharge::{SeekError, Sought, refute, seek};
 use memory_spec::Run;
-use sat_log::Step;
+use prove_run_spec::Measure;
+use sat_search_analysis::Step;
 use std::alloc::{AllocError, Global};
 use term_bank::{Bank, TermId};
-use trail_spec::{Measure, SEARCH_LIMIT};
+use tv_limits::SEARCH_LIMIT;
 
 // Adds a log; there is no trail.
 fn push_log(logs: &mut Vec<Vec<Step>>, log: Vec<Step>) -> Result<Option<Trail>, AllocError>

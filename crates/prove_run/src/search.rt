@@ -1,10 +1,10 @@
 //! The search for proofs of functions.
 
 ghost use Rattle.std.specs.Prelude.{◌≡◌, [], All, IfOk, List, OnOk, length, map};
-ghost use Rattle.check_spec.specs.Verdict as spec;
-ghost use Rattle.cert_frames.specs.Listed.{AreListed, IsListed};
-ghost use Rattle.trail_spec.specs.Proofs.{HasTruths};
-ghost use Rattle.trail_spec.specs.Trails.{AreFound, IsFound};
+ghost use Rattle.cert_check_spec.specs.Verdict as spec;
+ghost use Rattle.cert_check_frames.specs.Listed.{AreListed, IsListed};
+ghost use Rattle.prove_run_spec.specs.Proofs.{HasTruths};
+ghost use Rattle.prove_run_spec.specs.Trails.{AreFound, IsFound};
 ghost use Rattle.prove_run.specs.Found.{found_of};
 ghost use Rattle.prove_run.specs.Goals.{AreOpened};
 
@@ -13,8 +13,8 @@ use crate::logs::search;
 use crate::trail::Found;
 use crate::walks::why;
 use attempt::attempt;
-use cert_frames::{Listed, known};
-use rule_terms::Opening;
+use cert_check_frames::{Listed, known};
+use sim_rules_terms::Opening;
 use std::alloc::{AllocError, Global};
 use term_bank::Bank;
 
@@ -68,7 +68,7 @@ fn add_found(alloc: Global, listed: &[Listed<'_>], all: &mut Vec<Found>) -> Resu
 /// What the search finds of each listed function, in their order: the logs of its obligations, or
 /// the trail of an obligation that has none: of the first that a few assignments refute, or else of
 /// the first whose search finds none. Each function has a bank of its own, and each obligation a
-/// search that learns at most [`SEARCH_LIMIT`](trail_spec::SEARCH_LIMIT) clauses.
+/// search that learns at most [`SEARCH_LIMIT`](tv_limits::SEARCH_LIMIT) clauses.
 pub fn prove(alloc: Global, listed: &[Listed<'_>]) -> Result<Vec<Found>, AllocError>
     ensures found { (functions : List spec.Listed) → AreListed listed.now functions
         → All HasTruths functions

@@ -1,8 +1,8 @@
 //! What the search finds of a function.
 
-use sat_log::Step;
+use prove_run_spec::{Measure, Side};
+use sat_search_analysis::Step;
 use term_core::Assignment;
-use trail_spec::{Measure, Side};
 
 /// Why a function is unproved. Obligations are numbered from 0, in the order of a Leaf's.
 #[derive(Drop)]

@@ -2,15 +2,15 @@
 
 ghost use Rattle.std.specs.Prelude.{◌≡◌, ◌<◌, ◌∷◌, ◌++◌, [], IfOk, List, None, OnOk, Some};
 ghost use Rattle.std.specs.Prelude.{length, map, option_map, slice_get};
-ghost use Rattle.check_spec.specs.Verdict as spec;
-ghost use Rattle.cert_frames.specs.Listed.{AreListed};
-ghost use Rattle.trail_spec.specs.Written.{failures};
+ghost use Rattle.cert_check_spec.specs.Verdict as spec;
+ghost use Rattle.cert_check_frames.specs.Listed.{AreListed};
+ghost use Rattle.prove_run_spec.specs.Written.{failures};
 ghost use Rattle.prove_run.specs.Found.{found_of, trail_of};
 ghost use Rattle.prove_run.specs.Trails.{failure_in, failures_in, failures_of, over_in, unproved_in};
 
 use crate::trail::{Found, Trail};
 use attempt::attempt;
-use cert_frames::Listed;
+use cert_check_frames::Listed;
 use cert_text::Cert;
 use std::alloc::{AllocError, Global};
 

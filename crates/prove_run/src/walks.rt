@@ -2,13 +2,13 @@
 
 ghost use Rattle.std.specs.Prelude.{◌≡◌, IfOk};
 ghost use Rattle.proof_tree.specs.Frames.{side_of};
-ghost use Rattle.rule_spec.specs.Sides as sides;
-ghost use Rattle.rule_spec.specs.Obligations as rule;
-ghost use Rattle.rule_spec.specs.Obligations.{IsCyclicRule, IsLargeRule};
-ghost use Rattle.visit_spec.specs.Shape.{shape_of};
-ghost use Rattle.check_spec.specs.Verdict as spec;
-ghost use Rattle.trail_spec.specs.Trails.{IsFound};
-ghost use Rattle.cert_frames.specs.Listed.{IsListed};
+ghost use Rattle.sim_rules_spec.specs.Sides as sides;
+ghost use Rattle.sim_rules_spec.specs.Obligations as rule;
+ghost use Rattle.sim_rules_spec.specs.Obligations.{IsCyclicRule, IsLargeRule};
+ghost use Rattle.visit_walk_spec.specs.Shape.{shape_of};
+ghost use Rattle.cert_check_spec.specs.Verdict as spec;
+ghost use Rattle.prove_run_spec.specs.Trails.{IsFound};
+ghost use Rattle.cert_check_frames.specs.Listed.{IsListed};
 ghost use Rattle.sim_rules.specs.Outcome.{IsRuleFault};
 ghost use Rattle.prove_run.specs.Goals.{IsLeafFault};
 ghost use Rattle.prove_run.specs.Found.{found_of, trail_of};
@@ -17,12 +17,12 @@ ghost use Rattle.prove_run.specs.Walks.{IsFaultIf, IsMany, IsRound, walk_from};
 
 use crate::trail::{Found, Trail};
 use attempt::attempt;
-use cert_frames::Listed;
+use cert_check_frames::Listed;
 use graph_core::{Graph, GraphRun};
+use prove_run_spec::{Measure, Side};
 use sim_rules::RuleFault;
 use std::alloc::{AllocError, Global};
-use trail_spec::{Measure, Side};
-use tv_base::limits::MAX_VISITS;
+use tv_limits::MAX_VISITS;
 use visit_walk::{Shape, Visits, WalkFault, visits};
 
 // What walks read of the graph that a side runs; where there is none, of one without nodes.

@@ -1,22 +1,22 @@
 //! The certificate of the functions that are proved.
 
 ghost use Rattle.std.specs.Prelude.{◌≡◌, ◌<◌, ◌∷◌, ◌++◌, [], IfErr, IfOk, List, OnOk, false, length, map};
-ghost use Rattle.cert_spec.specs.Lines as lines;
-ghost use Rattle.cert_lines.specs.Views.{is_step, line_of};
+ghost use Rattle.cert_text_spec.specs.Lines as lines;
+ghost use Rattle.cert_text_parse.specs.Views.{is_step, line_of};
 ghost use Rattle.cert_text.specs.Certificates.{certificate_of};
-ghost use Rattle.check_spec.specs.Verdict as spec;
-ghost use Rattle.cert_frames.specs.Listed.{AreListed};
-ghost use Rattle.trail_spec.specs.Written.{log_lines, logs_lines, part_lines, proof_lines};
+ghost use Rattle.cert_check_spec.specs.Verdict as spec;
+ghost use Rattle.cert_check_frames.specs.Listed.{AreListed};
+ghost use Rattle.prove_run_spec.specs.Written.{log_lines, logs_lines, part_lines, proof_lines};
 ghost use Rattle.prove_run.specs.Found.{found_of, logs_of};
 ghost use Rattle.prove_run.specs.Written.{AddsLines, AddsLiterals, part_of, parts_of};
 
 use crate::trail::Found;
 use attempt::attempt;
-use cert_frames::Listed;
-use cert_lines::{Line, Literal as Written, Logs, Part};
+use cert_check_frames::Listed;
 use cert_text::Cert;
+use cert_text_parse::{Line, Literal as Written, Logs, Part};
 use cnf_core::Literal;
-use sat_log::Step;
+use sat_search_analysis::Step;
 use std::alloc::{AllocError, Global};
 
 // A number of a certificate. What has more than 2^32 - 1 parts doesn't fit in memory.

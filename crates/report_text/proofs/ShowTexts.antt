@@ -2,8 +2,8 @@
 use Rattle.std.proofs.Common.{◌≡◌, ◌∙◌, ℕ, List, [], ◌∷◌, ◌++◌, take, length, get_or, ◌<◌, ◌+◌, codes, refl, sym, ap, append_assoc}
 use Rattle.std.specs.Prelude.{decimal, flat_map}
 use Rattle.std.proofs.lemmas.List.{flat_map_more, take_more}
-use Rattle.report_spec.specs.Verdict.{Shown}
-use Rattle.report_spec.specs.Report.{digits_of_word, code_line, word_line, source_line, show_text}
+use Rattle.report_text_spec.specs.Verdict.{Shown}
+use Rattle.report_text_spec.specs.Report.{digits_of_word, code_line, word_line, source_line, show_text}
 
 pub sizes_are : (old a b c d x y : List ℕ) → x ≡ b → y ≡ d → old ++ (a ++ (x ++ (c ++ (y ++ 10 ∷ [])))) ≡ old ++ (a ++ (b ++ (c ++ (d ++ 10 ∷ []))))
 sizes_are old a b c d x y e f = rw (e, f) refl

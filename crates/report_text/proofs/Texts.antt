@@ -6,8 +6,8 @@ use Rattle.std.proofs.lemmas.List.Folds.{list_all-map}
 use Rattle.std.specs.Prelude.{flat_map, count_by, if◌then◌else◌}
 use Rattle.std.proofs.lemmas.List.{append-nil, flat_map_more, take_more}
 use Rattle.std.proofs.lemmas.List.Sums.{sum_by-cons}
-use Rattle.report_spec.specs.Verdict as spec
-use Rattle.report_spec.specs.Report as texts
+use Rattle.report_text_spec.specs.Verdict as spec
+use Rattle.report_text_spec.specs.Report as texts
 use Rattle.report_text.specs.declared.verdicts.Judgement.{Judgement}
 use Rattle.std.specs.Prelude.{Vec}
 use Rattle.std.specs.declared.alloc.Global.{Global}

@@ -1,6 +1,6 @@
 -- The judgements of the program as those of the definitions.
 use Rattle.std.specs.Prelude.{List, map}
-use Rattle.report_spec.specs.Verdict as spec
+use Rattle.report_text_spec.specs.Verdict as spec
 use Rattle.report_text.specs.declared.verdicts.Judgement.{Judgement}
 
 abbrev pub judgement_of : Judgement → spec.Judgement

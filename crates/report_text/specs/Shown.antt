@@ -1,5 +1,5 @@
 -- What is shown of a function, as the definitions see it.
-use Rattle.report_spec.specs.Verdict as spec
+use Rattle.report_text_spec.specs.Verdict as spec
 use Rattle.report_text.specs.declared.showing.Shown.{Shown}
 
 abbrev pub shown_of : Shown → spec.Shown

@@ -1,5 +1,5 @@
 -- The verdicts of the program as those of the definitions.
-use Rattle.report_spec.specs.Verdict as spec
+use Rattle.report_text_spec.specs.Verdict as spec
 use Rattle.report_text.specs.Judgements.{judgements_of}
 use Rattle.report_text.specs.Shown.{shown_of}
 use Rattle.report_text.specs.declared.verdicts.Verdict.{Verdict}

@@ -1,7 +1,7 @@
 ghost use Rattle.std.specs.Prelude.{◌≡◌, ◌++◌, IfOk, OnOk, codes, count_by, decimal, flat_map, not};
-ghost use Rattle.report_spec.specs.Verdict as spec;
-ghost use Rattle.report_spec.specs.Words as words;
-ghost use Rattle.report_spec.specs.Report as texts;
+ghost use Rattle.report_text_spec.specs.Verdict as spec;
+ghost use Rattle.report_text_spec.specs.Words as words;
+ghost use Rattle.report_text_spec.specs.Report as texts;
 ghost use Rattle.report_text.specs.Judgements.{judgement_of, judgements_of};
 ghost use Rattle.report_text.specs.Verdicts.{verdict_of};
 
@@ -9,17 +9,17 @@ use crate::lines::{digits, push_address, push_all};
 use crate::showing::push_shown;
 use crate::{Judgement, Verdict};
 use attempt::attempt;
-use c_grammar_spec::{LeftOut, ParseFaultKind};
-use c_spec::token::TokenFaultKind;
-use c_type_spec::{LeftOut as TypeLeftOut, TypeFaultKind};
-use check_spec::RuleFault;
-use code_spec::CodeKind;
-use elf_spec::ElfKind;
+use c_parse_spec::{LeftOut, ParseFaultKind};
+use c_token_spec::token::TokenFaultKind;
+use c_types_spec::{LeftOut as TypeLeftOut, TypeFaultKind};
+use cert_check_spec::RuleFault;
+use code_reach_spec::CodeKind;
+use elf_read_spec::ElfKind;
 use itoa::Buffer;
-use pair_spec::PairKind;
-use report_spec::{Quantity, SourceKind};
+use pair_setup_spec::PairKind;
+use report_text_spec::{Quantity, SourceKind};
 use std::alloc::{AllocError, Global};
-use tv_base::limits::{
+use tv_limits::{
     MAX_C_BYTES, MAX_CERTIFICATE_BYTES, MAX_ELF_BYTES, MAX_FUNCTIONS, MAX_NODES, MAX_TERMS,
     MAX_VARIABLES, MAX_VISITS,
 };
@@ -315,7 +315,7 @@ fn push_judged(out: &mut Vec<u8>, judgement: &Judgement) -> Result<(), AllocErro
 }
 
 /// `total valid=V unproved=U`
-#[tactic(auto, unfolding(report_spec::specs::Report::total_line))]
+#[tactic(auto, unfolding(report_text_spec::specs::Report::total_line))]
 fn push_total(out: &mut Vec<u8>, valid: usize, unproved: usize) -> Result<(), AllocError>
     ensures { OnOk result (out.new.items ≡ out.old.items ++ texts.total_line valid unproved) }
 {

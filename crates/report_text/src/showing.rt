@@ -1,12 +1,12 @@
 ghost use Rattle.std.specs.Prelude.{◌≡◌, ◌++◌, ◌∷◌, [], OnOk, codes, decimal, flat_map};
-ghost use Rattle.report_spec.specs.Report as texts;
+ghost use Rattle.report_text_spec.specs.Report as texts;
 ghost use Rattle.report_text.specs.Shown.{shown_of};
 
 use crate::lines::{digits, push_address, push_all};
 use attempt::attempt;
 use itoa::Buffer;
 use std::alloc::{AllocError, Global};
-use tv_bytes::Bytes;
+use tv_base::Bytes;
 
 /// What is shown of a function.
 #[derive(Drop)]
@@ -42,7 +42,7 @@ fn push_sizes(out: &mut Vec<u8>, size: u32, stack: u64) -> Result<(), AllocError
 }
 
 /// `show NAME entry=ADDRESS size=N stack=S`
-#[tactic(auto, unfolding(report_spec::specs::Report::code_line))]
+#[tactic(auto, unfolding(report_text_spec::specs::Report::code_line))]
 fn push_code(
     alloc: Global,
     out: &mut Vec<u8>,
@@ -60,7 +60,7 @@ fn push_code(
 }
 
 /// `ADDRESS WORD`
-#[tactic(auto, unfolding(report_spec::specs::Report::word_line))]
+#[tactic(auto, unfolding(report_text_spec::specs::Report::word_line))]
 fn push_word(alloc: Global, out: &mut Vec<u8>, address: u32, word: u32) -> Result<(), AllocError>
     ensures { OnOk result (out.new.items ≡ out.old.items ++ texts.word_line (address, word)) }
 {
@@ -82,7 +82,7 @@ fn push_words(alloc: Global, out: &mut Vec<u8>, words: &[(u32, u32)]) -> Result<
 }
 
 /// `source params=P loops=L calls=K`
-#[tactic(auto, unfolding(report_spec::specs::Report::source_line))]
+#[tactic(auto, unfolding(report_text_spec::specs::Report::source_line))]
 fn push_source(
     out: &mut Vec<u8>,
     params: usize,
@@ -112,7 +112,7 @@ fn push_source(
 }
 
 /// The text of a function, added to another.
-#[tactic(auto, unfolding(report_spec::specs::Report::show_text))]
+#[tactic(auto, unfolding(report_text_spec::specs::Report::show_text))]
 pub(crate) fn push_shown(alloc: Global, out: &mut Vec<u8>, shown: &Shown) -> Result<(), AllocError>
     ensures { OnOk result (out.new.items
         ≡ out.old.items ++ texts.show_text (shown_of shown.now)) }

@@ -1,15 +1,15 @@
 ghost use Rattle.std.specs.Prelude.{◌≡◌};
 ghost use Rattle.std.specs.List.{list_all};
-ghost use Rattle.report_spec.specs.Verdict.{status_of};
+ghost use Rattle.report_text_spec.specs.Verdict.{status_of};
 ghost use Rattle.report_text.specs.Verdicts.{verdict_of};
 
 use crate::showing::Shown;
-use check_spec::RuleFault;
-use code_spec::CodeKind;
-use elf_spec::ElfKind;
-use pair_spec::PairKind;
-use report_spec::{Quantity, SourceKind};
-use tv_bytes::Bytes;
+use cert_check_spec::RuleFault;
+use code_reach_spec::CodeKind;
+use elf_read_spec::ElfKind;
+use pair_setup_spec::PairKind;
+use report_text_spec::{Quantity, SourceKind};
+use tv_base::Bytes;
 
 /// The judgement on a listed function.
 #[derive(Drop)]

@@ -1,6 +1,6 @@
 //! The kinds of faults, by name.
 
-use c_type_spec::{LeftOut, TypeFaultKind};
+use c_types_spec::{LeftOut, TypeFaultKind};
 
 /// What is left out.
 fn left_out(part: LeftOut) -> &'static str {

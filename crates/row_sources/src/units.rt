@@ -3,16 +3,16 @@
 
 ghost use Rattle.std.specs.Prelude.{IfSome};
 ghost use Rattle.c_graph_spec.specs.Sizes.{UnitSizes};
-ghost use Rattle.c_type_spec.specs.HasType.{IsTypedUnit};
+ghost use Rattle.c_types_spec.specs.HasType.{IsTypedUnit};
 ghost use Rattle.c_types.specs.Typed.{typed_of};
 
 use crate::faults::named;
-use c_core_laws::laws::{cores_have_small_sizes, cores_of_units_are_typed};
 use c_parse::{ParseError, discard, parse};
 use c_syntax::unit::TranslationUnit;
 use c_token::{Token, TokenError, tokens};
 use c_types::typed::{TypeError, Typed};
 use c_types::unit::check;
+use c_types_laws::laws::{cores_have_small_sizes, cores_of_units_are_typed};
 use row_io::Out;
 use std::alloc::Global;
 use std::fmt::Debug;
@@ -30,7 +30,8 @@ fn put_token_error(error: TokenError, out: &mut Out) {
     }
 }
 
-fn put_parse_error(error: ParseError, tokens: &[Token<'_>], end: usize, out: &mut Out) {
+/// The first fault of tokens; the text has so many bytes.
+pub fn put_parse_error(error: ParseError, tokens: &[Token<'_>], end: usize, out: &mut Out) {
     match error {
         ParseError::Fault(fault) => put_fault(&fault.kind, fault.offset(tokens, end), out),
         ParseError::NoMemory => out.fail(),

@@ -8,7 +8,7 @@ use Rattle.std.specs.BTreeMap.{BTreeMap}
 use Rattle.std.specs.Map.{lookup}
 use Rattle.std.specs.Prelude.{◌==◌, ◌%◌, ◌/◌, ◌^◌, ◌<◌, unwrap_or, IsSome, is_some, OnOk, OnErr, Result, Ok, Err}
 use Rattle.memory_spec.specs.Memory.{Memory, byte_at}
-use Rattle.rv_spec.specs.Machine.{past, store_byte, store_half, store_word}
+use Rattle.rv_machine_spec.specs.Machine.{past, store_byte, store_half, store_word}
 use Rattle.rv_machine.specs.Stores.{put_back, store_bytes}
 use Rattle.std.proofs.lemmas.Bool.Decides.{nat_tests}
 

@@ -8,9 +8,9 @@ use Rattle.rv_instr.specs.declared.LoadKind.{LoadKind}
 use Rattle.rv_instr.specs.declared.LoadKind.TheVariants as load_kind
 use Rattle.rv_instr.specs.declared.StoreKind.{StoreKind}
 use Rattle.rv_instr.specs.declared.StoreKind.TheVariants as store_kind
-use Rattle.rv_spec.specs.Arithmetic.{holds}
-use Rattle.rv_spec.specs.Machine.{Machine, read_register}
-use Rattle.rv_spec.specs.Step.{next, put, load, store, goto, link, execute}
+use Rattle.rv_machine_spec.specs.Arithmetic.{holds}
+use Rattle.rv_machine_spec.specs.Machine.{Machine, read_register}
+use Rattle.rv_machine_spec.specs.Step.{next, put, load, store, goto, link, execute}
 use Rattle.rv_machine.specs.Stores.{load_size, store_size}
 use Rattle.rv_machine.specs.Effects.{attempted, is_aligned, effect_of, applied, IsEffectOf, first_source, second_source}
 use Rattle.rv_machine.specs.declared.Effect.{Effect}

@@ -1,8 +1,8 @@
 -- From what an effect did to what a step is.
 use Rattle.std.proofs.Common.{◌≡◌, ◌∙◌}
 use Rattle.std.specs.Prelude.{Result, Ok, Err, IfOk}
-use Rattle.rv_spec.specs.Machine.{Machine}
-use Rattle.rv_spec.specs.Step.{step}
+use Rattle.rv_machine_spec.specs.Machine.{Machine}
+use Rattle.rv_machine_spec.specs.Step.{step}
 use Rattle.rv_machine.specs.Effects.{applied}
 use Rattle.rv_machine.specs.Runs.{HasApplied, HasStepped}
 use Rattle.rv_machine.specs.declared.Effect.{Effect}

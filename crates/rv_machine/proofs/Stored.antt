@@ -3,8 +3,8 @@ use Rattle.std.proofs.Common.{◌≡◌, ℕ, ◌%◌, ◌/◌, cond, List, [], 
 use Rattle.memory_spec.specs.Memory.{Memory}
 use Rattle.rv_instr.specs.declared.StoreKind.{StoreKind}
 use Rattle.rv_instr.specs.declared.StoreKind.TheVariants.{Byte, Half, Word}
-use Rattle.rv_spec.specs.Machine.{store_half, store_word}
-use Rattle.rv_spec.specs.Step.{store}
+use Rattle.rv_machine_spec.specs.Machine.{store_half, store_word}
+use Rattle.rv_machine_spec.specs.Step.{store}
 use Rattle.rv_machine.specs.Stores.{store_bytes, store_size}
 use Rattle.rv_machine.proofs.Bytes.{one_stored, two_stored, four_stored}
 

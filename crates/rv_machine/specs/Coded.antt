@@ -3,7 +3,7 @@ use Rattle.std.specs.Prelude.{ℕ, List, refl}
 use Rattle.std.specs.Coded.{Coded, code_by, coded×, coded_ℕ, coded_list}
 use Rattle.std.specs.FinMap.{code}
 use Rattle.memory_spec.specs.Memory.{Memory}
-use Rattle.rv_spec.specs.Machine.{Machine}
+use Rattle.rv_machine_spec.specs.Machine.{Machine}
 
 abbrev pub state_code : Coded Machine
 state_code =

@@ -2,9 +2,9 @@
 use Rattle.std.specs.Prelude.{◌≡◌, ℕ, ◌*◌, ◌/◌, ◌%◌, ◌^◌, ◌==◌, Bool, true, if◌then◌else◌, Option, Some, None, option_map}
 use Rattle.rv_instr.specs.declared.Instr.{Instr}
 use Rattle.rv_instr.specs.declared.Instr.TheVariants.{Lui, Auipc, Jal, Jalr, Branch, Load, Store, Immediate, Shift, Arithmetic, Fence, Ecall, Ebreak}
-use Rattle.rv_spec.specs.Machine.{Machine, read_register, write_register, past}
-use Rattle.rv_spec.specs.Arithmetic.{word, arithmetic, of_immediate, of_shift, holds}
-use Rattle.rv_spec.specs.Step.{next, put, load, store, execute}
+use Rattle.rv_machine_spec.specs.Machine.{Machine, read_register, write_register, past}
+use Rattle.rv_machine_spec.specs.Arithmetic.{word, arithmetic, of_immediate, of_shift, holds}
+use Rattle.rv_machine_spec.specs.Step.{next, put, load, store, execute}
 use Rattle.rv_machine.specs.Stores.{load_size, store_size}
 use Rattle.rv_machine.specs.declared.Effect.{Effect}
 use Rattle.rv_machine.specs.declared.Effect.TheVariants.{Put, Link, Goto, Nothing, Trap}

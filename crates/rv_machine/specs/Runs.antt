@@ -1,7 +1,7 @@
 -- What the answers of a step and of a run say.
 use Rattle.std.specs.Prelude.{◌≡◌, ◌≢◌, ℕ, ◌<◌, Some, None}
-use Rattle.rv_spec.specs.Machine.{Machine}
-use Rattle.rv_spec.specs.Step.{step, after}
+use Rattle.rv_machine_spec.specs.Machine.{Machine}
+use Rattle.rv_machine_spec.specs.Step.{step, after}
 use Rattle.rv_machine.specs.Effects.{applied}
 use Rattle.rv_machine.specs.declared.Effect.{Effect}
 use Rattle.rv_machine.specs.declared.Stepped.{Stepped}

@@ -6,7 +6,7 @@ use Rattle.rv_instr.specs.declared.LoadKind.TheVariants as load
 use Rattle.rv_instr.specs.declared.StoreKind.{StoreKind}
 use Rattle.rv_instr.specs.declared.StoreKind.TheVariants as store
 use Rattle.memory_spec.specs.Memory.{Memory}
-use Rattle.rv_spec.specs.Machine.{past, store_byte}
+use Rattle.rv_machine_spec.specs.Machine.{past, store_byte}
 
 -- the bytes from the address on, first to last
 unfoldable pub store_bytes : Memory → ℕ → List ℕ → Memory

@@ -1,11 +1,11 @@
 ghost use Rattle.std.specs.Prelude.{◌≡◌, ◌↔◌, IsTrue};
-ghost use Rattle.rv_spec.specs.Arithmetic.{arithmetic as arithmetic_of, holds as holds_of, number};
-ghost use Rattle.rv_spec.specs.Arithmetic.{high_word, word};
+ghost use Rattle.rv_machine_spec.specs.Arithmetic.{arithmetic as arithmetic_of, holds as holds_of, number};
+ghost use Rattle.rv_machine_spec.specs.Arithmetic.{high_word, word};
 
 use rv_instr::{ArithmeticOperation, BranchTest};
 
 /// What an operation gives for two words.
-#[tactic(auto, unfolding(rv_spec::specs::Arithmetic::arithmetic))]
+#[tactic(auto, unfolding(rv_machine_spec::specs::Arithmetic::arithmetic))]
 pub fn arithmetic(operation: ArithmeticOperation, a: u32, b: u32) -> u32
     ensures { result ≡ arithmetic_of operation a b }
 {
@@ -31,7 +31,7 @@ pub fn arithmetic(operation: ArithmeticOperation, a: u32, b: u32) -> u32
     }
 }
 
-#[tactic(auto, unfolding(rv_spec::specs::Arithmetic::arithmetic))]
+#[tactic(auto, unfolding(rv_machine_spec::specs::Arithmetic::arithmetic))]
 fn divide(a: u32, b: u32) -> u32
     ensures { result ≡ arithmetic_of ArithmeticOperation.Divide a b }
 {
@@ -43,7 +43,7 @@ fn divide(a: u32, b: u32) -> u32
         .cast_unsigned()
 }
 
-#[tactic(auto, unfolding(rv_spec::specs::Arithmetic::arithmetic))]
+#[tactic(auto, unfolding(rv_machine_spec::specs::Arithmetic::arithmetic))]
 fn remainder(a: u32, b: u32) -> u32
     ensures { result ≡ arithmetic_of ArithmeticOperation.Remainder a b }
 {
@@ -62,21 +62,21 @@ fn high_half(product: i64) -> u32
     (product.cast_unsigned() >> 32) as u32
 }
 
-#[tactic(auto, unfolding(rv_spec::specs::Arithmetic::arithmetic))]
+#[tactic(auto, unfolding(rv_machine_spec::specs::Arithmetic::arithmetic))]
 fn multiply_high_signed(a: u32, b: u32) -> u32
     ensures { result ≡ arithmetic_of ArithmeticOperation.MultiplyHigh a b }
 {
     high_half(i64::from(a.cast_signed()) * i64::from(b.cast_signed()))
 }
 
-#[tactic(auto, unfolding(rv_spec::specs::Arithmetic::arithmetic))]
+#[tactic(auto, unfolding(rv_machine_spec::specs::Arithmetic::arithmetic))]
 fn multiply_high_signed_unsigned(a: u32, b: u32) -> u32
     ensures { result ≡ arithmetic_of ArithmeticOperation.MultiplyHighSignedUnsigned a b }
 {
     high_half(i64::from(a.cast_signed()) * i64::from(b))
 }
 
-#[tactic(auto, unfolding(rv_spec::specs::Arithmetic::arithmetic))]
+#[tactic(auto, unfolding(rv_machine_spec::specs::Arithmetic::arithmetic))]
 fn multiply_high_unsigned(a: u32, b: u32) -> u32
     ensures { result ≡ arithmetic_of ArithmeticOperation.MultiplyHighUnsigned a b }
 {
@@ -84,7 +84,7 @@ fn multiply_high_unsigned(a: u32, b: u32) -> u32
 }
 
 /// Whether a branch is taken.
-#[tactic(auto, unfolding(rv_spec::specs::Arithmetic::holds))]
+#[tactic(auto, unfolding(rv_machine_spec::specs::Arithmetic::holds))]
 pub fn holds(test: BranchTest, a: u32, b: u32) -> bool
     ensures { result ≡ holds_of test a b }
 {

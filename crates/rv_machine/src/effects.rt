@@ -1,8 +1,8 @@
 ghost use Rattle.std.specs.Prelude.{◌≡◌, ◌<◌, if◌then◌else◌};
 ghost use Rattle.std.specs.Bool.{OnTrue};
-ghost use Rattle.rv_spec.specs.Machine.{past};
-ghost use Rattle.rv_spec.specs.Arithmetic.{word, of_immediate as of_immediate_is};
-ghost use Rattle.rv_spec.specs.Arithmetic.{of_shift as of_shift_is};
+ghost use Rattle.rv_machine_spec.specs.Machine.{past};
+ghost use Rattle.rv_machine_spec.specs.Arithmetic.{word, of_immediate as of_immediate_is};
+ghost use Rattle.rv_machine_spec.specs.Arithmetic.{of_shift as of_shift_is};
 ghost use Rattle.rv_machine.specs.Stores.{load_size, store_size};
 ghost use Rattle.rv_machine.specs.Effects.{effect_of, attempted as attempted_by, IsEffectOf};
 ghost use Rattle.rv_machine.specs.Effects.{is_aligned as aligned_effect, IsAligned};

@@ -1,6 +1,6 @@
 ghost use Rattle.std.specs.Prelude.{◌≡◌, ◌+◌, ◌%◌, ◌^◌, ◌<◌, IfOk, OnOk, OnErr, Some, replicate};
-ghost use Rattle.rv_spec.specs.Machine.{IsMachine, read_register, write_register, past, load_word};
-ghost use Rattle.rv_spec.specs.Step.{put, next};
+ghost use Rattle.rv_machine_spec.specs.Machine.{IsMachine, read_register, write_register, past, load_word};
+ghost use Rattle.rv_machine_spec.specs.Step.{put, next};
 ghost use Rattle.rv_machine.specs.Effects.{applied, IsAligned};
 ghost use Rattle.rv_machine.specs.Stores.{load_size, store_size};
 ghost use Rattle.rv_machine.specs.Runs.{HasApplied};
@@ -11,7 +11,7 @@ use rv_instr::{LoadKind, Reg, StoreKind};
 use std::alloc::AllocError;
 use std::marker::Model;
 
-/// A machine: 32 registers, pc and memory. Contracts see it as the record of `rv_spec`.
+/// A machine: 32 registers, pc and memory. Contracts see it as the record of `rv_machine_spec`.
 #[derive(Drop)]
 pub struct Machine {
     registers: [u32; 32],
@@ -20,7 +20,7 @@ pub struct Machine {
 }
 
 impl Model for Machine {
-    ghost use Rattle.rv_spec.specs.Machine.{Machine as State};
+    ghost use Rattle.rv_machine_spec.specs.Machine.{Machine as State};
     ghost use Rattle.rv_machine.specs.Coded.{state_code};
     ghost use Rattle.rv_machine.specs.Cells.{HasWords};
 
@@ -54,7 +54,7 @@ impl Machine {
     }
 
     /// The value of a register.
-    #[tactic(auto, unfolding(rv_spec::specs::Machine::read_register))]
+    #[tactic(auto, unfolding(rv_machine_spec::specs::Machine::read_register))]
     pub fn register(&self, register: Reg) -> u32
         ensures { result ≡ read_register self.now register }
     {
@@ -87,7 +87,7 @@ impl Machine {
     }
 
     /// Writes a register; nothing is written to x0.
-    #[tactic(auto, unfolding(rv_spec::specs::Machine::write_register))]
+    #[tactic(auto, unfolding(rv_machine_spec::specs::Machine::write_register))]
     pub fn set_register(&mut self, rd: Reg, value: u32)
         ensures { self.new ≡ write_register self.old rd value }
     {

@@ -2,9 +2,9 @@ ghost use Rattle.std.specs.Prelude.{ℕ, ◌≡◌, ◌+◌, ◌%◌, ◌^◌, �
 ghost use Rattle.std.specs.Prelude.{Option, Some, None};
 ghost use Rattle.std.specs.FinMap as map;
 ghost use Rattle.memory_spec.specs.Memory.{byte_at};
-ghost use Rattle.rv_spec.specs.Machine.{store_byte, load_half as half_at, load_word as word_at};
-ghost use Rattle.rv_spec.specs.Step.{load as load_of, store as store_of};
-ghost use Rattle.rv_spec.specs.Arithmetic.{extended};
+ghost use Rattle.rv_machine_spec.specs.Machine.{store_byte, load_half as half_at, load_word as word_at};
+ghost use Rattle.rv_machine_spec.specs.Step.{load as load_of, store as store_of};
+ghost use Rattle.rv_machine_spec.specs.Arithmetic.{extended};
 ghost use Rattle.rv_machine.specs.Stores.{put_back, store_bytes, load_size, store_size};
 
 use rv_instr::{LoadKind, StoreKind};
@@ -103,7 +103,7 @@ impl Memory {
     }
 
     /// What a load of an aligned address puts into its register.
-    #[tactic(auto, unfolding(rv_spec::specs::Step::load))]
+    #[tactic(auto, unfolding(rv_machine_spec::specs::Step::load))]
     pub fn load(&self, kind: LoadKind, address: u32) -> u32
         requires { address % load_size kind ≡ 0 }
         ensures { load_of kind self.now address ≡ Some result }
@@ -117,7 +117,7 @@ impl Memory {
         }
     }
 
-    #[tactic(auto, unfolding(rv_spec::specs::Machine::load_half))]
+    #[tactic(auto, unfolding(rv_machine_spec::specs::Machine::load_half))]
     fn half(&self, address: u32) -> u32
         ensures value { result ≡ half_at self.now address }
         ensures below { result < 2 ^ 16 }
@@ -128,7 +128,7 @@ impl Memory {
     }
 
     /// The four bytes from an address on as a word.
-    #[tactic(auto, unfolding(rv_spec::specs::Machine::load_word))]
+    #[tactic(auto, unfolding(rv_machine_spec::specs::Machine::load_word))]
     pub fn word(&self, address: u32) -> u32
         ensures { result ≡ word_at self.now address }
     {

@@ -3,7 +3,7 @@
 use crate::families::add_clause;
 use clause_check::Log;
 use cnf_core::{Cnf, MAX_VARIABLE, eval};
-use sat_search::{Found, Step, solve};
+use sat_search::{Counts, Found, Step, solve, solve_counting};
 use std::alloc::{AllocError, Global};
 
 /// The same clauses.
@@ -76,15 +76,16 @@ pub(crate) fn answer(
     }
 }
 
-/// Adds how many steps, literals and hints a log has.
-fn add_counts(out: &mut String, steps: &[Step]) -> Result<(), AllocError> {
+/// Adds how many steps, literals and hints a log has, and what the search took.
+fn add_counts(out: &mut String, steps: &[Step], counts: Counts) -> Result<(), AllocError> {
     let mut literals: usize = 0;
     let mut hints: usize = 0;
     for step in steps {
         literals = literals.wrapping_add(step.literals().len());
         hints = hints.wrapping_add(step.hints().len());
     }
-    write!(out, "{} {literals} {hints}", steps.len())
+    write!(out, "{} {literals} {hints}", steps.len())?;
+    write!(out, " {} {}", counts.learnt, counts.assignments)
 }
 
 /// Adds a step: its literals and its hints, with a 0 after each.
@@ -110,15 +111,16 @@ pub(crate) fn count(
     if cnf.variables() > MAX_VARIABLE {
         return out.push_str("too many variables");
     }
-    match solve(alloc, cnf, limit)? {
+    let mut counts = Counts::new();
+    match solve_counting(alloc, cnf, limit, &mut counts)? {
         Found::Closed(steps) => {
             out.push_str("closed ")?;
-            add_counts(out, &steps)
+            add_counts(out, &steps, counts)
         }
         Found::Model(_bits) => out.push_str("model"),
         Found::Limit(steps) => {
             out.push_str("limit ")?;
-            add_counts(out, &steps)
+            add_counts(out, &steps, counts)
         }
     }
 }

@@ -3,7 +3,7 @@
 
 ghost use Rattle.std.specs.Prelude.{◌≡◌};
 ghost use Rattle.std.specs.List.{list_all};
-ghost use Rattle.clause_spec.specs.Clause.{is_of};
+ghost use Rattle.clause_check_spec.specs.Clause.{is_of};
 
 use cnf_core::{Cnf, Literal};
 use std::alloc::{AllocError, Global};

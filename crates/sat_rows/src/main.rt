@@ -3,8 +3,9 @@
 //! A row is `NAME WORDS = ANSWER`; each is printed with `ok`, or with what was found in place of
 //! the answer. The answer is `closed` where the log was checked step by step and is closed, `model`
 //! where the bits satisfy the clauses, and `limit N` after N steps that follow. After the word
-//! `count` the answer has the steps, literals and hints of the log, and the log isn't checked;
-//! after `log` it is the log. A row without ` = ` is a title.
+//! `count` the answer has the steps, literals and hints of the log, which isn't checked, and how
+//! many clauses were learnt and literals made true; after `log` it is the log. A row without ` = `
+//! is a title.
 #![tactic(auto)]
 
 mod answers;

@@ -5,25 +5,25 @@ use Rattle.std.specs.List.{list_all}
 use Rattle.std.proofs.lemmas.Option.{slice_get_within}
 use Rattle.std.proofs.lemmas.List.{length_push, length-take-le}
 use Rattle.std.proofs.lemmas.List.Folds.{list_all-append}
-use Rattle.clause_spec.specs.declared.Literal.{Literal}
-use Rattle.clause_spec.specs.Clause.{Clause, Cnf, negation, is_of, are_of}
-use Rattle.clause_spec.specs.Step.{are_fit, are_apart}
-use Rattle.clause_spec.specs.Log.{Step}
-use Rattle.sat_spec.specs.declared.Entry.{Entry}
-use Rattle.sat_spec.specs.declared.Watch.{Watch}
-use Rattle.sat_spec.specs.Clauses.{Has, Numbered, AreLive}
-use Rattle.sat_spec.specs.Chain.{Chain}
-use Rattle.sat_spec.specs.Logs.{IsLearnt, IsLog, IsClosing}
-use Rattle.sat_spec.specs.Trail.{Trailed, truths, IsTrueBefore, IsAbsent, IsForced, IsTrail, IsCut, IsSound}
-use Rattle.sat_spec.specs.Watches.{IsGuarded, AreGuarded, Watched, IsRunning}
-use Rattle.sat_spec.specs.Analysis.{IsFalseFrom, IsExplained}
-use Rattle.sat_spec.proofs.Members.{and_left, and_both, negation_twice, negations_same, has_head, has_tail, has_cases, has_left, has_last, has_push}
-use Rattle.sat_spec.proofs.Trails.{get_last, get_cases, get_taken, some_same, before_taken, cut_before, trail_more, trail_clauses, not_both}
-use Rattle.sat_spec.proofs.Guards.{guarded_fixed, guarded_asserting, all_more, all_with}
-use Rattle.sat_spec.proofs.Analyses.{explained_learnt}
-use Rattle.sat_spec.proofs.Logs.{log_more, log_closing}
-use Rattle.sat_watches.specs.Lists.{IsAttached}
-use Rattle.sat_analysis.specs.Explained.{IsAnalysed, IsEmptyLearnt}
+use Rattle.clause_check_spec.specs.declared.Literal.{Literal}
+use Rattle.clause_check_spec.specs.Clause.{Clause, Cnf, negation, is_of, are_of}
+use Rattle.clause_check_spec.specs.Step.{are_fit, are_apart}
+use Rattle.clause_check_spec.specs.Log.{Step}
+use Rattle.sat_search_spec.specs.declared.Entry.{Entry}
+use Rattle.sat_search_spec.specs.declared.Watch.{Watch}
+use Rattle.sat_search_spec.specs.Clauses.{Has, Numbered, AreLive}
+use Rattle.sat_search_spec.specs.Chain.{Chain}
+use Rattle.sat_search_spec.specs.Logs.{IsLearnt, IsLog, IsClosing}
+use Rattle.sat_search_spec.specs.Trail.{Trailed, truths, IsTrueBefore, IsAbsent, IsForced, IsTrail, IsCut, IsSound}
+use Rattle.sat_search_spec.specs.Watches.{IsGuarded, AreGuarded, Watched, IsRunning}
+use Rattle.sat_search_spec.specs.Analysis.{IsFalseFrom, IsExplained}
+use Rattle.sat_search_spec.proofs.Members.{and_left, and_both, negation_twice, negations_same, has_nothing, has_head, has_tail, has_cases, has_left, has_last, has_push}
+use Rattle.sat_search_spec.proofs.Trails.{get_last, get_cases, get_taken, some_same, before_taken, cut_before, trail_more, trail_clauses, not_both}
+use Rattle.sat_search_spec.proofs.Guards.{guarded_fixed, guarded_asserting, all_more, all_with}
+use Rattle.sat_search_spec.proofs.Analyses.{explained_learnt}
+use Rattle.sat_search_spec.proofs.Logs.{log_more, log_closing}
+use Rattle.sat_search_state.specs.Lists.{IsAttached}
+use Rattle.sat_search_analysis.specs.Explained.{IsAnalysed, IsEmptyLearnt}
 use Rattle.sat_search.specs.Search.{IsSearching, IsHighest, IsOther, IsRewound, AreOnce}
 use Rattle.cnf_core.specs.Codes.{code_of, code_within}
 use Rattle.sat_search.proofs.Levels.{fresh, rewound, live_at}
@@ -278,6 +278,7 @@ closing_log cnf clauses log step is_log learnt =
     (record {
       fit = ap (λ l. are_fit cnf.variables l) learnt.nothing;
       chain = subst (λ l. Chain clauses (map negation l) step.hints) (sym learnt.nothing) learnt.chain;
+      named = λ l h. absurd (has_nothing l (subst (λ literals. Has literals l) learnt.nothing h));
       is_new = λ nonempty. absurd (nonempty learnt.nothing);
     })
     learnt.nothing

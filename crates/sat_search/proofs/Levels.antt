@@ -3,15 +3,15 @@ use Rattle.std.proofs.Common.{◌≡◌, ◌⊎◌, inl, inr, ℕ, zero, suc, �
 use Rattle.std.specs.Prelude.{slice_get}
 use Rattle.std.proofs.lemmas.Option.{slice_get_within}
 use Rattle.std.proofs.lemmas.List.{length_push, length-take-le, take_all}
-use Rattle.clause_spec.specs.declared.Literal.{Literal}
-use Rattle.clause_spec.specs.Clause.{Clause, negation}
-use Rattle.sat_spec.specs.declared.Entry.{Entry}
-use Rattle.sat_spec.specs.Clauses.{AreLive}
-use Rattle.sat_spec.specs.Trail.{Trailed, truths, IsAbsent, IsTrail, IsCut, IsSound}
-use Rattle.sat_spec.specs.Watches.{AreGuarded, Watched, IsRunning}
-use Rattle.sat_spec.proofs.Members.{same_or_negated}
-use Rattle.sat_spec.proofs.Trails.{get_cases, get_taken, trail_more, trail_taken}
-use Rattle.sat_spec.proofs.Guards.{all_live, all_more, all_taken}
+use Rattle.clause_check_spec.specs.declared.Literal.{Literal}
+use Rattle.clause_check_spec.specs.Clause.{Clause, negation}
+use Rattle.sat_search_spec.specs.declared.Entry.{Entry}
+use Rattle.sat_search_spec.specs.Clauses.{AreLive}
+use Rattle.sat_search_spec.specs.Trail.{Trailed, truths, IsAbsent, IsTrail, IsCut, IsSound}
+use Rattle.sat_search_spec.specs.Watches.{AreGuarded, Watched, IsRunning}
+use Rattle.sat_search_spec.proofs.Members.{same_or_negated}
+use Rattle.sat_search_spec.proofs.Trails.{get_cases, get_taken, trail_more, trail_taken}
+use Rattle.sat_search_spec.proofs.Guards.{all_live, all_more, all_taken}
 use Rattle.sat_search.specs.Search.{IsUndecided, IsDecidedBy, IsRewound}
 
 some_entry : (xs : List Entry) (n : ℕ) → n < length xs → (x : Entry) × (slice_get xs n ≡ Some x)

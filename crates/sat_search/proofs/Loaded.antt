@@ -8,23 +8,23 @@ use Rattle.std.proofs.lemmas.Bool.Decides.{nat_tests}
 use Rattle.cnf_core.specs.Codes.{code_of, code_within}
 use Rattle.std.proofs.lemmas.List.{length_push, take_more, take-append-drop, map-id}
 use Rattle.std.proofs.lemmas.List.Folds.{list_all-append}
-use Rattle.clause_spec.specs.declared.Literal.{Literal}
-use Rattle.clause_spec.specs.Clause.{Clause, Cnf, negation, is_of, are_of}
-use Rattle.clause_spec.specs.Log.{Step}
-use Rattle.sat_spec.specs.declared.Entry.{Entry}
-use Rattle.sat_spec.specs.declared.Watch.{Watch}
-use Rattle.sat_spec.specs.Clauses.{Has, Numbered}
-use Rattle.sat_spec.specs.Chain.{Chain}
-use Rattle.sat_spec.specs.Logs.{IsClosing}
-use Rattle.sat_spec.specs.Trail.{Trailed, IsAt, IsAbsent, IsTrueBefore, IsForced, IsTrail, IsSound, IsConflict}
-use Rattle.sat_spec.specs.Watches.{IsGuarded, AreGuarded, AreBlockers, Watched, IsRunning}
-use Rattle.sat_spec.proofs.Members.{and_both, has_nothing, has_push}
-use Rattle.sat_spec.proofs.Trails.{get_left, get_last, get_cases, numbered_more, trail_more, trail_clauses}
-use Rattle.sat_spec.proofs.Guards.{guarded_first, guarded_fixed, all_more, all_with}
-use Rattle.sat_spec.proofs.Logs.{no_steps}
-use Rattle.sat_spec.proofs.Trims.{chain_moved}
-use Rattle.sat_watches.specs.Lists.{IsAttached}
-use Rattle.sat_analysis.specs.Explained.{IsEmptyLearnt}
+use Rattle.clause_check_spec.specs.declared.Literal.{Literal}
+use Rattle.clause_check_spec.specs.Clause.{Clause, Cnf, negation, is_of, are_of}
+use Rattle.clause_check_spec.specs.Log.{Step}
+use Rattle.sat_search_spec.specs.declared.Entry.{Entry}
+use Rattle.sat_search_spec.specs.declared.Watch.{Watch}
+use Rattle.sat_search_spec.specs.Clauses.{Has, Numbered}
+use Rattle.sat_search_spec.specs.Chain.{Chain}
+use Rattle.sat_search_spec.specs.Logs.{IsClosing}
+use Rattle.sat_search_spec.specs.Trail.{Trailed, IsAt, IsAbsent, IsTrueBefore, IsForced, IsTrail, IsSound, IsConflict}
+use Rattle.sat_search_spec.specs.Watches.{IsGuarded, AreGuarded, AreBlockers, Watched, IsRunning}
+use Rattle.sat_search_spec.proofs.Members.{and_both, has_nothing, has_push}
+use Rattle.sat_search_spec.proofs.Trails.{get_left, get_last, get_cases, numbered_more, trail_more, trail_clauses}
+use Rattle.sat_search_spec.proofs.Guards.{guarded_first, guarded_fixed, all_more, all_with}
+use Rattle.sat_search_spec.proofs.Logs.{no_steps}
+use Rattle.sat_search_spec.proofs.Trims.{chain_moved}
+use Rattle.sat_search_state.specs.Lists.{IsAttached}
+use Rattle.sat_search_analysis.specs.Explained.{IsEmptyLearnt}
 use Rattle.sat_search.specs.Search.{IsUnit, IsTrueUnit, AreSame}
 use Rattle.sat_search.proofs.Levels.{fresh}
 use Rattle.sat_search.proofs.Learnt.{closing_log}

@@ -6,16 +6,16 @@ use Rattle.std.proofs.lemmas.Option.{slice_get_within, slice_get-get_or, get_or_
 use Rattle.std.proofs.lemmas.List.{take_all, length_push, get_or_append_left, get_or_push}
 use Rattle.std.proofs.lemmas.List.Sums.{AllPass-from_list_all}
 use Rattle.std.proofs.lemmas.Bool.Decides.{nat_tests}
-use Rattle.clause_spec.specs.declared.Literal.{Literal}
-use Rattle.clause_spec.specs.Clause.{Clause, Cnf, Valuation, holds, satisfies_clause, satisfies, negation, is_of, are_of}
-use Rattle.clause_spec.specs.Step.{is_true}
+use Rattle.clause_check_spec.specs.declared.Literal.{Literal}
+use Rattle.clause_check_spec.specs.Clause.{Clause, Cnf, Valuation, holds, satisfies_clause, satisfies, negation, is_of, are_of}
+use Rattle.clause_check_spec.specs.Step.{is_true}
 use Rattle.cnf_core.specs.Bits.{valuation}
-use Rattle.sat_spec.specs.declared.Entry.{Entry}
-use Rattle.sat_spec.specs.Clauses.{Has, IsLive, AreLive}
-use Rattle.sat_spec.specs.Trail.{Trailed, truths, IsTrueBefore, IsAbsent, IsTrail}
-use Rattle.sat_spec.proofs.Members.{true_or_false, and_both, and_left, and_right, same_or_negated, negation_twice, place_of}
-use Rattle.sat_spec.proofs.Findings.{any_some, live_has}
-use Rattle.sat_spec.proofs.Trails.{before_has, has_before, not_both_before}
+use Rattle.sat_search_spec.specs.declared.Entry.{Entry}
+use Rattle.sat_search_spec.specs.Clauses.{Has, IsLive, AreLive}
+use Rattle.sat_search_spec.specs.Trail.{Trailed, truths, IsTrueBefore, IsAbsent, IsTrail}
+use Rattle.sat_search_spec.proofs.Members.{true_or_false, and_both, and_left, and_right, same_or_negated, negation_twice, place_of}
+use Rattle.sat_search_spec.proofs.Findings.{any_some, live_has}
+use Rattle.sat_search_spec.proofs.Trails.{before_has, has_before, not_both_before}
 use Rattle.sat_search.specs.Search.{HasValue, AllHaveValue, positive_literal, IsReadOff}
 
 below_or_at : (i n : ℕ) → i ≤ n + 1 → (i ≡ n + 1) ⊎ (i ≤ n)

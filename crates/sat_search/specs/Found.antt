@@ -1,11 +1,11 @@
 -- The answers of the search.
 use Rattle.std.specs.Prelude.{◌≡◌, ℕ, ◌+◌, ◌<◌, ◌≤◌, ◌++◌, true, List, [], Option, Some, None, length}
-use Rattle.clause_spec.specs.Clause.{Clause, Cnf, satisfies}
-use Rattle.clause_spec.specs.Log.{Step, Refutes}
+use Rattle.clause_check_spec.specs.Clause.{Clause, Cnf, satisfies}
+use Rattle.clause_check_spec.specs.Log.{Step, Refutes}
 use Rattle.cnf_core.specs.Bits.{valuation}
-use Rattle.sat_spec.specs.Logs.{Spent, Lean, IsClosing}
-use Rattle.sat_spec.specs.Trail.{Trailed, IsSound, IsConflict}
-use Rattle.sat_spec.specs.Watches.{Watched, IsRunning}
+use Rattle.sat_search_spec.specs.Logs.{Spent, Lean, IsClosing}
+use Rattle.sat_search_spec.specs.Trail.{Trailed, IsSound, IsConflict}
+use Rattle.sat_search_spec.specs.Watches.{Watched, IsRunning}
 use Rattle.sat_search.specs.declared.search.Progress.{Progress}
 use Rattle.sat_search.specs.declared.search.Progress.TheVariants.{Learnt, Closed as Ended, Satisfied, Refuted}
 use Rattle.sat_search.specs.Search.{IsSearching, AllHaveValue}

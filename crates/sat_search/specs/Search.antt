@@ -1,14 +1,14 @@
 -- The state of the search.
 use Rattle.std.specs.Prelude.{◌≡◌, ◌⊎◌, ℕ, ◌+◌, ◌-◌, ◌*◌, ◌<◌, ◌≤◌, Bool, true, false, List, [], ◌∷◌, ◌++◌, Some, slice_get, length, get_or, take}
 use Rattle.std.specs.List.{list_all}
-use Rattle.clause_spec.specs.declared.Literal.{Literal}
-use Rattle.clause_spec.specs.Clause.{Clause, Cnf, negation, is_of}
-use Rattle.clause_spec.specs.Log.{Step}
-use Rattle.sat_spec.specs.declared.Entry.{Entry}
-use Rattle.sat_spec.specs.Clauses.{Has}
-use Rattle.sat_spec.specs.Logs.{IsLog}
-use Rattle.sat_spec.specs.Trail.{Trailed, IsTrueBefore, IsAbsent, IsCut, IsAt, IsSound}
-use Rattle.sat_spec.specs.Watches.{Watched, AreGuarded, AreListed, AreBlockers, IsRunning}
+use Rattle.clause_check_spec.specs.declared.Literal.{Literal}
+use Rattle.clause_check_spec.specs.Clause.{Clause, Cnf, negation, is_of}
+use Rattle.clause_check_spec.specs.Log.{Step}
+use Rattle.sat_search_spec.specs.declared.Entry.{Entry}
+use Rattle.sat_search_spec.specs.Clauses.{Has}
+use Rattle.sat_search_spec.specs.Logs.{IsLog}
+use Rattle.sat_search_spec.specs.Trail.{Trailed, IsTrueBefore, IsAbsent, IsCut, IsAt, IsSound}
+use Rattle.sat_search_spec.specs.Watches.{Watched, AreGuarded, AreListed, AreBlockers, IsRunning}
 
 -- ---- values of variables
 

@@ -3,10 +3,10 @@ ghost use Rattle.sat_search.specs.Search.{IsUndecided, HasValue, AllHaveValue};
 
 use crate::order::Order;
 use cnf_core::{Literal, MAX_VARIABLE, negation};
-use sat_trail::Trail;
+use sat_search_state::Trail;
 
 /// A literal of the variable, if it has no value.
-pub fn open_literal(trail: &Trail, variable: usize, is_negated: bool) -> Option<Literal>
+fn open_literal(trail: &Trail, variable: usize, is_negated: bool) -> Option<Literal>
     requires positive { 1 ≤ variable }
     requires within { variable ≤ trail.now.variables }
     requires small { trail.now.variables ≤ MAX_VARIABLE }
@@ -51,8 +51,30 @@ fn scanned(trail: &Trail) -> Option<Literal>
     None
 }
 
+/// The last level up to which the decisions come before the next variable in the order: the search
+/// would make them again.
+pub fn kept_level(order: &mut Order, trail: &Trail) -> usize
+    requires { trail.now.variables ≤ MAX_VARIABLE }
+{
+    let Some(next) = first_open(order, trail) else {
+        return trail.level();
+    };
+    order.insert(next.variable());
+    let mut kept = 0;
+    for place in 0..trail.len() {
+        let entry = trail.entry(place);
+        if entry.level > kept {
+            if !order.is_before(entry.literal.variable(), next.variable()) {
+                return kept;
+            }
+            kept = entry.level;
+        }
+    }
+    kept
+}
+
 /// Whether a literal is true; none where it has no value.
-fn value(trail: &Trail, literal: Literal) -> Option<bool>
+pub fn value(trail: &Trail, literal: Literal) -> Option<bool>
     ensures { IfNone result (IsUndecided trail.now literal) }
 {
     if !literal.is_of(trail.variables()) {

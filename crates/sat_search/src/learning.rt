@@ -1,18 +1,17 @@
 ghost use Rattle.std.specs.Prelude.{◌≡◌, ◌+◌, ◌<◌, ◌++◌, ◌∷◌, [], List, true, length, OnOk};
 ghost use Rattle.std.specs.List.{list_all};
-ghost use Rattle.clause_spec.specs.Clause.{is_of};
-ghost use Rattle.sat_spec.specs.Trail.{IsRising};
-ghost use Rattle.sat_analysis.specs.Explained.{IsAnalysed};
+ghost use Rattle.clause_check_spec.specs.Clause.{is_of};
+ghost use Rattle.sat_search_spec.specs.Trail.{IsRising};
+ghost use Rattle.sat_search_analysis.specs.Explained.{IsAnalysed};
 ghost use Rattle.sat_search.specs.Search.{IsSearching, IsHighest, IsRewound, AreOnce};
-ghost use Rattle.clause_spec.specs.declared.Literal.{Literal as Lit};
+ghost use Rattle.clause_check_spec.specs.declared.Literal.{Literal as Lit};
 
 use crate::order::Order;
 use crate::search::Search;
 use cnf_core::{ClauseList, Cnf, Literal, negation};
-use sat_log::Step;
-use sat_spec::Watch;
-use sat_trail::Trail;
-use sat_watches::Watches;
+use sat_search_analysis::Step;
+use sat_search_spec::Watch;
+use sat_search_state::{Trail, Watches};
 use std::alloc::AllocError;
 
 /// A literal and the level at which its negation became true.

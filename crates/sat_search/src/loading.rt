@@ -1,15 +1,14 @@
 ghost use Rattle.std.specs.Prelude.{◌≡◌, ◌++◌, ◌∷◌, [], length, true, IfSome, IfNone, IfOk, OnOk};
 ghost use Rattle.std.specs.List.{list_all};
-ghost use Rattle.clause_spec.specs.Clause.{is_of, negation as negated};
-ghost use Rattle.sat_spec.specs.Trail.{IsAbsent};
-ghost use Rattle.sat_spec.specs.Watches.{IsRunning};
+ghost use Rattle.clause_check_spec.specs.Clause.{is_of, negation as negated};
+ghost use Rattle.sat_search_spec.specs.Trail.{IsAbsent};
+ghost use Rattle.sat_search_spec.specs.Watches.{IsRunning};
 ghost use Rattle.sat_search.specs.Search.{IsApart, AreSame, IsAtStart, IsUnit, IsTrueUnit};
 ghost use Rattle.sat_search.specs.Found.{IsLoaded, IsFront};
 
 use cnf_core::{ClauseList, Cnf, Literal, negation};
-use sat_spec::{Watch, is_same};
-use sat_trail::Trail;
-use sat_watches::Watches;
+use sat_search_spec::{Watch, is_same};
+use sat_search_state::{Trail, Watches};
 use std::alloc::AllocError;
 
 /// A literal of the clause that is another one.

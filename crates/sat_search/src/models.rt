@@ -2,7 +2,7 @@ ghost use Rattle.std.specs.Prelude.{◌≤◌, IfOk};
 ghost use Rattle.sat_search.specs.Search.{IsReadOff};
 
 use cnf_core::{Literal, MAX_VARIABLE};
-use sat_trail::Trail;
+use sat_search_state::Trail;
 use std::alloc::{AllocError, Global};
 
 /// The values of the variables, that of variable 1 first.

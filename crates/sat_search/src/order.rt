@@ -18,8 +18,6 @@ pub struct Order {
     used: usize,
     /// By variable: the sign that it had last.
     signs: Vec<bool>,
-    /// Whether a variable's sign is noted when it loses its value.
-    notes_signs: bool,
     heap: Vec<usize>,
     count: usize,
     /// What a bump adds.
@@ -53,7 +51,7 @@ const MAX_ACTIVITY: u64 = 1 << 60;
 const SHIFT: u32 = 40;
 
 /// A bump adds more by this part after each conflict.
-const DECAY: u64 = 9;
+const DECAY: u64 = 19;
 
 /// About how many clauses count as the last ones, and at most how many as many.
 const RECENT: u64 = 32;
@@ -66,7 +64,12 @@ const SCALE: u64 = 1024;
 const FEW: usize = 8;
 
 /// How many conflicts are between restarts at least.
-const PAUSE: u64 = 10;
+const PAUSE: u64 = 50;
+
+/// The search restarts where the glue of the last clauses is above the average by this ratio.
+const HIGH: u64 = 5;
+
+const LOW: u64 = 4;
 
 impl Order {
     /// The variables in the order of their numbers.
@@ -77,7 +80,6 @@ impl Order {
             bumped: Vec::new(alloc),
             used: 0,
             signs: Vec::new(alloc),
-            notes_signs: true,
             heap: Vec::new(alloc),
             count: variables,
             step: STEP,
@@ -153,7 +155,7 @@ impl Order {
     }
 
     /// Whether a variable is decided before another.
-    fn is_before(&self, variable: usize, other: usize) -> bool {
+    pub fn is_before(&self, variable: usize, other: usize) -> bool {
         let activity = self.activity(variable);
         let other_activity = self.activity(other);
         activity > other_activity || activity == other_activity && variable > other
@@ -222,17 +224,15 @@ impl Order {
         }
     }
 
-    /// Whether the signs of variables are noted from now on when they lose their values.
-    pub fn note_signs(&mut self, notes_signs: bool) {
-        self.notes_signs = notes_signs;
-    }
-
     /// The variable loses its value, which had this sign.
     pub fn release(&mut self, variable: usize, is_negated: bool) {
         self.effort = self.effort.saturating_add(1);
-        if self.notes_signs {
-            self.set_sign(variable, is_negated);
-        }
+        self.set_sign(variable, is_negated);
+        self.insert(variable);
+    }
+
+    /// Puts a variable into the heap, if it isn't there.
+    pub fn insert(&mut self, variable: usize) {
         if self.place(variable) == ABSENT && self.count < self.heap.len() {
             let place = self.count;
             self.put(place, variable);
@@ -293,6 +293,11 @@ impl Order {
         }
     }
 
+    /// How many clauses were learnt.
+    pub fn learnt(&self) -> u64 {
+        self.clock.saturating_sub(1)
+    }
+
     /// What the search has cost: how many values were taken back.
     pub fn effort(&self) -> u64 {
         self.effort
@@ -337,8 +342,11 @@ impl Order {
     /// Counts a conflict; whether the search restarts now.
     pub fn is_restart(&mut self) -> bool {
         self.waited = self.waited.saturating_add(1);
-        let recent = self.recent.saturating_mul(self.counted).saturating_mul(20);
-        let many = self.total.saturating_mul(RECENT * SCALE).saturating_mul(23);
+        let recent = self.recent.saturating_mul(self.counted).saturating_mul(LOW);
+        let many = self
+            .total
+            .saturating_mul(RECENT * SCALE)
+            .saturating_mul(HIGH);
         if self.waited < PAUSE || recent <= many {
             return false;
         }

@@ -1,18 +1,16 @@
 ghost use Rattle.std.specs.Prelude.{◌≡◌, ◌<◌, ◌≤◌, length, IfOk, OnOk};
-ghost use Rattle.sat_spec.specs.Trail.{IsConflict};
-ghost use Rattle.sat_spec.specs.Watches.{IsRunning};
+ghost use Rattle.sat_search_spec.specs.Trail.{IsConflict};
+ghost use Rattle.sat_search_spec.specs.Watches.{IsRunning};
 ghost use Rattle.sat_search.specs.Search.{IsSearching, IsUndecided, IsDecidedBy};
 ghost use Rattle.sat_search.specs.Found.{IsProgress};
 
-use crate::choice::{are_refuted, pick};
+use crate::choice::{are_refuted, kept_level, pick};
 use crate::learning::{learn, rewind};
 use crate::order::Order;
 use attempt::attempt;
 use cnf_core::{ClauseList, Cnf, Literal, MAX_VARIABLE};
-use sat_analysis::{analyse, close};
-use sat_log::Step;
-use sat_trail::Trail;
-use sat_watches::{Watches, propagate};
+use sat_search_analysis::{Step, analyse, close};
+use sat_search_state::{Trail, Watches, propagate};
 use std::alloc::{AllocError, Global};
 
 /// What a search keeps: the clauses with those that were learnt, the literals that are true, the
@@ -106,6 +104,24 @@ pub fn run(
     }
 }
 
+/// Goes back to a level, if the search is above it.
+fn back_to(cnf: &Cnf, search: &mut Search, level: usize)
+    requires searching { IsSearching cnf.now search.old.clauses.clauses search.old.trail
+        search.old.watches search.old.log.items }
+    ensures searching { IsSearching cnf.now search.new.clauses.clauses search.new.trail
+        search.new.watches search.new.log.items }
+    ensures log { search.new.log.items ≡ search.old.log.items }
+{
+    if search.trail.level() > level {
+        rewind(
+            &mut search.trail,
+            &mut search.watches,
+            &mut search.order,
+            level,
+        );
+    }
+}
+
 /// Goes back before every decision.
 pub fn back(cnf: &Cnf, search: &mut Search)
     requires searching { IsSearching cnf.now search.old.clauses.clauses search.old.trail
@@ -114,20 +130,21 @@ pub fn back(cnf: &Cnf, search: &mut Search)
         search.new.watches search.new.log.items }
     ensures log { search.new.log.items ≡ search.old.log.items }
 {
-    if search.trail.level() > 0 {
-        rewind(&mut search.trail, &mut search.watches, &mut search.order, 0);
-    }
+    back_to(cnf, search, 0);
 }
 
-/// Goes back before every decision, now and then.
+/// Restarts now and then: goes back to the last level up to which the same variables would be
+/// decided again.
 pub fn restart(cnf: &Cnf, search: &mut Search)
     requires searching { IsSearching cnf.now search.old.clauses.clauses search.old.trail
         search.old.watches search.old.log.items }
+    requires small { cnf.now.variables ≤ MAX_VARIABLE }
     ensures searching { IsSearching cnf.now search.new.clauses.clauses search.new.trail
         search.new.watches search.new.log.items }
     ensures log { search.new.log.items ≡ search.old.log.items }
 {
     if search.order.is_restart() {
-        back(cnf, search);
+        let level = kept_level(&mut search.order, &search.trail);
+        back_to(cnf, search, level);
     }
 }

@@ -1,62 +1,85 @@
+use crate::order::Order;
 use attempt::attempt;
+use cnf_core::Literal;
 use std::alloc::{AllocError, Global};
 use std::collections::BTreeMap;
 
-/// Two variables that may be equal, or opposite.
+/// Two literals that may be equal.
 #[derive(Clone, Copy)]
 pub struct Candidate {
-    pub first: usize,
-    pub second: usize,
-    pub is_opposite: bool,
+    pub first: Literal,
+    pub second: Literal,
+    /// Whether clauses that were learnt show that they are equal.
+    pub is_shown: bool,
 }
 
-/// The values of variables in so many dives: which had a value, and which were true, a bit a dive.
-/// No contract rests on it.
+/// A hash changes by a product with this odd number.
+const FACTOR: u64 = 0x9E37_79B9_7F4A_7C15;
+
+/// The values of a variable in so many patterns.
+#[derive(Clone, Copy)]
+struct Signature {
+    /// Those in the last 64 patterns.
+    word: u64,
+    /// A hash of all values, or of the opposite ones where the first one is true; 0 where all are
+    /// the same.
+    hash: u64,
+    is_begun: bool,
+    /// Whether the first value is true.
+    is_opposite: bool,
+}
+
+impl Signature {
+    fn new() -> Signature {
+        Signature {
+            word: 0,
+            hash: 0,
+            is_begun: false,
+            is_opposite: false,
+        }
+    }
+
+    /// Notes the values in 64 patterns more.
+    fn note(&mut self, word: u64) {
+        if !self.is_begun {
+            self.is_begun = true;
+            self.is_opposite = word % 2 == 1;
+        }
+        self.word = word;
+        let values = if self.is_opposite { !word } else { word };
+        let product = (self.hash ^ values).wrapping_mul(FACTOR);
+        self.hash = product ^ product >> 32;
+    }
+}
+
+/// The values of variables in so many patterns. No contract rests on it.
 #[derive(Drop)]
 pub struct Signatures {
     /// By variable.
-    known: Vec<u64>,
-    /// By variable.
-    values: Vec<u64>,
-    /// The bit of this dive.
-    bit: u64,
+    signatures: Vec<Signature>,
 }
 
 impl Signatures {
-    /// Before the first dive.
+    /// Without values.
     pub fn new(alloc: Global, variables: usize) -> Result<Signatures, AllocError> {
-        let none: u64 = 0;
+        let none = Signature::new();
         let count = variables.saturating_add(1);
-        Ok(Signatures {
-            known: attempt!(vec![in alloc; none; count]),
-            values: attempt!(vec![in alloc; none; count]),
-            bit: 1,
-        })
+        let signatures = attempt!(vec![in alloc; none; count]);
+        Ok(Signatures { signatures })
     }
 
-    /// Notes the value that a variable has in this dive.
-    pub fn note(&mut self, variable: usize, is_true: bool) {
-        let bit = self.bit;
-        if let Some(known) = self.known.get_mut(variable) {
-            *known |= bit;
-        }
-        if is_true {
-            if let Some(values) = self.values.get_mut(variable) {
-                *values |= bit;
-            }
+    /// The values of a variable in the last 64 patterns.
+    pub fn word(&self, variable: usize) -> u64 {
+        match self.signatures.get(variable) {
+            Some(signature) => signature.word,
+            None => 0,
         }
     }
 
-    /// Ends a dive.
-    pub fn end_dive(&mut self) {
-        self.bit = self.bit.wrapping_mul(2);
-    }
-
-    /// The values of a variable; none where it had none in some dive.
-    fn values(&self, variable: usize) -> Option<u64> {
-        match self.known.get(variable) {
-            Some(known) if *known == u64::MAX => self.values.get(variable).copied(),
-            _ => None,
+    /// Notes the values of a variable in 64 patterns more.
+    pub fn note(&mut self, variable: usize, word: u64) {
+        if let Some(signature) = self.signatures.get_mut(variable) {
+            signature.note(word);
         }
     }
 
@@ -64,47 +87,43 @@ impl Signatures {
     /// ones, and not always the same.
     fn add(
         &self,
-        firsts: &mut BTreeMap<u64, Candidate>,
+        firsts: &mut BTreeMap<u64, Literal>,
         candidates: &mut Vec<Candidate>,
         variable: usize,
     ) -> Result<(), AllocError> {
-        let values = match self.values(variable) {
-            Some(values) => values,
+        let signature = match self.signatures.get(variable) {
+            Some(signature) if signature.hash != 0 => *signature,
+            _ => return Ok(()),
+        };
+        let second = match Literal::try_new(variable, signature.is_opposite) {
+            Some(literal) => literal,
             None => return Ok(()),
         };
-        let is_opposite = values % 2 == 1;
-        let key = if is_opposite {
-            values ^ u64::MAX
-        } else {
-            values
-        };
-        if key == 0 {
-            return Ok(());
-        }
-        let mut candidate = Candidate {
-            first: variable,
-            second: variable,
-            is_opposite,
-        };
-        match firsts.get(&key) {
+        match firsts.get(&signature.hash) {
             Some(first) => {
-                candidate.first = first.first;
-                candidate.is_opposite = first.is_opposite != is_opposite;
+                let candidate = Candidate {
+                    first: *first,
+                    second,
+                    is_shown: false,
+                };
                 attempt!(candidates.push(candidate), AllocError);
             }
             None => {
-                attempt!(firsts.insert(key, candidate), AllocError);
+                attempt!(firsts.insert(signature.hash, second), AllocError);
             }
         }
         Ok(())
     }
 
-    /// The candidates, each with the first variable of the same values, by the second one's number.
-    pub fn candidates(&self, alloc: Global) -> Result<Vec<Candidate>, AllocError> {
+    /// The candidates among the variables that the search is about, each with the first variable of
+    /// the same values, by the second one's number.
+    pub fn candidates(&self, alloc: Global, order: &Order) -> Result<Vec<Candidate>, AllocError> {
         let mut firsts = BTreeMap::new(alloc);
         let mut candidates = Vec::new(alloc);
-        for variable in 1..self.known.len() {
-            attempt!(self.add(&mut firsts, &mut candidates, variable));
+        for variable in 1..self.signatures.len() {
+            if order.is_about(variable) {
+                attempt!(self.add(&mut firsts, &mut candidates, variable));
+            }
         }
         Ok(candidates)
     }

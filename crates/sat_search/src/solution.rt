@@ -1,5 +1,5 @@
 ghost use Rattle.std.specs.Prelude.{◌≡◌, ◌≤◌, ◌<◌, length, [], IfOk};
-ghost use Rattle.sat_spec.specs.Logs.{IsClosing};
+ghost use Rattle.sat_search_spec.specs.Logs.{IsClosing};
 ghost use Rattle.sat_search.specs.Search.{IsSearching, AllHaveValue};
 ghost use Rattle.sat_search.specs.Found.{IsFound, IsFresh, IsRefuted};
 
@@ -10,10 +10,8 @@ use crate::order::Order;
 use crate::search::{Progress, Search, back, restart, run};
 use attempt::attempt;
 use cnf_core::{ClauseList, Cnf, MAX_VARIABLE};
-use sat_analysis::close;
-use sat_log::{Step, trim};
-use sat_trail::Trail;
-use sat_watches::Watches;
+use sat_search_analysis::{Step, close, trim};
+use sat_search_state::{Trail, Watches};
 use std::alloc::{AllocError, Global};
 use std::mem;
 
@@ -150,8 +148,32 @@ fn solve_with(
     }
 }
 
-/// Searches for a model of the clauses, learning at most so many clauses.
-pub fn solve(alloc: Global, cnf: &Cnf, limit: usize) -> Result<Found, AllocError>
+/// What a search took.
+#[derive(Clone, Copy)]
+pub struct Counts {
+    /// How many clauses were learnt, but for the empty one.
+    pub learnt: u64,
+    /// How many times a literal became true.
+    pub assignments: u64,
+}
+
+impl Counts {
+    /// Those of no search.
+    pub fn new() -> Counts {
+        Counts {
+            learnt: 0,
+            assignments: 0,
+        }
+    }
+}
+
+/// Searches as [`solve`] does, and says what that took.
+pub fn solve_counting(
+    alloc: Global,
+    cnf: &Cnf,
+    limit: usize,
+    counts: &mut Counts,
+) -> Result<Found, AllocError>
     requires { cnf.now.variables ≤ MAX_VARIABLE }
     ensures { IfOk result (IsFound cnf.now limit) }
 {
@@ -159,5 +181,20 @@ pub fn solve(alloc: Global, cnf: &Cnf, limit: usize) -> Result<Found, AllocError
         return Ok(Found::Limit(Vec::new(alloc)));
     }
     let mut search = attempt!(new_search(alloc, cnf.variables()));
-    solve_with(alloc, cnf, limit, &mut search)
+    let found = solve_with(alloc, cnf, limit, &mut search);
+    let left = search.trail.len() as u64;
+    *counts = Counts {
+        learnt: search.order.learnt(),
+        assignments: search.order.effort().saturating_add(left),
+    };
+    found
+}
+
+/// Searches for a model of the clauses, learning at most so many clauses.
+pub fn solve(alloc: Global, cnf: &Cnf, limit: usize) -> Result<Found, AllocError>
+    requires { cnf.now.variables ≤ MAX_VARIABLE }
+    ensures { IfOk result (IsFound cnf.now limit) }
+{
+    let mut counts = Counts::new();
+    solve_counting(alloc, cnf, limit, &mut counts)
 }

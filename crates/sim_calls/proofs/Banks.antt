@@ -1,19 +1,19 @@
 -- What holds of a bank as it grows.
 use Rattle.std.proofs.Common.{◌≡◌, ◌∙◌, ℕ, ◌<◌, List, length, Option, Some, None, refl, sym, ap}
 use Rattle.std.specs.HashMap.{get}
-use Rattle.term_spec.specs.declared.Variable.{Variable}
-use Rattle.term_spec.specs.Same.{same_variable}
-use Rattle.term_spec.specs.Substitution.{State, substituted}
-use Rattle.term_spec.specs.Term.{Term}
+use Rattle.term_core_spec.specs.declared.Variable.{Variable}
+use Rattle.term_core_spec.specs.Same.{same_variable}
+use Rattle.term_core_spec.specs.Substitution.{State, substituted}
+use Rattle.term_core_spec.specs.Term.{Term}
 use Rattle.term_bank.specs.Nodes.{tree_at, Holds, Extends}
 use Rattle.term_bank.proofs.Growth.{tree_at-front, length-Extends}
 use Rattle.term_bank.proofs.Substitution.{kept}
 use Rattle.term_substitution.specs.States.{tree_or, state_of, AreBelow}
 use Rattle.path_cond.specs.States.{IsMapOf}
-use Rattle.graph_spec.specs.Graph.{Binding}
-use Rattle.rule_spec.specs.Calls.{left}
-use Rattle.rule_spec.specs.Points.{Convention}
-use Rattle.rule_terms.proofs.Later.{below_later, map_later}
+use Rattle.graph_core_spec.specs.Graph.{Binding}
+use Rattle.sim_rules_spec.specs.Calls.{left}
+use Rattle.sim_rules_spec.specs.Points.{Convention}
+use Rattle.sim_rules_terms.proofs.Later.{below_later, map_later}
 use Rattle.sim_calls.specs.declared.cut.Cut.{Cut}
 use Rattle.sim_calls.specs.Bound.{AreBound}
 use Rattle.sim_calls.specs.Cuts.{IsCut}

@@ -3,26 +3,26 @@ use Rattle.std.proofs.Common.{◌≡◌, ◌∙◌, ℕ, ◌<◌, Bool, true, fa
 use Rattle.std.specs.Prelude.{◌||◌, if◌then◌else◌, unwrap_or}
 use Rattle.std.specs.Option.{option_or}
 use Rattle.std.proofs.lemmas.Option.{same_Some, slice_get_within}
-use Rattle.term_spec.specs.declared.Width.TheVariants.{W8, W16, W32, W64}
-use Rattle.term_spec.specs.declared.Sort.{Sort}
-use Rattle.term_spec.specs.declared.Sort.TheVariants as sort
-use Rattle.term_spec.specs.declared.Family.{Family}
-use Rattle.term_spec.specs.declared.Family.TheVariants as family
-use Rattle.term_spec.specs.declared.Variable.{Variable}
-use Rattle.term_spec.specs.Same.{same_variable}
-use Rattle.term_spec.specs.Sort.{is_memory}
-use Rattle.term_spec.specs.Term.{Term, truth, constant, open_term}
-use Rattle.term_spec.specs.Substitution.{State}
+use Rattle.term_core_spec.specs.declared.Width.TheVariants.{W8, W16, W32, W64}
+use Rattle.term_core_spec.specs.declared.Sort.{Sort}
+use Rattle.term_core_spec.specs.declared.Sort.TheVariants as sort
+use Rattle.term_core_spec.specs.declared.Family.{Family}
+use Rattle.term_core_spec.specs.declared.Family.TheVariants as family
+use Rattle.term_core_spec.specs.declared.Variable.{Variable}
+use Rattle.term_core_spec.specs.Same.{same_variable}
+use Rattle.term_core_spec.specs.Sort.{is_memory}
+use Rattle.term_core_spec.specs.Term.{Term, truth, constant, open_term}
+use Rattle.term_core_spec.specs.Substitution.{State}
 use Rattle.term_bank.specs.Nodes.{tree_at, Holds}
 use Rattle.term_bank.proofs.Growth.{held}
 use Rattle.term_bank.proofs.Substitution.{is_at}
 use Rattle.term_substitution.specs.States.{tree_or, AreBelow}
-use Rattle.graph_spec.specs.Graph.{Binding}
-use Rattle.graph_spec.specs.Run.{is_shared, is_register}
+use Rattle.graph_core_spec.specs.Graph.{Binding}
+use Rattle.graph_core_spec.specs.Run.{is_shared, is_register}
 use Rattle.path_cond.specs.States.{IsMapOf}
-use Rattle.rule_spec.specs.Calls.{CallPair, unset_or, entered_terms, is_entry, binary_begins, source_begins}
-use Rattle.rule_spec.specs.Points.{Convention, binary_memory, zone_memory, is_binary, is_source}
-use Rattle.rule_spec.specs.Rules.{at_cut}
+use Rattle.sim_rules_spec.specs.Calls.{CallPair, unset_or, entered_terms, is_entry, binary_begins, source_begins}
+use Rattle.sim_rules_spec.specs.Points.{Convention, binary_memory, zone_memory, is_binary, is_source}
+use Rattle.sim_rules_spec.specs.Rules.{at_cut}
 use Rattle.sim_calls.specs.declared.begun.Zeros.{Zeros}
 use Rattle.sim_calls.specs.Begun.{AreZeros, zero_id, entered_id, begun_by, begins_by}
 use Rattle.sim_calls.specs.Bound.{AreBound}

@@ -1,11 +1,11 @@
 -- What a callee leaves at a cut, of the code as the definitions have it.
 use Rattle.std.proofs.Common.{◌≡◌, ◌∙◌, ℕ, List, [], Option, Some, None, refl, sym, ap, ap₂, subst}
-use Rattle.term_spec.specs.Term.{Term}
+use Rattle.term_core_spec.specs.Term.{Term}
 use Rattle.term_bank.specs.Nodes.{Holds, Extends}
 use Rattle.term_bank.proofs.Substitution.{kept}
-use Rattle.rule_spec.specs.Calls.{Callee, left_memory}
-use Rattle.rule_spec.specs.Points.{Convention, nothing}
-use Rattle.rule_spec.specs.Rules.{at_cut}
+use Rattle.sim_rules_spec.specs.Calls.{Callee, left_memory}
+use Rattle.sim_rules_spec.specs.Points.{Convention, nothing}
+use Rattle.sim_rules_spec.specs.Rules.{at_cut}
 use Rattle.sim_calls.specs.declared.cut.Cut.{Cut}
 use Rattle.sim_calls.specs.Cuts.{IsCut}
 use Rattle.sim_calls.specs.Returned.{HasResult, IsExit, left_memory_by}

@@ -9,10 +9,10 @@ use Rattle.graph_core.specs.declared.graph.Graph.{Graph}
 use Rattle.graph_core.specs.declared.shared.SharedNode.{SharedNode}
 use Rattle.graph_core.specs.Shared.{shared_node_of}
 use Rattle.graph_core.specs.Graphs.{graph_of, graphs_of}
-use Rattle.graph_spec.specs.Graph as spec
-use Rattle.graph_spec.specs.Graph.{Binding, Node, Call, node_at}
-use Rattle.proof_spec.specs.Frames.{Side}
-use Rattle.rule_spec.specs.Crossing.{IsCallAt}
+use Rattle.graph_core_spec.specs.Graph as spec
+use Rattle.graph_core_spec.specs.Graph.{Binding, Node, Call, node_at}
+use Rattle.proof_tree_spec.specs.Frames.{Side}
+use Rattle.sim_rules_spec.specs.Crossing.{IsCallAt}
 use Rattle.sim_calls.specs.declared.sites.CallSite.{CallSite}
 use Rattle.sim_calls.specs.Sites.{IsSiteIn, IsFound, inputs_of, outputs_of}
 

@@ -3,11 +3,11 @@ use Rattle.std.proofs.Common.{◌≡◌, ◌∙◌, ℕ, ◌+◌, ◌-◌, ◌<�
 use Rattle.std.specs.Prelude.{slice_get}
 use Rattle.std.proofs.lemmas.Bool.{cases_lt}
 use Rattle.std.proofs.lemmas.Option.{slice_get_within, slice_get-get_or}
-use Rattle.term_spec.specs.Term.{Term}
+use Rattle.term_core_spec.specs.Term.{Term}
 use Rattle.term_bank.proofs.Growth.{slice_get-front}
-use Rattle.proof_spec.specs.Scope.{Setting}
-use Rattle.rule_spec.specs.Obligations.{IsNoLine}
-use Rattle.rule_terms.specs.Lines.{AreLines}
+use Rattle.proof_tree_spec.specs.Scope.{Setting}
+use Rattle.sim_rules_spec.specs.Obligations.{IsNoLine}
+use Rattle.sim_rules_terms.specs.Lines.{AreLines}
 
 -- an item of the first list, and one of the second
 front : (xs ys : List Term) (i : ℕ) (x : Term) → i < length xs → slice_get (xs ++ ys) i ≡ Some x → slice_get xs i ≡ Some x

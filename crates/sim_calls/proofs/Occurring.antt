@@ -1,13 +1,13 @@
 -- Only the variables that occur in a term are put in.
 use Rattle.std.proofs.Common.{◌≡◌, ◌∙◌, ℕ, zero, suc, true, List, [], ◌∷◌, ◌++◌, map, Some, refl, sym, ap, ap₂, inl, inr}
 use Rattle.std.specs.Prelude.{slice_get, if◌then◌else◌}
-use Rattle.term_spec.specs.declared.Atom.TheVariants as atom
-use Rattle.term_spec.specs.declared.Variable.{Variable}
-use Rattle.term_spec.specs.Same.{same_variable}
-use Rattle.term_spec.specs.Term.{Term, Leaf, Unary, Binary, Ternary, Quaternary, Octonary, Occurs}
-use Rattle.term_spec.specs.Substitution.{State, substituted}
-use Rattle.graph_spec.specs.Graph.{Binding}
-use Rattle.condition_spec.specs.Conditions.{assigned}
+use Rattle.term_core_spec.specs.declared.Atom.TheVariants as atom
+use Rattle.term_core_spec.specs.declared.Variable.{Variable}
+use Rattle.term_core_spec.specs.Same.{same_variable}
+use Rattle.term_core_spec.specs.Term.{Term, Leaf, Unary, Binary, Ternary, Quaternary, Octonary, Occurs}
+use Rattle.term_core_spec.specs.Substitution.{State, substituted}
+use Rattle.graph_core_spec.specs.Graph.{Binding}
+use Rattle.path_cond_spec.specs.Conditions.{assigned}
 use Rattle.path_cond.specs.Bound.{has}
 use Rattle.sim_calls.specs.Listed.{Lists, ListsLines}
 

@@ -1,14 +1,14 @@
 -- A term whose variables of all families are renamed to another instance is the term over what a callee leaves.
 use Rattle.std.proofs.Common.{◌≡◌, ◌∙◌, true, List, [], ◌∷◌, refl, ap}
 use Rattle.std.specs.Prelude.{if◌then◌else◌}
-use Rattle.term_spec.specs.declared.Family.{Family}
-use Rattle.term_spec.specs.declared.Family.TheVariants as family
-use Rattle.term_spec.specs.declared.Variable.{Variable}
-use Rattle.term_spec.specs.Term.{Term, open_term}
-use Rattle.term_spec.specs.Substitution.{State, at_instance, renamed, substituted}
-use Rattle.term_spec.proofs.Substitution.{renamed-is}
+use Rattle.term_core_spec.specs.declared.Family.{Family}
+use Rattle.term_core_spec.specs.declared.Family.TheVariants as family
+use Rattle.term_core_spec.specs.declared.Variable.{Variable}
+use Rattle.term_core_spec.specs.Term.{Term, open_term}
+use Rattle.term_core_spec.specs.Substitution.{State, at_instance, renamed, substituted}
+use Rattle.term_core_spec.proofs.Substitution.{renamed-is}
 use Rattle.term_substitution.specs.Renaming.{is_own, in_instance}
-use Rattle.rule_spec.specs.Calls.{left}
+use Rattle.sim_rules_spec.specs.Calls.{left}
 
 abbrev pub families : List Family
 families =

@@ -4,23 +4,23 @@ use Rattle.std.specs.Prelude.{◌==◌, if◌then◌else◌, is_some}
 use Rattle.std.specs.Option.{option_or}
 use Rattle.std.proofs.lemmas.Bool.{false_from_ne_true, false≢true}
 use Rattle.std.proofs.lemmas.Option.{slice_get_within}
-use Rattle.term_spec.specs.declared.Family.{Family}
-use Rattle.term_spec.specs.declared.Family.TheVariants as family
-use Rattle.term_spec.specs.declared.Variable.{Variable}
-use Rattle.term_spec.specs.Same.{same_variable}
-use Rattle.term_spec.proofs.Same.{variable-same}
-use Rattle.term_spec.specs.Term.{Term, open_term}
-use Rattle.term_spec.specs.Substitution.{State, substituted}
+use Rattle.term_core_spec.specs.declared.Family.{Family}
+use Rattle.term_core_spec.specs.declared.Family.TheVariants as family
+use Rattle.term_core_spec.specs.declared.Variable.{Variable}
+use Rattle.term_core_spec.specs.Same.{same_variable}
+use Rattle.term_core_spec.proofs.Same.{variable-same}
+use Rattle.term_core_spec.specs.Term.{Term, open_term}
+use Rattle.term_core_spec.specs.Substitution.{State, substituted}
 use Rattle.term_bank.specs.Nodes.{tree_at, Holds}
 use Rattle.term_bank.proofs.Substitution.{is_at}
 use Rattle.term_substitution.specs.States.{tree_or, AreBelow}
-use Rattle.graph_spec.specs.Graph.{Binding}
-use Rattle.graph_spec.specs.Run.{is_shared, is_register}
+use Rattle.graph_core_spec.specs.Graph.{Binding}
+use Rattle.graph_core_spec.specs.Run.{is_shared, is_register}
 use Rattle.path_cond.specs.Bound.{has}
 use Rattle.path_cond.specs.States.{IsMapOf}
-use Rattle.rule_spec.specs.Calls.{Callee, left, left_memory, left_register, result_or, is_kept_register, source_returns, binary_returns}
-use Rattle.rule_spec.specs.Points.{Convention, binary_memory, zone_memory, is_binary, is_source}
-use Rattle.rule_spec.specs.Rules.{at_cut}
+use Rattle.sim_rules_spec.specs.Calls.{Callee, left, left_memory, left_register, result_or, is_kept_register, source_returns, binary_returns}
+use Rattle.sim_rules_spec.specs.Points.{Convention, binary_memory, zone_memory, is_binary, is_source}
+use Rattle.sim_rules_spec.specs.Rules.{at_cut}
 use Rattle.sim_calls.specs.Bound.{AreBound}
 use Rattle.sim_calls.specs.Left.{AreLeft}
 use Rattle.sim_calls.specs.Returned.{HasResult, register_id, source_id, returned_by, returning, returns_by}

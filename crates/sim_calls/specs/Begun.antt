@@ -1,20 +1,20 @@
 -- The terms of variables where a callee begins, in a bank.
 use Rattle.std.specs.Prelude.{◌≡◌, ℕ, false, if◌then◌else◌, List, Option, Some, None}
 use Rattle.std.specs.Option.{option_or}
-use Rattle.term_spec.specs.declared.Width.TheVariants.{W8, W16, W32, W64}
-use Rattle.term_spec.specs.declared.Sort.{Sort}
-use Rattle.term_spec.specs.declared.Sort.TheVariants as sort
-use Rattle.term_spec.specs.declared.Family.{Family}
-use Rattle.term_spec.specs.declared.Family.TheVariants as family
-use Rattle.term_spec.specs.declared.Variable.{Variable}
-use Rattle.term_spec.specs.Same.{same_variable}
-use Rattle.term_spec.specs.Term.{Term, truth, constant}
-use Rattle.term_spec.specs.Substitution.{State as Terms}
+use Rattle.term_core_spec.specs.declared.Width.TheVariants.{W8, W16, W32, W64}
+use Rattle.term_core_spec.specs.declared.Sort.{Sort}
+use Rattle.term_core_spec.specs.declared.Sort.TheVariants as sort
+use Rattle.term_core_spec.specs.declared.Family.{Family}
+use Rattle.term_core_spec.specs.declared.Family.TheVariants as family
+use Rattle.term_core_spec.specs.declared.Variable.{Variable}
+use Rattle.term_core_spec.specs.Same.{same_variable}
+use Rattle.term_core_spec.specs.Term.{Term, truth, constant}
+use Rattle.term_core_spec.specs.Substitution.{State as Terms}
 use Rattle.term_bank.specs.Nodes.{Holds}
-use Rattle.graph_spec.specs.Run.{is_shared}
-use Rattle.rule_spec.specs.Calls.{CallPair, binary_begins, source_begins}
-use Rattle.rule_spec.specs.Points.{Convention, zone_memory}
-use Rattle.rule_spec.specs.Rules.{at_cut, terms_at}
+use Rattle.graph_core_spec.specs.Run.{is_shared}
+use Rattle.sim_rules_spec.specs.Calls.{CallPair, binary_begins, source_begins}
+use Rattle.sim_rules_spec.specs.Points.{Convention, zone_memory}
+use Rattle.sim_rules_spec.specs.Rules.{at_cut, terms_at}
 use Rattle.sim_calls.specs.declared.begun.Zeros.{Zeros}
 
 pub record AreZeros (trees : List Term) (zeros : Zeros) : Type 0 where

@@ -1,11 +1,11 @@
 -- What some bindings give, in a bank.
 use Rattle.std.specs.Prelude.{◌≡◌, ℕ, List, length, Option}
-use Rattle.term_spec.specs.declared.Variable.{Variable}
-use Rattle.term_spec.specs.Term.{Term}
-use Rattle.term_spec.specs.Substitution.{State as Terms}
+use Rattle.term_core_spec.specs.declared.Variable.{Variable}
+use Rattle.term_core_spec.specs.Term.{Term}
+use Rattle.term_core_spec.specs.Substitution.{State as Terms}
 use Rattle.term_substitution.specs.States.{tree_or, AreBelow}
-use Rattle.graph_spec.specs.Graph.{Binding}
-use Rattle.condition_spec.specs.Conditions.{assigned}
+use Rattle.graph_core_spec.specs.Graph.{Binding}
+use Rattle.path_cond_spec.specs.Conditions.{assigned}
 
 -- the map has the terms of the variables that are bound, over a state, and nothing else
 pub record AreBound (trees : List Term) (bindings : List Binding) (state : Terms) (ids : Variable → Option ℕ) : Type 0 where

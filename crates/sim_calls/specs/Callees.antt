@@ -1,16 +1,16 @@
 -- A callee of the code as the definitions have it.
 use Rattle.std.specs.Prelude.{◌≡◌, ℕ, suc, ◌+◌, List, [], ◌∷◌, Option}
 use Rattle.std.specs.Option.{option_map}
-use Rattle.term_spec.specs.declared.Width.TheVariants.{W32}
-use Rattle.term_spec.specs.declared.Variable.{Variable}
-use Rattle.term_spec.specs.Term.{Term, not_term, equal, less, bit_and, subtract, open_term}
+use Rattle.term_core_spec.specs.declared.Width.TheVariants.{W32}
+use Rattle.term_core_spec.specs.declared.Variable.{Variable}
+use Rattle.term_core_spec.specs.Term.{Term, not_term, equal, less, bit_and, subtract, open_term}
 use Rattle.graph_core.specs.Graphs.{boxed_term}
 use Rattle.proof_tree.specs.Frames.{terms_of}
-use Rattle.c_type_spec.specs.declared.Scalar.{Scalar}
-use Rattle.rule_spec.specs.Calling.{word, register, at_entry}
-use Rattle.rule_spec.specs.Calls as spec
-use Rattle.rule_spec.specs.Calls.{callee_lines}
-use Rattle.rule_spec.specs.Points.{Convention}
+use Rattle.c_types_spec.specs.declared.Scalar.{Scalar}
+use Rattle.sim_rules_spec.specs.Calling.{word, register, at_entry}
+use Rattle.sim_rules_spec.specs.Calls as spec
+use Rattle.sim_rules_spec.specs.Calls.{callee_lines}
+use Rattle.sim_rules_spec.specs.Points.{Convention}
 use Rattle.c_graph_spec.specs.State.{local}
 use Rattle.c_graph_spec.specs.State as state
 use Rattle.c_graph_spec.specs.Values.{at_width}

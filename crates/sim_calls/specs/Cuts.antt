@@ -1,13 +1,13 @@
 -- The terms of variables at a cut, of the code as the definitions have them, in a bank.
 use Rattle.std.specs.Prelude.{◌≡◌, ℕ, cond, List, Option, Some}
 use Rattle.std.specs.HashMap.{get}
-use Rattle.term_spec.specs.declared.Variable.{Variable}
-use Rattle.term_spec.specs.Same.{same_variable}
-use Rattle.term_spec.specs.Term.{Term, open_term, over}
+use Rattle.term_core_spec.specs.declared.Variable.{Variable}
+use Rattle.term_core_spec.specs.Same.{same_variable}
+use Rattle.term_core_spec.specs.Term.{Term, open_term, over}
 use Rattle.term_bank.specs.Nodes.{Holds}
 use Rattle.path_cond.specs.States.{IsMapOf}
-use Rattle.rule_spec.specs.Points.{Convention, binary_memory, source_memory, zone_memory}
-use Rattle.rule_spec.specs.Rules.{at_cut}
+use Rattle.sim_rules_spec.specs.Points.{Convention, binary_memory, source_memory, zone_memory}
+use Rattle.sim_rules_spec.specs.Rules.{at_cut}
 use Rattle.sim_calls.specs.declared.cut.Cut.{Cut}
 
 -- the source's memory with the zone's over it

@@ -1,10 +1,10 @@
 -- What a callee leaves, in a bank.
 use Rattle.std.specs.Prelude.{◌≡◌, ℕ, true, is_some, List, Option, Some, None}
-use Rattle.term_spec.specs.declared.Variable.{Variable}
-use Rattle.term_spec.specs.Term.{Term}
+use Rattle.term_core_spec.specs.declared.Variable.{Variable}
+use Rattle.term_core_spec.specs.Term.{Term}
 use Rattle.term_bank.specs.Nodes.{Holds}
 use Rattle.path_cond.specs.Bound.{has}
-use Rattle.rule_spec.specs.Calls.{left}
+use Rattle.sim_rules_spec.specs.Calls.{left}
 
 -- the map has nothing
 abbrev pub IsEmpty : (Variable → Option ℕ) → Type 0

@@ -1,7 +1,7 @@
 -- Lists that have the variables of terms.
 use Rattle.std.specs.Prelude.{◌≡◌, ℕ, ◌<◌, true, List, length, slice_get, Some}
-use Rattle.term_spec.specs.declared.Variable.{Variable}
-use Rattle.term_spec.specs.Term.{Term, Occurs}
+use Rattle.term_core_spec.specs.declared.Variable.{Variable}
+use Rattle.term_core_spec.specs.Term.{Term, Occurs}
 use Rattle.term_bank.specs.Nodes.{tree_at}
 use Rattle.path_cond.specs.Bound.{has}
 

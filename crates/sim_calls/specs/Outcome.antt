@@ -1,15 +1,15 @@
 -- The obligations of a call, as terms of a bank, and why there are none.
 use Rattle.std.specs.Prelude.{◌≡◌, ℕ, List, ◌++◌, Option, Some, None}
-use Rattle.term_spec.specs.Term.{Term}
+use Rattle.term_core_spec.specs.Term.{Term}
 use Rattle.term_core.specs.Trees.{term_of}
-use Rattle.proof_spec.specs.Frames.{Frame}
-use Rattle.proof_spec.specs.Scope.{Setting}
-use Rattle.rule_spec.specs.Calls.{CallPair, Callee, AreOfCall}
-use Rattle.rule_spec.specs.Obligations.{IsNoLine}
-use Rattle.rule_spec.specs.Points.{Convention}
-use Rattle.rule_terms.specs.Conventions.{IsConventionOf}
-use Rattle.rule_terms.specs.Held.{AreHeld}
-use Rattle.rule_terms.specs.Lines.{AreLines}
+use Rattle.proof_tree_spec.specs.Frames.{Frame}
+use Rattle.proof_tree_spec.specs.Scope.{Setting}
+use Rattle.sim_rules_spec.specs.Calls.{CallPair, Callee, AreOfCall}
+use Rattle.sim_rules_spec.specs.Obligations.{IsNoLine}
+use Rattle.sim_rules_spec.specs.Points.{Convention}
+use Rattle.sim_rules_terms.specs.Conventions.{IsConventionOf}
+use Rattle.sim_rules_terms.specs.Held.{AreHeld}
+use Rattle.sim_rules_terms.specs.Lines.{AreLines}
 use Rattle.sim_calls.specs.declared.rule.CallFault.{CallFault}
 use Rattle.sim_calls.specs.declared.rule.CallFault.TheVariants.{Sort, NoMemory}
 use Rattle.sim_calls.specs.declared.rule.Setup.{Setup}

@@ -1,19 +1,19 @@
 -- The terms of variables where both sides are back from a callee, in a bank.
 use Rattle.std.specs.Prelude.{◌≡◌, ℕ, ◌==◌, if◌then◌else◌, List, [], Option, Some, None}
 use Rattle.std.specs.Option.{option_or}
-use Rattle.term_spec.specs.declared.Family.{Family}
-use Rattle.term_spec.specs.declared.Family.TheVariants as family
-use Rattle.term_spec.specs.declared.Variable.{Variable}
-use Rattle.term_spec.specs.Same.{same_variable}
-use Rattle.term_spec.specs.Term.{Term, open_term, over, subtract}
-use Rattle.term_spec.specs.Substitution.{State as Terms, substituted}
+use Rattle.term_core_spec.specs.declared.Family.{Family}
+use Rattle.term_core_spec.specs.declared.Family.TheVariants as family
+use Rattle.term_core_spec.specs.declared.Variable.{Variable}
+use Rattle.term_core_spec.specs.Same.{same_variable}
+use Rattle.term_core_spec.specs.Term.{Term, open_term, over, subtract}
+use Rattle.term_core_spec.specs.Substitution.{State as Terms, substituted}
 use Rattle.term_bank.specs.Nodes.{Holds}
-use Rattle.graph_spec.specs.Graph.{Binding}
-use Rattle.graph_spec.specs.Run.{is_shared}
-use Rattle.rule_spec.specs.Calling.{word}
-use Rattle.rule_spec.specs.Calls.{CallPair, Callee, left, left_memory, is_kept_register, machine_register, binary_returns, source_returns}
-use Rattle.rule_spec.specs.Points.{Convention, binary_memory, source_memory, zone_memory}
-use Rattle.rule_spec.specs.Rules.{at_cut, terms_at}
+use Rattle.graph_core_spec.specs.Graph.{Binding}
+use Rattle.graph_core_spec.specs.Run.{is_shared}
+use Rattle.sim_rules_spec.specs.Calling.{word}
+use Rattle.sim_rules_spec.specs.Calls.{CallPair, Callee, left, left_memory, is_kept_register, machine_register, binary_returns, source_returns}
+use Rattle.sim_rules_spec.specs.Points.{Convention, binary_memory, source_memory, zone_memory}
+use Rattle.sim_rules_spec.specs.Rules.{at_cut, terms_at}
 use Rattle.sim_calls.specs.declared.cut.Cut.{Cut}
 use Rattle.sim_calls.specs.Cuts.{IsCut}
 

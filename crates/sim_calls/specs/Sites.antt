@@ -1,17 +1,17 @@
 -- Calls of the code as the definitions have them.
 use Rattle.std.specs.Prelude.{◌≡◌, ◌<◌, ℕ, List, length, map, Option, Some, None}
-use Rattle.term_spec.specs.Term.{Term}
+use Rattle.term_core_spec.specs.Term.{Term}
 use Rattle.graph_core.specs.declared.graph.Graph.{Graph}
 use Rattle.graph_core.specs.declared.shared.SharedNode.{SharedNode}
 use Rattle.graph_core.specs.Shared.{shared_binding_of, shared_node_of, AreSharedBindings}
 use Rattle.graph_core.specs.Graphs.{graph_of}
-use Rattle.graph_spec.specs.Graph.{Binding, Node, Call}
-use Rattle.proof_spec.specs.declared.Nodes.{Nodes}
-use Rattle.proof_spec.specs.Frames.{Side, Frame}
-use Rattle.rule_spec.specs.Calls.{CallPair}
-use Rattle.rule_spec.specs.Crossing.{IsCallAt, AreCallsAt}
-use Rattle.rule_spec.specs.Points.{Convention}
-use Rattle.rule_spec.specs.Systems.{hold_over}
+use Rattle.graph_core_spec.specs.Graph.{Binding, Node, Call}
+use Rattle.proof_tree_spec.specs.declared.Nodes.{Nodes}
+use Rattle.proof_tree_spec.specs.Frames.{Side, Frame}
+use Rattle.sim_rules_spec.specs.Calls.{CallPair}
+use Rattle.sim_rules_spec.specs.Crossing.{IsCallAt, AreCallsAt}
+use Rattle.sim_rules_spec.specs.Points.{Convention}
+use Rattle.sim_rules_spec.specs.Systems.{hold_over}
 use Rattle.sim_calls.specs.declared.sites.CallSite.{CallSite}
 use Rattle.sim_calls.specs.declared.sites.Calls.{Calls}
 

@@ -4,29 +4,29 @@ ghost use Rattle.std.specs.Prelude.{◌≡◌, ◌∷◌, [], ◌++◌, ◌≤�
 ghost use Rattle.std.specs.HashMap.{get};
 ghost use Rattle.graph_core.specs.Shared.{AreSharedBindings};
 ghost use Rattle.proof_tree.specs.Frames.{terms_of};
-ghost use Rattle.rule_spec.specs.Calls.{CallPair};
-ghost use Rattle.rule_spec.specs.Points as points;
-ghost use Rattle.rule_spec.specs.Rules.{all_of, at_cut};
+ghost use Rattle.sim_rules_spec.specs.Calls.{CallPair};
+ghost use Rattle.sim_rules_spec.specs.Points as points;
+ghost use Rattle.sim_rules_spec.specs.Rules.{all_of, at_cut};
 ghost use Rattle.sim_calls.specs.Begun.{AreZeros, begins_by, begun_by, entered_id, zero_id};
 ghost use Rattle.sim_calls.specs.Bound.{AreBound};
 ghost use Rattle.sim_calls.specs.Cuts.{IsCut};
 ghost use Rattle.sim_calls.specs.Sites.{AreWithin, pair_by};
 ghost use Rattle.term_bank.specs.Nodes.{Extends};
 ghost use Rattle.term_core.specs.Trees.{term_of};
-ghost use Rattle.term_spec.specs.Same.{same_variable};
-ghost use Rattle.term_spec.specs.Substitution.{substituted};
-ghost use Rattle.term_spec.specs.Term as tree;
+ghost use Rattle.term_core_spec.specs.Same.{same_variable};
+ghost use Rattle.term_core_spec.specs.Substitution.{substituted};
+ghost use Rattle.term_core_spec.specs.Term as tree;
 ghost use Rattle.term_substitution.specs.States.{AreBelow, IsAt, IsFound};
 
 use crate::bound::bound_terms;
 use crate::cut::Cut;
 use crate::sites::Calls;
 use crate::variables::{BINARY_MEMORY, ZONE_MEMORY, is_shared};
-use rule_terms::{Known, all_lines, truth};
+use sim_rules_terms::{Known, all_lines, truth};
 use std::alloc::{AllocError, Global};
 use term_bank::{Bank, TermId, TermNode};
 use term_core::Term;
-use term_spec::{Atom, Family, Sort, Variable, Width};
+use term_core_spec::{Atom, Family, Sort, Variable, Width};
 use term_substitution::Lookup;
 
 /// False, and the words that are 0.

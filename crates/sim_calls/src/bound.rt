@@ -3,15 +3,15 @@
 ghost use Rattle.std.specs.Prelude.{◌<◌, ◌≤◌, ◌∷◌, length, map, IfOk, List, OnOk};
 ghost use Rattle.std.specs.HashMap.{get};
 ghost use Rattle.graph_core.specs.Shared.{AreSharedBindings, shared_binding_of};
-ghost use Rattle.graph_spec.specs.Graph.{Binding};
+ghost use Rattle.graph_core_spec.specs.Graph.{Binding};
 ghost use Rattle.sim_calls.specs.Bound.{AreBound};
 ghost use Rattle.sim_calls.specs.Left.{IsEmpty};
 ghost use Rattle.term_bank.specs.Nodes.{Extends};
-ghost use Rattle.term_spec.specs.Same.{same_variable};
+ghost use Rattle.term_core_spec.specs.Same.{same_variable};
 ghost use Rattle.term_substitution.specs.States.{AreBelow, state_of};
 
 use graph_core::SharedBinding;
-use rule_terms::Known;
+use sim_rules_terms::Known;
 use std::alloc::{AllocError, Global};
 use std::collections::HashMap;
 use term_bank::Bank;

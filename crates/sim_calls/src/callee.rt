@@ -4,23 +4,23 @@ ghost use Rattle.std.specs.Prelude.{◌≡◌, ◌∷◌, [], ◌++◌, ◌<◌,
 ghost use Rattle.c_graph_spec.specs.State as state;
 ghost use Rattle.graph_core.specs.Graphs.{boxed_term};
 ghost use Rattle.proof_tree.specs.Frames.{terms_of};
-ghost use Rattle.rule_spec.specs.Calling as calling;
-ghost use Rattle.rule_spec.specs.Points as points;
+ghost use Rattle.sim_rules_spec.specs.Calling as calling;
+ghost use Rattle.sim_rules_spec.specs.Points as points;
 ghost use Rattle.sim_calls.specs.Callees.{IsCalleeOf, argument_lines, callee_by, result_term};
 ghost use Rattle.sim_calls.specs.Callees.{widened, zone_lines};
 ghost use Rattle.term_core.specs.Trees.{term_of};
-ghost use Rattle.term_spec.specs.Term as tree;
+ghost use Rattle.term_core_spec.specs.Term as tree;
 
 use crate::variables::{
     ENTRY_GLOBAL_POINTER, FIRST_ARGUMENT, GLOBAL_POINTER, RETURN_ADDRESS, STACK_POINTER,
     machine_register,
 };
 use c_graph_terms::{local, result_of};
-use c_type_spec::Scalar;
-use rule_terms::{negated, open, over_two, word};
+use c_types_spec::Scalar;
+use sim_rules_terms::{negated, open, over_two, word};
 use std::alloc::{AllocError, Global};
 use term_core::Term;
-use term_spec::{BinaryOperator, UnaryOperator, Variable, Width, WordOperator};
+use term_core_spec::{BinaryOperator, UnaryOperator, Variable, Width, WordOperator};
 
 /// The bitwise `and` of two words.
 const MASK: BinaryOperator = BinaryOperator::Word(WordOperator::And);
@@ -28,7 +28,7 @@ const MASK: BinaryOperator = BinaryOperator::Word(WordOperator::And);
 /// The difference of two words.
 const SUBTRACT: BinaryOperator = BinaryOperator::Word(WordOperator::Subtract);
 
-/// What a call relies on at its callee (`rule_spec`, `specs/Calls.antt`).
+/// What a call relies on at its callee (`sim_rules_spec`, `specs/Calls.antt`).
 #[derive(Drop)]
 pub struct Callee {
     /// How many bytes below its stack pointer it takes.

@@ -3,24 +3,24 @@
 ghost use Rattle.std.specs.Prelude.{◌≡◌, ◌≤◌, ℕ, if◌then◌else◌, length, IfOk, OnOk, List};
 ghost use Rattle.std.specs.HashMap.{get};
 ghost use Rattle.path_cond.specs.States.{IsMapOf};
-ghost use Rattle.rule_spec.specs.Points as points;
+ghost use Rattle.sim_rules_spec.specs.Points as points;
 ghost use Rattle.sim_calls.specs.Cuts.{IsCut, IsPut, zone_over};
 ghost use Rattle.term_bank.specs.Nodes.{Extends, Holds};
 ghost use Rattle.term_core.specs.Trees.{term_of};
-ghost use Rattle.term_spec.specs.Same.{same_variable};
-ghost use Rattle.term_spec.specs.Term as tree;
+ghost use Rattle.term_core_spec.specs.Same.{same_variable};
+ghost use Rattle.term_core_spec.specs.Term as tree;
 
 use crate::variables::{BINARY_MEMORY, ZONE_MEMORY};
 use c_graph_terms::{MEMORY, ZONE_HIGH, ZONE_LOW};
-use rule_terms::{Known, open, overlaid};
+use sim_rules_terms::{Known, open, overlaid};
 use std::alloc::{AllocError, Global};
 use std::collections::HashMap;
 use term_bank::{Bank, TermId};
 use term_core::Term;
-use term_spec::Variable;
+use term_core_spec::Variable;
 use term_substitution::intern;
 
-/// The terms of both sides' variables where a frame starts at a cut (`rule_spec`,
+/// The terms of both sides' variables where a frame starts at a cut (`sim_rules_spec`,
 /// `specs/Rules.antt`): each is itself, but the binary's memory, which is the source's with the
 /// zone's over it, and the source's words for the zone's ends.
 #[derive(Drop)]

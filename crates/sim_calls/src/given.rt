@@ -3,16 +3,16 @@
 ghost use Rattle.std.specs.Prelude.{◌≡◌, ◌++◌, ◌≤◌, true, length, map};
 ghost use Rattle.std.specs.List.{fold};
 ghost use Rattle.proof_tree.specs.Frames.{terms_of};
-ghost use Rattle.rule_spec.specs.Points as points;
-ghost use Rattle.rule_spec.specs.Rules.{at_cut, terms_at_start};
+ghost use Rattle.sim_rules_spec.specs.Points as points;
+ghost use Rattle.sim_rules_spec.specs.Rules.{at_cut, terms_at_start};
 ghost use Rattle.sim_calls.specs.Cuts.{IsCut};
 ghost use Rattle.term_bank.specs.Nodes.{Extends};
-ghost use Rattle.term_spec.specs.Substitution.{substituted};
-ghost use Rattle.term_spec.specs.Term as tree;
+ghost use Rattle.term_core_spec.specs.Substitution.{substituted};
+ghost use Rattle.term_core_spec.specs.Term as tree;
 ghost use Rattle.term_substitution.specs.States.{IsAt, IsFound};
 
 use crate::cut::Cut;
-use rule_terms::{BothSides, and_lines, truth};
+use sim_rules_terms::{BothSides, and_lines, truth};
 use std::alloc::AllocError;
 use term_bank::{Bank, TermId};
 use term_core::Term;

@@ -2,19 +2,19 @@
 
 ghost use Rattle.std.specs.Prelude.{◌≡◌, ◌≤◌, length, IfOk, OnOk};
 ghost use Rattle.std.specs.HashMap.{get};
-ghost use Rattle.rule_spec.specs.Calls as spec;
+ghost use Rattle.sim_rules_spec.specs.Calls as spec;
 ghost use Rattle.sim_calls.specs.Left.{AreLeft, IsEmpty};
 ghost use Rattle.term_bank.specs.Nodes.{Extends};
-ghost use Rattle.term_spec.specs.Same.{same_variable};
+ghost use Rattle.term_core_spec.specs.Same.{same_variable};
 ghost use Rattle.term_substitution.specs.States.{IsAt, IsFound};
 
 use crate::variables::fresh;
 use indexmap::IndexSet;
-use rule_terms::Known;
+use sim_rules_terms::Known;
 use std::alloc::{AllocError, Global};
 use std::collections::HashMap;
 use term_bank::{Bank, TermId, TermNode};
-use term_spec::{Atom, Variable};
+use term_core_spec::{Atom, Variable};
 
 // What a callee leaves of a variable.
 fn left_term(bank: &mut Bank, variable: Variable) -> Result<TermId, AllocError>

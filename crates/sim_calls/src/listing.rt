@@ -2,7 +2,7 @@
 
 ghost use Rattle.std.specs.Prelude.{◌≡◌, IfOk, OnOk};
 ghost use Rattle.graph_core.specs.Seen.{own_variables};
-ghost use Rattle.graph_spec.specs.Variables.{with_variables};
+ghost use Rattle.graph_core_spec.specs.Variables.{with_variables};
 ghost use Rattle.path_cond.specs.Bound.{KeepsListed};
 ghost use Rattle.proof_tree.specs.Frames.{terms_of};
 ghost use Rattle.sim_calls.specs.Listed.{AreListedIn, Lists, ListsBank, ListsLines};
@@ -12,7 +12,7 @@ use indexmap::IndexSet;
 use std::alloc::{AllocError, Global};
 use term_bank::{Bank, TermNode};
 use term_core::Term;
-use term_spec::{Atom, Variable};
+use term_core_spec::{Atom, Variable};
 use term_substitution::intern;
 
 // Adds the variable that a node is, if it is one.

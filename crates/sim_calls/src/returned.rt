@@ -5,9 +5,9 @@ ghost use Rattle.std.specs.HashMap.{get};
 ghost use Rattle.graph_core.specs.Graphs.{boxed_term};
 ghost use Rattle.graph_core.specs.Shared.{AreSharedBindings};
 ghost use Rattle.proof_tree.specs.Frames.{terms_of};
-ghost use Rattle.rule_spec.specs.Calls as spec;
-ghost use Rattle.rule_spec.specs.Points as points;
-ghost use Rattle.rule_spec.specs.Rules.{all_of};
+ghost use Rattle.sim_rules_spec.specs.Calls as spec;
+ghost use Rattle.sim_rules_spec.specs.Points as points;
+ghost use Rattle.sim_rules_spec.specs.Rules.{all_of};
 ghost use Rattle.sim_calls.specs.Cuts.{CanCut, IsCut};
 ghost use Rattle.sim_calls.specs.Listed.{AreListedIn};
 ghost use Rattle.sim_calls.specs.Returned.{HasResult, IsExit, left_memory_by, register_id};
@@ -15,8 +15,8 @@ ghost use Rattle.sim_calls.specs.Returned.{returned_by, returns_by, source_id};
 ghost use Rattle.sim_calls.specs.Sites.{outputs_of};
 ghost use Rattle.term_bank.specs.Nodes.{Extends};
 ghost use Rattle.term_core.specs.Trees.{term_of};
-ghost use Rattle.term_spec.specs.Same.{same_variable};
-ghost use Rattle.term_spec.specs.Substitution.{substituted};
+ghost use Rattle.term_core_spec.specs.Same.{same_variable};
+ghost use Rattle.term_core_spec.specs.Substitution.{substituted};
 ghost use Rattle.term_substitution.specs.States.{AreBelow, IsAt, IsFound};
 
 use crate::bound::bound_terms;
@@ -30,11 +30,11 @@ use crate::variables::{
 };
 use c_graph_terms::MEMORY;
 use indexmap::IndexSet;
-use rule_terms::{Known, all_lines, open, over_two, overlaid, word};
+use sim_rules_terms::{Known, all_lines, open, over_two, overlaid, word};
 use std::alloc::{AllocError, Global};
 use term_bank::{Bank, TermId};
 use term_core::Term;
-use term_spec::{BinaryOperator, Family, Variable, WordOperator};
+use term_core_spec::{BinaryOperator, Family, Variable, WordOperator};
 use term_substitution::{Lookup, intern, rename};
 
 /// The difference of two words.

@@ -6,8 +6,8 @@ ghost use Rattle.proof_tree.specs.Frames.{frame_of, side_of};
 ghost use Rattle.sim_calls.specs.Sites.{AreFound, IsFound, IsFoundTo, IsSiteIn};
 
 use graph_core::{Graph, GraphRun, SharedBinding, SharedNode};
-use proof_spec::Nodes;
 use proof_tree::Frame;
+use proof_tree_spec::Nodes;
 
 /// A call of a side's outermost graph, whose callee and landing node are there.
 #[derive(Clone, Copy)]

@@ -1,10 +1,10 @@
 //! Variables that the obligations of a call speak of.
 
 ghost use Rattle.std.specs.Prelude.{◌≡◌};
-ghost use Rattle.graph_spec.specs.Run as run;
-ghost use Rattle.rule_spec.specs.Calls as spec;
+ghost use Rattle.graph_core_spec.specs.Run as run;
+ghost use Rattle.sim_rules_spec.specs.Calls as spec;
 
-use term_spec::{Family, Sort, Variable, Width};
+use term_core_spec::{Family, Sort, Variable, Width};
 
 /// The memory of the binary.
 pub(crate) const BINARY_MEMORY: Variable = Variable {

@@ -5,12 +5,12 @@ use Rattle.std.proofs.Math.ListN.{get_or-map}
 use Rattle.std.proofs.lemmas.List.{length-map, get_or_default}
 use Rattle.std.proofs.lemmas.List.Elements.{All-map}
 use Rattle.std.proofs.lemmas.Bool.{cases_lt}
-use Rattle.walk_spec.specs.TransitionSystem.{Mark}
-use Rattle.graph_spec.specs.Graph.{Graphs}
-use Rattle.graph_spec.specs.Run.{IsPath}
-use Rattle.proof_spec.specs.declared.Nodes.{Nodes}
-use Rattle.proof_spec.specs.Cuts.{Passes}
-use Rattle.proof_spec.specs.Frames as spec
+use Rattle.graph_core_spec.specs.TransitionSystem.{Mark}
+use Rattle.graph_core_spec.specs.Graph.{Graphs}
+use Rattle.graph_core_spec.specs.Run.{IsPath}
+use Rattle.proof_tree_spec.specs.declared.Nodes.{Nodes}
+use Rattle.proof_tree_spec.specs.Cuts.{Passes}
+use Rattle.proof_tree_spec.specs.Frames as spec
 use Rattle.proof_tree.specs.Ahead.{AreAhead}
 use Rattle.proof_tree.specs.declared.frame.Goal.{Goal}
 use Rattle.proof_tree.specs.declared.frame.Frame.{Frame}

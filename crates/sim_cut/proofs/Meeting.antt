@@ -3,11 +3,11 @@ use Rattle.std.proofs.Common.{◌≡◌, ◌∙◌, ◌⊎◌, ℕ, ◌+◌, ◌
 use Rattle.std.proofs.lemmas.List.Elements.{All-head, All-tail, All-nil, All-cons, All-contains, Contains-push_cases}
 use Rattle.std.proofs.lemmas.List.{map-append}
 use Rattle.std.proofs.lemmas.Bool.{both_ways, or_left, cases_lt, false_from_ne_true}
-use Rattle.walk_spec.specs.TransitionSystem.{IsTransitionSystem, Mark, after, stopped, StopsAt, IsSafe}
-use Rattle.walk_spec.specs.Simulation.{Frame, Goal, Hold, IsRelated, binary_marks, source_marks, HasCountedGoals, EndsAlike, both_return, both_arrive, Agree, IsHeld, held}
-use Rattle.walk_spec.proofs.Runs.{after-add, stopped_on, stops_once}
-use Rattle.proof_spec.specs.declared.Counts.{Counts}
-use Rattle.proof_spec.specs.Cuts.{AreCounts, Passes, goal_at, with_goal}
+use Rattle.graph_core_spec.specs.TransitionSystem.{IsTransitionSystem, Mark, after, stopped, StopsAt, IsSafe}
+use Rattle.graph_core_spec.specs.Simulation.{Frame, Goal, Hold, IsRelated, binary_marks, source_marks, HasCountedGoals, EndsAlike, both_return, both_arrive, Agree, IsHeld, held}
+use Rattle.graph_core_spec.proofs.Runs.{after-add, stopped_on, stops_once}
+use Rattle.proof_tree_spec.specs.declared.Counts.{Counts}
+use Rattle.proof_tree_spec.specs.Cuts.{AreCounts, Passes, goal_at, with_goal}
 use Rattle.sim_cut.proofs.Passing.{Passed, passes, stops_on, stops_back, stops_earlier, stops_apart, stops_later, first_stop}
 
 -- ---- lists of goals

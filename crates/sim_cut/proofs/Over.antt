@@ -1,9 +1,9 @@
 -- The rules over frames of two given systems.
 use Rattle.std.proofs.Common.{ℕ, Bool, sym, subst}
-use Rattle.walk_spec.specs.TransitionSystem.{TransitionSystem, IsTransitionSystem}
-use Rattle.walk_spec.specs.Simulation.{Frame, Hold, Simulates}
-use Rattle.proof_spec.specs.declared.Counts.{Counts}
-use Rattle.proof_spec.specs.Cuts.{AreCounts, IsAllowed, IsClear, IsKept, Splits, Calls, Holds, IsOver, IsFine}
+use Rattle.graph_core_spec.specs.TransitionSystem.{TransitionSystem, IsTransitionSystem}
+use Rattle.graph_core_spec.specs.Simulation.{Frame, Hold, Simulates}
+use Rattle.proof_tree_spec.specs.declared.Counts.{Counts}
+use Rattle.proof_tree_spec.specs.Cuts.{AreCounts, IsAllowed, IsClear, IsKept, Splits, Calls, Holds, IsOver, IsFine}
 use Rattle.sim_cut.proofs.Soundness.{split_is_sound, call_is_sound, hold_is_sound, fine_on}
 
 module _ {A C : Type 0} (f : Frame A C) (entry : ℕ → A → C → Bool) (always : ℕ → A → Bool) (source_always : ℕ → C → Bool)

@@ -2,11 +2,11 @@
 use Rattle.std.proofs.Common.{◌≡◌, ◌∙◌, ◌⊎◌, ℕ, ◌+◌, ◌<◌, zero, suc, Bool, true, false, List, [], ◌∷◌, ◌++◌, All, refl, sym, ap, subst, inl, inr, arith}
 use Rattle.std.proofs.lemmas.List.Elements.{Contains-push_cases}
 use Rattle.std.proofs.lemmas.Bool.{both_ways, and_from}
-use Rattle.walk_spec.specs.TransitionSystem.{TransitionSystem, IsTransitionSystem, Mark, after, stopped, StopsAt, IsSafe, KeepsBounds}
-use Rattle.walk_spec.specs.Simulation.{Frame, Goal, Hold, IsRelated, binary_marks, source_marks, HasCountedGoals, EndsAlike, both_return, both_arrive, Agree, IsHeld, held, IsStart, Simulates}
-use Rattle.walk_spec.proofs.Runs.{after-add, always_kept}
-use Rattle.proof_spec.specs.declared.Counts.{Counts}
-use Rattle.proof_spec.specs.Cuts.{AreCounts, once, Passes, IsAllowed, IsClear, goal_at, both, with_goal, with_hold, from_cut, across, IsKept, Splits, Calls, Holds, Waits, IsFine}
+use Rattle.graph_core_spec.specs.TransitionSystem.{TransitionSystem, IsTransitionSystem, Mark, after, stopped, StopsAt, IsSafe, KeepsBounds}
+use Rattle.graph_core_spec.specs.Simulation.{Frame, Goal, Hold, IsRelated, binary_marks, source_marks, HasCountedGoals, EndsAlike, both_return, both_arrive, Agree, IsHeld, held, IsStart, Simulates}
+use Rattle.graph_core_spec.proofs.Runs.{after-add, always_kept}
+use Rattle.proof_tree_spec.specs.declared.Counts.{Counts}
+use Rattle.proof_tree_spec.specs.Cuts.{AreCounts, once, Passes, IsAllowed, IsClear, goal_at, both, with_goal, with_hold, from_cut, across, IsKept, Splits, Calls, Holds, Waits, IsFine}
 use Rattle.sim_cut.proofs.Passing.{Passed, passes, runs_inside, lands_passed, leads_there, stops_earlier}
 use Rattle.sim_cut.proofs.Meeting.{more_binary, more_source, agree, hold_met, hold_met_before, both_run, both_end, outcome, agree_running, later, passage}
 

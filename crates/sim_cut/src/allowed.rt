@@ -1,15 +1,15 @@
 //! Which cuts the goals of a frame allow.
 
 ghost use Rattle.std.specs.Prelude.{ℕ, ◌↔◌, IsTrue};
-ghost use Rattle.graph_spec.specs.Graph.{Graphs};
-ghost use Rattle.graph_spec.specs.Run.{IsPath};
-ghost use Rattle.proof_spec.specs.Cuts.{Passes};
-ghost use Rattle.proof_spec.specs.Frames as spec;
+ghost use Rattle.graph_core_spec.specs.Graph.{Graphs};
+ghost use Rattle.graph_core_spec.specs.Run.{IsPath};
+ghost use Rattle.proof_tree_spec.specs.Cuts.{Passes};
+ghost use Rattle.proof_tree_spec.specs.Frames as spec;
 ghost use Rattle.proof_tree.specs.Ahead.{AreAhead};
 ghost use Rattle.proof_tree.specs.Frames.{HasPaths, frame_of, stop_of};
 
-use proof_spec::{Cut, Nodes};
 use proof_tree::{Frame, Goal, Reachable, Stop};
+use proof_tree_spec::{Cut, Nodes};
 
 /// Whether the goals of a frame, which knows what its starts and goals lead to, allow a cut: each is
 /// at another node, and where it counts more than one arrival, no walk goes from the start to it and

@@ -2,8 +2,8 @@
 //! false. Each function's clause is one fact, and its body is empty.
 
 ghost use Rattle.std.specs.Prelude.{◌≡◌, ℕ, Bool, true};
-ghost use Rattle.walk_spec.specs.Simulation.{Simulates};
-ghost use Rattle.proof_spec.specs.Cuts.{Calls, IsClear, Passes, Splits, once};
+ghost use Rattle.graph_core_spec.specs.Simulation.{Simulates};
+ghost use Rattle.proof_tree_spec.specs.Cuts.{Calls, IsClear, Passes, Splits, once};
 ghost use Rattle.sim_cut.specs.Examples.{always, any_state, both_at, fails_after_a_call};
 ghost use Rattle.sim_cut.specs.Examples.{frame_of, mark, there_and_back};
 

@@ -3,10 +3,10 @@
 //! fixed bytes.
 
 ghost use Rattle.std.specs.Prelude.{ℕ, Bool};
-ghost use Rattle.walk_spec.specs.Simulation.{Frame, Hold, Simulates};
-ghost use Rattle.proof_spec.specs.declared.Counts.{Counts};
-ghost use Rattle.proof_spec.specs.Cuts.{AreCounts, Calls, Holds, IsAllowed, IsClear};
-ghost use Rattle.proof_spec.specs.Cuts.{IsFine, IsKept, IsOver, Splits, Waits};
+ghost use Rattle.graph_core_spec.specs.Simulation.{Frame, Hold, Simulates};
+ghost use Rattle.proof_tree_spec.specs.declared.Counts.{Counts};
+ghost use Rattle.proof_tree_spec.specs.Cuts.{AreCounts, Calls, Holds, IsAllowed, IsClear};
+ghost use Rattle.proof_tree_spec.specs.Cuts.{IsFine, IsKept, IsOver, Splits, Waits};
 
 use graph_core::Walks;
 

@@ -2,15 +2,15 @@
 use Rattle.std.proofs.Common.{◌≡◌, ◌∙◌, ℕ, ◌+◌, ◌<◌, List, [], ◌∷◌, ◌++◌, length, map, take, get_or, sym, ap, append_assoc, append-nil}
 use Rattle.std.proofs.lemmas.List.{take_more, map-append}
 use Rattle.std.proofs.lemmas.Simd.{map-map}
-use Rattle.visit_spec.specs.declared.Mark.{Mark as VisitMark}
-use Rattle.visit_spec.specs.Shape.{Shape}
-use Rattle.visit_spec.specs.Visits.{Walk}
-use Rattle.proof_spec.specs.declared.Mark.{Mark}
-use Rattle.proof_spec.specs.Frames as spec
+use Rattle.visit_walk_spec.specs.declared.Mark.{Mark as VisitMark}
+use Rattle.visit_walk_spec.specs.Shape.{Shape}
+use Rattle.visit_walk_spec.specs.Visits.{Walk}
+use Rattle.proof_tree_spec.specs.declared.Mark.{Mark}
+use Rattle.proof_tree_spec.specs.Frames as spec
 use Rattle.proof_tree.specs.declared.frame.Frame.{Frame}
 use Rattle.proof_tree.specs.Frames.{frame_of, goal_of, mark_of}
-use Rattle.rule_spec.specs.Rules.{Opening}
-use Rattle.rule_spec.specs.Sides.{visit_mark}
+use Rattle.sim_rules_spec.specs.Rules.{Opening}
+use Rattle.sim_rules_spec.specs.Sides.{visit_mark}
 use Rattle.sim_rules.specs.declared.plan.Change.{Change}
 use Rattle.sim_rules.specs.declared.plan.Change.TheVariants.{Plain, Holding, Restricting}
 use Rattle.sim_rules.specs.declared.side.Side.{Side}

@@ -4,22 +4,22 @@ use Rattle.std.specs.Prelude.{Result, Ok, Err, Vec, IfOk, IfErr, OnOk}
 use Rattle.std.specs.Global.{Global}
 use Rattle.std.proofs.lemmas.List.Elements.{All-nil}
 use Rattle.std.proofs.lemmas.Result.{IfOk-weaker, IfErr-weaker, on_ok_weaker}
-use Rattle.term_spec.specs.Term.{Term}
-use Rattle.proof_spec.specs.Frames.{Frame}
-use Rattle.proof_spec.specs.Scope.{Setting}
+use Rattle.term_core_spec.specs.Term.{Term}
+use Rattle.proof_tree_spec.specs.Frames.{Frame}
+use Rattle.proof_tree_spec.specs.Scope.{Setting}
 use Rattle.proof_tree.specs.Frames.{frame_of}
-use Rattle.rule_spec.specs.Obligations as spec
-use Rattle.rule_spec.specs.Obligations.{Rule, IsNoLine}
-use Rattle.rule_spec.specs.Points.{Convention}
-use Rattle.rule_spec.specs.Rules.{Opening}
+use Rattle.sim_rules_spec.specs.Obligations as spec
+use Rattle.sim_rules_spec.specs.Obligations.{Rule, IsNoLine}
+use Rattle.sim_rules_spec.specs.Points.{Convention}
+use Rattle.sim_rules_spec.specs.Rules.{Opening}
 use Rattle.sim_rules.specs.declared.fault.RuleFault.{RuleFault}
 use Rattle.sim_rules.specs.declared.fault.RuleFault.TheVariants.{Sort, Cyclic, Large, NoMemory}
 use Rattle.sim_rules.specs.declared.plan.Walking.{Walking}
 use Rattle.sim_rules.specs.declared.plan.Walking.TheVariants.{Leaf, RestrictBinary, RestrictSource, Wait}
 use Rattle.sim_rules.specs.declared.setup.Setup.{Setup}
 use Rattle.sim_rules.specs.Replies.{IsAnswer}
-use Rattle.rule_terms.specs.Held.{AreHeld}
-use Rattle.rule_terms.specs.Lines.{AreLines}
+use Rattle.sim_rules_terms.specs.Held.{AreHeld}
+use Rattle.sim_rules_terms.specs.Lines.{AreLines}
 use Rattle.sim_rules.specs.Lines.{IsLineFault}
 use Rattle.sim_rules.specs.Outcome.{AreObligations, HasFewVisits, HasLines, IsRuleAnswer, IsRuleFault}
 use Rattle.sim_rules.specs.Rules.{walking_of}

@@ -1,17 +1,17 @@
 -- What is to be shown where both sides stop, from their parts.
 use Rattle.std.proofs.Common.{◌≡◌, ◌∙◌, ℕ, ◌<◌, ◌&&◌, Bool, true, false, if◌then◌else◌, List, [], ◌∷◌, ◌++◌, length, map, sym, ap, ap₂, arith}
 use Rattle.std.proofs.lemmas.Option.{slice_get_within}
-use Rattle.term_spec.specs.Term.{Term, truth}
-use Rattle.term_spec.specs.Substitution.{substituted}
+use Rattle.term_core_spec.specs.Term.{Term, truth}
+use Rattle.term_core_spec.specs.Substitution.{substituted}
 use Rattle.term_bank.specs.Nodes.{Extends}
 use Rattle.term_bank.proofs.Growth.{length-Extends}
 use Rattle.term_bank.proofs.Substitution.{kept}
-use Rattle.visit_spec.specs.Visits.{Visit}
-use Rattle.rule_spec.specs.Rules.{Stop, all_of, terms_at}
-use Rattle.rule_spec.specs.Sides.{Way, visits_where}
-use Rattle.rule_terms.specs.declared.sight.Part.{Part}
-use Rattle.rule_terms.specs.Ways.{IsPart}
-use Rattle.rule_terms.proofs.Later.{part_later, sight_later}
+use Rattle.visit_walk_spec.specs.Visits.{Visit}
+use Rattle.sim_rules_spec.specs.Rules.{Stop, all_of, terms_at}
+use Rattle.sim_rules_spec.specs.Sides.{Way, visits_where}
+use Rattle.sim_rules_terms.specs.declared.sight.Part.{Part}
+use Rattle.sim_rules_terms.specs.Ways.{IsPart}
+use Rattle.sim_rules_terms.proofs.Later.{part_later, sight_later}
 use Rattle.sim_rules.specs.Compared.{Compared, related, related_if}
 use Rattle.sim_rules.specs.declared.point.Meeting.{Meeting}
 use Rattle.sim_rules.specs.Stops.{ArePartsIn, CanMeet, IsMet, IsMeeting}

@@ -4,17 +4,17 @@ use Rattle.std.specs.Prelude.{Contains, slice_get}
 use Rattle.std.proofs.lemmas.List.{get_or_default, same_lists}
 use Rattle.std.proofs.lemmas.Option.{same_Some, slice_get_within, slice_get-get_or, unwrap_or-slice_get}
 use Rattle.indexmap.proofs.IndexTableLemmas.Probe.{pigeonhole}
-use Rattle.graph_spec.specs.declared.Next.TheVariants as next
-use Rattle.visit_spec.specs.declared.Successors.{Successors}
-use Rattle.visit_spec.specs.declared.Successors.TheVariants.{One}
-use Rattle.visit_spec.specs.DepthFirst.{AreDistinct, Leads}
-use Rattle.visit_spec.specs.Outcomes.{AreVisits, AreTooMany}
-use Rattle.visit_spec.specs.Shape.{Shape, successors_at}
-use Rattle.visit_spec.specs.Visits.{Visit, Walk, first_visit, nexts}
-use Rattle.visit_spec.proofs.Members.{contained_at, index_of_contained}
-use Rattle.visit_spec.proofs.Order.{ordered}
-use Rattle.proof_spec.specs.Frames.{Side}
-use Rattle.rule_spec.specs.Sides.{IsCutTo}
+use Rattle.graph_core_spec.specs.declared.Next.TheVariants as next
+use Rattle.visit_walk_spec.specs.declared.Successors.{Successors}
+use Rattle.visit_walk_spec.specs.declared.Successors.TheVariants.{One}
+use Rattle.visit_walk_spec.specs.DepthFirst.{AreDistinct, Leads}
+use Rattle.visit_walk_spec.specs.Outcomes.{AreVisits, AreTooMany}
+use Rattle.visit_walk_spec.specs.Shape.{Shape, successors_at}
+use Rattle.visit_walk_spec.specs.Visits.{Visit, Walk, first_visit, nexts}
+use Rattle.visit_walk_spec.proofs.Members.{contained_at, index_of_contained}
+use Rattle.visit_walk_spec.proofs.Order.{ordered}
+use Rattle.proof_tree_spec.specs.Frames.{Side}
+use Rattle.sim_rules_spec.specs.Sides.{IsCutTo}
 
 -- ---- distinct members of a list are at most as many as it has
 

@@ -1,13 +1,13 @@
 -- Faults of rules, by those of their walks; and where there is none.
 use Rattle.std.proofs.Common.{◌≡◌, ◌∙◌, ◌⊎◌, ℕ, inl, inr, subst, refl, ap}
 use Rattle.std.specs.Prelude.{Result, Ok, Err}
-use Rattle.visit_spec.specs.Shape.{Shape}
-use Rattle.visit_spec.specs.Outcomes.{AreTooMany}
-use Rattle.visit_spec.specs.Visits.{Walk}
-use Rattle.proof_spec.specs.Frames.{Frame}
+use Rattle.visit_walk_spec.specs.Shape.{Shape}
+use Rattle.visit_walk_spec.specs.Outcomes.{AreTooMany}
+use Rattle.visit_walk_spec.specs.Visits.{Walk}
+use Rattle.proof_tree_spec.specs.Frames.{Frame}
 use Rattle.proof_tree.specs.Frames.{mark_of}
-use Rattle.rule_spec.specs.Rules.{Opening, restricted}
-use Rattle.rule_spec.specs.Sides.{binary_way, source_way}
+use Rattle.sim_rules_spec.specs.Rules.{Opening, restricted}
+use Rattle.sim_rules_spec.specs.Sides.{binary_way, source_way}
 use Rattle.sim_rules.specs.declared.fault.RuleFault.{RuleFault}
 use Rattle.sim_rules.specs.declared.fault.RuleFault.TheVariants.{Sort, Cyclic, Large, NoMemory}
 use Rattle.sim_rules.specs.declared.plan.Walking.{Walking}

@@ -2,19 +2,19 @@
 use Rattle.std.proofs.Common.{◌≡◌, ◌<◌, ℕ, List, length, All, Option, Some, refl, subst}
 use Rattle.std.specs.Prelude.{Result, OnOk}
 use Rattle.std.proofs.lemmas.Result.{on_ok_weaker}
-use Rattle.term_spec.specs.Term.{Term}
-use Rattle.visit_spec.specs.Shape.{Shape}
-use Rattle.visit_spec.specs.Visits.{Visit, Walk}
-use Rattle.proof_spec.specs.Frames.{Frame}
-use Rattle.visit_spec.specs.Outcomes.{AreVisits}
-use Rattle.rule_spec.specs.Points.{Convention}
-use Rattle.rule_spec.specs.Rules.{Opening, Seen, premise_terms, stops, leaf_terms}
-use Rattle.rule_spec.specs.Sides.{Way, AreVisitsIf}
+use Rattle.term_core_spec.specs.Term.{Term}
+use Rattle.visit_walk_spec.specs.Shape.{Shape}
+use Rattle.visit_walk_spec.specs.Visits.{Visit, Walk}
+use Rattle.proof_tree_spec.specs.Frames.{Frame}
+use Rattle.visit_walk_spec.specs.Outcomes.{AreVisits}
+use Rattle.sim_rules_spec.specs.Points.{Convention}
+use Rattle.sim_rules_spec.specs.Rules.{Opening, Seen, premise_terms, stops, leaf_terms}
+use Rattle.sim_rules_spec.specs.Sides.{Way, AreVisitsIf}
 use Rattle.sim_rules.specs.declared.plan.Walking.{Walking}
 use Rattle.sim_rules.specs.declared.plan.Walking.TheVariants.{Leaf, RestrictBinary, RestrictSource, Wait}
 use Rattle.sim_rules.specs.declared.side.Side.TheVariants.{Binary, Source}
 use Rattle.sim_rules.specs.Compared.{Compared, compared_by}
-use Rattle.rule_terms.specs.Held.{AreHeld}
+use Rattle.sim_rules_terms.specs.Held.{AreHeld}
 use Rattle.sim_rules.specs.Made.{IsShapeFor, changed}
 use Rattle.sim_rules.specs.Outcome.{AreObligations}
 use Rattle.sim_rules.specs.Plans.{plan_for}

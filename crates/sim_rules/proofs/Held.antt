@@ -2,10 +2,10 @@
 use Rattle.std.proofs.Common.{◌≡◌, ◌∙◌, ◌<◌, ℕ, List, [], ◌∷◌, ◌++◌, All, length, map, refl, sym, ap, subst, append_assoc, append-nil}
 use Rattle.std.proofs.lemmas.List.Elements.{All-cons, All-nil}
 use Rattle.std.proofs.lemmas.Option.{slice_get_within, get_or_from_slice_get}
-use Rattle.term_spec.specs.Term.{Term}
+use Rattle.term_core_spec.specs.Term.{Term}
 use Rattle.term_bank.specs.Nodes.{Holds, Extends, tree_at}
 use Rattle.term_bank.proofs.Substitution.{kept}
-use Rattle.rule_terms.specs.Held.{AreHeld}
+use Rattle.sim_rules_terms.specs.Held.{AreHeld}
 use Rattle.sim_rules.specs.Held.{HasAdded}
 
 held_later : (before now : List Term) → Extends before now → (ids : List ℕ) (ts : List Term) → AreHeld before ids ts → AreHeld now ids ts

@@ -2,10 +2,10 @@
 use Rattle.std.proofs.Common.{◌≡◌, ◌∙◌, ℕ, Bool, true, false, Option, Some, None, ◌⊎◌, inl, inr, refl, sym, subst}
 use Rattle.std.specs.Prelude.{Result, Ok, Err}
 use Rattle.std.proofs.lemmas.Option.{same_Some}
-use Rattle.visit_spec.proofs.Order.{acyclic}
-use Rattle.visit_spec.specs.Listing.{Listing}
-use Rattle.visit_spec.specs.Outcomes.{IsAcyclic, IsCyclicAt, AreTooMany}
-use Rattle.visit_spec.specs.Visits.{Walk}
+use Rattle.visit_walk_spec.proofs.Order.{acyclic}
+use Rattle.visit_walk_spec.specs.Listing.{Listing}
+use Rattle.visit_walk_spec.specs.Outcomes.{IsAcyclic, IsCyclicAt, AreTooMany}
+use Rattle.visit_walk_spec.specs.Visits.{Walk}
 use Rattle.visit_walk.specs.declared.found.WalkFault.{WalkFault}
 use Rattle.visit_walk.specs.declared.found.WalkFault.TheVariants as walk
 use Rattle.sim_rules.specs.declared.fault.RuleFault.{RuleFault}

@@ -10,3 +10,8 @@ pub mod Counting
 pub mod Knowing
 pub mod Finishing
 pub mod Answering
+pub mod Growing
+pub mod Gaining
+pub mod Searching
+pub mod Leading
+pub mod Cutting

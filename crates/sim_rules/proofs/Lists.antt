@@ -2,11 +2,11 @@
 use Rattle.std.proofs.Common.{◌≡◌, ◌∙◌, List, ◌∷◌, ◌++◌, map, sym, ap, ap₂}
 use Rattle.std.proofs.lemmas.List.{map-append}
 use Rattle.std.proofs.lemmas.Simd.{map-map}
-use Rattle.term_spec.specs.Term.{Term, or_term, not_term}
-use Rattle.visit_spec.specs.Visits.{Visit}
-use Rattle.rule_spec.specs.Points.{Convention}
-use Rattle.rule_spec.specs.Rules.{Stop, under, comes_too, ends_alike, leaf_goals}
-use Rattle.rule_spec.specs.Sides.{Way, condition_where, fails}
+use Rattle.term_core_spec.specs.Term.{Term, or_term, not_term}
+use Rattle.visit_walk_spec.specs.Visits.{Visit}
+use Rattle.sim_rules_spec.specs.Points.{Convention}
+use Rattle.sim_rules_spec.specs.Rules.{Stop, under, comes_too, ends_alike, leaf_goals}
+use Rattle.sim_rules_spec.specs.Sides.{Way, condition_where, fails}
 use Rattle.sim_rules.specs.Compared.{compared_by}
 use Rattle.sim_rules.specs.Terms.{denial, stop_terms}
 

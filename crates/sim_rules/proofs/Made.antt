@@ -2,27 +2,27 @@
 use Rattle.std.proofs.Common.{ℕ, List, [], Option, sym, subst, refl, length}
 use Rattle.std.specs.Prelude.{Result, Ok, Err, IfOk, IfErr}
 use Rattle.std.specs.HashMap.{get}
-use Rattle.term_spec.specs.declared.Variable.{Variable}
-use Rattle.term_spec.specs.Same.{same_variable}
-use Rattle.term_spec.specs.Term.{Term}
+use Rattle.term_core_spec.specs.declared.Variable.{Variable}
+use Rattle.term_core_spec.specs.Same.{same_variable}
+use Rattle.term_core_spec.specs.Term.{Term}
 use Rattle.term_core.specs.Trees.{term_of}
 use Rattle.term_bank.specs.Nodes.{Extends}
 use Rattle.term_substitution.specs.States.{AreBelow, state_of}
 use Rattle.graph_core.specs.Graphs.{graph_of}
-use Rattle.visit_spec.specs.Listing.{Listing, IsListing}
-use Rattle.visit_spec.specs.Visits.{Walk}
+use Rattle.visit_walk_spec.specs.Listing.{Listing, IsListing}
+use Rattle.visit_walk_spec.specs.Visits.{Walk}
 use Rattle.visit_walk.specs.Found.{IsWalkFault}
 use Rattle.visit_walk.specs.declared.found.WalkFault.{WalkFault}
 use Rattle.path_cond.specs.States.{IsMapOf}
 use Rattle.proof_tree.specs.Frames.{frame_of, terms_of}
-use Rattle.rule_spec.specs.Points.{Convention, all_hold}
-use Rattle.rule_spec.specs.Rules.{Opening}
-use Rattle.rule_spec.specs.Sides as sides
-use Rattle.rule_terms.specs.declared.points.Opening.{Opening as CodeOpening}
-use Rattle.rule_terms.specs.declared.way.Way.{Way}
-use Rattle.rule_terms.specs.Openings.{IsOpening, IsOpeningIn}
-use Rattle.rule_terms.specs.Ways.{IsWay, walk_on}
-use Rattle.rule_terms.proofs.Later.{map_later, opening_later}
+use Rattle.sim_rules_spec.specs.Points.{Convention, all_hold}
+use Rattle.sim_rules_spec.specs.Rules.{Opening}
+use Rattle.sim_rules_spec.specs.Sides as sides
+use Rattle.sim_rules_terms.specs.declared.points.Opening.{Opening as CodeOpening}
+use Rattle.sim_rules_terms.specs.declared.way.Way.{Way}
+use Rattle.sim_rules_terms.specs.Openings.{IsOpening, IsOpeningIn}
+use Rattle.sim_rules_terms.specs.Ways.{IsWay, walk_on}
+use Rattle.sim_rules_terms.proofs.Later.{map_later, opening_later}
 use Rattle.sim_rules.specs.declared.setup.Setup.{Setup}
 use Rattle.sim_rules.specs.declared.side.Side.{Side}
 use Rattle.sim_rules.specs.declared.side.Side.TheVariants.{Binary, Source}

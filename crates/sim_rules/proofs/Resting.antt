@@ -1,10 +1,10 @@
 -- What a Leaf leaves to show at its stops, where each side has a list of visits.
 use Rattle.std.proofs.Common.{◌≡◌, ℕ, List, [], Option, Some, None, ◌⊎◌, inl, inr, OnOk, Result, refl, sym, subst}
-use Rattle.term_spec.specs.Term.{Term}
-use Rattle.visit_spec.specs.Visits.{Visit}
-use Rattle.rule_spec.specs.Rules.{Stop}
-use Rattle.rule_spec.specs.Sides.{Way}
-use Rattle.rule_terms.proofs.Later.{itself}
+use Rattle.term_core_spec.specs.Term.{Term}
+use Rattle.visit_walk_spec.specs.Visits.{Visit}
+use Rattle.sim_rules_spec.specs.Rules.{Stop}
+use Rattle.sim_rules_spec.specs.Sides.{Way}
+use Rattle.sim_rules_terms.proofs.Later.{itself}
 use Rattle.sim_rules.specs.Compared.{Compared}
 use Rattle.sim_rules.specs.Held.{HasAdded}
 use Rattle.sim_rules.specs.Terms.{stop_terms, stop_terms_if}

@@ -1,13 +1,13 @@
 -- Claims at stops, one stop after the other.
 use Rattle.std.proofs.Common.{◌≡◌, ◌∙◌, ℕ, ◌+◌, ◌<◌, suc, List, [], ◌∷◌, ◌++◌, length, map, take, get_or, sym, ap, subst, arith}
 use Rattle.std.proofs.lemmas.List.{take_more, map-append, length-map, length-take-le}
-use Rattle.term_spec.specs.Term.{Term}
-use Rattle.visit_spec.specs.Visits.{Visit}
-use Rattle.proof_spec.specs.Frames as spec
+use Rattle.term_core_spec.specs.Term.{Term}
+use Rattle.visit_walk_spec.specs.Visits.{Visit}
+use Rattle.proof_tree_spec.specs.Frames as spec
 use Rattle.proof_tree.specs.declared.frame.Goal.{Goal}
 use Rattle.proof_tree.specs.Frames.{goal_of}
-use Rattle.rule_spec.specs.Rules.{Stop, goal_stops}
-use Rattle.rule_spec.specs.Sides.{Way}
+use Rattle.sim_rules_spec.specs.Rules.{Stop, goal_stops}
+use Rattle.sim_rules_spec.specs.Sides.{Way}
 use Rattle.sim_rules.specs.declared.point.Claim.{Claim}
 use Rattle.sim_rules.specs.declared.point.Claim.TheVariants.{ComesToo, EndsAlike}
 use Rattle.sim_rules.specs.Compared.{Compared}

@@ -2,17 +2,17 @@
 -- one of the definitions.
 use Rattle.std.specs.Prelude.{◌≡◌, ◌&&◌, true, if◌then◌else◌, List, [], ◌∷◌, ◌++◌, map}
 use Rattle.std.specs.List.{list_any}
-use Rattle.term_spec.specs.Term.{Term, truth, and_term, or_term, not_term}
-use Rattle.term_spec.specs.Substitution.{State as Terms, substituted}
+use Rattle.term_core_spec.specs.Term.{Term, truth, and_term, or_term, not_term}
+use Rattle.term_core_spec.specs.Substitution.{State as Terms, substituted}
 use Rattle.term_core.specs.Trees.{term_of}
-use Rattle.visit_spec.specs.Visits.{Visit}
-use Rattle.proof_spec.specs.Frames.{Frame}
+use Rattle.visit_walk_spec.specs.Visits.{Visit}
+use Rattle.proof_tree_spec.specs.Frames.{Frame}
 use Rattle.proof_tree.specs.Frames.{terms_of}
-use Rattle.rule_spec.specs.Points as points
-use Rattle.rule_spec.specs.Rules.{Opening, Stop, all_of, goal_stops, terms_at}
-use Rattle.rule_spec.specs.Sides as sides
-use Rattle.rule_spec.specs.Sides.{Way, visits_where, condition_where}
-use Rattle.rule_terms.specs.declared.convention.Convention.{Convention}
+use Rattle.sim_rules_spec.specs.Points as points
+use Rattle.sim_rules_spec.specs.Rules.{Opening, Stop, all_of, goal_stops, terms_at}
+use Rattle.sim_rules_spec.specs.Sides as sides
+use Rattle.sim_rules_spec.specs.Sides.{Way, visits_where, condition_where}
+use Rattle.sim_rules_terms.specs.declared.convention.Convention.{Convention}
 
 -- the term that compares memories, and the lines where both sides have returned
 pub record Compared : Type 0 where
@@ -26,7 +26,7 @@ pub record AreCompared (code : Convention) (c : Compared) : Type 0 where
   pub returns_are : c.returns ≡ terms_of code.returns.now
   pub memory_is : c.memory ≡ term_of code.memory.value
 
--- ---- as in `rule_spec` (Rules), of these terms
+-- ---- as in `sim_rules_spec` (Rules), of these terms
 
 abbrev pub stops : Compared → Frame → List Stop
 stops c f = record { binary = sides.returns; source = sides.returns; lines = c.returns } ∷ goal_stops 0 f.goals

@@ -1,8 +1,8 @@
 -- Why there are no lists of visits of both walks, by what a rule needs.
 use Rattle.std.specs.Prelude.{◌≡◌, ◌⊎◌, ℕ, Bool, true, if◌then◌else◌, Option, Some, None, Result, Ok, Err}
-use Rattle.visit_spec.specs.Listing.{Listing, IsListing}
-use Rattle.visit_spec.specs.Outcomes.{IsAcyclic, IsCyclicAt, AreTooMany}
-use Rattle.visit_spec.specs.Visits.{Walk}
+use Rattle.visit_walk_spec.specs.Listing.{Listing, IsListing}
+use Rattle.visit_walk_spec.specs.Outcomes.{IsAcyclic, IsCyclicAt, AreTooMany}
+use Rattle.visit_walk_spec.specs.Visits.{Walk}
 use Rattle.visit_walk.specs.Found.{IsWalkFault}
 use Rattle.visit_walk.specs.declared.found.WalkFault.{WalkFault}
 use Rattle.visit_walk.specs.declared.found.WalkFault.TheVariants as walk

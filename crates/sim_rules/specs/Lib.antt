@@ -13,3 +13,4 @@ pub mod Outcome
 pub mod Lines
 pub mod Rules
 pub mod Replies
+pub mod Tables

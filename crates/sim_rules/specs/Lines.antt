@@ -1,8 +1,8 @@
 -- Why some terms are no lines.
 use Rattle.std.specs.Prelude.{ℕ, List}
-use Rattle.term_spec.specs.Term.{Term}
-use Rattle.proof_spec.specs.Scope.{Setting}
-use Rattle.rule_spec.specs.Obligations.{IsNoLine}
+use Rattle.term_core_spec.specs.Term.{Term}
+use Rattle.proof_tree_spec.specs.Scope.{Setting}
+use Rattle.sim_rules_spec.specs.Obligations.{IsNoLine}
 use Rattle.sim_rules.specs.declared.fault.RuleFault.{RuleFault}
 use Rattle.sim_rules.specs.declared.fault.RuleFault.TheVariants.{Sort, Cyclic, Large, NoMemory}
 

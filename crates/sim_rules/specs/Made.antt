@@ -1,16 +1,16 @@
 -- Ways of the code that were made for a side of a frame.
 use Rattle.std.specs.Prelude.{◌≡◌, ◌∷◌}
 use Rattle.std.specs.HashMap.{get}
-use Rattle.term_spec.specs.Same.{same_variable}
+use Rattle.term_core_spec.specs.Same.{same_variable}
 use Rattle.graph_core.specs.Graphs.{graph_of}
-use Rattle.visit_spec.specs.Shape.{Shape, shape_of}
-use Rattle.proof_spec.specs.Frames.{Side as SpecSide}
+use Rattle.visit_walk_spec.specs.Shape.{Shape, shape_of}
+use Rattle.proof_tree_spec.specs.Frames.{Side as SpecSide}
 use Rattle.proof_tree.specs.Frames.{frame_of, mark_of}
-use Rattle.rule_spec.specs.Sides as sides
-use Rattle.rule_spec.specs.Sides.{graph_at, visit_mark, IsCutTo}
-use Rattle.rule_spec.specs.Rules.{Opening, hold_mark, restricted}
-use Rattle.rule_terms.specs.declared.way.Way.{Way}
-use Rattle.rule_terms.specs.Ways.{walk_on}
+use Rattle.sim_rules_spec.specs.Sides as sides
+use Rattle.sim_rules_spec.specs.Sides.{graph_at, visit_mark, IsCutTo}
+use Rattle.sim_rules_spec.specs.Rules.{Opening, hold_mark, restricted}
+use Rattle.sim_rules_terms.specs.declared.way.Way.{Way}
+use Rattle.sim_rules_terms.specs.Ways.{walk_on}
 use Rattle.sim_rules.specs.declared.setup.Setup.{Setup}
 use Rattle.sim_rules.specs.declared.side.Side.{Side}
 use Rattle.sim_rules.specs.declared.plan.Change.{Change}

@@ -1,11 +1,11 @@
 -- The marks of a side's walk, of the code as the definitions have them.
 use Rattle.std.specs.Prelude.{List, [], ◌∷◌, ◌++◌}
-use Rattle.visit_spec.specs.declared.Mark.{Mark as VisitMark}
-use Rattle.proof_spec.specs.declared.Mark.{Mark}
+use Rattle.visit_walk_spec.specs.declared.Mark.{Mark as VisitMark}
+use Rattle.proof_tree_spec.specs.declared.Mark.{Mark}
 use Rattle.proof_tree.specs.declared.frame.Goal.{Goal}
 use Rattle.proof_tree.specs.Frames.{mark_of, stop_of}
-use Rattle.rule_spec.specs.Rules.{hold_mark}
-use Rattle.rule_spec.specs.Sides.{visit_mark}
+use Rattle.sim_rules_spec.specs.Rules.{hold_mark}
+use Rattle.sim_rules_spec.specs.Sides.{visit_mark}
 use Rattle.sim_rules.specs.declared.side.Side.{Side}
 use Rattle.sim_rules.specs.declared.side.Side.TheVariants.{Binary, Source}
 use Rattle.sim_rules.specs.declared.plan.Change.{Change}

@@ -1,14 +1,14 @@
 -- The obligations of a rule, as terms of a bank, and why there are none.
 use Rattle.std.specs.Prelude.{ℕ, List, Result, Ok, Err}
-use Rattle.term_spec.specs.Term.{Term}
-use Rattle.proof_spec.specs.Frames.{Frame}
-use Rattle.rule_spec.specs.Points.{Convention}
-use Rattle.rule_spec.specs.Rules.{Opening}
-use Rattle.rule_spec.specs.Obligations as spec
-use Rattle.rule_spec.specs.Obligations.{Rule, HasNoLine, IsCyclicRule, IsLargeRule}
+use Rattle.term_core_spec.specs.Term.{Term}
+use Rattle.proof_tree_spec.specs.Frames.{Frame}
+use Rattle.sim_rules_spec.specs.Points.{Convention}
+use Rattle.sim_rules_spec.specs.Rules.{Opening}
+use Rattle.sim_rules_spec.specs.Obligations as spec
+use Rattle.sim_rules_spec.specs.Obligations.{Rule, HasNoLine, IsCyclicRule, IsLargeRule}
 use Rattle.sim_rules.specs.declared.fault.RuleFault.{RuleFault}
 use Rattle.sim_rules.specs.declared.fault.RuleFault.TheVariants.{Sort, Cyclic, Large, NoMemory}
-use Rattle.rule_terms.specs.Held.{AreHeld}
+use Rattle.sim_rules_terms.specs.Held.{AreHeld}
 
 -- the ids are those of the rule's obligations, in their order
 pub record AreObligations (trees : List Term) (c : Convention) (o : Opening) (f : Frame) (rule : Rule) (ids : List ℕ) : Type 0 where

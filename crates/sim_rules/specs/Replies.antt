@@ -1,11 +1,11 @@
 -- What a rule's answer says: its obligations, or why it has none.
 use Rattle.std.specs.Prelude.{ℕ, ◌<◌, List, length, All, Result, Vec, IfOk, IfErr, OnOk}
 use Rattle.std.specs.Global.{Global}
-use Rattle.term_spec.specs.Term.{Term}
+use Rattle.term_core_spec.specs.Term.{Term}
 use Rattle.proof_tree.specs.Frames.{frame_of}
-use Rattle.rule_spec.specs.Obligations.{Rule}
-use Rattle.rule_spec.specs.Points.{Convention}
-use Rattle.rule_spec.specs.Rules.{Opening}
+use Rattle.sim_rules_spec.specs.Obligations.{Rule}
+use Rattle.sim_rules_spec.specs.Points.{Convention}
+use Rattle.sim_rules_spec.specs.Rules.{Opening}
 use Rattle.sim_rules.specs.declared.fault.RuleFault.{RuleFault}
 use Rattle.sim_rules.specs.declared.setup.Setup.{Setup}
 use Rattle.sim_rules.specs.Outcome.{AreObligations, HasFewVisits, HasLines, IsRuleFault}

@@ -1,7 +1,7 @@
 -- Rules of the code as those of the definitions.
 use Rattle.term_core.specs.Trees.{term_of}
 use Rattle.proof_tree.specs.Frames.{hold_of, mark_of, terms_of}
-use Rattle.rule_spec.specs.Obligations as spec
+use Rattle.sim_rules_spec.specs.Obligations as spec
 use Rattle.sim_rules.specs.declared.rule.Rule.{Rule}
 use Rattle.sim_rules.specs.declared.rule.Rule.TheVariants.{Leaf, Case, RestrictBinary, RestrictSource, Cut, Wait}
 use Rattle.sim_rules.specs.declared.rule.Kind.{Kind}

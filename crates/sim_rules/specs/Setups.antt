@@ -1,10 +1,10 @@
 -- What the rules are applied to, of the code as the definitions have it, in a bank.
 use Rattle.std.specs.Prelude.{List}
-use Rattle.term_spec.specs.Term.{Term}
-use Rattle.rule_spec.specs.Points as points
-use Rattle.rule_spec.specs.Rules as spec
-use Rattle.rule_terms.specs.Conventions.{IsConventionOf}
-use Rattle.rule_terms.specs.Openings.{IsOpening}
+use Rattle.term_core_spec.specs.Term.{Term}
+use Rattle.sim_rules_spec.specs.Points as points
+use Rattle.sim_rules_spec.specs.Rules as spec
+use Rattle.sim_rules_terms.specs.Conventions.{IsConventionOf}
+use Rattle.sim_rules_terms.specs.Openings.{IsOpening}
 use Rattle.sim_rules.specs.declared.setup.Setup.{Setup}
 use Rattle.sim_rules.specs.Compared.{AreCompared, Compared}
 

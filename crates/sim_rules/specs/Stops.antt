@@ -1,19 +1,19 @@
 -- What a Leaf leaves to show at its stops, of the code as the definitions have it, in a bank.
 use Rattle.std.specs.Prelude.{◌≡◌, ◌⊎◌, ℕ, ◌<◌, List, length, map, Option, Some, None}
 use Rattle.std.specs.HashMap.{get}
-use Rattle.term_spec.specs.Same.{same_variable}
-use Rattle.term_spec.specs.Term.{Term, or_term}
+use Rattle.term_core_spec.specs.Same.{same_variable}
+use Rattle.term_core_spec.specs.Term.{Term, or_term}
 use Rattle.term_core.specs.Trees.{term_of}
 use Rattle.term_bank.specs.Nodes.{Holds}
 use Rattle.term_substitution.specs.States.{AreBelow}
-use Rattle.visit_spec.specs.Visits.{Visit}
-use Rattle.proof_spec.specs.Frames as spec
+use Rattle.visit_walk_spec.specs.Visits.{Visit}
+use Rattle.proof_tree_spec.specs.Frames as spec
 use Rattle.proof_tree.specs.Frames.{terms_of}
-use Rattle.rule_spec.specs.Rules.{Seen, Stop}
-use Rattle.rule_spec.specs.Sides.{Way, arrives, visit_mark}
-use Rattle.rule_terms.specs.declared.sight.Part.{Part}
-use Rattle.rule_terms.specs.Ways.{IsSight, IsPart}
-use Rattle.rule_terms.specs.Which.{test_of}
+use Rattle.sim_rules_spec.specs.Rules.{Seen, Stop}
+use Rattle.sim_rules_spec.specs.Sides.{Way, arrives, visit_mark}
+use Rattle.sim_rules_terms.specs.declared.sight.Part.{Part}
+use Rattle.sim_rules_terms.specs.Ways.{IsSight, IsPart}
+use Rattle.sim_rules_terms.specs.Which.{test_of}
 use Rattle.sim_rules.specs.Compared.{Compared, comes_too, ends_alike}
 use Rattle.sim_rules.specs.declared.point.Meeting.{Meeting}
 use Rattle.sim_rules.specs.declared.point.Point.{Point}

@@ -1,12 +1,12 @@
 -- What a rule leaves to show of both sides' ways and visits, in the order in which it is added.
 use Rattle.std.specs.Prelude.{Bool, true, if◌then◌else◌, List, [], ◌∷◌, ◌++◌, length, map, Option, Some, None}
 use Rattle.std.specs.List.{fold}
-use Rattle.term_spec.specs.Term.{Term, truth, not_term, and_term, or_term}
-use Rattle.visit_spec.specs.Visits.{Visit}
-use Rattle.proof_spec.specs.Frames.{Frame, Hold}
+use Rattle.term_core_spec.specs.Term.{Term, truth, not_term, and_term, or_term}
+use Rattle.visit_walk_spec.specs.Visits.{Visit}
+use Rattle.proof_tree_spec.specs.Frames.{Frame, Hold}
 use Rattle.proof_tree.specs.Frames.{hold_of, mark_of}
-use Rattle.rule_spec.specs.Rules.{Opening, Seen, Stop, premise_terms, wait_premises, comes_to}
-use Rattle.rule_spec.specs.Sides.{Way, condition_where, visits_where, visit_mark, breaks, fails}
+use Rattle.sim_rules_spec.specs.Rules.{Opening, Seen, Stop, premise_terms, wait_premises, comes_to}
+use Rattle.sim_rules_spec.specs.Sides.{Way, condition_where, visits_where, visit_mark, breaks, fails}
 use Rattle.sim_rules.specs.Compared.{Compared, stops, comes_too, ends_alike, held_there}
 use Rattle.sim_rules.specs.Plans.{plan_for}
 use Rattle.sim_rules.specs.declared.side.Side.{Side}

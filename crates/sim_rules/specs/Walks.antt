@@ -1,21 +1,21 @@
 -- A side's walk with its visits, of the code as the definitions have it, in a bank.
 use Rattle.std.specs.Prelude.{◌≡◌, ℕ, Bool, true, List, Option, Some, None, Result, Ok, Err}
-use Rattle.term_spec.specs.Term.{Term}
-use Rattle.visit_spec.specs.Listing.{Listing}
-use Rattle.visit_spec.specs.Visits.{Visit, Walk}
+use Rattle.term_core_spec.specs.Term.{Term}
+use Rattle.visit_walk_spec.specs.Listing.{Listing}
+use Rattle.visit_walk_spec.specs.Visits.{Visit, Walk}
 use Rattle.visit_walk.specs.declared.found.WalkFault.{WalkFault}
-use Rattle.condition_spec.specs.Junctions.{junctions}
+use Rattle.path_cond_spec.specs.Junctions.{junctions}
 use Rattle.path_cond.specs.declared.found.Conditions.{Conditions}
 use Rattle.path_cond.specs.Result.{AreConditions}
-use Rattle.proof_spec.specs.Frames.{Frame}
-use Rattle.rule_spec.specs.Rules.{Opening, Seen}
-use Rattle.rule_spec.specs.Sides.{Way, AreVisitsIf}
-use Rattle.rule_terms.specs.Ways.{IsWay}
+use Rattle.proof_tree_spec.specs.Frames.{Frame}
+use Rattle.sim_rules_spec.specs.Rules.{Opening, Seen}
+use Rattle.sim_rules_spec.specs.Sides.{Way, AreVisitsIf}
+use Rattle.sim_rules_terms.specs.Ways.{IsWay}
 use Rattle.sim_rules.specs.Compared.{Compared}
 use Rattle.sim_rules.specs.declared.plan.Walking.{Walking}
 use Rattle.sim_rules.specs.declared.walked.Walked.{Walked}
 use Rattle.sim_rules.specs.Faults.{IsOutcome}
-use Rattle.rule_terms.specs.Held.{AreHeld}
+use Rattle.sim_rules_terms.specs.Held.{AreHeld}
 use Rattle.sim_rules.specs.Plans.{plan_for}
 use Rattle.sim_rules.specs.Terms.{terms_for}
 

@@ -1,16 +1,16 @@
 //! What may be used, negated, and what is left to show first under it.
 
 ghost use Rattle.std.specs.Prelude.{◌≡◌, ◌<◌, ◌≤◌, List, length, OnOk};
-ghost use Rattle.term_spec.specs.Term as tree;
+ghost use Rattle.term_core_spec.specs.Term as tree;
 ghost use Rattle.term_bank.specs.Nodes.{Extends, Holds};
 ghost use Rattle.term_substitution.specs.States.{IsAt, IsFound};
 ghost use Rattle.proof_tree.specs.Frames.{frame_of};
-ghost use Rattle.rule_spec.specs.Rules as rules;
-ghost use Rattle.rule_spec.specs.Sides as sides;
-ghost use Rattle.rule_terms.specs.Openings.{IsOpening, IsOpeningIn};
-ghost use Rattle.rule_terms.specs.Seen.{IsSeen};
-ghost use Rattle.rule_terms.specs.Ways.{IsSight};
-ghost use Rattle.rule_terms.specs.Which.{test_of};
+ghost use Rattle.sim_rules_spec.specs.Rules as rules;
+ghost use Rattle.sim_rules_spec.specs.Sides as sides;
+ghost use Rattle.sim_rules_terms.specs.Openings.{IsOpening, IsOpeningIn};
+ghost use Rattle.sim_rules_terms.specs.Seen.{IsSeen};
+ghost use Rattle.sim_rules_terms.specs.Ways.{IsSight};
+ghost use Rattle.sim_rules_terms.specs.Which.{test_of};
 ghost use Rattle.sim_rules.specs.Held.{HasAdded};
 ghost use Rattle.sim_rules.specs.Terms.{conjunction, denial, first_for, first_test};
 ghost use Rattle.sim_rules.specs.Terms.{main_seen, never_if, premises_if};
@@ -20,7 +20,7 @@ use crate::plan::{Walking, plan_of};
 use crate::setup::Setup;
 use crate::side::Side;
 use attempt::attempt;
-use rule_terms::{Sight, Which, bounded_premises, either, negation, premises};
+use sim_rules_terms::{Sight, Which, bounded_premises, either, negation, premises};
 use std::alloc::{AllocError, Global};
 use term_bank::{Bank, TermId};
 

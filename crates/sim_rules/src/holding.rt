@@ -2,17 +2,17 @@
 
 ghost use Rattle.std.specs.Prelude.{◌≡◌, ◌++◌, ◌∷◌, [], ◌<◌, length, OnOk};
 ghost use Rattle.std.specs.HashMap.{get};
-ghost use Rattle.term_spec.specs.Same.{same_variable};
-ghost use Rattle.term_spec.specs.Substitution.{State as Terms};
-ghost use Rattle.term_spec.specs.Term as tree;
+ghost use Rattle.term_core_spec.specs.Same.{same_variable};
+ghost use Rattle.term_core_spec.specs.Substitution.{State as Terms};
+ghost use Rattle.term_core_spec.specs.Term as tree;
 ghost use Rattle.term_bank.specs.Nodes.{Extends, Holds};
 ghost use Rattle.term_substitution.specs.States.{AreBelow, IsAt};
 ghost use Rattle.path_cond.specs.States.{IsMapOf};
 ghost use Rattle.proof_tree.specs.Frames.{hold_of, terms_of};
-ghost use Rattle.rule_spec.specs.Rules as rules;
-ghost use Rattle.rule_spec.specs.Sides as sides;
-ghost use Rattle.rule_terms.specs.Openings.{IsOpeningIn};
-ghost use Rattle.rule_terms.specs.Ways.{IsSight};
+ghost use Rattle.sim_rules_spec.specs.Rules as rules;
+ghost use Rattle.sim_rules_spec.specs.Sides as sides;
+ghost use Rattle.sim_rules_terms.specs.Openings.{IsOpeningIn};
+ghost use Rattle.sim_rules_terms.specs.Ways.{IsSight};
 ghost use Rattle.sim_rules.specs.Compared.{Compared, held_there};
 ghost use Rattle.sim_rules.specs.Held.{HasAdded};
 ghost use Rattle.sim_rules.specs.Setups.{IsSetupOver};
@@ -21,11 +21,11 @@ ghost use Rattle.sim_rules.specs.Terms.{held_terms};
 use crate::setup::Setup;
 use attempt::attempt;
 use proof_tree::Hold;
-use rule_terms::{Known, Sight, Which, either, relation};
+use sim_rules_terms::{Known, Sight, Which, either, relation};
 use std::alloc::{AllocError, Global};
 use term_bank::{Bank, TermId};
 use term_core::Term;
-use visit_spec::Mark;
+use visit_walk_spec::Mark;
 
 // Under what may be used, a relation holds, with the source where it starts.
 fn related(

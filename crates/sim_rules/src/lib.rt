@@ -1,11 +1,13 @@
 //! The obligations of the rules of a proof: what is left to show, as terms of a bank.
 //!
-//! [`obligations`] gives exactly the terms of `rule_spec` (`specs/Obligations.antt` there), in
+//! [`obligations`] gives exactly the terms of `sim_rules_spec` (`specs/Obligations.antt` there), in
 //! their order, or why there are none ([`RuleFault`]). That valid obligations give the simulation
-//! of a frame is said by `rule_spec::laws`.
-
+//! of a frame is said by `sim_rules_spec::laws`. [`cut_to`] makes the shapes in which walks end at
+//! each node that doesn't lead to a point, by one search backwards from the point, in time linear
+//! in the graph; what they are is said by `IsCutTo` of `sim_rules_spec` (`specs/Sides.antt`).
 #![tactic(auto)]
 
+mod cut;
 mod denied;
 mod fault;
 mod holding;
@@ -13,14 +15,17 @@ mod marks;
 mod plan;
 mod point;
 mod rule;
+mod search;
 mod setup;
 mod side;
 mod stops;
+mod table;
 mod terms;
 mod walked;
 mod ways;
 mod whole;
 
+pub use cut::cut_to;
 pub use fault::RuleFault;
 pub use rule::{Rule, obligations};
 pub use setup::Setup;

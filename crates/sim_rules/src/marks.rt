@@ -2,16 +2,16 @@
 
 ghost use Rattle.std.specs.Prelude.{◌≡◌, ◌++◌, [], map, IfOk, OnOk};
 ghost use Rattle.proof_tree.specs.Frames.{stop_of};
-ghost use Rattle.rule_spec.specs.Sides.{visit_mark};
+ghost use Rattle.sim_rules_spec.specs.Sides.{visit_mark};
 ghost use Rattle.sim_rules.specs.Marks.{bound_of, bounds_with, stop_mark, stops_with};
 
 use crate::plan::Change;
 use crate::side::Side;
 use attempt::attempt;
-use proof_spec::Mark;
 use proof_tree::{Goal, Stop};
+use proof_tree_spec::Mark;
 use std::alloc::{AllocError, Global};
-use visit_spec::Mark as Arrival;
+use visit_walk_spec::Mark as Arrival;
 
 /// A mark as a walk has it.
 pub(crate) fn arrival(mark: Mark) -> Arrival

@@ -4,8 +4,8 @@ ghost use Rattle.std.specs.Prelude.{◌≡◌};
 ghost use Rattle.sim_rules.specs.Plans.{plan_for};
 
 use crate::side::Side;
-use proof_spec::Mark;
 use proof_tree::Hold;
+use proof_tree_spec::Mark;
 
 /// A rule whose obligations are of both sides' walks.
 #[derive(Clone, Copy)]

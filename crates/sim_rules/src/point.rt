@@ -1,14 +1,14 @@
 //! A point where both sides may stop, and what a Leaf leaves to show there.
 
 ghost use Rattle.std.specs.Prelude.{◌≡◌, ◌<◌, ◌≤◌, List, length};
-ghost use Rattle.term_spec.specs.Term as tree;
+ghost use Rattle.term_core_spec.specs.Term as tree;
 ghost use Rattle.term_core.specs.Trees.{term_of};
 ghost use Rattle.term_bank.specs.Nodes.{Extends, Holds};
 ghost use Rattle.term_substitution.specs.States.{IsAt, IsFound};
 ghost use Rattle.proof_tree.specs.Frames.{goal_of, terms_of};
-ghost use Rattle.visit_spec.specs.Visits.{Visit};
-ghost use Rattle.rule_spec.specs.Rules as rules;
-ghost use Rattle.rule_spec.specs.Sides as sides;
+ghost use Rattle.visit_walk_spec.specs.Visits.{Visit};
+ghost use Rattle.sim_rules_spec.specs.Rules as rules;
+ghost use Rattle.sim_rules_spec.specs.Sides as sides;
 ghost use Rattle.sim_rules.specs.Compared as over;
 ghost use Rattle.sim_rules.specs.Compared.{Compared};
 ghost use Rattle.sim_rules.specs.Stops.{ArePartsIn, CanMeet, IsMeeting, IsMet, binary_visits};
@@ -18,7 +18,7 @@ use crate::marks::goal_arrival;
 use crate::side::Side;
 use attempt::attempt;
 use proof_tree::Goal;
-use rule_terms::{Part, Sight, Which, both, either, implication, relation, truth};
+use sim_rules_terms::{Part, Sight, Which, both, either, implication, relation, truth};
 use std::alloc::{AllocError, Global};
 use term_bank::{Bank, TermId};
 use term_core::Term;

@@ -1,7 +1,7 @@
 //! What the rules of a proof are applied to.
 
 use proof_tree::Frame;
-use rule_terms::{Convention, Opening};
+use sim_rules_terms::{Convention, Opening};
 
 /// A frame, with what its obligations speak of.
 #[derive(Clone, Copy)]

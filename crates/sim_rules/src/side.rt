@@ -4,8 +4,8 @@ ghost use Rattle.sim_rules.specs.Sides.{IsOneSide};
 
 use crate::setup::Setup;
 use graph_core::GraphRun;
-use proof_spec::Mark;
-use rule_terms::Known;
+use proof_tree_spec::Mark;
+use sim_rules_terms::Known;
 
 /// Which side.
 #[derive(Clone, Copy)]

@@ -1,11 +1,11 @@
 //! What a Leaf leaves to show at its stops.
 
 ghost use Rattle.std.specs.Prelude.{◌≡◌, ◌∷◌, [], OnOk, map};
-ghost use Rattle.term_spec.specs.Term as tree;
+ghost use Rattle.term_core_spec.specs.Term as tree;
 ghost use Rattle.term_bank.specs.Nodes.{Extends};
 ghost use Rattle.proof_tree.specs.Frames.{frame_of, goal_of};
-ghost use Rattle.rule_spec.specs.Rules as rules;
-ghost use Rattle.rule_spec.specs.Sides as sides;
+ghost use Rattle.sim_rules_spec.specs.Rules as rules;
+ghost use Rattle.sim_rules_spec.specs.Sides as sides;
 ghost use Rattle.sim_rules.specs.Compared as over;
 ghost use Rattle.sim_rules.specs.Compared.{AreCompared, Compared};
 ghost use Rattle.sim_rules.specs.Held.{HasAdded};
@@ -17,7 +17,7 @@ use crate::point::{Claim, Meeting, Point, goal_point, shown};
 use crate::setup::Setup;
 use attempt::attempt;
 use proof_tree::Goal;
-use rule_terms::Which;
+use sim_rules_terms::Which;
 use std::alloc::{AllocError, Global};
 use term_bank::{Bank, TermId};
 

@@ -1,14 +1,14 @@
 //! What a rule leaves to show of both sides' visits.
 
 ghost use Rattle.std.specs.Prelude.{◌≡◌, [], ◌<◌, List, length, OnOk};
-ghost use Rattle.term_spec.specs.Term as tree;
+ghost use Rattle.term_core_spec.specs.Term as tree;
 ghost use Rattle.term_bank.specs.Nodes.{Extends, Holds};
 ghost use Rattle.proof_tree.specs.Frames.{frame_of};
-ghost use Rattle.rule_spec.specs.Rules as rules;
-ghost use Rattle.rule_terms.specs.Openings.{IsOpeningIn};
-ghost use Rattle.rule_terms.specs.Seen.{IsSeen};
+ghost use Rattle.sim_rules_spec.specs.Rules as rules;
+ghost use Rattle.sim_rules_terms.specs.Openings.{IsOpeningIn};
+ghost use Rattle.sim_rules_terms.specs.Seen.{IsSeen};
 ghost use Rattle.sim_rules.specs.Compared.{AreCompared, Compared};
-ghost use Rattle.rule_terms.specs.Held.{AreHeld};
+ghost use Rattle.sim_rules_terms.specs.Held.{AreHeld};
 ghost use Rattle.sim_rules.specs.Held.{HasAdded};
 ghost use Rattle.sim_rules.specs.Setups.{IsSetupOver};
 ghost use Rattle.sim_rules.specs.Stops.{CanMeetIf, IsMeetingIf};
@@ -21,7 +21,7 @@ use crate::point::Meeting;
 use crate::setup::Setup;
 use crate::stops::add_met;
 use attempt::attempt;
-use rule_terms::Sight;
+use sim_rules_terms::Sight;
 use std::alloc::{AllocError, Global};
 use term_bank::{Bank, TermId};
 

@@ -2,16 +2,16 @@
 
 ghost use Rattle.std.specs.Prelude.{ℕ, IfOk, List};
 ghost use Rattle.term_bank.specs.Nodes.{Extends};
-ghost use Rattle.term_spec.specs.Term as tree;
-ghost use Rattle.rule_spec.specs.Sides as sides;
-ghost use Rattle.rule_terms.specs.Seen.{IsSeen};
-ghost use Rattle.rule_terms.specs.Ways.{IsWay};
+ghost use Rattle.term_core_spec.specs.Term as tree;
+ghost use Rattle.sim_rules_spec.specs.Sides as sides;
+ghost use Rattle.sim_rules_terms.specs.Seen.{IsSeen};
+ghost use Rattle.sim_rules_terms.specs.Ways.{IsWay};
 ghost use Rattle.sim_rules.specs.Faults.{IsOutcome};
 ghost use Rattle.sim_rules.specs.Walks.{AreFoundIf, IsWalked, seen_by};
 
 use attempt::attempt;
 use path_cond::Conditions;
-use rule_terms::{Sight, Way, conditions_of};
+use sim_rules_terms::{Sight, Way, conditions_of};
 use std::alloc::{AllocError, Global};
 use term_bank::Bank;
 use visit_walk::{Visits, WalkFault};

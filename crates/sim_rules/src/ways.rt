@@ -2,22 +2,22 @@
 
 ghost use Rattle.std.specs.Prelude.{◌≡◌, IfOk};
 ghost use Rattle.graph_core.specs.Graphs.{graph_of};
-ghost use Rattle.graph_spec.specs.Graph as nodes;
-ghost use Rattle.proof_spec.specs.Frames as frames;
+ghost use Rattle.graph_core_spec.specs.Graph as nodes;
+ghost use Rattle.proof_tree_spec.specs.Frames as frames;
 ghost use Rattle.proof_tree.specs.Frames.{side_of};
-ghost use Rattle.rule_spec.specs.Sides as sides;
+ghost use Rattle.sim_rules_spec.specs.Sides as sides;
 ghost use Rattle.sim_rules.specs.Made.{IsMade, IsShapeFor};
 
+use crate::cut_to;
 use crate::marks::{bounds_of, stops_of};
 use crate::plan::Change;
 use crate::setup::Setup;
 use crate::side::{Side, one_side};
 use attempt::attempt;
 use graph_core::{Graph, GraphRun};
-use rule_terms::Way;
+use sim_rules_terms::Way;
 use std::alloc::{AllocError, Global};
 use visit_walk::Shape;
-use walk_cut::cut_to;
 
 // The graph that a side runs; where there is none, one without nodes.
 fn graph_at<'a>(run: &GraphRun<'a>, empty: &'a Graph) -> &'a Graph

@@ -3,7 +3,7 @@ use Rattle.std.proofs.Common.{◌≡◌, true, sym, ap, eqb-true}
 use mathlib.Core.Bool.{true≢false}
 use Rattle.std.specs.Prelude.{◌==◌}
 use Rattle.std.proofs.lemmas.Bool.{and_parts}
-use Rattle.term_spec.proofs.Same.{atom-same, unary-same, binary-same, ternary-same, quaternary-same}
+use Rattle.term_core_spec.proofs.Same.{atom-same, unary-same, binary-same, ternary-same, quaternary-same}
 use Rattle.term_bank.specs.declared.node.TermNode.{TermNode}
 use Rattle.term_bank.specs.declared.node.TermNode.TheVariants.{Leaf, Unary, Binary, Ternary, Quaternary, Octonary}
 use Rattle.term_bank.specs.contracts.node.TermNodePartialEq.TheImpl as node_test

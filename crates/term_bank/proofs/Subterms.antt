@@ -5,13 +5,13 @@ use Rattle.std.specs.List.{list_any, IsDistinct, AllByRecursion}
 use Rattle.std.proofs.lemmas.List.Folds.{list_any-append}
 use Rattle.std.proofs.lemmas.Bool.{le-leb, lt-leb, eqb-false}
 use Rattle.std.proofs.lemmas.Option.{same_Some, slice_get_within, slice_get-get_or, get_or_from_slice_get}
-use Rattle.term_spec.specs.declared.Atom.TheVariants as atom
-use Rattle.term_spec.specs.Term as tree
-use Rattle.term_spec.specs.Term.{Term}
-use Rattle.term_spec.specs.Same.{same_term}
-use Rattle.term_spec.specs.Subterms.{subterms, subterm_count, arguments, IsIn, IsClosed, up_to}
-use Rattle.term_spec.proofs.Same.{same_is, same_itself}
-use Rattle.term_spec.proofs.Subterms.{there, subterms-closed, count_le, le_count}
+use Rattle.term_core_spec.specs.declared.Atom.TheVariants as atom
+use Rattle.term_core_spec.specs.Term as tree
+use Rattle.term_core_spec.specs.Term.{Term}
+use Rattle.term_core_spec.specs.Same.{same_term}
+use Rattle.term_core_spec.specs.Subterms.{subterms, subterm_count, arguments, IsIn, IsClosed, up_to}
+use Rattle.term_core_spec.proofs.Same.{same_is, same_itself}
+use Rattle.term_core_spec.proofs.Subterms.{there, subterms-closed, count_le, le_count}
 use Rattle.term_bank.specs.declared.node.TermNode.{TermNode}
 use Rattle.term_bank.specs.declared.node.TermNode.TheVariants.{Leaf, Unary, Binary, Ternary, Quaternary, Octonary}
 use Rattle.term_bank.specs.Nodes.{IsNode, tree_at, build, Holds, AreDistinct}

@@ -1,11 +1,11 @@
 -- Nodes, whose arguments are indices in a list of trees, and the trees that they build.
 use Rattle.std.specs.Prelude.{◌≡◌, ℕ, ◌<◌, false, List, [], ◌∷◌, ◌++◌, get_or, slice_get, Some}
-use Rattle.term_spec.specs.declared.Atom.TheVariants as atom
-use Rattle.term_spec.specs.Term as tree
-use Rattle.term_spec.specs.Term.{Term}
-use Rattle.term_spec.specs.declared.Width.TheVariants.{W64}
-use Rattle.term_spec.specs.Same.{same_term}
-use Rattle.term_spec.specs.Value as spec
+use Rattle.term_core_spec.specs.declared.Atom.TheVariants as atom
+use Rattle.term_core_spec.specs.Term as tree
+use Rattle.term_core_spec.specs.Term.{Term}
+use Rattle.term_core_spec.specs.declared.Width.TheVariants.{W64}
+use Rattle.term_core_spec.specs.Same.{same_term}
+use Rattle.term_core_spec.specs.Value as spec
 use Rattle.indexmap.specs.IndexSet.{insert_key}
 use Rattle.term_bank.specs.declared.node.TermNode.{TermNode}
 use Rattle.term_bank.specs.declared.node.TermNode.TheVariants.{Leaf, Unary, Binary, Ternary, Quaternary, Octonary}

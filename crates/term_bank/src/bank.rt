@@ -1,8 +1,8 @@
 ghost use Rattle.std.specs.Prelude.{◌≡◌, ◌<◌, ◌≤◌, [], length, map, IfOk, OnOk, OnErr};
-ghost use Rattle.term_spec.specs.Value.{value};
+ghost use Rattle.term_core_spec.specs.Value.{value};
 ghost use Rattle.term_core.specs.Values.{value_of};
 ghost use Rattle.term_core.specs.Assignment.{assignment_of};
-ghost use Rattle.term_spec.specs.Subterms.{subterm_count, up_to};
+ghost use Rattle.term_core_spec.specs.Subterms.{subterm_count, up_to};
 ghost use Rattle.term_bank.specs.Nodes.{IsNode, build, tree_at, Holds, with_tree, Extends};
 ghost use Rattle.term_bank.specs.Nodes.{AreDistinct};
 
@@ -26,8 +26,8 @@ pub struct Bank {
 impl Model for Bank {
     ghost use Rattle.std.specs.Prelude.{List, []};
     ghost use Rattle.std.specs.Coded.{coded_list};
-    ghost use Rattle.term_spec.specs.Term.{Term};
-    ghost use Rattle.term_spec.specs.Coded.{term_code};
+    ghost use Rattle.term_core_spec.specs.Term.{Term};
+    ghost use Rattle.term_core_spec.specs.Coded.{term_code};
 
     ghost Value = { List Term };
 

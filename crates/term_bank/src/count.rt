@@ -1,7 +1,7 @@
 // How many distinct subterms a term of a bank has.
 
 ghost use Rattle.std.specs.Prelude.{◌≡◌, ◌<◌, ◌≤◌, [], ◌∷◌, length, IfOk, OnOk};
-ghost use Rattle.term_spec.specs.Subterms.{subterm_count, up_to};
+ghost use Rattle.term_core_spec.specs.Subterms.{subterm_count, up_to};
 ghost use Rattle.term_bank.specs.Nodes.{tree_at};
 ghost use Rattle.term_bank.specs.Subterms.{with_ids, arguments_of};
 

@@ -1,7 +1,7 @@
 // The values of the terms of a bank.
 
 ghost use Rattle.std.specs.Prelude.{◌≡◌, ◌<◌, ℕ, length, map, slice_get, Some, IfOk};
-ghost use Rattle.term_spec.specs.Value as spec;
+ghost use Rattle.term_core_spec.specs.Value as spec;
 ghost use Rattle.term_core.specs.Values.{value_of};
 ghost use Rattle.term_core.specs.Assignment.{assignment_of};
 ghost use Rattle.term_bank.specs.Nodes.{IsNode, node_value, value_at};

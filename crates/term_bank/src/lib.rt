@@ -1,5 +1,5 @@
 //! Hash-consed terms: each term once. A contract sees a [`Bank`] as the list of its trees
-//! (`term_spec`, `specs/Term.antt`), arguments before their term, and a [`TermId`] as an index
+//! (`term_core_spec`, `specs/Term.antt`), arguments before their term, and a [`TermId`] as an index
 //! in it. [`Bank::add`] adds the tree of a [`TermNode`] (`build` of `specs/Nodes.antt`);
 //! `eval_all` gives the value of each tree, `count_subterms` how many distinct subterms one has.
 

@@ -1,6 +1,6 @@
 // Nodes of terms.
 
-use term_spec::{Atom, BinaryOperator, QuaternaryOperator, TernaryOperator, UnaryOperator};
+use term_core_spec::{Atom, BinaryOperator, QuaternaryOperator, TernaryOperator, UnaryOperator};
 
 /// A term by its operator and the indices of its arguments in a bank.
 #[derive(Clone, Copy, PartialEq, Eq, Hash, Debug)]

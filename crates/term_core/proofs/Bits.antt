@@ -3,7 +3,7 @@ use Rattle.std.proofs.Common.{◌≡◌, ℕ, ◌-◌, ◌*◌, ◌/◌, ◌^◌
 use Rattle.std.proofs.lemmas.Nat.{pow_pos}
 use Rattle.std.proofs.lemmas.Nat.Bits.{ones_shr}
 use Rattle.std.proofs.Math.Nat.{pow-le-pow_right, div-eq_of_lt}
-use Rattle.term_spec.specs.Value.{low_bits}
+use Rattle.term_core_spec.specs.Value.{low_bits}
 
 pub ones_from_top : (w k ones : ℕ) → ones ≡ 2 ^ w - 1 → k < w → ones - ones / 2 ^ k ≡ 2 ^ w - 2 ^ (w - k)
 ones_from_top w k ones e below =

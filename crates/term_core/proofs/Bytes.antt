@@ -1,8 +1,8 @@
 -- The number of four bytes and of those above them.
 use Rattle.std.proofs.Common.{◌≡◌, ℕ, ◌+◌, ◌*◌, ◌^◌, List, [], ◌∷◌, Option, Some, None, option_map, option_and_then, refl, ap, arith}
-use Rattle.term_spec.specs.declared.Width.{Width}
-use Rattle.term_spec.specs.declared.Width.TheVariants.{W64}
-use Rattle.term_spec.specs.Value.{Value, byte_of, number_of_bytes, word_or_stray, joined}
+use Rattle.term_core_spec.specs.declared.Width.{Width}
+use Rattle.term_core_spec.specs.declared.Width.TheVariants.{W64}
+use Rattle.term_core_spec.specs.Value.{Value, byte_of, number_of_bytes, word_or_stray, joined}
 use Rattle.term_core.specs.Values.{four_more}
 
 -- one byte, and those above it

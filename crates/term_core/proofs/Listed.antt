@@ -3,12 +3,12 @@ use Rattle.std.proofs.Common.{◌≡◌, ◌^◌, Bool, true, false, cond, Optio
 use Rattle.std.specs.Prelude.{nat_lt}
 use Rattle.std.proofs.lemmas.Bool.{and_parts, ltb-true}
 use Rattle.std.proofs.lemmas.Nat.{pow_pos, mod_below}
-use Rattle.term_spec.specs.declared.Sort.{Sort}
-use Rattle.term_spec.specs.declared.Sort.TheVariants as sort
-use Rattle.term_spec.specs.Sort.{bits, same_width}
-use Rattle.term_spec.specs.Value as spec
-use Rattle.term_spec.proofs.Sorts.{same_width-true}
-use Rattle.term_spec.proofs.Words.{cond-below}
+use Rattle.term_core_spec.specs.declared.Sort.{Sort}
+use Rattle.term_core_spec.specs.declared.Sort.TheVariants as sort
+use Rattle.term_core_spec.specs.Sort.{bits, same_width}
+use Rattle.term_core_spec.specs.Value as spec
+use Rattle.term_core_spec.proofs.Sorts.{same_width-true}
+use Rattle.term_core_spec.proofs.Words.{cond-below}
 use Rattle.term_core.specs.declared.value.Value.{Value}
 use Rattle.term_core.specs.declared.value.Value.TheVariants.{Truth, Number, Bytes}
 use Rattle.term_core.specs.Values.{value_of}

@@ -3,7 +3,7 @@ use Rattle.std.proofs.Common.{◌≡◌, ℕ, ◌+◌, ◌-◌, ◌*◌, ◌^◌
 use Rattle.std.specs.Prelude.{◌==◌, ◌&&◌, nat_lt, nat_le}
 use Rattle.std.proofs.lemmas.Bool.{ltb-true, ltb-false, lt-ltb, le-ltb, eqb-true, eq-eqb, leb-true, le-leb, and_parts}
 use Rattle.std.proofs.lemmas.Nat.{pow-add}
-use Rattle.term_spec.specs.Value.{with_byte, overlaid}
+use Rattle.term_core_spec.specs.Value.{with_byte, overlaid}
 
 -- twice as many addresses as each half has
 pub two_halves : (depth : ℕ) → 0 < depth → 2 ^ depth ≡ 2 * 2 ^ (depth - 1)

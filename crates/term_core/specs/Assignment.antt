@@ -1,11 +1,11 @@
 -- The values that an assignment of the code gives the variables.
 use Rattle.std.specs.Prelude.{◌^◌, ◌&&◌, Bool, true, false, nat_lt, if◌then◌else◌, Option, Some, None}
 use Rattle.std.specs.HashMap.{get}
-use Rattle.term_spec.specs.declared.Sort.{Sort}
-use Rattle.term_spec.specs.declared.Sort.TheVariants as sort
-use Rattle.term_spec.specs.Sort.{bits, same_width}
-use Rattle.term_spec.specs.Same.{same_variable}
-use Rattle.term_spec.specs.Value as spec
+use Rattle.term_core_spec.specs.declared.Sort.{Sort}
+use Rattle.term_core_spec.specs.declared.Sort.TheVariants as sort
+use Rattle.term_core_spec.specs.Sort.{bits, same_width}
+use Rattle.term_core_spec.specs.Same.{same_variable}
+use Rattle.term_core_spec.specs.Value as spec
 use Rattle.term_core.specs.declared.value.Value.{Value}
 use Rattle.term_core.specs.declared.value.Value.TheVariants.{Truth, Number, Bytes}
 use Rattle.term_core.specs.declared.assignment.Assignment.{Assignment}

@@ -3,7 +3,7 @@ use Rattle.std.specs.Prelude.{ℕ, ◌-◌, ◌^◌, nat_lt, if◌then◌else◌
 use Rattle.term_core.specs.declared.memory.Tree.{Tree}
 use Rattle.term_core.specs.declared.memory.Tree.TheVariants.{All, Fork'}
 use Rattle.term_core.specs.declared.memory.Memory.{Memory}
-use Rattle.term_spec.specs.Value.{low_bits}
+use Rattle.term_core_spec.specs.Value.{low_bits}
 
 -- the byte at an address of `depth` bits: the highest bit gives the half
 unfoldable pub byte_in : Tree → (depth : ℕ) → ℕ → ℕ

@@ -1,5 +1,5 @@
 -- The trees of the code without their pointers.
-use Rattle.term_spec.specs.Term as term
+use Rattle.term_core_spec.specs.Term as term
 use Rattle.term_core.specs.declared.term.Term.{Term}
 use Rattle.term_core.specs.declared.term.Term.TheVariants.{Leaf, Unary', Binary', Ternary', Quaternary', Octonary'}
 

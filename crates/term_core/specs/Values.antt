@@ -3,7 +3,7 @@
 use Rattle.std.specs.Prelude.{ℕ, ◌+◌, ◌*◌, ◌^◌, Option, option_map, option_and_then}
 use Rattle.term_core.specs.declared.value.Value.{Value}
 use Rattle.term_core.specs.declared.value.Value.TheVariants.{Truth, Number, Bytes}
-use Rattle.term_spec.specs.Value as spec
+use Rattle.term_core_spec.specs.Value as spec
 use Rattle.term_core.specs.Memory.{bytes_of}
 
 abbrev pub value_of : Value → spec.Value

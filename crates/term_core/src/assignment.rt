@@ -1,9 +1,9 @@
 // The values of the variables.
 
 ghost use Rattle.std.specs.Prelude.{◌≡◌, IfOk, OnOk, OnErr, Some, if◌then◌else◌};
-ghost use Rattle.term_spec.specs.declared.Variable.{Variable};
-ghost use Rattle.term_spec.specs.Same.{same_variable};
-ghost use Rattle.term_spec.specs.Value as spec;
+ghost use Rattle.term_core_spec.specs.declared.Variable.{Variable};
+ghost use Rattle.term_core_spec.specs.Same.{same_variable};
+ghost use Rattle.term_core_spec.specs.Value as spec;
 ghost use Rattle.term_core.specs.Values.{value_of};
 ghost use Rattle.term_core.specs.Assignment.{assignment_of, default_of, given_or_default};
 ghost use Rattle.term_core.specs.Assignment.{is_of_sort};
@@ -13,7 +13,7 @@ use crate::value::Value;
 use crate::words::{all_ones, bit_count};
 use std::alloc::{AllocError, Global};
 use std::collections::HashMap;
-use term_spec::{Atom, Sort, Variable};
+use term_core_spec::{Atom, Sort, Variable};
 
 /// The values of the variables. A variable for which no value of its sort is listed is false, 0 or
 /// the memory that is 0 everywhere.

@@ -2,14 +2,14 @@
 
 ghost use Rattle.std.specs.Prelude.{◌≡◌, ℕ, Some, List};
 ghost use Rattle.std.specs.List.{IsDistinct};
-ghost use Rattle.term_spec.specs.declared.Sort.{Sort};
-ghost use Rattle.term_spec.specs.declared.Variable.{Variable};
-ghost use Rattle.term_spec.specs.Term.{Term, Occurs, open_term};
-ghost use Rattle.term_spec.specs.Sort.{sort_of};
-ghost use Rattle.term_spec.specs.Same.{same_term};
-ghost use Rattle.term_spec.specs.Value.{Assignment, IsAssignment, IsOfSort, value};
-ghost use Rattle.term_spec.specs.Substitution.{State, substituted, values_of, renamed, at_instance};
-ghost use Rattle.term_spec.specs.Subterms.{subterms, IsIn, IsClosed};
+ghost use Rattle.term_core_spec.specs.declared.Sort.{Sort};
+ghost use Rattle.term_core_spec.specs.declared.Variable.{Variable};
+ghost use Rattle.term_core_spec.specs.Term.{Term, Occurs, open_term};
+ghost use Rattle.term_core_spec.specs.Sort.{sort_of};
+ghost use Rattle.term_core_spec.specs.Same.{same_term};
+ghost use Rattle.term_core_spec.specs.Value.{Assignment, IsAssignment, IsOfSort, value};
+ghost use Rattle.term_core_spec.specs.Substitution.{State, substituted, values_of, renamed, at_instance};
+ghost use Rattle.term_core_spec.specs.Subterms.{subterms, IsIn, IsClosed};
 
 /// The value of a well-sorted term is of its sort.
 pub fn values_are_of_their_sort()

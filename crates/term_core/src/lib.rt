@@ -1,6 +1,6 @@
 //! Terms as trees: their sorts, and their values under an assignment. The main type is [`Term`]; a
 //! clause speaks of its tree without pointers (`term_of` of `specs/Trees.antt`). [`eval`] gives
-//! exactly the value of `term_spec` (`specs/Value.antt` there), [`sort`] exactly the sort. The
+//! exactly the value of `term_core_spec` (`specs/Value.antt` there), [`sort`] exactly the sort. The
 //! functions on operators alone serve terms that are kept in another form; [`laws`] has what holds
 //! of every term.
 

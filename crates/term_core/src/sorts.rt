@@ -1,10 +1,10 @@
 // The sort of an operator at its arguments' sorts.
 
 ghost use Rattle.std.specs.Prelude.{◌≡◌};
-ghost use Rattle.term_spec.specs.Sort as spec;
+ghost use Rattle.term_core_spec.specs.Sort as spec;
 
 use crate::words::{all_ones, bit_count};
-use term_spec::{
+use term_core_spec::{
     Atom, BinaryOperator, QuaternaryOperator, Sort, TernaryOperator, UnaryOperator, Width,
 };
 
@@ -45,7 +45,7 @@ fn sort_if(test: bool, sort: Sort) -> Option<Sort>
 }
 
 /// The sort of a term without arguments.
-#[tactic(auto, unfolding(term_spec::specs::Sort::sort_of_atom))]
+#[tactic(auto, unfolding(term_core_spec::specs::Sort::sort_of_atom))]
 pub fn sort_of_atom(atom: Atom) -> Option<Sort>
     ensures { result ≡ spec.sort_of_atom atom }
 {
@@ -57,7 +57,7 @@ pub fn sort_of_atom(atom: Atom) -> Option<Sort>
 }
 
 /// The sort of an operator with one argument.
-#[tactic(auto, unfolding(term_spec::specs::Sort::sort_of_unary))]
+#[tactic(auto, unfolding(term_core_spec::specs::Sort::sort_of_unary))]
 pub fn sort_of_unary(operator: UnaryOperator, sort: Sort) -> Option<Sort>
     ensures { result ≡ spec.sort_of_unary operator sort }
 {
@@ -74,7 +74,7 @@ pub fn sort_of_unary(operator: UnaryOperator, sort: Sort) -> Option<Sort>
 }
 
 /// The sort of an operator with two arguments.
-#[tactic(auto, unfolding(term_spec::specs::Sort::sort_of_binary))]
+#[tactic(auto, unfolding(term_core_spec::specs::Sort::sort_of_binary))]
 pub fn sort_of_binary(operator: BinaryOperator, first: Sort, second: Sort) -> Option<Sort>
     ensures { result ≡ spec.sort_of_binary operator first second }
 {
@@ -101,7 +101,7 @@ pub fn sort_of_binary(operator: BinaryOperator, first: Sort, second: Sort) -> Op
 }
 
 /// The sort of an operator with three arguments.
-#[tactic(auto, unfolding(term_spec::specs::Sort::sort_of_ternary))]
+#[tactic(auto, unfolding(term_core_spec::specs::Sort::sort_of_ternary))]
 pub fn sort_of_ternary(
     operator: TernaryOperator,
     first: Sort,
@@ -123,7 +123,7 @@ pub fn sort_of_ternary(
 }
 
 /// The sort of an operator with four arguments.
-#[tactic(auto, unfolding(term_spec::specs::Sort::sort_of_quaternary))]
+#[tactic(auto, unfolding(term_core_spec::specs::Sort::sort_of_quaternary))]
 pub fn sort_of_quaternary(
     operator: QuaternaryOperator,
     first: Sort,

@@ -1,9 +1,9 @@
 // Terms as trees, their sorts and their values.
 
 ghost use Rattle.std.specs.Prelude.{◌≡◌, IfOk};
-ghost use Rattle.term_spec.specs.Sort as spec_sort;
-ghost use Rattle.term_spec.specs.Term as tree;
-ghost use Rattle.term_spec.specs.Value as spec;
+ghost use Rattle.term_core_spec.specs.Sort as spec_sort;
+ghost use Rattle.term_core_spec.specs.Term as tree;
+ghost use Rattle.term_core_spec.specs.Value as spec;
 ghost use Rattle.term_core.specs.Trees.{term_of};
 ghost use Rattle.term_core.specs.Values.{value_of};
 ghost use Rattle.term_core.specs.Assignment.{assignment_of};
@@ -16,7 +16,7 @@ use crate::sorts::{
 use crate::value::{Value, binary, byte_of, octonary, quaternary, ternary, unary};
 use attempt::attempt;
 use std::alloc::{AllocError, Global};
-use term_spec::{
+use term_core_spec::{
     Atom, BinaryOperator, QuaternaryOperator, Sort, TernaryOperator, UnaryOperator, Width,
 };
 
@@ -221,7 +221,7 @@ fn sort_with_four(
 }
 
 /// The sort of a term, or none where it is not well sorted.
-#[tactic(auto, unfolding(term_spec::specs::Sort::sort_of))]
+#[tactic(auto, unfolding(term_core_spec::specs::Sort::sort_of))]
 pub fn sort(term: &Term) -> Option<Sort>
     ensures { result ≡ spec_sort.sort_of (term_of term.now) }
 {
@@ -283,7 +283,7 @@ fn two_bytes(
 }
 
 // The value of a term, in a box.
-#[tactic(auto, unfolding(term_spec::specs::Value::value))]
+#[tactic(auto, unfolding(term_core_spec::specs::Value::value))]
 fn evaluate(alloc: Global, term: &Term, assignment: &Assignment) -> Result<Box<Value>, AllocError>
     ensures { IfOk result (λ v. value_of v.value
         ≡ spec.value (assignment_of assignment.now) (term_of term.now)) }

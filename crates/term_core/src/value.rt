@@ -2,8 +2,8 @@
 
 ghost use Rattle.std.specs.Prelude.{◌≡◌, ℕ, ◌+◌, ◌*◌, ◌^◌, [], ◌∷◌, IfSome, ◌<◌, ◌&&◌, ◌||◌, ◌++◌};
 ghost use Rattle.std.specs.Prelude.{nat_lt, if◌then◌else◌, IfOk, option_map};
-ghost use Rattle.term_spec.specs.Sort.{bits};
-ghost use Rattle.term_spec.specs.Value as spec;
+ghost use Rattle.term_core_spec.specs.Sort.{bits};
+ghost use Rattle.term_core_spec.specs.Value as spec;
 ghost use Rattle.term_core.specs.Memory.{bytes_of};
 ghost use Rattle.term_core.specs.Values.{value_of, four_more};
 
@@ -11,7 +11,7 @@ use crate::memory::Memory;
 use crate::words::{all_ones, bit_count, byte_at, extended_with_sign, low_bits, operate};
 use attempt::attempt;
 use std::alloc::AllocError;
-use term_spec::{
+use term_core_spec::{
     BinaryOperator, QuaternaryOperator, TernaryOperator, UnaryOperator, Width, WordOperator,
 };
 
@@ -47,7 +47,7 @@ fn stray() -> Value
 }
 
 /// What an operator gives at one value.
-#[tactic(auto, unfolding(term_spec::specs::Value::unary_value))]
+#[tactic(auto, unfolding(term_core_spec::specs::Value::unary_value))]
 pub fn unary(operator: UnaryOperator, value: &Value) -> Value
     ensures { value_of result ≡ spec.unary_value operator (value_of value.now) }
 {
@@ -58,7 +58,7 @@ pub fn unary(operator: UnaryOperator, value: &Value) -> Value
     }
 }
 
-#[tactic(auto, unfolding(term_spec::specs::Value::unary_value))]
+#[tactic(auto, unfolding(term_core_spec::specs::Value::unary_value))]
 fn on_truth(operator: UnaryOperator, truth: bool) -> Value
     ensures { value_of result ≡ spec.unary_value operator (spec.Truth truth) }
 {
@@ -68,7 +68,7 @@ fn on_truth(operator: UnaryOperator, truth: bool) -> Value
     }
 }
 
-#[tactic(auto, unfolding(term_spec::specs::Value::unary_value))]
+#[tactic(auto, unfolding(term_core_spec::specs::Value::unary_value))]
 fn on_word(operator: UnaryOperator, width: Width, number: u64) -> Value
     ensures { value_of result ≡ spec.unary_value operator (spec.Number width number) }
 {
@@ -203,7 +203,7 @@ fn either(first: &Value, second: &Value) -> Value
 }
 
 /// What an operator gives at two values.
-#[tactic(auto, unfolding(term_spec::specs::Value::binary_value))]
+#[tactic(auto, unfolding(term_core_spec::specs::Value::binary_value))]
 pub fn binary(operator: BinaryOperator, first: &Value, second: &Value) -> Value
     ensures { value_of result ≡ spec.binary_value operator (value_of first.now)
         (value_of second.now) }
@@ -253,7 +253,7 @@ fn choose(test: &Value, first: &Value, second: &Value) -> Result<Value, AllocErr
 }
 
 /// What an operator gives at three values.
-#[tactic(auto, unfolding(term_spec::specs::Value::ternary_value))]
+#[tactic(auto, unfolding(term_core_spec::specs::Value::ternary_value))]
 pub fn ternary(
     operator: TernaryOperator,
     first: &Value,
@@ -288,7 +288,7 @@ fn over(memory: &Memory, zone: &Value, low: &Value, high: &Value) -> Result<Valu
 }
 
 /// What an operator gives at four values.
-#[tactic(auto, unfolding(term_spec::specs::Value::quaternary_value))]
+#[tactic(auto, unfolding(term_core_spec::specs::Value::quaternary_value))]
 pub fn quaternary(
     operator: QuaternaryOperator,
     first: &Value,

@@ -2,11 +2,11 @@
 
 ghost use Rattle.std.specs.Prelude.{◌≡◌, ◌+◌, ◌-◌, ◌*◌, ◌/◌, ◌%◌, ◌^◌, ◌==◌, ◌<◌, ◌≤◌};
 ghost use Rattle.std.specs.Prelude.{if◌then◌else◌, nat_lt};
-ghost use Rattle.term_spec.specs.Sort.{bits};
-ghost use Rattle.term_spec.specs.Value.{low_bits, is_negative, ones_if, shifted_with_sign};
-ghost use Rattle.term_spec.specs.Value.{operation};
+ghost use Rattle.term_core_spec.specs.Sort.{bits};
+ghost use Rattle.term_core_spec.specs.Value.{low_bits, is_negative, ones_if, shifted_with_sign};
+ghost use Rattle.term_core_spec.specs.Value.{operation};
 
-use term_spec::{Width, WordOperator};
+use term_core_spec::{Width, WordOperator};
 
 /// How many bits a word of the width has.
 pub fn bit_count(width: Width) -> u32
@@ -158,7 +158,7 @@ fn rest(a: u64, b: u64) -> u64
 }
 
 /// What an operation gives at two words of the width.
-#[tactic(auto, unfolding(term_spec::specs::Value::operation))]
+#[tactic(auto, unfolding(term_core_spec::specs::Value::operation))]
 pub fn operate(operator: WordOperator, width: Width, a: u64, b: u64) -> u64
     ensures { result ≡ operation operator (bits width) a b }
 {

@@ -1,17 +1,17 @@
 -- A tree that is the normal form of a term has its sort, and its value wherever the fixed bytes are held.
 use Rattle.std.proofs.Common.{◌≡◌, ◌^◌, ◌<◌, List, Some, refl, ap, subst, ◌∙◌}
-use Rattle.term_spec.specs.declared.Sort.{Sort}
-use Rattle.term_spec.specs.declared.Sort.TheVariants as sort
-use Rattle.term_spec.specs.declared.Family.TheVariants as family
-use Rattle.term_spec.specs.declared.Variable.{Variable}
-use Rattle.term_spec.specs.Term.{Term}
-use Rattle.term_spec.specs.Sort.{sort_of}
-use Rattle.term_spec.specs.Value.{Assignment, IsAssignment, value}
-use Rattle.term_spec.proofs.Soundness.{at_memory}
+use Rattle.term_core_spec.specs.declared.Sort.{Sort}
+use Rattle.term_core_spec.specs.declared.Sort.TheVariants as sort
+use Rattle.term_core_spec.specs.declared.Family.TheVariants as family
+use Rattle.term_core_spec.specs.declared.Variable.{Variable}
+use Rattle.term_core_spec.specs.Term.{Term}
+use Rattle.term_core_spec.specs.Sort.{sort_of}
+use Rattle.term_core_spec.specs.Value.{Assignment, IsAssignment, value}
+use Rattle.term_core_spec.proofs.Soundness.{at_memory}
 use Rattle.memory_spec.specs.Runs.{Run, AreBytes}
-use Rattle.normal_spec.specs.Fixed.{HoldsFixed}
-use Rattle.normal_spec.specs.Normal as spec
-use Rattle.normal_spec.proofs.Soundness.{keeps_normal}
+use Rattle.term_norm_spec.specs.Fixed.{HoldsFixed}
+use Rattle.term_norm_spec.specs.Normal as spec
+use Rattle.term_norm_spec.proofs.Soundness.{keeps_normal}
 
 -- what a memory holds are bytes
 held_bytes : (runs : List Run) (a : Assignment) → IsAssignment a → HoldsFixed runs a → AreBytes runs

@@ -2,21 +2,21 @@
 use Rattle.std.proofs.Common.{◌≡◌, ℕ, ◌<◌, Bool, true, false, ◌&&◌, List, length, Option, Some, None, Result, refl, sym, ap, ◌∙◌, subst, arith}
 use Rattle.std.specs.Prelude.{if◌then◌else◌, IfOk}
 use Rattle.std.proofs.lemmas.Option.{same_Some}
-use Rattle.term_spec.specs.declared.Atom.{Atom}
-use Rattle.term_spec.specs.declared.Width.TheVariants.{W8}
-use Rattle.term_spec.specs.declared.UnaryOperator.{UnaryOperator}
-use Rattle.term_spec.specs.declared.BinaryOperator.{BinaryOperator}
-use Rattle.term_spec.specs.declared.TernaryOperator.{TernaryOperator}
-use Rattle.term_spec.specs.declared.TernaryOperator.TheVariants as ternary
-use Rattle.term_spec.specs.declared.QuaternaryOperator.{QuaternaryOperator}
-use Rattle.term_spec.specs.declared.QuaternaryOperator.TheVariants as quaternary
-use Rattle.term_spec.specs.Term as tree
-use Rattle.term_spec.specs.Term.{Term}
-use Rattle.normal_spec.specs.Fixed as fixed
+use Rattle.term_core_spec.specs.declared.Atom.{Atom}
+use Rattle.term_core_spec.specs.declared.Width.TheVariants.{W8}
+use Rattle.term_core_spec.specs.declared.UnaryOperator.{UnaryOperator}
+use Rattle.term_core_spec.specs.declared.BinaryOperator.{BinaryOperator}
+use Rattle.term_core_spec.specs.declared.TernaryOperator.{TernaryOperator}
+use Rattle.term_core_spec.specs.declared.TernaryOperator.TheVariants as ternary
+use Rattle.term_core_spec.specs.declared.QuaternaryOperator.{QuaternaryOperator}
+use Rattle.term_core_spec.specs.declared.QuaternaryOperator.TheVariants as quaternary
+use Rattle.term_core_spec.specs.Term as tree
+use Rattle.term_core_spec.specs.Term.{Term}
+use Rattle.term_norm_spec.specs.Fixed as fixed
 use Rattle.memory_spec.specs.Runs as fixed_runs
-use Rattle.normal_spec.specs.Normal as spec
-use Rattle.normal_spec.specs.Normal.{normal, normal_load, load_of_variable}
-use Rattle.normal_spec.specs.Patterns as patterns
+use Rattle.term_norm_spec.specs.Normal as spec
+use Rattle.term_norm_spec.specs.Normal.{normal, normal_load, load_of_variable}
+use Rattle.term_norm_spec.specs.Patterns as patterns
 use Rattle.term_bank.specs.declared.node.TermNode.{TermNode}
 use Rattle.term_bank.specs.declared.node.TermNode.TheVariants.{Leaf, Unary, Binary, Ternary, Quaternary, Octonary}
 use Rattle.term_bank.specs.Nodes.{IsNode, tree_at, build, Holds, Extends}

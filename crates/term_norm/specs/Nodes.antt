@@ -1,11 +1,11 @@
 -- Nodes over what a walk made of their arguments, and what they stand for.
 use Rattle.std.specs.Prelude.{◌≡◌, ℕ, List, Option, Some, Result, Ok, Err}
-use Rattle.term_spec.specs.declared.TernaryOperator.TheVariants.{Store, Choose}
-use Rattle.term_spec.specs.declared.QuaternaryOperator.TheVariants.{Over, Join}
-use Rattle.term_spec.specs.Term as tree
-use Rattle.term_spec.specs.Term.{Term}
+use Rattle.term_core_spec.specs.declared.TernaryOperator.TheVariants.{Store, Choose}
+use Rattle.term_core_spec.specs.declared.QuaternaryOperator.TheVariants.{Over, Join}
+use Rattle.term_core_spec.specs.Term as tree
+use Rattle.term_core_spec.specs.Term.{Term}
 use Rattle.memory_spec.specs.Runs.{Run}
-use Rattle.normal_spec.specs.Normal as spec
+use Rattle.term_norm_spec.specs.Normal as spec
 use Rattle.term_bank.specs.declared.node.TermNode.{TermNode}
 use Rattle.term_bank.specs.declared.node.TermNode.TheVariants.{Leaf, Unary, Binary, Ternary, Quaternary, Octonary}
 use Rattle.term_bank.specs.Nodes.{IsNode, tree_at}

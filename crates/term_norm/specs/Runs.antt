@@ -1,9 +1,9 @@
 -- Forms and loads as functions of a term, by the runs of the program.
 use Rattle.std.specs.Prelude.{List}
-use Rattle.term_spec.specs.Term.{Term}
+use Rattle.term_core_spec.specs.Term.{Term}
 use Rattle.memory_spec.specs.declared.Run.{Run}
 use Rattle.memory_spec.specs.Viewed.{runs_of}
-use Rattle.normal_spec.specs.Normal as spec
+use Rattle.term_norm_spec.specs.Normal as spec
 
 -- the load at an address, as a function of the memory
 abbrev pub load_from : List Run → Term → Term → Term

@@ -1,7 +1,7 @@
 -- A walk over the terms below one, each after its arguments: which forms it has made, and that it ends.
 use Rattle.std.specs.Prelude.{◌≡◌, ℕ, zero, suc, ◌+◌, ◌*◌, ◌<◌, ◌≤◌, nat_eq, List, [], ◌∷◌, length, Option, Some, None, is_some, if◌then◌else◌}
 use Rattle.std.specs.HashMap.{get}
-use Rattle.term_spec.specs.Term.{Term}
+use Rattle.term_core_spec.specs.Term.{Term}
 use Rattle.term_bank.specs.Nodes.{tree_at, Holds}
 use Rattle.term_norm.specs.declared.walk.Stop.{Stop}
 use Rattle.term_norm.specs.declared.walk.Stop.TheVariants.{Needs, NoMemory}

@@ -1,11 +1,11 @@
 // The normal form of the terms of a bank.
 
 ghost use Rattle.std.specs.Prelude.{◌≡◌, ◌<◌, ℕ, length, Some, None, IfOk, IfErr};
-ghost use Rattle.term_spec.specs.declared.Sort.{Sort};
-ghost use Rattle.term_spec.specs.Sort.{sort_of};
-ghost use Rattle.term_spec.specs.Value.{Assignment as assignment, IsAssignment, value};
-ghost use Rattle.normal_spec.specs.Fixed.{HoldsFixed};
-ghost use Rattle.normal_spec.specs.Normal as spec;
+ghost use Rattle.term_core_spec.specs.declared.Sort.{Sort};
+ghost use Rattle.term_core_spec.specs.Sort.{sort_of};
+ghost use Rattle.term_core_spec.specs.Value.{Assignment as assignment, IsAssignment, value};
+ghost use Rattle.term_norm_spec.specs.Fixed.{HoldsFixed};
+ghost use Rattle.term_norm_spec.specs.Normal as spec;
 ghost use Rattle.term_bank.specs.Nodes.{IsNode, tree_at, Holds, Extends};
 ghost use Rattle.memory_spec.specs.Viewed.{runs_of};
 ghost use Rattle.term_norm.specs.Runs.{form_with};
@@ -16,16 +16,16 @@ use crate::loads::load;
 use crate::runs::hold_runs;
 use crate::walk::{Stop, Walk};
 use memory_spec::Run;
-use normal_rules::{
+use std::alloc::{AllocError, Global};
+use term_bank::{Bank, TermId, TermNode};
+use term_core_spec::BinaryOperator;
+use term_norm_rules::{
     normal_and, normal_equal, normal_join_two, normal_less, normal_octonary, normal_or,
     normal_quaternary, normal_ternary, normal_unary, normal_word,
 };
-use std::alloc::{AllocError, Global};
-use term_bank::{Bank, TermId, TermNode};
-use term_spec::BinaryOperator;
 
 // An operator with two arguments in normal form.
-#[tactic(auto, unfolding(normal_spec::specs::Normal::normal_binary))]
+#[tactic(auto, unfolding(term_norm_spec::specs::Normal::normal_binary))]
 fn binary(
     alloc: Global,
     bank: &mut Bank,

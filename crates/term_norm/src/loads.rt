@@ -1,8 +1,8 @@
 // The load of a byte from a memory in normal form.
 
 ghost use Rattle.std.specs.Prelude.{◌≡◌, ◌<◌, ℕ, length, None, if◌then◌else◌, ◌&&◌, IfOk, IfErr};
-ghost use Rattle.normal_spec.specs.Normal as spec;
-ghost use Rattle.normal_spec.specs.Patterns as patterns;
+ghost use Rattle.term_norm_spec.specs.Normal as spec;
+ghost use Rattle.term_norm_spec.specs.Patterns as patterns;
 ghost use Rattle.memory_spec.specs.Runs as fixed_runs;
 ghost use Rattle.term_bank.specs.Nodes.{IsNode, tree_at, Holds, Extends};
 ghost use Rattle.memory_spec.specs.Viewed.{runs_of};
@@ -13,13 +13,13 @@ ghost use Rattle.term_norm.specs.Walk.{form_at, IsWalk, IsStop, AreForms};
 use crate::runs::fixed_byte;
 use crate::walk::{Stop, Walk};
 use memory_spec::Run;
-use normal_rules::{
+use std::alloc::{AllocError, Global};
+use term_bank::{Bank, TermId, TermNode};
+use term_core_spec::{BinaryOperator, QuaternaryOperator, TernaryOperator};
+use term_norm_rules::{
     constant_byte, is_constant, is_source_memory, normal_and, normal_choose, normal_equal,
     normal_less, normal_not, number_of,
 };
-use std::alloc::{AllocError, Global};
-use term_bank::{Bank, TermId, TermNode};
-use term_spec::{BinaryOperator, QuaternaryOperator, TernaryOperator};
 
 // Whether it is a memory of the source that is read at a known address.
 fn is_known_place(bank: &Bank, m: TermId, d: TermId) -> bool

@@ -10,7 +10,7 @@ use attempt::attempt;
 use std::alloc::{AllocError, Global};
 use std::collections::HashMap;
 use term_bank::{TermId, TermNode};
-use term_spec::{BinaryOperator, QuaternaryOperator, TernaryOperator, UnaryOperator};
+use term_core_spec::{BinaryOperator, QuaternaryOperator, TernaryOperator, UnaryOperator};
 
 /// Why a term has no form yet.
 #[derive(Clone, Copy)]

@@ -3,12 +3,12 @@
 
 ghost use Rattle.std.specs.Prelude.{◌≡◌};
 ghost use Rattle.std.specs.List.{list_all};
-ghost use Rattle.clause_spec.specs.Clause.{is_of};
+ghost use Rattle.clause_check_spec.specs.Clause.{is_of};
 
 use clause_check::{Literal, Log, StepError};
 use cnf_core::Cnf;
 use row_io::{Out, decimal, split};
-use sat_log::Step;
+use sat_search_analysis::Step;
 use std::alloc::{AllocError, Global};
 
 /// The literal of a variable. Where its number is too large for one it is 0, which no clauses have

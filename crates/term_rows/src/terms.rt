@@ -19,8 +19,8 @@ use std::alloc::{AllocError, Global};
 use std::mem;
 use term_bank::{Bank, TermId, TermNode};
 use term_core::{Assignment, Term, Value, eval, sort};
+use term_core_spec::Atom;
 use term_norm::normal;
-use term_spec::Atom;
 
 /// The bytes that the memories of the source hold.
 const RUNS: [(u32, &[u8]); 4] = [

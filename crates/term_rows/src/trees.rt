@@ -7,7 +7,7 @@
 
 ghost use Rattle.std.specs.Prelude.{◌<◌, length, IfOk};
 ghost use Rattle.std.specs.HashMap.{get};
-ghost use Rattle.term_spec.specs.Same.{same_variable};
+ghost use Rattle.term_core_spec.specs.Same.{same_variable};
 ghost use Rattle.term_substitution.specs.States.{AreBelow};
 
 use crate::Row;
@@ -18,7 +18,7 @@ use row_io::{Out, decimal};
 use std::alloc::{AllocError, Global};
 use std::collections::HashMap;
 use term_bank::{Bank, TermId};
-use term_spec::{Atom, Family, Variable};
+use term_core_spec::{Atom, Family, Variable};
 use term_substitution::{rename, substitute};
 
 /// Writes how many distinct subterms a term has.

@@ -11,7 +11,7 @@ use attempt::attempt;
 use row_io::{decimal, split};
 use std::alloc::AllocError;
 use term_bank::{Bank, TermId, TermNode};
-use term_spec::{
+use term_core_spec::{
     Atom, BinaryOperator, Family, QuaternaryOperator, Sort, TernaryOperator, UnaryOperator,
     Variable, Width, WordOperator,
 };

@@ -4,12 +4,12 @@ use Rattle.std.specs.Prelude.{nat_eq, unwrap_or, IsSome}
 use Rattle.std.specs.Cmp.{nat_eq_equiv}
 use Rattle.std.proofs.lemmas.List.{get_or-take}
 use Rattle.std.proofs.lemmas.Option.{same_Some}
-use Rattle.term_spec.specs.declared.Variable.{Variable}
-use Rattle.term_spec.specs.declared.Atom.{Atom}
-use Rattle.term_spec.specs.declared.Atom.TheVariants as atom
-use Rattle.term_spec.specs.Term as tree
-use Rattle.term_spec.specs.Term.{Term, open_term}
-use Rattle.term_spec.specs.Substitution.{State, substituted, substituted_atom}
+use Rattle.term_core_spec.specs.declared.Variable.{Variable}
+use Rattle.term_core_spec.specs.declared.Atom.{Atom}
+use Rattle.term_core_spec.specs.declared.Atom.TheVariants as atom
+use Rattle.term_core_spec.specs.Term as tree
+use Rattle.term_core_spec.specs.Term.{Term, open_term}
+use Rattle.term_core_spec.specs.Substitution.{State, substituted, substituted_atom}
 use Rattle.term_bank.specs.declared.node.TermNode.{TermNode}
 use Rattle.term_bank.specs.declared.node.TermNode.TheVariants.{Leaf, Unary, Binary, Ternary, Quaternary, Octonary}
 use Rattle.term_bank.specs.Nodes.{IsNode, tree_at, build, Holds, Extends}

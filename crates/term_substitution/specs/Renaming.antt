@@ -1,10 +1,10 @@
 -- Variables of some families that belong to an instance, as a function's own variables do where its call is inlined.
 use Rattle.std.specs.Prelude.{ℕ, Bool, if◌then◌else◌, List}
 use Rattle.std.specs.List.{list_any}
-use Rattle.term_spec.specs.declared.Family.{Family}
-use Rattle.term_spec.specs.declared.Variable.{Variable}
-use Rattle.term_spec.specs.contracts.FamilyPartialEq.TheImpl as family_test
-use Rattle.term_spec.specs.Substitution.{at_instance}
+use Rattle.term_core_spec.specs.declared.Family.{Family}
+use Rattle.term_core_spec.specs.declared.Variable.{Variable}
+use Rattle.term_core_spec.specs.contracts.FamilyPartialEq.TheImpl as family_test
+use Rattle.term_core_spec.specs.Substitution.{at_instance}
 
 -- the variable is of one of the families
 abbrev pub is_own : List Family → Variable → Bool

@@ -1,5 +1,5 @@
 //! Terms with terms of a bank in place of their variables: [`substitute`] gives the index of exactly
-//! the substituted tree of `term_spec` (`specs/Substitution.antt` there), where a state
+//! the substituted tree of `term_core_spec` (`specs/Substitution.antt` there), where a state
 //! ([`Lookup`]) has the index of each variable's term; a variable that has none stays. [`transfer`]
 //! gives the same of a term of another bank, each subterm once; [`intern`] gives the index of a
 //! tree as it is. [`rename`] gives exactly the tree whose variables of some families belong to an instance

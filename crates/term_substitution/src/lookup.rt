@@ -2,12 +2,12 @@
 
 ghost use Rattle.std.specs.Prelude.{◌≡◌, ℕ, Option};
 ghost use Rattle.std.specs.HashMap.{get};
-ghost use Rattle.term_spec.specs.declared.Variable as spec;
-ghost use Rattle.term_spec.specs.Same.{same_variable};
+ghost use Rattle.term_core_spec.specs.declared.Variable as spec;
+ghost use Rattle.term_core_spec.specs.Same.{same_variable};
 
 use std::collections::HashMap;
 use term_bank::TermId;
-use term_spec::Variable;
+use term_core_spec::Variable;
 
 /// The indices of variables' terms in a bank. A variable need not have one.
 pub trait Lookup {

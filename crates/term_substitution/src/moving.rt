@@ -2,9 +2,9 @@
 
 ghost use Rattle.std.specs.Prelude.{◌≡◌, ◌<◌, nat_eq, length, IsSome, OnOk, List};
 ghost use Rattle.std.specs.HashMap.{get};
-ghost use Rattle.term_spec.specs.Term as tree;
-ghost use Rattle.term_spec.specs.Same.{same_variable};
-ghost use Rattle.term_spec.specs.Substitution.{State, substituted};
+ghost use Rattle.term_core_spec.specs.Term as tree;
+ghost use Rattle.term_core_spec.specs.Same.{same_variable};
+ghost use Rattle.term_core_spec.specs.Substitution.{State, substituted};
 ghost use Rattle.term_bank.specs.Nodes.{build, tree_at, Extends};
 ghost use Rattle.term_bank.specs.Subterms.{arguments_of};
 ghost use Rattle.term_substitution.specs.States.{state_of, AreBelow, IsAt, IsFound};
@@ -16,7 +16,7 @@ use crate::state::put_atom;
 use std::alloc::{AllocError, Global};
 use std::collections::HashMap;
 use term_bank::{Bank, TermId, TermNode};
-use term_spec::{Atom, Variable};
+use term_core_spec::{Atom, Variable};
 
 /// What was taken: the index in the one bank, and that in the other.
 pub type Taken = HashMap<TermId, TermId>;

@@ -1,14 +1,14 @@
 // Variables of some families renamed to an instance.
 
 ghost use Rattle.std.specs.Prelude.{◌≡◌, IfOk};
-ghost use Rattle.term_spec.specs.Term as tree;
-ghost use Rattle.term_spec.specs.Substitution.{renamed, renamed_atom};
+ghost use Rattle.term_core_spec.specs.Term as tree;
+ghost use Rattle.term_core_spec.specs.Substitution.{renamed, renamed_atom};
 ghost use Rattle.term_core.specs.Trees.{term_of};
 ghost use Rattle.term_substitution.specs.Renaming.{in_instance};
 
 use std::alloc::{AllocError, Global};
 use term_core::Term;
-use term_spec::{Atom, Family, Variable};
+use term_core_spec::{Atom, Family, Variable};
 
 fn rename_variable(variable: Variable, own: &[Family], instance: usize) -> Variable
     ensures { result ≡ in_instance own.now instance variable }
@@ -51,7 +51,7 @@ fn two(
 /// other variable stays. Where a call is inlined, `own` lists the families of the function's own
 /// variables (parameters, locals, values at entry), and leaves out those that caller and callee
 /// share (registers, memories).
-#[tactic(auto, unfolding(term_spec::specs::Substitution::renamed))]
+#[tactic(auto, unfolding(term_core_spec::specs::Substitution::renamed))]
 pub fn rename(
     alloc: Global,
     term: &Term,

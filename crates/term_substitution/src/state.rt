@@ -1,8 +1,8 @@
 // Terms of a bank in place of the variables of a tree.
 
 ghost use Rattle.std.specs.Prelude.{◌≤◌, List, length};
-ghost use Rattle.term_spec.specs.Term as tree;
-ghost use Rattle.term_spec.specs.Substitution.{substituted, substituted_atom};
+ghost use Rattle.term_core_spec.specs.Term as tree;
+ghost use Rattle.term_core_spec.specs.Substitution.{substituted, substituted_atom};
 ghost use Rattle.term_core.specs.Trees.{term_of};
 ghost use Rattle.term_bank.specs.Nodes.{Extends};
 ghost use Rattle.term_substitution.specs.States.{state_of, IsStateOf, AreBelow, IsAt, IsFound};
@@ -12,7 +12,7 @@ use std::alloc::{AllocError, Global};
 use std::collections::HashMap;
 use term_bank::{Bank, TermId, TermNode};
 use term_core::Term;
-use term_spec::{
+use term_core_spec::{
     Atom, BinaryOperator, QuaternaryOperator, TernaryOperator, UnaryOperator, Variable,
 };
 

@@ -2,23 +2,23 @@
 use Rattle.std.proofs.Common.{◌≡◌, ◌≢◌, ◌∙◌, ℕ, suc, true, false, List, [], ◌∷◌, map, Some, refl, sym, ap, subst, arith}
 use Rattle.std.specs.Prelude.{All, IsTrue, length, slice_get}
 use Rattle.std.proofs.lemmas.List.Elements.{All-nil, All-cons}
-use Rattle.elf_spec.specs.Image.{Image}
-use Rattle.c_type_spec.specs.Core.{Typed}
-use Rattle.claim_spec.specs.Claim.{IsValid}
+use Rattle.elf_read_spec.specs.Image.{Image}
+use Rattle.c_types_spec.specs.Core.{Typed}
+use Rattle.validity_spec.specs.Claim.{IsValid}
 use Rattle.agreement_laws.specs.EntryFrame.{Pair}
-use Rattle.proof_laws.specs.Derivation.{Function as LaidFunction}
-use Rattle.check_laws.specs.Statements.{listed_of}
-use Rattle.check_spec.specs.Verdict.{Listed}
-use Rattle.cert_verdict_spec.specs.Files.{AreFunctionsOf, AreListed, sides_of}
-use Rattle.cert_verdict_spec.specs.Verdict.{valid_judgement}
-use Rattle.cert_verdict_spec.proofs.Apart.{found_name}
-use Rattle.trail_spec.specs.Trails.{Found, Proved, Unproved}
+use Rattle.validity_laws.specs.Derivation.{Function as LaidFunction}
+use Rattle.validity_laws.specs.CheckStatements.{listed_of}
+use Rattle.cert_check_spec.specs.Verdict.{Listed}
+use Rattle.cert_run_spec.specs.Files.{AreFunctionsOf, AreListed, sides_of}
+use Rattle.cert_run_spec.specs.Verdict.{valid_judgement}
+use Rattle.cert_run_spec.proofs.Apart.{found_name}
+use Rattle.prove_run_spec.specs.Trails.{Found, Proved, Unproved}
 use Rattle.cert_run.specs.Searches.{is_proved}
-use Rattle.pair_outcome_spec.specs.Outcome as outcome
+use Rattle.pair_setup_spec.specs.Outcome as outcome
 use Rattle.pair_setup.specs.Answers.{functions_of}
 use Rattle.pair_setup.specs.declared.outcome.Function.{Function}
-use Rattle.report_spec.specs.Verdict.{Judgement}
-use Rattle.verdict_spec.specs.Decisions.{judgement_of, judgements_of}
+use Rattle.report_text_spec.specs.Verdict.{Judgement}
+use Rattle.tv_core_spec.specs.Decisions.{judgement_of, judgements_of}
 use Rattle.tv_core.specs.Listed.{judged, judgement_on}
 
 -- the names of the list and the stacks of its functions are those of the listed functions

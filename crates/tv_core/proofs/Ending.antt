@@ -1,20 +1,20 @@
 -- The ends of a run, from its outcome.
-use Rattle.std.proofs.Common.{◌≡◌, ◌≢◌, ◌⊎◌, ◌≤◌, ℕ, Bool, true, false, List, Option, Some, None, Ok, Err, refl, arith, ap, sym, ◌∙◌, subst, inl, inr}
-use Rattle.std.specs.Prelude.{◌↔◌, if◌then◌else◌, IfSome, IsTrue, Result, IfOk, OnErr, ⊤}
-use Rattle.elf_spec.specs.Image.{Image}
-use Rattle.c_type_spec.specs.Core.{Typed}
-use Rattle.report_spec.specs.Verdict.{Verdict, RefusedWords, TooLarge, RefusedElf, RefusedC, RefusedPair, RefusedCode, RefusedCertificate, NotProof, Checked, Judged, Showed, Judgement, Shown, all_valid, status_of}
+use Rattle.std.proofs.Common.{◌≡◌, ◌≢◌, ◌⊎◌, ◌≤◌, ℕ, Bool, true, false, List, [], Option, Some, None, Ok, Err, refl, arith, ap, sym, ◌∙◌, subst, inl, inr, ◌∷◌}
+use Rattle.std.specs.Prelude.{◌↔◌, ◌&&◌, if◌then◌else◌, IfSome, IsTrue, Result, IfOk, OnErr, ⊤}
+use Rattle.elf_read_spec.specs.Image.{Image}
+use Rattle.c_types_spec.specs.Core.{Typed}
+use Rattle.report_text_spec.specs.Verdict.{Verdict, RefusedWords, TooLarge, RefusedElf, RefusedC, RefusedPair, RefusedCode, RefusedCertificate, NotProof, Checked, Judged, Showed, Judgement, Shown, all_valid, status_of}
 use Rattle.tv_base.specs.declared.faults.OutsideFault.{OutsideFault}
 use Rattle.tv_base.specs.declared.faults.OutsideFault.TheVariants.{Failed, NoMemory}
 use Rattle.tv_words.specs.Commands.{Command, Prove, Check, Show, AreListed, IsCommand, is_prove, is_check, is_show}
-use Rattle.verdict_spec.specs.Decisions.{Decision, Trails, no_trails, plain}
-use Rattle.verdict_spec.specs.Laws.{OneVerdict, GivesNoneTwice, ProvedIsChecked}
-use Rattle.verdict_spec.specs.Listing.{Judge, Verify, names_of}
-use Rattle.verdict_spec.specs.Verdicts.{IsVerdict, IsSound, AreSound}
+use Rattle.tv_core_spec.specs.Decisions.{Decision, Trails, no_trails, plain, first_unproved}
+use Rattle.tv_core_spec.specs.Laws.{OneVerdict, GivesNoneTwice, ProvedIsChecked, UnprovedIsMissing}
+use Rattle.tv_core_spec.specs.Listing.{Judge, Verify, names_of}
+use Rattle.tv_core_spec.specs.Verdicts.{IsVerdict, IsSound, AreSound}
 use Rattle.tv_core.specs.Tasks.{asked_of, task_of}
 use Rattle.tv_words.proofs.Commands.{same_command}
 use Rattle.tv_core.specs.Objects.{Contents, Outputs, State}
-use Rattle.tv_core.specs.Ends.{AskFor, IsUsageError, CheckDecides, ShowDecides, ProveDecides, IsOfCommand, IsText, HasText, IsVerdictOn, IsOutcome, usage_error, commanded, Becomes, LeavesText, LeavesUnder, Reports, certificate_name, Publishes, EndsBy, EndsWith, EndsAsDecided, EndsValid, EndsChecked, EndsShown, HandsOut, EndsPartly, Ends, RunsTo}
+use Rattle.tv_core.specs.Ends.{AskFor, IsUsageError, CheckDecides, ShowDecides, ProveDecides, IsOfCommand, IsText, HasText, IsVerdictOn, IsOutcome, usage_error, commanded, Becomes, LeavesText, LeavesUnder, Reports, certificate_name, Publishes, EndsBy, EndsWith, EndsAsDecided, EndsValid, EndsUnproved, EndsChecked, EndsShown, HandsOut, EndsPartly, Ends, RunsTo}
 use Rattle.tv_core.proofs.HandedOut.{GoesWith, command_goes, usage_goes}
 
 -- ---- outcomes
@@ -73,6 +73,35 @@ success_in (NotProof name offset rule) zero = absurd (omega arith)
 success_in (Checked js) zero = inr (inl (js, refl))
 success_in (Judged js) zero = inl (js, refl)
 success_in (Showed shown) zero = inr (inr (shown, refl))
+
+called_unproved : (all : Bool) → code_of all ≡ 1 → all ≡ false
+called_unproved true e = absurd (omega arith)
+called_unproved false e = refl
+
+-- status 1 is that of judgements
+unproved_in : (verdict : Verdict) → status_of verdict ≡ 1 → (js : List Judgement) × (verdict ≡ Judged js)
+unproved_in RefusedWords one = absurd (omega arith)
+unproved_in (TooLarge quantity) one = absurd (omega arith)
+unproved_in (RefusedElf fault offset) one = absurd (omega arith)
+unproved_in (RefusedC kind offset) one = absurd (omega arith)
+unproved_in (RefusedPair kind name) one = absurd (omega arith)
+unproved_in (RefusedCode kind name address) one = absurd (omega arith)
+unproved_in (RefusedCertificate offset) one = absurd (omega arith)
+unproved_in (NotProof name offset rule) one = absurd (omega arith)
+unproved_in (Checked js) one = absurd (omega arith)
+unproved_in (Judged js) one = (js, refl)
+unproved_in (Showed shown) one = absurd (omega arith)
+
+-- where not all are called valid, there is a first that isn't
+some_unproved : (js : List Judgement) → all_valid js ≡ false → (name : List ℕ) × (first_unproved js ≡ Some name)
+unfolding first_unproved
+some_unproved [] e = cc
+some_unproved (j ∷ js) e = by_first j.valid e (some_unproved js)
+  where
+    by_first : (valid : Bool) → (valid && all_valid js) ≡ false → (all_valid js ≡ false → (name : List ℕ) × (first_unproved js ≡ Some name))
+        → (name : List ℕ) × ((if valid then first_unproved js else Some j.name) ≡ Some name)
+    by_first true f later = later f
+    by_first false f later = (j.name, refl)
 
 -- ---- the names that words give
 
@@ -149,6 +178,35 @@ module _ (words : List (List ℕ)) (files : Contents) (before now : Outputs) (na
   valid_of_job law js (Check job) e is named of_command on zero reported stored = absurd (subst CheckDecides e of_command.0)
   valid_of_job law js (Show job) e is named of_command on zero reported stored = absurd (subst (ShowDecides job.function) e of_command.0)
 
+  unproved_of_job : UnprovedIsMissing → (js : List Judgement) (first : List ℕ) (command : Command) → decision.verdict ≡ Judged js → first_unproved js ≡ Some first
+      → IsCommand words command → name ≡ (asked_of command).certificate → IsOfCommand command decision → IsVerdictOn files command decision
+      → Reports (Judged js) before.report now.report → LeavesUnder name decision before.store.held now.store.held → EndsUnproved words files before now
+  unproved_of_job law js first (Prove job) e f is named of_command on reported stored =
+      let searched = subst (λ v. ProveDecides v decision) e of_command in
+      let once = command_gives_none_twice words (Prove job) is in
+      record {
+        job = job;
+        job_is = is;
+        judgements = js;
+        name = first;
+        unproved = f;
+        reported = reported;
+        certificate = searched.text;
+        proves = λ elf c at_elf at_source.
+            let decided = (on.1 elf c at_elf at_source).2 in
+            record {
+              decision = decision;
+              decided = decided;
+              judged = e;
+              certificate_is = searched.written;
+              checked = law elf c job.functions js searched.text decision first decided e searched.written f once;
+            };
+        stored = subst (λ n. Becomes before.store.held n searched.text now.store.held) named
+            (subst (λ text. LeavesText name text before.store.held now.store.held) searched.written stored);
+      }
+  unproved_of_job law js first (Check job) e f is named of_command on reported stored = absurd (subst CheckDecides e of_command.0)
+  unproved_of_job law js first (Show job) e f is named of_command on reported stored = absurd (subst (ShowDecides job.function) e of_command.0)
+
   checked_of_job : (js : List Judgement) (command : Command) → decision.verdict ≡ Checked js → IsCommand words command
       → IsOfCommand command decision → IsVerdictOn files command decision → Reports (Checked js) before.report now.report
       → LeavesUnder name decision before.store.held now.store.held → EndsChecked words files before now
@@ -204,7 +262,19 @@ module _ (words : List (List ℕ)) (files : Contents) (before now : Outputs) (na
         ])
       ]
 
+  ends_unproved_by : UnprovedIsMissing → IsOutcome words files name decision → status_of decision.verdict ≡ 1 → Reports decision.verdict before.report now.report
+      → LeavesUnder name decision before.store.held now.store.held → EndsUnproved words files before now
+  ends_unproved_by law outcome one reported stored =
+      let found = unproved_in decision.verdict one in
+      let first = some_unproved found.0 (called_unproved (all_valid found.0) (subst (λ v. status_of v ≡ 1) found.1 one)) in
+      let of = job_of (Judged found.0) outcome found.1 refl in
+      unproved_of_job law found.0 first.0 of.command found.1 first.1 of.command_is of.name_is of.of_command of.on
+      (subst (λ v. Reports v before.report now.report) found.1 reported) stored
+
 module _ (words : List (List ℕ)) (files : Contents) (before now : Outputs) (trails : Trails) where
+  pub ends_unproved : UnprovedIsMissing → (code : ℕ) → EndsWith words files code before now trails → code ≡ 1 → EndsUnproved words files before now
+  ends_unproved law code ends one = ends_unproved_by words files before now ends.name ends.decision law ends.outcome (sym ends.ends.status_is ∙ one) ends.ends.reported ends.ends.stored
+
   pub ends_valid : ProvedIsChecked → (code : ℕ) → EndsWith words files code before now trails → code ≡ 0
       → EndsValid words files before now ⊎ (EndsChecked words files before now ⊎ EndsShown words before now)
   ends_valid law code ends none = ends_by words files before now ends.name ends.decision law ends.outcome (sym ends.ends.status_is ∙ none) ends.ends.reported ends.ends.stored
@@ -335,6 +405,7 @@ module _ (words : List (List ℕ)) (before now : State) (trails_before trails : 
   pub ends_failed : r ≡ Err Failed → Ends words before now trails 4
   ends_failed is = record {
     valid = λ e. absurd (omega (arith, e));
+    unproved = λ e. absurd (omega (arith, e));
     ended = λ four five. absurd (four refl);
     usage = λ four five. absurd (four refl);
     decided = λ four five. absurd (four refl);
@@ -349,6 +420,7 @@ module _ (words : List (List ℕ)) (before now : State) (trails_before trails : 
   pub ends_without_memory : r ≡ Err NoMemory → Ends words before now trails 5
   ends_without_memory is = record {
     valid = λ e. absurd (omega (arith, e));
+    unproved = λ e. absurd (omega (arith, e));
     ended = λ four five. absurd (five refl);
     usage = λ four five. absurd (five refl);
     decided = λ four five. absurd (five refl);

@@ -4,15 +4,15 @@ use Rattle.std.specs.Prelude.{IfSome, IsTrue, Vec, Result, IfOk, option_map}
 use Rattle.std.specs.Global.{Global}
 use Rattle.std.proofs.lemmas.List.{length-take}
 use Rattle.std.proofs.lemmas.Result.{IfOk-weaker}
-use Rattle.check_spec.specs.Verdict.{Listed}
-use Rattle.cert_verdict_spec.specs.Verdict.{valid_judgement}
-use Rattle.cert_verdict_spec.specs.Verdict as spec
-use Rattle.report_spec.specs.Verdict.{TooLarge, all_valid}
-use Rattle.report_spec.specs.declared.Quantity.TheVariants.{Elf, C}
-use Rattle.verdict_spec.specs.Decisions.{Decision, plain}
-use Rattle.verdict_spec.specs.Listing.{Judge, Verify, Display}
-use Rattle.verdict_spec.specs.Verdicts.{IsSound, Judges, elf_refused, c_refused, too_many, pair_refused, code_refused, too_large, judged, over, certificate_large, checked, showed, elf_large, c_large, within, verdict_of_outcome}
-use Rattle.tv_base.specs.declared.limits.TheConstants.{MAX_ELF_BYTES, MAX_C_BYTES, MAX_CERTIFICATE_BYTES}
+use Rattle.cert_check_spec.specs.Verdict.{Listed}
+use Rattle.cert_run_spec.specs.Verdict.{valid_judgement}
+use Rattle.cert_run_spec.specs.Verdict as spec
+use Rattle.report_text_spec.specs.Verdict.{TooLarge, all_valid}
+use Rattle.report_text_spec.specs.declared.Quantity.TheVariants.{Elf, C}
+use Rattle.tv_core_spec.specs.Decisions.{Decision, plain}
+use Rattle.tv_core_spec.specs.Listing.{Judge, Verify, Display}
+use Rattle.tv_core_spec.specs.Verdicts.{IsSound, Judges, elf_refused, c_refused, too_many, pair_refused, code_refused, too_large, judged, over, certificate_large, checked, showed, elf_large, c_large, within, verdict_of_outcome}
+use Rattle.tv_limits.specs.declared.TheConstants.{MAX_ELF_BYTES, MAX_C_BYTES, MAX_CERTIFICATE_BYTES}
 use Rattle.tv_base.specs.declared.faults.OutsideFault.{OutsideFault}
 use Rattle.tv_base.specs.Reading.{with_name}
 use Rattle.tv_words.specs.Commands.{Command, Prove, Proving, Check, Checking, Show, Showing}
@@ -130,7 +130,7 @@ of_prove elf c job _ (too_large image unit names h k) = refl
 of_prove elf c job _ (judged functions image unit names listed found is framed are small short) =
     let paired = framed.pairs.paired in
     answers_searched listed found are short (some_listed image unit framed.pairs.pairs names listed paired.some paired.listed framed.listed_are)
-of_prove elf c job _ (over functions image unit names listed found is framed are long) = answers_over listed found long
+of_prove elf c job _ (over functions image unit names listed found is framed are small long) = answers_over listed found long
 of_prove elf c job _ (certificate_large functions certificate image unit names is h k) = absurd (cc)
 of_prove elf c job _ (checked functions certificate image unit names listed outcome is short framed h) = absurd (cc)
 of_prove elf c job _ (showed image unit shown is pairs h) = absurd (cc)
@@ -154,7 +154,7 @@ of_check elf c job text _ (pair_refused image unit names kind name h k) = (tt, r
 of_check elf c job text _ (code_refused image unit names kind name address h k) = (tt, refl)
 of_check elf c job text _ (too_large image unit names h k) = (tt, refl)
 of_check elf c job text _ (judged functions image unit names listed found is framed are small short) = absurd (cc)
-of_check elf c job text _ (over functions image unit names listed found is framed are long) = absurd (cc)
+of_check elf c job text _ (over functions image unit names listed found is framed are small long) = absurd (cc)
 of_check elf c job text _ (certificate_large functions certificate image unit names is h k) = (tt, refl)
 of_check elf c job text _ (checked functions certificate image unit names listed outcome is short framed h) =
     let paired = framed.pairs.paired in
@@ -170,7 +170,7 @@ of_show elf c job _ (pair_refused image unit names kind name h k) = (tt, refl)
 of_show elf c job _ (code_refused image unit names kind name address h k) = (tt, refl)
 of_show elf c job _ (too_large image unit names h k) = (tt, refl)
 of_show elf c job _ (judged functions image unit names listed found is framed are small short) = absurd (cc)
-of_show elf c job _ (over functions image unit names listed found is framed are long) = absurd (cc)
+of_show elf c job _ (over functions image unit names listed found is framed are small long) = absurd (cc)
 of_show elf c job _ (certificate_large functions certificate image unit names is h k) = absurd (cc)
 of_show elf c job _ (checked functions certificate image unit names listed outcome is short framed h) = absurd (cc)
 of_show elf c job _ (showed image unit shown is pairs h) = (cc, refl)

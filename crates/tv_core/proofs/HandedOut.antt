@@ -3,15 +3,15 @@
 use Rattle.std.proofs.Common.{◌≡◌, ◌≢◌, ◌<◌, ◌≤◌, ◌∙◌, ℕ, Bool, true, false, not, ◌&&◌, List, [], ◌∷◌, length, map, filter, Some, refl, sym, ap, subst, arith}
 use Rattle.std.specs.Prelude.{◌↔◌, All, if◌then◌else◌}
 use Rattle.std.proofs.lemmas.List.Elements.{All-nil, All-cons}
-use Rattle.cert_spec.specs.Lines.{Line}
-use Rattle.check_spec.specs.Verdict.{Listed}
-use Rattle.report_spec.specs.declared.Quantity.TheVariants.{Elf, C, Functions, Nodes, Certificate, Visits, Terms, Variables}
-use Rattle.report_spec.specs.Verdict.{Verdict, RefusedWords, TooLarge, RefusedElf, RefusedC, RefusedPair, RefusedCode, RefusedCertificate, NotProof, Checked, Judged, Showed, Judgement, all_valid, status_of, maximum_of}
-use Rattle.trail_spec.specs.Trails.{Found, Proved, Unproved, AreFound}
-use Rattle.trail_spec.specs.Written.{Failure, failures, proof_lines}
+use Rattle.cert_text_spec.specs.Lines.{Line}
+use Rattle.cert_check_spec.specs.Verdict.{Listed}
+use Rattle.report_text_spec.specs.declared.Quantity.TheVariants.{Elf, C, Functions, Nodes, Certificate, Visits, Terms, Variables}
+use Rattle.report_text_spec.specs.Verdict.{Verdict, RefusedWords, TooLarge, RefusedElf, RefusedC, RefusedPair, RefusedCode, RefusedCertificate, NotProof, Checked, Judged, Showed, Judgement, all_valid, status_of, maximum_of}
+use Rattle.prove_run_spec.specs.Trails.{Found, Proved, Unproved, AreFound}
+use Rattle.prove_run_spec.specs.Written.{Failure, failures, proof_lines}
 use Rattle.tv_words.specs.Commands.{Command, Prove, Check, Show}
-use Rattle.cert_verdict_spec.specs.Written.{text_by}
-use Rattle.verdict_spec.specs.Decisions.{Decision, Trails, no_trails, plain, judgements_of, judged_by, over_by}
+use Rattle.cert_run_spec.specs.Written.{text_by}
+use Rattle.tv_core_spec.specs.Decisions.{Decision, Trails, no_trails, plain, judgements_of, judged_by, over_by}
 use Rattle.tv_core.specs.Ends.{AnswersSearched, AnswersOver, CheckDecides, ShowDecides, ProveDecides, IsOfCommand}
 
 -- ---- the functions that are called unproved

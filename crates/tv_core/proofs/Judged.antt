@@ -2,14 +2,14 @@
 use Rattle.std.proofs.Common.{◌≡◌, ◌∙◌, ◌<◌, ◌≤◌, ◌+◌, ◌⊎◌, ℕ, List, [], ◌∷◌, length, get_or, take, take_all, Option, Some, None, ap, sym, subst, refl, inl, inr, arith}
 use Rattle.std.specs.Prelude.{IfSome, option_map}
 use Rattle.std.proofs.lemmas.List.{length-map, length-take}
-use Rattle.elf_spec.specs.Image.{Image}
-use Rattle.c_type_spec.specs.Core.{Typed}
-use Rattle.pair_outcome_spec.specs.Outcome.{IsPaired}
-use Rattle.pair_outcome_spec.specs.Outcome as outcome
-use Rattle.check_spec.specs.Verdict.{Listed}
-use Rattle.cert_verdict_spec.specs.Files.{AreListed}
-use Rattle.cert_verdict_spec.specs.Verdict as spec
-use Rattle.cert_verdict_spec.specs.Written.{text_by}
+use Rattle.elf_read_spec.specs.Image.{Image}
+use Rattle.c_types_spec.specs.Core.{Typed}
+use Rattle.pair_setup_spec.specs.Outcome.{IsPaired}
+use Rattle.pair_setup_spec.specs.Outcome as outcome
+use Rattle.cert_check_spec.specs.Verdict.{Listed}
+use Rattle.cert_run_spec.specs.Files.{AreListed}
+use Rattle.cert_run_spec.specs.Verdict as spec
+use Rattle.cert_run_spec.specs.Written.{text_by}
 use Rattle.cert_run.specs.Outcomes.{outcome_of}
 use Rattle.cert_run.specs.Runs.{Answers, Finds}
 use Rattle.cert_run.specs.Searches.{IsOver, IsWithin, is_proved}
@@ -21,14 +21,14 @@ use Rattle.cert_run.specs.declared.outcome.Outcome.TheVariants.{Unread, Broken, 
 use Rattle.pair_setup.specs.Answers.{pairs_of}
 use Rattle.pair_setup.specs.declared.outcome.Function.{Function}
 use Rattle.pair_setup.specs.declared.outcome.Pairs.{Pairs as CodePairs}
-use Rattle.report_spec.specs.declared.Quantity.TheVariants.{Functions, Certificate}
-use Rattle.report_spec.specs.Verdict.{Verdict, TooLarge, RefusedWords, RefusedElf, RefusedC, RefusedPair, RefusedCode, RefusedCertificate, NotProof, Checked, Judged, Showed, maximum_of}
+use Rattle.report_text_spec.specs.declared.Quantity.TheVariants.{Functions, Certificate}
+use Rattle.report_text_spec.specs.Verdict.{Verdict, TooLarge, RefusedWords, RefusedElf, RefusedC, RefusedPair, RefusedCode, RefusedCertificate, NotProof, Checked, Judged, Showed, maximum_of}
 use Rattle.report_text.specs.Verdicts.{verdict_of}
-use Rattle.tv_base.specs.declared.limits.TheConstants.{MAX_CERTIFICATE_BYTES}
+use Rattle.tv_limits.specs.declared.TheConstants.{MAX_CERTIFICATE_BYTES}
 use Rattle.tv_words.specs.Commands.{Command, Prove, Proving, Check, Checking, Show, Showing}
-use Rattle.verdict_spec.specs.Decisions.{Decision, plain, judgements_of, judged_by, over_by}
-use Rattle.verdict_spec.specs.Listing.{Task, Judge, Verify, Display}
-use Rattle.verdict_spec.specs.Verdicts.{Lists, ListsFew, Pairs, Framed, Judges, judged, over, checked, certificate_large, showed, pair_refused, code_refused, too_large, too_many, IsSound, verdict_of_outcome}
+use Rattle.tv_core_spec.specs.Decisions.{Decision, plain, judgements_of, judged_by, over_by}
+use Rattle.tv_core_spec.specs.Listing.{Task, Judge, Verify, Display}
+use Rattle.tv_core_spec.specs.Verdicts.{Lists, ListsFew, Pairs, Framed, Judges, judged, over, checked, certificate_large, showed, pair_refused, code_refused, too_large, too_many, IsSound, verdict_of_outcome}
 use Rattle.tv_core.specs.Tasks.{asked_of, task_of}
 use Rattle.tv_core.specs.Objects.{Contents}
 use Rattle.tv_core.specs.Decisions.{decision_of, trails_of}
@@ -210,7 +210,7 @@ module _ (files : Contents) (image : Image) (unit : Typed) (list : List (List �
           record { image = image; unit = unit; is_elf = (lists []).is_elf; is_c = (lists []).is_c; names = names; valid = are.valid },
         )
         | inr h ↦ subst (JudgesWith files elf c (Prove job)) (sym h.1)
-            ([], tt, over job.functions image unit list are.listed are.found refl framed are.found_are h.0, tt)
+            ([], tt, over job.functions image unit list are.listed are.found refl framed are.found_are are.small h.0, tt)
       ]
 
   -- what a proof claims

@@ -2,26 +2,26 @@
 use Rattle.std.proofs.Common.{◌≡◌, ◌∙◌, ℕ, List, [], Option, Some, None, Ok, Err, refl, inl}
 use Rattle.std.specs.Prelude.{IfSome, Result, IfOk, OnErr, IsErrOf}
 use Rattle.std.proofs.lemmas.Result.{IfOk-weaker}
-use Rattle.elf_spec.specs.Image.{Image}
-use Rattle.elf_spec.specs.File.{IsElf}
-use Rattle.c_spec.specs.Lexical.{AreTokens}
+use Rattle.elf_read_spec.specs.Image.{Image}
+use Rattle.elf_read_spec.specs.File.{IsElf}
+use Rattle.c_token_spec.specs.Lexical.{AreTokens}
 use Rattle.c_token.specs.declared.Token.{Token}
-use Rattle.c_tree_spec.specs.Unit.{TranslationUnit}
-use Rattle.c_grammar_spec.specs.Faults.{IsUnit}
-use Rattle.c_grammar_spec.specs.Source.{HasTree}
-use Rattle.c_type_spec.specs.Core.{Typed}
-use Rattle.c_type_spec.specs.Units.{typed}
-use Rattle.claim_spec.specs.Initials.{DefinesIn, DefinesNothing, definition_in}
-use Rattle.claim_spec.specs.Source.{IsC}
+use Rattle.c_syntax_spec.specs.Unit.{TranslationUnit}
+use Rattle.c_parse_spec.specs.Faults.{IsUnit}
+use Rattle.c_parse_spec.specs.Source.{HasTree}
+use Rattle.c_types_spec.specs.Core.{Typed}
+use Rattle.c_types_spec.specs.Units.{typed}
+use Rattle.c_parse_spec.specs.Initials.{DefinesIn, DefinesNothing, definition_in}
+use Rattle.validity_spec.specs.Source.{IsC}
 use Rattle.c_parse_token.specs.Lists.{list_of}
 use Rattle.report_text.specs.Verdicts.{verdict_of}
 use Rattle.report_text.specs.declared.verdicts.Verdict.{Verdict}
 use Rattle.tv_base.specs.declared.faults.OutsideFault.{OutsideFault}
 use Rattle.tv_base.specs.declared.faults.OutsideFault.TheVariants.{NoMemory}
 use Rattle.tv_words.specs.Commands.{Command, Prove, Check, Show}
-use Rattle.verdict_spec.specs.Decisions.{Decision, plain}
-use Rattle.verdict_spec.specs.Listing.{Task, Verify, names_of}
-use Rattle.verdict_spec.specs.Verdicts.{Lists, Judges, IsSound}
+use Rattle.tv_core_spec.specs.Decisions.{Decision, plain}
+use Rattle.tv_core_spec.specs.Listing.{Task, Verify, names_of}
+use Rattle.tv_core_spec.specs.Verdicts.{Lists, Judges, IsSound}
 use Rattle.tv_core.specs.Tasks.{asked_of, task_of}
 use Rattle.tv_core.specs.Objects.{Contents, DeskState}
 use Rattle.tv_core.specs.Decisions.{decision_of, IsPlainly}

@@ -3,20 +3,20 @@ use Rattle.std.proofs.Common.{◌≡◌, ◌≤◌, ℕ, List, [], get_or, refl,
 use Rattle.std.specs.Prelude.{length, Result, IfOk, OnErr, IsErrOf}
 use Rattle.std.proofs.lemmas.Result.{IfOk-weaker}
 use Rattle.std.specs.declared.alloc.AllocError.{AllocError}
-use Rattle.elf_spec.specs.Image.{Image}
-use Rattle.c_type_spec.specs.Core.{Typed}
-use Rattle.pair_outcome_spec.specs.Outcome.{IsPaired}
+use Rattle.elf_read_spec.specs.Image.{Image}
+use Rattle.c_types_spec.specs.Core.{Typed}
+use Rattle.pair_setup_spec.specs.Outcome.{IsPaired}
 use Rattle.pair_setup.specs.Answers.{pairs_of}
 use Rattle.pair_setup.specs.declared.outcome.Pairs.{Pairs as CodePairs}
-use Rattle.report_spec.specs.declared.Quantity.TheVariants.{Functions}
-use Rattle.report_spec.specs.Verdict.{maximum_of}
+use Rattle.report_text_spec.specs.declared.Quantity.TheVariants.{Functions}
+use Rattle.report_text_spec.specs.Verdict.{maximum_of}
 use Rattle.report_text.specs.Verdicts.{verdict_of}
 use Rattle.report_text.specs.declared.verdicts.Verdict.{Verdict as CodeVerdict}
 use Rattle.tv_base.specs.declared.faults.OutsideFault.{OutsideFault}
 use Rattle.tv_base.specs.declared.faults.OutsideFault.TheVariants.{NoMemory}
-use Rattle.tv_base.specs.declared.limits.TheConstants.{MAX_CERTIFICATE_BYTES}
+use Rattle.tv_limits.specs.declared.TheConstants.{MAX_CERTIFICATE_BYTES}
 use Rattle.tv_words.specs.Commands.{Command, Prove, Proving, Check, Checking, Show, Showing}
-use Rattle.verdict_spec.specs.Decisions.{Decision, plain}
+use Rattle.tv_core_spec.specs.Decisions.{Decision, plain}
 use Rattle.tv_core.specs.Objects.{DeskState}
 use Rattle.tv_core.specs.Decisions.{decision_of, IsFromMemory, IsPlainFromMemory}
 use Rattle.tv_core.specs.declared.decision.Decision.{Decision as CodeDecision}

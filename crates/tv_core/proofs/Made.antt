@@ -2,9 +2,9 @@
 use Rattle.std.proofs.Common.{◌≡◌, ◌<◌, ◌≤◌, ◌+◌, ◌++◌, ◌∙◌, ℕ, zero, suc, Bool, true, List, [], ◌∷◌, length, get_or, take, take_all, map, refl, sym, ap, subst, arith}
 use Rattle.std.proofs.lemmas.List.{take_more, map-append, get_or-map, length-map}
 use Rattle.std.specs.Borrow.{Bor}
-use Rattle.c_reach.specs.Names.{texts_of}
+use Rattle.pair_setup_calls.specs.Names.{texts_of}
 use Rattle.pair_setup.specs.declared.outcome.Function.{Function}
-use Rattle.report_spec.specs.Verdict as spec
+use Rattle.report_text_spec.specs.Verdict as spec
 use Rattle.report_text.specs.Judgements.{judgement_of, judgements_of}
 use Rattle.report_text.specs.declared.verdicts.Judgement.{Judgement}
 use Rattle.tv_core.specs.Listed.{judged, judgement_on}

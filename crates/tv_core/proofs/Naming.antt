@@ -2,14 +2,14 @@
 use Rattle.std.proofs.Common.{◌≡◌, ◌≢◌, ℕ, true, false, List, [], ◌∷◌, refl, ap}
 use Rattle.std.specs.Borrow.{Bor}
 use Rattle.std.specs.Prelude.{filter, map, if◌then◌else◌}
-use Rattle.elf_spec.specs.Image.{Image, function_named}
-use Rattle.elf_spec.specs.declared.SymbolValues.{SymbolValues}
-use Rattle.elf_spec.specs.declared.SymbolValues.TheVariants.{Absent, One, Two}
-use Rattle.c_type_spec.specs.Core as core
+use Rattle.elf_read_spec.specs.Image.{Image, function_named}
+use Rattle.elf_read_spec.specs.declared.SymbolValues.{SymbolValues}
+use Rattle.elf_read_spec.specs.declared.SymbolValues.TheVariants.{Absent, One, Two}
+use Rattle.c_types_spec.specs.Core as core
 use Rattle.c_types.specs.declared.typed.Body.{Body}
 use Rattle.c_types.specs.declared.typed.Typed.{Typed}
 use Rattle.c_types.specs.Typed.{bodies_of, typed_of}
-use Rattle.verdict_spec.specs.Listing.{is_present, has_symbol, listed}
+use Rattle.tv_core_spec.specs.Listing.{is_present, has_symbol, listed}
 
 present : (named : SymbolValues) → named ≢ Absent → is_present named ≡ true
 present Absent there = absurd (there refl)

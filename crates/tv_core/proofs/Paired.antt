@@ -2,17 +2,17 @@
 use Rattle.std.proofs.Common.{◌≡◌, ◌≢◌, ◌<◌, ◌≤◌, ℕ, zero, suc, List, [], ◌∷◌, length, get_or, map, All, Option, Some, None, refl, ap, sym, subst, arith}
 use Rattle.std.specs.Borrow.{Bor}
 use Rattle.std.specs.Prelude.{IsSome}
-use Rattle.elf_spec.specs.Image.{Image}
-use Rattle.c_type_spec.specs.Core.{Body, Typed}
-use Rattle.pair_spec.specs.SourceReach.{body_of, itself}
-use Rattle.pair_spec.specs.Faults.{LacksBody}
-use Rattle.pair_outcome_spec.specs.Code.{HasSoundCode}
-use Rattle.pair_outcome_spec.specs.Outcome as outcome
-use Rattle.pair_outcome_spec.specs.Outcome.{HasNoFault, IsFunction, IsPaired}
+use Rattle.elf_read_spec.specs.Image.{Image}
+use Rattle.c_types_spec.specs.Core.{Body, Typed}
+use Rattle.pair_setup_spec.specs.SourceReach.{body_of, itself}
+use Rattle.pair_setup_spec.specs.Faults.{LacksBody}
+use Rattle.pair_setup_spec.specs.Code.{HasSoundCode}
+use Rattle.pair_setup_spec.specs.Outcome as outcome
+use Rattle.pair_setup_spec.specs.Outcome.{HasNoFault, IsFunction, IsPaired}
 use Rattle.pair_setup.specs.declared.outcome.Function.{Function}
 use Rattle.pair_setup.specs.declared.outcome.Pairs.{Pairs}
 use Rattle.pair_setup.specs.Answers.{functions_of, pairs_of}
-use Rattle.c_reach.specs.Names.{texts_of}
+use Rattle.pair_setup_calls.specs.Names.{texts_of}
 use Rattle.tv_core.specs.Functions.{IsListed, ArePaired}
 
 some_body : (image : Image) (unit : Typed) (name : List ℕ) (found : Option Body) → body_of unit name ≡ found → (LacksBody unit name name → ⊥) → IsSome found

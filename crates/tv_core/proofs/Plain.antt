@@ -9,7 +9,7 @@ use Rattle.prove_run.specs.declared.trails.Trails.{Trails as CodeTrails}
 use Rattle.prove_run.specs.Trails.{unproved_in, over_in, failures_of}
 use Rattle.tv_base.specs.declared.faults.OutsideFault.{OutsideFault}
 use Rattle.tv_base.specs.declared.faults.OutsideFault.TheVariants.{NoMemory}
-use Rattle.verdict_spec.specs.Decisions.{Decision, no_trails, plain}
+use Rattle.tv_core_spec.specs.Decisions.{Decision, no_trails, plain}
 use Rattle.tv_core.specs.Decisions.{decision_of, trails_of, IsFromMemory, IsPlainly, IsPlainFromMemory}
 use Rattle.tv_core.specs.declared.decision.Decision.{Decision as CodeDecision}
 

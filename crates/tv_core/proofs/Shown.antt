@@ -1,20 +1,20 @@
 -- What is shown of a listed function.
 use Rattle.std.proofs.Common.{◌≡◌, ℕ, List, length, Option, Some, None, Err, refl, ap, sym, ◌∙◌, subst}
 use Rattle.std.specs.Prelude.{IsSome, IfErr, Result, option_map}
-use Rattle.elf_spec.specs.Image.{Image, function_named}
-use Rattle.elf_spec.specs.declared.SymbolValues.TheVariants.{One}
-use Rattle.code_spec.specs.Faults.{ReachesNoFault, of_function, itself}
+use Rattle.elf_read_spec.specs.Image.{Image, function_named}
+use Rattle.elf_read_spec.specs.declared.SymbolValues.TheVariants.{One}
+use Rattle.code_reach_spec.specs.Faults.{ReachesNoFault, of_function, itself}
 use Rattle.code_reach.specs.declared.faults.CodeError.{CodeError}
 use Rattle.code_reach.specs.declared.faults.CodeError.TheVariants.{Fault}
 use Rattle.code_reach.specs.declared.faults.CodeFault.{CodeFault}
 use Rattle.code_reach.specs.Found.{IsCode, IsCodeError, IsFirstFault}
-use Rattle.c_type_spec.specs.Core as core
+use Rattle.c_types_spec.specs.Core as core
 use Rattle.c_types.specs.declared.typed.Counts.{Counts}
 use Rattle.c_types.specs.declared.typed.Typed.{Typed}
 use Rattle.c_types.specs.Typed.{body_in, counts_in, counts_of, typed_of}
-use Rattle.pair_spec.specs.SourceReach.{body_of}
+use Rattle.pair_setup_spec.specs.SourceReach.{body_of}
 use Rattle.pair_setup.specs.declared.outcome.Function.{Function}
-use Rattle.verdict_spec.specs.Verdicts.{IsShown}
+use Rattle.tv_core_spec.specs.Verdicts.{IsShown}
 use Rattle.tv_core.specs.Functions.{IsListed}
 
 -- code without a fault has none

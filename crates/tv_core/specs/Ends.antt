@@ -1,20 +1,21 @@
 -- How a run ends: what it reports, what it leaves, what it hands out, and what was the cause.
-use Rattle.std.specs.Prelude.{◌≡◌, ◌≢◌, ◌↔◌, ◌≤◌, ◌<◌, ◌+◌, ◌⊎◌, ℕ, not, List, [], length, take, drop, map, filter, flat_map, All, Option, Some, None, IfSome, option_map, Result, IfOk, OnOk, OnErr, IsTrue, IsErrOf, ⊤}
-use Rattle.elf_spec.specs.Image.{Image}
-use Rattle.c_type_spec.specs.Core.{Typed}
-use Rattle.report_spec.specs.declared.Quantity.TheVariants.{Elf, C, Certificate}
-use Rattle.report_spec.specs.Verdict.{Verdict, RefusedWords, TooLarge, RefusedCertificate, NotProof, Checked, Judged, Showed, Judgement, Shown, all_valid, status_of, maximum_of}
-use Rattle.report_spec.specs.Report.{report_of, judgements_text, show_text}
-use Rattle.cert_spec.specs.Lines.{Line, line_text}
+use Rattle.std.specs.Prelude.{◌≡◌, ◌≢◌, ◌↔◌, ◌≤◌, ◌<◌, ◌+◌, ◌-◌, ◌⊎◌, ℕ, not, List, [], length, take, drop, map, filter, flat_map, All, Option, Some, None, IfSome, option_map, Result, IfOk, OnOk, OnErr, IsTrue, IsErrOf, ⊤}
+use Rattle.elf_read_spec.specs.Image.{Image}
+use Rattle.c_types_spec.specs.Core.{Typed}
+use Rattle.report_text_spec.specs.declared.Quantity.TheVariants.{Elf, C, Certificate}
+use Rattle.report_text_spec.specs.Verdict.{Verdict, RefusedWords, TooLarge, RefusedCertificate, NotProof, Checked, Judged, Showed, Judgement, Shown, all_valid, status_of, maximum_of}
+use Rattle.report_text_spec.specs.Report.{report_of, judgements_text, show_text}
+use Rattle.cert_text_spec.specs.Lines.{Line, End, line_text}
+use Rattle.cert_check_spec.specs.declared.RuleFault.TheVariants.{Missing}
 use Rattle.tv_base.specs.declared.faults.OutsideFault.{OutsideFault}
 use Rattle.tv_base.specs.declared.faults.OutsideFault.TheVariants.{Failed, NoMemory}
 use Rattle.tv_base.specs.Faults.{HasCause}
 use Rattle.tv_base.specs.Reading.{with_name}
 use Rattle.tv_base.specs.Writing.{Grows, GrowsPartly}
 use Rattle.tv_words.specs.Commands.{Command, Prove, Proving, Check, Checking, Show, Showing, IsCommand}
-use Rattle.verdict_spec.specs.Decisions.{Decision, Trails, no_trails, plain}
-use Rattle.verdict_spec.specs.Listing.{Task, Judge, Verify}
-use Rattle.verdict_spec.specs.Verdicts.{Pairs, IsVerdict, IsSound, AreSound, AreAlike}
+use Rattle.tv_core_spec.specs.Decisions.{Decision, Trails, no_trails, plain, first_unproved}
+use Rattle.tv_core_spec.specs.Listing.{Task, Judge, Verify}
+use Rattle.tv_core_spec.specs.Verdicts.{Pairs, IsVerdict, IsSound, AreSound, AreAlike}
 use Rattle.tv_core.specs.Tasks.{Asked, asked_of, task_of}
 use Rattle.tv_core.specs.Objects.{Contents, SinkState, Outputs, State, OutputsRose, AnyRose, SameOutputFaults, SameFaults}
 
@@ -297,6 +298,15 @@ pub record CertifiesAll (elf c : List ℕ) (functions : Option (List (List ℕ))
   pub certificate_is : decision.certificate ≡ Some certificate
   pub checked : IsVerdict elf c (Verify functions certificate) (plain (Checked judgements))
 
+-- this is the certificate of the proofs that a search found, and what `check` decides of it with the same files is that
+-- each of its parts is accepted, and that the first function that isn't called valid is missing, at the last line, `end`
+pub record CertifiesSome (elf c : List ℕ) (functions : Option (List (List ℕ))) (judgements : List Judgement) (certificate name : List ℕ) : Type 0 where
+  pub decision : Decision
+  pub decided : IsVerdict elf c (Judge functions) decision
+  pub judged : decision.verdict ≡ Judged judgements
+  pub certificate_is : decision.certificate ≡ Some certificate
+  pub checked : IsVerdict elf c (Verify functions certificate) (plain (NotProof name (length certificate - length (line_text End)) Missing))
+
 -- the words are a command to prove, its functions are called valid, and the store has their certificate
 pub record EndsValid (words : List (List ℕ)) (files : Contents) (before now : Outputs) : Type 0 where
   pub job : Proving
@@ -305,6 +315,20 @@ pub record EndsValid (words : List (List ℕ)) (files : Contents) (before now : 
   pub claim : AreCalledValid files job.elf job.source job.functions judgements before.report now.report
   pub certificate : List ℕ
   pub proves : (elf c : List ℕ) → files job.elf ≡ Some elf → files job.source ≡ Some c → CertifiesAll elf c job.functions judgements certificate
+  pub stored : Becomes before.store.held job.certificate certificate now.store.held
+
+-- the words are a command to prove, not all of its functions are called valid, and the store has the certificate of those
+-- that are
+pub record EndsUnproved (words : List (List ℕ)) (files : Contents) (before now : Outputs) : Type 0 where
+  pub job : Proving
+  pub job_is : IsCommand words (Prove job)
+  pub judgements : List Judgement
+  pub name : List ℕ
+  pub unproved : first_unproved judgements ≡ Some name
+  pub reported : Reports (Judged judgements) before.report now.report
+  pub certificate : List ℕ
+  pub proves : (elf c : List ℕ) → files job.elf ≡ Some elf → files job.source ≡ Some c
+      → CertifiesSome elf c job.functions judgements certificate name
   pub stored : Becomes before.store.held job.certificate certificate now.store.held
 
 -- the words are a command to check a certificate, the listed functions are called valid, and the store is as before
@@ -342,6 +366,8 @@ pub record Ends (words : List (List ℕ)) (before now : State) (trails : Trails)
   -- the validity theorem, of `prove` and of `check`, unless the words ask for a function's code alone
   pub valid : status ≡ 0 → EndsValid words before.desk.files before.outputs now.outputs
       ⊎ (EndsChecked words before.desk.files before.outputs now.outputs ⊎ EndsShown words before.outputs now.outputs)
+  -- status 1 comes with a certificate whose parts are accepted
+  pub unproved : status ≡ 1 → EndsUnproved words before.desk.files before.outputs now.outputs
   -- where nothing cut the run off, its status, report, certificate and trails are those of a decision that is its outcome
   pub ended : status ≢ 4 → status ≢ 5 → EndsWith words before.desk.files status before.outputs now.outputs trails
   -- status 2 comes exactly with a usage error

@@ -1,19 +1,19 @@
 -- What is read of the files of a job, and what a call leaves of a desk.
 use Rattle.std.specs.Prelude.{◌≡◌, ◌≤◌, ◌<◌, ◌+◌, ◌⊎◌, ℕ, List, length, take, Some, IfSome, Vec, Result, IfOk, OnOk, IsErrOf}
 use Rattle.std.specs.Global.{Global}
-use Rattle.elf_spec.specs.Image.{Image}
-use Rattle.elf_spec.specs.File.{IsElf}
-use Rattle.report_spec.specs.declared.Quantity.TheVariants.{C}
-use Rattle.report_spec.specs.Verdict.{TooLarge}
-use Rattle.tv_base.specs.declared.limits.TheConstants.{MAX_ELF_BYTES, MAX_C_BYTES, MAX_CERTIFICATE_BYTES}
+use Rattle.elf_read_spec.specs.Image.{Image}
+use Rattle.elf_read_spec.specs.File.{IsElf}
+use Rattle.report_text_spec.specs.declared.Quantity.TheVariants.{C}
+use Rattle.report_text_spec.specs.Verdict.{TooLarge}
+use Rattle.tv_limits.specs.declared.TheConstants.{MAX_ELF_BYTES, MAX_C_BYTES, MAX_CERTIFICATE_BYTES}
 use Rattle.tv_base.specs.declared.faults.OutsideFault.{OutsideFault}
 use Rattle.tv_base.specs.declared.faults.OutsideFault.TheVariants.{NoMemory}
 use Rattle.tv_base.specs.Faults.{HasCause}
 use Rattle.tv_base.specs.Reading.{with_name}
-use Rattle.c_type_spec.specs.Core.{Typed}
+use Rattle.c_types_spec.specs.Core.{Typed}
 use Rattle.tv_words.specs.Commands.{Command}
-use Rattle.verdict_spec.specs.Decisions.{Decision, plain}
-use Rattle.verdict_spec.specs.Verdicts.{Pairs, IsSound, Judges}
+use Rattle.tv_core_spec.specs.Decisions.{Decision, plain}
+use Rattle.tv_core_spec.specs.Verdicts.{Pairs, IsSound, Judges}
 use Rattle.tv_core.specs.Tasks.{asked_of, task_of}
 use Rattle.tv_core.specs.Objects.{Contents, DeskState}
 use Rattle.tv_core.specs.Decisions.{decision_of}

@@ -1,10 +1,10 @@
 -- The listed functions, as pairing answers them.
 use Rattle.std.specs.Prelude.{◌≡◌, ◌<◌, ◌≤◌, ℕ, List, length, get_or, Some, IsSome}
-use Rattle.elf_spec.specs.Image.{Image, size_at}
-use Rattle.code_spec.specs.Code.{IsStack}
-use Rattle.c_type_spec.specs.Core.{Typed}
-use Rattle.pair_spec.specs.SourceReach.{body_of}
-use Rattle.pair_outcome_spec.specs.Code.{HasSoundCode}
+use Rattle.elf_read_spec.specs.Image.{Image, size_at}
+use Rattle.code_reach_spec.specs.Code.{IsStack}
+use Rattle.c_types_spec.specs.Core.{Typed}
+use Rattle.pair_setup_spec.specs.SourceReach.{body_of}
+use Rattle.pair_setup_spec.specs.Code.{HasSoundCode}
 use Rattle.pair_setup.specs.declared.outcome.Function.{Function}
 
 -- the function of a name has code without a fault, of this size and with this stack, and a body

@@ -1,19 +1,19 @@
 -- What is decided of a list of names.
 use Rattle.std.specs.Prelude.{◌≡◌, ◌<◌, ◌≤◌, ◌+◌, ◌⊎◌, ℕ, ⊤, Bool, true, if◌then◌else◌, List, [], ◌∷◌, length, map, get_or, All, IsTrue, Vec, Option, Some, None, Result, IfOk}
 use Rattle.std.specs.Global.{Global}
-use Rattle.elf_spec.specs.Image.{Image}
-use Rattle.c_type_spec.specs.Core.{Typed}
-use Rattle.claim_spec.specs.Claim.{IsValid}
-use Rattle.pair_outcome_spec.specs.Outcome.{IsPairFault, IsCodeFault, IsTooLarge}
-use Rattle.pair_outcome_spec.specs.Outcome as outcome
-use Rattle.report_spec.specs.declared.Quantity.TheVariants.{Nodes, Certificate}
-use Rattle.report_spec.specs.Verdict.{Verdict, TooLarge, RefusedPair, RefusedCode, RefusedCertificate, NotProof, Checked, Judged, Showed, Judgement}
-use Rattle.check_spec.specs.Verdict.{Listed}
-use Rattle.cert_verdict_spec.specs.Files.{AreListed}
-use Rattle.cert_verdict_spec.specs.Verdict.{Outcome, IsOutcome}
-use Rattle.cert_verdict_spec.specs.Written.{text_by, HasSmallHints}
-use Rattle.trail_spec.specs.Trails.{Found, AreFound}
-use Rattle.cert_verdict_spec.specs.Verdict as spec
+use Rattle.elf_read_spec.specs.Image.{Image}
+use Rattle.c_types_spec.specs.Core.{Typed}
+use Rattle.validity_spec.specs.Claim.{IsValid}
+use Rattle.pair_setup_spec.specs.Outcome.{IsPairFault, IsCodeFault, IsTooLarge}
+use Rattle.pair_setup_spec.specs.Outcome as outcome
+use Rattle.report_text_spec.specs.declared.Quantity.TheVariants.{Nodes, Certificate}
+use Rattle.report_text_spec.specs.Verdict.{Verdict, TooLarge, RefusedPair, RefusedCode, RefusedCertificate, NotProof, Checked, Judged, Showed, Judgement}
+use Rattle.cert_check_spec.specs.Verdict.{Listed}
+use Rattle.cert_run_spec.specs.Files.{AreListed}
+use Rattle.cert_run_spec.specs.Verdict.{Outcome, IsOutcome}
+use Rattle.cert_run_spec.specs.Written.{text_by, HasSmallHints}
+use Rattle.prove_run_spec.specs.Trails.{Found, AreFound}
+use Rattle.cert_run_spec.specs.Verdict as spec
 use Rattle.cert_run.specs.declared.finding.Search.{Search}
 use Rattle.cert_run.specs.declared.outcome.Outcome.{Outcome as CodeOutcome}
 use Rattle.cert_run.specs.declared.outcome.Outcome.TheVariants.{Unread, Broken, Above, Proof}
@@ -21,11 +21,11 @@ use Rattle.report_text.specs.Verdicts.{verdict_of}
 use Rattle.report_text.specs.declared.verdicts.Verdict.{Verdict as CodeVerdict}
 use Rattle.pair_setup.specs.declared.outcome.Function.{Function}
 use Rattle.tv_base.specs.declared.faults.OutsideFault.{OutsideFault}
-use Rattle.tv_base.specs.declared.limits.TheConstants.{MAX_CERTIFICATE_BYTES}
+use Rattle.tv_limits.specs.declared.TheConstants.{MAX_CERTIFICATE_BYTES}
 use Rattle.tv_base.specs.Reading.{with_name}
 use Rattle.tv_words.specs.Commands.{Command, Prove, Check, Show}
-use Rattle.verdict_spec.specs.Decisions.{Decision, Trails, plain, judgements_of, judged_by, over_by}
-use Rattle.verdict_spec.specs.Verdicts.{IsShown, Lists, quantity_of, verdict_of_outcome}
+use Rattle.tv_core_spec.specs.Decisions.{Decision, Trails, plain, judgements_of, judged_by, over_by}
+use Rattle.tv_core_spec.specs.Verdicts.{IsShown, Lists, quantity_of, verdict_of_outcome}
 use Rattle.tv_core.specs.Tasks.{asked_of, task_of}
 use Rattle.tv_core.specs.Objects.{Contents, DeskState}
 use Rattle.tv_core.specs.Decisions.{decision_of, trails_of}

@@ -1,7 +1,7 @@
 -- What a command asks for, and of which files.
 use Rattle.std.specs.Prelude.{ℕ, List, [], Option, Some, None}
 use Rattle.tv_words.specs.Commands.{Command, Prove, Check, Show}
-use Rattle.verdict_spec.specs.Listing.{Task, Judge, Verify, Display}
+use Rattle.tv_core_spec.specs.Listing.{Task, Judge, Verify, Display}
 
 -- the names of two files to read, that of a certificate to write, and that of one to read; a command that writes no
 -- certificate has the empty name

@@ -1,5 +1,5 @@
 ghost use Rattle.std.specs.Prelude.{◌≡◌, ◌<◌, ◌^◌, IfOk};
-ghost use Rattle.tv_base.specs.declared.limits.TheConstants.{MAX_ELF_BYTES as ELF_BYTES};
+ghost use Rattle.tv_limits.specs.declared.TheConstants.{MAX_ELF_BYTES as ELF_BYTES};
 ghost use Rattle.tv_words.specs.Jobs.{job_of};
 ghost use Rattle.tv_core.specs.Tasks.{asked_of};
 ghost use Rattle.tv_core.specs.Decisions.{decision_of};
@@ -9,11 +9,11 @@ ghost use Rattle.tv_core.specs.Files.{ReadsAfter, ReadsFiles, ReadsSource};
 
 use crate::decision::{Decision, plain};
 use crate::judge::judge;
-use report_spec::Quantity;
 use report_text::Verdict;
+use report_text_spec::Quantity;
 use std::alloc::Global;
-use tv_base::limits::{MAX_C_BYTES, MAX_ELF_BYTES};
 use tv_base::{Desk, OutsideFault, read_up_to};
+use tv_limits::{MAX_C_BYTES, MAX_ELF_BYTES};
 use tv_words::Job;
 
 /// The name of the executable.

@@ -1,19 +1,19 @@
 ghost use Rattle.std.specs.Prelude.{◌≡◌, ◌≤◌, ◌<◌, ◌+◌, ℕ, true, List, Some, IfOk, OnErr};
 ghost use Rattle.std.specs.Prelude.{IsErrOf, length, map};
-ghost use Rattle.c_type_spec.specs.HasType.{IsTypedUnit};
+ghost use Rattle.c_types_spec.specs.HasType.{IsTypedUnit};
 ghost use Rattle.c_graph_spec.specs.Sizes.{UnitSizes};
 ghost use Rattle.c_types.specs.Typed.{typed_of};
-ghost use Rattle.c_reach.specs.Names.{names_of, texts_of};
+ghost use Rattle.pair_setup_calls.specs.Names.{names_of, texts_of};
 ghost use Rattle.pair_setup.specs.Answers.{IsNamed, IsPairError, pairs_of};
 ghost use Rattle.report_text.specs.Judgements.{judgement_of, judgements_of};
 ghost use Rattle.report_text.specs.Verdicts.{verdict_of};
 ghost use Rattle.tv_base.specs.declared.faults.OutsideFault.TheVariants.{NoMemory};
-ghost use Rattle.tv_base.specs.declared.limits.TheConstants.{
+ghost use Rattle.tv_limits.specs.declared.TheConstants.{
   MAX_CERTIFICATE_BYTES as CERTIFICATE_BYTES,
 };
-ghost use Rattle.check_sides.specs.Sides.{IsRead};
+ghost use Rattle.cert_run.specs.Sides.{IsRead};
 ghost use Rattle.cert_run.specs.Runs.{CanRun};
-ghost use Rattle.verdict_spec.specs.Verdicts as spec;
+ghost use Rattle.tv_core_spec.specs.Verdicts as spec;
 ghost use Rattle.tv_words.specs.Jobs.{job_of};
 ghost use Rattle.tv_core.specs.Objects.{desk_state};
 ghost use Rattle.tv_core.specs.Files.{AreOf, BeginsFile, KeepsDesk};
@@ -27,20 +27,19 @@ ghost use Rattle.tv_core.specs.Functions.{IsListed};
 use crate::decision::{Decision, from_memory, plain, plain_from_memory};
 use crate::files::read_file;
 use attempt::attempt;
-use c_reach::name_at;
 use c_types::typed::Typed;
+use cert_check_spec::Quantity as CheckQuantity;
 use cert_run::{Outcome, Search, check, prove};
-use check_spec::Quantity as CheckQuantity;
 use code_reach::{CodeError, code};
 use elf_read::Image;
 use pair_setup::{Function, Named, PairError, Pairs, pair};
+use pair_setup_calls::name_at;
 use prove_run::Trails;
-use report_spec::Quantity;
 use report_text::{Judgement, Shown, Verdict};
+use report_text_spec::Quantity;
 use std::alloc::{AllocError, Global};
-use tv_base::limits::{MAX_CERTIFICATE_BYTES, MAX_FUNCTIONS};
-use tv_base::{Desk, OutsideFault};
-use tv_bytes::Bytes;
+use tv_base::{Bytes, Desk, OutsideFault};
+use tv_limits::{MAX_CERTIFICATE_BYTES, MAX_FUNCTIONS};
 use tv_words::Job;
 
 /// The judgement on a function.

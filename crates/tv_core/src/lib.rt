@@ -1,7 +1,7 @@
 //! The whole of a run: words, two files, a verdict, a certificate, a report and trails. [`run`] is
 //! the one entry. Its contract (`specs/Ends.antt`) says what a run claims, what it leaves and what
 //! it hands out, over any objects of input and output: at status 0 the validity theorem
-//! (`claim_spec`), at every other end the cause (`verdict_spec`, `trail_spec`).
+//! (`validity_spec`), at every other end the cause (`tv_core_spec`, `prove_run_spec`).
 #![tactic(auto)]
 
 mod decision;
@@ -12,4 +12,5 @@ mod listing;
 mod publish;
 mod running;
 
+pub use prove_run::{Measure, Side, Trail, Trails};
 pub use running::run;

@@ -2,14 +2,14 @@ ghost use Rattle.std.specs.Prelude.{◌≡◌, ◌++◌, ◌∷◌, [], filter, 
 ghost use Rattle.c_types.specs.Typed.{typed_of};
 ghost use Rattle.tv_words.specs.Jobs.{job_of};
 ghost use Rattle.tv_core.specs.Tasks.{task_of};
-ghost use Rattle.verdict_spec.specs.Listing as spec;
+ghost use Rattle.tv_core_spec.specs.Listing as spec;
 
 use attempt::attempt;
 use c_types::typed::Typed;
 use elf_read::Image;
-use elf_spec::SymbolValues;
+use elf_read_spec::SymbolValues;
 use std::alloc::{AllocError, Global};
-use tv_bytes::Bytes;
+use tv_base::Bytes;
 use tv_words::Job;
 
 /// The names that a command gives.

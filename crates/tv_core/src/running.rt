@@ -2,7 +2,7 @@ ghost use Rattle.std.specs.Prelude.{◌≡◌, ℕ, List, IfOk, OnErr, IsErrOf, 
 ghost use Rattle.std.specs.Prelude.{option_map, string_bytes};
 ghost use Rattle.tv_base.specs.declared.faults.OutsideFault.TheVariants.{NoMemory};
 ghost use Rattle.tv_words.specs.Jobs.{job_of};
-ghost use Rattle.report_spec.specs.Verdict.{status_of};
+ghost use Rattle.report_text_spec.specs.Verdict.{status_of};
 ghost use Rattle.tv_core.specs.Decisions.{decision_of, trails_of};
 ghost use Rattle.tv_core.specs.Objects.{state_of, desk_state, outputs_of, sink_state};
 ghost use Rattle.tv_core.specs.Ends.{AskFor, IsOutcome, certificate_name, Publishes, RunsTo};
@@ -16,8 +16,8 @@ use prove_run::Trails;
 use report_text::{Verdict, status};
 use std::alloc::Global;
 use tv_base::{Desk, OutsideFault, Sink, Store};
+use tv_core_spec::{one_verdict, proved_is_checked, unproved_is_missing};
 use tv_words::{Job, WordsError, command};
-use verdict_spec::{one_verdict, proved_is_checked};
 
 /// What the words ask for, or `None` where they are no command.
 fn asked(alloc: Global, words: &[String]) -> Result<Option<Job<'_>>, OutsideFault>
@@ -203,6 +203,7 @@ pub fn run<D: Desk, R: Sink, K: Store>(
     // laws, of which nothing runs
     one_verdict();
     proved_is_checked();
+    unproved_is_missing();
     *trails = Trails::new(alloc);
     match try_run(alloc, words, desk, report, certificate, trails) {
         Ok(code) => code,

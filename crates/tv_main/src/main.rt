@@ -1,15 +1,20 @@
 //! The program `tv`: a run on the files and the standard output of the operating system.
 //!
 //! It makes the objects of the outside, calls [`tv_core::run`] with the words that it was started
-//! with, and exits with its answer. All that is claimed of a run is a clause of that call.
+//! with, and exits with its answer. All that is claimed of a run is a clause of that call. A word
+//! `--why` before all others is none of the run's: with it, what [`tv_core::run`] hands out of each
+//! function that it calls unproved is printed after the report.
 #![tactic(auto)]
 
-use prove_run::Trails;
+mod reasons;
+mod values;
+
+use row_io::{Out, output};
 use std::process::ExitCode;
 use std::rt::Env;
 use std::{env, io};
-use tv_core::run;
-use tv_outside::{FileDesk, FileStore, OutSink};
+use tv_core::{Trails, run};
+use tv_outside::{Descriptors, FileDesk, FileStore, OutSink};
 
 /// The words that the program was started with.
 fn words(rt: &(impl Env + AllocGlobal)) -> io::Result<Vec<String>> {
@@ -17,27 +22,82 @@ fn words(rt: &(impl Env + AllocGlobal)) -> io::Result<Vec<String>> {
     Ok(words)
 }
 
-/// A run on these words, over the real outside. Why functions are unproved is not printed.
-fn status(rt: HostRuntime, words: &[String]) -> u8 {
+/// A run on these words, over the real outside.
+fn status(rt: HostRuntime, words: &[String], trails: &mut Trails) -> u8 {
     let mut desk = FileDesk::new(rt);
     let mut report = OutSink::new(rt);
     let mut certificate = FileStore::new(rt);
-    let mut trails = Trails::new(rt.alloc());
     run(
         rt.alloc(),
         words,
         &mut desk,
         &mut report,
         &mut certificate,
-        &mut trails,
+        trails,
     )
 }
 
-/// Words that are not text are no command.
-fn main(rt: HostRuntime) -> ExitCode {
-    match words(&rt) {
-        Ok(words) => ExitCode::from(status(rt, words.as_slice())),
-        Err(error) if error.kind() == io::ErrorKind::OutOfMemory => ExitCode::from(5),
-        Err(_) => ExitCode::from(status(rt, &[])),
+/// A run on these words, and why functions are unproved.
+fn explained(rt: HostRuntime, words: &[String]) -> io::Result<u8> {
+    let mut trails = Trails::new(rt.alloc());
+    let status = status(rt, words, &mut trails);
+    let mut out = Out::new(rt.alloc());
+    reasons::put_reasons(rt.alloc(), &trails, &mut out);
+    output(rt, &out)?;
+    Ok(status)
+}
+
+/// Whether the word after the program's name asks why functions are unproved.
+fn asks_why(words: &[String]) -> bool {
+    match words {
+        [_, word, ..] => word.as_str() == "--why",
+        _ => false,
     }
+}
+
+/// A run on the words that the program was started with.
+fn answered(rt: HostRuntime, words: &[String]) -> io::Result<u8> {
+    if asks_why(words) {
+        // `--why` is in the place of the program's name, which is no word of a command
+        let rest = match words {
+            [_, rest @ ..] => rest,
+            [] => words,
+        };
+        return explained(rt, rest);
+    }
+    let mut trails = Trails::new(rt.alloc());
+    Ok(status(rt, words, &mut trails))
+}
+
+/// The status of a run that was cut off: out of memory, or a failed read or write.
+fn status_of(error: &io::Error) -> u8 {
+    if error.kind() == io::ErrorKind::OutOfMemory {
+        5
+    } else {
+        4
+    }
+}
+
+/// A run on the words that the program was started with. Words that are not text are no command.
+fn ended(rt: HostRuntime) -> io::Result<u8> {
+    match words(&rt) {
+        Ok(words) => answered(rt, words.as_slice()),
+        Err(error) if error.kind() == io::ErrorKind::OutOfMemory => Err(error),
+        Err(_) => answered(rt, &[]),
+    }
+}
+
+/// Before any file is opened the standard descriptors are taken, so that a report is never written
+/// into a file.
+fn main(rt: HostRuntime) -> ExitCode {
+    let taken = match Descriptors::take(&rt) {
+        Ok(taken) => taken,
+        Err(error) => return ExitCode::from(status_of(&error)),
+    };
+    let status = match ended(rt) {
+        Ok(status) => status,
+        Err(error) => status_of(&error),
+    };
+    drop(taken);
+    ExitCode::from(status)
 }

@@ -21,6 +21,30 @@ fn refused<T>(faults: &mut u64, error: &io::Error) -> Result<T, OutsideFault>
     Err(OutsideFault::Failed)
 }
 
+/// The file that takes a standard descriptor. Opened for reading, it takes no byte of a report.
+const NOTHING: &str = "/dev/null";
+
+/// Files that are kept open so that descriptors 0 to 2 are taken: the operating system gives a file
+/// the lowest descriptor that is free, and a program may be started with some of these three closed.
+/// A file that is opened later then has another one, and what is written to a standard descriptor
+/// that was closed fails.
+#[derive(Drop)]
+pub struct Descriptors<R: Files> {
+    files: [R::File; 3],
+}
+
+impl<R: Files> Descriptors<R> {
+    /// Takes those of the three that are free. The first error of the operating system ends it.
+    pub fn take(rt: &R) -> io::Result<Self> {
+        let first = std::fs::open(rt, NOTHING)?;
+        let second = std::fs::open(rt, NOTHING)?;
+        let third = std::fs::open(rt, NOTHING)?;
+        Ok(Descriptors {
+            files: [first, second, third],
+        })
+    }
+}
+
 /// Files of the operating system, read. Contracts see neither their contents nor which were begun.
 #[derive(Drop)]
 pub struct FileDesk<R: Files + Drop> {

@@ -3,7 +3,7 @@
 use report_text::{Judgement, Verdict, report, status};
 use row_io::{Out, decimal, split};
 use std::alloc::{AllocError, Global};
-use tv_bytes::Bytes;
+use tv_base::Bytes;
 
 /// The judgement `NAME=STACK`, or `NAME` of an unproved function.
 fn judgement(alloc: Global, part: &str) -> Result<Judgement, AllocError> {

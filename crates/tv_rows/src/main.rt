@@ -1,6 +1,6 @@
-//! Rows of whole runs over objects in memory: each line of the input is a row, a name, a colon and
-//! what is asked; each line of the output is the name of its row and an outcome. Words are parted
-//! by `/`; `names=N` is a list of N names.
+//! Rows of pairs, of certificates, and of whole runs over objects in memory: each line of the input
+//! is a row, a name, a colon and what is asked; each line of the output is the name of its row and
+//! an outcome. Words are parted by `/`; `names=N` is a list of N names.
 //!
 //! - `elf HEX`, `zeros SIZE`, `c TEXT`, `pad SIZE`: the pair of the rows after it, the files `e`
 //!   and `c`: the bytes of the executable, or as many zeros; the source, where `\n` is a line feed,
@@ -18,13 +18,30 @@
 //! - `words WORDS`: the job of the words; `report NAME=STACK..`: the status and the report of
 //!   judgements, of which those without a stack are unproved; `files`: what is written to a file
 //!   and read from it
+//! - `proof TEXT`: what the check says of a certificate, in which `|` is a line feed, of those
+//!   functions of the pair that are in brackets in the row's name: whether it is a proof, or the
+//!   function, the offset and the rule of its first fault, or the offset at which it is refused
+//! - `pair PARTS | LIST | TEXT`: what pairing answers of an executable, by its parts as `row_io`
+//!   has them, listed functions, separated by blanks, and a C text: of each function its entry,
+//!   size and stack, and then all entries that are reached; or the refusal
+//! - `pair chain COUNT LISTED`: the same of so many functions, each of which calls the next one,
+//!   the first so many of them listed; `pair back COUNT` of the same, all listed, the last one
+//!   first; `pair wide COUNT` of so many that only return, all of them listed;
+//!   `pair long WORDS STATEMENTS` of one with so many instructions and statements before it
+//!   returns. Of many functions the first and the last one are written
 //!
 //! A line that begins with `#` says where the outcomes of the rows after it come from.
 #![tactic(auto)]
 
+mod answers;
+mod certificates;
+mod check;
 mod files;
 mod judgements;
+mod outcomes;
+mod pair;
 mod runs;
+mod sources;
 mod trails;
 mod words;
 
@@ -48,7 +65,13 @@ fn read_pair(alloc: Global, asked: &str, rest: &str, pair: &mut Pair) -> Result<
 }
 
 /// The outcome of a row; a row of the pair has none.
-fn put_outcome(alloc: Global, row: &str, pair: &mut Pair, out: &mut Out) -> Result<(), AllocError> {
+fn put_outcome(
+    alloc: Global,
+    name: &str,
+    row: &str,
+    pair: &mut Pair,
+    out: &mut Out,
+) -> Result<(), AllocError> {
     let (asked, rest) = split(row, ' ');
     if read_pair(alloc, asked, rest, pair)? {
         return Ok(());
@@ -60,6 +83,11 @@ fn put_outcome(alloc: Global, row: &str, pair: &mut Pair, out: &mut Out) -> Resu
         "fail" => runs::put_failing(alloc, rest, pair, out),
         "steady" => runs::put_steady(alloc, rest, pair, out),
         "words" => words::put_command(alloc, rest, out),
+        "pair" => pair::put_outcome(alloc, rest, out),
+        "proof" => {
+            check::put_outcome(alloc, name, rest, pair, out);
+            Ok(())
+        }
         _ => judgements::put_judged(alloc, rest, out),
     }
 }
@@ -71,7 +99,7 @@ fn print_row(rt: HostRuntime, line: &str, pair: &mut Pair) -> io::Result<()> {
     if row == "files" {
         files::put_files(rt, &mut outcome);
     } else {
-        put_outcome(rt.alloc(), row, pair, &mut outcome)?;
+        put_outcome(rt.alloc(), name, row, pair, &mut outcome)?;
     }
     let mut out = Out::new(rt.alloc());
     out.row(name, &outcome);

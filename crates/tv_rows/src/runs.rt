@@ -5,10 +5,9 @@ ghost use Rattle.std.specs.Prelude.{◌≢◌};
 use crate::trails;
 use crate::words::read_words;
 use attempt::attempt;
-use prove_run::Trails;
 use row_io::{Out, decimal, split};
 use std::alloc::{AllocError, Global};
-use tv_core::run;
+use tv_core::{Trails, run};
 use tv_outside::{GivenFile, MemDesk, MemSink, MemStore, SteadyDesk, SteadySink, SteadyStore};
 
 /// More bytes than any call is asked for.

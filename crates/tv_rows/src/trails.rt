@@ -1,7 +1,7 @@
 //! Why functions are unproved.
 
-use prove_run::{Measure, Side, Trail, Trails};
 use row_io::Out;
+use tv_core::{Measure, Side, Trail, Trails};
 
 fn put_side(side: Side, out: &mut Out) {
     match side {

@@ -5,7 +5,7 @@ use Rattle.std.proofs.lemmas.Bool.{and_parts, and_from, true_from_ne_false, not_
 use Rattle.std.proofs.lemmas.Slice.Eq.{bytes_eq-Decides}
 use Rattle.std.proofs.lemmas.List.Splits.{slice_split_none, slice_split_at, length-slice_split, join_with_byte-slice_split}
 use Rattle.std.proofs.lemmas.List.Sums.{AllPass-from_list_all}
-use Rattle.c_spec.specs.Words.{begins_word, is_word_byte}
+use Rattle.c_token_spec.specs.Words.{begins_word, is_word_byte}
 use Rattle.tv_words.specs.Names.{is_name, IsList}
 
 abbrev pub Text : Type 0

@@ -1,7 +1,7 @@
 -- Lists of names, as `f,g,h`.
 use Rattle.std.specs.Prelude.{◌≡◌, ◌≢◌, ◌&&◌, ℕ, Bool, false, true, List, [], ◌∷◌, bytes_eq}
 use Rattle.std.specs.List.{list_all, join_with_byte, IsDistinct}
-use Rattle.c_spec.specs.Words.{begins_word, is_word_byte}
+use Rattle.c_token_spec.specs.Words.{begins_word, is_word_byte}
 
 -- a letter or an underscore, and then letters, digits and underscores; C's keywords are names here
 abbrev pub is_name : List ℕ → Bool

@@ -3,7 +3,7 @@
 ghost use Rattle.std.specs.Prelude.{◌≡◌, ◌==◌, ◌↔◌, IfOk, IfErr, IsTrue, List, ℕ, [], map};
 ghost use Rattle.std.specs.Prelude.{bytes_eq};
 ghost use Rattle.std.specs.List.{slice_split, IsDistinct, list_all};
-ghost use Rattle.c_spec.specs.Words.{begins_word, is_word_byte};
+ghost use Rattle.c_token_spec.specs.Words.{begins_word, is_word_byte};
 ghost use Rattle.tv_words.specs.Names as spec;
 ghost use Rattle.tv_words.specs.declared.WordsError.TheVariants.{NoMemory};
 

@@ -3,14 +3,14 @@ use Rattle.std.proofs.Common.{◌≡◌, ℕ, false, List, [], ◌∷◌, map, r
 use Rattle.std.specs.Prelude.{Contains, Option, Some, None}
 use Rattle.std.proofs.lemmas.List.{reverse-append}
 use Rattle.std.proofs.lemmas.List.Elements.{Contains-append_left, Contains-append_right}
-use Rattle.graph_spec.specs.declared.Next.TheVariants as next
-use Rattle.visit_spec.specs.declared.Mark.{Mark}
-use Rattle.visit_spec.specs.Shape.{Shape}
-use Rattle.visit_spec.specs.DepthFirst.{Takes, Leads, here, on, IsOnCycle}
-use Rattle.visit_spec.specs.Visits.{is_last, nexts_of, first_of}
-use Rattle.visit_spec.specs.Outcomes.{IsCyclicFrom}
-use Rattle.visit_spec.proofs.Members.{contained_here, contained_cases}
-use Rattle.visit_spec.proofs.Walks.{walk_whole}
+use Rattle.graph_core_spec.specs.declared.Next.TheVariants as next
+use Rattle.visit_walk_spec.specs.declared.Mark.{Mark}
+use Rattle.visit_walk_spec.specs.Shape.{Shape}
+use Rattle.visit_walk_spec.specs.DepthFirst.{Takes, Leads, here, on, IsOnCycle}
+use Rattle.visit_walk_spec.specs.Visits.{is_last, nexts_of, first_of}
+use Rattle.visit_walk_spec.specs.Outcomes.{IsCyclicFrom}
+use Rattle.visit_walk_spec.proofs.Members.{contained_here, contained_cases}
+use Rattle.visit_walk_spec.proofs.Walks.{walk_whole}
 use Rattle.visit_walk.specs.declared.depth_first.Targets.{Targets}
 use Rattle.visit_walk.specs.Search.{numbers_at, IsSearched}
 use Rattle.visit_walk.specs.Nodes.{rounds_at, ArePassed, AreRounds, IsCycleAnswer}

@@ -4,11 +4,11 @@ use Rattle.std.specs.Prelude.{option_map}
 use Rattle.std.proofs.Math.ListN.{get_or-append}
 use Rattle.std.proofs.lemmas.List.{map-append}
 use Rattle.std.proofs.lemmas.Option.{slice_get-map, same_Some}
-use Rattle.graph_spec.specs.declared.Next.{Next}
-use Rattle.visit_spec.specs.declared.Mark.{Mark}
-use Rattle.visit_spec.specs.DepthFirst.{AreDistinct}
-use Rattle.visit_spec.specs.Visits.{Visit, arrival_of}
-use Rattle.visit_spec.proofs.Members.{none_contained}
+use Rattle.graph_core_spec.specs.declared.Next.{Next}
+use Rattle.visit_walk_spec.specs.declared.Mark.{Mark}
+use Rattle.visit_walk_spec.specs.DepthFirst.{AreDistinct}
+use Rattle.visit_walk_spec.specs.Visits.{Visit, arrival_of}
+use Rattle.visit_walk_spec.proofs.Members.{none_contained}
 use Rattle.visit_walk.specs.declared.table.Key.{Key}
 use Rattle.visit_walk.specs.declared.table.Key.TheVariants.{Node, Return, Error}
 use Rattle.visit_walk.specs.Tables.{Holds, Extends, vector_at, counts_of, place_of, seen, visits_in, AreTable, IsKeyAdded, IsKeyAfter, Grows}

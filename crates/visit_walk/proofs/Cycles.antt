@@ -3,16 +3,16 @@ use Rattle.std.proofs.Common.{◌≡◌, ◌⊎◌, ℕ, suc, ◌+◌, ◌<◌, 
 use Rattle.std.specs.Prelude.{Contains, nat_le, ◌==◌, ◌&&◌, ◌||◌, if◌then◌else◌}
 use Rattle.std.proofs.lemmas.Bool.{leb-false, lt-leb}
 use Rattle.std.proofs.lemmas.List.Elements.{Contains-append_left, Contains-append_right}
-use Rattle.graph_spec.specs.declared.Next.{Next}
-use Rattle.graph_spec.specs.declared.Next.TheVariants as next
-use Rattle.visit_spec.specs.declared.Mark.{Mark}
-use Rattle.visit_spec.specs.declared.Successors.{Successors}
-use Rattle.visit_spec.specs.declared.Successors.TheVariants.{One, Two, Callee, Nothing}
-use Rattle.visit_spec.specs.Shape.{Shape, successors_at}
-use Rattle.visit_spec.specs.DepthFirst.{Leads, here, on, IsOnCycle}
-use Rattle.visit_spec.specs.Visits.{Visit, Edge, counted, is_last, arrival_of, first_of, followed, edges_at, edges_of, nexts_of}
-use Rattle.visit_spec.specs.Outcomes.{IsCyclicFrom, IsAcyclicFrom}
-use Rattle.visit_spec.proofs.Members.{none_contained, only_contained, contained_here, contained_later, contained_cases}
+use Rattle.graph_core_spec.specs.declared.Next.{Next}
+use Rattle.graph_core_spec.specs.declared.Next.TheVariants as next
+use Rattle.visit_walk_spec.specs.declared.Mark.{Mark}
+use Rattle.visit_walk_spec.specs.declared.Successors.{Successors}
+use Rattle.visit_walk_spec.specs.declared.Successors.TheVariants.{One, Two, Callee, Nothing}
+use Rattle.visit_walk_spec.specs.Shape.{Shape, successors_at}
+use Rattle.visit_walk_spec.specs.DepthFirst.{Leads, here, on, IsOnCycle}
+use Rattle.visit_walk_spec.specs.Visits.{Visit, Edge, counted, is_last, arrival_of, first_of, followed, edges_at, edges_of, nexts_of}
+use Rattle.visit_walk_spec.specs.Outcomes.{IsCyclicFrom, IsAcyclicFrom}
+use Rattle.visit_walk_spec.proofs.Members.{none_contained, only_contained, contained_here, contained_later, contained_cases}
 use Rattle.visit_walk.specs.Nodes.{is_closed, is_marked, passed, passed_from, passes, unmarked, rounds, rounds_at}
 
 -- ---- counts, aligned with marks

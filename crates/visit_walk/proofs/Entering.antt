@@ -4,15 +4,15 @@ use Rattle.std.specs.Prelude.{slice_get, Contains, nat_eq, ◌==◌, ◌&&◌, i
 use Rattle.std.specs.Global.{Global}
 use Rattle.std.proofs.lemmas.Bool.{and_parts}
 use Rattle.std.proofs.lemmas.List.{length-set, get_or-set_same, get_or-set_other, get_or-replicate, length-replicate, map-set}
-use Rattle.graph_spec.specs.declared.Next.{Next}
-use Rattle.graph_spec.specs.declared.Next.TheVariants as next
-use Rattle.visit_spec.specs.declared.Mark.{Mark}
-use Rattle.visit_spec.specs.declared.Incoming.{Incoming}
-use Rattle.visit_spec.specs.declared.Branch.TheVariants.{Only, IfTrue, IfFalse}
-use Rattle.visit_spec.specs.Shape.{Shape}
-use Rattle.visit_spec.specs.Visits.{Visit, Edge, edges_of}
-use Rattle.visit_spec.specs.EdgesInto.{same_place, same_counts, same_visit, edges_from, edges_after, all_edges_after}
-use Rattle.visit_spec.proofs.Members.{contained_here, contained_later}
+use Rattle.graph_core_spec.specs.declared.Next.{Next}
+use Rattle.graph_core_spec.specs.declared.Next.TheVariants as next
+use Rattle.visit_walk_spec.specs.declared.Mark.{Mark}
+use Rattle.visit_walk_spec.specs.declared.Incoming.{Incoming}
+use Rattle.visit_walk_spec.specs.declared.Branch.TheVariants.{Only, IfTrue, IfFalse}
+use Rattle.visit_walk_spec.specs.Shape.{Shape}
+use Rattle.visit_walk_spec.specs.Visits.{Visit, Edge, edges_of}
+use Rattle.visit_walk_spec.specs.EdgesInto.{same_place, same_counts, same_visit, edges_from, edges_after, all_edges_after}
+use Rattle.visit_walk_spec.proofs.Members.{contained_here, contained_later}
 use Rattle.visit_walk.specs.declared.depth_first.Targets.{Targets}
 use Rattle.visit_walk.specs.declared.depth_first.Targets.TheVariants.{Zero, One, Two}
 use Rattle.visit_walk.specs.declared.table.Table.{Table}

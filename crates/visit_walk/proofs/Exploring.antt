@@ -6,16 +6,16 @@ use Rattle.std.proofs.Math.ListN.{get_or-append}
 use Rattle.std.proofs.lemmas.List.{length-map}
 use Rattle.std.proofs.lemmas.List.Elements.{Contains-append_cases}
 use Rattle.std.proofs.lemmas.Option.{same_Some, get_or_from_slice_get}
-use Rattle.graph_spec.specs.declared.Next.{Next}
-use Rattle.graph_spec.specs.declared.Next.TheVariants as next
-use Rattle.visit_spec.specs.declared.Successors.{Successors}
-use Rattle.visit_spec.specs.declared.Successors.TheVariants as successors
-use Rattle.visit_spec.specs.declared.Mark.{Mark}
-use Rattle.visit_spec.specs.declared.Branch.TheVariants.{Only, IfTrue, IfFalse}
-use Rattle.visit_spec.specs.Shape.{Shape, successors_at}
-use Rattle.visit_spec.specs.DepthFirst.{Leads, here, on, AreDistinct}
-use Rattle.visit_spec.specs.Visits.{Visit, Edge, arrival_of, first_of, followed, edges_of, edges_at, nexts_of, is_last}
-use Rattle.visit_spec.proofs.Members.{none_contained, only_contained, contained_here, contained_later, contained_at}
+use Rattle.graph_core_spec.specs.declared.Next.{Next}
+use Rattle.graph_core_spec.specs.declared.Next.TheVariants as next
+use Rattle.visit_walk_spec.specs.declared.Successors.{Successors}
+use Rattle.visit_walk_spec.specs.declared.Successors.TheVariants as successors
+use Rattle.visit_walk_spec.specs.declared.Mark.{Mark}
+use Rattle.visit_walk_spec.specs.declared.Branch.TheVariants.{Only, IfTrue, IfFalse}
+use Rattle.visit_walk_spec.specs.Shape.{Shape, successors_at}
+use Rattle.visit_walk_spec.specs.DepthFirst.{Leads, here, on, AreDistinct}
+use Rattle.visit_walk_spec.specs.Visits.{Visit, Edge, arrival_of, first_of, followed, edges_of, edges_at, nexts_of, is_last}
+use Rattle.visit_walk_spec.proofs.Members.{none_contained, only_contained, contained_here, contained_later, contained_at}
 use Rattle.visit_walk.specs.declared.depth_first.Targets.{Targets}
 use Rattle.visit_walk.specs.declared.depth_first.Targets.TheVariants.{Zero, One, Two}
 use Rattle.visit_walk.specs.declared.table.Table.{Table}

@@ -4,14 +4,14 @@ use Rattle.std.specs.Prelude.{Contains, nat_eq, slice_index, if◌then◌else◌
 use Rattle.std.specs.Global.{Global}
 use Rattle.std.proofs.lemmas.List.{length-map, length-replicate}
 use Rattle.std.proofs.lemmas.List.Elements.{Contains-get_or}
-use Rattle.visit_spec.specs.declared.Mark.{Mark}
-use Rattle.visit_spec.specs.declared.Incoming.{Incoming}
-use Rattle.visit_spec.specs.Shape.{Shape}
-use Rattle.visit_spec.specs.DepthFirst.{Takes}
-use Rattle.visit_spec.specs.Visits.{nexts_of}
-use Rattle.visit_spec.proofs.Members.{none_contained, only_contained, contained_here, contained_later, contained_cases}
-use Rattle.visit_spec.proofs.Walks.{AreLater, walk_whole}
-use Rattle.visit_spec.proofs.Images.{are_left}
+use Rattle.visit_walk_spec.specs.declared.Mark.{Mark}
+use Rattle.visit_walk_spec.specs.declared.Incoming.{Incoming}
+use Rattle.visit_walk_spec.specs.Shape.{Shape}
+use Rattle.visit_walk_spec.specs.DepthFirst.{Takes}
+use Rattle.visit_walk_spec.specs.Visits.{nexts_of}
+use Rattle.visit_walk_spec.proofs.Members.{none_contained, only_contained, contained_here, contained_later, contained_cases}
+use Rattle.visit_walk_spec.proofs.Walks.{AreLater, walk_whole}
+use Rattle.visit_walk_spec.proofs.Images.{are_left}
 use Rattle.visit_walk.specs.declared.depth_first.Targets.{Targets}
 use Rattle.visit_walk.specs.declared.table.Table.{Table}
 use Rattle.visit_walk.specs.declared.found.WalkFault.{WalkFault}

@@ -7,7 +7,7 @@ use Rattle.std.specs.Str.{bytes_eq}
 use Rattle.std.proofs.lemmas.List.{map-append, map-id}
 use Rattle.std.proofs.lemmas.Option.{same_Some, slice_get-map}
 use Rattle.std.proofs.lemmas.Slice.Eq.{bytes_eq-Decides}
-use Rattle.visit_spec.specs.DepthFirst.{AreDistinct}
+use Rattle.visit_walk_spec.specs.DepthFirst.{AreDistinct}
 use Rattle.visit_walk.specs.Tables.{Holds, Extends}
 
 -- what the keys stand for: nothing is lost, what was inserted is at the index, and nothing is there twice

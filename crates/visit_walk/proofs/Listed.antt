@@ -2,14 +2,14 @@
 use Rattle.std.proofs.Common.{◌≡◌, ℕ, ◌<◌, List, [], ◌∷◌, length, map, Some, sym, ◌∙◌, ap, subst, inl, inr, arith}
 use Rattle.std.specs.Prelude.{unwrap_or, Contains}
 use Rattle.std.proofs.lemmas.List.{length-map}
-use Rattle.graph_spec.specs.declared.Next.TheVariants as next
-use Rattle.visit_spec.specs.declared.Mark.{Mark}
-use Rattle.visit_spec.specs.Shape.{Shape}
-use Rattle.visit_spec.specs.DepthFirst.{Takes, Leads}
-use Rattle.visit_spec.specs.Visits.{Visit, Edge, first_of, edges_of, nexts_of}
-use Rattle.visit_spec.specs.Outcomes.{IsCyclicFrom, IsAcyclicFrom, AreTooManyFrom}
-use Rattle.visit_spec.proofs.Members.{none_contained, only_contained, contained_cases}
-use Rattle.visit_spec.proofs.Images.{IsImage, takes_image, leads_inside, leads_image, cycle_image}
+use Rattle.graph_core_spec.specs.declared.Next.TheVariants as next
+use Rattle.visit_walk_spec.specs.declared.Mark.{Mark}
+use Rattle.visit_walk_spec.specs.Shape.{Shape}
+use Rattle.visit_walk_spec.specs.DepthFirst.{Takes, Leads}
+use Rattle.visit_walk_spec.specs.Visits.{Visit, Edge, first_of, edges_of, nexts_of}
+use Rattle.visit_walk_spec.specs.Outcomes.{IsCyclicFrom, IsAcyclicFrom, AreTooManyFrom}
+use Rattle.visit_walk_spec.proofs.Members.{none_contained, only_contained, contained_cases}
+use Rattle.visit_walk_spec.proofs.Images.{IsImage, takes_image, leads_inside, leads_image, cycle_image}
 use Rattle.visit_walk.specs.declared.depth_first.Targets.{Targets}
 use Rattle.visit_walk.specs.declared.depth_first.Targets.TheVariants.{Zero, One, Two}
 use Rattle.visit_walk.specs.declared.table.Table.{Table}

@@ -6,17 +6,17 @@ use Rattle.std.proofs.lemmas.Bool.{leb-false, lt-leb}
 use Rattle.std.proofs.lemmas.List.Folds.{list_any_at}
 use Rattle.std.proofs.lemmas.List.Elements.{Contains-append_cases}
 use Rattle.indexmap.proofs.CallerLemmas.{Contains-list_any}
-use Rattle.graph_spec.specs.declared.Next.{Next}
-use Rattle.graph_spec.specs.declared.Next.TheVariants as next
-use Rattle.visit_spec.specs.declared.Mark.{Mark}
-use Rattle.visit_spec.specs.declared.Successors.{Successors}
-use Rattle.visit_spec.specs.declared.Successors.TheVariants.{One, Two, Callee, Nothing}
-use Rattle.visit_spec.specs.Shape.{Shape, successors_at}
-use Rattle.visit_spec.specs.DepthFirst.{Leads, here, on, IsOnCycle}
-use Rattle.visit_spec.specs.Visits.{Visit, counted, is_last, first_of, nexts_of}
-use Rattle.visit_spec.specs.Outcomes.{IsCyclicFrom}
-use Rattle.visit_spec.proofs.Members.{none_contained, only_contained, contained_here, contained_later, contained_cases}
-use Rattle.visit_spec.proofs.Walks.{join_paths}
+use Rattle.graph_core_spec.specs.declared.Next.{Next}
+use Rattle.graph_core_spec.specs.declared.Next.TheVariants as next
+use Rattle.visit_walk_spec.specs.declared.Mark.{Mark}
+use Rattle.visit_walk_spec.specs.declared.Successors.{Successors}
+use Rattle.visit_walk_spec.specs.declared.Successors.TheVariants.{One, Two, Callee, Nothing}
+use Rattle.visit_walk_spec.specs.Shape.{Shape, successors_at}
+use Rattle.visit_walk_spec.specs.DepthFirst.{Leads, here, on, IsOnCycle}
+use Rattle.visit_walk_spec.specs.Visits.{Visit, counted, is_last, first_of, nexts_of}
+use Rattle.visit_walk_spec.specs.Outcomes.{IsCyclicFrom}
+use Rattle.visit_walk_spec.proofs.Members.{none_contained, only_contained, contained_here, contained_later, contained_cases}
+use Rattle.visit_walk_spec.proofs.Walks.{join_paths}
 use Rattle.visit_walk.specs.Nodes.{is_closed, is_marked, passed, passed_from, passes, unmarked, rounds, rounds_at}
 use Rattle.visit_walk.proofs.Cycles.{Aligned, counted-unmarked, unmarked-passable, Among, step-made, step-call}
 

@@ -6,14 +6,14 @@ use Rattle.std.proofs.lemmas.List.{get_or_append_left, get_or_default}
 use Rattle.std.proofs.lemmas.List.Elements.{Contains-append_left, Contains-append_right, Contains-append_cases, Contains-push}
 use Rattle.indexmap.specs.IndexSet.{insert_key}
 use Rattle.indexmap.proofs.CallerLemmas.{Contains-list_any}
-use Rattle.graph_spec.specs.declared.Next.{Next}
-use Rattle.graph_spec.specs.declared.Next.TheVariants as next
-use Rattle.visit_spec.specs.declared.Mark.{Mark}
-use Rattle.visit_spec.specs.declared.Successors.{Successors}
-use Rattle.visit_spec.specs.declared.Successors.TheVariants.{Two}
-use Rattle.visit_spec.specs.Shape.{Shape}
-use Rattle.visit_spec.specs.DepthFirst.{Leads, here, on}
-use Rattle.visit_spec.proofs.Members.{none_contained, only_contained, contained_here}
+use Rattle.graph_core_spec.specs.declared.Next.{Next}
+use Rattle.graph_core_spec.specs.declared.Next.TheVariants as next
+use Rattle.visit_walk_spec.specs.declared.Mark.{Mark}
+use Rattle.visit_walk_spec.specs.declared.Successors.{Successors}
+use Rattle.visit_walk_spec.specs.declared.Successors.TheVariants.{Two}
+use Rattle.visit_walk_spec.specs.Shape.{Shape}
+use Rattle.visit_walk_spec.specs.DepthFirst.{Leads, here, on}
+use Rattle.visit_walk_spec.proofs.Members.{none_contained, only_contained, contained_here}
 use Rattle.visit_walk.specs.Nodes.{is_closed, passed, passed_from, passes, ArePassed, Adds}
 
 -- ---- what is added

@@ -2,10 +2,10 @@
 use Rattle.std.proofs.Common.{◌≡◌, ◌⊎◌, ℕ, Bool, true, false, cond, List, [], ◌∷◌, ◌++◌, map, refl, sym, ◌∙◌, ap, subst, inl, inr, eqb-true, eq-eqb, reverse}
 use Rattle.std.specs.Prelude.{Option, Some, None, Contains, MatchOption, nat_eq}
 use Rattle.std.proofs.lemmas.List.{append-nil, reverse-append, map-append}
-use Rattle.visit_spec.specs.DepthFirst.{Takes, none, again, first, Leads, here, on, IsOnCycle}
+use Rattle.visit_walk_spec.specs.DepthFirst.{Takes, none, again, first, Leads, here, on, IsOnCycle}
 use Rattle.std.proofs.lemmas.List.Elements.{Contains-append_cases}
-use Rattle.visit_spec.proofs.Members.{none_contained, only_contained, contained_here, contained_later, contained_cases}
-use Rattle.visit_spec.proofs.Walks.{path_then_edge}
+use Rattle.visit_walk_spec.proofs.Members.{none_contained, only_contained, contained_here, contained_later, contained_cases}
+use Rattle.visit_walk_spec.proofs.Walks.{path_then_edge}
 use Rattle.visit_walk.specs.declared.depth_first.Targets.{Targets}
 use Rattle.visit_walk.specs.declared.depth_first.Targets.TheVariants.{Zero, One, Two}
 use Rattle.visit_walk.specs.declared.depth_first.Status.{Status}

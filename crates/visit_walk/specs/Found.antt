@@ -1,16 +1,16 @@
 -- What the search for the visits of a walk finds.
 use Rattle.std.specs.Prelude.{◌≡◌, ◌<◌, ◌≤◌, ℕ, List, [], ◌∷◌, length, map, reverse, slice_index, Vec}
 use Rattle.std.specs.Global.{Global}
-use Rattle.graph_spec.specs.declared.Next.{Next}
-use Rattle.graph_spec.specs.declared.Next.TheVariants as next
-use Rattle.visit_spec.specs.declared.Mark.{Mark}
-use Rattle.visit_spec.specs.declared.Incoming.{Incoming}
-use Rattle.visit_spec.specs.Shape.{Shape}
-use Rattle.visit_spec.specs.DepthFirst.{Takes}
-use Rattle.visit_spec.specs.Visits.{Walk, marks, first_of, edges_of, nexts_of}
-use Rattle.visit_spec.specs.EdgesInto.{all_edges_after}
-use Rattle.visit_spec.specs.Outcomes.{IsCyclicFrom, AreTooManyFrom}
-use Rattle.visit_spec.specs.Listing.{Listing}
+use Rattle.graph_core_spec.specs.declared.Next.{Next}
+use Rattle.graph_core_spec.specs.declared.Next.TheVariants as next
+use Rattle.visit_walk_spec.specs.declared.Mark.{Mark}
+use Rattle.visit_walk_spec.specs.declared.Incoming.{Incoming}
+use Rattle.visit_walk_spec.specs.Shape.{Shape}
+use Rattle.visit_walk_spec.specs.DepthFirst.{Takes}
+use Rattle.visit_walk_spec.specs.Visits.{Walk, marks, first_of, edges_of, nexts_of}
+use Rattle.visit_walk_spec.specs.EdgesInto.{all_edges_after}
+use Rattle.visit_walk_spec.specs.Outcomes.{IsCyclicFrom, AreTooManyFrom}
+use Rattle.visit_walk_spec.specs.Listing.{Listing}
 use Rattle.visit_walk.specs.declared.depth_first.Targets.{Targets}
 use Rattle.visit_walk.specs.declared.table.Table.{Table}
 use Rattle.visit_walk.specs.declared.found.WalkFault.{WalkFault}

@@ -1,8 +1,8 @@
 -- Lists of visits with the edges into each.
 use Rattle.std.specs.Prelude.{◌<◌, ℕ, suc, List, [], ◌∷◌, ◌++◌, map, Vec, get_or, slice_set}
 use Rattle.std.specs.Global.{Global}
-use Rattle.visit_spec.specs.declared.Incoming.{Incoming}
-use Rattle.visit_spec.specs.declared.Branch.TheVariants.{Only, IfTrue, IfFalse}
+use Rattle.visit_walk_spec.specs.declared.Incoming.{Incoming}
+use Rattle.visit_walk_spec.specs.declared.Branch.TheVariants.{Only, IfTrue, IfFalse}
 use Rattle.visit_walk.specs.declared.depth_first.Targets.{Targets}
 use Rattle.visit_walk.specs.declared.depth_first.Targets.TheVariants.{Zero, One, Two}
 use Rattle.visit_walk.specs.Search.{target_at}

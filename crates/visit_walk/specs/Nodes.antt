@@ -1,15 +1,15 @@
 -- Nodes that a walk passes, and nodes among which it goes round without meeting a mark.
 use Rattle.std.specs.Prelude.{◌≡◌, ◌↔◌, ◌==◌, ◌&&◌, nat_le, ℕ, Bool, if◌then◌else◌, List, [], ◌∷◌, ◌++◌, Contains, Option, Some, None}
 use Rattle.std.specs.List.{list_any}
-use Rattle.graph_spec.specs.declared.Next.{Next}
-use Rattle.graph_spec.specs.declared.Next.TheVariants as next
-use Rattle.visit_spec.specs.declared.Mark.{Mark}
-use Rattle.visit_spec.specs.declared.Successors.{Successors}
-use Rattle.visit_spec.specs.declared.Successors.TheVariants.{One, Two, Callee, Nothing}
-use Rattle.visit_spec.specs.Shape.{Shape, successors_at}
-use Rattle.visit_spec.specs.Visits.{nexts_of, first_of}
-use Rattle.visit_spec.specs.DepthFirst.{Leads}
-use Rattle.visit_spec.specs.Outcomes.{IsCyclicFrom, IsAcyclicFrom}
+use Rattle.graph_core_spec.specs.declared.Next.{Next}
+use Rattle.graph_core_spec.specs.declared.Next.TheVariants as next
+use Rattle.visit_walk_spec.specs.declared.Mark.{Mark}
+use Rattle.visit_walk_spec.specs.declared.Successors.{Successors}
+use Rattle.visit_walk_spec.specs.declared.Successors.TheVariants.{One, Two, Callee, Nothing}
+use Rattle.visit_walk_spec.specs.Shape.{Shape, successors_at}
+use Rattle.visit_walk_spec.specs.Visits.{nexts_of, first_of}
+use Rattle.visit_walk_spec.specs.DepthFirst.{Leads}
+use Rattle.visit_walk_spec.specs.Outcomes.{IsCyclicFrom, IsAcyclicFrom}
 use Rattle.visit_walk.specs.declared.depth_first.Targets.{Targets}
 use Rattle.visit_walk.specs.Search.{numbers_at}
 

@@ -1,6 +1,6 @@
 -- What a depth-first search in a graph of numbers finds.
 use Rattle.std.specs.Prelude.{◌≡◌, ℕ, List, [], ◌∷◌, ◌++◌, reverse, Contains, Option, Some, None, slice_get, unwrap_or}
-use Rattle.visit_spec.specs.DepthFirst.{Takes, Leads, IsOnCycle}
+use Rattle.visit_walk_spec.specs.DepthFirst.{Takes, Leads, IsOnCycle}
 use Rattle.visit_walk.specs.declared.depth_first.Targets.{Targets}
 use Rattle.visit_walk.specs.declared.depth_first.Targets.TheVariants.{Zero, One, Two}
 use Rattle.visit_walk.specs.declared.depth_first.Status.{Status}

@@ -3,16 +3,16 @@
 ghost use Rattle.std.specs.Prelude.{◌≡◌, ◌<◌, ◌==◌, length, IfOk, OnOk};
 ghost use Rattle.std.specs.Prelude.{suc, [], drop, replicate, if◌then◌else◌};
 ghost use Rattle.std.specs.List.{list_any};
-ghost use Rattle.graph_spec.specs.declared.Next.TheVariants as next;
-ghost use Rattle.visit_spec.specs.DepthFirst.{AreDistinct};
-ghost use Rattle.visit_spec.specs.Visits as spec;
+ghost use Rattle.graph_core_spec.specs.declared.Next.TheVariants as next;
+ghost use Rattle.visit_walk_spec.specs.DepthFirst.{AreDistinct};
+ghost use Rattle.visit_walk_spec.specs.Visits as spec;
 ghost use Rattle.visit_walk.specs.Tables.{lists_of, vector_at, Extends, Holds};
 
 use attempt::attempt;
-use graph_spec::Next;
+use graph_core_spec::Next;
 use indexmap::IndexSet;
 use std::alloc::{AllocError, Global};
-use visit_spec::Mark;
+use visit_walk_spec::Mark;
 
 /// Whether an arrival at a node, after which a mark has this count, is the last that it counts.
 fn is_full(mark: &Mark, count: usize, node: usize) -> bool

@@ -2,9 +2,9 @@
 
 ghost use Rattle.std.specs.Prelude.{◌≡◌, ◌==◌, ◌&&◌, ◌++◌, nat_le, false, [], IfOk, OnOk};
 ghost use Rattle.std.specs.List.{list_any};
-ghost use Rattle.graph_spec.specs.declared.Next.TheVariants as next;
-ghost use Rattle.visit_spec.specs.Visits.{first_of};
-ghost use Rattle.visit_spec.specs.Visits as spec;
+ghost use Rattle.graph_core_spec.specs.declared.Next.TheVariants as next;
+ghost use Rattle.visit_walk_spec.specs.Visits.{first_of};
+ghost use Rattle.visit_walk_spec.specs.Visits as spec;
 ghost use Rattle.visit_walk.specs.Nodes.{passed, passed_from, unmarked, rounds, option_list};
 ghost use Rattle.visit_walk.specs.Nodes.{Adds, ArePassed, AreRounds, IsCycleAnswer};
 ghost use Rattle.visit_walk.specs.Search.{numbers_of};
@@ -12,10 +12,10 @@ ghost use Rattle.visit_walk.specs.Search.{numbers_of};
 use crate::counts::{is_last, is_marked, zeros};
 use crate::depth_first::{Targets, depth_first};
 use crate::table::successors_at;
-use graph_spec::Next;
+use graph_core_spec::Next;
 use indexmap::IndexSet;
 use std::alloc::{AllocError, Global};
-use visit_spec::{Mark, Successors};
+use visit_walk_spec::{Mark, Successors};
 
 /// Whether a mark counts the first arrival at a node, or none.
 fn is_closed(marks: &[Mark], node: usize) -> bool

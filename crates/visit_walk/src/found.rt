@@ -1,7 +1,7 @@
 //! The search for the visits of a walk, and their list.
 
 ghost use Rattle.std.specs.Prelude.{◌≡◌, ◌++◌, [], reverse, IfOk, IfErr, OnOk};
-ghost use Rattle.visit_spec.specs.Listing.{IsListing};
+ghost use Rattle.visit_walk_spec.specs.Listing.{IsListing};
 ghost use Rattle.visit_walk.specs.declared.found.WalkFault.TheVariants.{NoMemory};
 ghost use Rattle.visit_walk.specs.Tables.{visit_at, AreMore};
 ghost use Rattle.visit_walk.specs.Found.{node_number, walk_of, AreEmpty, AreFound, AreFilled};
@@ -16,7 +16,7 @@ use crate::table::{Key, Table, explore};
 use attempt::attempt;
 use indexmap::IndexSet;
 use std::alloc::{AllocError, Global};
-use visit_spec::{Incoming, Mark, Successors};
+use visit_walk_spec::{Incoming, Mark, Successors};
 
 /// Why there is no list of visits.
 #[derive(Clone, Copy)]

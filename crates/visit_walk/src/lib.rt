@@ -2,7 +2,7 @@
 //!
 //! [`visits`] lists them as [`Visits`], in reversed post-order of a depth-first walk, with the
 //! edges into each; or answers that the walk goes round a cycle, or has too many visits: exactly as
-//! `visit_spec` defines them (`specs/Visits.antt`, `specs/Outcomes.antt`). [`Shape`] is what it
+//! `visit_walk_spec` defines them (`specs/Visits.antt`, `specs/Outcomes.antt`). [`Shape`] is what it
 //! reads of a graph.
 
 #![tactic(auto)]

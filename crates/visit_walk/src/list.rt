@@ -1,14 +1,14 @@
 //! The list of the visits of a walk, with the edges into each.
 
 ghost use Rattle.std.specs.Prelude.{◌≡◌, ◌<◌, [], length, get_or};
-ghost use Rattle.visit_spec.specs.Visits.{ends_at_bound, ends_at_stop};
+ghost use Rattle.visit_walk_spec.specs.Visits.{ends_at_bound, ends_at_stop};
 ghost use Rattle.visit_walk.specs.Tables.{stray};
 
 use crate::counts::{counts_after, is_last_at};
 use crate::table::{Table, counts_of, place_of};
-use graph_spec::Next;
+use graph_core_spec::Next;
 use std::marker::Model;
-use visit_spec::{Incoming, Mark};
+use visit_walk_spec::{Incoming, Mark};
 
 /// The visits of a walk, in reversed post-order of the depth-first walk that takes the true branch
 /// of a test first, and the edges into each. A visit is known by its position in this order.
@@ -20,7 +20,7 @@ pub struct Visits {
 }
 
 impl Model for Visits {
-    ghost use Rattle.visit_spec.specs.Listing.{Listing};
+    ghost use Rattle.visit_walk_spec.specs.Listing.{Listing};
 
     ghost Value = { Listing };
 

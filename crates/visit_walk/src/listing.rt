@@ -7,7 +7,7 @@ ghost use Rattle.visit_walk.specs.Listings.{AllTargetsWithin, AreWithin};
 use crate::depth_first::{Targets, targets_at};
 use attempt::attempt;
 use std::alloc::{AllocError, Global};
-use visit_spec::{Branch, Incoming};
+use visit_walk_spec::{Branch, Incoming};
 
 /// Adds an edge to those into a visit.
 fn add_edge(

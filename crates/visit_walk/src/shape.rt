@@ -1,14 +1,14 @@
 //! The shape of a graph.
 
 ghost use Rattle.std.specs.Prelude.{◌≡◌, [], List, map, slice_set, IfOk, OnOk};
-ghost use Rattle.term_spec.specs.Term.{Term};
+ghost use Rattle.term_core_spec.specs.Term.{Term};
 ghost use Rattle.graph_core.specs.Graphs.{graph_of};
 ghost use Rattle.graph_core.specs.Shared.{shared_node_of};
-ghost use Rattle.visit_spec.specs.Shape as spec;
+ghost use Rattle.visit_walk_spec.specs.Shape as spec;
 
 use graph_core::{Graph, SharedNode};
 use std::alloc::{AllocError, Global};
-use visit_spec::Successors;
+use visit_walk_spec::Successors;
 
 /// Where a run continues after each node of a graph, by the node's number.
 #[derive(Drop)]

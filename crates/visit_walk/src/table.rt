@@ -1,21 +1,21 @@
 //! A table of the visits of a walk, each once, and what follows each.
 
 ghost use Rattle.std.specs.Prelude.{◌≡◌, ◌<◌, [], length, IfOk, OnOk};
-ghost use Rattle.visit_spec.specs.Shape as shapes;
-ghost use Rattle.visit_spec.specs.Visits.{arrival_of, edges_of, first_of, followed};
+ghost use Rattle.visit_walk_spec.specs.Shape as shapes;
+ghost use Rattle.visit_walk_spec.specs.Visits.{arrival_of, edges_of, first_of, followed};
 ghost use Rattle.visit_walk.specs.Tables as tables;
 ghost use Rattle.visit_walk.specs.Tables.{vectors_of, vector_at, visit_at};
 ghost use Rattle.visit_walk.specs.Tables.{IsTable, IsKeyAdded, IsKeyAfter, IsArrived, AreFollowed};
 ghost use Rattle.visit_walk.specs.Tables.{IsExplored, IsEmpty, IsBegun, lists_of};
-ghost use Rattle.visit_spec.specs.DepthFirst.{AreDistinct};
+ghost use Rattle.visit_walk_spec.specs.DepthFirst.{AreDistinct};
 
 use crate::counts::{count, intern, is_last, zeros};
 use crate::depth_first::Targets;
 use attempt::attempt;
-use graph_spec::Next;
+use graph_core_spec::Next;
 use indexmap::IndexSet;
 use std::alloc::{AllocError, Global};
-use visit_spec::{Mark, Successors};
+use visit_walk_spec::{Mark, Successors};
 
 /// A visit, whose counts are given by their index.
 #[derive(Clone, Copy, PartialEq, Eq, Hash)]

@@ -8,25 +8,25 @@
 
 ghost use Rattle.std.specs.Prelude.{ℕ, ◌<◌, length, List};
 ghost use Rattle.std.specs.List.{All};
-ghost use Rattle.visit_spec.specs.Listing.{IsListing};
-ghost use Rattle.visit_spec.specs.Visits.{Walk};
-ghost use Rattle.condition_spec.specs.Junctions.{junctions};
-ghost use Rattle.graph_spec.specs.Graph.{Graph as GraphOf};
+ghost use Rattle.visit_walk_spec.specs.Listing.{IsListing};
+ghost use Rattle.visit_walk_spec.specs.Visits.{Walk};
+ghost use Rattle.path_cond_spec.specs.Junctions.{junctions};
+ghost use Rattle.graph_core_spec.specs.Graph.{Graph as GraphOf};
 ghost use Rattle.path_cond.specs.Result.{AreConditions, AreMembers};
-ghost use Rattle.term_spec.specs.Substitution.{State as Terms};
+ghost use Rattle.term_core_spec.specs.Substitution.{State as Terms};
 
 use crate::lists::add_place;
 use crate::words::Words;
 use crate::{graphs, words};
 use attempt::attempt;
 use graph_core::Graph;
-use graph_spec::Next;
+use graph_core_spec::Next;
 use path_cond::{Conditions, Ids, State, conditions, several};
 use row_io::Out;
 use std::alloc::{AllocError, Global};
 use std::collections::HashMap;
 use term_bank::{Bank, TermId, TermNode};
-use term_spec::{
+use term_core_spec::{
     Atom, BinaryOperator, Family, QuaternaryOperator, TernaryOperator, UnaryOperator, Variable,
     WordOperator,
 };

@@ -8,15 +8,15 @@ use crate::graphs;
 use crate::words::mark;
 use attempt::attempt;
 use graph_core::{Graph, GraphRun};
-use proof_spec::{Counts, Cut, Mark as Bound, Nodes};
 use proof_tree::{Frame, Hold, Premise, Setting, Start};
+use proof_tree_spec::{Counts, Cut, Mark as Bound, Nodes};
 use row_io::{Out, split_at};
 use sim_cut::cut_allowed;
 use std::alloc::{AllocError, Global};
 use std::mem;
 use term_core::Term;
-use term_spec::Atom;
-use visit_spec::Mark;
+use term_core_spec::Atom;
+use visit_walk_spec::Mark;
 
 // A start, a goal and a cut.
 #[derive(Clone, Copy)]

@@ -9,10 +9,10 @@
 use crate::words::place;
 use attempt::attempt;
 use graph_core::{Binding, Graph, Node};
-use graph_spec::Next;
+use graph_core_spec::Next;
 use std::alloc::{AllocError, Global};
 use term_core::Term;
-use term_spec::{
+use term_core_spec::{
     Atom, BinaryOperator, Family, Sort, TernaryOperator, UnaryOperator, Variable, Width,
     WordOperator,
 };

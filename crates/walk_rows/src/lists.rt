@@ -8,11 +8,11 @@ ghost use Rattle.std.specs.Prelude.{◌<◌, length};
 
 use crate::words::read;
 use attempt::attempt;
-use graph_spec::Next;
+use graph_core_spec::Next;
 use row_io::Out;
 use std::alloc::{AllocError, Global};
-use visit_spec::{Branch, Incoming};
 use visit_walk::{Visits, WalkFault, visits};
+use visit_walk_spec::{Branch, Incoming};
 
 pub(crate) fn add_place(out: &mut Out, place: Next) {
     match place {

@@ -3,19 +3,19 @@
 // many variables it has, and how many distinct subterms the condition of each visit has.
 
 ghost use Rattle.std.specs.Prelude.{◌<◌, ◌≤◌, ℕ, length, IfOk};
-ghost use Rattle.visit_spec.specs.Listing.{IsListing};
-ghost use Rattle.visit_spec.specs.Visits.{Walk};
+ghost use Rattle.visit_walk_spec.specs.Listing.{IsListing};
+ghost use Rattle.visit_walk_spec.specs.Visits.{Walk};
 
 use crate::words::number;
 use attempt::attempt;
 use graph_core::{Graph, SharedNode, validate};
-use graph_spec::Next;
+use graph_core_spec::Next;
 use path_cond::{Conditions, State, conditions};
 use row_io::Out;
 use std::alloc::{AllocError, Global};
 use std::collections::HashMap;
 use term_bank::{Bank, TermId, TermNode};
-use term_spec::{
+use term_core_spec::{
     Atom, BinaryOperator, Family, QuaternaryOperator, Sort, Variable, Width, WordOperator,
 };
 use visit_walk::{Shape, Visits, visits};

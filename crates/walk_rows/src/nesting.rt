@@ -3,12 +3,12 @@
 
 use crate::words::number;
 use attempt::attempt;
-use proof_spec::NESTING_LIMIT;
 use proof_tree::{Proof, nests_within, term_nests_within};
 use row_io::Out;
 use std::alloc::{AllocError, Global};
 use term_core::Term;
-use term_spec::{Atom, UnaryOperator};
+use term_core_spec::{Atom, UnaryOperator};
+use tv_limits::NESTING_LIMIT;
 
 fn leaf(alloc: Global) -> Result<Box<Proof>, AllocError> {
     Ok(attempt!(Box::new(alloc, Proof::Leaf(3)), AllocError))

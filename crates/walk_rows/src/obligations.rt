@@ -16,16 +16,16 @@ use crate::graphs::term;
 use crate::words::{mark, number};
 use attempt::attempt;
 use graph_core::{Graph, GraphRun};
-use proof_spec::{Mark as Bound, Nodes};
 use proof_tree::{Frame, Goal, Hold, Premise, Reachable, Start, Stop};
+use proof_tree_spec::{Mark as Bound, Nodes};
 use row_io::{Out, split, split_at};
-use rule_terms::{Convention, Known, Opening};
 use sim_rules::{Rule, RuleFault, Setup, obligations};
+use sim_rules_terms::{Convention, Known, Opening};
 use std::alloc::{AllocError, Global};
 use std::collections::HashMap;
 use term_bank::{Bank, TermId};
 use term_core::Term;
-use visit_spec::Mark;
+use visit_walk_spec::Mark;
 
 /// What a question says of a frame.
 #[derive(Drop)]

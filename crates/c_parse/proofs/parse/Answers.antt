@@ -1,5 +1,5 @@
 use Rattle.std.proofs.Common.{◌≡◌, ◌∙◌, ap, Ok, []}
-use Rattle.c_statement_laws.specs.Units.{read_external_declarations}
+use Rattle.c_parse_laws.specs.Units.{read_external_declarations}
 use Rattle.c_syntax.specs.Units.{unit_of}
 use Rattle.c_parse_token.specs.Lists.{list_of}
 use Rattle.c_parse.proofs.Reported.{unit-found, unit-same, unit-only}

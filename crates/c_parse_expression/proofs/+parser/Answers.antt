@@ -1,17 +1,17 @@
 use Rattle.std.proofs.Common.{arith, length, ◌≡◌, ◌+◌, ◌∙◌, ◌∷◌, ◌++◌, [], ℕ, List, true, false, ap, map, refl, sym, subst, Ok, Err}
-use Rattle.c_spec.specs.declared.token.Punctuator.TheVariants as punctuator
-use Rattle.c_spec.specs.Lexical.{Placed}
-use Rattle.c_tree_spec.specs.Expression as tree
-use Rattle.c_grammar_spec.specs.declared.Role.{Role}
-use Rattle.c_grammar_spec.specs.declared.Role.TheVariants.{Nothing}
-use Rattle.c_grammar_spec.specs.Leaves.{expected, plain}
-use Rattle.c_grammar_spec.specs.Expressions.{Counting, advance, member_end, operators, operators_of_type, operators_of_specifiers, operators_of_members, operators_of_declarators, operators_of_declarator, operators_of_lengths, operators_of_constants}
+use Rattle.c_token_spec.specs.declared.token.Punctuator.TheVariants as punctuator
+use Rattle.c_token_spec.specs.Lexical.{Placed}
+use Rattle.c_syntax_spec.specs.Expression as tree
+use Rattle.c_parse_spec.specs.declared.Role.{Role}
+use Rattle.c_parse_spec.specs.declared.Role.TheVariants.{Nothing}
+use Rattle.c_parse_spec.specs.Leaves.{expected, plain}
+use Rattle.c_parse_spec.specs.Expressions.{Counting, advance, member_end, operators, operators_of_type, operators_of_specifiers, operators_of_members, operators_of_declarators, operators_of_declarator, operators_of_lengths, operators_of_constants}
 use Rattle.exact_read.specs.Reading.{Outcome}
 use Rattle.exact_read.specs.Grammar.{bind}
-use Rattle.c_expression_laws.specs.Classes.{is_mark, mark_offset, begins_type}
-use Rattle.c_expression_laws.specs.Parsers as parsers
-use Rattle.c_expression_laws.specs.Parsers.{Parsers, token}
-use Rattle.c_expression_laws.specs.Types as types
+use Rattle.c_parse_laws.specs.Classes.{is_mark, mark_offset, begins_type}
+use Rattle.c_parse_laws.specs.Parsers as parsers
+use Rattle.c_parse_laws.specs.Parsers.{Parsers, token}
+use Rattle.c_parse_laws.specs.Types as types
 use Rattle.c_syntax.specs.Expressions as syntax
 use Rattle.c_syntax.specs.Expressions.{expression_of, declarator_of, member_of, constant_of, expressions_in, declarators_in, members_in, constants_in}
 use Rattle.c_parse_token.specs.Lists.{list_of, names_of, Gives, IsNoLonger}

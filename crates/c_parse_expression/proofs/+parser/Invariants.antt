@@ -1,9 +1,9 @@
 use Rattle.std.proofs.Common.{◌-◌, ◌≡◌, ◌≤◌, ◌+◌, ◌*◌, length, Ok}
-use Rattle.c_grammar_spec.specs.Limits.{operator_limit}
-use Rattle.c_grammar_spec.specs.Expressions.{advance, operators, operators_of_members, operators_of_declarators, operators_of_lengths, operators_of_constants}
-use Rattle.c_expression_laws.specs.Types as types
+use Rattle.c_parse_spec.specs.Limits.{operator_limit}
+use Rattle.c_parse_spec.specs.Expressions.{advance, operators, operators_of_members, operators_of_declarators, operators_of_lengths, operators_of_constants}
+use Rattle.c_parse_laws.specs.Types as types
 use Rattle.c_syntax.specs.Expressions.{expressions_in, declarators_in, members_in, constants_in}
-use Rattle.c_expression_laws.specs.Parsers as parsers
+use Rattle.c_parse_laws.specs.Parsers as parsers
 use Rattle.c_parse_token.specs.Lists.{list_of, names_of}
 use Rattle.c_parse_expression.specs.Steps.{tree_of, inside, counting_of, starts_member, read_member_row, after_member, read_all_members, member_rows, starts_declarator, read_next_declarator, after_declarator, list_close, list_end, read_more_declarators, declarator_row, declarator_rows, starts_length, after_length, read_lengths_from, length_rows, constant_rows, read_constants_from}
 use Rattle.c_parse_expression.proofs.Constants.{Constants}

@@ -1,4 +1,4 @@
-use Rattle.pair_outcome_spec.proofs.Stacks.{one_stack}
+use Rattle.pair_setup_spec.proofs.Stacks.{one_stack}
 use Rattle.agreement_laws.proofs.laws.a_function_has_one_stack.Goals as goal
 
 pub returns : goal.returns

@@ -1,13 +1,13 @@
 use Rattle.std.proofs.Common.{◌∙◌, ap, sym, subst, IfOk, ℕ}
 use Rattle.std.proofs.lemmas.Result.{IfOk-weaker}
-use Rattle.clause_spec.specs.declared.Literal.{Literal}
-use Rattle.term_spec.specs.declared.Atom.{Atom}
-use Rattle.term_spec.specs.declared.Atom.TheVariants as atom
-use Rattle.term_spec.specs.Term.{Leaf}
-use Rattle.blast_spec.specs.Circuits.{new_bits}
-use Rattle.blast_spec.specs.Goal.{single, known, known_bits, atom_bits}
-use Rattle.term_spec.specs.Sort.{bits}
-use Rattle.word_circuits.specs.Built.{IsBuilt}
+use Rattle.clause_check_spec.specs.declared.Literal.{Literal}
+use Rattle.term_core_spec.specs.declared.Atom.{Atom}
+use Rattle.term_core_spec.specs.declared.Atom.TheVariants as atom
+use Rattle.term_core_spec.specs.Term.{Leaf}
+use Rattle.bit_blast_spec.specs.Circuits.{new_bits}
+use Rattle.bit_blast_spec.specs.Goal.{single, known, known_bits, atom_bits}
+use Rattle.term_core_spec.specs.Sort.{bits}
+use Rattle.bit_blast_circuits.specs.Built.{IsBuilt}
 use Rattle.bit_blast.proofs.Bare.{given}
 use Rattle.bit_blast.proofs.atoms.atom_bits.Goals as goal
 

@@ -1,5 +1,5 @@
 use Rattle.std.proofs.Common.{◌≡◌, ◌-◌, ◌++◌}
-use Rattle.blast_spec.specs.Goal.{known_bits}
+use Rattle.bit_blast_spec.specs.Goal.{known_bits}
 use Rattle.bit_blast.proofs.atoms.known_bits.Given as goal
 
 abbrev pub invariant-loop-index : goal.invariant-loop-index

@@ -1,6 +1,6 @@
 use Rattle.std.proofs.Common.{◌∙◌, ◌-◌, ℕ, List, map, ap, sym, arith}
 use Rattle.cnf_core.specs.Bits.{valuation}
-use Rattle.term_spec.specs.Value.{low_bits}
+use Rattle.term_core_spec.specs.Value.{low_bits}
 use Rattle.term_core.specs.Memory.{bytes_of}
 use Rattle.bit_blast_laws.specs.Back.{first_byte}
 use Rattle.bit_blast.specs.declared.loads.LoadIndices.{LoadIndices}

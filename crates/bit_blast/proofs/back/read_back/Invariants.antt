@@ -1,5 +1,5 @@
 use Rattle.cnf_core.specs.Bits.{valuation}
-use Rattle.blast_spec.specs.Goal.{loads_of}
+use Rattle.bit_blast_spec.specs.Goal.{loads_of}
 use Rattle.term_core.specs.Assignment.{assignment_of}
 use Rattle.bit_blast.specs.Backs.{AreShort}
 use Rattle.bit_blast.proofs.Restored.{Read}

@@ -1,9 +1,9 @@
 use Rattle.std.proofs.Common.{◌∙◌, ◌%◌, ◌^◌, ap, sym, subst}
 use Rattle.std.specs.Prelude.{◌==◌}
-use Rattle.clause_spec.specs.Clause.{holds}
+use Rattle.clause_check_spec.specs.Clause.{holds}
 use Rattle.cnf_core.specs.Bits.{valuation}
-use Rattle.blast_spec.specs.Circuits.{Bits}
-use Rattle.blast_spec.specs.Goal.{bit_of}
+use Rattle.bit_blast_spec.specs.Circuits.{Bits}
+use Rattle.bit_blast_spec.specs.Goal.{bit_of}
 use Rattle.bit_blast_laws.specs.Meaning.{number_of}
 use Rattle.term_core.specs.Memory.{bytes_of}
 use Rattle.bit_blast.specs.declared.loads.LoadIndices.{LoadIndices}

@@ -1,6 +1,6 @@
 use Rattle.std.proofs.Common.{◌≡◌, ◌∙◌, ◌%◌, ◌^◌, ap, arith}
 use Rattle.cnf_core.specs.Bits.{valuation}
-use Rattle.blast_spec.specs.Circuits.{Bits}
+use Rattle.bit_blast_spec.specs.Circuits.{Bits}
 use Rattle.bit_blast_laws.specs.Meaning.{number_of}
 use Rattle.term_core.specs.Memory.{bytes_of}
 use Rattle.bit_blast.specs.BitsAt.{bits_at}

@@ -1,9 +1,9 @@
 use Rattle.std.proofs.Common.{◌≡◌, ◌∙◌, ◌<◌, ℕ, true, ap, subst, sym, length}
-use Rattle.clause_spec.specs.Clause.{Cnf, negation, are_of}
+use Rattle.clause_check_spec.specs.Clause.{Cnf, negation, are_of}
 use Rattle.term_bank.specs.Nodes.{tree_at}
-use Rattle.blast_spec.specs.Gates.{Truth, make}
-use Rattle.blast_spec.specs.Goal.{bit_of, cnf_of}
-use Rattle.word_circuits.specs.Built.{IsBuilt}
+use Rattle.bit_blast_spec.specs.Gates.{Truth, make}
+use Rattle.bit_blast_spec.specs.Goal.{bit_of, cnf_of}
+use Rattle.bit_blast_circuits.specs.Built.{IsBuilt}
 use Rattle.bit_blast.specs.Models.{HasModel}
 use Rattle.bit_blast.specs.Within.{IfLarge}
 use Rattle.bit_blast_laws.proofs.Goals.{goal_named}

@@ -1,7 +1,7 @@
 use Rattle.std.proofs.Common.{◌≡◌, ◌+◌, ℕ, sym, subst, arith}
 use Rattle.term_bank.specs.declared.node.TermNode.{TermNode}
 use Rattle.term_bank.specs.Nodes.{tree_at, build, Holds}
-use Rattle.term_spec.specs.Term.{remainder}
+use Rattle.term_core_spec.specs.Term.{remainder}
 use Rattle.bit_blast.specs.Terms.{terms_in}
 use Rattle.bit_blast.proofs.Entered.{quotient_node, remainder_node, quotient_holds, remainder_holds}
 use Rattle.bit_blast.proofs.entry.enter.Goals as goal

@@ -1,8 +1,8 @@
 use Rattle.std.proofs.Common.{ap, subst, length, arith}
-use Rattle.term_spec.specs.Term.{divide, remainder}
+use Rattle.term_core_spec.specs.Term.{divide, remainder}
 use Rattle.term_bank.specs.Nodes.{tree_at}
-use Rattle.blast_spec.specs.Circuits.{Bits, division}
-use Rattle.word_circuits.specs.Built.{IsBuilt}
+use Rattle.bit_blast_spec.specs.Circuits.{Bits, division}
+use Rattle.bit_blast_circuits.specs.Built.{IsBuilt}
 use Rattle.bit_blast.specs.Terms.{terms_in}
 use Rattle.bit_blast.specs.BitsAt.{bits_at}
 use Rattle.bit_blast.proofs.Entered.{second_absent, second_grown, second_longer, division_gives}

@@ -1,11 +1,11 @@
 use Rattle.std.proofs.Common.{sym, subst}
 use Rattle.term_bank.specs.Nodes.{build}
-use Rattle.blast_spec.specs.Gates.{Build}
-use Rattle.blast_spec.specs.Goal.{Table}
+use Rattle.bit_blast_spec.specs.Gates.{Build}
+use Rattle.bit_blast_spec.specs.Goal.{Table}
 use Rattle.bit_blast.specs.Steps.{finish}
 use Rattle.bit_blast.proofs.Visits.{once_there}
-use Rattle.word_circuits.specs.Built.{IsBuilt}
-use Rattle.word_circuits.proofs.Built.{give_gives}
+use Rattle.bit_blast_circuits.specs.Built.{IsBuilt}
+use Rattle.bit_blast_circuits.proofs.Built.{give_gives}
 use Rattle.bit_blast.specs.Terms.{terms_in}
 use Rattle.bit_blast.proofs.Tables.{there_at}
 use Rattle.bit_blast.proofs.entry.index_for.Goals as goal

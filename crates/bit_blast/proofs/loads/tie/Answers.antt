@@ -1,9 +1,9 @@
 use Rattle.std.proofs.Common.{◌+◌, drop, get_or, map, List, subst, arith}
 use Rattle.std.proofs.lemmas.List.{drop_all}
-use Rattle.blast_spec.specs.Gates.{claim}
-use Rattle.blast_spec.specs.Circuits.{Bits, equal_bits}
-use Rattle.blast_spec.specs.Goal.{Load, tie, equal_where}
-use Rattle.word_circuits.specs.Built.{IsBuilt, Continues}
+use Rattle.bit_blast_spec.specs.Gates.{claim}
+use Rattle.bit_blast_spec.specs.Circuits.{Bits, equal_bits}
+use Rattle.bit_blast_spec.specs.Goal.{Load, tie, equal_where}
+use Rattle.bit_blast_circuits.specs.Built.{IsBuilt, Continues}
 use Rattle.bit_blast.specs.BitsAt.{bits_at}
 use Rattle.bit_blast.specs.declared.loads.LoadIndices.{LoadIndices}
 use Rattle.bit_blast.specs.Loads.{load_at}

@@ -1,6 +1,6 @@
 use Rattle.std.proofs.Common.{map, drop}
-use Rattle.blast_spec.specs.Goal.{tie}
-use Rattle.word_circuits.specs.Built.{Continues}
+use Rattle.bit_blast_spec.specs.Goal.{tie}
+use Rattle.bit_blast_circuits.specs.Built.{Continues}
 use Rattle.bit_blast.specs.Loads.{load_at}
 use Rattle.bit_blast.proofs.loads.tie.Given as goal
 

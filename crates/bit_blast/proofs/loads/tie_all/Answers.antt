@@ -1,6 +1,6 @@
 use Rattle.std.proofs.Common.{◌+◌, drop, get_or, map, List, subst, sym, arith}
 use Rattle.std.proofs.lemmas.List.{drop_all, take_rest}
-use Rattle.blast_spec.specs.Goal.{Load, tie, tie_all}
+use Rattle.bit_blast_spec.specs.Goal.{Load, tie, tie_all}
 use Rattle.bit_blast.specs.declared.loads.LoadIndices.{LoadIndices}
 use Rattle.bit_blast.specs.Loads.{load_at, AreWithin}
 use Rattle.bit_blast.specs.Within.{BuiltWithin}

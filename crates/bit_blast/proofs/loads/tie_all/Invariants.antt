@@ -1,5 +1,5 @@
 use Rattle.std.proofs.Common.{map, drop}
-use Rattle.blast_spec.specs.Goal.{tie_all}
+use Rattle.bit_blast_spec.specs.Goal.{tie_all}
 use Rattle.bit_blast.specs.Loads.{load_at}
 use Rattle.bit_blast.proofs.Within.{ContinuesWithin}
 use Rattle.bit_blast.proofs.loads.tie_all.Given as goal

@@ -1,10 +1,10 @@
 use Rattle.std.proofs.Common.{◌≡◌, ◌∙◌, ◌+◌, ◌<◌, ℕ, drop, get_or, map, List, ap, subst, sym, arith, filter, length}
 use Rattle.std.specs.Prelude.{◌==◌}
 use Rattle.std.proofs.lemmas.List.{drop_all}
-use Rattle.term_spec.specs.Term.{Term}
+use Rattle.term_core_spec.specs.Term.{Term}
 use Rattle.term_bank.specs.Nodes.{tree_at}
-use Rattle.blast_spec.specs.Goal as goals
-use Rattle.blast_spec.specs.Goal.{Load, tie_all, tie_memories}
+use Rattle.bit_blast_spec.specs.Goal as goals
+use Rattle.bit_blast_spec.specs.Goal.{Load, tie_all, tie_memories}
 use Rattle.bit_blast.specs.Terms.{terms_in}
 use Rattle.bit_blast.specs.declared.loads.LoadIndices.{LoadIndices}
 use Rattle.bit_blast.specs.Loads.{load_at, memories_of, AreWithin}

@@ -1,6 +1,6 @@
 use Rattle.std.proofs.Common.{map, drop}
 use Rattle.term_bank.specs.Nodes.{tree_at}
-use Rattle.blast_spec.specs.Goal.{tie_memories}
+use Rattle.bit_blast_spec.specs.Goal.{tie_memories}
 use Rattle.bit_blast.specs.Terms.{terms_in}
 use Rattle.bit_blast.specs.Loads.{load_at}
 use Rattle.bit_blast.proofs.Within.{ContinuesWithin}

@@ -3,7 +3,7 @@ use Rattle.std.proofs.lemmas.Result.{IfOk-weaker}
 use Rattle.term_bank.specs.declared.node.TermNode.{TermNode}
 use Rattle.term_bank.specs.Nodes.{build}
 use Rattle.bit_blast.specs.Steps as steps
-use Rattle.word_circuits.specs.Built.{IsBuilt}
+use Rattle.bit_blast_circuits.specs.Built.{IsBuilt}
 use Rattle.bit_blast.specs.Terms.{terms_in}
 use Rattle.bit_blast.specs.BitsAt.{bits_at}
 use Rattle.bit_blast.proofs.Bare.{unary_gives, quaternary_gives}

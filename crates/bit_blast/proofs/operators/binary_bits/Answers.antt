@@ -1,9 +1,9 @@
 use Rattle.std.proofs.Common.{IfOk, sym, subst}
 use Rattle.std.proofs.lemmas.Result.{IfOk-weaker}
-use Rattle.term_spec.specs.declared.BinaryOperator.{BinaryOperator}
-use Rattle.term_spec.specs.Term.{Term}
-use Rattle.blast_spec.specs.Goal.{binary_bits}
-use Rattle.word_circuits.specs.Built.{IsBuilt}
+use Rattle.term_core_spec.specs.declared.BinaryOperator.{BinaryOperator}
+use Rattle.term_core_spec.specs.Term.{Term}
+use Rattle.bit_blast_spec.specs.Goal.{binary_bits}
+use Rattle.bit_blast_circuits.specs.Built.{IsBuilt}
 use Rattle.bit_blast.proofs.operators.binary_bits.Goals as goal
 
 pub returns-in-And : goal.returns-in-And

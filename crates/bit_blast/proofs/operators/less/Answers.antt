@@ -1,4 +1,4 @@
-use Rattle.blast_spec.specs.Goal.{binary_bits}
+use Rattle.bit_blast_spec.specs.Goal.{binary_bits}
 use Rattle.bit_blast.proofs.Bare.{single_gives}
 use Rattle.bit_blast.proofs.operators.less.Goals as goal
 

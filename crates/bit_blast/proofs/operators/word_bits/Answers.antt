@@ -1,7 +1,7 @@
 use Rattle.std.proofs.Common.{IfOk, sym, subst}
-use Rattle.term_spec.specs.declared.WordOperator.{WordOperator}
-use Rattle.blast_spec.specs.Goal.{word_bits}
-use Rattle.word_circuits.specs.Built.{IsBuilt}
+use Rattle.term_core_spec.specs.declared.WordOperator.{WordOperator}
+use Rattle.bit_blast_spec.specs.Goal.{word_bits}
+use Rattle.bit_blast_circuits.specs.Built.{IsBuilt}
 use Rattle.bit_blast.proofs.operators.word_bits.Goals as goal
 
 pub returns-in-And : goal.returns-in-And

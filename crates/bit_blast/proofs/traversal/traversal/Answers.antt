@@ -2,7 +2,7 @@ use Rattle.std.proofs.Common.{◌<◌, ◌∙◌, ◌++◌, ◌∷◌, [], List,
 use Rattle.std.specs.Prelude.{nat_eq}
 use Rattle.std.specs.Map.{lookup}
 use Rattle.term_bank.specs.Nodes.{tree_at}
-use Rattle.blast_spec.specs.Goal.{visit}
+use Rattle.bit_blast_spec.specs.Goal.{visit}
 use Rattle.bit_blast.specs.Steps.{weights}
 use Rattle.bit_blast.specs.declared.state.Task.{Task}
 use Rattle.bit_blast.specs.declared.state.Task.TheVariants.{Visit}

@@ -1,6 +1,6 @@
 use Rattle.std.proofs.Common.{refl}
 use Rattle.std.specs.Prelude.{◌&&◌, ◌||◌, bit_and, bit_or, bit_xor}
-use Rattle.blast_spec.specs.Circuits.{and_gate, or_gate, xor_gate, each_two, choose_bits}
+use Rattle.bit_blast_spec.specs.Circuits.{and_gate, or_gate, xor_gate, each_two, choose_bits}
 use Rattle.bit_blast_laws.specs.Meaning.{differ}
 use Rattle.bit_blast_laws.proofs.Gates.{all_hold}
 use Rattle.bit_blast_laws.proofs.Bitwise.{zips_number, each_two_zips, and_gate_holds, or_gate_holds, xor_gate_holds, and_bits, or_bits, xor_bits, chosen_number}

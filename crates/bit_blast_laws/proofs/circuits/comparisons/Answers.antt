@@ -1,4 +1,4 @@
-use Rattle.blast_spec.specs.Circuits.{less_bit, equal_bits}
+use Rattle.bit_blast_spec.specs.Circuits.{less_bit, equal_bits}
 use Rattle.bit_blast_laws.proofs.Gates.{all_hold}
 use Rattle.bit_blast_laws.proofs.Adders.{less_holds}
 use Rattle.bit_blast_laws.proofs.Bitwise.{equal_holds}

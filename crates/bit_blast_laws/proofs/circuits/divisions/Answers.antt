@@ -1,4 +1,4 @@
-use Rattle.blast_spec.specs.Circuits.{division}
+use Rattle.bit_blast_spec.specs.Circuits.{division}
 use Rattle.bit_blast_laws.proofs.Gates.{all_hold}
 use Rattle.bit_blast_laws.proofs.Division.{division_holds}
 use Rattle.bit_blast_laws.proofs.circuits.divisions.Goals as goal

@@ -1,5 +1,5 @@
-use Rattle.term_spec.specs.Value.{operation}
-use Rattle.blast_spec.specs.Circuits.{product_bits}
+use Rattle.term_core_spec.specs.Value.{operation}
+use Rattle.bit_blast_spec.specs.Circuits.{product_bits}
 use Rattle.bit_blast_laws.proofs.Gates.{all_hold}
 use Rattle.bit_blast_laws.proofs.Rows.{product_holds}
 use Rattle.bit_blast_laws.proofs.circuits.products.Goals as goal

@@ -1,4 +1,4 @@
-use Rattle.blast_spec.specs.Circuits.{none, moved_up, moved_down, shift_bits, shift_signed_bits}
+use Rattle.bit_blast_spec.specs.Circuits.{none, moved_up, moved_down, shift_bits, shift_signed_bits}
 use Rattle.bit_blast_laws.proofs.Gates.{all_hold}
 use Rattle.bit_blast_laws.proofs.Moves.{shift_left_holds, shift_right_holds, shift_signed_holds}
 use Rattle.bit_blast_laws.proofs.circuits.shifts.Goals as goal

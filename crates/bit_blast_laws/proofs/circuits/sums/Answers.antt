@@ -1,6 +1,6 @@
 use Rattle.std.proofs.Common.{◌∙◌, ◌+◌, ◌%◌, ◌^◌, ◌≡◌, ℕ, length, ap, arith}
-use Rattle.term_spec.specs.Value.{operation}
-use Rattle.blast_spec.specs.Circuits.{none, sum_bits}
+use Rattle.term_core_spec.specs.Value.{operation}
+use Rattle.bit_blast_spec.specs.Circuits.{none, sum_bits}
 use Rattle.bit_blast_laws.specs.Meaning.{number_of, digit}
 use Rattle.bit_blast_laws.proofs.Gates.{all_hold}
 use Rattle.bit_blast_laws.proofs.Adders.{sum_holds}

@@ -1,5 +1,5 @@
 use Rattle.std.proofs.lemmas.Result.{on_ok_weaker}
-use Rattle.term_spec.specs.Term as tree
+use Rattle.term_core_spec.specs.Term as tree
 use Rattle.c_graph.proofs.Added.{built_bound}
 use Rattle.c_graph.proofs.bindings.bind_atom.Goals as goal
 

@@ -1,6 +1,6 @@
 use Rattle.std.proofs.Common.{[], ◌∷◌}
 use Rattle.std.proofs.lemmas.Result.{on_ok_weaker}
-use Rattle.term_spec.specs.Term.{open_term}
+use Rattle.term_core_spec.specs.Term.{open_term}
 use Rattle.c_graph_spec.specs.State.{zone_low, zone_high}
 use Rattle.c_graph_spec.specs.Layout.{binding}
 use Rattle.c_graph.proofs.Added.{both_bound}

@@ -1,8 +1,8 @@
 use Rattle.std.proofs.Common.{◌≡◌, ◌∙◌, [], sym, subst}
 use Rattle.std.specs.Prelude.{List}
-use Rattle.graph_spec.specs.Graph.{Binding}
+use Rattle.graph_core_spec.specs.Graph.{Binding}
 use Rattle.graph_core.specs.declared.shared.SharedBinding.{SharedBinding}
-use Rattle.term_spec.specs.Term.{open_term}
+use Rattle.term_core_spec.specs.Term.{open_term}
 use Rattle.c_graph_spec.specs.State.{result, width_of}
 use Rattle.c_graph_spec.specs.Values.{at_width}
 use Rattle.c_graph_spec.specs.Layout.{set_local}

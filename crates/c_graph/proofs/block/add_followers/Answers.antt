@@ -1,7 +1,7 @@
 use Rattle.std.proofs.Common.{◌≡◌, ◌∙◌, ℕ, ◌+◌, ◌-◌, ◌<◌, ◌≤◌, List, [], ◌∷◌, ◌++◌, length, drop, sym, ap, subst, arith}
-use Rattle.graph_spec.specs.declared.Next.{Next}
-use Rattle.c_core.specs.Actions.{action_of}
-use Rattle.c_core.specs.declared.action.Action.{Action}
+use Rattle.graph_core_spec.specs.declared.Next.{Next}
+use Rattle.c_types_core.specs.Actions.{action_of}
+use Rattle.c_types_core.specs.declared.action.Action.{Action}
 use Rattle.c_graph_spec.specs.Layout as spec
 use Rattle.c_graph_spec.specs.Layout.{Exits}
 use Rattle.c_graph_layout.specs.Counts.{size_of}

@@ -1,5 +1,5 @@
 use Rattle.std.proofs.Common.{◌≡◌, ◌∙◌, ◌+◌, drop, ap, arith}
-use Rattle.c_core.specs.Actions.{action_of}
+use Rattle.c_types_core.specs.Actions.{action_of}
 use Rattle.c_graph_layout.specs.Counts.{size_of}
 use Rattle.c_graph_layout.specs.Lists.{block_of}
 use Rattle.c_graph_layout.proofs.Blocks.{block_at, block_past}

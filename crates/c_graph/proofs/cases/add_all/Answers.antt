@@ -1,6 +1,6 @@
 use Rattle.std.proofs.Common.{◌≡◌, ◌∙◌, ℕ, ◌+◌, ◌<◌, List, [], ◌∷◌, ◌++◌, length, drop, sym, ap, arith}
-use Rattle.c_core.specs.Actions.{action_of}
-use Rattle.c_core.specs.declared.action.Group.{out-Group}
+use Rattle.c_types_core.specs.Actions.{action_of}
+use Rattle.c_types_core.specs.declared.action.Group.{out-Group}
 use Rattle.c_graph_spec.specs.Layout.{Exits, cases_of, cases_to, entry, exits, size}
 use Rattle.c_graph_layout.specs.Exits.{exits_of}
 use Rattle.c_graph_layout.specs.Lists.{groups_of}

@@ -1,7 +1,7 @@
 use Rattle.std.proofs.Common.{◌≡◌, ◌<◌, ◌≤◌, length, subst, arith}
-use Rattle.c_core.specs.Expressions.{core_of}
-use Rattle.c_core.specs.declared.expression.Core.{Core}
-use Rattle.c_type_spec.specs.Core.{type_of}
+use Rattle.c_types_core.specs.Expressions.{core_of}
+use Rattle.c_types_core.specs.declared.expression.Core.{Core}
+use Rattle.c_types_spec.specs.Core.{type_of}
 use Rattle.c_graph_spec.specs.Layout.{set_local, tests_in, value_in}
 use Rattle.c_graph.specs.Bound.{Passes}
 use Rattle.c_graph.specs.Frames.{setting_in}

@@ -1,7 +1,7 @@
 use Rattle.std.proofs.Common.{◌∷◌, [], ◌∙◌, ap}
-use Rattle.graph_spec.specs.declared.Next.TheVariants.{Ret}
-use Rattle.c_type_spec.specs.Core.{type_of}
-use Rattle.c_core.specs.Expressions.{core_of}
+use Rattle.graph_core_spec.specs.declared.Next.TheVariants.{Ret}
+use Rattle.c_types_spec.specs.Core.{type_of}
+use Rattle.c_types_core.specs.Expressions.{core_of}
 use Rattle.c_graph_spec.specs.State.{result}
 use Rattle.c_graph_spec.specs.Layout.{binding, tests_in, value_in}
 use Rattle.c_graph.specs.Frames.{setting_in}

@@ -1,8 +1,8 @@
 use Rattle.std.proofs.Common.{◌≡◌, ap, ap₂}
-use Rattle.term_spec.specs.Term.{Term}
-use Rattle.c_type_spec.specs.declared.Scalar.{Scalar}
-use Rattle.c_type_spec.specs.Core.{type_of}
-use Rattle.c_core.specs.Expressions.{core_of}
+use Rattle.term_core_spec.specs.Term.{Term}
+use Rattle.c_types_spec.specs.declared.Scalar.{Scalar}
+use Rattle.c_types_spec.specs.Core.{type_of}
+use Rattle.c_types_core.specs.Expressions.{core_of}
 use Rattle.c_graph_spec.specs.Layout.{set_local, tests_in, value_in}
 use Rattle.c_graph.specs.Frames.{setting_in}
 use Rattle.c_graph.proofs.Added.{bound_as}

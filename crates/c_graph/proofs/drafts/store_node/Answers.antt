@@ -1,5 +1,5 @@
 use Rattle.std.proofs.Common.{◌∷◌, [], refl}
-use Rattle.c_core.specs.Expressions.{core_of}
+use Rattle.c_types_core.specs.Expressions.{core_of}
 use Rattle.c_graph_spec.specs.State.{memory}
 use Rattle.c_graph_spec.specs.Layout.{binding, memory_stored, store_tests}
 use Rattle.c_graph.specs.Frames.{setting_in}

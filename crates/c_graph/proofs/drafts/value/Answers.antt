@@ -1,5 +1,5 @@
 use Rattle.std.proofs.lemmas.Result.{IfOk-weaker}
-use Rattle.c_core.specs.Expressions.{core_of}
+use Rattle.c_types_core.specs.Expressions.{core_of}
 use Rattle.c_graph.specs.Frames.{setting_in}
 use Rattle.c_graph.proofs.Drafted.{value_made}
 use Rattle.c_graph.proofs.drafts.value.Goals as goal

@@ -1,8 +1,8 @@
 use Rattle.std.proofs.Common.{◌≡◌, ◌∙◌, ℕ, ◌+◌, ◌-◌, ◌<◌, ◌≤◌, List, ◌∷◌, ◌++◌, [], length, map, drop, get_or, refl, sym, ap, subst, arith}
-use Rattle.term_spec.specs.Term.{Term}
+use Rattle.term_core_spec.specs.Term.{Term}
 use Rattle.term_bank.specs.Nodes.{tree_at}
-use Rattle.graph_spec.specs.Graph.{Cond, Node, with_nodes}
-use Rattle.graph_spec.specs.declared.Next.TheVariants.{Err}
+use Rattle.graph_core_spec.specs.Graph.{Cond, Node, with_nodes}
+use Rattle.graph_core_spec.specs.declared.Next.TheVariants.{Err}
 use Rattle.graph_core.specs.Graphs.{graph_of}
 use Rattle.c_graph_spec.specs.Layout.{chain, first}
 use Rattle.c_graph_terms.proofs.Growing.{within_at}

@@ -1,6 +1,6 @@
 use Rattle.std.proofs.Common.{◌≡◌, ◌+◌, map, drop}
 use Rattle.term_bank.specs.Nodes.{tree_at}
-use Rattle.graph_spec.specs.Graph.{with_nodes}
+use Rattle.graph_core_spec.specs.Graph.{with_nodes}
 use Rattle.graph_core.specs.Graphs.{graph_of}
 use Rattle.c_graph_spec.specs.Layout as spec
 use Rattle.c_graph.proofs.emission.chain.Given as goal

@@ -1,7 +1,7 @@
 use Rattle.std.proofs.Common.{◌≡◌, ◌∙◌, ◌∷◌, [], length, map, sym, ap, subst}
 use Rattle.std.proofs.lemmas.Result.{on_ok_weaker}
 use Rattle.term_bank.specs.Nodes.{tree_at}
-use Rattle.graph_spec.specs.Graph.{with_nodes}
+use Rattle.graph_core_spec.specs.Graph.{with_nodes}
 use Rattle.graph_core.specs.Graphs.{graph_of}
 use Rattle.graph_core.specs.Shared.{AreSharedBindings, IsSharedNode, shared_node_of}
 use Rattle.c_graph_terms.proofs.Growing.{within_at}

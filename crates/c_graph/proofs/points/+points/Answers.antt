@@ -1,13 +1,13 @@
 use Rattle.std.proofs.Common.{◌≡◌, ◌∙◌, ℕ, ◌+◌, ◌<◌, List, ◌++◌, length, drop, refl, sym, ap, arith}
 use Rattle.std.proofs.lemmas.Result.{on_ok_weaker}
-use Rattle.c_type_spec.specs.declared.TestPlace.TheVariants.{Before, After}
-use Rattle.c_type_spec.specs.Core as core
-use Rattle.c_core.specs.Expressions.{core_of}
-use Rattle.c_core.specs.Actions.{action_of}
-use Rattle.c_core.specs.declared.action.Group.{out-Group}
+use Rattle.c_types_spec.specs.declared.TestPlace.TheVariants.{Before, After}
+use Rattle.c_types_spec.specs.Core as core
+use Rattle.c_types_core.specs.Expressions.{core_of}
+use Rattle.c_types_core.specs.Actions.{action_of}
+use Rattle.c_types_core.specs.declared.action.Group.{out-Group}
 use Rattle.c_graph_spec.specs.Layout.{size}
 use Rattle.c_graph_spec.specs.SourceGraph.{points, groups_points}
-use Rattle.c_core.proofs.ActionViews.{Evaluate-view, Set-view, Unset-view, Store-view, Leave-view, Return-view, MissingReturn-view, Call-view, Loop-view}
+use Rattle.c_types_core.proofs.ActionViews.{Evaluate-view, Set-view, Unset-view, Store-view, Leave-view, Return-view, MissingReturn-view, Call-view, Loop-view}
 use Rattle.c_graph_layout.specs.Lists.{block_of, cores_of, groups_of}
 use Rattle.c_graph.specs.Seen.{points_in}
 use Rattle.c_graph.proofs.Casing.{all_of, one_more}

@@ -1,5 +1,5 @@
 use Rattle.std.proofs.Common.{◌≡◌, ◌++◌, ◌+◌, ◌*◌, drop, max}
-use Rattle.c_core.specs.declared.action.Action.{size-Action}
+use Rattle.c_types_core.specs.declared.action.Action.{size-Action}
 use Rattle.c_graph_spec.specs.Layout.{Setting}
 use Rattle.c_graph_spec.specs.SourceGraph as spec
 use Rattle.c_graph_layout.specs.Lists.{block_of, groups_of}

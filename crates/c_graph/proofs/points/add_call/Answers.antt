@@ -1,6 +1,6 @@
 use Rattle.std.proofs.Common.{◌≡◌, ◌∙◌, ◌+◌, ◌++◌, ◌∷◌, [], length, ap, arith}
 use Rattle.std.proofs.lemmas.Result.{on_ok_weaker}
-use Rattle.proof_spec.specs.declared.Place.TheVariants as place
+use Rattle.proof_tree_spec.specs.declared.Place.TheVariants as place
 use Rattle.c_graph_spec.specs.Layout.{argument_tests}
 use Rattle.c_graph_layout.specs.Lists.{cores_of}
 use Rattle.c_graph_layout.proofs.Counted.{arguments_counted}

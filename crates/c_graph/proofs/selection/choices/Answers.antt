@@ -1,7 +1,7 @@
 use Rattle.std.proofs.Common.{◌≡◌, ◌∙◌, ℕ, ◌+◌, ◌-◌, ◌<◌, ◌≤◌, List, ◌∷◌, ◌++◌, [], length, map, drop, get_or, refl, sym, ap, subst, arith}
-use Rattle.term_spec.specs.Term.{Term, equal}
+use Rattle.term_core_spec.specs.Term.{Term, equal}
 use Rattle.term_bank.specs.Nodes.{tree_at}
-use Rattle.graph_spec.specs.Graph.{Cond, Node, with_nodes}
+use Rattle.graph_core_spec.specs.Graph.{Cond, Node, with_nodes}
 use Rattle.graph_core.specs.Graphs.{graph_of}
 use Rattle.c_graph_spec.specs.State.{value_constant}
 use Rattle.c_graph_spec.specs.Layout.{selection, first}

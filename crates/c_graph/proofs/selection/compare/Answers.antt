@@ -1,6 +1,6 @@
 use Rattle.std.proofs.Common.{◌≡◌, ◌∙◌, ℕ, ◌<◌, List, length, take, get_or, sym, ap, subst, arith, rules}
 use Rattle.std.proofs.lemmas.List.{take_all}
-use Rattle.term_spec.specs.Term.{equal}
+use Rattle.term_core_spec.specs.Term.{equal}
 use Rattle.term_bank.specs.Nodes.{tree_at}
 use Rattle.c_graph_spec.specs.State.{value_constant}
 use Rattle.c_graph_terms.specs.Built.{IsBuilt}

@@ -1,6 +1,6 @@
 use Rattle.std.proofs.lemmas.Result.{on_ok_weaker}
-use Rattle.c_type_spec.specs.Core.{type_of}
-use Rattle.c_core.specs.Expressions.{core_of}
+use Rattle.c_types_spec.specs.Core.{type_of}
+use Rattle.c_types_core.specs.Expressions.{core_of}
 use Rattle.c_graph_spec.specs.Values.{no_object, terms}
 use Rattle.c_graph_spec.specs.Layout.{tests_in}
 use Rattle.c_graph.specs.Frames.{setting_in}

@@ -1,6 +1,6 @@
 use Rattle.std.proofs.Common.{◌≡◌, ap, rules}
 use Rattle.std.proofs.lemmas.Result.{IfOk-weaker}
-use Rattle.term_spec.specs.Term.{equal, Leaf}
+use Rattle.term_core_spec.specs.Term.{equal, Leaf}
 use Rattle.c_graph_spec.specs.State.{value_constant}
 use Rattle.term_bank.specs.Nodes.{tree_at}
 use Rattle.c_graph_terms.proofs.Banks.{built_as}

@@ -1,11 +1,11 @@
 use Rattle.std.proofs.Common.{◌≡◌, ◌∙◌, List, ◌++◌, length, map, sym, ap, subst}
 use Rattle.std.proofs.lemmas.Result.{on_ok_weaker}
 use Rattle.std.proofs.lemmas.List.{length-map}
-use Rattle.term_spec.specs.Term.{Term}
+use Rattle.term_core_spec.specs.Term.{Term}
 use Rattle.term_bank.specs.Nodes.{tree_at}
 use Rattle.graph_core.specs.Graphs.{graph_of}
-use Rattle.c_type_spec.specs.Core.{type_of}
-use Rattle.c_core.specs.Expressions.{core_of}
+use Rattle.c_types_spec.specs.Core.{type_of}
+use Rattle.c_types_core.specs.Expressions.{core_of}
 use Rattle.c_graph_spec.specs.Layout.{chain, selection, tests_in, value_in}
 use Rattle.c_graph_terms.specs.Tables.{AreWithin}
 use Rattle.c_graph.specs.Frames.{setting_in}

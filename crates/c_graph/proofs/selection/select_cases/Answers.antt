@@ -1,8 +1,8 @@
 use Rattle.std.proofs.Common.{◌∙◌, ◌++◌, ap}
 use Rattle.std.proofs.lemmas.Result.{on_ok_weaker}
 use Rattle.graph_core.specs.Graphs.{graph_of}
-use Rattle.c_type_spec.specs.Core.{type_of}
-use Rattle.c_core.specs.Expressions.{core_of}
+use Rattle.c_types_spec.specs.Core.{type_of}
+use Rattle.c_types_core.specs.Expressions.{core_of}
 use Rattle.c_graph_spec.specs.Layout.{chain, selection, tests_in, value_in}
 use Rattle.c_graph.specs.Frames.{setting_in}
 use Rattle.c_graph.specs.Seen.{cases_in}

@@ -1,6 +1,6 @@
 use Rattle.std.proofs.Common.{◌≡◌, ◌∙◌, ◌+◌, [], ◌∷◌, length, arith}
 use Rattle.std.proofs.lemmas.Result.{on_ok_weaker}
-use Rattle.graph_spec.specs.Graph.{Basic}
+use Rattle.graph_core_spec.specs.Graph.{Basic}
 use Rattle.graph_core.specs.Graphs.{graph_of}
 use Rattle.c_graph_spec.specs.Layout.{argument_tests}
 use Rattle.c_graph_layout.specs.Lists.{cores_of}

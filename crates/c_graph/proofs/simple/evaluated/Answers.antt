@@ -1,6 +1,6 @@
 use Rattle.std.proofs.lemmas.Result.{on_ok_weaker}
 use Rattle.graph_core.specs.Graphs.{graph_of}
-use Rattle.c_core.specs.Expressions.{core_of}
+use Rattle.c_types_core.specs.Expressions.{core_of}
 use Rattle.c_graph_spec.specs.Layout.{tests_in}
 use Rattle.c_graph.specs.Frames.{setting_in}
 use Rattle.c_graph.proofs.Drafted.{emitted_tests, fresh_within}

@@ -1,11 +1,11 @@
 use Rattle.std.proofs.Common.{◌≡◌, ◌∙◌, ◌∷◌, [], sym, ap}
 use Rattle.std.proofs.lemmas.Result.{on_ok_weaker}
 use Rattle.graph_core.specs.Graphs.{graph_of}
-use Rattle.c_type_spec.specs.Core as tree
-use Rattle.c_core.specs.Expressions.{core_of}
-use Rattle.c_core.specs.Actions.{core_in}
-use Rattle.graph_spec.specs.declared.Next.TheVariants.{Ret}
-use Rattle.graph_spec.specs.Graph.{Basic}
+use Rattle.c_types_spec.specs.Core as tree
+use Rattle.c_types_core.specs.Expressions.{core_of}
+use Rattle.c_types_core.specs.Actions.{core_in}
+use Rattle.graph_core_spec.specs.declared.Next.TheVariants.{Ret}
+use Rattle.graph_core_spec.specs.Graph.{Basic}
 use Rattle.c_graph_spec.specs.State.{result}
 use Rattle.c_graph_spec.specs.Layout.{binding, guarded, nodes, tests_in, value_in}
 use Rattle.c_graph.specs.Frames.{setting_in}

@@ -1,6 +1,6 @@
 use Rattle.std.proofs.Common.{[], ◌∷◌}
 use Rattle.std.proofs.lemmas.Result.{on_ok_weaker}
-use Rattle.graph_spec.specs.Graph.{Basic}
+use Rattle.graph_core_spec.specs.Graph.{Basic}
 use Rattle.graph_core.specs.Graphs.{graph_of}
 use Rattle.c_graph.proofs.WithNodes.{added_then}
 use Rattle.c_graph.proofs.simple.loop_test.Goals as goal

@@ -1,9 +1,9 @@
 use Rattle.std.proofs.Common.{◌≡◌, ◌∙◌, [], ◌∷◌, ap}
 use Rattle.std.proofs.lemmas.Result.{on_ok_weaker}
-use Rattle.graph_spec.specs.Graph.{Basic}
-use Rattle.graph_spec.specs.declared.Next.TheVariants.{Ret}
+use Rattle.graph_core_spec.specs.Graph.{Basic}
+use Rattle.graph_core_spec.specs.declared.Next.TheVariants.{Ret}
 use Rattle.graph_core.specs.Graphs.{graph_of}
-use Rattle.c_core.specs.Actions.{action_of}
+use Rattle.c_types_core.specs.Actions.{action_of}
 use Rattle.c_graph_spec.specs.Layout.{exits, nodes}
 use Rattle.c_graph.specs.Frames.{setting_in}
 use Rattle.c_graph.proofs.WithNodes.{added_as, added_then}

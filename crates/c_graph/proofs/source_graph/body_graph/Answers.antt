@@ -1,6 +1,6 @@
 use Rattle.std.proofs.Common.{◌∙◌, ap}
-use Rattle.graph_spec.specs.Graph.{with_nodes}
-use Rattle.c_core.specs.Actions.{action_of}
+use Rattle.graph_core_spec.specs.Graph.{with_nodes}
+use Rattle.c_types_core.specs.Actions.{action_of}
 use Rattle.c_graph.specs.Frames.{setting_in}
 use Rattle.c_graph.specs.Seen.{body_nodes}
 use Rattle.c_graph.proofs.source_graph.body_graph.Goals as goal

@@ -1,5 +1,5 @@
 use Rattle.std.proofs.Common.{◌∙◌, ◌++◌, ap}
-use Rattle.c_core.specs.Actions.{action_of}
+use Rattle.c_types_core.specs.Actions.{action_of}
 use Rattle.c_graph_spec.specs.SourceGraph.{points}
 use Rattle.c_graph.specs.Seen.{points_in}
 use Rattle.c_graph.proofs.source_graph.body_points.Goals as goal

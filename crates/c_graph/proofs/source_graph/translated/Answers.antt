@@ -1,6 +1,6 @@
 use Rattle.std.proofs.Common.{ap}
 use Rattle.graph_core.specs.Graphs.{graph_of}
-use Rattle.c_core.specs.Actions.{action_of}
+use Rattle.c_types_core.specs.Actions.{action_of}
 use Rattle.c_graph_terms.specs.Scenes.{place_of}
 use Rattle.c_types.specs.Typed.{body_of, typed_of}
 use Rattle.c_graph.specs.Seen.{points_in}

@@ -1,19 +1,19 @@
 use Rattle.std.proofs.Common.{◌≡◌, ◌∙◌, ℕ, ◌+◌, ◌-◌, ◌<◌, ◌≤◌, List, [], ◌∷◌, ◌++◌, length, drop, get_or, sym, ap, arith}
 use Rattle.std.proofs.lemmas.Result.{on_ok_weaker}
-use Rattle.graph_spec.specs.declared.Next.{Next}
-use Rattle.graph_spec.specs.declared.Next.TheVariants.{Ret}
-use Rattle.graph_spec.specs.Graph.{with_nodes}
+use Rattle.graph_core_spec.specs.declared.Next.{Next}
+use Rattle.graph_core_spec.specs.declared.Next.TheVariants.{Ret}
+use Rattle.graph_core_spec.specs.Graph.{with_nodes}
 use Rattle.graph_core.specs.Graphs.{graph_of}
-use Rattle.c_core.specs.Expressions.{core_of}
-use Rattle.c_core.specs.Actions.{action_of}
-use Rattle.c_core.specs.declared.action.Action.{Action}
-use Rattle.c_core.specs.declared.action.Group.{out-Group}
+use Rattle.c_types_core.specs.Expressions.{core_of}
+use Rattle.c_types_core.specs.Actions.{action_of}
+use Rattle.c_types_core.specs.declared.action.Action.{Action}
+use Rattle.c_types_core.specs.declared.action.Group.{out-Group}
 use Rattle.c_graph_spec.specs.Layout.{Exits, exits, entry, nodes, groups_nodes, size}
 use Rattle.c_graph_layout.specs.Counts.{size_of}
 use Rattle.c_graph_layout.specs.Exits.{exits_of}
-use Rattle.c_type_spec.specs.Core as core
-use Rattle.c_type_spec.specs.declared.TestPlace.TheVariants.{Before, After}
-use Rattle.c_core.proofs.ActionViews.{Call-view, Leave-view, Loop-view, Return-view}
+use Rattle.c_types_spec.specs.Core as core
+use Rattle.c_types_spec.specs.declared.TestPlace.TheVariants.{Before, After}
+use Rattle.c_types_core.proofs.ActionViews.{Call-view, Leave-view, Loop-view, Return-view}
 use Rattle.c_graph_layout.specs.Lists.{block_of, cores_of, groups_of}
 use Rattle.c_graph_layout.proofs.Blocks.{block_at}
 use Rattle.c_graph.specs.Frames.{setting_in}

@@ -1,7 +1,7 @@
 use Rattle.std.proofs.Common.{◌≡◌, ◌+◌, ◌*◌, drop, max}
-use Rattle.graph_spec.specs.Graph.{with_nodes}
+use Rattle.graph_core_spec.specs.Graph.{with_nodes}
 use Rattle.graph_core.specs.Graphs.{graph_of}
-use Rattle.c_core.specs.declared.action.Action.{size-Action}
+use Rattle.c_types_core.specs.declared.action.Action.{size-Action}
 use Rattle.c_graph_spec.specs.Layout as spec
 use Rattle.c_graph_layout.specs.Counts.{size_of}
 use Rattle.c_graph_layout.specs.Exits.{exits_of}

@@ -1,5 +1,5 @@
-use Rattle.c_core_laws.proofs.Units.{typed-IsTypedUnit}
-use Rattle.c_core_laws.proofs.SizedUnits.{typed-sizes}
+use Rattle.c_types_laws.proofs.Units.{typed-IsTypedUnit}
+use Rattle.c_types_laws.proofs.SizedUnits.{typed-sizes}
 use Rattle.c_graph_laws.proofs.Together.{together}
 use Rattle.c_graph_laws.proofs.units.units_and_graphs_run_together.Goals as goal
 

@@ -1,5 +1,5 @@
-use Rattle.c_core_laws.proofs.Units.{typed-IsTypedUnit}
-use Rattle.c_core_laws.proofs.SizedUnits.{typed-sizes}
+use Rattle.c_types_laws.proofs.Units.{typed-IsTypedUnit}
+use Rattle.c_types_laws.proofs.SizedUnits.{typed-sizes}
 use Rattle.c_graph_laws.proofs.ValidGraphs.{all_valid}
 use Rattle.c_graph_laws.proofs.units.units_have_valid_graphs.Goals as goal
 

@@ -1,6 +1,6 @@
 use Rattle.std.proofs.Common.{◌≡◌, ◌∙◌, ◌+◌, drop, ap, arith}
-use Rattle.c_core.specs.Actions.{action_of}
-use Rattle.c_core.specs.declared.action.Group.{out-Group}
+use Rattle.c_types_core.specs.Actions.{action_of}
+use Rattle.c_types_core.specs.declared.action.Group.{out-Group}
 use Rattle.c_graph_layout.specs.Counts.{size_of, groups_size_of}
 use Rattle.c_graph_layout.specs.Lists.{block_of, groups_of}
 use Rattle.c_graph_layout.proofs.Blocks.{block_at, block_past, group_size_at, group_size_past}

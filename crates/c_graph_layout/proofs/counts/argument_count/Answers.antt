@@ -1,5 +1,5 @@
 use Rattle.std.proofs.Common.{◌≡◌, ◌∙◌, ◌+◌, drop, ap, arith}
-use Rattle.c_core.specs.Expressions.{core_of}
+use Rattle.c_types_core.specs.Expressions.{core_of}
 use Rattle.c_graph_layout.specs.Counts.{test_count, argument_count}
 use Rattle.c_graph_layout.specs.Lists.{cores_of}
 use Rattle.c_graph_layout.proofs.Blocks.{argument_at, argument_past}

@@ -1,7 +1,7 @@
 use Rattle.std.proofs.Common.{◌≡◌, ◌∙◌, ◌+◌, length, drop, ap, arith}
-use Rattle.graph_spec.specs.declared.Next.TheVariants.{Ret}
+use Rattle.graph_core_spec.specs.declared.Next.TheVariants.{Ret}
 use Rattle.c_graph_spec.specs.Layout.{cases_to, case_count}
-use Rattle.c_core.specs.declared.action.Group.{out-Group}
+use Rattle.c_types_core.specs.declared.action.Group.{out-Group}
 use Rattle.c_graph_layout.specs.Lists.{groups_of}
 use Rattle.c_graph_layout.proofs.Blocks.{cases_at, cases_past}
 use Rattle.c_graph_layout.proofs.counts.with_cases.Goals as goal

@@ -1,5 +1,5 @@
 use Rattle.std.proofs.Common.{◌≡◌, ◌+◌, length, drop}
-use Rattle.graph_spec.specs.declared.Next.TheVariants.{Ret}
+use Rattle.graph_core_spec.specs.declared.Next.TheVariants.{Ret}
 use Rattle.c_graph_spec.specs.Layout.{cases_to}
 use Rattle.c_graph_layout.proofs.counts.with_labels.Given as goal
 

@@ -1,11 +1,11 @@
 use Rattle.std.proofs.Common.{◌≡◌, ◌∙◌, ℕ, ◌+◌, ◌-◌, ◌<◌, true, false, length, drop, sym, ap, arith}
 use Rattle.std.proofs.lemmas.Result.{IfOk-weaker}
-use Rattle.c_type_spec.specs.Core as tree
-use Rattle.c_core.specs.Expressions.{core_of}
-use Rattle.c_core.specs.Actions.{action_of}
-use Rattle.c_core.specs.declared.action.Action.{Action}
-use Rattle.c_core.specs.declared.action.Group.{out-Group}
-use Rattle.c_core.proofs.ActionViews.{Switch-view}
+use Rattle.c_types_spec.specs.Core as tree
+use Rattle.c_types_core.specs.Expressions.{core_of}
+use Rattle.c_types_core.specs.Actions.{action_of}
+use Rattle.c_types_core.specs.declared.action.Action.{Action}
+use Rattle.c_types_core.specs.declared.action.Group.{out-Group}
+use Rattle.c_types_core.proofs.ActionViews.{Switch-view}
 use Rattle.c_graph_spec.specs.Layout as spec
 use Rattle.c_graph_spec.specs.Layout.{Setting, Exits}
 use Rattle.c_graph_layout.specs.Counts.{size_of}

@@ -1,14 +1,14 @@
 use Rattle.std.proofs.Common.{◌≡◌, ◌∙◌, ℕ, List, [], ◌∷◌, ◌++◌, length, map, refl, sym, ap, subst, rules}
 use Rattle.std.proofs.lemmas.Result.{IfOk-weaker}
-use Rattle.term_spec.specs.Term.{Term}
-use Rattle.term_spec.specs.declared.Width.TheVariants.{W32}
+use Rattle.term_core_spec.specs.Term.{Term}
+use Rattle.term_core_spec.specs.declared.Width.TheVariants.{W32}
 use Rattle.term_bank.specs.Nodes.{tree_at}
-use Rattle.c_type_spec.specs.declared.Order.{Order}
-use Rattle.c_type_spec.specs.declared.Order.TheVariants.{PointerFirst, IndexFirst}
-use Rattle.c_type_spec.specs.Core.{Core, Constant, Move, type_of}
-use Rattle.c_core.proofs.Views.{Constant-view, GlobalAddress-view, ReadLocal-view, Target-view}
-use Rattle.c_type_spec.specs.Types.{word}
-use Rattle.c_core.specs.Expressions.{core_of}
+use Rattle.c_types_spec.specs.declared.Order.{Order}
+use Rattle.c_types_spec.specs.declared.Order.TheVariants.{PointerFirst, IndexFirst}
+use Rattle.c_types_spec.specs.Core.{Core, Constant, Move, type_of}
+use Rattle.c_types_core.proofs.Views.{Constant-view, GlobalAddress-view, ReadLocal-view, Target-view}
+use Rattle.c_types_spec.specs.Types.{word}
+use Rattle.c_types_core.specs.Expressions.{core_of}
 use Rattle.c_graph_spec.specs.State.{width_of, value_constant}
 use Rattle.c_graph_spec.specs.Values.{Globals, Object, Terms, object, of_word, loaded, computed, at_width, moved, scaled, terms, tests_zero}
 use Rattle.c_graph_spec.specs.Guards.{tests, read_tests, operator_tests, is_pointer_moved, is_within, is_aligned, under}

@@ -1,5 +1,5 @@
 use Rattle.std.proofs.Common.{◌+◌, ◌*◌, max}
-use Rattle.c_core.specs.declared.expression.Core.{size-Core}
+use Rattle.c_types_core.specs.declared.expression.Core.{size-Core}
 use Rattle.c_graph_terms.proofs.expression.+expressions.Given as goal
 
 abbrev pub decreases-evaluate : goal.decreases-evaluate

@@ -1,5 +1,5 @@
 use Rattle.std.proofs.Common.{map, take}
-use Rattle.term_spec.specs.Term.{or_term}
+use Rattle.term_core_spec.specs.Term.{or_term}
 use Rattle.term_bank.specs.Nodes.{tree_at}
 use Rattle.c_graph_terms.specs.Tests.{IsTested}
 use Rattle.c_graph_terms.proofs.expression.add_excused.Given as goal

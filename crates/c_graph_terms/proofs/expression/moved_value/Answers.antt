@@ -1,6 +1,6 @@
 use Rattle.std.proofs.lemmas.Result.{IfOk-weaker}
-use Rattle.term_spec.specs.declared.Width.TheVariants.{W32}
-use Rattle.c_type_spec.specs.Types.{word}
+use Rattle.term_core_spec.specs.declared.Width.TheVariants.{W32}
+use Rattle.c_types_spec.specs.Types.{word}
 use Rattle.c_graph_spec.specs.Values.{of_word, moved, scaled, at_width}
 use Rattle.c_graph_terms.proofs.Made.{two_kept}
 use Rattle.c_graph_terms.proofs.Lists.{tested_one, tested_value}

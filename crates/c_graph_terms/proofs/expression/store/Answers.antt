@@ -1,9 +1,9 @@
 use Rattle.std.proofs.Common.{subst}
 use Rattle.std.proofs.lemmas.Result.{IfOk-weaker}
 use Rattle.memory_spec.specs.Viewed.{runs_of}
-use Rattle.term_spec.specs.Term.{Term}
-use Rattle.c_type_spec.specs.Core.{Core}
-use Rattle.c_core.specs.Expressions.{core_of}
+use Rattle.term_core_spec.specs.Term.{Term}
+use Rattle.c_types_spec.specs.Core.{Core}
+use Rattle.c_types_core.specs.Expressions.{core_of}
 use Rattle.c_graph_spec.specs.Values.{Globals, Object, object, terms}
 use Rattle.c_graph_spec.specs.Guards.{tests}
 use Rattle.c_graph_terms.specs.Scenes.{globals_of, object_at, target_of}

@@ -1,8 +1,8 @@
 use Rattle.std.proofs.Common.{sym, subst}
 use Rattle.std.proofs.lemmas.Result.{IfOk-weaker}
-use Rattle.term_spec.specs.Term.{Term, Binary}
+use Rattle.term_core_spec.specs.Term.{Term, Binary}
 use Rattle.term_bank.specs.Nodes.{tree_at}
-use Rattle.c_type_spec.specs.Types.{word}
+use Rattle.c_types_spec.specs.Types.{word}
 use Rattle.c_graph_spec.specs.Values.{of_word}
 use Rattle.c_graph_terms.specs.Built.{IsBuilt, AreBuilt}
 use Rattle.c_graph_terms.proofs.Made.{terms_beside}

@@ -1,6 +1,6 @@
 use Rattle.std.proofs.Common.{◌≡◌, ◌∙◌, ℕ, ◌+◌, ◌<◌, List, ◌∷◌, ◌++◌, [], false, length, map, get_or, drop, sym, ap, subst, arith, length-append}
 use Rattle.std.specs.Prelude.{IsTrue}
-use Rattle.term_spec.specs.declared.Atom.TheVariants.{Truth}
+use Rattle.term_core_spec.specs.declared.Atom.TheVariants.{Truth}
 use Rattle.term_bank.specs.declared.node.TermNode.{TermNode}
 use Rattle.term_bank.specs.declared.node.TermNode.TheVariants.{Leaf}
 use Rattle.term_bank.specs.Nodes.{IsNode, tree_at, build}

@@ -1,6 +1,6 @@
 use Rattle.std.proofs.Common.{◌≡◌, ℕ, zero, suc, ◌<◌, List, [], ◌∷◌, length, drop, slice_index_or, refl, arith}
 use Rattle.c_token.specs.declared.Token.{Token}
-use Rattle.c_grammar_spec.specs.Faults.{offset_of}
+use Rattle.c_parse_spec.specs.Faults.{offset_of}
 use Rattle.c_parse_token.specs.Lists.{list_of}
 use Rattle.c_parse.proofs.ParseFault.offset.Goals as goal
 

@@ -1,5 +1,5 @@
 use Rattle.std.proofs.Common.{ap, sym, ◌∙◌}
-use Rattle.c_grammar_spec.specs.Units.{name_of_global, name_of_declarator}
+use Rattle.c_parse_spec.specs.Units.{name_of_global, name_of_declarator}
 use Rattle.c_syntax.specs.Expressions.{declarator_of}
 use Rattle.c_syntax.specs.Units.{global_of}
 use Rattle.c_parse.proofs.Named.{declarator-name}

@@ -1,11 +1,11 @@
 use Rattle.std.proofs.Common.{◌≡◌, ◌∙◌, sym, ap, map, ◌++◌, ◌∷◌, [], Ok}
 use Rattle.std.specs.declared.alloc.Global.{Global}
 use Rattle.std.specs.declared.boxed.Box.{Box}
-use Rattle.c_tree_spec.specs.Unit as tree
-use Rattle.c_grammar_spec.specs.declared.Role.{Role}
-use Rattle.c_grammar_spec.specs.Units.{names_after}
+use Rattle.c_syntax_spec.specs.Unit as tree
+use Rattle.c_parse_spec.specs.declared.Role.{Role}
+use Rattle.c_parse_spec.specs.Units.{names_after}
 use Rattle.exact_read.specs.Grammar.{read_map}
-use Rattle.c_statement_laws.specs.Units.{end_of_global, read_globals}
+use Rattle.c_parse_laws.specs.Units.{end_of_global, read_globals}
 use Rattle.c_syntax.specs.declared.unit.ExternalDeclaration.{ExternalDeclaration}
 use Rattle.c_syntax.specs.Expressions.{specifiers_of, unboxed}
 use Rattle.c_syntax.specs.Units.{global_of, external_declaration_of}

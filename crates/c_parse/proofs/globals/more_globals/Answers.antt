@@ -1,16 +1,16 @@
 use Rattle.std.proofs.Common.{arith, ℕ, ◌<◌, ◌∙◌, sym, map, length}
 use Rattle.std.specs.declared.alloc.Global.{Global}
 use Rattle.std.specs.declared.boxed.Box.{Box}
-use Rattle.c_spec.specs.declared.token.Punctuator.TheVariants as punctuator
-use Rattle.c_tree_spec.specs.Unit as tree
-use Rattle.c_grammar_spec.specs.declared.Role.{Role}
-use Rattle.c_grammar_spec.specs.Leaves.{expected}
-use Rattle.c_grammar_spec.specs.Units.{names_after}
+use Rattle.c_token_spec.specs.declared.token.Punctuator.TheVariants as punctuator
+use Rattle.c_syntax_spec.specs.Unit as tree
+use Rattle.c_parse_spec.specs.declared.Role.{Role}
+use Rattle.c_parse_spec.specs.Leaves.{expected}
+use Rattle.c_parse_spec.specs.Units.{names_after}
 use Rattle.exact_read.specs.Grammar.{read_map}
-use Rattle.c_expression_laws.specs.Classes.{mark_offset}
-use Rattle.c_expression_laws.specs.Parsers.{token}
-use Rattle.c_declaration_laws.specs.Parameters.{read_global}
-use Rattle.c_statement_laws.specs.Units.{end_of_global}
+use Rattle.c_parse_laws.specs.Classes.{mark_offset}
+use Rattle.c_parse_laws.specs.Parsers.{token}
+use Rattle.c_parse_laws.specs.Parameters.{read_global}
+use Rattle.c_parse_laws.specs.Units.{end_of_global}
 use Rattle.c_syntax.specs.declared.unit.Global.{Global as Global_row}
 use Rattle.c_syntax.specs.Expressions.{specifiers_of, unboxed}
 use Rattle.c_syntax.specs.Units.{global_of}

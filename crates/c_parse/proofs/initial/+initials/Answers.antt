@@ -1,12 +1,12 @@
 use Rattle.std.proofs.Common.{arith, ℕ, ◌+◌, ◌-◌, ◌∙◌, sym}
-use Rattle.c_spec.specs.declared.token.Punctuator.TheVariants as punctuator
-use Rattle.c_grammar_spec.specs.declared.Role.{Role}
-use Rattle.c_grammar_spec.specs.declared.Role.TheVariants.{Nothing}
-use Rattle.c_grammar_spec.specs.Leaves.{expected}
+use Rattle.c_token_spec.specs.declared.token.Punctuator.TheVariants as punctuator
+use Rattle.c_parse_spec.specs.declared.Role.{Role}
+use Rattle.c_parse_spec.specs.declared.Role.TheVariants.{Nothing}
+use Rattle.c_parse_spec.specs.Leaves.{expected}
 use Rattle.exact_read.specs.Grammar.{read_map}
-use Rattle.c_expression_laws.specs.Classes.{mark_offset}
-use Rattle.c_expression_laws.specs.Parsers.{token}
-use Rattle.c_statement_laws.specs.Initializers.{end_of_initial, read_designated, read_initial, read_initials}
+use Rattle.c_parse_laws.specs.Classes.{mark_offset}
+use Rattle.c_parse_laws.specs.Parsers.{token}
+use Rattle.c_parse_laws.specs.Initializers.{end_of_initial, read_designated, read_initial, read_initials}
 use Rattle.c_syntax.specs.Expressions.{expression_of}
 use Rattle.c_parse_token.specs.Lists.{list_of, names_of}
 use Rattle.c_parse_token.proofs.Steps.{fewer}

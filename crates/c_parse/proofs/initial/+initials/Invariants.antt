@@ -1,5 +1,5 @@
 use Rattle.std.proofs.Common.{◌+◌, ◌*◌, ◌<◌, length}
-use Rattle.c_statement_laws.specs.Initializers.{read_initial, read_initials}
+use Rattle.c_parse_laws.specs.Initializers.{read_initial, read_initials}
 use Rattle.c_parse_token.specs.Lists.{list_of, names_of}
 use Rattle.c_parse_expression.specs.Whole.{expressions}
 use Rattle.c_parse.proofs.Initials.{Awaiting}

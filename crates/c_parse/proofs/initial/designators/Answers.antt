@@ -1,5 +1,5 @@
 use Rattle.std.proofs.Common.{arith, ◌∙◌, sym}
-use Rattle.c_statement_laws.specs.Initializers.{read_designator, read_designators}
+use Rattle.c_parse_laws.specs.Initializers.{read_designator, read_designators}
 use Rattle.c_parse_token.specs.Lists.{list_of}
 use Rattle.c_parse_token.proofs.Steps.{fewer}
 use Rattle.c_parse_expression.specs.Whole.{expressions}

@@ -2,9 +2,9 @@ use Rattle.std.proofs.Common.{◌∙◌, ℕ, sym, ap, Ok}
 use Rattle.std.specs.Prelude.{Vec}
 use Rattle.std.specs.declared.alloc.Global.{Global}
 use Rattle.std.specs.declared.boxed.Box.{Box}
-use Rattle.c_tree_spec.specs.Unit as tree
+use Rattle.c_syntax_spec.specs.Unit as tree
 use Rattle.exact_read.specs.Grammar.{bind}
-use Rattle.c_statement_laws.specs.Units.{Read, read_body}
+use Rattle.c_parse_laws.specs.Units.{Read, read_body}
 use Rattle.c_syntax.specs.declared.statement.Part.{Part}
 use Rattle.c_syntax.specs.declared.unit.ExternalDeclaration.{ExternalDeclaration}
 use Rattle.c_syntax.specs.Expressions.{specifiers_of}

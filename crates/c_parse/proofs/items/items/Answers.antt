@@ -4,7 +4,7 @@ use Rattle.std.proofs.lemmas.List.{length-map}
 use Rattle.std.specs.declared.alloc.Global.{Global}
 use Rattle.std.specs.declared.boxed.Box.{Box}
 use Rattle.c_token.specs.Pieces.{placed_of}
-use Rattle.c_statement_laws.specs.Units.{read_external_declaration, read_external_declarations}
+use Rattle.c_parse_laws.specs.Units.{read_external_declaration, read_external_declarations}
 use Rattle.c_syntax.specs.declared.unit.ExternalDeclaration.{ExternalDeclaration}
 use Rattle.c_syntax.specs.Expressions.{unboxed}
 use Rattle.c_syntax.specs.Units.{external_declaration_of}

@@ -1,5 +1,5 @@
 use Rattle.std.proofs.Common.{length, map}
-use Rattle.c_statement_laws.specs.Units.{read_external_declarations}
+use Rattle.c_parse_laws.specs.Units.{read_external_declarations}
 use Rattle.c_syntax.specs.Expressions.{unboxed}
 use Rattle.c_syntax.specs.Units.{external_declaration_of}
 use Rattle.c_parse_token.specs.Lists.{list_of, names_of}

@@ -1,7 +1,7 @@
 use Rattle.std.proofs.Common.{◌≤◌, length, map}
-use Rattle.c_spec.specs.declared.token.Punctuator.TheVariants.{Semicolon}
+use Rattle.c_token_spec.specs.declared.token.Punctuator.TheVariants.{Semicolon}
 use Rattle.exact_read.specs.Grammar.{read_nothing}
-use Rattle.c_declaration_laws.specs.Declarations.{read_list_from, read_local, end_of_local}
+use Rattle.c_parse_laws.specs.Declarations.{read_list_from, read_local, end_of_local}
 use Rattle.c_syntax.specs.Expressions.{unboxed}
 use Rattle.c_syntax.specs.Locals.{local_of}
 use Rattle.c_parse_token.specs.Lists.{list_of, names_of}

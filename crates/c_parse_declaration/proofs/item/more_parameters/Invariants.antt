@@ -1,8 +1,8 @@
 use Rattle.std.proofs.Common.{◌≤◌, length, map}
-use Rattle.c_spec.specs.declared.token.Punctuator.TheVariants.{RightParenthesis}
+use Rattle.c_token_spec.specs.declared.token.Punctuator.TheVariants.{RightParenthesis}
 use Rattle.exact_read.specs.Grammar.{read_nothing}
-use Rattle.c_declaration_laws.specs.Declarations.{read_list_from}
-use Rattle.c_declaration_laws.specs.Parameters.{end_of_parameter, read_parameter}
+use Rattle.c_parse_laws.specs.Declarations.{read_list_from}
+use Rattle.c_parse_laws.specs.Parameters.{end_of_parameter, read_parameter}
 use Rattle.c_syntax.specs.Expressions.{unboxed}
 use Rattle.c_syntax.specs.Units.{parameter_of}
 use Rattle.c_parse_token.specs.Lists.{list_of, names_of}

@@ -1,5 +1,5 @@
 use Rattle.std.proofs.Common.{◌≡◌, ◌+◌, ◌<◌, length, map, Ok, Err, arith, ap, sym, ◌∙◌, subst}
-use Rattle.c_grammar_spec.specs.Expressions.{operators}
+use Rattle.c_parse_spec.specs.Expressions.{operators}
 use Rattle.c_syntax.specs.Expressions.{expression_of, unboxed}
 use Rattle.c_parse_token.specs.Lists.{list_of, Gives}
 use Rattle.c_parse_token.proofs.Steps.{fewer}

@@ -1,5 +1,5 @@
 use Rattle.std.proofs.Common.{◌≤◌, length, map}
-use Rattle.c_grammar_spec.specs.Limits.{operator_limit}
+use Rattle.c_parse_spec.specs.Limits.{operator_limit}
 use Rattle.c_syntax.specs.Expressions.{expression_of, unboxed}
 use Rattle.c_parse_token.specs.Lists.{list_of}
 use Rattle.c_parse_expression.specs.Whole.{expressions}

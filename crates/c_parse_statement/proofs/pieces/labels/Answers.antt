@@ -1,6 +1,6 @@
 use Rattle.std.proofs.Common.{◌≡◌, ◌∙◌, sym, subst, ap, map, ◌++◌, ◌∷◌, []}
 use Rattle.std.proofs.lemmas.List.{map-append}
-use Rattle.c_statement_laws.specs.Statements.{begins_label, read_label}
+use Rattle.c_parse_laws.specs.Statements.{begins_label, read_label}
 use Rattle.c_syntax.specs.Locals.{label_of}
 use Rattle.c_parse_token.specs.Lists.{list_of}
 use Rattle.c_parse_token.proofs.Steps.{fewer}

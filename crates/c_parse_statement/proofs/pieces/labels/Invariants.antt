@@ -1,5 +1,5 @@
 use Rattle.std.proofs.Common.{length}
-use Rattle.c_statement_laws.specs.Statements.{begins_label, read_label}
+use Rattle.c_parse_laws.specs.Statements.{begins_label, read_label}
 use Rattle.c_parse_token.specs.Lists.{list_of}
 use Rattle.c_parse_expression.specs.Whole.{expressions}
 use Rattle.c_parse_statement.specs.Pieces.{taken_labels}

@@ -1,7 +1,7 @@
 use Rattle.std.proofs.Common.{◌∙◌, refl, sym}
 use Rattle.std.specs.declared.alloc.Global.{Global}
 use Rattle.std.specs.declared.boxed.Box.{Box}
-use Rattle.c_tree_spec.specs.Unit as unit
+use Rattle.c_syntax_spec.specs.Unit as unit
 use Rattle.c_syntax.specs.declared.statement.Statement.{Statement}
 use Rattle.c_syntax.specs.Statements.{statement_of}
 use Rattle.c_parse_statement.proofs.Made.{made-gives, always}

@@ -8,9 +8,9 @@ use Rattle.c_syntax.specs.declared.simple.Simple.{Simple}
 use Rattle.c_syntax.specs.declared.statement.ForStart.{ForStart}
 use Rattle.c_syntax.specs.declared.statement.Statement.{Statement}
 use Rattle.c_syntax.specs.declared.statement.Locals.{Locals}
-use Rattle.c_tree_spec.specs.Unit as unit
-use Rattle.c_statement_laws.specs.Statements as statements
-use Rattle.c_statement_laws.specs.Statements.{begins_label, read_label, read_groups}
+use Rattle.c_syntax_spec.specs.Unit as unit
+use Rattle.c_parse_laws.specs.Statements as statements
+use Rattle.c_parse_laws.specs.Statements.{begins_label, read_label, read_groups}
 use Rattle.c_syntax.specs.Expressions.{expression_of, unboxed}
 use Rattle.c_syntax.specs.Simples.{simple_of}
 use Rattle.c_syntax.specs.Locals.{locals_of, start_of}

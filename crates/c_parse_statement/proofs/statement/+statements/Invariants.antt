@@ -1,5 +1,5 @@
 use Rattle.std.proofs.Common.{◌≤◌, length, map, ◌+◌, ◌*◌}
-use Rattle.c_statement_laws.specs.Statements.{read_part, read_groups}
+use Rattle.c_parse_laws.specs.Statements.{read_part, read_groups}
 use Rattle.c_syntax.specs.Expressions.{unboxed}
 use Rattle.c_syntax.specs.Statements.{group_of}
 use Rattle.c_parse_token.specs.Lists.{list_of, names_of}

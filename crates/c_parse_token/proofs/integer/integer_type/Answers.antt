@@ -1,10 +1,10 @@
 use Rattle.std.proofs.Common.{◌≡◌, refl, ◌<◌, ◌∷◌, [], length, drop, suc, Ok, arith, subst, sym, ◌∙◌}
 use Rattle.std.specs.Prelude.{unwrap_or}
-use Rattle.c_tree_spec.specs.declared.IntegerType.TheVariants.{Int}
-use Rattle.c_tree_spec.specs.Expression as tree
-use Rattle.c_grammar_spec.specs.Expressions.{integer_type_of}
+use Rattle.c_syntax_spec.specs.declared.IntegerType.TheVariants.{Int}
+use Rattle.c_syntax_spec.specs.Expression as tree
+use Rattle.c_parse_spec.specs.Expressions.{integer_type_of}
 use Rattle.exact_read.specs.Grammar.{read_map}
-use Rattle.c_expression_laws.specs.Types.{read_words, integer_of}
+use Rattle.c_parse_laws.specs.Types.{read_words, integer_of}
 use Rattle.c_parse_token.specs.Lists.{list_of}
 use Rattle.c_parse_token.specs.Words.{with_next}
 use Rattle.c_parse_token.proofs.Steps.{Words, words-start, words-more, words-end, fewer}

@@ -1,7 +1,7 @@
 use Rattle.std.proofs.Common.{◌≡◌, refl, ◌∙◌, Ok, Some, arith, subst, sym}
 use Rattle.std.specs.Prelude.{unwrap_or}
 use Rattle.exact_read.specs.Grammar.{read_map}
-use Rattle.c_expression_laws.specs.Types.{read_consts}
+use Rattle.c_parse_laws.specs.Types.{read_consts}
 use Rattle.c_parse_token.specs.Lists.{list_of}
 use Rattle.c_parse_token.specs.Words.{first_of}
 use Rattle.c_parse_token.proofs.Steps.{Consts, consts-start, consts-step, consts-end, fewer}

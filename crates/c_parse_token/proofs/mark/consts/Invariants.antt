@@ -1,6 +1,6 @@
 use Rattle.std.proofs.Common.{◌≡◌, ◌≤◌, length}
 use Rattle.exact_read.specs.Grammar.{read_map}
-use Rattle.c_expression_laws.specs.Types.{read_consts}
+use Rattle.c_parse_laws.specs.Types.{read_consts}
 use Rattle.c_parse_token.specs.Lists.{list_of}
 use Rattle.c_parse_token.specs.Words.{first_of}
 use Rattle.c_parse_token.proofs.Steps.{Consts}

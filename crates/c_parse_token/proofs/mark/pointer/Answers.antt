@@ -1,5 +1,5 @@
 use Rattle.std.proofs.Common.{◌≡◌, refl, ◌∙◌, Ok, arith, subst, sym}
-use Rattle.c_expression_laws.specs.Types.{read_pointer}
+use Rattle.c_parse_laws.specs.Types.{read_pointer}
 use Rattle.c_parse_token.specs.Lists.{list_of}
 use Rattle.c_parse_token.proofs.Steps.{stars-start, stars-step, stars-end, fewer}
 use Rattle.c_parse_token.proofs.mark.pointer.Goals as goal

@@ -1,5 +1,5 @@
 use Rattle.std.proofs.Common.{◌≡◌}
-use Rattle.c_value.specs.Settings.{setting_of}
+use Rattle.c_run_value.specs.Settings.{setting_of}
 use Rattle.c_run.specs.Machines.{comes_to, weight}
 use Rattle.c_run.proofs.machine.drive.Given as goal
 

@@ -1,4 +1,4 @@
-use Rattle.c_value.specs.Settings.{setting_of}
+use Rattle.c_run_value.specs.Settings.{setting_of}
 use Rattle.c_run.proofs.Taking.{Reaches, begun}
 use Rattle.c_run.proofs.running.go.Given as goal
 

@@ -1,12 +1,12 @@
 use Rattle.std.proofs.Common.{◌≡◌, sym, ap, subst, ◌∙◌}
 use Rattle.std.specs.Prelude.{Ok, Err}
-use Rattle.c_type_spec.specs.Core.{Loop}
-use Rattle.c_core.specs.Expressions.{core_of}
-use Rattle.c_core.specs.Actions.{action_of}
-use Rattle.c_core.proofs.ActionViews.{Leave-view, Loop-view, MissingReturn-view}
-use Rattle.c_meaning_spec.specs.declared.Guard.TheVariants as guards
-use Rattle.c_value.specs.declared.setting.Stop.TheVariants as stop
-use Rattle.c_value.specs.Settings.{setting_of}
+use Rattle.c_types_spec.specs.Core.{Loop}
+use Rattle.c_types_core.specs.Expressions.{core_of}
+use Rattle.c_types_core.specs.Actions.{action_of}
+use Rattle.c_types_core.proofs.ActionViews.{Leave-view, Loop-view, MissingReturn-view}
+use Rattle.c_run_spec.specs.declared.Guard.TheVariants as guards
+use Rattle.c_run_value.specs.declared.setting.Stop.TheVariants as stop
+use Rattle.c_run_value.specs.Settings.{setting_of}
 use Rattle.c_run.specs.declared.frame.Next.TheVariants as next
 use Rattle.c_run.specs.Tasks.{Acts}
 use Rattle.c_run.proofs.Acting.{leaves, lacks_return, loops}

@@ -1,6 +1,6 @@
 use Rattle.std.specs.Prelude.{map}
 use Rattle.c_run.proofs.Acting.{calls, calls_not}
-use Rattle.c_core.specs.Expressions.{core_of}
+use Rattle.c_types_core.specs.Expressions.{core_of}
 use Rattle.c_run.proofs.statement.call.Goals as goal
 
 pub returns : goal.returns

@@ -1,6 +1,6 @@
 use Rattle.c_run.proofs.Acting.{chooses_first, chooses_second, chooses_not}
-use Rattle.c_core.specs.Expressions.{core_of}
-use Rattle.c_core.specs.Actions.{action_of}
+use Rattle.c_types_core.specs.Expressions.{core_of}
+use Rattle.c_types_core.specs.Actions.{action_of}
 use Rattle.c_run.proofs.statement.choose.Goals as goal
 
 pub returns : goal.returns

@@ -1,5 +1,5 @@
 use Rattle.c_run.proofs.Acting.{evaluates, evaluates_not}
-use Rattle.c_core.specs.Expressions.{core_of}
+use Rattle.c_types_core.specs.Expressions.{core_of}
 use Rattle.c_run.proofs.statement.evaluate.Goals as goal
 
 pub returns : goal.returns

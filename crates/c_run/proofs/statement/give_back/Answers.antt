@@ -1,14 +1,14 @@
 use mir.Syntax.{w128}
 use Rattle.std.proofs.Common.{rules, ◌≡◌, Some, sym, ap, subst, ◌∙◌, to_z, of_z}
 use Rattle.std.specs.Prelude.{Ok}
-use Rattle.c_type_spec.specs.Core.{Return}
-use Rattle.c_value.specs.Settings.{setting_of}
+use Rattle.c_types_spec.specs.Core.{Return}
+use Rattle.c_run_value.specs.Settings.{setting_of}
 use Rattle.c_run.specs.declared.frame.Next.TheVariants as next
 use Rattle.c_run.specs.declared.frame.Pause.TheVariants as pause
 use Rattle.c_run.specs.Tasks.{Acts}
 use Rattle.c_run.proofs.Acting.{gives, gives_not, gives_nothing}
-use Rattle.c_core.specs.Expressions.{core_of}
-use Rattle.c_core.specs.Actions.{core_in}
+use Rattle.c_types_core.specs.Expressions.{core_of}
+use Rattle.c_types_core.specs.Actions.{core_in}
 use Rattle.c_run.proofs.statement.give_back.Goals as goal
 
 pub returns-in-Some : goal.returns-in-Some

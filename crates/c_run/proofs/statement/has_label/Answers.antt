@@ -1,5 +1,5 @@
 use Rattle.std.proofs.Common.{sym, ◌∙◌}
-use Rattle.c_type_spec.specs.Statements.{same_label}
+use Rattle.c_types_spec.specs.Statements.{same_label}
 use Rattle.c_run.proofs.Searching.{any_here, any_later, any_past}
 use Rattle.c_run.proofs.statement.has_label.Goals as goal
 

@@ -1,6 +1,6 @@
 use Rattle.std.proofs.Common.{◌≡◌, drop}
 use Rattle.std.specs.List.{list_any}
-use Rattle.c_type_spec.specs.Statements.{same_label}
+use Rattle.c_types_spec.specs.Statements.{same_label}
 use Rattle.c_run.proofs.statement.has_label.Given as goal
 
 abbrev pub invariant-loop-other : goal.invariant-loop-other

@@ -1,7 +1,7 @@
 use Rattle.std.proofs.Common.{Some, sym, ap, ◌∙◌}
 use Rattle.std.specs.List.{list_any}
-use Rattle.c_type_spec.specs.Statements.{same_label}
-use Rattle.c_core.specs.Actions.{action_of}
+use Rattle.c_types_spec.specs.Statements.{same_label}
+use Rattle.c_types_core.specs.Actions.{action_of}
 use Rattle.c_run.proofs.Searching.{picked_here, picked_later, picked_past}
 use Rattle.c_run.proofs.statement.labelled.Goals as goal
 

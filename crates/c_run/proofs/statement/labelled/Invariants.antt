@@ -1,6 +1,6 @@
 use Rattle.std.proofs.Common.{◌≡◌, drop, map}
-use Rattle.c_core.specs.Actions.{group_of}
-use Rattle.c_type_spec.specs.Statements.{groups_in}
+use Rattle.c_types_core.specs.Actions.{group_of}
+use Rattle.c_types_spec.specs.Statements.{groups_in}
 use Rattle.c_run.specs.Groups.{picked}
 use Rattle.c_run.proofs.statement.labelled.Given as goal
 

@@ -1,4 +1,4 @@
-use Rattle.c_value.specs.Settings.{setting_of}
+use Rattle.c_run_value.specs.Settings.{setting_of}
 use Rattle.c_run.proofs.Passing.{Passed}
 use Rattle.c_run.proofs.statement.pass.Given as goal
 

@@ -1,5 +1,5 @@
 use Rattle.c_run.proofs.Acting.{repeats}
-use Rattle.c_type_spec.specs.declared.TestPlace.TheVariants.{Before, After}
+use Rattle.c_types_spec.specs.declared.TestPlace.TheVariants.{Before, After}
 use Rattle.c_run.proofs.statement.repeat.Goals as goal
 
 pub returns-in-Ok-attempt : goal.returns-in-Ok-attempt

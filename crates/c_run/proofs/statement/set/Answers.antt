@@ -1,7 +1,7 @@
 use Rattle.std.proofs.Common.{rules, Some}
 use Rattle.c_run.specs.Frames.{IsSet}
 use Rattle.c_run.proofs.Acting.{sets, sets_not}
-use Rattle.c_core.specs.Expressions.{core_of}
+use Rattle.c_types_core.specs.Expressions.{core_of}
 use Rattle.c_run.proofs.statement.set.Goals as goal
 
 pub returns : goal.returns

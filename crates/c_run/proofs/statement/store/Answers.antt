@@ -1,10 +1,10 @@
 use Rattle.std.proofs.Common.{rules, ◌≡◌, ◌+◌}
 use Rattle.std.specs.Prelude.{Ok, Err}
-use Rattle.c_meaning_spec.specs.Accesses.{address_of, stored}
-use Rattle.c_value.specs.Settings.{setting_of}
-use Rattle.c_value.specs.Gives.{Gives}
+use Rattle.c_run_spec.specs.Accesses.{address_of, stored}
+use Rattle.c_run_value.specs.Settings.{setting_of}
+use Rattle.c_run_value.specs.Gives.{Gives}
 use Rattle.c_run.proofs.Acting.{numbers, stores, stores_not, stores_no_value, addresses_not, no_memory, ok_is, no_err}
-use Rattle.c_core.specs.Expressions.{core_of}
+use Rattle.c_types_core.specs.Expressions.{core_of}
 use Rattle.c_run.proofs.statement.store.Goals as goal
 
 pub returns : goal.returns

@@ -1,11 +1,11 @@
 use Rattle.std.proofs.Common.{rules, ◌≡◌, Bor, sym, ap, ◌∙◌}
 use Rattle.std.specs.Prelude.{Option, map, option_map}
-use Rattle.c_core.specs.declared.action.Action.{Action}
+use Rattle.c_types_core.specs.declared.action.Action.{Action}
 use Rattle.c_run.specs.Groups.{chosen_action}
 use Rattle.c_run.proofs.Choosing.{switches, switches_not, passes_by}
-use Rattle.c_core.specs.Expressions.{core_of}
-use Rattle.c_core.specs.Actions.{action_of, group_of}
-use Rattle.c_type_spec.specs.Statements.{groups_in}
+use Rattle.c_types_core.specs.Expressions.{core_of}
+use Rattle.c_types_core.specs.Actions.{action_of, group_of}
+use Rattle.c_types_spec.specs.Statements.{groups_in}
 use Rattle.c_run.proofs.statement.switch.Goals as goal
 
 pub returns : goal.returns

@@ -1,5 +1,5 @@
 use Rattle.std.proofs.Common.{◌≡◌, ◌+◌, drop, option_map}
-use Rattle.c_spec.specs.Blanks.{close_len}
+use Rattle.c_token_spec.specs.Blanks.{close_len}
 use Rattle.c_token.proofs.blank.close_len.Given as goal
 
 abbrev pub invariant-loop-start : goal.invariant-loop-start

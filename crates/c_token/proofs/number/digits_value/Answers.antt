@@ -1,5 +1,5 @@
 use Rattle.std.proofs.Common.{◌<◌, ◌*◌, ◌+◌, arith, get_or}
-use Rattle.c_spec.specs.Numbers.{digit_value}
+use Rattle.c_token_spec.specs.Numbers.{digit_value}
 use Rattle.c_token.proofs.Digits.{product_fits}
 use Rattle.c_token.proofs.number.digits_value.Goals as goal
 

@@ -1,5 +1,5 @@
 use Rattle.std.proofs.Common.{◌≡◌, ◌<◌, ◌^◌, drop}
-use Rattle.c_spec.specs.Numbers.{digits_value}
+use Rattle.c_token_spec.specs.Numbers.{digits_value}
 use Rattle.c_token.proofs.Digits.{value_after}
 use Rattle.c_token.proofs.number.digits_value.Given as goal
 

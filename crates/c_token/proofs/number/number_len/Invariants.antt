@@ -1,5 +1,5 @@
 use Rattle.std.proofs.Common.{◌≡◌, ◌+◌, drop}
-use Rattle.c_spec.specs.Numbers.{number_len}
+use Rattle.c_token_spec.specs.Numbers.{number_len}
 use Rattle.c_token.proofs.number.number_len.Given as goal
 
 abbrev pub invariant-loop-count : goal.invariant-loop-count

@@ -1,6 +1,6 @@
 use Rattle.std.proofs.Common.{◌≡◌, drop}
 use Rattle.std.specs.Prelude.{map}
-use Rattle.c_spec.specs.Words.{entry_of}
+use Rattle.c_token_spec.specs.Words.{entry_of}
 use Rattle.c_token.specs.Tables.{spelled}
 use Rattle.c_token.proofs.word.entry_of.Given as goal
 

@@ -1,6 +1,6 @@
 use Rattle.std.proofs.Common.{◌≡◌, drop}
 use Rattle.std.specs.Prelude.{map}
-use Rattle.c_spec.specs.Punctuators.{prefix_entry}
+use Rattle.c_token_spec.specs.Punctuators.{prefix_entry}
 use Rattle.c_token.specs.Tables.{spelled}
 use Rattle.c_token.proofs.word.find_front.Given as goal
 

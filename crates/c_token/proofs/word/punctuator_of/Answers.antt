@@ -1,6 +1,6 @@
 use Rattle.std.proofs.Common.{◌<◌, subst, sym}
 use Rattle.std.specs.Prelude.{IfSome}
-use Rattle.c_spec.specs.Punctuators.{punctuator_of}
+use Rattle.c_token_spec.specs.Punctuators.{punctuator_of}
 use Rattle.c_token.proofs.Marks.{punctuator-some}
 use Rattle.c_token.proofs.word.punctuator_of.Goals as goal
 

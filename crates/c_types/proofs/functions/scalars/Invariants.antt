@@ -1,6 +1,6 @@
 use Rattle.std.proofs.Common.{◌≡◌, ◌++◌, drop, map}
-use Rattle.c_type_layout.specs.Types.{type_of}
-use Rattle.c_type_spec.specs.Units as rule
+use Rattle.c_types_layout.specs.Types.{type_of}
+use Rattle.c_types_spec.specs.Units as rule
 use Rattle.c_types.proofs.functions.scalars.Given as goal
 
 -- what is left comes after those so far

@@ -1,9 +1,9 @@
 use Rattle.std.proofs.Common.{◌≡◌, drop, map}
 use Rattle.c_syntax.specs.Units.{parameter_of}
-use Rattle.c_type_expression.specs.Trees.{unboxed}
-use Rattle.c_type_scope.specs.Meanings.{types_in}
-use Rattle.c_type_scope.specs.States.{state_of}
-use Rattle.c_type_spec.specs.Units as rule
+use Rattle.c_types_expression.specs.Trees.{unboxed}
+use Rattle.c_types_scope.specs.Meanings.{types_in}
+use Rattle.c_types_scope.specs.States.{state_of}
+use Rattle.c_types_spec.specs.Units as rule
 use Rattle.c_types.proofs.parameters.parameters.Given as goal
 
 -- what is left gives what all give

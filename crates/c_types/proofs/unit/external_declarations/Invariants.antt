@@ -1,8 +1,8 @@
 use Rattle.std.proofs.Common.{◌≡◌, drop, map}
 use Rattle.c_syntax.specs.Units.{external_declaration_of}
-use Rattle.c_type_expression.specs.Trees.{unboxed}
-use Rattle.c_type_scope.specs.States.{state_of}
-use Rattle.c_type_spec.specs.Units as rule
+use Rattle.c_types_expression.specs.Trees.{unboxed}
+use Rattle.c_types_scope.specs.States.{state_of}
+use Rattle.c_types_spec.specs.Units as rule
 use Rattle.c_types.specs.Typed.{bodies_of}
 use Rattle.c_types.proofs.unit.external_declarations.Given as goal
 

@@ -1,7 +1,7 @@
 use Rattle.std.proofs.Common.{List, [], ◌∷◌, ◌++◌, sym, ◌∙◌, ap}
 use Rattle.std.specs.Prelude.{Result, Ok}
-use Rattle.c_type_spec.specs.Core as core
-use Rattle.c_type_spec.specs.Names.{Fault}
+use Rattle.c_types_spec.specs.Core as core
+use Rattle.c_types_spec.specs.Names.{Fault}
 use Rattle.c_types.specs.declared.typed.Body.{Body}
 use Rattle.c_types.specs.Typed.{bodies_of, body_of}
 use Rattle.c_types.proofs.Lookups.{body-added}

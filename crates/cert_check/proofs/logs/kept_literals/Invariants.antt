@@ -1,5 +1,5 @@
 use Rattle.std.proofs.Common.{◌≡◌, map, take}
-use Rattle.cert_lines.specs.Views.{literal_of}
+use Rattle.cert_text_parse.specs.Views.{literal_of}
 use Rattle.cert_check.specs.Logs.{clipped}
 use Rattle.cert_check.proofs.logs.kept_literals.Given as goal
 

@@ -1,6 +1,6 @@
 use Rattle.std.proofs.Common.{List, length, subst}
-use Rattle.cert_frames.specs.declared.jobs.Branch.{Branch}
-use Rattle.cert_frames.specs.Jobs.{AreInside, HasBranches}
+use Rattle.cert_check_frames.specs.declared.jobs.Branch.{Branch}
+use Rattle.cert_check_frames.specs.Jobs.{AreInside, HasBranches}
 use Rattle.cert_check.proofs.Pushed.{inside_top, same_premises}
 use Rattle.cert_check.proofs.Tops.{case_top, case_follows}
 use Rattle.cert_check.proofs.InPart.{case_passes, test_fails}

@@ -1,10 +1,10 @@
 use Rattle.std.proofs.Common.{◌≡◌, ◌∙◌, ◌++◌, ℕ, List, Ok, Err, length, sym, ap, subst, arith}
-use Rattle.cert_spec.specs.Lines.{Leaf}
-use Rattle.check_spec.specs.Verdict.{Inside, Passes}
+use Rattle.cert_text_spec.specs.Lines.{Leaf}
+use Rattle.cert_check_spec.specs.Verdict.{Inside, Passes}
 use Rattle.path_cond.proofs.Banks.{extends_itself}
-use Rattle.cert_frames.specs.declared.jobs.Job.TheVariants.{Prove}
-use Rattle.cert_frames.specs.Listed.{frame_at}
-use Rattle.cert_frames.specs.Jobs.{AreBelow, AreInside, logs_last}
+use Rattle.cert_check_frames.specs.declared.jobs.Job.TheVariants.{Prove}
+use Rattle.cert_check_frames.specs.Listed.{frame_at}
+use Rattle.cert_check_frames.specs.Jobs.{AreBelow, AreInside, logs_last}
 use Rattle.cert_check.specs.Jobs.{jobs_of}
 use Rattle.cert_check.proofs.Pushed.{inside_top}
 use Rattle.cert_check.proofs.Tops.{leaf_top, leaf_follows}

@@ -1,10 +1,10 @@
 use Rattle.std.proofs.Common.{◌≡◌, ◌∙◌, map, ap, subst}
 use Rattle.graph_core.specs.Graphs.{boxed_term}
-use Rattle.proof_spec.specs.Frames.{Frame}
-use Rattle.cert_frames.specs.Jobs.{tests_at}
+use Rattle.proof_tree_spec.specs.Frames.{Frame}
+use Rattle.cert_check_frames.specs.Jobs.{tests_at}
 use Rattle.cert_check.specs.Steps.{AreGoalsOf}
 use Rattle.cert_check.proofs.Leaving.{opened_setup, opened_in, frame_there}
-use Rattle.cert_frames.proofs.Made.{same_count}
+use Rattle.cert_check_frames.proofs.Made.{same_count}
 use Rattle.cert_check.proofs.rules.leaf_goals.Goals as goal
 
 pub frame-requires : goal.frame-requires

@@ -1,7 +1,7 @@
 use Rattle.std.proofs.Common.{ℕ, List, Some, None, sym, subst}
 use Rattle.std.specs.Prelude.{length}
 use Rattle.std.proofs.lemmas.Option.{slice_get_within}
-use Rattle.cert_frames.specs.Parts.{AreIndices, IsFreeAt}
+use Rattle.cert_check_frames.specs.Parts.{AreIndices, IsFreeAt}
 use Rattle.cert_check.proofs.Entered.{begin_goes, stranger_goes}
 use Rattle.cert_check.proofs.walk.begin.Goals as goal
 

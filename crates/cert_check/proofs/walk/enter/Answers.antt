@@ -1,6 +1,6 @@
 use Rattle.std.proofs.Common.{◌∙◌, ◌++◌, ◌∷◌, [], ℕ, Vec, Global, Ok, Err, ap, refl}
-use Rattle.cert_frames.proofs.Indexed.{item_there}
-use Rattle.check_spec.specs.declared.RuleFault.TheVariants as fault
+use Rattle.cert_check_frames.proofs.Indexed.{item_there}
+use Rattle.cert_check_spec.specs.declared.RuleFault.TheVariants as fault
 use Rattle.cert_check.specs.declared.fault.Named.TheVariants as named
 use Rattle.cert_check.specs.declared.fault.Fault.TheVariants.{Broken}
 use Rattle.cert_check.specs.declared.walk.Walk.{Walk}

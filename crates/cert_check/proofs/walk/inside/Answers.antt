@@ -1,5 +1,5 @@
 use Rattle.std.proofs.Common.{refl}
-use Rattle.cert_frames.proofs.Indexed.{item_there}
+use Rattle.cert_check_frames.proofs.Indexed.{item_there}
 use Rattle.cert_check.proofs.Entered.{passes_inside, fails_inside}
 use Rattle.cert_check.proofs.walk.inside.Goals as goal
 

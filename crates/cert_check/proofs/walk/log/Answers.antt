@@ -1,8 +1,8 @@
 use Rattle.std.proofs.Common.{◌<◌, length, refl, arith}
 use Rattle.memory_spec.specs.Viewed.{runs_of}
 use Rattle.term_bank.specs.Nodes.{tree_at}
-use Rattle.cert_lines.specs.declared.lines.Line.TheVariants as code
-use Rattle.cert_frames.proofs.Indexed.{item_there}
+use Rattle.cert_text_parse.specs.declared.lines.Line.TheVariants as code
+use Rattle.cert_check_frames.proofs.Indexed.{item_there}
 use Rattle.cert_check.specs.Logs.{steps_of}
 use Rattle.cert_check.proofs.Tops.{log_top}
 use Rattle.cert_check.proofs.Taking.{steps_count, number_within}

@@ -1,8 +1,8 @@
 use Rattle.std.proofs.Common.{sym, ◌∙◌, subst, List, Vec, Global}
 use Rattle.std.specs.Prelude.{OnOk}
-use Rattle.cert_lines.specs.Views.{line_of}
-use Rattle.cert_spec.specs.declared.Symbol.{Symbol}
-use Rattle.cert_spec.specs.Lines.{Case}
+use Rattle.cert_text_parse.specs.Views.{line_of}
+use Rattle.cert_text_spec.specs.declared.Symbol.{Symbol}
+use Rattle.cert_text_spec.specs.Lines.{Case}
 use Rattle.cert_check.specs.Expectations.{IsNext, AreAfter}
 use Rattle.cert_check.specs.Steps.{IsStep}
 use Rattle.cert_check.proofs.InPart.{later_fails}

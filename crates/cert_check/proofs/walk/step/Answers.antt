@@ -1,7 +1,7 @@
 use Rattle.std.proofs.Common.{ℕ, List, subst, sym}
-use Rattle.cert_lines.specs.Views.{line_of}
-use Rattle.cert_lines.specs.declared.lines.Part.{Part}
-use Rattle.cert_spec.specs.Lines.{Function}
+use Rattle.cert_text_parse.specs.Views.{line_of}
+use Rattle.cert_text_parse.specs.declared.lines.Part.{Part}
+use Rattle.cert_text_spec.specs.Lines.{Function}
 use Rattle.cert_check.specs.Walks.{Ends, Goes, IsWalk}
 use Rattle.cert_check.proofs.Entered.{header_goes, end_goes, other_inside}
 use Rattle.cert_check.proofs.walk.step.Goals as goal

@@ -2,10 +2,10 @@ use Rattle.std.proofs.Common.{◌≡◌, ◌∙◌, ◌<◌, ◌≤◌, List, le
 use Rattle.std.specs.Prelude.{map, All, Vec, Bool}
 use Rattle.std.specs.Global.{Global}
 use Rattle.std.proofs.lemmas.List.{length-map}
-use Rattle.cert_spec.specs.Points.{IsNumber}
+use Rattle.cert_text_spec.specs.Points.{IsNumber}
 use Rattle.prove_run.specs.declared.trail.Found.{Found}
 use Rattle.prove_run.specs.Found.{found_of}
-use Rattle.tv_base.specs.declared.limits.TheConstants.{MAX_CERTIFICATE_BYTES}
+use Rattle.tv_limits.specs.declared.TheConstants.{MAX_CERTIFICATE_BYTES}
 use Rattle.cert_run.specs.Searches.{is_proved}
 use Rattle.cert_run.proofs.Numbers.{small_hints}
 use Rattle.cert_run.proofs.Searching.{all_within, is_over}

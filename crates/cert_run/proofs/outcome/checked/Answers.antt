@@ -1,6 +1,6 @@
 use Rattle.std.proofs.lemmas.Result.{IfOk-weaker}
 use Rattle.cert_text.specs.Certificates.{certificate_of}
-use Rattle.cert_verdict_spec.specs.Verdict.{proof}
+use Rattle.cert_run_spec.specs.Verdict.{proof}
 use Rattle.cert_run.proofs.outcome.checked.Goals as goal
 
 pub returns-in-Ok : goal.returns-in-Ok

@@ -1,6 +1,6 @@
 use Rattle.std.proofs.Common.{sym, subst}
 use Rattle.cert_text.specs.declared.certificates.ReadError.{ReadError}
-use Rattle.cert_verdict_spec.specs.Verdict.{unread}
+use Rattle.cert_run_spec.specs.Verdict.{unread}
 use Rattle.cert_run.specs.Outcomes.{IsUnreadOf}
 use Rattle.cert_run.specs.declared.outcome.Outcome.TheVariants.{Unread}
 use Rattle.cert_run.proofs.outcome.refused.Goals as goal

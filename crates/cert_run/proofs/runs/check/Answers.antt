@@ -1,8 +1,8 @@
 use Rattle.std.proofs.lemmas.Result.{IfOk-weaker}
 use Rattle.c_types.specs.Typed.{typed_of}
-use Rattle.c_reach.specs.Names.{texts_of}
+use Rattle.pair_setup_calls.specs.Names.{texts_of}
 use Rattle.pair_setup.specs.Answers.{pairs_of}
-use Rattle.cert_run.proofs.Sides.{answers}
+use Rattle.cert_run.proofs.SideFacts.{answers}
 use Rattle.cert_run.proofs.runs.check.Goals as goal
 
 pub new-requires : goal.new-requires

@@ -1,10 +1,10 @@
 use Rattle.std.proofs.Common.{List, map, sym, subst}
 use Rattle.std.proofs.lemmas.Result.{IfOk-weaker}
-use Rattle.rule_terms.specs.declared.convention.Convention.{Convention}
-use Rattle.check_laws.specs.Statements.{listed_of}
-use Rattle.cert_frames.specs.declared.listed.Listed.{Listed}
-use Rattle.cert_frames.specs.Listed.{AreListed}
-use Rattle.check_setup.specs.Entries.{AreConventions}
+use Rattle.sim_rules_terms.specs.declared.convention.Convention.{Convention}
+use Rattle.validity_laws.specs.CheckStatements.{listed_of}
+use Rattle.cert_check_frames.specs.declared.listed.Listed.{Listed}
+use Rattle.cert_check_frames.specs.Listed.{AreListed}
+use Rattle.cert_check_frames.specs.Entries.{AreConventions}
 use Rattle.cert_run.proofs.runs.search_sides.Goals as goal
 
 pub returns-in-Ok-listed : goal.returns-in-Ok-listed

@@ -1,6 +1,6 @@
 use Rattle.std.specs.Prelude.{◌-◌}
 use Rattle.std.proofs.Common.{length, arith}
-use Rattle.cert_laws.proofs.Certificates.{found, refused_at}
+use Rattle.cert_text_laws.proofs.Certificates.{found, refused_at}
 use Rattle.cert_text.specs.Certificates.{certificate_of}
 use Rattle.cert_text.proofs.reading.read.Goals as goal
 

@@ -1,7 +1,7 @@
 use Rattle.std.proofs.Common.{◌∷◌, ap, ◌∙◌, subst}
-use Rattle.cert_spec.specs.Certificates.{AHeader, after}
-use Rattle.cert_laws.specs.Readers.{read_items}
-use Rattle.cert_laws.specs.Lines.{read_line}
+use Rattle.cert_text_spec.specs.Certificates.{AHeader, after}
+use Rattle.cert_text_laws.specs.Readers.{read_items}
+use Rattle.cert_text_laws.specs.Lines.{read_line}
 use Rattle.cert_text.specs.Stack.{stack_of}
 use Rattle.cert_text.specs.Outcomes.{ReadsLines}
 use Rattle.cert_text.proofs.Groups.{none_stacked}

@@ -1,8 +1,8 @@
 use Rattle.std.proofs.Common.{◌++◌, ◌∙◌, sym, drop, get_or, false, arith}
-use Rattle.cert_spec.specs.declared.Symbol.{Symbol}
-use Rattle.cert_spec.specs.declared.Symbol.TheVariants.{Truth}
+use Rattle.cert_text_spec.specs.declared.Symbol.{Symbol}
+use Rattle.cert_text_spec.specs.declared.Symbol.TheVariants.{Truth}
 use Rattle.std.proofs.lemmas.List.{drop_all}
-use Rattle.cert_spec.specs.Terms.{term_text}
+use Rattle.cert_text_spec.specs.Terms.{term_text}
 use Rattle.cert_text.proofs.Spellings.{term_starts, term_over, term_ends, term_more, depth_more}
 use Rattle.cert_text.proofs.terms.push_term.Goals as goal
 

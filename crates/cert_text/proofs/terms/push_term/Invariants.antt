@@ -1,5 +1,5 @@
 use Rattle.std.proofs.Common.{◌++◌, ◌≤◌, drop}
-use Rattle.cert_spec.specs.Terms.{term_text}
+use Rattle.cert_text_spec.specs.Terms.{term_text}
 use Rattle.cert_text.proofs.Spellings.{TermLeft}
 use Rattle.cert_text.proofs.terms.push_term.Given as goal
 

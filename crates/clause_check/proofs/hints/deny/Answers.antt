@@ -1,8 +1,8 @@
 use Rattle.std.proofs.Common.{rules, ◌≡◌, ◌∙◌, ◌+◌, ◌++◌, ◌∷◌, [], true, false, length, take, map, ap, sym, subst}
 use Rattle.std.specs.Prelude.{IsTrue}
 use Rattle.std.proofs.lemmas.List.{take_more}
-use Rattle.clause_spec.specs.Clause.{negation}
-use Rattle.clause_spec.specs.Step.{are_fit}
+use Rattle.clause_check_spec.specs.Clause.{negation}
+use Rattle.clause_check_spec.specs.Step.{are_fit}
 use Rattle.clause_check.specs.Signs.{Reports}
 use Rattle.clause_check.proofs.More.{unfit_at}
 use Rattle.clause_check.proofs.hints.deny.Goals as goal

@@ -1,6 +1,6 @@
 use Rattle.std.proofs.Common.{◌≡◌, true, length, map, take}
-use Rattle.clause_spec.specs.Clause.{negation}
-use Rattle.clause_spec.specs.Step.{are_fit}
+use Rattle.clause_check_spec.specs.Clause.{negation}
+use Rattle.clause_check_spec.specs.Step.{are_fit}
 use Rattle.clause_check.specs.Signs.{Reports}
 use Rattle.clause_check.proofs.hints.deny.Given as goal
 

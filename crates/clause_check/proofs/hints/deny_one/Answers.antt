@@ -1,6 +1,6 @@
 use Rattle.std.proofs.Common.{rules, ◌≡◌, ◌∙◌, ◌++◌, ◌∷◌, ◌-◌, [], Some, true, false, length, map, set, ap, sym, subst}
 use Rattle.std.specs.Prelude.{is_some, not}
-use Rattle.clause_spec.specs.Clause.{is_of, negation}
+use Rattle.clause_check_spec.specs.Clause.{is_of, negation}
 use Rattle.clause_check.specs.Signs.{sign_of, Reports}
 use Rattle.clause_check.proofs.More.{unfit_by_variable, fit_by_sign, reports_denied, unmarked}
 use Rattle.clause_check.proofs.hints.deny_one.Goals as goal

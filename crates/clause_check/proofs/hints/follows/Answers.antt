@@ -1,8 +1,8 @@
 use Rattle.std.proofs.Common.{rules, ◌≡◌, ◌∙◌, length, map, replicate, None, true, ap, sym, subst}
 use Rattle.std.proofs.lemmas.List.{length-replicate}
 use Rattle.std.specs.Prelude.{IsTrue}
-use Rattle.clause_spec.specs.Clause.{are_of, negation}
-use Rattle.clause_spec.specs.Step.{are_fit}
+use Rattle.clause_check_spec.specs.Clause.{are_of, negation}
+use Rattle.clause_check_spec.specs.Step.{are_fit}
 use Rattle.clause_check.proofs.Propagation.{unfit_outcome, fit_outcome}
 use Rattle.clause_check.proofs.hints.follows.Goals as goal
 

@@ -1,7 +1,7 @@
 use Rattle.std.proofs.Common.{rules, ◌≡◌, ◌∙◌, ◌+◌, ◌++◌, ◌∷◌, [], length, take, drop, true, false, ap, sym, take_all}
 use Rattle.std.specs.Prelude.{not}
 use Rattle.std.proofs.lemmas.List.{take_more, take-append-drop}
-use Rattle.clause_spec.specs.Step.{finding}
+use Rattle.clause_check_spec.specs.Step.{finding}
 use Rattle.clause_check.specs.Signs.{is_sign, sign_of}
 use Rattle.clause_check.specs.Answers.{reported}
 use Rattle.clause_check.proofs.Indices.{literal_named}

@@ -1,6 +1,6 @@
 use Rattle.std.proofs.Common.{◌≡◌, List, take}
-use Rattle.clause_spec.specs.declared.Literal.{Literal}
-use Rattle.clause_spec.specs.Step.{finding}
+use Rattle.clause_check_spec.specs.declared.Literal.{Literal}
+use Rattle.clause_check_spec.specs.Step.{finding}
 use Rattle.clause_check.specs.Signs.{Reports}
 use Rattle.clause_check.specs.Answers.{reported, IsOpen}
 use Rattle.clause_check.proofs.hints.found_by_each.Given as goal

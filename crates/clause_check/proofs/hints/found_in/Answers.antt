@@ -1,7 +1,7 @@
 use Rattle.std.proofs.Common.{rules, ◌<◌, ◌≤◌, ◌∙◌, ◌∷◌, [], length, ap, sym, refl}
 use Rattle.std.proofs.lemmas.List.{drop_all}
 use Rattle.std.proofs.lemmas.Option.{slice_get_read}
-use Rattle.clause_spec.specs.Step.{finding}
+use Rattle.clause_check_spec.specs.Step.{finding}
 use Rattle.clause_check.proofs.Indices.{literal_named}
 use Rattle.clause_check.proofs.Passing.{found_sole}
 use Rattle.clause_check.proofs.hints.found_in.Goals as goal

@@ -1,8 +1,8 @@
 use Rattle.std.proofs.Common.{refl, ◌≡◌, ◌∙◌, ◌+◌, ◌-◌, ◌++◌, ◌∷◌, [], length, drop, true, Ok, Some, ap, sym, subst, length-set}
 use Rattle.std.specs.Prelude.{◌==◌}
-use Rattle.clause_spec.specs.declared.Literal.{Literal}
-use Rattle.clause_spec.specs.Clause.{are_of}
-use Rattle.clause_spec.specs.Step.{propagate}
+use Rattle.clause_check_spec.specs.declared.Literal.{Literal}
+use Rattle.clause_check_spec.specs.Clause.{are_of}
+use Rattle.clause_check_spec.specs.Step.{propagate}
 use Rattle.clause_check.specs.Signs.{Reports}
 use Rattle.clause_check.specs.Answers.{reported, outcome_after, IsOpenAfter}
 use Rattle.clause_check.proofs.More.{reports_more}

@@ -1,7 +1,7 @@
 use Rattle.std.proofs.Common.{rules, ◌≡◌, Some, sym, ◌∙◌}
 use Rattle.std.specs.Prelude.{slice_get}
 use Rattle.std.proofs.lemmas.Option.{slice_get_within, get_or_from_slice_get}
-use Rattle.clause_spec.specs.Clause.{satisfies_clause}
+use Rattle.clause_check_spec.specs.Clause.{satisfies_clause}
 use Rattle.cnf_core.specs.Bits.{valuation}
 use Rattle.cnf_core.proofs.Loops.{all_more, some_fails}
 use Rattle.cnf_core.proofs.evaluation.eval.Goals as goal

@@ -1,6 +1,6 @@
 use Rattle.std.proofs.Common.{◌≡◌, true, take}
 use Rattle.std.specs.List.{list_all}
-use Rattle.clause_spec.specs.Clause.{satisfies_clause}
+use Rattle.clause_check_spec.specs.Clause.{satisfies_clause}
 use Rattle.cnf_core.specs.Bits.{valuation}
 use Rattle.cnf_core.proofs.evaluation.eval.Given as goal
 

@@ -1,6 +1,6 @@
 use Rattle.std.proofs.Common.{◌≡◌, false, take}
 use Rattle.std.specs.List.{list_any}
-use Rattle.clause_spec.specs.Clause.{holds}
+use Rattle.clause_check_spec.specs.Clause.{holds}
 use Rattle.cnf_core.specs.Bits.{valuation}
 use Rattle.cnf_core.proofs.evaluation.satisfies_clause.Given as goal
 

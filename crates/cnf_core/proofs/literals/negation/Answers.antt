@@ -1,5 +1,5 @@
 use Rattle.std.proofs.Common.{◌∙◌, ap}
-use Rattle.clause_spec.specs.Clause.{negation as other}
+use Rattle.clause_check_spec.specs.Clause.{negation as other}
 use Rattle.cnf_core.proofs.Negated.{negated}
 use Rattle.cnf_core.proofs.literals.negation.Goals as goal
 

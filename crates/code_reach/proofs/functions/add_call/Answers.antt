@@ -1,8 +1,8 @@
 use Rattle.std.proofs.Common.{◌≡◌, Some, sym, rules}
 use Rattle.std.specs.Prelude.{IsSome}
-use Rattle.elf_spec.specs.Image.{size_at}
-use Rattle.code_spec.specs.Code.{Calls}
-use Rattle.code_spec.specs.Faults.{direct_flow}
+use Rattle.elf_read_spec.specs.Image.{size_at}
+use Rattle.code_reach_spec.specs.Code.{Calls}
+use Rattle.code_reach_spec.specs.Faults.{direct_flow}
 use Rattle.code_reach.proofs.Visited.{calls-one}
 use Rattle.code_reach.proofs.functions.add_call.Goals as goal
 

@@ -1,5 +1,5 @@
 use Rattle.std.proofs.Common.{◌≡◌, None}
-use Rattle.code_spec.specs.Code.{word_at}
+use Rattle.code_reach_spec.specs.Code.{word_at}
 use Rattle.code_reach.proofs.Wrong.{unfixed}
 use Rattle.code_reach.proofs.listing.sound_word.Goals as goal
 

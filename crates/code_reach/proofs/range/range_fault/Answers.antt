@@ -1,5 +1,5 @@
 use Rattle.std.proofs.Common.{rules}
-use Rattle.code_spec.specs.Code.{empty, writable, misplaced}
+use Rattle.code_reach_spec.specs.Code.{empty, writable, misplaced}
 use Rattle.code_reach.proofs.range.range_fault.Goals as goal
 
 pub returns-then-size-eq0 : goal.returns-then-size-eq0

@@ -1,5 +1,5 @@
 use Rattle.std.proofs.Common.{◌≤◌, ◌^◌, ap, sym, subst, ◌∙◌}
-use Rattle.code_spec.specs.Code.{opening_of}
+use Rattle.code_reach_spec.specs.Code.{opening_of}
 use Rattle.code_reach.proofs.Shallow.{opening_short}
 use Rattle.code_reach.proofs.stacks.opening.Goals as goal
 

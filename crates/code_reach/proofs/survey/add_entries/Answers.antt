@@ -1,7 +1,7 @@
 use Rattle.std.proofs.Common.{All, IsSome, sym, subst}
 use Rattle.std.specs.List.Sorted.{IsStrictlyIncreasing}
-use Rattle.elf_spec.specs.Image.{size_at}
-use Rattle.code_spec.specs.Faults.{IsReachFault}
+use Rattle.elf_read_spec.specs.Image.{size_at}
+use Rattle.code_reach_spec.specs.Faults.{IsReachFault}
 use Rattle.code_reach.specs.Surveys.{IsOverlap, IsFirstOf}
 use Rattle.code_reach.proofs.Reached.{increasing, entries-moved, first-of-reach, found-reach}
 use Rattle.code_reach.proofs.survey.add_entries.Goals as goal

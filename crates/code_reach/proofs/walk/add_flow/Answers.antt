@@ -1,5 +1,5 @@
 use Rattle.std.proofs.Common.{◌+◌, [], ◌∷◌}
-use Rattle.code_spec.specs.Code.{aligned}
+use Rattle.code_reach_spec.specs.Code.{aligned}
 use Rattle.code_reach.proofs.Growing.{inside-append}
 use Rattle.code_reach.proofs.walk.add_flow.Goals as goal
 

@@ -1,6 +1,6 @@
 use Rattle.std.proofs.Common.{◌≡◌, get_or, ap, subst, arith}
 use Rattle.std.proofs.lemmas.List.Elements.{Contains-get_or}
-use Rattle.code_spec.specs.Faults.{IsDirectlyReachable, here}
+use Rattle.code_reach_spec.specs.Faults.{IsDirectlyReachable, here}
 use Rattle.code_reach.specs.Growth.{Grows, GoesTo}
 use Rattle.code_reach.proofs.Walks.{walked-start, walked-next}
 use Rattle.code_reach.proofs.Places.{place-walked, step-path, walked-reaches}

@@ -3,7 +3,7 @@ use Rattle.std.proofs.lemmas.List.{get_or_default}
 use Rattle.term_core.specs.Trees.{term_of}
 use Rattle.graph_core.specs.Graphs.{boxed_term}
 use Rattle.elf_read.specs.declared.parts.Extent.{Extent}
-use Rattle.code_graph_spec.specs.InstructionTerms.{avoids}
+use Rattle.decompile_spec.specs.InstructionTerms.{avoids}
 use Rattle.decompile.specs.Settings.{run_of}
 use Rattle.decompile.proofs.Extents.{avoid_step}
 use Rattle.decompile.proofs.accesses.avoid.Goals as goal

@@ -1,7 +1,7 @@
 use Rattle.std.proofs.Common.{◌≡◌, ◌++◌, map, drop}
 use Rattle.term_core.specs.Trees.{term_of}
 use Rattle.graph_core.specs.Graphs.{boxed_term}
-use Rattle.code_graph_spec.specs.InstructionTerms.{avoids}
+use Rattle.decompile_spec.specs.InstructionTerms.{avoids}
 use Rattle.decompile.specs.Settings.{run_of}
 use Rattle.decompile.proofs.accesses.avoid.Given as goal
 

@@ -1,6 +1,6 @@
 use Rattle.std.proofs.Common.{◌≡◌, ◌++◌, map, drop}
 use Rattle.graph_core.specs.Graphs.{bindings_of}
-use Rattle.code_graph_spec.specs.Blocks.{entry_binding}
+use Rattle.decompile_spec.specs.Blocks.{entry_binding}
 use Rattle.decompile.proofs.bindings.enter.Given as goal
 
 abbrev pub invariant-loop-r : goal.invariant-loop-r

@@ -1,11 +1,11 @@
 use Rattle.std.proofs.Common.{◌≡◌, ◌∙◌, ◌≤◌, ℕ, List, All, Some, length, map, sym, ap, subst, arith, rules}
 use Rattle.std.proofs.lemmas.Grind.{common_steps}
 use Rattle.std.specs.List.Sorted.{IsStrictlyIncreasing}
-use Rattle.elf_spec.specs.Image.{size_at}
+use Rattle.elf_read_spec.specs.Image.{size_at}
 use Rattle.elf_read.specs.declared.parts.Extent.{Extent}
 use Rattle.graph_core.specs.Graphs.{graph_of}
-use Rattle.code_graph_spec.specs.Blocks.{Setting}
-use Rattle.code_graph_laws.specs.Layout.{laid}
+use Rattle.decompile_spec.specs.Blocks.{Setting}
+use Rattle.decompile_laws.specs.Layout.{laid}
 use Rattle.decompile.specs.declared.items.Item.{Item}
 use Rattle.decompile.specs.Items.{item_of}
 use Rattle.decompile.specs.Answer.{setting}

@@ -1,6 +1,6 @@
 use Rattle.std.proofs.Common.{◌≡◌, false, ◌+◌, length}
 use Rattle.clause_check.specs.Logged.{clauses_of}
-use Rattle.closing_spec.specs.Closing.{checked}
+use Rattle.discharge_spec.specs.Closing.{checked}
 use Rattle.discharge.specs.Answers.{ends_empty}
 use Rattle.discharge.proofs.closing.add_steps.Given as goal
 

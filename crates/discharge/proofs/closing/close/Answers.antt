@@ -1,7 +1,7 @@
 use Rattle.std.proofs.Common.{◌∙◌, sym}
-use Rattle.term_spec.specs.declared.Sort.TheVariants as sort
+use Rattle.term_core_spec.specs.declared.Sort.TheVariants as sort
 use Rattle.term_bank.specs.Nodes.{tree_at}
-use Rattle.closing_spec.specs.Closing.{closing_of_form}
+use Rattle.discharge_spec.specs.Closing.{closing_of_form}
 use Rattle.discharge.proofs.Sound.{true_form}
 use Rattle.discharge.proofs.Rest.{holds_by}
 use Rattle.discharge.proofs.closing.close.Goals as goal

@@ -2,9 +2,9 @@ use Rattle.std.proofs.Common.{◌≡◌, false, subst}
 use Rattle.std.specs.Prelude.{IfOk, IfSome}
 use Rattle.std.proofs.lemmas.Option.{get_or_from_slice_get}
 use Rattle.memory_spec.specs.Viewed.{runs_of}
-use Rattle.term_spec.specs.Term.{Term}
-use Rattle.term_spec.specs.Value.{Truth, value}
-use Rattle.normal_spec.specs.Normal.{normal}
+use Rattle.term_core_spec.specs.Term.{Term}
+use Rattle.term_core_spec.specs.Value.{Truth, value}
+use Rattle.term_norm_spec.specs.Normal.{normal}
 use Rattle.term_core.specs.declared.assignment.Assignment.{Assignment}
 use Rattle.term_core.specs.Assignment.{assignment_of}
 use Rattle.term_bank.specs.Nodes.{tree_at}

@@ -1,8 +1,8 @@
 use Rattle.std.proofs.Common.{◌∙◌, sym, subst, ap}
-use Rattle.clause_spec.specs.Clause.{Cnf}
+use Rattle.clause_check_spec.specs.Clause.{Cnf}
 use Rattle.sat_search.specs.declared.solution.Found.{Found}
 use Rattle.sat_search.specs.Found.{IsFound}
-use Rattle.blast_spec.specs.Goal.{cnf_of}
+use Rattle.bit_blast_spec.specs.Goal.{cnf_of}
 use Rattle.discharge.proofs.Rest.{closes_by_log}
 use Rattle.discharge.proofs.seeking.outcome.Goals as goal
 

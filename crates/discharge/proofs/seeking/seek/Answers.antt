@@ -1,9 +1,9 @@
 use Rattle.std.proofs.Common.{◌∙◌, [], sym, subst}
 use Rattle.memory_spec.specs.Viewed.{runs_of}
-use Rattle.term_spec.specs.declared.Sort.TheVariants as sort
-use Rattle.term_spec.specs.Term.{Term}
-use Rattle.normal_spec.specs.Normal.{normal}
-use Rattle.blast_spec.specs.Goal.{visit}
+use Rattle.term_core_spec.specs.declared.Sort.TheVariants as sort
+use Rattle.term_core_spec.specs.Term.{Term}
+use Rattle.term_norm_spec.specs.Normal.{normal}
+use Rattle.bit_blast_spec.specs.Goal.{visit}
 use Rattle.bit_blast_laws.specs.Back.{TableLoadsFromVariables}
 use Rattle.bit_blast_laws.proofs.NormalWhole.{goal_from}
 use Rattle.std.proofs.lemmas.Option.{get_or_from_slice_get}

@@ -1,8 +1,8 @@
 use Rattle.std.proofs.Common.{◌∙◌, sym}
 use Rattle.std.specs.Prelude.{◌≤◌}
 use Rattle.std.proofs.Common.{subst}
-use Rattle.tv_base.specs.declared.limits.TheConstants.{MAX_VARIABLES}
-use Rattle.clause_spec.specs.Clause.{Cnf}
+use Rattle.tv_limits.specs.declared.TheConstants.{MAX_VARIABLES}
+use Rattle.clause_check_spec.specs.Clause.{Cnf}
 use Rattle.term_bank.specs.Nodes.{tree_at}
 use Rattle.discharge.proofs.seeking.seek_form.Goals as goal
 

@@ -1,5 +1,5 @@
 use Rattle.std.proofs.Common.{refl, arith}
-use Rattle.elf_spec.specs.declared.ElfKind.TheVariants.{Table}
+use Rattle.elf_read_spec.specs.declared.ElfKind.TheVariants.{Table}
 use Rattle.elf_read.proofs.header.check_header.Goals as goal
 
 pub returns-clause-programs : goal.returns-clause-programs

@@ -1,5 +1,5 @@
 use Rattle.std.proofs.Common.{◌∙◌, ap, map}
-use Rattle.elf_spec.specs.File.{segment_at}
+use Rattle.elf_read_spec.specs.File.{segment_at}
 use Rattle.elf_read.proofs.Accepted.{placed_loads, separate_segments, is_elf}
 use Rattle.elf_read.proofs.reader.read.Goals as goal
 

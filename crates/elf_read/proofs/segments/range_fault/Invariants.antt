@@ -1,5 +1,5 @@
 use Rattle.std.proofs.Common.{◌<◌, ℕ, get_or}
-use Rattle.elf_spec.specs.File as spec
+use Rattle.elf_read_spec.specs.File as spec
 use Rattle.elf_read.proofs.segments.range_fault.Given as goal
 
 abbrev pub invariant-loop-at : goal.invariant-loop-at

@@ -1,5 +1,5 @@
 use Rattle.std.proofs.Common.{◌≡◌, map, take}
-use Rattle.elf_spec.specs.File as spec
+use Rattle.elf_read_spec.specs.File as spec
 use Rattle.elf_read.specs.Values.{segment_of}
 use Rattle.elf_read.proofs.segments.segments.Given as goal
 

@@ -1,7 +1,7 @@
 use Rattle.std.proofs.Common.{◌≡◌, ◌≤◌, ℕ, map, drop, length}
 use Rattle.std.specs.Ordering.{nat_cmp}
 use Rattle.std.specs.BTreeMap.{get}
-use Rattle.elf_spec.specs.Image as spec
+use Rattle.elf_read_spec.specs.Image as spec
 use Rattle.elf_read.specs.Values.{symbol_of}
 use Rattle.elf_read.proofs.sizes.sizes.Given as goal
 

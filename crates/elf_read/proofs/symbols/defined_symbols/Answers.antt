@@ -1,5 +1,5 @@
 use Rattle.std.proofs.Common.{◌==◌, ◌+◌, ◌/◌, not, ap, sym, ◌∙◌, eq-eqb, ne_eqb}
-use Rattle.elf_spec.specs.File as spec
+use Rattle.elf_read_spec.specs.File as spec
 use Rattle.elf_read.specs.Values.{symbol_of}
 use Rattle.elf_read.proofs.Defined.{taken, passed, ended_at}
 use Rattle.elf_read.proofs.symbols.defined_symbols.Goals as goal

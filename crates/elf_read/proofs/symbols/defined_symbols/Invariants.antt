@@ -1,5 +1,5 @@
 use Rattle.std.proofs.Common.{◌≡◌, ◌==◌, ◌+◌, ◌*◌, ◌-◌, ◌++◌, not, map, filter, Some}
-use Rattle.elf_spec.specs.File as spec
+use Rattle.elf_read_spec.specs.File as spec
 use Rattle.elf_read.specs.Values.{symbol_of}
 use Rattle.elf_read.proofs.symbols.defined_symbols.Given as goal
 

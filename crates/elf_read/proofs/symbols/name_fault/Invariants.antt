@@ -1,5 +1,5 @@
 use Rattle.std.proofs.Common.{◌+◌, ◌*◌, ◌<◌, ℕ}
-use Rattle.elf_spec.specs.File as spec
+use Rattle.elf_read_spec.specs.File as spec
 use Rattle.elf_read.proofs.symbols.name_fault.Given as goal
 
 abbrev pub invariant-loop-i : goal.invariant-loop-i

@@ -1,5 +1,5 @@
 use Rattle.std.proofs.Common.{◌==◌, ◌+◌, ◌∙◌, ne_eqb}
-use Rattle.elf_spec.specs.File as spec
+use Rattle.elf_read_spec.specs.File as spec
 use Rattle.elf_read.proofs.Tables.{find_passed}
 use Rattle.elf_read.proofs.symbols.symbol_table.Goals as goal
 

@@ -2,10 +2,10 @@ use Rattle.std.proofs.Common.{◌≡◌, ℕ, refl}
 use Rattle.std.specs.FinMap.{get-from_entries}
 use Rattle.std.specs.Cmp.{nat_cmp_total}
 use Rattle.rv_instr.specs.Instr.{instr, instr_of}
-use Rattle.rv_spec.specs.Arithmetic.{arithmetic}
+use Rattle.rv_machine_spec.specs.Arithmetic.{arithmetic}
 use Rattle.memory_spec.specs.Memory.{byte_at}
-use Rattle.rv_spec.specs.Machine.{read_register, write_register, load_word}
-use Rattle.rv_spec.specs.Step.{after, step, execute}
+use Rattle.rv_machine_spec.specs.Machine.{read_register, write_register, load_word}
+use Rattle.rv_machine_spec.specs.Step.{after, step, execute}
 use Rattle.example_laws.specs.AddTwoArguments.{start, code}
 use Rattle.example_laws.proofs.add_two_arguments.adds_two_arguments.Goals as goal
 

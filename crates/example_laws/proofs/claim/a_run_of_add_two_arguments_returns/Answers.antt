@@ -1,9 +1,9 @@
 use Rattle.std.proofs.Common.{zero, suc, pos, Some, refl}
-use Rattle.c_type_spec.specs.Values.{converted, arithmetic_value}
-use Rattle.c_meaning_spec.specs.Evaluation.{local_value, operated, value}
-use Rattle.c_meaning_spec.specs.Execution.{does}
-use Rattle.c_meaning_spec.specs.Calls.{runs, c_run}
-use Rattle.claim_spec.specs.Claim.{BreaksNoGuard}
+use Rattle.c_types_spec.specs.Values.{converted, arithmetic_value}
+use Rattle.c_run_spec.specs.Evaluation.{local_value, operated, value}
+use Rattle.c_run_spec.specs.Execution.{does}
+use Rattle.c_run_spec.specs.Calls.{runs, c_run}
+use Rattle.validity_spec.specs.Claim.{BreaksNoGuard}
 use Rattle.example_laws.specs.AddTwoArgumentsCalled.{run}
 use Rattle.example_laws.proofs.claim.a_run_of_add_two_arguments_returns.Goals as goal
 

@@ -1,5 +1,5 @@
 use Rattle.std.proofs.Common.{refl, arith}
-use Rattle.code_spec.specs.Code.{HasCode, here, call, itself, further}
+use Rattle.code_reach_spec.specs.Code.{HasCode, here, call, itself, further}
 use Rattle.example_laws.specs.CodeSamples.{circle, circle_bytes}
 use Rattle.example_laws.proofs.CodeWorked.{has_code, code_computes}
 use Rattle.example_laws.proofs.code.a_circle_of_calls_is_cyclic.Goals as goal

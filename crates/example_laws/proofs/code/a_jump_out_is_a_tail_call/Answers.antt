@@ -1,6 +1,6 @@
 use Rattle.std.proofs.Common.{refl, arith}
-use Rattle.code_spec.specs.Code.{HasCode, Jumps, CallsOn, here, tail, itself, further}
-use Rattle.code_spec.specs.Faults.{leaves}
+use Rattle.code_reach_spec.specs.Code.{HasCode, Jumps, CallsOn, here, tail, itself, further}
+use Rattle.code_reach_spec.specs.Faults.{leaves}
 use Rattle.example_laws.specs.CodeSamples.{tail_call, tail_call_bytes}
 use Rattle.example_laws.proofs.CodeWorked.{has_code, inside_range, code_computes}
 use Rattle.example_laws.proofs.code.a_jump_out_is_a_tail_call.Goals as goal

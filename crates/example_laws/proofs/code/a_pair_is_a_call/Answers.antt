@@ -1,7 +1,7 @@
 use Rattle.std.proofs.Common.{refl, arith, pos}
 use Rattle.rv_instr.specs.declared.Instr.TheVariants.{Jalr}
-use Rattle.code_spec.specs.Code.{HasCode, Falls, Calls, IsReachable, here, next, call}
-use Rattle.code_spec.specs.Faults.{indirect}
+use Rattle.code_reach_spec.specs.Code.{HasCode, Falls, Calls, IsReachable, here, next, call}
+use Rattle.code_reach_spec.specs.Faults.{indirect}
 use Rattle.example_laws.specs.CodeSamples.{pair, pair_bytes}
 use Rattle.example_laws.proofs.CodeWorked.{has_code, code_computes}
 use Rattle.example_laws.proofs.code.a_pair_is_a_call.Goals as goal

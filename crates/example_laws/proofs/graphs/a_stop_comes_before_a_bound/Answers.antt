@@ -1,10 +1,10 @@
 use Rattle.std.proofs.Common.{◌≡◌, ◌∙◌, ℕ, ◌+◌, ◌<◌, zero, suc, true, false, [], ◌∷◌, refl, sym, ap, lit<, arith}
 use Rattle.std.specs.List.{All}
 use Rattle.std.proofs.lemmas.List.Elements.{All-from_recursion}
-use Rattle.walk_spec.specs.TransitionSystem.{Mark, arrivals, stopped}
+use Rattle.graph_core_spec.specs.TransitionSystem.{Mark, arrivals, stopped}
 use Rattle.example_laws.specs.Countdown.{countdown}
 use Rattle.example_laws.proofs.GraphCountdown.{countdown_is_system}
-use Rattle.walk_spec.proofs.Runs.{stopped_on}
+use Rattle.graph_core_spec.proofs.Runs.{stopped_on}
 use Rattle.example_laws.specs.Call.{mark}
 use Rattle.example_laws.proofs.GraphComputes.{runs_compute}
 use Rattle.example_laws.proofs.graphs.a_stop_comes_before_a_bound.Goals as goal

@@ -1,5 +1,5 @@
 use Rattle.std.proofs.Common.{◌≡◌, ℕ, ◌<◌, zero, suc, false, [], ◌∷◌, refl, arith}
-use Rattle.walk_spec.specs.TransitionSystem.{stopped}
+use Rattle.graph_core_spec.specs.TransitionSystem.{stopped}
 use Rattle.example_laws.specs.Call.{walk, start, mark}
 use Rattle.example_laws.proofs.GraphComputes.{runs_compute}
 use Rattle.example_laws.proofs.graphs.no_node_is_met_inside_a_call.Goals as goal

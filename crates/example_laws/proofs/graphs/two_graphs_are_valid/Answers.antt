@@ -1,7 +1,7 @@
 use Rattle.std.proofs.Common.{[], ◌∷◌, refl, lit<, arith}
 use Rattle.std.proofs.lemmas.List.Elements.{All-from_recursion}
-use Rattle.term_spec.specs.Sort.{sort_of, sort_of_atom, sort_of_unary, sort_of_binary, sort_of_ternary}
-use Rattle.graph_spec.specs.Graph.{Binding, IsBinding, IsNode, AreBindings}
+use Rattle.term_core_spec.specs.Sort.{sort_of, sort_of_atom, sort_of_unary, sort_of_binary, sort_of_ternary}
+use Rattle.graph_core_spec.specs.Graph.{Binding, IsBinding, IsNode, AreBindings}
 use Rattle.example_laws.specs.Call.{caller, callee}
 use Rattle.example_laws.proofs.graphs.two_graphs_are_valid.Goals as goal
 

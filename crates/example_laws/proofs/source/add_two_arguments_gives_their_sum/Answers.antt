@@ -1,8 +1,8 @@
 use Rattle.std.proofs.Common.{refl}
-use Rattle.c_type_spec.specs.Values.{converted, arithmetic_value}
-use Rattle.c_meaning_spec.specs.Evaluation.{local_value, operated, value}
-use Rattle.c_meaning_spec.specs.Execution.{does}
-use Rattle.c_meaning_spec.specs.Calls.{runs, c_run}
+use Rattle.c_types_spec.specs.Values.{converted, arithmetic_value}
+use Rattle.c_run_spec.specs.Evaluation.{local_value, operated, value}
+use Rattle.c_run_spec.specs.Execution.{does}
+use Rattle.c_run_spec.specs.Calls.{runs, c_run}
 use Rattle.example_laws.proofs.source.add_two_arguments_gives_their_sum.Goals as goal
 
 pub returns : goal.returns

@@ -1,4 +1,4 @@
-use Rattle.graph_spec.proofs.Callees.{after-with_waiting}
+use Rattle.graph_core_spec.proofs.Callees.{after-with_waiting}
 use Rattle.graph_core.specs.Graphs.{graphs_of}
 use Rattle.graph_core.proofs.run.callee_runs_as_alone.Goals as goal
 

@@ -1,6 +1,6 @@
-use Rattle.walk_spec.proofs.Runs.{always_kept}
-use Rattle.graph_spec.specs.Run.{system_of}
-use Rattle.graph_spec.specs.Fixed.{holds_byte}
+use Rattle.graph_core_spec.proofs.Runs.{always_kept}
+use Rattle.graph_core_spec.specs.Run.{system_of}
+use Rattle.graph_core_spec.specs.Fixed.{holds_byte}
 use Rattle.graph_core.specs.Graphs.{graphs_of}
 use Rattle.graph_core.proofs.run.steps_keep_fixed_bytes.Goals as goal
 

@@ -1,4 +1,4 @@
-use Rattle.graph_spec.proofs.Sorts.{run_sorted}
+use Rattle.graph_core_spec.proofs.Sorts.{run_sorted}
 use Rattle.graph_core.specs.Graphs.{graphs_of}
 use Rattle.graph_core.proofs.run.valid_run_keeps_sorts.Goals as goal
 

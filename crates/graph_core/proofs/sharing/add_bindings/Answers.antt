@@ -3,7 +3,7 @@ use Rattle.std.proofs.lemmas.List.{take_more, map-append}
 use Rattle.term_core.specs.Trees.{term_of}
 use Rattle.term_bank.specs.Nodes.{Holds}
 use Rattle.term_bank.proofs.Substitution.{extends_through}
-use Rattle.graph_spec.specs.Graph as spec
+use Rattle.graph_core_spec.specs.Graph as spec
 use Rattle.graph_core.specs.declared.graph.Binding.{Binding}
 use Rattle.graph_core.specs.declared.shared.SharedBinding.{SharedBinding}
 use Rattle.graph_core.specs.Graphs.{binding_of, AreShared}

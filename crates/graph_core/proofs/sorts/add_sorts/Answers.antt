@@ -1,6 +1,6 @@
 use Rattle.std.proofs.Common.{◌≡◌, ◌∙◌, ℕ, ◌<◌, List, [], ◌∷◌, length, sym, ap, subst, arith, length-append}
 use Rattle.std.specs.Prelude.{Option}
-use Rattle.term_spec.specs.declared.Sort.{Sort}
+use Rattle.term_core_spec.specs.declared.Sort.{Sort}
 use Rattle.term_bank.specs.Nodes.{IsNode, Holds, build}
 use Rattle.graph_core.specs.Sorts.{sort_of_node}
 use Rattle.graph_core.proofs.Sorted.{sorts_push}

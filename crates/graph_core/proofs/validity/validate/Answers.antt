@@ -1,6 +1,6 @@
 use Rattle.std.proofs.Common.{◌≡◌, ℕ, ◌<◌, length, sym, subst}
 use Rattle.std.specs.List.{All}
-use Rattle.graph_spec.specs.Graph as spec
+use Rattle.graph_core_spec.specs.Graph as spec
 use Rattle.graph_core.specs.Graphs.{graph_of}
 use Rattle.graph_core.specs.Sorts.{IsSortedNode}
 use Rattle.graph_core.proofs.Sorted.{nodes_same}

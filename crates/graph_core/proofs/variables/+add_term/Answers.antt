@@ -1,8 +1,8 @@
 use Rattle.std.proofs.Common.{◌≡◌, ◌∙◌, ℕ, ◌+◌, ◌<◌, List, ◌∷◌, length, get_or, take, drop, sym, ap, subst, arith}
 use Rattle.std.proofs.lemmas.List.{drop_more, drop_all, get_or-take}
-use Rattle.term_spec.specs.declared.Variable.{Variable}
+use Rattle.term_core_spec.specs.declared.Variable.{Variable}
 use Rattle.term_bank.specs.Nodes.{tree_at}
-use Rattle.graph_spec.specs.Variables.{occurrences, with_variables}
+use Rattle.graph_core_spec.specs.Variables.{occurrences, with_variables}
 use Rattle.graph_core.specs.Seen.{HasAll, own_variables, occurrences_of_all}
 use Rattle.graph_core.proofs.Adding.{left}
 use Rattle.graph_core.proofs.Seeing.{none_added, all_added, seen_later, seen_one, whole_is}

@@ -1,6 +1,6 @@
 use Rattle.std.proofs.Common.{◌≡◌, drop, take}
 use Rattle.term_bank.specs.Nodes.{tree_at}
-use Rattle.graph_spec.specs.Variables.{occurrences, with_variables}
+use Rattle.graph_core_spec.specs.Variables.{occurrences, with_variables}
 use Rattle.graph_core.specs.Seen.{AreSeen, occurrences_of_all}
 use Rattle.graph_core.proofs.variables.+add_term.Given as goal
 

@@ -1,5 +1,5 @@
 use Rattle.std.proofs.Common.{◌≡◌, map, drop}
-use Rattle.graph_spec.specs.Variables.{with_variables, occurrences_in_bindings}
+use Rattle.graph_core_spec.specs.Variables.{with_variables, occurrences_in_bindings}
 use Rattle.graph_core.specs.Seen.{AreSeen}
 use Rattle.graph_core.specs.Shared.{shared_binding_of}
 use Rattle.graph_core.proofs.variables.add_bindings.Given as goal

@@ -1,6 +1,6 @@
 use Rattle.std.proofs.Common.{◌≡◌, ◌∙◌, ◌+◌, ◌∷◌, List, length, map, drop, sym, ap, subst}
 use Rattle.std.proofs.lemmas.List.{drop_more}
-use Rattle.graph_spec.specs.Variables.{occurrences_in_node, occurrences_in_nodes, with_variables}
+use Rattle.graph_core_spec.specs.Variables.{occurrences_in_node, occurrences_in_nodes, with_variables}
 use Rattle.graph_core.specs.declared.shared.SharedNode.{SharedNode}
 use Rattle.graph_core.specs.Shared.{shared_node_of, IsSharedNode}
 use Rattle.graph_core.proofs.Adding.{left}

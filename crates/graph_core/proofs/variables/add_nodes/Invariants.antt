@@ -1,5 +1,5 @@
 use Rattle.std.proofs.Common.{◌≡◌, map, drop}
-use Rattle.graph_spec.specs.Variables.{with_variables, occurrences_in_nodes}
+use Rattle.graph_core_spec.specs.Variables.{with_variables, occurrences_in_nodes}
 use Rattle.graph_core.specs.Seen.{AreSeen}
 use Rattle.graph_core.specs.Shared.{shared_node_of}
 use Rattle.graph_core.proofs.variables.add_nodes.Given as goal

@@ -1,4 +1,4 @@
-use Rattle.walk_spec.proofs.Runs.{arrivals-add}
+use Rattle.graph_core_spec.proofs.Runs.{arrivals-add}
 use Rattle.graph_core.proofs.walks.arrivals_add_up.Goals as goal
 
 pub returns : goal.returns

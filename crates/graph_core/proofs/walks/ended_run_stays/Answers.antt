@@ -1,4 +1,4 @@
-use Rattle.walk_spec.proofs.Runs.{stays_at_end, no_arrivals}
+use Rattle.graph_core_spec.proofs.Runs.{stays_at_end, no_arrivals}
 use Rattle.graph_core.proofs.walks.ended_run_stays.Goals as goal
 
 pub returns-clause-stays : goal.returns-clause-stays

@@ -1,4 +1,4 @@
-use Rattle.walk_spec.proofs.Runs.{after-add}
+use Rattle.graph_core_spec.proofs.Runs.{after-add}
 use Rattle.graph_core.proofs.walks.run_goes_on.Goals as goal
 
 pub returns-clause-parts : goal.returns-clause-parts

@@ -1,4 +1,4 @@
-use Rattle.walk_spec.proofs.Runs.{stopped-add}
+use Rattle.graph_core_spec.proofs.Runs.{stopped-add}
 use Rattle.graph_core.proofs.walks.run_stops_as_its_rest.Goals as goal
 
 pub returns : goal.returns

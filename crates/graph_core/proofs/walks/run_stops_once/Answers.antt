@@ -1,4 +1,4 @@
-use Rattle.walk_spec.proofs.Runs.{stops_once}
+use Rattle.graph_core_spec.proofs.Runs.{stops_once}
 use Rattle.graph_core.proofs.walks.run_stops_once.Goals as goal
 
 pub returns : goal.returns

@@ -1,4 +1,4 @@
-use Rattle.walk_spec.proofs.Runs.{not_stopped_at_once}
+use Rattle.graph_core_spec.proofs.Runs.{not_stopped_at_once}
 use Rattle.graph_core.proofs.walks.start_is_no_stop.Goals as goal
 
 pub returns : goal.returns

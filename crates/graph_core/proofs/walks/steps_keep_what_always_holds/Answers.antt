@@ -1,4 +1,4 @@
-use Rattle.walk_spec.proofs.Runs.{always_kept}
+use Rattle.graph_core_spec.proofs.Runs.{always_kept}
 use Rattle.graph_core.proofs.walks.steps_keep_what_always_holds.Goals as goal
 
 pub returns : goal.returns

@@ -1,7 +1,7 @@
 use Rattle.std.proofs.Common.{◌≡◌, ℕ, ◌+◌, ◌-◌, ◌<◌, length, map, drop, sym, ap, ◌∙◌, subst, arith}
 use Rattle.std.proofs.lemmas.List.{drop_all}
-use Rattle.term_spec.specs.declared.Family.TheVariants.{Register}
-use Rattle.term_spec.specs.declared.Sort.TheVariants.{Truth}
+use Rattle.term_core_spec.specs.declared.Family.TheVariants.{Register}
+use Rattle.term_core_spec.specs.declared.Sort.TheVariants.{Truth}
 use Rattle.term_core.specs.Values.{value_of}
 use Rattle.term_core.specs.Memory.{bytes_of}
 use Rattle.mem_terms.specs.declared.ids.LoadIds.{LoadIds}

@@ -1,14 +1,14 @@
 use Rattle.std.proofs.Common.{◌≡◌, ◌<◌, ◌≤◌, length, map, get_or, cond, ap, ◌∙◌, arith}
 use Rattle.std.specs.Prelude.{◌&&◌}
-use Rattle.term_spec.specs.declared.Family.TheVariants.{Register}
-use Rattle.term_spec.specs.declared.Sort.TheVariants.{Truth}
-use Rattle.term_spec.specs.declared.Variable.{Variable}
-use Rattle.term_spec.specs.Sort.{is_memory}
-use Rattle.term_spec.specs.Same.{same_variable}
+use Rattle.term_core_spec.specs.declared.Family.TheVariants.{Register}
+use Rattle.term_core_spec.specs.declared.Sort.TheVariants.{Truth}
+use Rattle.term_core_spec.specs.declared.Variable.{Variable}
+use Rattle.term_core_spec.specs.Sort.{is_memory}
+use Rattle.term_core_spec.specs.Same.{same_variable}
 use Rattle.term_core.specs.Values.{value_of}
 use Rattle.term_core.specs.Assignment.{assignment_of}
-use Rattle.flat_spec.specs.Flat.{memories_of}
-use Rattle.flat_spec.specs.Assignments.{rebuilt}
+use Rattle.mem_terms_spec.specs.Flat.{memories_of}
+use Rattle.mem_terms_spec.specs.Assignments.{rebuilt}
 use Rattle.mem_terms.specs.Ids.{load_at}
 use Rattle.mem_terms.specs.Back.{memory_among}
 use Rattle.mem_terms.proofs.Rebuilt.{restore_step, rebuilt_whole, falsified}

@@ -1,10 +1,10 @@
 use Rattle.std.proofs.Common.{◌≡◌, map, take, cond}
 use Rattle.std.specs.Prelude.{◌&&◌}
-use Rattle.term_spec.specs.declared.Variable.{Variable}
-use Rattle.term_spec.specs.Sort.{is_memory}
+use Rattle.term_core_spec.specs.declared.Variable.{Variable}
+use Rattle.term_core_spec.specs.Sort.{is_memory}
 use Rattle.term_core.specs.Values.{value_of}
 use Rattle.term_core.specs.Assignment.{assignment_of}
-use Rattle.flat_spec.specs.Flat.{is_among}
+use Rattle.mem_terms_spec.specs.Flat.{is_among}
 use Rattle.mem_terms.specs.Back.{memory_among}
 use Rattle.mem_terms.proofs.back.rebuild.Given as goal
 

@@ -1,6 +1,6 @@
 use Rattle.std.proofs.Common.{◌≡◌, ◌∙◌, length, map, subst}
 use Rattle.term_bank.specs.Nodes.{tree_at}
-use Rattle.flat_spec.specs.Flat.{flat_loads}
+use Rattle.mem_terms_spec.specs.Flat.{flat_loads}
 use Rattle.mem_terms.specs.Ids.{load_at, AreWithin}
 use Rattle.mem_terms.proofs.Trees.{extends_itself, extends_then}
 use Rattle.mem_terms.proofs.Steps.{IsWalked, ended}

@@ -1,9 +1,9 @@
 use Rattle.std.proofs.Common.{◌≡◌, ◌+◌, ◌<◌, length, map, drop, get_or, sym, ap, ◌∙◌, subst, arith}
-use Rattle.term_spec.specs.declared.Family.TheVariants.{Register}
-use Rattle.term_spec.specs.declared.Sort.TheVariants.{Truth}
-use Rattle.term_spec.specs.declared.Variable.{Variable}
+use Rattle.term_core_spec.specs.declared.Family.TheVariants.{Register}
+use Rattle.term_core_spec.specs.declared.Sort.TheVariants.{Truth}
+use Rattle.term_core_spec.specs.declared.Variable.{Variable}
 use Rattle.term_bank.specs.Nodes.{tree_at}
-use Rattle.flat_spec.specs.Flat.{pairs, all_of}
+use Rattle.mem_terms_spec.specs.Flat.{pairs, all_of}
 use Rattle.mem_terms.specs.Ids.{load_at, AreWithin}
 use Rattle.mem_terms.proofs.Trees.{extends_then, all_within_later}
 use Rattle.mem_terms.proofs.Pairs.{within_filter, consistent_step}

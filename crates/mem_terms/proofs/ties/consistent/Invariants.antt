@@ -1,6 +1,6 @@
 use Rattle.std.proofs.Common.{◌≡◌, ◌<◌, length, map, drop}
 use Rattle.term_bank.specs.Nodes.{tree_at, Extends}
-use Rattle.flat_spec.specs.Flat.{pairs_of, all_of, consistent}
+use Rattle.mem_terms_spec.specs.Flat.{pairs_of, all_of, consistent}
 use Rattle.mem_terms.specs.Ids.{load_at}
 use Rattle.mem_terms.proofs.ties.consistent.Given as goal
 

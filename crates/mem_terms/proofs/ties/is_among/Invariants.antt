@@ -1,5 +1,5 @@
 use Rattle.std.proofs.Common.{◌≡◌, drop}
-use Rattle.flat_spec.specs.Flat.{is_among}
+use Rattle.mem_terms_spec.specs.Flat.{is_among}
 use Rattle.mem_terms.proofs.ties.is_among.Given as goal
 
 abbrev pub invariant-loop-other : goal.invariant-loop-other

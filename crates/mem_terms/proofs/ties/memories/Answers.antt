@@ -1,9 +1,9 @@
 use Rattle.std.proofs.Common.{◌≡◌, ◌+◌, ◌∷◌, List, map, drop, get_or, sym, ap, ◌∙◌}
 use Rattle.std.proofs.lemmas.List.{drop_more}
-use Rattle.term_spec.specs.declared.Family.TheVariants.{Register}
-use Rattle.term_spec.specs.declared.Sort.TheVariants.{Truth}
-use Rattle.term_spec.specs.declared.Variable.{Variable}
-use Rattle.flat_spec.specs.Flat.{with_memories}
+use Rattle.term_core_spec.specs.declared.Family.TheVariants.{Register}
+use Rattle.term_core_spec.specs.declared.Sort.TheVariants.{Truth}
+use Rattle.term_core_spec.specs.declared.Variable.{Variable}
+use Rattle.mem_terms_spec.specs.Flat.{with_memories}
 use Rattle.mem_terms.specs.declared.ids.LoadIds.{LoadIds}
 use Rattle.mem_terms.specs.Ids.{load_at}
 use Rattle.mem_terms.proofs.ties.memories.Goals as goal

@@ -1,6 +1,6 @@
 use Rattle.std.proofs.Common.{◌≡◌, List, map, drop}
-use Rattle.term_spec.specs.Term.{Term}
-use Rattle.flat_spec.specs.Flat.{with_memories, memories_of}
+use Rattle.term_core_spec.specs.Term.{Term}
+use Rattle.mem_terms_spec.specs.Flat.{with_memories, memories_of}
 use Rattle.mem_terms.specs.Ids.{load_at}
 use Rattle.mem_terms.proofs.ties.memories.Given as goal
 

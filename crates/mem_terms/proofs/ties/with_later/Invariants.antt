@@ -1,6 +1,6 @@
 use Rattle.std.proofs.Common.{◌≡◌, map, take}
 use Rattle.term_bank.specs.Nodes.{tree_at, Extends}
-use Rattle.flat_spec.specs.Flat.{agree, all_of}
+use Rattle.mem_terms_spec.specs.Flat.{agree, all_of}
 use Rattle.mem_terms.specs.Ids.{load_at, IsTreeAt}
 use Rattle.mem_terms.proofs.ties.with_later.Given as goal
 

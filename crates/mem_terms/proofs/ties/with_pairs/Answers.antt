@@ -1,8 +1,8 @@
 use Rattle.std.proofs.Common.{◌≡◌, ◌+◌, ◌-◌, ◌<◌, length, map, take, drop, get_or, sym, ap, ◌∙◌, subst, arith}
-use Rattle.term_spec.specs.declared.Family.TheVariants.{Register}
-use Rattle.term_spec.specs.declared.Sort.TheVariants.{Truth}
+use Rattle.term_core_spec.specs.declared.Family.TheVariants.{Register}
+use Rattle.term_core_spec.specs.declared.Sort.TheVariants.{Truth}
 use Rattle.term_bank.specs.Nodes.{tree_at}
-use Rattle.flat_spec.specs.Flat.{agree, all_of}
+use Rattle.mem_terms_spec.specs.Flat.{agree, all_of}
 use Rattle.mem_terms.specs.declared.ids.LoadIds.{LoadIds}
 use Rattle.mem_terms.specs.Ids.{load_at, AreWithin}
 use Rattle.mem_terms.proofs.Trees.{extends_then, within_later, all_within_later}

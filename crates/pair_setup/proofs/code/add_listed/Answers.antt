@@ -1,9 +1,9 @@
 use Rattle.std.proofs.Common.{◌≤◌, ◌++◌, ◌∷◌, ◌≢◌, List, ℕ, Bor, [], take, get_or, sym, subst, arith}
 use Rattle.std.proofs.lemmas.List.{take_all, length-map}
 use Rattle.std.proofs.lemmas.List.Elements.{All-contains}
-use Rattle.elf_spec.specs.Image.{function_named}
-use Rattle.elf_spec.specs.declared.SymbolValues.TheVariants.{Absent}
-use Rattle.c_reach.specs.Names.{texts_of}
+use Rattle.elf_read_spec.specs.Image.{function_named}
+use Rattle.elf_read_spec.specs.declared.SymbolValues.TheVariants.{Absent}
+use Rattle.pair_setup_calls.specs.Names.{texts_of}
 use Rattle.pair_setup.specs.Codes.{AreCodedOf}
 use Rattle.pair_setup.proofs.Entries.{coded-start, coded-more, coded-sound, first-code-error}
 use Rattle.pair_setup.proofs.Prefixes.{next-taken, mapped-at, got-contained}

@@ -1,5 +1,5 @@
 use Rattle.std.proofs.Common.{take}
-use Rattle.c_reach.specs.Names.{texts_of}
+use Rattle.pair_setup_calls.specs.Names.{texts_of}
 use Rattle.pair_setup.specs.Codes.{AreCodedOf}
 use Rattle.pair_setup.proofs.code.add_listed.Given as goal
 

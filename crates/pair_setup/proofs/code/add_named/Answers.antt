@@ -1,5 +1,5 @@
 use Rattle.std.proofs.Common.{sym, refl}
-use Rattle.pair_outcome_spec.specs.Code.{ambiguous}
+use Rattle.pair_setup_spec.specs.Code.{ambiguous}
 use Rattle.pair_setup.specs.Codes.{IsReachErrorAt, IsCodeErrorAt}
 use Rattle.pair_setup.proofs.Added.{if-err}
 use Rattle.pair_setup.proofs.Entries.{named-sized, code-error, added-named}

@@ -1,9 +1,9 @@
 use Rattle.std.proofs.Common.{◌≤◌, ◌+◌, List, ℕ, Bor, sym, subst, arith}
 use Rattle.std.specs.Prelude.{Bool}
 use Rattle.std.proofs.lemmas.List.{length-map}
-use Rattle.c_type_scope.specs.declared.meaning.Meaning.{Meaning}
+use Rattle.c_types_scope.specs.declared.meaning.Meaning.{Meaning}
 use Rattle.c_types.specs.Typed.{typed_of}
-use Rattle.c_reach.specs.Names.{names_of}
+use Rattle.pair_setup_calls.specs.Names.{names_of}
 use Rattle.pair_setup.proofs.Marks.{IsMarkedBelow, marked-none, marked-more, marked-all}
 use Rattle.pair_setup.proofs.globals.add_misplaced.Goals as goal
 

@@ -1,8 +1,8 @@
 use Rattle.std.proofs.Common.{sym, true≢false}
 use Rattle.std.specs.Prelude.{◌↔◌, IsTrue}
-use Rattle.c_type_layout.specs.Structs.{structs_of}
+use Rattle.c_types_layout.specs.Structs.{structs_of}
 use Rattle.c_types.specs.Typed.{typed_of}
-use Rattle.c_reach.specs.Names.{names_of}
+use Rattle.pair_setup_calls.specs.Names.{names_of}
 use Rattle.pair_setup.specs.Globals.{IsUnplaced, IsMisplacedAt, object_type}
 use Rattle.pair_setup.proofs.Added.{if-ok}
 use Rattle.pair_setup.proofs.Placing.{misplaced-past, misplaced-is}

@@ -1,7 +1,7 @@
 use Rattle.std.proofs.Common.{Option, subst}
 use Rattle.std.specs.Prelude.{◌↔◌, IfOk, IsTrue}
-use Rattle.c_type_layout.specs.Structs.{structs_of}
-use Rattle.c_type_layout.specs.declared.types.CType.{CType}
+use Rattle.c_types_layout.specs.Structs.{structs_of}
+use Rattle.c_types_layout.specs.declared.types.CType.{CType}
 use Rattle.pair_setup.specs.Globals.{IsUnplaced}
 use Rattle.pair_setup.proofs.globals.is_unplaced.Goals as goal
 

@@ -1,5 +1,5 @@
 use Rattle.std.proofs.Common.{◌≡◌, drop}
-use Rattle.pair_spec.specs.Faults.{object_size}
+use Rattle.pair_setup_spec.specs.Faults.{object_size}
 use Rattle.pair_setup.proofs.Symbols.{first_size}
 use Rattle.pair_setup.proofs.globals.object_size.Given as goal
 

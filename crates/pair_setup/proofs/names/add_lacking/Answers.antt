@@ -1,7 +1,7 @@
 use Rattle.std.proofs.Common.{◌≡◌}
 use Rattle.call_graph.specs.Graph.{Grows}
 use Rattle.c_types.specs.Typed.{typed_of, body_of_name}
-use Rattle.c_reach.specs.Names.{names_of}
+use Rattle.pair_setup_calls.specs.Names.{names_of}
 use Rattle.pair_setup.specs.Names.{LacksBodyAt}
 use Rattle.pair_setup.proofs.Added.{on-ok}
 use Rattle.pair_setup.proofs.Lacking.{no-lacking, one-lacking}

@@ -2,7 +2,7 @@ use Rattle.std.proofs.Common.{List, ℕ, take, get_or, sym, subst, arith}
 use Rattle.std.proofs.lemmas.List.{take_more, take_all}
 use Rattle.call_graph.specs.Graph.{Grows}
 use Rattle.c_types.specs.Typed.{typed_of}
-use Rattle.c_reach.specs.Names.{names_of}
+use Rattle.pair_setup_calls.specs.Names.{names_of}
 use Rattle.pair_setup.specs.Names.{IsUsedMarked, NamesMarked}
 use Rattle.pair_setup.proofs.Added.{of-none, of-more}
 use Rattle.pair_setup.proofs.names.add_of_bodies.Goals as goal

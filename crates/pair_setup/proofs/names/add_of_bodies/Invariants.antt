@@ -1,7 +1,7 @@
 use Rattle.std.proofs.Common.{take}
 use Rattle.call_graph.specs.Graph.{Grows}
 use Rattle.c_types.specs.Typed.{typed_of}
-use Rattle.c_reach.specs.Names.{names_of}
+use Rattle.pair_setup_calls.specs.Names.{names_of}
 use Rattle.pair_setup.specs.Names.{IsUsedMarked}
 use Rattle.pair_setup.proofs.names.add_of_bodies.Given as goal
 

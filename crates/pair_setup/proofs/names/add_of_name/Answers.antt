@@ -1,6 +1,6 @@
 use Rattle.std.proofs.Common.{◌≡◌}
 use Rattle.call_graph.specs.Graph.{Grows}
-use Rattle.c_reach.specs.Names.{IsNumber, names_of}
+use Rattle.pair_setup_calls.specs.Names.{IsNumber, names_of}
 use Rattle.pair_setup.specs.Names.{IsMarked}
 use Rattle.pair_setup.proofs.Added.{on-ok}
 use Rattle.pair_setup.proofs.Lacking.{named-marked, unnamed-kept}

@@ -2,7 +2,7 @@ use Rattle.std.proofs.Common.{◌∙◌, drop, ap, sym, subst}
 use Rattle.std.specs.Prelude.{OnOk, IfErr}
 use Rattle.call_graph.specs.Graph.{graph_of, Grows, IsClosed, Reaches}
 use Rattle.c_types.specs.Typed.{typed_of}
-use Rattle.c_reach.specs.Names.{names_of}
+use Rattle.pair_setup_calls.specs.Names.{names_of}
 use Rattle.pair_setup.specs.Names.{IsPassed, IsNameError, IsLeast, IsUsedMarked}
 use Rattle.pair_setup.proofs.Numbering.{numbering}
 use Rattle.pair_setup.proofs.Passing.{passed-if, fault-if}

@@ -1,6 +1,6 @@
 use Rattle.std.proofs.Common.{refl}
 use Rattle.c_types.specs.Typed.{typed_of}
-use Rattle.c_reach.specs.Names.{names_of}
+use Rattle.pair_setup_calls.specs.Names.{names_of}
 use Rattle.pair_setup.proofs.Numbering.{numbering}
 use Rattle.pair_setup.proofs.NameFaults.{undeclared}
 use Rattle.pair_setup.proofs.names.check_name.Goals as goal

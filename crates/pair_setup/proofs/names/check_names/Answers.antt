@@ -2,7 +2,7 @@ use Rattle.std.proofs.Common.{◌≤◌, List, ℕ, Bor, [], take, get_or, sym, 
 use Rattle.std.proofs.lemmas.List.{take_all, length-map}
 use Rattle.call_graph.specs.Graph.{graph_of}
 use Rattle.c_types.specs.Typed.{typed_of}
-use Rattle.c_reach.specs.Names.{names_of, texts_of}
+use Rattle.pair_setup_calls.specs.Names.{names_of, texts_of}
 use Rattle.pair_setup.specs.Names.{ArePassed}
 use Rattle.pair_setup.proofs.Passing.{passed-none, passed-more, first-name-error}
 use Rattle.pair_setup.proofs.Prefixes.{next-taken, mapped-at}

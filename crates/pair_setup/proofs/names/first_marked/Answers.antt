@@ -1,5 +1,5 @@
 use Rattle.c_types.specs.Typed.{typed_of}
-use Rattle.c_reach.specs.Names.{names_of}
+use Rattle.pair_setup_calls.specs.Names.{names_of}
 use Rattle.pair_setup.specs.Names.{IsUsedMarked}
 use Rattle.pair_setup.proofs.Least.{least-found}
 use Rattle.pair_setup.proofs.names.first_marked.Goals as goal

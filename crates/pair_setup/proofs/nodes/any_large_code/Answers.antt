@@ -1,8 +1,8 @@
 use Rattle.std.proofs.Common.{◌∙◌, get_or, refl, sym, true≢false, arith}
 use Rattle.std.specs.Prelude.{IsSome}
 use Rattle.std.proofs.lemmas.List.Elements.{All-get_or}
-use Rattle.elf_spec.specs.Image.{size_at}
-use Rattle.pair_outcome_spec.specs.Nodes.{IsLargeCode}
+use Rattle.elf_read_spec.specs.Image.{size_at}
+use Rattle.pair_setup_spec.specs.Nodes.{IsLargeCode}
 use Rattle.call_graph.proofs.Cycles.{none-more}
 use Rattle.pair_setup.proofs.Large.{any-code, no-code}
 use Rattle.pair_setup.proofs.nodes.any_large_code.Goals as goal

@@ -1,5 +1,5 @@
 use Rattle.call_graph.proofs.Cycles.{NoneBelow}
-use Rattle.pair_outcome_spec.specs.Nodes.{IsLargeCode}
+use Rattle.pair_setup_spec.specs.Nodes.{IsLargeCode}
 use Rattle.pair_setup.proofs.nodes.any_large_code.Given as goal
 
 abbrev pub invariant-loop-entry : goal.invariant-loop-entry

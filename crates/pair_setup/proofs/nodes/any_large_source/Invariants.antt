@@ -1,6 +1,6 @@
 use Rattle.call_graph.proofs.Cycles.{NoneBelow}
 use Rattle.c_types.specs.Typed.{typed_of}
-use Rattle.c_reach.specs.Names.{names_of}
+use Rattle.pair_setup_calls.specs.Names.{names_of}
 use Rattle.pair_setup.specs.Sizes.{IsLargeAt}
 use Rattle.pair_setup.proofs.nodes.any_large_source.Given as goal
 

@@ -1,5 +1,5 @@
 use Rattle.std.proofs.Common.{refl, sym, subst, true≢false}
-use Rattle.tv_base.specs.declared.limits.TheConstants.{MAX_NODES}
+use Rattle.tv_limits.specs.declared.TheConstants.{MAX_NODES}
 use Rattle.decompile.specs.Errors.{IsGraphError}
 use Rattle.pair_setup.proofs.Large.{is-large}
 use Rattle.pair_setup.proofs.nodes.is_large_code.Goals as goal

@@ -1,8 +1,8 @@
 use Rattle.std.proofs.Common.{◌∙◌, ap, sym, refl, true≢false}
-use Rattle.c_core.specs.Actions.{action_of}
+use Rattle.c_types_core.specs.Actions.{action_of}
 use Rattle.c_graph_spec.specs.Layout.{size}
 use Rattle.c_types.specs.Typed.{typed_of, body_of_name}
-use Rattle.c_reach.specs.Names.{names_of}
+use Rattle.pair_setup_calls.specs.Names.{names_of}
 use Rattle.pair_setup.proofs.Large.{source-large, source-none}
 use Rattle.pair_setup.proofs.nodes.is_large_source.Goals as goal
 

@@ -1,7 +1,7 @@
 use Rattle.std.proofs.Common.{◌⊎◌, ◌∙◌, inl, inr, refl, sym, true≢false}
 use Rattle.std.specs.Prelude.{◌↔◌, IsTrue}
 use Rattle.c_types.specs.Typed.{typed_of}
-use Rattle.c_reach.specs.Names.{names_of}
+use Rattle.pair_setup_calls.specs.Names.{names_of}
 use Rattle.pair_setup.specs.Sizes.{AnyLargeCode, AnyLargeSource}
 use Rattle.pair_setup.proofs.Added.{if-ok}
 use Rattle.pair_setup.proofs.nodes.is_too_large.Goals as goal

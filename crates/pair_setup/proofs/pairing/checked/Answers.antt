@@ -1,8 +1,8 @@
 use Rattle.std.proofs.Common.{◌∙◌, length, get_or, ap, sym, subst}
 use Rattle.call_graph.specs.Graph.{graph_of}
 use Rattle.c_types.specs.Typed.{typed_of}
-use Rattle.c_reach.specs.Names.{names_of, texts_of}
-use Rattle.pair_outcome_spec.specs.Code.{HasSoundCode}
+use Rattle.pair_setup_calls.specs.Names.{names_of, texts_of}
+use Rattle.pair_setup_spec.specs.Code.{HasSoundCode}
 use Rattle.pair_setup.specs.Depths.{AreFunctions, IsFirstDepthError}
 use Rattle.pair_setup.specs.Answers.{AreChecked, IsPairError}
 use Rattle.pair_setup.proofs.Added.{if-ok, if-err}

@@ -1,6 +1,6 @@
 use Rattle.std.proofs.Common.{List, ℕ, refl, subst}
 use Rattle.c_types.specs.Typed.{typed_of}
-use Rattle.c_reach.specs.Names.{names_of, texts_of}
+use Rattle.pair_setup_calls.specs.Names.{names_of, texts_of}
 use Rattle.pair_setup.specs.Answers.{AreSmall, IsLargeError}
 use Rattle.pair_setup.proofs.Outcomes.{entries-sized, are-paired, large-error}
 use Rattle.pair_setup.proofs.pairing.listed_pairs.Goals as goal

@@ -2,7 +2,7 @@ use Rattle.std.proofs.Common.{◌∙◌, List, ℕ, Bor, length, ap, sym, arith}
 use Rattle.std.proofs.lemmas.Bool.{eqb-true, eqb-false}
 use Rattle.std.proofs.lemmas.List.{length-map}
 use Rattle.c_types.specs.Typed.{typed_of}
-use Rattle.c_reach.specs.Names.{names_of, texts_of}
+use Rattle.pair_setup_calls.specs.Names.{names_of, texts_of}
 use Rattle.pair_setup.proofs.Outcomes.{nothing-error}
 use Rattle.pair_setup.proofs.pairing.pair.Goals as goal
 

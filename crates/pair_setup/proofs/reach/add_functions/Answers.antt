@@ -2,8 +2,8 @@ use Rattle.std.proofs.Common.{◌≤◌, ◌++◌, ◌∷◌, List, ℕ, Bor, []
 use Rattle.std.proofs.lemmas.List.{take_all, length-map}
 use Rattle.std.proofs.lemmas.List.Elements.{All-contains}
 use Rattle.c_types.specs.Typed.{typed_of}
-use Rattle.c_reach.specs.Names.{texts_of}
-use Rattle.pair_spec.specs.Faults.{HasNames}
+use Rattle.pair_setup_calls.specs.Names.{texts_of}
+use Rattle.pair_setup_spec.specs.Faults.{HasNames}
 use Rattle.pair_setup.specs.Depths.{AreFunctions}
 use Rattle.pair_setup.specs.declared.outcome.Function.{Function}
 use Rattle.pair_setup.proofs.Shallow.{functions-none, functions-more, all-shallow, first-depth-error}

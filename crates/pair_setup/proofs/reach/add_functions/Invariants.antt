@@ -1,6 +1,6 @@
 use Rattle.std.proofs.Common.{take}
 use Rattle.c_types.specs.Typed.{typed_of}
-use Rattle.c_reach.specs.Names.{texts_of}
+use Rattle.pair_setup_calls.specs.Names.{texts_of}
 use Rattle.pair_setup.specs.Depths.{AreFunctions}
 use Rattle.pair_setup.proofs.reach.add_functions.Given as goal
 

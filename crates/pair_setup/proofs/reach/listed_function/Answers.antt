@@ -1,6 +1,6 @@
 use Rattle.std.proofs.Common.{refl, sym, subst}
 use Rattle.c_types.specs.Typed.{typed_of}
-use Rattle.c_reach.specs.Names.{names_of}
+use Rattle.pair_setup_calls.specs.Names.{names_of}
 use Rattle.pair_setup.specs.Names.{IsDeclaredAt}
 use Rattle.pair_setup.specs.Depths.{IsDepthOf, IsSoundFunction}
 use Rattle.pair_setup.proofs.Entries.{named-sized}

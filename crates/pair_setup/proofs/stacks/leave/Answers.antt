@@ -1,7 +1,7 @@
 use Rattle.std.proofs.Common.{subst}
 use Rattle.std.specs.Prelude.{nat_eq, IfSome}
 use Rattle.indexmap.specs.IndexMap.{get}
-use Rattle.code_spec.specs.Code.{IsStack}
+use Rattle.code_reach_spec.specs.Code.{IsStack}
 use Rattle.pair_setup.proofs.Totals.{one-stack-more}
 use Rattle.pair_setup.proofs.stacks.leave.Goals as goal
 

@@ -1,7 +1,7 @@
 use Rattle.std.proofs.Common.{sym, subst}
 use Rattle.std.specs.Prelude.{nat_eq, IfSome}
 use Rattle.indexmap.specs.IndexMap.{get}
-use Rattle.code_spec.specs.Code.{IsStack}
+use Rattle.code_reach_spec.specs.Code.{IsStack}
 use Rattle.code_reach.specs.Found.{IsCode}
 use Rattle.pair_setup.specs.Stacks.{IsTotal}
 use Rattle.pair_setup.proofs.Totals.{if-some, total-stack}

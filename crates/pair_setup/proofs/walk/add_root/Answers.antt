@@ -1,6 +1,6 @@
 use Rattle.std.proofs.Common.{◌≡◌, ◌∙◌, sym, ap}
-use Rattle.elf_spec.specs.Image.{function_named}
-use Rattle.elf_spec.specs.declared.SymbolValues.TheVariants.{One}
+use Rattle.elf_read_spec.specs.Image.{function_named}
+use Rattle.elf_read_spec.specs.declared.SymbolValues.TheVariants.{One}
 use Rattle.call_graph.specs.Graph.{Grows}
 use Rattle.call_graph.proofs.Growing.{grows-as, grows-kept}
 use Rattle.pair_setup.specs.Walks.{IsEntry}

@@ -1,7 +1,7 @@
 use Rattle.std.proofs.Common.{◌∷◌, ◌∙◌, [], List, ℕ, Bor, take, get_or, sym, ap, subst, arith}
 use Rattle.std.proofs.lemmas.List.{map-append, take_more, take_all}
 use Rattle.call_graph.specs.Graph.{Grows}
-use Rattle.c_reach.specs.Names.{texts_of}
+use Rattle.pair_setup_calls.specs.Names.{texts_of}
 use Rattle.pair_setup.specs.Names.{IsOf}
 use Rattle.pair_setup.specs.Walks.{IsEntry}
 use Rattle.pair_setup.proofs.Added.{of-none, of-more}

@@ -1,6 +1,6 @@
 use Rattle.std.proofs.Common.{take}
 use Rattle.call_graph.specs.Graph.{Grows}
-use Rattle.c_reach.specs.Names.{texts_of}
+use Rattle.pair_setup_calls.specs.Names.{texts_of}
 use Rattle.pair_setup.specs.Names.{IsOf}
 use Rattle.pair_setup.specs.Walks.{IsEntry}
 use Rattle.pair_setup.proofs.walk.add_roots.Given as goal

@@ -1,5 +1,5 @@
 use Rattle.std.proofs.Common.{sym, subst}
-use Rattle.c_reach.specs.Names.{texts_of}
+use Rattle.pair_setup_calls.specs.Names.{texts_of}
 use Rattle.pair_setup.specs.Walks.{AreSoundOf}
 use Rattle.pair_setup.proofs.Entries.{none-sound-of}
 use Rattle.pair_setup.proofs.walk.add_sound.Goals as goal

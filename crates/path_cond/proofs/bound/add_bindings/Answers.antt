@@ -2,8 +2,8 @@ use Rattle.std.proofs.Common.{◌≡◌, ◌∙◌, ℕ, ◌<◌, true, cond, �
 use Rattle.std.proofs.lemmas.Bool.{cases_lt}
 use Rattle.std.proofs.lemmas.List.{length-map, get_or_default}
 use Rattle.std.proofs.Math.ListN.{get_or-map}
-use Rattle.term_spec.specs.declared.Variable.{Variable}
-use Rattle.graph_spec.specs.Graph as spec
+use Rattle.term_core_spec.specs.declared.Variable.{Variable}
+use Rattle.graph_core_spec.specs.Graph as spec
 use Rattle.graph_core.specs.declared.shared.SharedBinding.{SharedBinding}
 use Rattle.graph_core.specs.Shared.{shared_binding_of}
 use Rattle.path_cond.specs.Bound.{has}

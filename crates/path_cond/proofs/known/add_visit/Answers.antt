@@ -2,13 +2,13 @@ use Rattle.std.proofs.Common.{◌≡◌, List, [], Option, length, sym, ap, subs
 use Rattle.std.specs.HashMap.{get}
 use Rattle.std.proofs.lemmas.Result.{on_ok_weaker}
 use Rattle.std.proofs.lemmas.Option.{get_or_from_slice_get}
-use Rattle.term_spec.specs.Same.{same_variable}
-use Rattle.term_spec.specs.Term.{Term}
-use Rattle.graph_spec.specs.Graph.{Node}
-use Rattle.graph_spec.specs.declared.Next.TheVariants as next
+use Rattle.term_core_spec.specs.Same.{same_variable}
+use Rattle.term_core_spec.specs.Term.{Term}
+use Rattle.graph_core_spec.specs.Graph.{Node}
+use Rattle.graph_core_spec.specs.declared.Next.TheVariants as next
 use Rattle.graph_core.specs.Graphs.{graph_of}
-use Rattle.condition_spec.specs.Junctions.{Junction}
-use Rattle.condition_spec.specs.Conditions.{Conditional, along, conditional_next, node_of_place, node_of_junction}
+use Rattle.path_cond_spec.specs.Junctions.{Junction}
+use Rattle.path_cond_spec.specs.Conditions.{Conditional, along, conditional_next, node_of_place, node_of_junction}
 use Rattle.path_cond.specs.Branches.{IsLeft}
 use Rattle.path_cond.proofs.Arriving.{known_edges}
 use Rattle.path_cond.proofs.Banks.{extends_then}

@@ -1,8 +1,8 @@
 use Rattle.std.proofs.Common.{◌≡◌, ◌∙◌, Some, ap, subst}
 use Rattle.std.specs.HashMap.{get}
-use Rattle.term_spec.specs.Same.{same_variable}
-use Rattle.term_spec.specs.Substitution.{State, substituted}
-use Rattle.term_spec.specs.Term.{Term, not_term}
+use Rattle.term_core_spec.specs.Same.{same_variable}
+use Rattle.term_core_spec.specs.Substitution.{State, substituted}
+use Rattle.term_core_spec.specs.Term.{Term, not_term}
 use Rattle.term_bank.specs.Nodes.{tree_at, Holds}
 use Rattle.term_bank.proofs.Substitution.{kept}
 use Rattle.term_substitution.specs.States.{state_of}

@@ -1,6 +1,6 @@
 use Rattle.std.proofs.Common.{length}
 use Rattle.std.specs.HashMap.{get}
-use Rattle.term_spec.specs.Same.{same_variable}
+use Rattle.term_core_spec.specs.Same.{same_variable}
 use Rattle.path_cond.specs.Ids.{id_at}
 use Rattle.path_cond.proofs.Changed.{numbered}
 use Rattle.path_cond.proofs.Current.{below_set, current_set}

@@ -1,8 +1,8 @@
 use Rattle.std.proofs.Common.{List, length, sym, subst, ap, ◌∙◌, Some}
 use Rattle.std.proofs.lemmas.Result.{IfOk-weaker}
 use Rattle.std.specs.Prelude.{Option}
-use Rattle.term_spec.specs.Term.{Term}
-use Rattle.graph_spec.specs.Graph.{Node}
+use Rattle.term_core_spec.specs.Term.{Term}
+use Rattle.graph_core_spec.specs.Graph.{Node}
 use Rattle.graph_core.specs.Graphs.{graph_of}
 use Rattle.graph_core.specs.Shared.{shared_node_of, IsSharedNode}
 use Rattle.path_cond.specs.Branches.{IsLeft}

@@ -1,8 +1,8 @@
 use Rattle.std.proofs.Common.{◌≡◌, ◌∙◌, ℕ, List, length, Option, ap}
 use Rattle.std.specs.HashMap.{get}
-use Rattle.term_spec.specs.declared.Variable.{Variable}
-use Rattle.term_spec.specs.Same.{same_variable}
-use Rattle.term_spec.specs.Term.{open_term}
+use Rattle.term_core_spec.specs.declared.Variable.{Variable}
+use Rattle.term_core_spec.specs.Same.{same_variable}
+use Rattle.term_core_spec.specs.Term.{open_term}
 use Rattle.term_substitution.specs.States.{tree_or, state_of}
 use Rattle.path_cond.specs.Ids.{id_at}
 use Rattle.path_cond.proofs.Current.{full_state, below_set, current_set, same_terms}

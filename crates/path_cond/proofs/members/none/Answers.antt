@@ -1,5 +1,5 @@
 use Rattle.std.proofs.Common.{List}
-use Rattle.term_spec.specs.Term.{Term}
+use Rattle.term_core_spec.specs.Term.{Term}
 use Rattle.path_cond.specs.Ids.{id_at}
 use Rattle.path_cond.proofs.Changed.{state_later, state_same}
 use Rattle.path_cond.proofs.Positions.{none_united}

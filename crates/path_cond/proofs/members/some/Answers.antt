@@ -1,7 +1,7 @@
 use Rattle.std.proofs.Common.{◌≡◌, ◌∙◌, List, ℕ, ◌<◌, length, map, sym, ap, subst}
 use Rattle.std.specs.List.{All}
-use Rattle.term_spec.specs.Term.{Term}
-use Rattle.condition_spec.specs.Conditions.{conditional_at, conditionals}
+use Rattle.term_core_spec.specs.Term.{Term}
+use Rattle.path_cond_spec.specs.Conditions.{conditional_at, conditionals}
 use Rattle.path_cond.specs.declared.ids.Ids.{Ids}
 use Rattle.path_cond.specs.Known.{AreConditionals}
 use Rattle.path_cond.specs.Merged.{AreIds}

@@ -1,5 +1,5 @@
 use Rattle.std.proofs.Common.{◌≡◌, ◌∙◌, ◌<◌, length, get_or, map, take, Some, sym, ap, ap₂, refl, subst, arith}
-use Rattle.term_spec.specs.Term.{Term, or_term}
+use Rattle.term_core_spec.specs.Term.{Term, or_term}
 use Rattle.term_bank.specs.Nodes.{tree_at, Holds}
 use Rattle.term_bank.proofs.Growth.{held}
 use Rattle.path_cond.specs.Merged.{any_term}

@@ -1,5 +1,5 @@
 use Rattle.std.proofs.Common.{◌≡◌, ◌∙◌, ℕ, ◌+◌, ◌-◌, ◌<◌, length, get_or, map, drop, Some, sym, ap, refl, arith}
-use Rattle.term_spec.specs.Term.{choose}
+use Rattle.term_core_spec.specs.Term.{choose}
 use Rattle.term_bank.specs.Nodes.{tree_at}
 use Rattle.term_bank.proofs.Growth.{held}
 use Rattle.path_cond.specs.Merged.{chosen_term}

@@ -1,6 +1,6 @@
 use Rattle.std.proofs.Common.{◌≡◌, ◌∙◌, ℕ, ◌==◌, true, false, get_or, map, Some, sym, ap, subst}
 use Rattle.std.specs.List.{list_all}
-use Rattle.term_spec.specs.Term.{Term}
+use Rattle.term_core_spec.specs.Term.{Term}
 use Rattle.term_bank.specs.Nodes.{tree_at}
 use Rattle.term_bank.proofs.Growth.{held}
 use Rattle.term_substitution.specs.States.{IsAt}

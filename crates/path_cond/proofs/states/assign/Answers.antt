@@ -3,12 +3,12 @@ use Rattle.std.specs.Prelude.{nat_eq}
 use Rattle.std.specs.HashMap.{get}
 use Rattle.std.proofs.lemmas.List.{drop_all, drop_more, length-map}
 use Rattle.std.proofs.Math.ListN.{get_or-map}
-use Rattle.term_spec.specs.Same.{same_variable}
+use Rattle.term_core_spec.specs.Same.{same_variable}
 use Rattle.term_substitution.proofs.Taking.{takes_none, takes_then}
-use Rattle.graph_spec.specs.Graph as spec
+use Rattle.graph_core_spec.specs.Graph as spec
 use Rattle.graph_core.specs.declared.shared.SharedBinding.{SharedBinding}
 use Rattle.graph_core.specs.Shared.{shared_binding_of}
-use Rattle.condition_spec.specs.Conditions.{assigned}
+use Rattle.path_cond_spec.specs.Conditions.{assigned}
 use Rattle.path_cond.specs.Bound.{has}
 use Rattle.path_cond.specs.Ids.{id_at}
 use Rattle.path_cond.specs.States.{HasState}

@@ -1,12 +1,12 @@
 use Rattle.std.proofs.Common.{◌≤◌, length, map, drop}
 use Rattle.std.specs.Prelude.{nat_eq}
 use Rattle.std.specs.HashMap.{get}
-use Rattle.term_spec.specs.Same.{same_variable}
-use Rattle.term_spec.specs.Substitution.{State}
+use Rattle.term_core_spec.specs.Same.{same_variable}
+use Rattle.term_core_spec.specs.Substitution.{State}
 use Rattle.term_bank.specs.Nodes.{Extends}
 use Rattle.term_substitution.specs.Transfers.{TakesMore}
 use Rattle.graph_core.specs.Shared.{shared_binding_of}
-use Rattle.condition_spec.specs.Conditions.{assigned}
+use Rattle.path_cond_spec.specs.Conditions.{assigned}
 use Rattle.path_cond.specs.Ids.{id_at}
 use Rattle.path_cond.specs.States.{HasState, IsCurrent}
 use Rattle.path_cond.proofs.states.assign.Given as goal

@@ -1,10 +1,10 @@
 use Rattle.std.proofs.Common.{List}
 use Rattle.std.proofs.lemmas.Result.{IfOk-weaker, on_ok_weaker}
-use Rattle.term_spec.specs.Term.{Term}
-use Rattle.term_spec.specs.Substitution.{substituted}
+use Rattle.term_core_spec.specs.Term.{Term}
+use Rattle.term_core_spec.specs.Substitution.{substituted}
 use Rattle.term_bank.specs.Nodes.{Holds}
 use Rattle.graph_core.specs.Shared.{shared_binding_of}
-use Rattle.condition_spec.specs.Conditions.{assigned}
+use Rattle.path_cond_spec.specs.Conditions.{assigned}
 use Rattle.path_cond.specs.Ids.{id_at}
 use Rattle.path_cond.proofs.Changed.{state_later, assigned_more}
 use Rattle.path_cond.proofs.states.assign_one.Goals as goal

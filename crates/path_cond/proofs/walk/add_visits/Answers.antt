@@ -2,12 +2,12 @@ use Rattle.std.proofs.Common.{◌≡◌, ◌∙◌, ℕ, ◌+◌, ◌<◌, List,
 use Rattle.std.specs.Prelude.{slice_get}
 use Rattle.std.specs.List.{All}
 use Rattle.std.proofs.lemmas.List.{take_all}
-use Rattle.term_spec.specs.Term.{Term}
-use Rattle.term_spec.specs.Substitution.{State}
+use Rattle.term_core_spec.specs.Term.{Term}
+use Rattle.term_core_spec.specs.Substitution.{State}
 use Rattle.graph_core.specs.Graphs.{graph_of}
-use Rattle.visit_spec.specs.declared.Incoming.{Incoming}
-use Rattle.condition_spec.specs.Junctions.{Junction, junction_at}
-use Rattle.condition_spec.specs.Conditions.{Conditional, conditionals, conditional_next}
+use Rattle.visit_walk_spec.specs.declared.Incoming.{Incoming}
+use Rattle.path_cond_spec.specs.Junctions.{Junction, junction_at}
+use Rattle.path_cond_spec.specs.Conditions.{Conditional, conditionals, conditional_next}
 use Rattle.path_cond.specs.Ids.{id_at}
 use Rattle.path_cond.specs.Listed.{junctions_of}
 use Rattle.path_cond.specs.Table.{AreArriving, AreKnown}

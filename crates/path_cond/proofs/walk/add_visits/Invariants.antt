@@ -1,11 +1,11 @@
 use Rattle.std.proofs.Common.{length, take}
 use Rattle.std.specs.HashMap.{get}
-use Rattle.term_spec.specs.Same.{same_variable}
-use Rattle.term_spec.specs.Substitution.{State}
+use Rattle.term_core_spec.specs.Same.{same_variable}
+use Rattle.term_core_spec.specs.Substitution.{State}
 use Rattle.term_bank.specs.Nodes.{Extends}
 use Rattle.term_substitution.specs.States.{AreBelow}
 use Rattle.graph_core.specs.Graphs.{graph_of}
-use Rattle.condition_spec.specs.Conditions.{conditionals}
+use Rattle.path_cond_spec.specs.Conditions.{conditionals}
 use Rattle.path_cond.specs.Ids.{id_at}
 use Rattle.path_cond.specs.Listed.{junctions_of}
 use Rattle.path_cond.specs.States.{IsOutside, IsStart}

@@ -1,9 +1,9 @@
 use Rattle.std.proofs.Common.{List, subst}
 use Rattle.std.specs.HashMap.{get}
-use Rattle.term_spec.specs.Same.{same_variable}
+use Rattle.term_core_spec.specs.Same.{same_variable}
 use Rattle.term_substitution.specs.States.{state_of}
 use Rattle.graph_core.specs.Graphs.{graph_of}
-use Rattle.condition_spec.specs.Junctions.{Junction}
+use Rattle.path_cond_spec.specs.Junctions.{Junction}
 use Rattle.path_cond.specs.Result.{AreConditions}
 use Rattle.path_cond.proofs.Listed.{listed_earlier, listed_is}
 use Rattle.path_cond.proofs.walk.conditions.Goals as goal

@@ -3,9 +3,9 @@ use Rattle.std.specs.Prelude.{slice_get}
 use Rattle.std.specs.HashMap.{get}
 use Rattle.std.proofs.lemmas.Bool.{cases_lt}
 use Rattle.std.proofs.lemmas.Option.{same_Some, slice_get_within}
-use Rattle.term_spec.specs.declared.Variable.{Variable}
-use Rattle.term_spec.specs.Same.{same_variable}
-use Rattle.term_spec.specs.Term.{Term}
+use Rattle.term_core_spec.specs.declared.Variable.{Variable}
+use Rattle.term_core_spec.specs.Same.{same_variable}
+use Rattle.term_core_spec.specs.Term.{Term}
 use Rattle.term_bank.specs.Nodes.{Holds}
 use Rattle.term_bank.proofs.Substitution.{kept}
 use Rattle.term_substitution.specs.States.{state_of}

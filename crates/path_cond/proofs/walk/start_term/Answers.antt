@@ -1,7 +1,7 @@
 use Rattle.std.proofs.Common.{◌≡◌, ◌∙◌, Some, sym, ap, rules}
 use Rattle.std.specs.HashMap.{get}
-use Rattle.term_spec.specs.Same.{same_variable}
-use Rattle.term_spec.specs.Term.{open_term}
+use Rattle.term_core_spec.specs.Same.{same_variable}
+use Rattle.term_core_spec.specs.Term.{open_term}
 use Rattle.term_bank.proofs.Growth.{held}
 use Rattle.term_substitution.specs.States.{tree_or}
 use Rattle.path_cond.proofs.walk.start_term.Goals as goal

@@ -1,5 +1,5 @@
 use Rattle.std.proofs.Common.{◌≡◌}
-use Rattle.graph_spec.specs.declared.Next.TheVariants as next
+use Rattle.graph_core_spec.specs.declared.Next.TheVariants as next
 use Rattle.proof_tree.proofs.Ahead.{grows-then}
 use Rattle.proof_tree.proofs.reachable.add_both.Goals as goal
 

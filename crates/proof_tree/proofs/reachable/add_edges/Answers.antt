@@ -1,7 +1,7 @@
 use Rattle.std.proofs.Common.{sym, subst}
 use Rattle.graph_core.specs.Shared.{shared_node_of}
 use Rattle.graph_core.specs.declared.shared.SharedNode.{SharedNode}
-use Rattle.graph_spec.specs.Run.{GoesTo}
+use Rattle.graph_core_spec.specs.Run.{GoesTo}
 use Rattle.proof_tree.specs.Ahead.{Grows}
 use Rattle.proof_tree.proofs.reachable.add_edges.Goals as goal
 

@@ -1,5 +1,5 @@
 use Rattle.std.proofs.Common.{◌≡◌, ℕ, sym, ap, ◌∙◌}
-use Rattle.graph_spec.specs.declared.Next.TheVariants as next
+use Rattle.graph_core_spec.specs.declared.Next.TheVariants as next
 use Rattle.proof_tree.proofs.Ahead.{grows-as}
 use Rattle.proof_tree.proofs.reachable.add_next.Goals as goal
 

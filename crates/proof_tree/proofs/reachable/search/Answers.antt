@@ -1,6 +1,6 @@
 use Rattle.std.proofs.Common.{[], ◌∷◌, get_or, ap, subst, arith}
 use Rattle.graph_core.specs.Graphs.{graph_of}
-use Rattle.graph_spec.specs.Run.{IsEdge}
+use Rattle.graph_core_spec.specs.Run.{IsEdge}
 use Rattle.proof_tree.specs.Ahead.{Grows}
 use Rattle.proof_tree.proofs.Ahead.{walked-start, walked-next, walked-all}
 use Rattle.proof_tree.proofs.reachable.search.Goals as goal

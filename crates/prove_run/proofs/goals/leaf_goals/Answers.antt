@@ -1,5 +1,5 @@
 use Rattle.std.proofs.Common.{◌∙◌, subst}
-use Rattle.proof_spec.specs.Frames.{Frame}
+use Rattle.proof_tree_spec.specs.Frames.{Frame}
 use Rattle.proof_tree.specs.Frames.{frame_of}
 use Rattle.prove_run.specs.Goals.{AnswersGoals}
 use Rattle.prove_run.proofs.Opened.{opened_setup, opened_in, frame_there, no_counts}

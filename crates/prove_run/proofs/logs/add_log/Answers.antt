@@ -3,7 +3,7 @@ use Rattle.memory_spec.specs.Viewed.{runs_of}
 use Rattle.term_bank.specs.Nodes.{tree_at}
 use Rattle.discharge.specs.Answers.{Seeks}
 use Rattle.discharge.specs.declared.seeking.Sought.{Sought}
-use Rattle.trail_spec.specs.declared.TheConstants.{SEARCH_LIMIT}
+use Rattle.tv_limits.specs.declared.TheConstants.{SEARCH_LIMIT}
 use Rattle.prove_run.proofs.logs.add_log.Goals as goal
 
 pub returns-in-Ok-Valid-clause-log : goal.returns-in-Ok-Valid-clause-log

@@ -1,8 +1,8 @@
 use Rattle.std.proofs.Common.{◌≡◌, ℕ, Option, false, get_or, refl, subst}
 use Rattle.std.specs.Prelude.{IfSome}
 use Rattle.memory_spec.specs.Viewed.{runs_of}
-use Rattle.term_spec.specs.Value.{Truth, value}
-use Rattle.normal_spec.specs.Normal.{normal}
+use Rattle.term_core_spec.specs.Value.{Truth, value}
+use Rattle.term_norm_spec.specs.Normal.{normal}
 use Rattle.term_core.specs.declared.assignment.Assignment.{Assignment}
 use Rattle.term_core.specs.Assignment.{assignment_of}
 use Rattle.term_bank.specs.Nodes.{tree_at}

@@ -1,6 +1,6 @@
 use Rattle.std.proofs.Common.{◌≡◌, ◌∙◌, ◌+◌, ℕ, List, [], ◌∷◌, ◌++◌, length, drop, get_or, refl, sym, ap, arith, append_assoc, append-nil}
 use Rattle.std.specs.Vec.Iter.{into_iter_items}
-use Rattle.trail_spec.specs.Written.{Failure}
+use Rattle.prove_run_spec.specs.Written.{Failure}
 use Rattle.prove_run.specs.declared.trail.Found.{Found}
 use Rattle.prove_run.specs.Trails.{failure_in, failures_in, failures_of}
 use Rattle.prove_run.proofs.Listing.{failures_next, no_failures, nothing_left}

@@ -1,6 +1,6 @@
 use Rattle.std.proofs.Common.{subst}
-use Rattle.rule_spec.specs.Obligations.{Leaf}
-use Rattle.tv_base.specs.declared.limits.TheConstants.{MAX_VISITS}
+use Rattle.sim_rules_spec.specs.Obligations.{Leaf}
+use Rattle.tv_limits.specs.declared.TheConstants.{MAX_VISITS}
 use Rattle.sim_rules.specs.Outcome.{IsRuleFault}
 use Rattle.prove_run.proofs.walks.why.Goals as goal
 

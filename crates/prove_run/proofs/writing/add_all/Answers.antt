@@ -1,6 +1,6 @@
 use Rattle.std.proofs.Common.{◌∷◌, [], ◌++◌}
 use Rattle.std.proofs.lemmas.Result.{on_ok_weaker}
-use Rattle.cert_spec.specs.Lines.{Header, End}
+use Rattle.cert_text_spec.specs.Lines.{Header, End}
 use Rattle.prove_run.specs.Written.{parts_of}
 use Rattle.prove_run.proofs.Adding.{more_then}
 use Rattle.prove_run.proofs.writing.add_all.Goals as goal

@@ -1,7 +1,7 @@
 use Rattle.std.proofs.Common.{◌∙◌, ◌∷◌, [], ℕ, List, ap, subst}
 use Rattle.std.proofs.lemmas.Result.{on_ok_weaker}
-use Rattle.cert_spec.specs.Lines.{Function}
-use Rattle.cert_lines.specs.declared.lines.Part.{Part}
+use Rattle.cert_text_spec.specs.Lines.{Function}
+use Rattle.cert_text_parse.specs.declared.lines.Part.{Part}
 use Rattle.prove_run.specs.Written.{AddsLines}
 use Rattle.prove_run.proofs.writing.add_function.Goals as goal
 

@@ -1,6 +1,6 @@
 use Rattle.std.proofs.Common.{◌∷◌, [], ℕ, subst, map}
 use Rattle.std.proofs.lemmas.Result.{on_ok_weaker}
-use Rattle.cert_spec.specs.Lines.{Log, LogStep}
+use Rattle.cert_text_spec.specs.Lines.{Log, LogStep}
 use Rattle.prove_run.specs.Written.{AddsLines}
 use Rattle.prove_run.proofs.Adding.{more_then}
 use Rattle.prove_run.proofs.writing.add_log.Goals as goal

@@ -1,5 +1,5 @@
 use Rattle.std.proofs.Common.{ap, subst, sym}
-use Rattle.trail_spec.specs.Written.{log_lines}
+use Rattle.prove_run_spec.specs.Written.{log_lines}
 use Rattle.prove_run.specs.Written.{AddsLines}
 use Rattle.prove_run.proofs.Adding.{no_logs, logs_more, all_logs}
 use Rattle.prove_run.proofs.writing.add_logs.Goals as goal

@@ -1,5 +1,5 @@
 use Rattle.std.proofs.Common.{take}
-use Rattle.trail_spec.specs.Written.{logs_lines}
+use Rattle.prove_run_spec.specs.Written.{logs_lines}
 use Rattle.prove_run.specs.Found.{logs_of}
 use Rattle.prove_run.specs.Written.{AddsLines}
 use Rattle.prove_run.proofs.writing.add_logs.Given as goal

@@ -1,8 +1,8 @@
 use Rattle.std.proofs.Common.{◌∙◌, ◌∷◌, [], ℕ, ◌++◌, subst, sym, ap, length}
 use Rattle.std.proofs.lemmas.List.{length-map}
 use Rattle.std.proofs.lemmas.Result.{on_ok_weaker}
-use Rattle.cert_spec.specs.Lines.{Function, Leaf}
-use Rattle.trail_spec.specs.Written.{logs_lines}
+use Rattle.cert_text_spec.specs.Lines.{Function, Leaf}
+use Rattle.prove_run_spec.specs.Written.{logs_lines}
 use Rattle.prove_run.specs.Found.{logs_of}
 use Rattle.prove_run.specs.Written.{AddsLines}
 use Rattle.prove_run.proofs.Adding.{more_then}

@@ -1,5 +1,5 @@
 use Rattle.std.proofs.Common.{◌≡◌, ◌<◌, List, length, take, sym, subst, arith}
-use Rattle.cert_spec.specs.Lines.{Line}
+use Rattle.cert_text_spec.specs.Lines.{Line}
 use Rattle.prove_run.specs.Written.{AddsLines, part_of, parts_of}
 use Rattle.prove_run.proofs.Adding.{nothing_more, more_then}
 use Rattle.prove_run.proofs.Listing.{no_parts, parts_more, all_parts}

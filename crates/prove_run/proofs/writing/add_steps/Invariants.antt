@@ -1,5 +1,5 @@
 use Rattle.std.proofs.Common.{map, take}
-use Rattle.cert_spec.specs.Lines.{LogStep}
+use Rattle.cert_text_spec.specs.Lines.{LogStep}
 use Rattle.prove_run.specs.Written.{AddsLines}
 use Rattle.prove_run.proofs.writing.add_steps.Given as goal
 

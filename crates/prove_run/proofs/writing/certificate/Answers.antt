@@ -1,5 +1,5 @@
 use Rattle.std.proofs.Common.{◌∙◌, ◌∷◌, [], ◌++◌, List, ap}
-use Rattle.cert_spec.specs.Lines.{Line, Header, End}
+use Rattle.cert_text_spec.specs.Lines.{Line, Header, End}
 use Rattle.prove_run.specs.Written.{parts_of}
 use Rattle.prove_run.proofs.Adding.{whole_lines}
 use Rattle.prove_run.proofs.Listing.{same_parts}

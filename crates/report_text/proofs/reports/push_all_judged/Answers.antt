@@ -1,6 +1,6 @@
 use Rattle.std.proofs.Common.{arith, not}
 use Rattle.std.proofs.lemmas.Grind.{common_steps}
-use Rattle.report_spec.specs.Report.{judgements_text}
+use Rattle.report_text_spec.specs.Report.{judgements_text}
 use Rattle.report_text.proofs.Texts.{lines_are, counts_are}
 use Rattle.report_text.proofs.reports.push_all_judged.Goals as goal
 

@@ -1,4 +1,4 @@
-use Rattle.report_spec.specs.Report as texts
+use Rattle.report_text_spec.specs.Report as texts
 use Rattle.report_text.specs.Judgements.{judgement_of}
 use Rattle.report_text.proofs.Texts.{more_lines}
 use Rattle.report_text.proofs.reports.push_lines.Goals as goal

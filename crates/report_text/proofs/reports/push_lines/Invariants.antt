@@ -1,6 +1,6 @@
 use Rattle.std.proofs.Common.{◌≡◌, ◌++◌, take}
 use Rattle.std.specs.Prelude.{flat_map}
-use Rattle.report_spec.specs.Report as texts
+use Rattle.report_text_spec.specs.Report as texts
 use Rattle.report_text.specs.Judgements.{judgement_of}
 use Rattle.report_text.proofs.reports.push_lines.Given as goal
 

@@ -1,7 +1,7 @@
 use Rattle.std.proofs.Common.{◌≡◌, ◌++◌, subst, codes}
 use Rattle.std.specs.Int.{w32, to_be_bytes}
 use Rattle.hex.specs.Hex.{encode_lower}
-use Rattle.report_spec.specs.Words.{code_word}
+use Rattle.report_text_spec.specs.Words.{code_word}
 use Rattle.report_text.proofs.Texts.{line_added}
 use Rattle.report_text.proofs.reports.push_refused_code.Goals as goal
 

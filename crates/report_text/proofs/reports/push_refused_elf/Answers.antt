@@ -1,6 +1,6 @@
 use Rattle.std.proofs.Common.{◌≡◌, subst, codes}
 use Rattle.std.specs.Prelude.{OnOk, decimal}
-use Rattle.report_spec.specs.Words as words
+use Rattle.report_text_spec.specs.Words as words
 use Rattle.report_text.proofs.Texts.{line_of_four}
 use Rattle.report_text.proofs.reports.push_refused_elf.Goals as goal
 

@@ -1,6 +1,6 @@
 use Rattle.std.proofs.Common.{◌≡◌, ◌++◌, subst, codes}
 use Rattle.std.specs.Prelude.{OnOk}
-use Rattle.report_spec.specs.Report.{line}
+use Rattle.report_text_spec.specs.Report.{line}
 use Rattle.report_text.proofs.reports.push_refused_pair.Goals as goal
 
 pub returns : goal.returns

@@ -1,6 +1,6 @@
 use Rattle.std.proofs.Common.{◌≡◌, subst, codes}
 use Rattle.std.specs.Prelude.{OnOk, decimal}
-use Rattle.report_spec.specs.Report.{total_line}
+use Rattle.report_text_spec.specs.Report.{total_line}
 use Rattle.report_text.proofs.Texts.{line_of_four}
 use Rattle.report_text.proofs.reports.push_total.Goals as goal
 

@@ -1,6 +1,6 @@
 use Rattle.std.proofs.Common.{◌≡◌, ◌++◌, subst}
 use Rattle.std.specs.Prelude.{OnOk, flat_map}
-use Rattle.report_spec.specs.Report.{code_line, word_line}
+use Rattle.report_text_spec.specs.Report.{code_line, word_line}
 use Rattle.report_text.specs.Shown.{shown_of}
 use Rattle.report_text.proofs.ShowTexts.{shown_is}
 use Rattle.report_text.proofs.showing.push_shown.Goals as goal

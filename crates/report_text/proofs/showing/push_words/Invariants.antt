@@ -1,6 +1,6 @@
 use Rattle.std.proofs.Common.{◌≡◌, ◌++◌, take}
 use Rattle.std.specs.Prelude.{flat_map}
-use Rattle.report_spec.specs.Report as texts
+use Rattle.report_text_spec.specs.Report as texts
 use Rattle.report_text.proofs.showing.push_words.Given as goal
 
 abbrev pub invariant-loop-address : goal.invariant-loop-address

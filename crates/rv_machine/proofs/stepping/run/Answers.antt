@@ -1,7 +1,7 @@
 use Rattle.std.proofs.Common.{◌≡◌, ◌≢◌, sym, ap, subst, ◌∙◌, arith, Some}
-use Rattle.rv_spec.specs.Step.{step}
-use Rattle.rv_spec.proofs.Steps.{after_zero}
-use Rattle.rv_spec.proofs.Runs.{stays_stopped, stays_trapped, one_more}
+use Rattle.rv_machine_spec.specs.Step.{step}
+use Rattle.rv_machine_spec.proofs.Steps.{after_zero}
+use Rattle.rv_machine_spec.proofs.Runs.{stays_stopped, stays_trapped, one_more}
 use Rattle.rv_machine.specs.Runs.{HasStepped}
 use Rattle.rv_machine.proofs.stepping.run.Goals as goal
 

@@ -1,7 +1,7 @@
 use Rattle.std.proofs.Common.{refl, sym, ap, ◌∙◌}
 use Rattle.rv_instr.specs.Instr.{instr}
-use Rattle.rv_spec.specs.Machine.{read_register}
-use Rattle.rv_spec.proofs.Steps.{step_at, step_none}
+use Rattle.rv_machine_spec.specs.Machine.{read_register}
+use Rattle.rv_machine_spec.proofs.Steps.{step_at, step_none}
 use Rattle.rv_machine.proofs.Steps.{stepped}
 use Rattle.rv_machine.proofs.stepping.step.Goals as goal
 

@@ -1,7 +1,7 @@
 use Rattle.std.proofs.Common.{◌≡◌, ◌≤◌, ◌∙◌, refl, sym, subst}
-use Rattle.sat_spec.specs.declared.Entry.{Entry}
-use Rattle.sat_spec.specs.Trail.{IsAbsent}
-use Rattle.sat_spec.proofs.Trails.{some_same}
+use Rattle.sat_search_spec.specs.declared.Entry.{Entry}
+use Rattle.sat_search_spec.specs.Trail.{IsAbsent}
+use Rattle.sat_search_spec.proofs.Trails.{some_same}
 use Rattle.sat_search.proofs.Learnt.{highest_higher, highest_same, highest_none}
 use Rattle.sat_search.proofs.learning.higher.Goals as goal
 

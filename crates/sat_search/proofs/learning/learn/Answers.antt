@@ -1,7 +1,7 @@
 use Rattle.std.proofs.Common.{rules, ◌≡◌, ◌++◌, ◌∷◌, ◌∙◌, [], get_or, drop, length, ap, sym, subst}
 use Rattle.std.proofs.lemmas.List.{take_rest}
-use Rattle.sat_spec.specs.Trail.{IsAbsent}
-use Rattle.clause_spec.specs.Clause.{negation}
+use Rattle.sat_search_spec.specs.Trail.{IsAbsent}
+use Rattle.clause_check_spec.specs.Clause.{negation}
 use Rattle.sat_search.specs.Search.{IsHighest}
 use Rattle.sat_search.proofs.Learnt.{first_and_rest, second_code, asserting_gone, learnt_searching, once}
 use Rattle.sat_search.proofs.learning.learn.Goals as goal

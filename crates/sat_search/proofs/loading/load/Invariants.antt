@@ -1,5 +1,5 @@
 use Rattle.std.proofs.Common.{◌≡◌, take}
-use Rattle.sat_spec.specs.Watches.{IsRunning}
+use Rattle.sat_search_spec.specs.Watches.{IsRunning}
 use Rattle.sat_search.specs.Search.{IsAtStart}
 use Rattle.sat_search.proofs.loading.load.Given as goal
 

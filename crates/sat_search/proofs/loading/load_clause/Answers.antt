@@ -1,9 +1,9 @@
 use Rattle.std.proofs.Common.{rules, ◌≡◌, ◌<◌, ◌∙◌, length, refl, sym, subst}
 use Rattle.std.proofs.lemmas.Option.{slice_get_read}
-use Rattle.sat_spec.specs.declared.Watch.{Watch}
-use Rattle.sat_spec.specs.Clauses.{Has}
-use Rattle.sat_spec.specs.Watches.{IsRunning}
-use Rattle.sat_spec.proofs.Members.{has_at}
+use Rattle.sat_search_spec.specs.declared.Watch.{Watch}
+use Rattle.sat_search_spec.specs.Clauses.{Has}
+use Rattle.sat_search_spec.specs.Watches.{IsRunning}
+use Rattle.sat_search_spec.proofs.Members.{has_at}
 use Rattle.sat_search.proofs.Values.{literal_of}
 use Rattle.sat_search.proofs.Loaded.{empty_false, nothing_of, something_of, code_named, loaded_two}
 use Rattle.sat_search.proofs.loading.load_clause.Goals as goal

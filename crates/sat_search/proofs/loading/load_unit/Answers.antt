@@ -1,6 +1,6 @@
 use Rattle.std.proofs.Common.{◌≡◌, true, subst, sym}
-use Rattle.clause_spec.specs.Clause.{is_of}
-use Rattle.sat_spec.specs.Trail.{IsAt, IsAbsent}
+use Rattle.clause_check_spec.specs.Clause.{is_of}
+use Rattle.sat_search_spec.specs.Trail.{IsAt, IsAbsent}
 use Rattle.sat_search.proofs.Values.{literal_of}
 use Rattle.sat_search.proofs.Loaded.{unit_false}
 use Rattle.sat_search.proofs.loading.load_unit.Goals as goal

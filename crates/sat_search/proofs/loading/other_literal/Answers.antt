@@ -1,5 +1,5 @@
 use Rattle.std.proofs.Common.{sym, subst, take_all}
-use Rattle.sat_spec.specs.Clauses.{Has}
+use Rattle.sat_search_spec.specs.Clauses.{Has}
 use Rattle.sat_search.proofs.loading.other_literal.Goals as goal
 
 pub returns-clause-nowhere : goal.returns-clause-nowhere

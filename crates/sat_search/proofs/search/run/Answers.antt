@@ -1,7 +1,7 @@
 use Rattle.std.proofs.Common.{◌≡◌, ◌+◌, ◌-◌, ◌<◌, ◌∙◌, length, ap, sym, subst, arith}
 use Rattle.std.proofs.lemmas.List.{length_push}
-use Rattle.sat_spec.proofs.Trails.{trail_short}
-use Rattle.sat_watches.specs.Visits.{IsPropagated}
+use Rattle.sat_search_spec.proofs.Trails.{trail_short}
+use Rattle.sat_search_state.specs.Visits.{IsPropagated}
 use Rattle.sat_search.proofs.Levels.{decided, decided_length}
 use Rattle.sat_search.proofs.search.run.Goals as goal
 

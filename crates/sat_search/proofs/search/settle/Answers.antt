@@ -1,6 +1,6 @@
 use Rattle.std.proofs.Common.{rules, ◌≡◌, ◌+◌, ◌-◌, ◌<◌, ◌++◌, ◌∷◌, ◌∙◌, [], length, ap, sym, subst, arith}
 use Rattle.std.proofs.lemmas.List.{length_push}
-use Rattle.sat_spec.specs.Logs.{IsClosing}
+use Rattle.sat_search_spec.specs.Logs.{IsClosing}
 use Rattle.sat_search.proofs.Learnt.{closing_log}
 use Rattle.sat_search.proofs.Levels.{live_at}
 use Rattle.sat_search.proofs.search.settle.Goals as goal

@@ -1,5 +1,5 @@
 use Rattle.std.proofs.Common.{sym}
-use Rattle.sat_spec.proofs.Logs.{closing_refutes}
+use Rattle.sat_search_spec.proofs.Logs.{closing_refutes}
 use Rattle.sat_search.proofs.solution.closed.Goals as goal
 
 pub returns : goal.returns

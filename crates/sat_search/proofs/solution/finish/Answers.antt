@@ -1,6 +1,6 @@
 use Rattle.std.proofs.Common.{◌≡◌, ◌∙◌, length, ap, sym, subst, arith}
-use Rattle.sat_spec.specs.Logs.{Spent}
-use Rattle.sat_spec.proofs.Logs.{spent}
+use Rattle.sat_search_spec.specs.Logs.{Spent}
+use Rattle.sat_search_spec.proofs.Logs.{spent}
 use Rattle.sat_search.proofs.solution.finish.Goals as goal
 
 pub returns : goal.returns

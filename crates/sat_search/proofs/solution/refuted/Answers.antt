@@ -1,5 +1,5 @@
 use Rattle.std.proofs.Common.{rules, ◌≡◌, ◌∷◌, [], sym, subst}
-use Rattle.sat_spec.specs.Logs.{IsClosing}
+use Rattle.sat_search_spec.specs.Logs.{IsClosing}
 use Rattle.sat_search.proofs.Learnt.{closing_log}
 use Rattle.sat_search.proofs.Loaded.{refuted_log}
 use Rattle.sat_search.proofs.solution.refuted.Goals as goal

@@ -1,14 +1,14 @@
 use Rattle.std.proofs.Common.{◌≡◌, List, map, subst}
 use Rattle.std.specs.HashMap.{get}
-use Rattle.term_spec.specs.Same.{same_variable}
-use Rattle.term_spec.specs.Substitution.{State}
-use Rattle.term_spec.specs.Term.{Term}
+use Rattle.term_core_spec.specs.Same.{same_variable}
+use Rattle.term_core_spec.specs.Substitution.{State}
+use Rattle.term_core_spec.specs.Term.{Term}
 use Rattle.term_bank.proofs.Substitution.{extends_through}
 use Rattle.term_substitution.specs.States.{state_of}
 use Rattle.graph_core.specs.Shared.{shared_binding_of}
-use Rattle.rule_spec.specs.Rules.{at_cut}
-use Rattle.rule_terms.proofs.Later.{below_later}
-use Rattle.rule_terms.proofs.Parts.{start_is}
+use Rattle.sim_rules_spec.specs.Rules.{at_cut}
+use Rattle.sim_rules_terms.proofs.Later.{below_later}
+use Rattle.sim_rules_terms.proofs.Parts.{start_is}
 use Rattle.sim_calls.specs.Bound.{AreBound}
 use Rattle.sim_calls.specs.Sites.{inputs_of, pair_by}
 use Rattle.sim_calls.proofs.Banks.{bound_later, cut_later}

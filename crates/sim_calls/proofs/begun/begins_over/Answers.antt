@@ -2,13 +2,13 @@ use Rattle.std.proofs.Common.{◌≡◌, ◌<◌, ℕ, List, length, sym, subst}
 use Rattle.std.specs.HashMap.{get}
 use Rattle.std.specs.Prelude.{unwrap_or}
 use Rattle.std.proofs.lemmas.Option.{slice_get_within}
-use Rattle.term_spec.specs.Same.{same_variable}
-use Rattle.term_spec.specs.Term.{Term}
+use Rattle.term_core_spec.specs.Same.{same_variable}
+use Rattle.term_core_spec.specs.Term.{Term}
 use Rattle.term_bank.specs.Nodes.{Holds}
-use Rattle.rule_spec.specs.Calls.{binary_begins}
-use Rattle.rule_spec.specs.Points.{binary_memory}
-use Rattle.rule_spec.specs.Rules.{at_cut}
-use Rattle.rule_terms.proofs.Later.{below_later}
+use Rattle.sim_rules_spec.specs.Calls.{binary_begins}
+use Rattle.sim_rules_spec.specs.Points.{binary_memory}
+use Rattle.sim_rules_spec.specs.Rules.{at_cut}
+use Rattle.sim_rules_terms.proofs.Later.{below_later}
 use Rattle.sim_calls.proofs.Banks.{bound_later, cut_later}
 use Rattle.sim_calls.proofs.Begins.{begun_below, begun_map, memory_holds, unwrap_below}
 use Rattle.sim_calls.proofs.begun.begins_over.Goals as goal

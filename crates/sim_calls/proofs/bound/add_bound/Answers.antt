@@ -1,17 +1,17 @@
 use Rattle.std.proofs.Common.{◌≡◌, ◌∙◌, ℕ, ◌+◌, ◌-◌, ◌<◌, List, [], ◌∷◌, length, map, drop, get_or, sym, ap, subst, arith}
 use Rattle.std.specs.HashMap.{get}
 use Rattle.std.proofs.lemmas.List.{drop_all, drop_more}
-use Rattle.term_spec.specs.Same.{same_variable}
-use Rattle.term_spec.specs.Substitution.{State}
-use Rattle.term_spec.specs.Term.{Term}
+use Rattle.term_core_spec.specs.Same.{same_variable}
+use Rattle.term_core_spec.specs.Substitution.{State}
+use Rattle.term_core_spec.specs.Term.{Term}
 use Rattle.term_bank.proofs.Substitution.{extends_through}
 use Rattle.term_substitution.specs.States.{state_of}
 use Rattle.graph_core.specs.declared.shared.SharedBinding.{SharedBinding}
 use Rattle.graph_core.specs.Shared.{shared_binding_of}
-use Rattle.graph_spec.specs.Graph.{Binding}
+use Rattle.graph_core_spec.specs.Graph.{Binding}
 use Rattle.path_cond.proofs.Current.{same_terms}
 use Rattle.path_cond.proofs.Unbound.{unbound}
-use Rattle.rule_terms.proofs.Later.{below_later, itself}
+use Rattle.sim_rules_terms.proofs.Later.{below_later, itself}
 use Rattle.sim_calls.specs.Bound.{AreBound}
 use Rattle.sim_calls.proofs.Puts.{empty_bound}
 use Rattle.sim_calls.proofs.bound.add_bound.Goals as goal

@@ -1,6 +1,6 @@
 use Rattle.std.proofs.Common.{◌≤◌, length, map, drop}
 use Rattle.std.specs.HashMap.{get}
-use Rattle.term_spec.specs.Same.{same_variable}
+use Rattle.term_core_spec.specs.Same.{same_variable}
 use Rattle.term_bank.specs.Nodes.{Extends}
 use Rattle.term_substitution.specs.States.{state_of}
 use Rattle.graph_core.specs.Shared.{shared_binding_of}

@@ -1,7 +1,7 @@
 use Rattle.std.proofs.Common.{◌≡◌, List}
 use Rattle.std.specs.HashMap.{get}
-use Rattle.term_spec.specs.Term.{Term}
-use Rattle.term_spec.specs.Same.{same_variable}
+use Rattle.term_core_spec.specs.Term.{Term}
+use Rattle.term_core_spec.specs.Same.{same_variable}
 use Rattle.term_bank.proofs.Growth.{length-Extends}
 use Rattle.term_substitution.specs.States.{state_of}
 use Rattle.graph_core.specs.Shared.{shared_binding_of}

@@ -1,7 +1,7 @@
 use Rattle.std.proofs.Common.{ℕ, List, ap}
 use Rattle.std.specs.Map.{lookup}
-use Rattle.term_spec.specs.declared.Variable.{Variable}
-use Rattle.term_spec.specs.Same.{same_variable}
+use Rattle.term_core_spec.specs.declared.Variable.{Variable}
+use Rattle.term_core_spec.specs.Same.{same_variable}
 use Rattle.sim_calls.proofs.bound.bound_terms.Goals as goal
 
 pub add_bound-requires-clause-empty : goal.add_bound-requires-clause-empty

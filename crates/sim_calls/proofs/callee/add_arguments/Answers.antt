@@ -1,10 +1,10 @@
 use Rattle.std.proofs.Common.{◌≡◌, ◌∙◌, ℕ, ◌+◌, ◌<◌, suc, List, [], ◌∷◌, ◌++◌, length, drop, get_or, refl, sym, ap, arith, append_assoc, append-nil}
 use Rattle.std.proofs.lemmas.List.{drop_all, drop_more}
-use Rattle.term_spec.specs.Term.{Term, equal}
-use Rattle.c_type_spec.specs.declared.Scalar.{Scalar}
+use Rattle.term_core_spec.specs.Term.{Term, equal}
+use Rattle.c_types_spec.specs.declared.Scalar.{Scalar}
 use Rattle.c_graph_spec.specs.State.{local}
 use Rattle.proof_tree.specs.Frames.{terms_of}
-use Rattle.rule_spec.specs.Calling.{register}
+use Rattle.sim_rules_spec.specs.Calling.{register}
 use Rattle.sim_calls.specs.Callees.{argument_lines, widened}
 use Rattle.sim_calls.proofs.callee.add_arguments.Goals as goal
 

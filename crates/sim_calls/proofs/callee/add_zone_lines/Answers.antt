@@ -1,8 +1,8 @@
 use Rattle.std.proofs.Common.{◌≡◌, ◌∙◌, List, [], ◌∷◌, ◌++◌, ap, append_assoc}
-use Rattle.term_spec.specs.Term.{Term, equal, bit_and, not_term, less, subtract}
+use Rattle.term_core_spec.specs.Term.{Term, equal, bit_and, not_term, less, subtract}
 use Rattle.term_core.specs.Trees.{term_of}
 use Rattle.proof_tree.specs.Frames.{terms_of}
-use Rattle.rule_spec.specs.Calling.{register, word, at_entry}
+use Rattle.sim_rules_spec.specs.Calling.{register, word, at_entry}
 use Rattle.sim_calls.proofs.callee.add_zone_lines.Goals as goal
 
 then : (first middle new xs : List Term) (b : Term) → middle ≡ first ++ xs → new ≡ middle ++ b ∷ [] → new ≡ first ++ (xs ++ b ∷ [])

@@ -1,8 +1,8 @@
 use Rattle.std.proofs.Common.{◌≡◌, IfOk, subst}
-use Rattle.term_spec.specs.declared.Variable.{Variable}
+use Rattle.term_core_spec.specs.declared.Variable.{Variable}
 use Rattle.term_core.specs.Trees.{term_of}
-use Rattle.term_spec.specs.Term.{bit_and, open_term}
-use Rattle.rule_spec.specs.Calling.{register, word}
+use Rattle.term_core_spec.specs.Term.{bit_and, open_term}
+use Rattle.sim_rules_spec.specs.Calling.{register, word}
 use Rattle.sim_calls.proofs.callee.aligned.Goals as goal
 
 pub returns : goal.returns

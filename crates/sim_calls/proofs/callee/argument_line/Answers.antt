@@ -1,10 +1,10 @@
 use Rattle.std.proofs.Common.{◌≡◌, IfOk, subst}
-use Rattle.term_spec.specs.declared.Variable.{Variable}
+use Rattle.term_core_spec.specs.declared.Variable.{Variable}
 use Rattle.term_core.specs.Trees.{term_of}
 use Rattle.std.specs.Prelude.{◌+◌}
-use Rattle.term_spec.specs.Term.{open_term}
+use Rattle.term_core_spec.specs.Term.{open_term}
 use Rattle.c_graph_spec.specs.State.{local}
-use Rattle.rule_spec.specs.Calling.{register}
+use Rattle.sim_rules_spec.specs.Calling.{register}
 use Rattle.sim_calls.specs.Callees.{widened}
 use Rattle.sim_calls.proofs.callee.argument_line.Goals as goal
 

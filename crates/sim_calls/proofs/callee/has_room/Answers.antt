@@ -1,6 +1,6 @@
-use Rattle.term_spec.specs.Term.{subtract}
+use Rattle.term_core_spec.specs.Term.{subtract}
 use Rattle.term_core.specs.Trees.{term_of}
-use Rattle.rule_spec.specs.Calling.{register, word}
+use Rattle.sim_rules_spec.specs.Calling.{register, word}
 use Rattle.sim_calls.proofs.callee.has_room.Goals as goal
 
 pub returns : goal.returns

@@ -1,4 +1,4 @@
-use Rattle.term_spec.specs.Term.{less}
+use Rattle.term_core_spec.specs.Term.{less}
 use Rattle.sim_calls.proofs.callee.not_below.Goals as goal
 
 pub returns : goal.returns

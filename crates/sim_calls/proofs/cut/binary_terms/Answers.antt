@@ -1,10 +1,10 @@
 use Rattle.std.proofs.Common.{ℕ, List, ap}
 use Rattle.std.specs.HashMap.{get}
 use Rattle.std.specs.Map.{lookup}
-use Rattle.term_spec.specs.declared.Variable.{Variable}
-use Rattle.term_spec.specs.Same.{same_variable}
-use Rattle.term_spec.specs.Term.{open_term}
-use Rattle.rule_spec.specs.Points.{binary_memory}
+use Rattle.term_core_spec.specs.declared.Variable.{Variable}
+use Rattle.term_core_spec.specs.Same.{same_variable}
+use Rattle.term_core_spec.specs.Term.{open_term}
+use Rattle.sim_rules_spec.specs.Points.{binary_memory}
 use Rattle.sim_calls.specs.Left.{IsEmpty}
 use Rattle.sim_calls.proofs.Puts.{empty_map, put_map}
 use Rattle.sim_calls.proofs.cut.binary_terms.Goals as goal

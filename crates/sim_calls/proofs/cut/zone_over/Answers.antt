@@ -1,6 +1,6 @@
-use Rattle.term_spec.specs.Term.{open_term}
+use Rattle.term_core_spec.specs.Term.{open_term}
 use Rattle.term_core.specs.Trees.{term_of}
-use Rattle.rule_spec.specs.Points.{source_memory, zone_memory}
+use Rattle.sim_rules_spec.specs.Points.{source_memory, zone_memory}
 use Rattle.sim_calls.proofs.cut.zone_over.Goals as goal
 
 pub returns : goal.returns

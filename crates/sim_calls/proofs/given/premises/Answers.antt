@@ -1,15 +1,15 @@
 use Rattle.std.proofs.Common.{◌≡◌, List, true, map, subst}
 use Rattle.std.specs.HashMap.{get}
-use Rattle.term_spec.specs.Same.{same_variable}
-use Rattle.term_spec.specs.Substitution.{substituted}
-use Rattle.term_spec.specs.Term.{Term, truth}
+use Rattle.term_core_spec.specs.Same.{same_variable}
+use Rattle.term_core_spec.specs.Substitution.{substituted}
+use Rattle.term_core_spec.specs.Term.{Term, truth}
 use Rattle.term_bank.proofs.Substitution.{extends_through}
 use Rattle.term_substitution.specs.States.{IsAt}
 use Rattle.proof_tree.specs.Frames.{terms_of}
-use Rattle.rule_spec.specs.Rules.{at_cut, terms_at_start}
-use Rattle.rule_terms.proofs.TwoMaps.{start_map}
+use Rattle.sim_rules_spec.specs.Rules.{at_cut, terms_at_start}
+use Rattle.sim_rules_terms.proofs.TwoMaps.{start_map}
 use Rattle.sim_calls.proofs.Banks.{cut_later}
-use Rattle.rule_terms.proofs.Folds.{fold_both}
+use Rattle.sim_rules_terms.proofs.Folds.{fold_both}
 use Rattle.sim_calls.proofs.given.premises.Goals as goal
 
 pub and_lines-requires-clause-terms : goal.and_lines-requires-clause-terms

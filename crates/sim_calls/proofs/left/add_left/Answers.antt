@@ -5,15 +5,15 @@ use Rattle.std.proofs.lemmas.Bool.{cases_Bool, or_cases, false≢true}
 use Rattle.std.proofs.lemmas.List.{take_more, take_all}
 use Rattle.std.proofs.lemmas.List.Folds.{list_any-append}
 use Rattle.std.proofs.lemmas.Option.{same_Some, slice_get_within, get_or_from_slice_get}
-use Rattle.term_spec.specs.declared.Variable.{Variable}
-use Rattle.term_spec.specs.Same.{same_variable}
-use Rattle.term_spec.proofs.Same.{variable-same}
-use Rattle.term_spec.specs.Term.{Term}
+use Rattle.term_core_spec.specs.declared.Variable.{Variable}
+use Rattle.term_core_spec.specs.Same.{same_variable}
+use Rattle.term_core_spec.proofs.Same.{variable-same}
+use Rattle.term_core_spec.specs.Term.{Term}
 use Rattle.term_bank.specs.Nodes.{Holds}
 use Rattle.term_bank.proofs.Substitution.{kept, extends_through}
 use Rattle.path_cond.specs.Bound.{has}
-use Rattle.rule_spec.specs.Calls.{left}
-use Rattle.rule_terms.proofs.Later.{itself}
+use Rattle.sim_rules_spec.specs.Calls.{left}
+use Rattle.sim_rules_terms.proofs.Later.{itself}
 use Rattle.sim_calls.proofs.Puts.{same_turned}
 use Rattle.sim_calls.proofs.left.add_left.Goals as goal
 

@@ -1,11 +1,11 @@
 use Rattle.std.proofs.Common.{◌≡◌, ℕ, ◌≤◌, true, length, Some, take}
 use Rattle.std.specs.Prelude.{is_some}
 use Rattle.std.specs.HashMap.{get}
-use Rattle.term_spec.specs.declared.Variable.{Variable}
-use Rattle.term_spec.specs.Same.{same_variable}
+use Rattle.term_core_spec.specs.declared.Variable.{Variable}
+use Rattle.term_core_spec.specs.Same.{same_variable}
 use Rattle.term_bank.specs.Nodes.{Holds, Extends}
 use Rattle.path_cond.specs.Bound.{has}
-use Rattle.rule_spec.specs.Calls.{left}
+use Rattle.sim_rules_spec.specs.Calls.{left}
 use Rattle.sim_calls.proofs.left.add_left.Given as goal
 
 -- what is left of the variables so far

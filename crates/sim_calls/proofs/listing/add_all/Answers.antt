@@ -1,5 +1,5 @@
 use Rattle.std.proofs.Common.{List}
-use Rattle.term_spec.specs.declared.Variable.{Variable}
+use Rattle.term_core_spec.specs.declared.Variable.{Variable}
 use Rattle.term_core.specs.Trees.{term_of}
 use Rattle.sim_calls.proofs.Listings.{lists_later}
 use Rattle.sim_calls.proofs.listing.add_all.Goals as goal

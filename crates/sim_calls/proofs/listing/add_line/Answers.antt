@@ -1,5 +1,5 @@
 use Rattle.std.proofs.Common.{◌≡◌, List, subst}
-use Rattle.term_spec.specs.declared.Variable.{Variable}
+use Rattle.term_core_spec.specs.declared.Variable.{Variable}
 use Rattle.term_core.specs.Trees.{term_of}
 use Rattle.term_bank.proofs.Substitution.{is_at}
 use Rattle.sim_calls.specs.Listed.{Lists}

@@ -3,14 +3,14 @@ use Rattle.std.specs.Prelude.{slice_get}
 use Rattle.std.proofs.lemmas.Bool.{cases_lt}
 use Rattle.std.proofs.lemmas.List.{length-map}
 use Rattle.std.proofs.lemmas.Option.{same_Some, slice_get_within}
-use Rattle.term_spec.specs.declared.Variable.{Variable}
+use Rattle.term_core_spec.specs.declared.Variable.{Variable}
 use Rattle.term_core.specs.Trees.{term_of}
 use Rattle.term_core.specs.declared.term.Term.{Term as CodeTerm}
 use Rattle.graph_core.specs.Graphs.{boxed_term}
 use Rattle.proof_tree.specs.Frames.{terms_of}
 use Rattle.sim_calls.specs.Listed.{Lists}
 use Rattle.sim_calls.proofs.Listings.{lists_later}
-use Rattle.rule_terms.proofs.Listed.{line_there}
+use Rattle.sim_rules_terms.proofs.Listed.{line_there}
 use Rattle.sim_calls.proofs.listing.add_lines.Goals as goal
 
 pub loop-i-init : goal.loop-i-init

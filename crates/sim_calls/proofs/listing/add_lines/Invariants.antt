@@ -1,6 +1,6 @@
 use Rattle.std.proofs.Common.{◌≡◌, ℕ, ◌<◌, Some}
 use Rattle.std.specs.Prelude.{slice_get}
-use Rattle.term_spec.specs.Term.{Term}
+use Rattle.term_core_spec.specs.Term.{Term}
 use Rattle.path_cond.specs.Bound.{KeepsListed}
 use Rattle.proof_tree.specs.Frames.{terms_of}
 use Rattle.sim_calls.specs.Listed.{Lists}

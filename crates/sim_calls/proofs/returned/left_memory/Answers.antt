@@ -1,10 +1,10 @@
 use Rattle.std.proofs.Common.{◌≡◌, IfOk, Result, subst}
-use Rattle.term_spec.specs.declared.Variable.{Variable}
-use Rattle.term_spec.specs.Term.{open_term, over, subtract}
+use Rattle.term_core_spec.specs.declared.Variable.{Variable}
+use Rattle.term_core_spec.specs.Term.{open_term, over, subtract}
 use Rattle.term_core.specs.Trees.{term_of}
-use Rattle.rule_spec.specs.Calling.{word}
-use Rattle.rule_spec.specs.Calls.{left, machine_register}
-use Rattle.rule_spec.specs.Points.{source_memory, zone_memory}
+use Rattle.sim_rules_spec.specs.Calling.{word}
+use Rattle.sim_rules_spec.specs.Calls.{left, machine_register}
+use Rattle.sim_rules_spec.specs.Points.{source_memory, zone_memory}
 use Rattle.sim_calls.proofs.returned.left_memory.Goals as goal
 
 pub returns : goal.returns

@@ -1,21 +1,21 @@
 use Rattle.std.proofs.Common.{◌≡◌, ◌∙◌, ℕ, ◌<◌, ◌++◌, ◌∷◌, [], Option, List, length, map, ap, subst}
 use Rattle.std.specs.HashMap.{get}
 use Rattle.std.proofs.lemmas.Option.{slice_get_within}
-use Rattle.term_spec.specs.declared.Variable.{Variable}
-use Rattle.term_spec.specs.Same.{same_variable}
-use Rattle.term_spec.specs.Substitution.{State, substituted}
-use Rattle.term_spec.specs.Term.{Term}
+use Rattle.term_core_spec.specs.declared.Variable.{Variable}
+use Rattle.term_core_spec.specs.Same.{same_variable}
+use Rattle.term_core_spec.specs.Substitution.{State, substituted}
+use Rattle.term_core_spec.specs.Term.{Term}
 use Rattle.term_core.specs.Trees.{term_of}
 use Rattle.term_bank.specs.Nodes.{Holds}
 use Rattle.term_bank.proofs.Substitution.{kept, extends_through}
 use Rattle.term_substitution.specs.States.{IsAt, state_of}
-use Rattle.graph_spec.specs.Graph.{Binding}
+use Rattle.graph_core_spec.specs.Graph.{Binding}
 use Rattle.graph_core.specs.Shared.{shared_binding_of}
-use Rattle.condition_spec.specs.Conditions.{assigned}
+use Rattle.path_cond_spec.specs.Conditions.{assigned}
 use Rattle.proof_tree.specs.Frames.{terms_of}
-use Rattle.rule_spec.specs.Calls.{left}
-use Rattle.rule_spec.specs.Rules.{all_of, at_cut}
-use Rattle.rule_terms.proofs.Later.{below_later}
+use Rattle.sim_rules_spec.specs.Calls.{left}
+use Rattle.sim_rules_spec.specs.Rules.{all_of, at_cut}
+use Rattle.sim_rules_terms.proofs.Later.{below_later}
 use Rattle.sim_calls.specs.Bound.{AreBound}
 use Rattle.sim_calls.specs.Returned.{returns_by}
 use Rattle.sim_calls.specs.Sites.{outputs_of}

@@ -1,10 +1,10 @@
 use Rattle.std.proofs.Common.{◌≡◌, ◌++◌, ◌+◌, ℕ, length, subst}
 use Rattle.std.proofs.lemmas.List.{length-map}
 use Rattle.graph_core.specs.Graphs.{boxed_term}
-use Rattle.rule_spec.specs.Obligations.{IsNoLine}
+use Rattle.sim_rules_spec.specs.Obligations.{IsNoLine}
 use Rattle.proof_tree.specs.Frames.{terms_of}
 use Rattle.proof_tree.specs.Scope.{setting_of}
-use Rattle.rule_terms.specs.Lines.{IsFirstBad}
+use Rattle.sim_rules_terms.specs.Lines.{IsFirstBad}
 use Rattle.sim_calls.proofs.LineLists.{bad_before, bad_later}
 use Rattle.sim_calls.proofs.rule.bad_line.Goals as goal
 

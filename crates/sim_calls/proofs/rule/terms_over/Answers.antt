@@ -1,14 +1,14 @@
 use Rattle.std.proofs.Common.{◌≡◌, ◌∙◌, List, [], ◌∷◌, ◌++◌, true, map, sym, ap, ap₂, refl, subst}
 use Rattle.std.specs.List.{fold}
-use Rattle.term_spec.specs.Substitution.{substituted}
-use Rattle.term_spec.specs.Term.{Term, and_term, truth, or_term, not_term}
+use Rattle.term_core_spec.specs.Substitution.{substituted}
+use Rattle.term_core_spec.specs.Term.{Term, and_term, truth, or_term, not_term}
 use Rattle.term_core.specs.Trees.{term_of}
 use Rattle.term_core.specs.declared.term.Term.{Term as CodeTerm}
 use Rattle.term_bank.specs.Nodes.{Holds}
 use Rattle.term_bank.proofs.Substitution.{kept, extends_through}
 use Rattle.proof_tree.specs.Frames.{frame_of, terms_of}
-use Rattle.rule_spec.specs.Calls.{begins_well, returns_well, call_premises, call_terms}
-use Rattle.rule_spec.specs.Rules.{all_of, at_cut, under}
+use Rattle.sim_rules_spec.specs.Calls.{begins_well, returns_well, call_premises, call_terms}
+use Rattle.sim_rules_spec.specs.Rules.{all_of, at_cut, under}
 use Rattle.sim_calls.specs.Begun.{begins_by}
 use Rattle.sim_calls.specs.Returned.{returns_by}
 use Rattle.sim_calls.specs.Sites.{outputs_of, pair_by}

@@ -1,4 +1,4 @@
-use Rattle.proof_spec.specs.Cuts.{IsFine}
+use Rattle.proof_tree_spec.specs.Cuts.{IsFine}
 use Rattle.sim_cut.proofs.Soundness.{wait_is_sound}
 use Rattle.sim_cut.proofs.rules.wait_law.Goals as goal
 

@@ -1,5 +1,5 @@
 use Rattle.std.proofs.Common.{Bool, OnOk, subst}
-use Rattle.visit_spec.specs.Visits.{Visit}
+use Rattle.visit_walk_spec.specs.Visits.{Visit}
 use Rattle.proof_tree.specs.Frames.{frame_of}
 use Rattle.sim_rules.specs.declared.plan.Plan.{Plan}
 use Rattle.sim_rules.specs.Held.{HasAdded}

@@ -1,8 +1,8 @@
 use Rattle.std.proofs.Common.{List, Option, sym, subst}
-use Rattle.visit_spec.specs.Visits.{Visit}
-use Rattle.rule_terms.specs.Seen.{IsSeen}
-use Rattle.rule_terms.specs.Which.{test_of}
-use Rattle.rule_terms.proofs.Later.{itself}
+use Rattle.visit_walk_spec.specs.Visits.{Visit}
+use Rattle.sim_rules_terms.specs.Seen.{IsSeen}
+use Rattle.sim_rules_terms.specs.Which.{test_of}
+use Rattle.sim_rules_terms.proofs.Later.{itself}
 use Rattle.sim_rules.specs.Held.{HasAdded}
 use Rattle.sim_rules.specs.Terms.{never_in}
 use Rattle.sim_rules.proofs.Held.{added_none, added_one}

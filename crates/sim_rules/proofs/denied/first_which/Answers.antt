@@ -1,10 +1,10 @@
 use Rattle.std.proofs.Common.{◌≡◌, ◌∙◌, ℕ, length, sym, ap, ap₂, subst}
 use Rattle.std.proofs.lemmas.List.{length-map}
-use Rattle.visit_spec.specs.declared.Mark.{Mark as VisitMark}
+use Rattle.visit_walk_spec.specs.declared.Mark.{Mark as VisitMark}
 use Rattle.proof_tree.specs.Frames.{frame_of, mark_of}
-use Rattle.rule_spec.specs.Sides.{breaks}
-use Rattle.rule_terms.specs.declared.which.Which.TheVariants.{Breaks}
-use Rattle.rule_terms.specs.Which.{test_of}
+use Rattle.sim_rules_spec.specs.Sides.{breaks}
+use Rattle.sim_rules_terms.specs.declared.which.Which.TheVariants.{Breaks}
+use Rattle.sim_rules_terms.specs.Which.{test_of}
 use Rattle.sim_rules.specs.declared.plan.Walking.{Walking}
 use Rattle.sim_rules.specs.Terms.{first_test}
 use Rattle.sim_rules.proofs.denied.first_which.Goals as goal

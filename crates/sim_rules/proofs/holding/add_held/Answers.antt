@@ -1,11 +1,11 @@
 use Rattle.std.proofs.lemmas.Option.{slice_get_within}
 use Rattle.std.proofs.lemmas.Result.{on_ok_weaker}
 use Rattle.std.specs.HashMap.{get}
-use Rattle.term_spec.specs.Same.{same_variable}
+use Rattle.term_core_spec.specs.Same.{same_variable}
 use Rattle.term_bank.proofs.Substitution.{kept, extends_through}
-use Rattle.rule_spec.specs.Rules.{comes_to}
-use Rattle.rule_spec.specs.Sides.{visits_where}
-use Rattle.rule_terms.proofs.Later.{below_later, map_later, opening_in_later}
+use Rattle.sim_rules_spec.specs.Rules.{comes_to}
+use Rattle.sim_rules_spec.specs.Sides.{visits_where}
+use Rattle.sim_rules_terms.proofs.Later.{below_later, map_later, opening_in_later}
 use Rattle.sim_rules.proofs.AtStops.{within_later}
 use Rattle.sim_rules.proofs.Held.{added_two}
 use Rattle.sim_rules.proofs.Made.{setup_later}

@@ -1,12 +1,12 @@
 use Rattle.std.proofs.Common.{◌∙◌, [], ◌∷◌, ◌++◌, map, sym, ap, subst}
-use Rattle.term_spec.specs.Term.{Term, or_term}
-use Rattle.term_spec.specs.Substitution.{substituted}
+use Rattle.term_core_spec.specs.Term.{Term, or_term}
+use Rattle.term_core_spec.specs.Substitution.{substituted}
 use Rattle.term_core.specs.Trees.{term_of}
 use Rattle.term_core.specs.declared.term.Term.{Term as CodeTerm}
 use Rattle.term_bank.proofs.Substitution.{kept}
 use Rattle.term_substitution.specs.States.{IsAt}
 use Rattle.proof_tree.specs.Frames.{terms_of}
-use Rattle.rule_spec.specs.Rules.{all_of, terms_at}
+use Rattle.sim_rules_spec.specs.Rules.{all_of, terms_at}
 use Rattle.sim_rules.proofs.holding.related.Goals as goal
 
 pub returns-2-clause-tree : goal.returns-2-clause-tree

@@ -1,5 +1,5 @@
 use Rattle.std.proofs.Common.{◌∙◌, List, ◌++◌, map, ap}
-use Rattle.visit_spec.specs.declared.Mark.{Mark as VisitMark}
+use Rattle.visit_walk_spec.specs.declared.Mark.{Mark as VisitMark}
 use Rattle.sim_rules.specs.Marks.{bound_of, bounds_with}
 use Rattle.sim_rules.proofs.marks.bounds_of.Goals as goal
 

@@ -1,5 +1,5 @@
 use Rattle.term_bank.proofs.Substitution.{kept, extends_through}
-use Rattle.rule_terms.proofs.Later.{sight_later}
+use Rattle.sim_rules_terms.proofs.Later.{sight_later}
 use Rattle.sim_rules.proofs.AtStops.{within_later}
 use Rattle.sim_rules.proofs.point.comes_too.Goals as goal
 

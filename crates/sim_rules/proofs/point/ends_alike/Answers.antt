@@ -1,7 +1,7 @@
 use Rattle.std.proofs.Common.{refl}
 use Rattle.term_bank.proofs.Substitution.{kept, extends_through}
-use Rattle.rule_terms.specs.Which.{test_of}
-use Rattle.rule_terms.proofs.Later.{part_later, sight_later}
+use Rattle.sim_rules_terms.specs.Which.{test_of}
+use Rattle.sim_rules_terms.proofs.Later.{part_later, sight_later}
 use Rattle.sim_rules.specs.Stops.{binary_visits, source_visits, stop_at}
 use Rattle.sim_rules.proofs.AtStops.{parts_in, within_later}
 use Rattle.sim_rules.proofs.point.ends_alike.Goals as goal

@@ -1,7 +1,7 @@
 use Rattle.std.proofs.Common.{◌∙◌, sym, ap, subst}
 use Rattle.term_core.specs.Trees.{term_of}
 use Rattle.proof_tree.specs.Frames.{terms_of}
-use Rattle.rule_spec.specs.Obligations.{Rule}
+use Rattle.sim_rules_spec.specs.Obligations.{Rule}
 use Rattle.sim_rules.specs.Replies.{IsAnswer}
 use Rattle.sim_rules.specs.Rules.{rule_by}
 use Rattle.sim_rules.proofs.Answering.{of_lines, of_term, of_walks}

@@ -3,8 +3,8 @@ use Rattle.std.proofs.lemmas.List.{take_all}
 use Rattle.term_bank.proofs.Substitution.{extends_through}
 use Rattle.proof_tree.specs.declared.frame.Goal.{Goal}
 use Rattle.proof_tree.specs.Frames.{goal_of}
-use Rattle.rule_spec.specs.Rules.{goal_stops}
-use Rattle.rule_terms.proofs.Later.{itself}
+use Rattle.sim_rules_spec.specs.Rules.{goal_stops}
+use Rattle.sim_rules_terms.proofs.Later.{itself}
 use Rattle.sim_rules.specs.Held.{HasAdded}
 use Rattle.sim_rules.specs.Stops.{binary_visits, shown_terms, source_visits, stop_at}
 use Rattle.sim_rules.proofs.AtStops.{can_meet_later, meeting_later}

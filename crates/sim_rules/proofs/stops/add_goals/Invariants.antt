@@ -1,9 +1,9 @@
 use Rattle.std.proofs.Common.{map, take}
-use Rattle.term_spec.specs.Term.{Term}
+use Rattle.term_core_spec.specs.Term.{Term}
 use Rattle.term_bank.specs.Nodes.{Extends}
 use Rattle.proof_tree.specs.Frames.{goal_of}
-use Rattle.rule_spec.specs.Rules.{goal_stops}
-use Rattle.rule_spec.specs.Sides.{Way}
+use Rattle.sim_rules_spec.specs.Rules.{goal_stops}
+use Rattle.sim_rules_spec.specs.Sides.{Way}
 use Rattle.sim_rules.specs.Compared.{Compared}
 use Rattle.sim_rules.specs.Held.{HasAdded}
 use Rattle.sim_rules.specs.Stops.{IsMeeting, binary_visits, shown_terms, source_visits}

@@ -1,10 +1,10 @@
 use Rattle.std.proofs.Common.{List, [], ◌∷◌, map, sym, subst}
 use Rattle.std.proofs.lemmas.Result.{on_ok_weaker}
-use Rattle.term_spec.specs.Term.{Term}
+use Rattle.term_core_spec.specs.Term.{Term}
 use Rattle.proof_tree.specs.declared.frame.Goal.{Goal}
 use Rattle.proof_tree.specs.Frames.{goal_of}
-use Rattle.rule_spec.specs.Rules.{Stop, goal_stops}
-use Rattle.rule_spec.specs.Sides.{returns}
+use Rattle.sim_rules_spec.specs.Rules.{Stop, goal_stops}
+use Rattle.sim_rules_spec.specs.Sides.{returns}
 use Rattle.sim_rules.specs.Held.{HasAdded}
 use Rattle.sim_rules.specs.Stops.{binary_visits, shown_terms, source_visits}
 use Rattle.sim_rules.proofs.AtStops.{can_meet_later, meeting_later}

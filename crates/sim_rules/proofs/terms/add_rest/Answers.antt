@@ -1,8 +1,8 @@
 use Rattle.std.proofs.Common.{List, Option, OnOk, sym, subst}
-use Rattle.visit_spec.specs.Visits.{Visit}
+use Rattle.visit_walk_spec.specs.Visits.{Visit}
 use Rattle.proof_tree.specs.Frames.{frame_of, hold_of}
-use Rattle.rule_terms.specs.Seen.{IsSeen}
-use Rattle.rule_terms.proofs.Later.{itself}
+use Rattle.sim_rules_terms.specs.Seen.{IsSeen}
+use Rattle.sim_rules_terms.proofs.Later.{itself}
 use Rattle.sim_rules.specs.declared.plan.Walking.{Walking}
 use Rattle.sim_rules.specs.Compared.{stops}
 use Rattle.sim_rules.specs.Held.{HasAdded}

@@ -1,10 +1,10 @@
 use Rattle.std.proofs.Common.{subst}
 use Rattle.std.proofs.lemmas.Result.{on_ok_weaker}
-use Rattle.term_spec.specs.Term.{Term}
+use Rattle.term_core_spec.specs.Term.{Term}
 use Rattle.term_bank.specs.Nodes.{Holds}
 use Rattle.term_bank.proofs.Substitution.{kept, extends_through}
 use Rattle.proof_tree.specs.Frames.{frame_of}
-use Rattle.rule_terms.proofs.Later.{opening_in_later, seen_later}
+use Rattle.sim_rules_terms.proofs.Later.{opening_in_later, seen_later}
 use Rattle.sim_rules.specs.Terms.{denial, first_for, premises_for, premises_if, rest_for}
 use Rattle.sim_rules.proofs.Held.{added_all, added_then}
 use Rattle.sim_rules.proofs.Made.{setup_later}

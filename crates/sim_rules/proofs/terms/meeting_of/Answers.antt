@@ -1,7 +1,7 @@
 use Rattle.std.proofs.Common.{◌∙◌, inl, inr, sym, ap, subst}
 use Rattle.term_core.specs.Trees.{term_of}
 use Rattle.term_core.specs.declared.term.Term.{Term as CodeTerm}
-use Rattle.rule_terms.specs.Seen.{IsSeen}
+use Rattle.sim_rules_terms.specs.Seen.{IsSeen}
 use Rattle.sim_rules.proofs.terms.meeting_of.Goals as goal
 
 pub returns-in-None-clause-is : goal.returns-in-None-clause-is

@@ -1,6 +1,6 @@
 use Rattle.std.proofs.Common.{Some, sym, subst}
 use Rattle.std.specs.Prelude.{Result}
-use Rattle.visit_spec.specs.Listing.{Listing}
+use Rattle.visit_walk_spec.specs.Listing.{Listing}
 use Rattle.visit_walk.specs.declared.found.WalkFault.{WalkFault}
 use Rattle.sim_rules.specs.Faults.{IsOutcome}
 use Rattle.sim_rules.specs.Walks.{AreFoundIf}

@@ -1,7 +1,7 @@
 use Rattle.std.proofs.Common.{◌∙◌, List, map, sym, ap}
 use Rattle.proof_tree.specs.declared.frame.Goal.{Goal}
 use Rattle.proof_tree.specs.Frames.{frame_of}
-use Rattle.rule_spec.specs.Sides.{graph_at, visit_mark}
+use Rattle.sim_rules_spec.specs.Sides.{graph_at, visit_mark}
 use Rattle.sim_rules.specs.Sides.{side_at}
 use Rattle.sim_rules.specs.Marks.{bounds_with, stop_mark, stops_with}
 use Rattle.sim_rules.proofs.Added.{bounds_are, made_walk, stops_are}

@@ -1,4 +1,4 @@
-use Rattle.rule_terms.proofs.Later.{opening_in_later}
+use Rattle.sim_rules_terms.proofs.Later.{opening_in_later}
 use Rattle.sim_rules.specs.Walks.{seen_by}
 use Rattle.sim_rules.proofs.Made.{setup_later, walked_later, way_later}
 use Rattle.sim_rules.proofs.whole.add_of_walks.Goals as goal

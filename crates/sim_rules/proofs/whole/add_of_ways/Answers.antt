@@ -1,4 +1,4 @@
-use Rattle.rule_terms.specs.Ways.{walk_on}
+use Rattle.sim_rules_terms.specs.Ways.{walk_on}
 use Rattle.sim_rules.proofs.Made.{outcome, outcome_of}
 use Rattle.sim_rules.proofs.whole.add_of_ways.Goals as goal
 

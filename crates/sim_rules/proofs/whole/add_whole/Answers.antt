@@ -1,7 +1,7 @@
 use Rattle.std.proofs.Common.{subst}
 use Rattle.std.proofs.lemmas.Result.{on_ok_weaker}
 use Rattle.proof_tree.specs.Frames.{frame_of}
-use Rattle.rule_terms.specs.Ways.{walk_on}
+use Rattle.sim_rules_terms.specs.Ways.{walk_on}
 use Rattle.sim_rules.specs.declared.plan.Plan.{Plan}
 use Rattle.sim_rules.specs.declared.side.Side.TheVariants.{Binary, Source}
 use Rattle.sim_rules.specs.Made.{IsMade}

@@ -1,4 +1,4 @@
-use Rattle.term_spec.proofs.Substitution.{sort-instance, occurs-instance}
+use Rattle.term_core_spec.proofs.Substitution.{sort-instance, occurs-instance}
 use Rattle.term_core.proofs.laws.renamed_terms_belong_to_their_instance.Goals as goal
 
 pub returns-clause-sort : goal.returns-clause-sort

@@ -1,4 +1,4 @@
-use Rattle.term_spec.proofs.Substitution.{value-substituted, sort-substituted, values-sort}
+use Rattle.term_core_spec.proofs.Substitution.{value-substituted, sort-substituted, values-sort}
 use Rattle.term_core.proofs.laws.substituted_terms_have_the_values.Goals as goal
 
 pub returns-clause-value : goal.returns-clause-value

@@ -1,6 +1,6 @@
 use Rattle.std.proofs.Common.{[]}
 use Rattle.std.specs.List.{IsDistinct}
-use Rattle.term_spec.proofs.Subterms.{there, subterms-closed, within, distinct}
+use Rattle.term_core_spec.proofs.Subterms.{there, subterms-closed, within, distinct}
 use Rattle.term_core.proofs.laws.subterms_are_the_least_closed_list.Goals as goal
 
 pub returns-clause-itself : goal.returns-clause-itself

@@ -1,4 +1,4 @@
-use Rattle.term_spec.proofs.Soundness.{value-sort}
+use Rattle.term_core_spec.proofs.Soundness.{value-sort}
 use Rattle.term_core.proofs.laws.values_are_of_their_sort.Goals as goal
 
 pub returns : goal.returns

@@ -1,9 +1,9 @@
 use Rattle.std.proofs.Common.{◌≡◌, ap, ◌∙◌, sym, [], ◌∷◌}
 use Rattle.std.specs.Prelude.{Box}
 use Rattle.std.specs.Global.{Global}
-use Rattle.term_spec.specs.declared.Width.TheVariants.{W64}
-use Rattle.term_spec.specs.Value as spec
-use Rattle.term_spec.specs.Value.{value}
+use Rattle.term_core_spec.specs.declared.Width.TheVariants.{W64}
+use Rattle.term_core_spec.specs.Value as spec
+use Rattle.term_core_spec.specs.Value.{value}
 use Rattle.term_core.specs.declared.value.Value.{Value}
 use Rattle.term_core.specs.Assignment.{assignment_of}
 use Rattle.term_core.specs.Trees.{term_of}

@@ -1,6 +1,6 @@
 use Rattle.std.proofs.Common.{rules, ◌≡◌, ap, sym, ◌∙◌}
-use Rattle.term_spec.specs.declared.Width.TheVariants.{W8, W32}
-use Rattle.term_spec.specs.Value as spec
+use Rattle.term_core_spec.specs.declared.Width.TheVariants.{W8, W32}
+use Rattle.term_core_spec.specs.Value as spec
 use Rattle.term_core.specs.Memory.{bytes_of}
 use Rattle.term_core.specs.Values.{value_of}
 use Rattle.term_core.proofs.Stored.{stored_is}

@@ -1,4 +1,4 @@
-use Rattle.term_spec.specs.Sort.{bits}
+use Rattle.term_core_spec.specs.Sort.{bits}
 use Rattle.term_core.proofs.Bits.{ones_from_top}
 use Rattle.term_core.proofs.words.top_ones.Goals as goal
 

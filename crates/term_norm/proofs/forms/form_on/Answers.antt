@@ -1,5 +1,5 @@
 use Rattle.std.proofs.Common.{◌≤◌, length, refl, arith}
-use Rattle.term_spec.specs.Term.{Term}
+use Rattle.term_core_spec.specs.Term.{Term}
 use Rattle.term_norm.specs.Runs.{form_with}
 use Rattle.term_norm.specs.Walk.{Advances}
 use Rattle.term_norm.proofs.Growth.{extends_through, longer}

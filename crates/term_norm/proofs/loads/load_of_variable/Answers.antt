@@ -1,9 +1,9 @@
 use Rattle.std.proofs.Common.{ℕ}
 use Rattle.std.proofs.lemmas.Result.{IfOk-weaker}
-use Rattle.term_spec.specs.declared.Width.TheVariants.{W8}
-use Rattle.term_spec.specs.Term as tree
+use Rattle.term_core_spec.specs.declared.Width.TheVariants.{W8}
+use Rattle.term_core_spec.specs.Term as tree
 use Rattle.term_bank.specs.Nodes.{tree_at, Holds}
-use Rattle.normal_spec.specs.Normal as spec
+use Rattle.term_norm_spec.specs.Normal as spec
 use Rattle.memory_spec.specs.Viewed.{runs_of}
 use Rattle.term_norm.proofs.Parts.{holds_as, load_known, load_unknown}
 use Rattle.term_norm.proofs.loads.load_of_variable.Goals as goal

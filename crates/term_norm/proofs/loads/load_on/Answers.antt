@@ -1,5 +1,5 @@
 use Rattle.std.proofs.Common.{◌≤◌, length, sym, ap, arith}
-use Rattle.term_spec.specs.Term.{Term}
+use Rattle.term_core_spec.specs.Term.{Term}
 use Rattle.term_bank.specs.Nodes.{tree_at}
 use Rattle.term_norm.specs.Runs.{load_from}
 use Rattle.term_norm.specs.Walk.{Advances}

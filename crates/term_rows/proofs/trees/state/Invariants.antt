@@ -1,6 +1,6 @@
 use Rattle.std.proofs.Common.{length}
 use Rattle.std.specs.HashMap.{get}
-use Rattle.term_spec.specs.Same.{same_variable}
+use Rattle.term_core_spec.specs.Same.{same_variable}
 use Rattle.term_substitution.specs.States.{AreBelow}
 use Rattle.term_rows.proofs.trees.state.Given as goal
 

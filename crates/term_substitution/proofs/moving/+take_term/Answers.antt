@@ -2,10 +2,10 @@ use Rattle.std.proofs.Common.{◌≡◌, ℕ, List, get_or, inl, inr, sym, subst
 use Rattle.std.specs.HashMap.{get}
 use Rattle.std.specs.Prelude.{nat_eq, IsSome, Option}
 use Rattle.std.proofs.lemmas.Bool.{cases_lt}
-use Rattle.term_spec.specs.declared.Variable.{Variable}
-use Rattle.term_spec.specs.Same.{same_variable}
-use Rattle.term_spec.specs.Term.{Term}
-use Rattle.term_spec.specs.Substitution.{substituted}
+use Rattle.term_core_spec.specs.declared.Variable.{Variable}
+use Rattle.term_core_spec.specs.Same.{same_variable}
+use Rattle.term_core_spec.specs.Term.{Term}
+use Rattle.term_core_spec.specs.Substitution.{substituted}
 use Rattle.term_bank.specs.Nodes.{Holds, build}
 use Rattle.term_bank.specs.Subterms.{arguments_of}
 use Rattle.term_bank.proofs.Substitution.{is_at}

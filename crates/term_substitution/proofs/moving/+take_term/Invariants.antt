@@ -1,7 +1,7 @@
 use Rattle.std.proofs.Common.{ℕ, ◌<◌, length, get_or}
 use Rattle.std.specs.HashMap.{get}
 use Rattle.std.specs.Prelude.{nat_eq, IsSome}
-use Rattle.term_spec.specs.Same.{same_variable}
+use Rattle.term_core_spec.specs.Same.{same_variable}
 use Rattle.term_bank.specs.Nodes.{Extends}
 use Rattle.term_substitution.specs.States.{AreBelow}
 use Rattle.term_substitution.specs.Transfers.{TakesMore}

@@ -2,7 +2,7 @@ use Rattle.std.proofs.Common.{Some, ap, ◌∙◌, append-nil, [], sym, subst, l
 use Rattle.std.specs.HashMap.{get}
 use Rattle.std.specs.Prelude.{nat_eq}
 use Rattle.std.proofs.lemmas.Result.{IfOk-weaker}
-use Rattle.term_spec.specs.Same.{same_variable}
+use Rattle.term_core_spec.specs.Same.{same_variable}
 use Rattle.term_bank.specs.Nodes.{IsNode, build}
 use Rattle.term_substitution.proofs.Taking.{over_within, over_built, atom_taken}
 use Rattle.term_substitution.proofs.moving.put_node.Goals as goal

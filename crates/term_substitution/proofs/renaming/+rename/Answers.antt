@@ -2,9 +2,9 @@ use Rattle.std.proofs.Common.{◌≡◌, ◌∙◌, ap, sym}
 use Rattle.std.proofs.lemmas.Result.{IfOk-weaker}
 use Rattle.std.specs.Prelude.{Result, IfOk, Box}
 use Rattle.std.specs.Global.{Global}
-use Rattle.term_spec.specs.declared.Variable.{Variable}
-use Rattle.term_spec.specs.Term as tree
-use Rattle.term_spec.specs.Substitution.{renamed}
+use Rattle.term_core_spec.specs.declared.Variable.{Variable}
+use Rattle.term_core_spec.specs.Term as tree
+use Rattle.term_core_spec.specs.Substitution.{renamed}
 use Rattle.term_core.specs.declared.term.Term.{Term as CodeTerm}
 use Rattle.term_core.specs.Trees.{term_of}
 use Rattle.term_substitution.specs.Renaming.{in_instance}

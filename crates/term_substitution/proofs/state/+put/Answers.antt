@@ -1,6 +1,6 @@
 use Rattle.std.proofs.Common.{ℕ, sym, subst, arith, Option}
-use Rattle.term_spec.specs.declared.Variable.{Variable}
-use Rattle.term_spec.specs.Substitution.{State, substituted}
+use Rattle.term_core_spec.specs.declared.Variable.{Variable}
+use Rattle.term_core_spec.specs.Substitution.{State, substituted}
 use Rattle.term_core.specs.Trees.{term_of}
 use Rattle.term_substitution.specs.States.{state_of, IsAt}
 use Rattle.term_substitution.proofs.Growing.{through, later, later_within}

@@ -1,6 +1,6 @@
 use Rattle.std.proofs.Common.{◌≡◌, Some, ap, ◌∙◌, refl}
 use Rattle.std.proofs.lemmas.Result.{IfOk-weaker}
-use Rattle.term_spec.specs.Term as tree
+use Rattle.term_core_spec.specs.Term as tree
 use Rattle.term_bank.specs.Nodes.{tree_at}
 use Rattle.term_substitution.proofs.Growing.{tree_is}
 use Rattle.term_substitution.proofs.state.over_one.Goals as goal

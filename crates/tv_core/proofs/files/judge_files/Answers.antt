@@ -2,7 +2,7 @@ use Rattle.std.proofs.Common.{sym, subst}
 use Rattle.std.specs.Prelude.{IfOk}
 use Rattle.tv_words.specs.Jobs.{job_of}
 use Rattle.tv_core.specs.Tasks.{asked_of}
-use Rattle.tv_base.specs.declared.limits.TheConstants.{MAX_ELF_BYTES}
+use Rattle.tv_limits.specs.declared.TheConstants.{MAX_ELF_BYTES}
 use Rattle.tv_core.specs.Decisions.{decision_of}
 use Rattle.tv_core.specs.Files.{AreOf, JudgesFiles}
 use Rattle.tv_core.proofs.Desks.{then_keeps, same_fault}

@@ -3,7 +3,7 @@ use Rattle.std.specs.Prelude.{IfOk}
 use Rattle.std.proofs.lemmas.Result.{IfOk-weaker}
 use Rattle.tv_words.specs.Jobs.{job_of}
 use Rattle.tv_core.specs.Tasks.{asked_of}
-use Rattle.tv_base.specs.declared.limits.TheConstants.{MAX_C_BYTES}
+use Rattle.tv_limits.specs.declared.TheConstants.{MAX_C_BYTES}
 use Rattle.tv_core.specs.Decisions.{decision_of}
 use Rattle.tv_core.specs.Files.{AreOf, JudgesRead, JudgesFiles}
 use Rattle.tv_core.proofs.Desks.{ended_keeps, then_keeps, same_fault}

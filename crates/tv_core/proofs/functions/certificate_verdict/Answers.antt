@@ -1,6 +1,6 @@
 use Rattle.std.proofs.Common.{◌∙◌, ap, sym}
-use Rattle.c_reach.specs.Names.{texts_of}
-use Rattle.report_spec.specs.Verdict.{Checked}
+use Rattle.pair_setup_calls.specs.Names.{texts_of}
+use Rattle.report_text_spec.specs.Verdict.{Checked}
 use Rattle.tv_core.specs.Listed.{outcome_verdict}
 use Rattle.tv_core.proofs.functions.certificate_verdict.Goals as goal
 

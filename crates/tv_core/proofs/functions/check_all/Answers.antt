@@ -1,12 +1,12 @@
 use Rattle.std.proofs.Common.{ℕ, List, refl, sym, subst}
 use Rattle.std.proofs.lemmas.Result.{IfOk-weaker}
 use Rattle.c_types.specs.Typed.{typed_of}
-use Rattle.c_reach.specs.Names.{texts_of}
+use Rattle.pair_setup_calls.specs.Names.{texts_of}
 use Rattle.pair_setup.specs.Answers.{pairs_of}
 use Rattle.report_text.specs.Verdicts.{verdict_of}
-use Rattle.tv_base.specs.declared.limits.TheConstants.{MAX_CERTIFICATE_BYTES}
+use Rattle.tv_limits.specs.declared.TheConstants.{MAX_CERTIFICATE_BYTES}
 use Rattle.tv_core.specs.Files.{AreOf}
-use Rattle.verdict_spec.specs.Decisions.{Decision, plain}
+use Rattle.tv_core_spec.specs.Decisions.{Decision, plain}
 use Rattle.tv_core.specs.Decisions.{decision_of}
 use Rattle.tv_core.specs.Listed.{IsCertificateVerdict, IsCertificateDecision}
 use Rattle.tv_core.proofs.Desks.{begins, ended_keeps, same_fault}

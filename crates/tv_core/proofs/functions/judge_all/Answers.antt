@@ -1,7 +1,7 @@
 use Rattle.std.proofs.Common.{◌≡◌, ◌∙◌, sym, subst}
 use Rattle.std.proofs.lemmas.Result.{IfOk-weaker}
 use Rattle.c_types.specs.Typed.{typed_of}
-use Rattle.c_reach.specs.Names.{texts_of}
+use Rattle.pair_setup_calls.specs.Names.{texts_of}
 use Rattle.pair_setup.specs.Answers.{pairs_of}
 use Rattle.tv_core.specs.Decisions.{decision_of}
 use Rattle.tv_core.specs.Listed.{AreDecided, JudgesAll, decided_by}

@@ -1,9 +1,9 @@
 use Rattle.c_types.specs.Typed.{typed_of}
-use Rattle.c_reach.specs.Names.{texts_of}
+use Rattle.pair_setup_calls.specs.Names.{texts_of}
 use Rattle.std.proofs.lemmas.Result.{IfOk-weaker}
 use Rattle.report_text.specs.Verdicts.{verdict_of}
 use Rattle.tv_words.specs.Jobs.{job_of}
-use Rattle.verdict_spec.specs.Decisions.{plain}
+use Rattle.tv_core_spec.specs.Decisions.{plain}
 use Rattle.tv_core.specs.Listed.{AnswersList, IsRefusal}
 use Rattle.tv_core.proofs.Paired.{not_empty}
 use Rattle.tv_core.proofs.Judged.{refused_list}

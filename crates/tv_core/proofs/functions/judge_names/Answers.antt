@@ -1,6 +1,6 @@
 use Rattle.std.proofs.Common.{rules, refl, sym, subst, ◌∙◌, ap}
 use Rattle.c_types.specs.Typed.{typed_of}
-use Rattle.c_reach.specs.Names.{texts_of}
+use Rattle.pair_setup_calls.specs.Names.{texts_of}
 use Rattle.tv_words.specs.Jobs.{job_of}
 use Rattle.tv_core.specs.Listed.{AnswersList}
 use Rattle.tv_core.proofs.Judged.{refused_many}

@@ -1,5 +1,5 @@
 use Rattle.std.proofs.Common.{◌≡◌, take}
-use Rattle.c_reach.specs.Names.{texts_of}
+use Rattle.pair_setup_calls.specs.Names.{texts_of}
 use Rattle.tv_core.proofs.functions.texts.Given as goal
 
 abbrev pub invariant-loop-name : goal.invariant-loop-name

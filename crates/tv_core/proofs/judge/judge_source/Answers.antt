@@ -1,5 +1,5 @@
 use Rattle.std.proofs.Common.{sym, subst}
-use Rattle.c_spec.specs.Lexical.{AreTokens}
+use Rattle.c_token_spec.specs.Lexical.{AreTokens}
 use Rattle.c_parse_token.specs.Lists.{list_of}
 use Rattle.tv_words.specs.Jobs.{job_of}
 use Rattle.tv_core.proofs.Judging.{by_refusal}

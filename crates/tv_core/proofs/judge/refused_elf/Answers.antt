@@ -1,4 +1,4 @@
-use Rattle.verdict_spec.specs.Verdicts.{elf_refused}
+use Rattle.tv_core_spec.specs.Verdicts.{elf_refused}
 use Rattle.tv_core.proofs.judge.refused_elf.Goals as goal
 
 pub returns-in-Fault-clause-exact : goal.returns-in-Fault-clause-exact

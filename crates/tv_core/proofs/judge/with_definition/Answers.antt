@@ -1,5 +1,5 @@
-use Rattle.verdict_spec.specs.Source.{hidden_definition}
-use Rattle.verdict_spec.specs.Verdicts.{c_refused}
+use Rattle.tv_core_spec.specs.Source.{hidden_definition}
+use Rattle.tv_core_spec.specs.Verdicts.{c_refused}
 use Rattle.tv_core.proofs.judge.with_definition.Goals as goal
 
 pub returns-clause-exact : goal.returns-clause-exact

@@ -1,5 +1,5 @@
-use Rattle.verdict_spec.specs.Source.{no_types}
-use Rattle.verdict_spec.specs.Verdicts.{c_refused}
+use Rattle.tv_core_spec.specs.Source.{no_types}
+use Rattle.tv_core_spec.specs.Verdicts.{c_refused}
 use Rattle.tv_core.proofs.judge.without_types.Goals as goal
 
 pub returns-in-Fault-clause-exact : goal.returns-in-Fault-clause-exact

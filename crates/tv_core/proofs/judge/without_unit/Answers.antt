@@ -1,7 +1,7 @@
 use Rattle.std.proofs.Common.{drop}
 use Rattle.c_parse_token.specs.Lists.{list_of}
-use Rattle.verdict_spec.specs.Source.{no_unit}
-use Rattle.verdict_spec.specs.Verdicts.{c_refused}
+use Rattle.tv_core_spec.specs.Source.{no_unit}
+use Rattle.tv_core_spec.specs.Verdicts.{c_refused}
 use Rattle.tv_core.proofs.judge.without_unit.Goals as goal
 
 pub returns-in-Fault-clause-exact : goal.returns-in-Fault-clause-exact

@@ -1,7 +1,7 @@
 use Rattle.std.proofs.Common.{◌≡◌, ◌++◌, [], rules, sym, ap, ◌∙◌}
 use Rattle.std.proofs.lemmas.List.{append-nil}
 use Rattle.std.specs.Prelude.{filter}
-use Rattle.verdict_spec.specs.Listing.{has_symbol}
+use Rattle.tv_core_spec.specs.Listing.{has_symbol}
 use Rattle.tv_core.proofs.Naming.{names_in, listed_are}
 use Rattle.tv_core.proofs.listing.listed_names.Goals as goal
 

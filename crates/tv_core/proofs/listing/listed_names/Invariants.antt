@@ -1,6 +1,6 @@
 use Rattle.std.proofs.Common.{◌≡◌, ◌++◌, map}
 use Rattle.std.specs.Prelude.{filter}
-use Rattle.verdict_spec.specs.Listing.{has_symbol}
+use Rattle.tv_core_spec.specs.Listing.{has_symbol}
 use Rattle.tv_core.proofs.Naming.{names_in}
 use Rattle.tv_core.proofs.listing.listed_names.Given as goal
 

@@ -1,7 +1,7 @@
 use Rattle.std.proofs.Common.{◌∙◌, Err, map, inl, ap}
 use Rattle.std.specs.Prelude.{string_bytes}
 use Rattle.tv_core.specs.Decisions.{trails_of}
-use Rattle.tv_core.proofs.Ending.{ends_valid, ends_as_decided, ends_by_usage, not_cut, hands_out, ends_failed, ends_without_memory}
+use Rattle.tv_core.proofs.Ending.{ends_valid, ends_unproved, ends_as_decided, ends_by_usage, not_cut, hands_out, ends_failed, ends_without_memory}
 use Rattle.tv_core.proofs.Plain.{no_trails_of}
 use Rattle.tv_core.proofs.running.run.Goals as goal
 
@@ -14,6 +14,7 @@ returns-in-Ok g c =
     let ends = c.in-Ok.ensures.ended in
     record {
       valid = ends_valid words files _ _ trails c.proved_is_checked.ensures code ends;
+      unproved = ends_unproved words files _ _ trails c.unproved_is_missing.ensures code ends;
       ended = λ four five. ends;
       usage = λ four five. ends_by_usage words files _ _ trails code ends;
       decided = λ four five. ends_as_decided words files _ _ trails c.one_verdict.ensures code ends;

@@ -1,5 +1,5 @@
 use Rattle.std.proofs.Common.{◌≡◌, ◌++◌, drop}
-use Rattle.visit_spec.specs.Visits as spec
+use Rattle.visit_walk_spec.specs.Visits as spec
 use Rattle.visit_walk.proofs.counts.add_counts.Given as goal
 
 abbrev pub invariant-loop-i : goal.invariant-loop-i

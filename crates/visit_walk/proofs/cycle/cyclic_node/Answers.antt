@@ -1,6 +1,6 @@
 use Rattle.std.proofs.Common.{sym, ◌∙◌, ap}
-use Rattle.graph_spec.specs.declared.Next.TheVariants as next
-use Rattle.visit_spec.specs.Visits.{is_last}
+use Rattle.graph_core_spec.specs.declared.Next.TheVariants as next
+use Rattle.visit_walk_spec.specs.Visits.{is_last}
 use Rattle.visit_walk.proofs.Counting.{zeros-are}
 use Rattle.visit_walk.proofs.Cycles.{first-ended}
 use Rattle.visit_walk.proofs.cycle.cyclic_node.Goals as goal

@@ -1,7 +1,7 @@
 use Rattle.std.proofs.Common.{◌≡◌, [], ◌∷◌, length, replicate, sym, ◌∙◌, ap, subst}
 use Rattle.std.proofs.lemmas.List.{length-map, length-replicate}
-use Rattle.visit_spec.specs.DepthFirst.{Takes}
-use Rattle.visit_spec.specs.declared.Incoming.{Incoming}
+use Rattle.visit_walk_spec.specs.DepthFirst.{Takes}
+use Rattle.visit_walk_spec.specs.declared.Incoming.{Incoming}
 use Rattle.std.specs.Prelude.{Vec}
 use Rattle.std.specs.Global.{Global}
 use Rattle.visit_walk.specs.Search.{numbers_at}

@@ -1,10 +1,10 @@
 use Rattle.std.proofs.Common.{◌≡◌, ◌∙◌, ℕ, ◌+◌, List, [], ◌∷◌, ◌++◌, map, take, get_or, sym, ap, ap₂, arith}
 use Rattle.std.proofs.lemmas.List.{take_more, take_all, map-append}
-use Rattle.graph_spec.specs.Graph.{Node}
+use Rattle.graph_core_spec.specs.Graph.{Node}
 use Rattle.graph_core.specs.declared.shared.SharedNode.{SharedNode}
 use Rattle.graph_core.specs.Shared.{shared_node_of}
-use Rattle.visit_spec.specs.declared.Successors.{Successors}
-use Rattle.visit_spec.specs.Shape as spec
+use Rattle.visit_walk_spec.specs.declared.Successors.{Successors}
+use Rattle.visit_walk_spec.specs.Shape as spec
 use Rattle.visit_walk.proofs.shape.add_successors.Goals as goal
 
 pub loop-node-preserved : goal.loop-node-preserved

@@ -1,5 +1,5 @@
 use Rattle.std.proofs.Common.{ap, ◌∙◌, subst, true, false, Some}
-use Rattle.visit_spec.specs.Visits.{Visit, followed}
+use Rattle.visit_walk_spec.specs.Visits.{Visit, followed}
 use Rattle.visit_walk.specs.Tables.{AreFollowed, visit_at}
 use Rattle.visit_walk.specs.declared.table.Key.TheVariants.{Node}
 use Rattle.visit_walk.proofs.Exploring.{counts_below, last_read, visit_is, follow_last, follow_ended, follow_on}

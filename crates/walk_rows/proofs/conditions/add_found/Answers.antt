@@ -1,5 +1,5 @@
 use Rattle.std.specs.HashMap.{get}
-use Rattle.term_spec.specs.Same.{same_variable}
+use Rattle.term_core_spec.specs.Same.{same_variable}
 use Rattle.term_substitution.specs.States.{state_of}
 use Rattle.graph_core.specs.Graphs.{graph_of}
 use Rattle.walk_rows.proofs.conditions.add_found.Goals as goal

@@ -1,8 +1,8 @@
 use Rattle.std.proofs.Common.{ℕ, ◌<◌, List, length, sym, subst, arith}
 use Rattle.std.specs.List.{All}
 use Rattle.std.proofs.lemmas.List.{length-map}
-use Rattle.visit_spec.specs.Visits.{Walk}
-use Rattle.condition_spec.specs.Junctions.{junction_of, junctions}
+use Rattle.visit_walk_spec.specs.Visits.{Walk}
+use Rattle.path_cond_spec.specs.Junctions.{junction_of, junctions}
 use Rattle.walk_rows.proofs.conditions.add_some.Goals as goal
 
 pub add_several-requires : goal.add_several-requires

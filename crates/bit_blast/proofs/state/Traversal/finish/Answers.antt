@@ -1,9 +1,9 @@
 use Rattle.std.proofs.Common.{◌≡◌, ◌∙◌, sym, ap, subst, length, refl}
-use Rattle.term_spec.specs.Term.{Term}
+use Rattle.term_core_spec.specs.Term.{Term}
 use Rattle.term_bank.specs.Nodes.{IsNode, build, Holds}
-use Rattle.blast_spec.specs.Goal.{once}
+use Rattle.bit_blast_spec.specs.Goal.{once}
 use Rattle.bit_blast.specs.Steps.{finish}
-use Rattle.word_circuits.specs.Built.{IsBuilt}
+use Rattle.bit_blast_circuits.specs.Built.{IsBuilt}
 use Rattle.bit_blast.specs.Terms.{terms_in}
 use Rattle.bit_blast.proofs.Moved.{same_build, is_node}
 use Rattle.bit_blast.proofs.Turned.{wants_indexed, turned_finish}

@@ -1,11 +1,11 @@
 use Rattle.std.proofs.Common.{◌≡◌, ◌<◌, [], false, length, ap, ◌∙◌, sym, subst, arith}
 use Rattle.std.proofs.lemmas.List.{length-map}
 use Rattle.std.proofs.lemmas.Option.{slice_get-get_or}
-use Rattle.term_spec.specs.declared.Atom.TheVariants as atom
-use Rattle.term_spec.specs.Term.{Term, Leaf}
+use Rattle.term_core_spec.specs.declared.Atom.TheVariants as atom
+use Rattle.term_core_spec.specs.Term.{Term, Leaf}
 use Rattle.term_bank.specs.Nodes.{tree_at, Holds}
-use Rattle.blast_spec.specs.Circuits.{Bits}
-use Rattle.blast_spec.specs.Goal.{Table, bits_in}
+use Rattle.bit_blast_spec.specs.Circuits.{Bits}
+use Rattle.bit_blast_spec.specs.Goal.{Table, bits_in}
 use Rattle.bit_blast.specs.Terms.{terms_in}
 use Rattle.bit_blast.specs.Entered.{entered}
 use Rattle.bit_blast.proofs.Tables.{length-entered, bits_held, items_at}

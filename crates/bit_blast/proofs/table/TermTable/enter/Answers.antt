@@ -3,7 +3,7 @@ use Rattle.std.specs.List.{IsDistinct}
 use Rattle.indexmap.proofs.CallerLemmas.{insert_entry-new}
 use Rattle.term_bank.specs.contracts.node.TermNodePartialEq.TheImpl as node_test
 use Rattle.term_bank.specs.Nodes.{IsNode, build}
-use Rattle.blast_spec.specs.Goal.{Table, is_there}
+use Rattle.bit_blast_spec.specs.Goal.{Table, is_there}
 use Rattle.bit_blast.specs.Terms.{terms_in}
 use Rattle.bit_blast.specs.Entered.{entered, nodes_in, IsTable}
 use Rattle.bit_blast.proofs.Tables.{node_new, table_more, entered-append, length-entered}

@@ -1,6 +1,6 @@
 use Rattle.std.proofs.Common.{false, length, sym, subst, IfSome, IfNone, ◌≡◌}
 use Rattle.term_bank.specs.Nodes.{IsNode, build, Holds}
-use Rattle.blast_spec.specs.Goal.{Table, is_there}
+use Rattle.bit_blast_spec.specs.Goal.{Table, is_there}
 use Rattle.bit_blast.specs.Terms.{terms_in}
 use Rattle.bit_blast.proofs.Tables.{find_found, find_absent}
 use Rattle.bit_blast.proofs.table.TermTable.find.Goals as goal

@@ -1,6 +1,6 @@
 use Rattle.std.proofs.Common.{subst}
 use Rattle.term_bank.specs.Nodes.{AreDistinct}
-use Rattle.blast_spec.specs.Goal.{Table}
+use Rattle.bit_blast_spec.specs.Goal.{Table}
 use Rattle.bit_blast.specs.Terms.{terms_in}
 use Rattle.bit_blast.proofs.Tables.{table_distinct}
 use Rattle.bit_blast.proofs.table.TermTable.is_distinct.Goals as goal

@@ -3,7 +3,7 @@ use Rattle.std.specs.Prelude.{slice_get, option_map}
 use Rattle.std.specs.Map.Iter.{deref_pair}
 use Rattle.std.proofs.lemmas.Option.{slice_get-map}
 use Rattle.term_bank.proofs.Growth.{IsNodeAt}
-use Rattle.blast_spec.specs.Goal.{Table}
+use Rattle.bit_blast_spec.specs.Goal.{Table}
 use Rattle.bit_blast.specs.Terms.{terms_in}
 use Rattle.bit_blast.specs.Entered.{Entry, nodes_in}
 use Rattle.bit_blast.proofs.Tables.{length-entered, node_holds}

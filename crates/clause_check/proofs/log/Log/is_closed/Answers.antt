@@ -1,5 +1,5 @@
 use Rattle.std.proofs.Common.{length, ap, sym, ◌∙◌}
-use Rattle.clause_spec.specs.Clause.{satisfies}
+use Rattle.clause_check_spec.specs.Clause.{satisfies}
 use Rattle.clause_check.proofs.Keeping.{unsatisfied_by_empty}
 use Rattle.clause_check.proofs.log.Log.is_closed.Goals as goal
 

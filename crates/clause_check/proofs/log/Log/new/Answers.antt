@@ -1,6 +1,6 @@
 use Rattle.std.proofs.Common.{rules, ◌≡◌, ◌∙◌, length, None, true, ap, sym, subst}
 use Rattle.std.proofs.lemmas.List.{length-replicate}
-use Rattle.clause_spec.specs.Clause.{are_of}
+use Rattle.clause_check_spec.specs.Clause.{are_of}
 use Rattle.clause_check.specs.Kept.{IsKept}
 use Rattle.clause_check.proofs.Keeping.{kept_at_first}
 use Rattle.clause_check.proofs.log.Log.new.Goals as goal

@@ -1,5 +1,5 @@
 use Rattle.std.proofs.Common.{◌≡◌, ◌∙◌, length, ap, sym, subst}
-use Rattle.clause_spec.specs.Step.{outcome, Follows}
+use Rattle.clause_check_spec.specs.Step.{outcome, Follows}
 use Rattle.clause_check.specs.Kept.{IsKept}
 use Rattle.clause_check.proofs.Keeping.{kept_more, outcome_of_parts}
 use Rattle.clause_check.proofs.log.Log.step.Goals as goal

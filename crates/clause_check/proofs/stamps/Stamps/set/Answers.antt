@@ -1,5 +1,5 @@
 use Rattle.std.proofs.Common.{rules, ◌≡◌, ◌-◌, ◌<◌, ◌∙◌, length, set, vec_len, ap, sym, subst}
-use Rattle.clause_spec.specs.Clause.{negation}
+use Rattle.clause_check_spec.specs.Clause.{negation}
 use Rattle.cnf_core.specs.Codes.{code_of}
 use Rattle.clause_check.specs.Stamps.{signs_in, AreApart}
 use Rattle.clause_check.proofs.Stamped.{within, one_more, still_bound}

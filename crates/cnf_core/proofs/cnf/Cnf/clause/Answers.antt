@@ -1,7 +1,7 @@
 use Rattle.std.proofs.Common.{◌≡◌, true, ap, subst}
 use Rattle.std.specs.Prelude.{IfSome}
 use Rattle.std.specs.List.{list_all}
-use Rattle.clause_spec.specs.Clause.{is_of}
+use Rattle.clause_check_spec.specs.Clause.{is_of}
 use Rattle.cnf_core.proofs.Named.{named_if}
 use Rattle.cnf_core.proofs.cnf.Cnf.clause.Goals as goal
 

@@ -1,6 +1,6 @@
 use Rattle.std.proofs.Common.{◌∙◌, sym, ap, cond, None}
 use Rattle.std.proofs.lemmas.Result.{on_ok_weaker}
-use Rattle.code_spec.specs.Code.{flow_of, Returns, Stops}
+use Rattle.code_reach_spec.specs.Code.{flow_of, Returns, Stops}
 use Rattle.decompile.specs.Settings.{setting_of}
 use Rattle.decompile.proofs.Added.{with_flow, jalr_flow}
 use Rattle.decompile.proofs.function.Function.add_block.Goals as goal

@@ -1,8 +1,8 @@
 use Rattle.std.proofs.Common.{◌≡◌, ◌∙◌, ◌+◌, ◌∷◌, List, map, drop, sym, ap}
 use Rattle.std.proofs.lemmas.List.{drop_more}
-use Rattle.graph_spec.specs.Graph.{with_nodes}
+use Rattle.graph_core_spec.specs.Graph.{with_nodes}
 use Rattle.graph_core.specs.Graphs.{graph_of}
-use Rattle.code_graph_laws.specs.Layout.{blocks, laid}
+use Rattle.decompile_laws.specs.Layout.{blocks, laid}
 use Rattle.decompile.specs.declared.items.Item.{Item}
 use Rattle.decompile.specs.Items.{item_of}
 use Rattle.decompile.specs.Settings.{setting_of}

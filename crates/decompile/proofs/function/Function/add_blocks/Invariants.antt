@@ -1,7 +1,7 @@
 use Rattle.std.proofs.Common.{◌≡◌, map, drop}
-use Rattle.graph_spec.specs.Graph.{with_nodes}
+use Rattle.graph_core_spec.specs.Graph.{with_nodes}
 use Rattle.graph_core.specs.Graphs.{graph_of}
-use Rattle.code_graph_laws.specs.Layout.{blocks, laid}
+use Rattle.decompile_laws.specs.Layout.{blocks, laid}
 use Rattle.decompile.specs.Items.{item_of}
 use Rattle.decompile.specs.Settings.{setting_of}
 use Rattle.decompile.proofs.function.Function.add_blocks.Given as goal

@@ -1,7 +1,7 @@
 use Rattle.std.proofs.Common.{◌≡◌, ◌≢◌, [], ◌∷◌, sym, ◌∙◌, rules}
 use Rattle.std.proofs.lemmas.Result.{IfOk-weaker}
-use Rattle.graph_spec.specs.declared.Next.TheVariants as next
-use Rattle.graph_spec.specs.Graph.{Basic, with_nodes}
+use Rattle.graph_core_spec.specs.declared.Next.TheVariants as next
+use Rattle.graph_core_spec.specs.Graph.{Basic, with_nodes}
 use Rattle.graph_core.specs.Graphs.{graph_of}
 use Rattle.decompile.specs.Items.{jal_flow}
 use Rattle.decompile.specs.Settings.{setting_of}

@@ -1,7 +1,7 @@
 use Rattle.std.proofs.Common.{◌≡◌, ◌+◌, ◌∙◌, List, length, map, refl, sym, ap, arith}
 use Rattle.std.proofs.lemmas.List.{length_push, length-map, map_push}
-use Rattle.term_spec.specs.Term.{Term}
-use Rattle.graph_spec.specs.Graph.{with_nodes}
+use Rattle.term_core_spec.specs.Term.{Term}
+use Rattle.graph_core_spec.specs.Graph.{with_nodes}
 use Rattle.graph_core.specs.Graphs.{graph_of, boxed_term}
 use Rattle.decompile.specs.Settings.{setting_of, asks}
 use Rattle.decompile.proofs.Asked.{nothing_asked, test_added}

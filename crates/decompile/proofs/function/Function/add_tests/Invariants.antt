@@ -1,5 +1,5 @@
 use Rattle.std.proofs.Common.{◌≡◌, map, length}
-use Rattle.graph_spec.specs.Graph.{with_nodes}
+use Rattle.graph_core_spec.specs.Graph.{with_nodes}
 use Rattle.graph_core.specs.Graphs.{graph_of, boxed_term}
 use Rattle.decompile.specs.Settings.{setting_of, asks}
 use Rattle.decompile.proofs.function.Function.add_tests.Given as goal

@@ -1,5 +1,5 @@
 use Rattle.std.proofs.Common.{◌∙◌, sym}
-use Rattle.elf_spec.specs.Image.{fixed_byte}
+use Rattle.elf_read_spec.specs.Image.{fixed_byte}
 use Rattle.elf_read.proofs.loaded.Image.fixed_byte.Goals as goal
 
 pub byte_at-requires : goal.byte_at-requires

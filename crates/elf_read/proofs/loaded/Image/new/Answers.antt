@@ -1,7 +1,7 @@
 use Rattle.std.proofs.Common.{◌≡◌, ℕ, List, subst, map}
 use Rattle.std.specs.Ordering.{nat_cmp}
 use Rattle.std.specs.BTreeMap.{get}
-use Rattle.elf_spec.specs.Image.{global_pointer, size_among}
+use Rattle.elf_read_spec.specs.Image.{global_pointer, size_among}
 use Rattle.elf_read.specs.declared.parts.Symbol.{Symbol}
 use Rattle.elf_read.specs.Values.{symbol_of}
 use Rattle.elf_read.specs.Fixed.{AreFixed}

@@ -1,4 +1,4 @@
-use Rattle.elf_spec.specs.Image.{object_named}
+use Rattle.elf_read_spec.specs.Image.{object_named}
 use Rattle.elf_read.proofs.loaded.Image.object.Goals as goal
 
 pub named-requires : goal.named-requires

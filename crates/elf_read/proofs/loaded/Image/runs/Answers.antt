@@ -1,5 +1,5 @@
 use Rattle.std.proofs.Common.{refl, sym, ap, subst, arith}
-use Rattle.elf_spec.specs.Image as spec
+use Rattle.elf_read_spec.specs.Image as spec
 use Rattle.elf_read.proofs.RunsOf.{AreExtentsOf, extents_of_image, run_pushed, all_runs, runs_of_bytes}
 use Rattle.elf_read.proofs.loaded.Image.runs.Goals as goal
 

@@ -1,5 +1,5 @@
 use Rattle.std.proofs.Common.{◌∙◌}
-use Rattle.elf_spec.specs.Image.{size_at}
+use Rattle.elf_read_spec.specs.Image.{size_at}
 use Rattle.elf_read.proofs.loaded.Image.size_at.Goals as goal
 
 pub returns : goal.returns

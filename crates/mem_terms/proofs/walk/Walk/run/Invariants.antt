@@ -1,5 +1,5 @@
 use Rattle.std.proofs.Common.{ℕ, List}
-use Rattle.term_spec.specs.Term.{Term}
+use Rattle.term_core_spec.specs.Term.{Term}
 use Rattle.term_bank.specs.Nodes.{Extends}
 use Rattle.mem_terms.specs.Walk.{total_weight, IsWalk, IsSomeWalk}
 use Rattle.mem_terms.proofs.Turns.{IsTurned}

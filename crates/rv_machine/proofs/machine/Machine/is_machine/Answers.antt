@@ -1,5 +1,5 @@
 use Rattle.std.proofs.Common.{subst}
-use Rattle.rv_spec.specs.Machine.{IsMachine}
+use Rattle.rv_machine_spec.specs.Machine.{IsMachine}
 use Rattle.rv_machine.proofs.machine.Machine.is_machine.Goals as goal
 
 pub returns : goal.returns

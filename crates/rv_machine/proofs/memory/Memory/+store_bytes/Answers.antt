@@ -1,7 +1,7 @@
 use Rattle.std.proofs.Common.{sym, ap, ◌∙◌, subst}
 use Rattle.std.specs.FinMap.{get}
 use Rattle.std.specs.Prelude.{IsSome}
-use Rattle.rv_spec.specs.Machine.{store_byte, past}
+use Rattle.rv_machine_spec.specs.Machine.{store_byte, past}
 use Rattle.rv_machine.specs.Stores.{store_bytes, put_back}
 use Rattle.std.proofs.lemmas.List.{nil_from_length}
 use Rattle.rv_machine.proofs.Bytes.{none_stored, more_stored, written, undone}

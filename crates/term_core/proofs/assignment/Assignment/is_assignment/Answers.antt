@@ -1,5 +1,5 @@
 use Rattle.std.specs.HashMap.{get}
-use Rattle.term_spec.specs.Same.{same_variable}
+use Rattle.term_core_spec.specs.Same.{same_variable}
 use Rattle.term_core.proofs.Listed.{given_or_default-sort}
 use Rattle.term_core.proofs.assignment.Assignment.is_assignment.Goals as goal
 

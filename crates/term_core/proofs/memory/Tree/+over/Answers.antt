@@ -1,6 +1,6 @@
 use Rattle.std.proofs.Common.{◌≡◌, ℕ, ◌-◌, ◌^◌, ◌<◌, ap, sym, ◌∙◌, arith, rules}
 use Rattle.std.proofs.lemmas.Result.{IfOk-weaker}
-use Rattle.term_spec.specs.Value.{overlaid}
+use Rattle.term_core_spec.specs.Value.{overlaid}
 use Rattle.term_core.specs.Memory.{byte_in}
 use Rattle.term_core.proofs.Parts.{two_halves, over_none, over_all, empty_between, past_between, covered, one_covered, over_halves}
 use Rattle.term_core.proofs.memory.Tree.+over.Goals as goal

@@ -1,6 +1,6 @@
 use Rattle.std.proofs.Common.{◌≡◌, ℕ, ◌-◌, ◌^◌, ◌<◌, ap, ◌∙◌, arith, rules}
 use Rattle.std.proofs.lemmas.Result.{IfOk-weaker}
-use Rattle.term_spec.specs.Value.{with_byte}
+use Rattle.term_core_spec.specs.Value.{with_byte}
 use Rattle.term_core.specs.Memory.{byte_in}
 use Rattle.term_core.proofs.Parts.{two_halves, one_address, set_low, set_high}
 use Rattle.term_core.proofs.memory.Tree.+with_byte.Goals as goal

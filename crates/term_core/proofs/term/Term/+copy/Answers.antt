@@ -1,7 +1,7 @@
 use Rattle.std.proofs.Common.{◌≡◌, ◌∙◌, ap, sym}
 use Rattle.std.specs.Prelude.{Box}
 use Rattle.std.specs.Global.{Global}
-use Rattle.term_spec.specs.Term as tree
+use Rattle.term_core_spec.specs.Term as tree
 use Rattle.term_core.specs.declared.term.Term.{Term as CodeTerm}
 use Rattle.term_core.specs.Trees.{term_of}
 use Rattle.term_core.proofs.Calls.{at_equal}

@@ -1,7 +1,7 @@
 use Rattle.std.proofs.Common.{◌≡◌, List, map, subst}
 use Rattle.graph_core.specs.declared.shared.SharedNode.{SharedNode}
 use Rattle.graph_core.specs.Shared.{shared_node_of}
-use Rattle.visit_spec.specs.Shape as spec
+use Rattle.visit_walk_spec.specs.Shape as spec
 use Rattle.visit_walk.proofs.shape.Shape.of.Goals as goal
 
 pub returns : goal.returns

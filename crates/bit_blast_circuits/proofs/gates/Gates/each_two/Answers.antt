@@ -1,0 +1,15 @@
+use Rattle.std.proofs.Common.{arith}
+use Rattle.bit_blast_circuits.specs.Kinds.{gate_of}
+use Rattle.bit_blast_circuits.proofs.Steps.{adds_start, each_two_at, each_two_end}
+use Rattle.bit_blast_circuits.proofs.gates.Gates.each_two.Goals as goal
+
+pub returns : goal.returns
+returns c = each_two_end (gate_of c.args.connective) c.args.xs.now c.args.ys.now c.loop-index.index c.loop-index.out.items (omega arith) c.loop-index.invariant
+
+pub loop-index-init : goal.loop-index-init
+loop-index-init c = adds_start _ _ c.new-out.result.items c.new-out.ensures.items
+
+pub loop-index-preserved : goal.loop-index-preserved
+loop-index-preserved c =
+    each_two_at (gate_of c.args.connective) c.index-xs-index.result c.index-ys-index.result c.in_ok-bit.bit c.args.xs.now c.args.ys.now c.loop-index.index c.loop-index.out.items
+    c.push.new.self.items (omega arith) (omega arith) c.index-xs-index.is c.index-ys-index.is c.in_ok-push.ensures.items c.loop-index.invariant c.in_ok-bit.ensures

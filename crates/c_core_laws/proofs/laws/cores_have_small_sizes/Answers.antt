@@ -1,5 +1,0 @@
-use Rattle.c_core_laws.proofs.SizedUnits.{typed-sizes}
-use Rattle.c_core_laws.proofs.laws.cores_have_small_sizes.Goals as goal
-
-pub returns : goal.returns
-returns c = typed-sizes

@@ -1,5 +1,0 @@
-use Rattle.c_core_laws.proofs.Actions.{numbers-order}
-use Rattle.c_core_laws.proofs.laws.numbers_are_in_order.Goals as goal
-
-pub returns : goal.returns
-returns c = numbers-order

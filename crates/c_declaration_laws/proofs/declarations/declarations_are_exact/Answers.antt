@@ -1,5 +1,0 @@
-use Rattle.c_declaration_laws.proofs.All.{declarations-exact}
-use Rattle.c_declaration_laws.proofs.declarations.declarations_are_exact.Goals as goal
-
-pub returns : goal.returns
-returns c = declarations-exact

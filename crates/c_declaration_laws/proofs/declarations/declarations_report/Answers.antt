@@ -1,5 +1,0 @@
-use Rattle.c_declaration_laws.proofs.All.{declarations-roled}
-use Rattle.c_declaration_laws.proofs.declarations.declarations_report.Goals as goal
-
-pub returns : goal.returns
-returns c = declarations-roled

@@ -1,5 +1,0 @@
-use Rattle.c_declaration_laws.proofs.GlobalAll.{globals-roled}
-use Rattle.c_declaration_laws.proofs.globals.globals_report.Goals as goal
-
-pub returns : goal.returns
-returns c = globals-roled

@@ -1,5 +1,0 @@
-use Rattle.c_declaration_laws.proofs.GlobalWorked as worked
-use Rattle.c_declaration_laws.proofs.globals.reads_const.Goals as goal
-
-pub returns : goal.returns
-returns c = worked.reads_const

@@ -1,5 +1,0 @@
-use Rattle.c_expression_laws.proofs.ExpressionRoles.{around-roled}
-use Rattle.c_expression_laws.proofs.expressions.expressions_report.Goals as goal
-
-pub returns : goal.returns
-returns c = around-roled

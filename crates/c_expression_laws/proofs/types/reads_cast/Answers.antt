@@ -1,5 +1,0 @@
-use Rattle.c_expression_laws.proofs.Worked as worked
-use Rattle.c_expression_laws.proofs.types.reads_cast.Goals as goal
-
-pub returns : goal.returns
-returns c = worked.reads_cast

@@ -1,6 +1,0 @@
-pub mod Tokens
-pub mod Scans
-pub mod Words
-pub mod Expressions
-pub mod Statements
-pub mod Units

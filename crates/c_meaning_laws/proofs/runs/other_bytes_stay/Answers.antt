@@ -1,5 +1,0 @@
-use Rattle.c_meaning_laws.proofs.Storing.{stored_outside}
-use Rattle.c_meaning_laws.proofs.runs.other_bytes_stay.Goals as goal
-
-pub returns : goal.returns
-returns c = stored_outside

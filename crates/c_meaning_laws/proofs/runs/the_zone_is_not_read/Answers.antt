@@ -1,5 +1,0 @@
-use Rattle.c_meaning_laws.proofs.Laws.{zone_unread}
-use Rattle.c_meaning_laws.proofs.runs.the_zone_is_not_read.Goals as goal
-
-pub returns : goal.returns
-returns c = zone_unread

@@ -1,5 +1,0 @@
-use Rattle.c_meaning_laws.proofs.Storing.{stored_read}
-use Rattle.c_meaning_laws.proofs.runs.what_is_stored_is_read.Goals as goal
-
-pub returns : goal.returns
-returns c = stored_read

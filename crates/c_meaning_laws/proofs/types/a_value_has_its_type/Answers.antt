@@ -1,5 +1,0 @@
-use Rattle.c_meaning_laws.proofs.Typing.{has_its_type}
-use Rattle.c_meaning_laws.proofs.types.a_value_has_its_type.Goals as goal
-
-pub returns : goal.returns
-returns c = has_its_type

@@ -1,4 +1,0 @@
-pub mod Tokens
-pub mod Definitions
-pub mod Bodies
-pub mod Names

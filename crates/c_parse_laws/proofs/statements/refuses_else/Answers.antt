@@ -1,0 +1,5 @@
+use Rattle.c_parse_laws.proofs.StatementWorked as worked
+use Rattle.c_parse_laws.proofs.statements.refuses_else.Goals as goal
+
+pub returns : goal.returns
+returns c = worked.refuses_else

@@ -1,0 +1,5 @@
+use Rattle.c_parse_laws.proofs.Worked as worked
+use Rattle.c_parse_laws.proofs.types.reads_value.Goals as goal
+
+pub returns : goal.returns
+returns c = worked.reads_value

@@ -1,0 +1,5 @@
+use Rattle.c_parse_laws.proofs.UnitWorked as worked
+use Rattle.c_parse_laws.proofs.units.reads_function.Goals as goal
+
+pub returns : goal.returns
+returns c = worked.reads_function

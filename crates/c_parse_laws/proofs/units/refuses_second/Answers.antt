@@ -1,0 +1,5 @@
+use Rattle.c_parse_laws.proofs.UnitWorked as worked
+use Rattle.c_parse_laws.proofs.units.refuses_second.Goals as goal
+
+pub returns : goal.returns
+returns c = worked.refuses_second

@@ -1,8 +1,0 @@
-use Rattle.call_graph.specs.Graph.{graph_of}
-use Rattle.c_types.specs.Typed.{typed_of}
-use Rattle.c_reach.specs.Names.{names_of}
-use Rattle.c_reach.proofs.Bodies.{IsGraphBelow}
-use Rattle.c_reach.proofs.graph.add_all.Given as goal
-
-abbrev pub invariant-loop-caller : goal.invariant-loop-caller
-invariant-loop-caller l = IsGraphBelow (typed_of l.unit) (names_of l.unit) (graph_of l.graph.items) l.caller

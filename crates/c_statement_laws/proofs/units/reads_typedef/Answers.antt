@@ -1,5 +1,0 @@
-use Rattle.c_statement_laws.proofs.UnitWorked as worked
-use Rattle.c_statement_laws.proofs.units.reads_typedef.Goals as goal
-
-pub returns : goal.returns
-returns c = worked.reads_typedef

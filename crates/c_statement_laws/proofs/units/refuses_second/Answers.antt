@@ -1,5 +1,0 @@
-use Rattle.c_statement_laws.proofs.UnitWorked as worked
-use Rattle.c_statement_laws.proofs.units.refuses_second.Goals as goal
-
-pub returns : goal.returns
-returns c = worked.refuses_second

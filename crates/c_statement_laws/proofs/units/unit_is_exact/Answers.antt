@@ -1,5 +1,0 @@
-use Rattle.c_statement_laws.proofs.UnitAll.{unit-is_exact}
-use Rattle.c_statement_laws.proofs.units.unit_is_exact.Goals as goal
-
-pub returns : goal.returns
-returns c = unit-is_exact

@@ -1,5 +1,0 @@
-use Rattle.c_statement_laws.proofs.Faults.{unit-reports}
-use Rattle.c_statement_laws.proofs.units.unit_reports.Goals as goal
-
-pub returns : goal.returns
-returns c = unit-reports

@@ -1,7 +1,0 @@
-use Rattle.std.proofs.Common.{◌≡◌, ◌++◌, drop}
-use Rattle.c_type_scope.proofs.Ranges.{front_of}
-use Rattle.c_type_scope.proofs.entries.hide.Given as goal
-
--- those before the place are hidden
-abbrev pub invariant-loop-i : goal.invariant-loop-i
-invariant-loop-i g l = l.entries ≡ front_of l.start l.i l.fn.entries ++ drop l.i l.fn.entries

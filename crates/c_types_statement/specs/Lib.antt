@@ -1,0 +1,4 @@
+pub mod Labels
+pub mod Groups
+pub mod Switches
+pub use Rattle.c_types_simple.specs.Contexts

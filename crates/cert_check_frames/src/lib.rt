@@ -1,0 +1,29 @@
+//! Listed functions, the frames at their entries, and what the check of a certificate keeps of a
+//! part: the frame with the tests of Cases, the terms of variables there, and what is expected.
+//!
+//! [`Entry::new`] makes what a function's frame is made of, [`Entry::convention`] what holds where
+//! the function returns, and [`list`] puts them together as the check takes them: exactly
+//! `listed_of` of `validity_laws`, that is the frames and terms of `agreement_laws`
+//! (`specs/EntryFrame.antt` there). [`frame`] gives the frame of a [`Listed`] with further premises,
+//! [`known`] the terms of its variables in a bank; a [`Job`] is what is expected inside its part.
+#![tactic(auto)]
+
+mod entries;
+mod entry;
+mod facts;
+mod jobs;
+mod listed;
+mod listing;
+mod parts;
+mod relations;
+mod scope;
+mod terms;
+mod trees;
+
+pub use entries::{Entry, File, Numbers};
+pub use entry::{frame, known};
+pub use jobs::{Branch, Job, push_branches, push_goals, push_proof, take_goal, take_proof};
+pub use listed::{Fact, Listed};
+pub use listing::list;
+pub use parts::{free, has_part, missing};
+pub use trees::tests;

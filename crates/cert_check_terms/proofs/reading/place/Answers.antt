@@ -1,0 +1,5 @@
+use Rattle.cert_check_terms.proofs.Stacks.{unchanged}
+use Rattle.cert_check_terms.proofs.reading.place.Goals as goal
+
+pub returns-in-None-clause-extends : goal.returns-in-None-clause-extends
+returns-in-None-clause-extends c = unchanged c.args.bank.now

@@ -1,5 +1,0 @@
-use Rattle.cert_frames.specs.Parts.{HaveParts}
-use Rattle.cert_frames.proofs.parts.missing.Given as goal
-
-abbrev pub invariant-loop-index : goal.invariant-loop-index
-invariant-loop-index l = HaveParts l.listed l.parts l.index

@@ -1,4 +1,0 @@
-pub mod Runs
-pub mod Lists
-pub mod Entries
-pub mod Fields

@@ -1,9 +1,0 @@
-use Rattle.std.proofs.Common.{length}
-use Rattle.cert_lines.proofs.Lists.{LiteralsLeft}
-use Rattle.cert_lines.proofs.steps.literals.Given as goal
-
-abbrev pub invariant-loop-next : goal.invariant-loop-next
-invariant-loop-next l = LiteralsLeft l.initial.cursor.rest.now l.initial.list.items l.list.items l.cursor.rest.now
-
-abbrev pub decreases-loop-next : goal.decreases-loop-next
-decreases-loop-next l = length l.cursor.rest.now

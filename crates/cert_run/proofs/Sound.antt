@@ -1,0 +1,124 @@
+-- What is reached from listed functions has a graph: it has no fault, all that it calls is reached, and it isn't too large.
+use Rattle.std.proofs.Common.{◌≡◌, ◌∙◌, ℕ, ◌+◌, ◌-◌, ◌%◌, ◌^◌, ◌==◌, ◌&&◌, not, Bool, true, false, List, All, get_or, Some, None, refl, sym, ap₂, subst, arith}
+use Rattle.std.specs.Prelude.{Contains, nat_le, nat_lt, if◌then◌else◌}
+use Rattle.std.proofs.lemmas.Bool.{le-leb, lt-ltb}
+use Rattle.std.proofs.lemmas.List.Elements.{All-contains, Contains-get_or}
+use Rattle.rv_instr.specs.declared.Instr.{Instr}
+use Rattle.elf_read_spec.specs.Image.{Image, size_at}
+use Rattle.elf_read_spec.specs.declared.SymbolValues.TheVariants.{One}
+use Rattle.code_reach_spec.specs.Code.{CallsOn, Flow, Falls, Branches, Jumps, Calls, Links, Returns, Stops, InRange, IsReachable, call, further, flow_at, flow_of, instr_at}
+use Rattle.code_reach_spec.specs.Faults.{HasNoFault, ReachesNoFault, goes_to}
+use Rattle.code_reach_spec.proofs.Direct.{direct-reaches, each_without}
+use Rattle.decompile_spec.specs.Blocks.{callee_of, leaves_range}
+use Rattle.decompile_spec.specs.CodeGraph.{IsCall}
+use Rattle.decompile_laws.proofs.Reached.{calls_function, flow_alone, has_instruction, stays_inside}
+use Rattle.decompile_laws.specs.Layout.{numbers_by}
+use Rattle.decompile.specs.Answer.{first_in, number_in}
+use Rattle.decompile.specs.Errors.{IsGraphError}
+use Rattle.decompile.specs.declared.error.GraphError.{GraphError}
+use Rattle.decompile.specs.declared.error.GraphError.TheVariants.{Fault, Unlisted, Large, NoMemory}
+use Rattle.c_types_spec.specs.Core.{Typed}
+use Rattle.pair_setup_spec.specs.Nodes.{HasLargeGraph, in_code}
+use Rattle.pair_setup_spec.specs.Outcome as outcome
+use Rattle.pair_setup_spec.specs.Outcome.{IsPaired, IsReached}
+use Rattle.cert_run.specs.Made.{IsSound}
+use Rattle.cert_run.proofs.Ready.{listed_size}
+
+-- ---- a call
+
+never : (b : Bool) → (b && false) ≡ false
+never true = refl
+never false = refl
+
+stays : (entry size target : ℕ) → InRange entry size target → leaves_range entry size target ≡ false
+stays entry size target inside =
+    let from : nat_le entry target ≡ true = le-leb entry target inside.from in
+    let below : nat_lt target (entry + size) ≡ true = lt-ltb target (entry + size) inside.below in
+    ap₂ (λ (a b : Bool). (target % 4 == 0) && not (a && b)) from below ∙ never (target % 4 == 0)
+
+chosen : (b : Bool) (target callee : ℕ) → (if b then Some target else None) ≡ Some callee → target ≡ callee
+chosen true target callee e = cc
+chosen false target callee e = absurd (cc)
+
+not_chosen : (b : Bool) (target callee : ℕ) → b ≡ false → (if b then Some target else None) ≡ Some callee → ⊥
+not_chosen true target callee off e = absurd (cc)
+not_chosen false target callee off e = cc
+
+module _ (image : Image) (entry size : ℕ) (sound : HasNoFault image entry size) (address callee : ℕ) (reached : IsReachable image entry size address) where
+  by_flow : (i : Instr) (flow : Flow) → instr_at image address ≡ Some i → flow_at image entry address ≡ Some flow → flow ≡ flow_of None address i
+      → callee_of entry size flow ≡ Some callee → CallsOn image entry size callee
+  unfolding callee_of
+  by_flow i (Calls target) there is alone c =
+      subst (λ (t : ℕ). CallsOn image entry size t) (chosen (target % 4 == 0) target callee c)
+      (call address target reached is (calls_function image entry size address sound reached i target there (sym alone)))
+  by_flow i (Jumps target) there is alone c =
+      let goes : Contains (goes_to address (Jumps target)) target = (0, omega arith, refl) in
+      let inside : InRange entry size target =
+      stays_inside image entry size address sound reached i target there (subst (λ (f : Flow). Contains (goes_to address f) target) alone goes) in
+      absurd (not_chosen (leaves_range entry size target) target callee (stays entry size target inside) c)
+  by_flow i Falls there is alone c = absurd (cc)
+  by_flow i (Branches target) there is alone c = absurd (cc)
+  by_flow i (Links target) there is alone c = absurd (cc)
+  by_flow i Returns there is alone c = absurd (cc)
+  by_flow i Stops there is alone c = absurd (cc)
+
+called_on : (image : Image) (entry size : ℕ) → HasNoFault image entry size → (address callee : ℕ) → IsCall image entry size address callee
+    → CallsOn image entry size callee
+called_on image entry size sound address callee is =
+    let i = has_instruction image entry size address sound is.reached in
+    let alone = flow_alone image entry size address sound is.reached i.0 is.flow i.1 is.flow_is in
+    by_flow image entry size sound address callee is.reached i.0 is.flow i.1 is.flow_is alone.0 is.calls
+
+-- ---- the entries of pairs
+
+module _ (image : Image) (unit : Typed) (list : List (List ℕ)) (pairs : outcome.Pairs) (paired : IsPaired image unit list pairs) where
+  sound_reached : (entry : ℕ) → IsReached image list entry → IsSound image pairs.entries entry
+  sound_reached entry is = record {
+    sized = listed_size image unit list pairs paired entry is;
+    no_fault = no_fault;
+    closed = closed;
+    small = λ large. All-contains (λ (n : List ℕ). HasLargeGraph image unit n → ⊥) list is.listed paired.no_large is.is_listed (in_code is.from entry is.from_is is.reached large);
+  }
+    where
+      code_sound : ReachesNoFault image is.from
+      code_sound =
+          let code = (All-contains (outcome.HasNoFault image unit) list is.listed paired.no_fault is.is_listed).code in
+          let same : code.0 ≡ is.from = (let both : One code.0 ≡ One is.from = sym code.1.named ∙ is.from_is in cc) in
+          subst (λ (e : ℕ). ReachesNoFault image e) same code.1.sound
+
+      no_fault : (size : ℕ) → size_at image entry ≡ Some size → HasNoFault image entry size
+      no_fault size size_is = each_without image is.from entry size code_sound (direct-reaches image is.from entry code_sound is.reached) size_is
+
+      closed : (size address callee : ℕ) → size_at image entry ≡ Some size → IsCall image entry size address callee → Contains pairs.entries callee
+      closed size address callee size_is calls =
+          (paired.entries_are callee).1 (record {
+            listed = is.listed;
+            is_listed = is.is_listed;
+            from = is.from;
+            from_is = is.from_is;
+            reached = further entry size callee is.reached size_is (called_on image entry size (no_fault size size_is) address callee calls);
+          })
+
+  pub sound_entries : All (IsSound image pairs.entries) pairs.entries
+  sound_entries k d h = sound_reached (get_or pairs.entries k d) ((paired.entries_are (get_or pairs.entries k d)).0 (Contains-get_or pairs.entries k d h))
+
+-- ---- what decompilation answers
+
+-- it lacks memory alone
+pub only_memory : (image : Image) (entry : ℕ) (entries : List ℕ) (error : GraphError) → IsSound image entries entry
+    → IsGraphError image entry entries (2 ^ 64 - 1) error → error ≡ NoMemory
+only_memory image entry entries (Fault fault) sound is = absurd (sound.no_fault is.size is.size_is fault.kind fault.address is.first.fault)
+only_memory image entry entries (Unlisted address callee) sound is = absurd (is.missing (sound.closed is.size address callee is.size_is is.calls))
+only_memory image entry entries (Large count) sound is =
+    let graph = is.graph_is in
+    absurd (sound.small (record {
+      size = graph.size;
+      size_is = graph.size_is;
+      runs = graph.runs;
+      graph_number = number_in entries;
+      node_number = numbers_by (first_in is.firsts);
+      graph = is.graph;
+      graph_is = graph.graph_is;
+      above = omega (arith, is.nodes, is.above);
+    }))
+only_memory image entry entries NoMemory sound is = refl

@@ -1,0 +1,13 @@
+use Rattle.std.proofs.Common.{◌≡◌, ◌++◌, length, map}
+use Rattle.std.specs.Vec.Iter.{into_iter_items, into_iter_len}
+use Rattle.graph_core.specs.Graphs.{graph_of, graphs_of}
+use Rattle.c_graph.specs.declared.source_graph.SourceGraph.{SourceGraph}
+use Rattle.cert_run.proofs.source.add_graphs.Given as goal
+
+-- what is left to add completes the whole
+abbrev pub invariant-loop-one : goal.invariant-loop-one
+invariant-loop-one l = record {
+  long : into_iter_len l.one-iterator ≡ length (into_iter_items l.one-iterator);
+  so_far : graphs_of l.graphs.items ++ map (λ (g : SourceGraph). graph_of g.graph) (into_iter_items l.one-iterator)
+      ≡ graphs_of l.fn.graphs.items ++ map (λ (g : SourceGraph). graph_of g.graph) l.fn.made.items;
+}

@@ -1,0 +1,10 @@
+pub mod Tables
+pub mod Digits
+pub mod Taken
+pub mod Bounds
+pub mod Paths
+pub mod Goings
+pub mod Runs
+pub mod Lists
+pub mod Entries
+pub mod Fields

@@ -1,0 +1,6 @@
+use Rattle.std.proofs.Common.{arith}
+use Rattle.cert_text_parse.proofs.Bounds.{number_small}
+use Rattle.cert_text_parse.proofs.numbers.number.Goals as goal
+
+pub overflow_cast-result : goal.overflow_cast-result
+overflow_cast-result c = record { fits = omega (arith, number_small c.args.cursor.now.rest.now c.decimal.new.self.rest.now c.in-Ok.number c.in-Ok.ensures) }

@@ -1,0 +1,6 @@
+pub mod Outcomes
+pub mod PartOutcomes
+pub mod Terms
+pub mod Views
+pub mod Keywords
+pub mod LineOutcomes

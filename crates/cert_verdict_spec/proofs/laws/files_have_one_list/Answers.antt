@@ -1,5 +1,0 @@
-use Rattle.cert_verdict_spec.proofs.Listing.{one_list}
-use Rattle.cert_verdict_spec.proofs.laws.files_have_one_list.Goals as goal
-
-pub returns : goal.returns
-returns c = one_list

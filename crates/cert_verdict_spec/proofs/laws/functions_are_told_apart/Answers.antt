@@ -1,5 +1,0 @@
-use Rattle.cert_verdict_spec.proofs.Apart.{told_apart}
-use Rattle.cert_verdict_spec.proofs.laws.functions_are_told_apart.Goals as goal
-
-pub returns : goal.returns
-returns c = told_apart

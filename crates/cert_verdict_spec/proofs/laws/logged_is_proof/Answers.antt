@@ -1,5 +1,0 @@
-use Rattle.cert_verdict_spec.proofs.Logged.{logged_is_proof}
-use Rattle.cert_verdict_spec.proofs.laws.logged_is_proof.Goals as goal
-
-pub returns : goal.returns
-returns c = logged_is_proof

@@ -1,4 +1,0 @@
-mod Grown
-mod Locals
-mod Opened
-mod Framed

@@ -1,9 +1,0 @@
-use Rattle.std.proofs.Common.{◌≡◌, ◌++◌, drop}
-use Rattle.agreement_laws.specs.EntryFrame.{argument_facts}
-use Rattle.check_setup.specs.Facts.{facts_of}
-use Rattle.check_setup.proofs.facts.add_arguments.Given as goal
-
--- what is left to add completes the whole
-abbrev pub invariant-loop-number : goal.invariant-loop-number
-invariant-loop-number l =
-    facts_of l.facts.items ++ argument_facts l.number (drop l.number l.parameters) ≡ facts_of l.fn.facts.items ++ argument_facts 0 l.parameters

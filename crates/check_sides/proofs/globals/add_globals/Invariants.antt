@@ -1,6 +1,0 @@
-use Rattle.check_sides.specs.Placed.{ArePlaced}
-use Rattle.check_sides.proofs.globals.add_globals.Given as goal
-
--- the globals of the first symbols are there
-abbrev pub invariant-loop-index : goal.invariant-loop-index
-invariant-loop-index l = ArePlaced l.image l.index l.globals.items

@@ -1,4 +1,0 @@
-pub mod Sides
-pub mod Made
-pub mod Placed
-pub mod Entries

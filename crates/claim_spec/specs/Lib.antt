@@ -1,4 +1,0 @@
-pub mod Initials
-pub mod Source
-pub mod Convention
-pub mod Claim

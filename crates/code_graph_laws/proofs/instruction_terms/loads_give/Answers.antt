@@ -1,5 +1,0 @@
-use Rattle.code_graph_laws.proofs.Access.{loaded_evaluates}
-use Rattle.code_graph_laws.proofs.instruction_terms.loads_give.Goals as goal
-
-pub returns : goal.returns
-returns c = λ s bytes small is kind a n below ea h. loaded_evaluates s bytes small is a n below ea kind h

@@ -1,5 +1,0 @@
-use Rattle.code_graph_laws.proofs.Laid.{laid_is}
-use Rattle.code_graph_laws.proofs.layout.laid_are_code_graphs.Goals as goal
-
-pub returns : goal.returns
-returns c = λ image f first items runs_are are by_first numbered. laid_is image f first items runs_are are by_first numbered

@@ -1,0 +1,404 @@
+-- One step of a run of the graphs of code, and the machine that corresponds to it.
+use Rattle.std.proofs.Common.{◌≡◌, ◌∙◌, ◌⊎◌, inl, inr, ℕ, ◌+◌, ◌%◌, ◌^◌, ◌<◌, ◌≤◌, ◌==◌, ◌&&◌, Bool, true, false, cond, refl, sym, ap, subst, arith, eq-eqb, eqb-true, List, [], ◌∷◌, ◌++◌, length, Option, Some, None, pos}
+use Rattle.std.specs.Prelude.{slice_get, IfSome, IsSome, Contains}
+use Rattle.std.proofs.lemmas.Bool.{le-leb, lt-ltb}
+use Rattle.std.proofs.lemmas.List.{length-append}
+use Rattle.rv_instr.specs.declared.Instr.{Instr}
+use Rattle.rv_instr.specs.declared.Instr.TheVariants.{Jalr}
+use Rattle.rv_machine_spec.specs.Arithmetic.{holds}
+use Rattle.rv_machine_spec.specs.Machine.{Machine, IsMachine, read_register, write_register, past}
+use Rattle.rv_machine_spec.specs.Step as machine
+use Rattle.rv_machine_spec.specs.Step.{execute, goto}
+use Rattle.rv_machine_spec.proofs.Registers.{memory-write}
+use Rattle.rv_machine_spec.proofs.Kept.{execute_keeps, read_below}
+use Rattle.elf_read_spec.specs.Image.{Image, size_at}
+use Rattle.elf_read_spec.specs.Runs.{AreRuns}
+use Rattle.code_reach_spec.specs.Code.{HoldsFixed, InRange, Flow, Falls, Branches, Jumps, Calls, Links, Returns, Stops, flow_of, instr_at, flow_at, nexts_of, aligned, IsReachable, next, call, Reaches, further}
+use Rattle.code_reach_spec.specs.Faults.{goes_to, is_indirect, HasNoFault, ReachesNoFault}
+use Rattle.code_reach_spec.proofs.Direct.{each_without, direct-reaches}
+use Rattle.term_core_spec.specs.Term.{Term}
+use Rattle.term_core_spec.specs.Value.{Assignment, value}
+use Rattle.graph_core_spec.specs.declared.Next.{Next}
+use Rattle.graph_core_spec.specs.declared.Next.TheVariants as to
+use Rattle.graph_core_spec.specs.Graph.{Node, Basic, Cond, Call, Graph, Graphs}
+use Rattle.graph_core_spec.specs.Run.{Waiting, State, Running, Returned, Failed, step, act, go, leave, enter, bound, entered, resumed, is_truth}
+use Rattle.decompile_spec.specs.State.{Alike}
+use Rattle.decompile_spec.specs.InstructionTerms.{operand, effects, branch_test}
+use Rattle.decompile_spec.specs.Blocks.{NodeName, Of, Following, Setting, Ending, Does, call_nodes, tail_call_nodes, toward, onward, chain, leaves, call_inputs, tail_inputs, tests_of, ending_of, nodes_at}
+use Rattle.decompile_spec.specs.CodeGraph.{IsNodeAt, of_instruction}
+use Rattle.decompile_laws.proofs.InstructionTerms.{taken_evaluates}
+use Rattle.decompile_laws.proofs.Access.{operand_evaluates}
+use Rattle.decompile_laws.specs.Together.{Numbering, setting, AreCodeGraphs, is_node, IsAt, at_entrance, at_landing, in_instruction, Began, AreWaiting, nobody, after_call, Corresponds, corresponds, IsSound}
+use Rattle.decompile_laws.specs.Evaluation.{all_hold}
+use Rattle.decompile_laws.proofs.Reached.{first_in, second_in, is_aligned, inside_range, multiple_there, whole_word, has_instruction, has_flow, stays_inside, calls_function, has_code}
+use Rattle.decompile_laws.proofs.Fetched.{steps_by}
+use Rattle.decompile_laws.proofs.Bound.{moved_alike, call_alike, call_began, resumed_alike, resumed_began}
+use Rattle.decompile_laws.proofs.Fields.{AreFields, fields_at}
+use Rattle.decompile_laws.proofs.Falling.{falls}
+use Rattle.decompile_laws.proofs.Turning.{IsBranch, IsJump, branch_is, branch_does, jump_is, jump_does, call_is, call_does, return_does}
+use Rattle.decompile_laws.proofs.Nodes.{test_in, last_in, begins, onward_node, toward_there, node_there, graph_there}
+
+-- the address lies in a function that is reached
+pub record IsAmong (image : Image) (entry address : ℕ) : Type 0 where
+  pub function : ℕ
+  pub size : ℕ
+  pub reached : Reaches image entry function
+  pub sized : size_at image function ≡ Some size
+  pub inside : InRange function size address
+
+-- the machine does the step that the run does
+pub record Goes_on (image : Image) (entry : ℕ) (n : Numbering) (home : ℕ) (m : Machine) (after : State) : Type 0 where
+  pub then : Machine
+  pub does : machine.step m ≡ Some then
+  pub sound : IsSound image then
+  pub among : IsAmong image entry m.pc
+  pub correspondence : Corresponds image entry n home then after
+
+-- the machine returns where the outermost function returns, if it is to a multiple of 4
+pub record Goes_home (image : Image) (entry home : ℕ) (m : Machine) (values : Assignment) : Type 0 where
+  pub then : Machine
+  pub does : machine.step m ≡ Some then
+  pub at_home : then.pc ≡ home
+  pub sound : IsSound image then
+  pub alike : Alike then values
+
+-- what one step of the run is to the machine, where it does something
+pub data Acts (image : Image) (entry : ℕ) (n : Numbering) (home : ℕ) (m : Machine) : State → Type 0 where
+  fails : Acts image entry n home m Failed
+  goes_on : (after : State) → Goes_on image entry n home m after → Acts image entry n home m after
+  returns : (values : Assignment) → IsAmong image entry m.pc → (home % 4 ≡ 0 → Goes_home image entry home m values) → Acts image entry n home m (Returned values)
+
+-- what one step of the run is to the machine: it may wait
+pub data Moves (image : Image) (entry : ℕ) (n : Numbering) (home : ℕ) (m : Machine) (after : State) : Type 0 where
+  acts : Acts image entry n home m after → Moves image entry n home m after
+  waits : Corresponds image entry n home m after → Moves image entry n home m after
+
+-- a machine that a sound one becomes is a machine
+still_machine : (i : Instr) (m then : Machine) → IsMachine m → execute i m ≡ Some then → IsMachine then
+still_machine i m then is does = subst (λ (o : Option Machine). IfSome o IsMachine) does (execute_keeps i m is)
+
+not_leaving : (f : Setting) (target : ℕ) → InRange f.entry f.size target → leaves f target ≡ false
+not_leaving f target inside = rw (le-leb f.entry target inside.from, lt-ltb target (f.entry + f.size) inside.below) (off (target % 4 == 0))
+  where
+    off : (b : Bool) → (b && false) ≡ false
+    off true = refl
+    off false = refl
+
+misaligned : (f : Setting) (target : ℕ) → (target % 4 == 0) ≡ false → toward f target ≡ to.Err
+unfolding toward
+misaligned f target odd = rw odd refl
+
+pub nothing_bound : (values : Assignment) → bound [] values values ≡ values
+unfolding bound
+nothing_bound values = refl
+
+after_first : (a target : ℕ) → target % 4 ≡ 0 → Contains (a ∷ aligned target) target
+after_first a target e = rw (eq-eqb (target % 4) 0 e) (second_in a target)
+
+module _ (image : Image) (entry : ℕ) (n : Numbering) (graphs : Graphs) (home : ℕ) (no_fault : ReachesNoFault image entry) (whole : AreCodeGraphs image entry n graphs) where
+  pub clean : (function size : ℕ) → Reaches image entry function → size_at image function ≡ Some size → HasNoFault image function size
+  clean function size reached sized = each_without image entry function size no_fault (direct-reaches image entry function no_fault reached) sized
+
+  runs_are : (function size : ℕ) → Reaches image entry function → size_at image function ≡ Some size → AreRuns image n.runs
+  runs_are function size reached sized = (whole.each function size reached sized).2.runs_are
+
+  -- the first node of an instruction that is reached
+  pub start_at : (function size address : ℕ) (values : Assignment) → Reaches image entry function → size_at image function ≡ Some size → IsReachable image function size address
+      → IsAt image (setting n function size) values address (n.node_number function (Of address 0))
+  start_at function size address values reached sized there =
+      let found = has_instruction image function size address (clean function size reached sized) there in
+      let flow = has_flow image function address found.0 found.1 in
+      in_instruction found.0 flow.0 [] (tests_of (setting n function size) found.0 flow.0) there found.1 flow.1 refl refl
+      (begins (setting n function size) address found.0 flow.0)
+
+  module _ (function size : ℕ) (reached : Reaches image entry function) (sized : size_at image function ≡ Some size) (m : Machine) (ok : IsSound image m)
+      (back : ℕ) (values : Assignment) (below : List Waiting) (alike : Alike m values) (began : Began values back) (waiting : AreWaiting image entry n home below back) where
+    abbrev f : Setting
+    f = setting n function size
+
+    abbrev g : ℕ
+    g = n.graph_number function
+
+    -- the step at a node that is there
+    pub stepped : (place : NodeName) (node : Node) → IsNodeAt image f place node
+        → step graphs (Running g (n.node_number function place) values below) ≡ act graphs g (n.node_number function place) values below (Some node)
+    unfolding step
+    stepped place node is = ap (act graphs g (n.node_number function place) values below) (node_there image entry n graphs whole function size place node reached sized is)
+
+    pub among : IsReachable image function size m.pc → IsAmong image entry m.pc
+    among there = record { function = function; size = size; reached = reached; sized = sized; inside = inside_range image function size m.pc there }
+
+    -- ---- a test
+
+    pub next_test : (i : Instr) (flow : Flow) (passed : List Term) (test : Term) (left : List Term) → IsReachable image function size m.pc → instr_at image m.pc ≡ Some i
+        → flow_at image function m.pc ≡ Some flow → tests_of f i flow ≡ passed ++ test ∷ left → is_node left (ending_of f m.pc i flow) ≡ true
+        → (step graphs (Running g (n.node_number function (Of m.pc (length passed))) values below) ≡ Failed)
+        ⊎ ((step graphs (Running g (n.node_number function (Of m.pc (length passed))) values below)
+        ≡ Running g (n.node_number function (Of m.pc (length (passed ++ test ∷ [])))) values below) × (is_truth (value values test) ≡ true))
+    unfolding nodes_at
+    next_test i flow passed test left there is flow_is tests more = at (is_truth (value values test)) refl
+      where
+        node : Node
+        node = Cond test (onward f m.pc (0 + length passed + 1) left (ending_of f m.pc i flow)) to.Err
+
+        placed : IsNodeAt image f (Of m.pc (length passed)) node
+        placed = of_instruction m.pc (length passed) i flow node there is flow_is
+            (ap (λ ts. slice_get (chain f m.pc 0 ts (ending_of f m.pc i flow)) (length passed)) tests ∙ test_in f m.pc 0 passed test left (ending_of f m.pc i flow))
+
+        count : 0 + length passed + 1 ≡ length (passed ++ test ∷ [])
+        count = omega (arith, length-append passed (test ∷ []))
+
+        at : (b : Bool) → is_truth (value values test) ≡ b
+            → (step graphs (Running g (n.node_number function (Of m.pc (length passed))) values below) ≡ Failed)
+            ⊎ ((step graphs (Running g (n.node_number function (Of m.pc (length passed))) values below)
+            ≡ Running g (n.node_number function (Of m.pc (length (passed ++ test ∷ [])))) values below) × (is_truth (value values test) ≡ true))
+        at false e = inl (stepped (Of m.pc (length passed)) node placed
+            ∙ ap (λ (b : Bool). go g (cond b (onward f m.pc (0 + length passed + 1) left (ending_of f m.pc i flow)) to.Err) values below) e)
+        at true e = inr (
+          stepped (Of m.pc (length passed)) node placed
+              ∙ ap (λ (b : Bool). go g (cond b (onward f m.pc (0 + length passed + 1) left (ending_of f m.pc i flow)) to.Err) values below) e
+              ∙ ap (λ (x : Next). go g x values below) (onward_node f m.pc (0 + length passed + 1) left (ending_of f m.pc i flow) more)
+              ∙ ap (λ k. Running g (n.node_number function (Of m.pc k)) values below) count,
+          e,
+        )
+
+    -- ---- the last node of an instruction
+
+    module _ (i : Instr) (passed : List Term) (there : IsReachable image function size m.pc) (is : instr_at image m.pc ≡ Some i) where
+      abbrev here_now : State
+      here_now = Running g (n.node_number function (Of m.pc (length passed))) values below
+
+      -- where it is, and what that node does
+      at_last : (flow : Flow) (node : Node) → flow_at image function m.pc ≡ Some flow → tests_of f i flow ≡ passed → ending_of f m.pc i flow ≡ Does node
+          → step graphs here_now ≡ act graphs g (n.node_number function (Of m.pc (length passed))) values below (Some node)
+      unfolding nodes_at
+      at_last flow node flow_is tests ends = stepped (Of m.pc (length passed)) node (of_instruction m.pc (length passed) i flow node there is flow_is
+          (ap (λ ts. slice_get (chain f m.pc 0 ts (ending_of f m.pc i flow)) (length passed)) tests
+          ∙ ap (λ (e : Ending). slice_get (chain f m.pc 0 passed e) (length passed)) ends
+          ∙ last_in f m.pc 0 passed node))
+
+      space : m.pc + 4 ≤ 2 ^ 32
+      space = whole_word image function size m.pc there
+
+      steps : machine.step m ≡ execute i m
+      steps = steps_by image m i ok.fixed space is
+
+      fields : AreFields i
+      fields = fields_at image m.pc i is
+
+      known : HasNoFault image function size
+      known = clean function size reached sized
+
+      -- on to an instruction of the function
+      arrives : (target : ℕ) (then : Machine) (after : Assignment) → execute i m ≡ Some then → HoldsFixed image then.memory → then.pc ≡ target
+          → IsReachable image function size target → Alike then after → Began after back
+          → Goes_on image entry n home m (Running g (n.node_number function (Of target 0)) after below)
+      arrives target then after does fixed pc_is reach same start = record {
+        then = then;
+        does = steps ∙ does;
+        sound = record { is_machine = still_machine i m then ok.is_machine does; fixed = fixed };
+        among = among there;
+        correspondence = corresponds function size _ back after below reached sized
+            (subst (λ p. IsAt image f after p (n.node_number function (Of target 0))) (sym pc_is) (start_at function size target after reached sized reach)) same start waiting;
+      }
+
+      moved_to : (after : State) → step graphs here_now ≡ after → Acts image entry n home m after → Acts image entry n home m (step graphs here_now)
+      moved_to after e moves = subst (Acts image entry n home m) (sym e) moves
+
+      -- to the next instruction
+      by_falling : flow_at image function m.pc ≡ Some Falls → flow_of None m.pc i ≡ Falls → tests_of f i Falls ≡ passed → all_hold values passed ≡ true
+          → Acts image entry n home m (step graphs here_now)
+      unfolding ending_of tests_of
+      by_falling flow_is alone tests hold =
+          let fell = falls image m values back ok alike began n.runs (runs_are function size reached sized) i fields alone (subst (λ (ts : List Term). all_hold values ts ≡ true) (sym tests) hold) in
+          let inside = stays_inside image function size m.pc known there i (m.pc + 4) is (subst (λ (fl : Flow). Contains (goes_to m.pc fl) (m.pc + 4)) (sym alone) (first_in (m.pc + 4) [])) in
+          let reach = next m.pc (m.pc + 4) Falls there flow_is (first_in (m.pc + 4) []) inside in
+          let pc_is : fell.then.pc ≡ m.pc + 4 = omega (arith, fell.pc_is, (has_code image function size m.pc there).range_fixed.in_space, inside.below) in
+          moved_to _ (at_last Falls _ flow_is tests refl
+          ∙ ap (λ (x : Next). go g x (bound (effects m.pc i) values values) below) (toward_there f (m.pc + 4) (multiple_there image function size (m.pc + 4) reach) inside))
+          (goes_on _ (arrives (m.pc + 4) fell.then _ fell.does fell.fixed pc_is reach fell.alike fell.began))
+
+      -- an error
+      by_error : (flow : Flow) → flow_at image function m.pc ≡ Some flow → tests_of f i flow ≡ passed → ending_of f m.pc i flow ≡ Does (Basic [] to.Err)
+          → Acts image entry n home m (step graphs here_now)
+      by_error flow flow_is tests ends = moved_to Failed (at_last flow (Basic [] to.Err) flow_is tests ends) fails
+
+      -- by a jump or a branch that is taken, if the target is aligned
+      to_target : (target : ℕ) (flow : Flow) → flow_at image function m.pc ≡ Some flow → Contains (nexts_of m.pc flow) target → InRange function size target
+          → execute i m ≡ Some (record m { pc = target }) → Goes_on image entry n home m (Running g (n.node_number function (Of target 0)) values below)
+      to_target target flow flow_is among_them inside does =
+          arrives target (record m { pc = target }) values does ok.fixed refl (next m.pc target flow there flow_is among_them inside) (moved_alike values m target alike) began
+
+      -- a branch
+      by_branch : (target : ℕ) → flow_at image function m.pc ≡ Some (Branches target) → flow_of None m.pc i ≡ Branches target → tests_of f i (Branches target) ≡ passed
+          → Acts image entry n home m (step graphs here_now)
+      unfolding ending_of tests_of branch_test
+      by_branch target flow_is alone tests = at (holds b.test (read_register m b.left) (read_register m b.right)) refl
+        where
+          b : IsBranch i m.pc target
+          b = branch_is i m.pc target alone
+
+          sides : (b.left < 32) × (b.right < 32)
+          sides = subst AreFields b.is fields
+
+          result : is_truth (value values (branch_test i)) ≡ holds b.test (read_register m b.left) (read_register m b.right)
+          result = ap (λ (j : Instr). is_truth (value values (branch_test j))) b.is
+              ∙ ap is_truth (taken_evaluates values b.test (operand b.left) (operand b.right) (read_register m b.left) (read_register m b.right)
+              (read_below m b.left ok.is_machine) (read_below m b.right ok.is_machine)
+              (operand_evaluates values m alike b.left sides.0) (operand_evaluates values m alike b.right sides.1))
+
+          does : execute i m ≡ cond (holds b.test (read_register m b.left) (read_register m b.right)) (goto target m) (Some (machine.next m))
+          does = ap (λ (j : Instr). execute j m) b.is ∙ branch_does m b.test b.left b.right b.offset
+              ∙ ap (λ t. cond (holds b.test (read_register m b.left) (read_register m b.right)) (goto t m) (Some (machine.next m))) (sym b.target_is)
+
+          stays : (t : ℕ) → Contains ((m.pc + 4) ∷ target ∷ []) t → InRange function size t
+          stays t among_them = stays_inside image function size m.pc known there i t is (subst (λ (fl : Flow). Contains (goes_to m.pc fl) t) (sym alone) among_them)
+
+          on_step : (x : Bool) → is_truth (value values (branch_test i)) ≡ x
+              → step graphs here_now ≡ go g (cond x (toward f target) (toward f (m.pc + 4))) values below
+          on_step x e = at_last (Branches target) (Cond (branch_test i) (toward f target) (toward f (m.pc + 4))) flow_is tests refl
+              ∙ ap (λ (y : Bool). go g (cond y (toward f target) (toward f (m.pc + 4))) values below) e
+
+          taken_so : (t : Bool) → (target % 4 == 0) ≡ t → execute i m ≡ goto target m → step graphs here_now ≡ go g (toward f target) values below
+              → Acts image entry n home m (step graphs here_now)
+          taken_so true even done e =
+              let whole_target : target % 4 ≡ 0 = eqb-true (target % 4) 0 even in
+              let inside = stays target (second_in (m.pc + 4) target) in
+              let taken_on : goto target m ≡ Some (record m { pc = target }) = rw even refl in
+              moved_to _ (e ∙ ap (λ (x : Next). go g x values below) (toward_there f target whole_target inside))
+              (goes_on _ (to_target target (Branches target) flow_is (after_first (m.pc + 4) target whole_target) inside (done ∙ taken_on)))
+          taken_so false odd done e = moved_to Failed (e ∙ ap (λ (x : Next). go g x values below) (misaligned f target odd)) fails
+
+          at : (x : Bool) → holds b.test (read_register m b.left) (read_register m b.right) ≡ x → Acts image entry n home m (step graphs here_now)
+          at true e = taken_so (target % 4 == 0) refl (does ∙ ap (λ (y : Bool). cond y (goto target m) (Some (machine.next m))) e) (on_step true (result ∙ e))
+          at false e =
+              let inside = stays (m.pc + 4) (first_in (m.pc + 4) (target ∷ [])) in
+              let reach = next m.pc (m.pc + 4) (Branches target) there flow_is (first_in (m.pc + 4) (aligned target)) inside in
+              let pc_is : past m.pc 4 ≡ m.pc + 4 = omega (arith, (has_code image function size m.pc there).range_fixed.in_space, inside.below) in
+              moved_to _ (on_step false (result ∙ e) ∙ ap (λ (x : Next). go g x values below) (toward_there f (m.pc + 4) (multiple_there image function size (m.pc + 4) reach) inside))
+              (goes_on _ (arrives (m.pc + 4) (machine.next m) values (does ∙ ap (λ (y : Bool). cond y (goto target m) (Some (machine.next m))) e) ok.fixed pc_is reach
+              (moved_alike values m (past m.pc 4) alike) began))
+
+      -- a jump
+      by_jump : (target : ℕ) → flow_at image function m.pc ≡ Some (Jumps target) → flow_of None m.pc i ≡ Jumps target → tests_of f i (Jumps target) ≡ passed
+          → Acts image entry n home m (step graphs here_now)
+      unfolding ending_of tests_of
+      by_jump target flow_is alone tests = at (target % 4 == 0) refl
+        where
+          j : IsJump i m.pc 0 target
+          j = jump_is i m.pc target alone
+
+          inside : InRange function size target
+          inside = stays_inside image function size m.pc known there i target is (subst (λ (fl : Flow). Contains (goes_to m.pc fl) target) (sym alone) (first_in target []))
+
+          ends : ending_of f m.pc i (Jumps target) ≡ Does (Basic [] (toward f target))
+          ends = ap (λ (b : Bool). Does (cond b (Call (n.graph_number target) tail_inputs [] (n.node_number function (Following m.pc tail_call_nodes))) (Basic [] (toward f target)))) (not_leaving f target inside)
+
+          does : execute i m ≡ machine.aligned 4 target (record m { pc = target })
+          does = ap (λ (k : Instr). execute k m) j.is ∙ jump_does m j.offset ∙ ap (λ t. machine.aligned 4 t (record m { pc = t })) (sym j.target_is)
+
+          on_step : step graphs here_now ≡ go g (toward f target) (bound [] values values) below
+          on_step = at_last (Jumps target) (Basic [] (toward f target)) flow_is tests ends
+
+          at : (t : Bool) → (target % 4 == 0) ≡ t → Acts image entry n home m (step graphs here_now)
+          at true even =
+              let whole_target : target % 4 ≡ 0 = eqb-true (target % 4) 0 even in
+              let done : machine.aligned 4 target (record m { pc = target }) ≡ Some (record m { pc = target }) = rw even refl in
+              moved_to _ (on_step ∙ ap (λ (x : Next). go g x (bound [] values values) below) (toward_there f target whole_target inside) ∙ ap (λ (v : Assignment). Running g (n.node_number function (Of target 0)) v below) (nothing_bound values))
+              (goes_on _ (to_target target (Jumps target) flow_is (is_aligned target whole_target) inside (does ∙ done)))
+          at false odd = moved_to Failed (on_step ∙ ap (λ (x : Next). go g x (bound [] values values) below) (misaligned f target odd)) fails
+
+      -- a call
+      by_call : (target : ℕ) → flow_at image function m.pc ≡ Some (Calls target) → flow_of None m.pc i ≡ Calls target → tests_of f i (Calls target) ≡ passed
+          → Acts image entry n home m (step graphs here_now)
+      unfolding ending_of tests_of
+      by_call target flow_is alone tests = at (target % 4 == 0) refl
+        where
+          j : IsJump i m.pc 1 target
+          j = call_is i m.pc target alone
+
+          ends : (t : Bool) → (target % 4 == 0) ≡ t
+              → ending_of f m.pc i (Calls target) ≡ Does (cond t (Call (n.graph_number target) (call_inputs (past m.pc 4)) [] (n.node_number function (Following m.pc call_nodes))) (Basic [] to.Err))
+          ends t e = ap (λ (b : Bool). Does (cond b (Call (n.graph_number target) (call_inputs (past m.pc 4)) [] (n.node_number function (Following m.pc call_nodes))) (Basic [] to.Err))) e
+
+          then : Machine
+          then = record (write_register m 1 (past m.pc 4)) { pc = target }
+
+          does : execute i m ≡ machine.aligned 4 target then
+          does = ap (λ (k : Instr). execute k m) j.is ∙ call_does m j.offset ∙ ap (λ t. machine.aligned 4 t (record (write_register m 1 (past m.pc 4)) { pc = t })) (sym j.target_is)
+
+          held : Waiting
+          held = record { graph = g; call = n.node_number function (Of m.pc (length passed)); landing = n.node_number function (Following m.pc call_nodes); outputs = []; values = values }
+
+          called : (o : Option ℕ) → size_at image target ≡ o → IsSome o → target % 4 ≡ 0 → execute i m ≡ Some then
+              → step graphs here_now ≡ enter (n.graph_number target) (slice_get graphs (n.graph_number target)) (entered (call_inputs (past m.pc 4)) values) (held ∷ below)
+              → Acts image entry n home m (step graphs here_now)
+          called None e some whole_target done on_step = absurd (cc)
+          called (Some callee_size) e some whole_target done on_step =
+              let sized_there : IsSome (size_at image target) = rw e refl in
+              let reach : Reaches image entry target = further function size target reached sized (call m.pc target there flow_is sized_there) in
+              let graph = graph_there image entry n graphs whole target callee_size reach e in
+              moved_to _ (on_step ∙ ap (λ (o : Option Graph). enter (n.graph_number target) o (entered (call_inputs (past m.pc 4)) values) (held ∷ below)) graph.1
+              ∙ ap (λ k. Running (n.graph_number target) k (entered (call_inputs (past m.pc 4)) values) (held ∷ below)) graph.2)
+              (goes_on _ (record {
+                then = then;
+                does = steps ∙ done;
+                sound = record { is_machine = still_machine i m then ok.is_machine done; fixed = subst (HoldsFixed image) (sym (memory-write m 1 (past m.pc 4))) ok.fixed };
+                among = among there;
+                correspondence = corresponds target callee_size _ (past m.pc 4) (entered (call_inputs (past m.pc 4)) values) (held ∷ below) reach e (at_entrance refl)
+                    (moved_alike _ (write_register m 1 (past m.pc 4)) target (call_alike values m (past m.pc 4) ok.is_machine.count alike))
+                    (call_began values (past m.pc 4))
+                    (after_call function size m.pc target (n.node_number function (Of m.pc (length passed))) back values below reached sized there flow_is whole_target began waiting);
+              }))
+
+          at : (t : Bool) → (target % 4 == 0) ≡ t → Acts image entry n home m (step graphs here_now)
+          at true even =
+              let done : machine.aligned 4 target then ≡ Some then = rw even refl in
+              called (size_at image target) refl (calls_function image function size m.pc known there i target is alone) (eqb-true (target % 4) 0 even) (does ∙ done)
+              (at_last (Calls target) _ flow_is tests (ends true even))
+          at false odd = by_error (Calls target) flow_is tests (ends false odd)
+
+      -- each flow but a return
+      pub last_moves : (flow : Flow) → flow_at image function m.pc ≡ Some flow → flow ≡ flow_of None m.pc i → is_indirect i (flow_of None m.pc i) ≡ false
+          → tests_of f i flow ≡ passed → all_hold values passed ≡ true → is_node [] (ending_of f m.pc i flow) ≡ true → Acts image entry n home m (step graphs here_now)
+      unfolding ending_of
+      last_moves Falls flow_is alone direct tests hold node = by_falling flow_is (sym alone) tests hold
+      last_moves (Branches target) flow_is alone direct tests hold node = by_branch target flow_is (sym alone) tests
+      last_moves (Jumps target) flow_is alone direct tests hold node = by_jump target flow_is (sym alone) tests
+      last_moves (Calls target) flow_is alone direct tests hold node = by_call target flow_is (sym alone) tests
+      last_moves (Links target) flow_is alone direct tests hold node = by_error (Links target) flow_is tests refl
+      last_moves Returns flow_is alone direct tests hold node = absurd (cc)
+      last_moves Stops flow_is alone direct tests hold node = by_error Stops flow_is tests refl
+
+-- ---- a return
+
+module _ (image : Image) (entry : ℕ) (n : Numbering) (graphs : Graphs) (home : ℕ) (no_fault : ReachesNoFault image entry) (whole : AreCodeGraphs image entry n graphs)
+    (m : Machine) (ok : IsSound image m) (values : Assignment) (alike : Alike m values) (among_them : IsAmong image entry m.pc)
+    (i : Instr) (fetched : machine.step m ≡ execute i m) (is_return : i ≡ Jalr 0 1 (pos 0)) where
+  -- to the function that waits, or home
+  pub comes_back : (below : List Waiting) (back : ℕ) → AreWaiting image entry n home below back → read_register m 1 ≡ back → Acts image entry n home m (leave values below)
+  comes_back _ _ nobody same =
+      returns values among_them (λ even. record {
+        then = record m { pc = home };
+        does = fetched ∙ ap (λ (k : Instr). execute k m) is_return ∙ return_does m home same (omega (arith, same, read_below m 1 ok.is_machine)) even;
+        at_home = refl;
+        sound = record {
+          is_machine = still_machine (Jalr 0 1 (pos 0)) m (record m { pc = home }) ok.is_machine (return_does m home same (omega (arith, same, read_below m 1 ok.is_machine)) even);
+          fixed = ok.fixed;
+        };
+        alike = moved_alike values m home alike;
+      })
+  comes_back _ _ (after_call function size address target node back waited below reached sized there flow_is even began waiting) same =
+      let here_even : address % 4 ≡ 0 = multiple_there image function size address there in
+      let back_even : past address 4 % 4 ≡ 0 = omega (arith, here_even, whole_word image function size address there) in
+      let returned : execute (Jalr 0 1 (pos 0)) m ≡ Some (record m { pc = past address 4 }) = return_does m (past address 4) same (omega arith) back_even in
+      goes_on _ (record {
+        then = record m { pc = past address 4 };
+        does = fetched ∙ ap (λ (k : Instr). execute k m) is_return ∙ returned;
+        sound = record { is_machine = still_machine (Jalr 0 1 (pos 0)) m (record m { pc = past address 4 }) ok.is_machine returned; fixed = ok.fixed };
+        among = among_them;
+        correspondence = corresponds function size (n.node_number function (Following address call_nodes)) back (resumed [] values waited) below reached sized
+            (at_landing address target there flow_is even refl)
+            (resumed_alike values waited (record m { pc = past address 4 }) (moved_alike values m (past address 4) alike))
+            (resumed_began values waited back began) waiting;
+      })

@@ -1,8 +1,0 @@
-use Rattle.std.proofs.Common.{refl}
-use Rattle.term_spec.specs.Same.{same_term}
-use Rattle.flat_spec.specs.Flat.{with_loads, without_loads}
-use Rattle.flat_spec.proofs.examples.loads_at_two_addresses_are_two_bytes.Goals as goal
-
-pub returns : goal.returns
-unfolding same_term with_loads without_loads
-returns c = (refl, (refl, tt))

@@ -1,5 +1,0 @@
-use Rattle.flat_spec.proofs.Validity.{equally}
-use Rattle.flat_spec.proofs.laws.flat_terms_are_equally_valid.Goals as goal
-
-pub returns : goal.returns
-returns c = equally

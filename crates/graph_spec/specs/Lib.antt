@@ -1,5 +1,0 @@
-pub mod Graph
-pub mod Run
-pub mod Sorts
-pub mod Variables
-pub mod Fixed

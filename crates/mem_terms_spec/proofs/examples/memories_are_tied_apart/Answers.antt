@@ -1,0 +1,8 @@
+use Rattle.std.proofs.Common.{refl}
+use Rattle.term_core_spec.specs.Same.{same_term}
+use Rattle.mem_terms_spec.specs.Flat.{with_loads, without_loads}
+use Rattle.mem_terms_spec.proofs.examples.memories_are_tied_apart.Goals as goal
+
+pub returns : goal.returns
+unfolding same_term with_loads without_loads
+returns c = (refl, (refl, tt))

@@ -1,5 +1,0 @@
-use Rattle.normal_spec.proofs.Soundness.{keeps_normal}
-use Rattle.normal_spec.proofs.laws.normal_form_has_the_value.Goals as goal
-
-pub returns : goal.returns
-returns c = λ runs small t s h. (keeps_normal runs small t s h).value_is

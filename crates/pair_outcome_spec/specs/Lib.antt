@@ -1,3 +1,0 @@
-pub mod Code
-pub mod Nodes
-pub mod Outcome

@@ -1,0 +1,5 @@
+pub mod SourceReach
+pub mod Faults
+pub mod Code
+pub mod Nodes
+pub mod Outcome

@@ -1,2 +1,0 @@
-pub mod SourceReach
-pub mod Faults

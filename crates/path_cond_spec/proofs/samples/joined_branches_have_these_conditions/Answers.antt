@@ -1,0 +1,14 @@
+use Rattle.std.proofs.Common.{refl}
+use Rattle.term_core_spec.specs.Same.{same_term}
+use Rattle.term_core_spec.specs.Substitution.{substituted}
+use Rattle.visit_walk_spec.specs.Visits.{edges_of}
+use Rattle.path_cond_spec.specs.Conditions.{chosen, merged, assigned, conditionals}
+use Rattle.path_cond_spec.proofs.samples.joined_branches_have_these_conditions.Goals as goal
+
+pub returns-clause-conditions : goal.returns-clause-conditions
+unfolding same_term substituted edges_of chosen merged assigned conditionals
+returns-clause-conditions c = refl
+
+pub returns-clause-word : goal.returns-clause-word
+unfolding same_term substituted edges_of chosen merged assigned conditionals
+returns-clause-word c = refl

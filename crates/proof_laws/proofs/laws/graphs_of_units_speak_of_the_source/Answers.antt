@@ -1,5 +1,0 @@
-use Rattle.proof_laws.proofs.SourceGraphs.{source_is_own}
-use Rattle.proof_laws.proofs.laws.graphs_of_units_speak_of_the_source.Goals as goal
-
-pub returns : goal.returns
-returns c = λ unit where_it_is is. source_is_own unit where_it_is is.bodies_typed

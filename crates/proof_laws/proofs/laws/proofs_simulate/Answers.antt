@@ -1,6 +1,0 @@
-use Rattle.proof_laws.proofs.Simulated.{simulated}
-use Rattle.proof_laws.proofs.laws.proofs_simulate.Goals as goal
-
-pub returns : goal.returns
-returns c = λ q earlier origin start goals holds more zone is sides small right begins proved.
-    simulated q is sides small earlier right zone origin start goals holds proved more begins

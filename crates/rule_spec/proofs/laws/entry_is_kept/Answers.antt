@@ -1,5 +1,0 @@
-use Rattle.rule_spec.proofs.Kept.{entry_is_kept}
-use Rattle.rule_spec.proofs.laws.entry_is_kept.Goals as goal
-
-pub returns : goal.returns
-returns c = λ convention f known more are is. entry_is_kept convention f known are more is

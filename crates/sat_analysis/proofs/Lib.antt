@@ -1,2 +1,0 @@
-mod Markings
-mod Steps

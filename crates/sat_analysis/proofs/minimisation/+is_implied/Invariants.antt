@@ -1,4 +1,0 @@
-use Rattle.sat_analysis.proofs.minimisation.+is_implied.Given as goal
-
-abbrev pub decreases-is_implied : goal.decreases-is_implied
-decreases-is_implied l = l.depth

@@ -1,0 +1,4 @@
+pub mod Marked
+pub mod Trimmed
+mod Markings
+mod Explanations

@@ -1,0 +1,18 @@
+use Rattle.std.proofs.Common.{rules, ◌≡◌, ◌++◌, ◌∷◌, [], ◌∙◌, true, take, length, refl, ap, sym, subst}
+use Rattle.std.proofs.lemmas.List.{take_more}
+use Rattle.std.proofs.lemmas.Option.{slice_get_read}
+use Rattle.clause_check_spec.specs.Clause.{is_of}
+use Rattle.sat_search_spec.specs.Clauses.{Has}
+use Rattle.sat_search_spec.proofs.Members.{has_at}
+use Rattle.sat_search_state.specs.Visits.{AreFalse, IsSameOrFalse}
+use Rattle.sat_search_state.proofs.Turns.{false_more, literal_of}
+use Rattle.sat_search_state.proofs.propagation.find_open.Goals as goal
+
+pub loop-literal-preserved : goal.loop-literal-preserved
+loop-literal-preserved c =
+    let i = c.loop-literal.literal-index in
+    let l = c.literal-item.result in
+    let more = take_more c.args.clause.now i l c.loop-literal-test.true ∙ ap (λ m. take i c.args.clause.now ++ m ∷ []) (sym c.literal-item.is) in
+    let one : IsSameOrFalse c.args.trail.now c.args.other l = search rules in
+    subst (λ clause. AreFalse clause c.args.trail.now c.args.other) (sym more)
+    (false_more (take i c.args.clause.now) c.args.trail.now c.args.other l c.loop-literal.invariant one)

@@ -1,0 +1,10 @@
+use Rattle.std.proofs.Common.{◌∙◌}
+use Rattle.term_bank.specs.Nodes.{tree_at}
+use Rattle.term_norm_rules.proofs.Sameness.{same_not, not_same_not}
+use Rattle.term_norm_rules.proofs.patterns.is_not_of.Goals as goal
+
+pub returns-in-Some : goal.returns-in-Some
+returns-in-Some c = c.same.ensures ∙ same_not (tree_at c.args.bank.now c.args.x) (tree_at c.args.bank.now c.in-Some.a) (tree_at c.args.bank.now c.args.argument) c.in-Some.ensures.tree
+
+pub returns-in-None : goal.returns-in-None
+returns-in-None c = not_same_not (tree_at c.args.bank.now c.args.x) (tree_at c.args.bank.now c.args.argument) c.in-None.ensures.tree

@@ -1,0 +1,12 @@
+use Rattle.std.proofs.Common.{refl, ◌∙◌, length}
+use Rattle.term_norm_spec.specs.Normal.{normal_less}
+use Rattle.term_norm_rules.proofs.truths.less_form.Goals as goal
+
+pub returns-clause-within : goal.returns-clause-within
+returns-clause-within c =
+    c.first_of.ensures.within (length c.args.bank.now)
+    (c.value_of_two.ensures.within (length c.args.bank.now), (tt, (tt, tt))) (c.requires.x_within, c.requires.y_within)
+
+pub returns-clause-tree : goal.returns-clause-tree
+unfolding normal_less
+returns-clause-tree c = c.first_of.ensures.tree c.args.bank.now ∙ rw (c.value_of_two.ensures.test, c.value_of_two.ensures.tree, c.same.ensures, c.is_zero.ensures) refl

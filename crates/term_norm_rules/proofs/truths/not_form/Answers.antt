@@ -1,0 +1,12 @@
+use Rattle.std.proofs.Common.{refl, ◌∙◌, length}
+use Rattle.term_norm_spec.specs.Normal.{normal_not}
+use Rattle.term_norm_rules.proofs.truths.not_form.Goals as goal
+
+pub returns-clause-within : goal.returns-clause-within
+returns-clause-within c =
+    c.first_of.ensures.within (length c.args.bank.now)
+    (c.value_of_one.ensures.within (length c.args.bank.now), tt) (c.found_or-inner.ensures.within (length c.args.bank.now) c.under_not.ensures.within c.requires)
+
+pub returns-clause-tree : goal.returns-clause-tree
+unfolding normal_not
+returns-clause-tree c = c.first_of.ensures.tree c.args.bank.now ∙ rw (c.value_of_one.ensures.test, c.value_of_one.ensures.tree, c.found_or-inner.ensures.tree c.args.bank.now, c.under_not.ensures.tree) refl

@@ -1,0 +1,12 @@
+use Rattle.std.proofs.Common.{refl, ◌∙◌, length}
+use Rattle.term_norm_spec.specs.Normal.{normal_subtract}
+use Rattle.term_norm_rules.proofs.words.subtract_form.Goals as goal
+
+pub returns-clause-within : goal.returns-clause-within
+returns-clause-within c =
+    c.first_of.ensures.within (length c.args.bank.now)
+    (c.value_of_two-value.ensures.within (length c.args.bank.now), (c.requires.x_within, tt)) c.difference_form.ensures.within
+
+pub returns-clause-tree : goal.returns-clause-tree
+unfolding normal_subtract
+returns-clause-tree c = c.first_of.ensures.tree c.args.bank.now ∙ rw (c.value_of_two-value.ensures.test, c.value_of_two-value.ensures.tree, c.same.ensures, c.difference_form.ensures.tree) refl

@@ -1,0 +1,7 @@
+use Rattle.std.proofs.Common.{refl}
+use Rattle.term_norm_spec.proofs.Computes.{forms_compute}
+use Rattle.term_norm_spec.proofs.examples.nothing_is_less_than_0.Goals as goal
+
+pub returns : goal.returns
+unfolding forms_compute
+returns c = (refl, (refl, (refl, tt)))

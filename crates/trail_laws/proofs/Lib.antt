@@ -1,2 +1,0 @@
-pub mod Excluded
-pub mod Truths

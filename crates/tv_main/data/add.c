@@ -1,1 +1,0 @@
-unsigned f(unsigned a,unsigned b){return a+b;}

@@ -1,0 +1,31 @@
+-- The obligations of the functions of both sides are truth values.
+use Rattle.std.proofs.Common.{◌<◌, ◌^◌, get_or}
+use Rattle.std.proofs.lemmas.List.Elements.{All-map}
+use Rattle.elf_read_spec.proofs.Runs.{runs_have_bytes}
+use Rattle.agreement_laws.specs.EntryFrame.{Pair, entry_frame}
+use Rattle.agreement_laws.specs.Statements.{IsPair}
+use Rattle.agreement_laws.proofs.Pairs.{runs_are}
+use Rattle.validity_laws.specs.Derivation.{Function, pair_for, AreSides, IsFunction}
+use Rattle.validity_laws.proofs.Functions.{is_pair}
+use Rattle.validity_laws.specs.CheckStatements.{listed_of, IsFile}
+use Rattle.validity_laws.proofs.Graphs.{obligations_good, entry_good}
+use Rattle.prove_run_spec.specs.Proofs.{HasTruths}
+use Rattle.validity_laws.specs.Laws.{IsSorted, FunctionsHaveTruths}
+
+module _ (q : Pair) (g : Function) (sides : AreSides q) (file : IsFile q) (function : IsFunction q g) (small : g.stack < 2 ^ 32) where
+  abbrev p : Pair
+  p = pair_for q g
+
+  is : IsPair p
+  is = is_pair q g sides function
+
+  are_truths : HasTruths (listed_of q g)
+  are_truths terms are k d below = (obligations_good q g sides file function small (entry_frame p).start terms (entry_good q g sides file function small) are k d below).sorted
+
+  is_sorted : IsSorted (listed_of q g)
+  is_sorted = record { truths = are_truths; bytes = runs_have_bytes p.image p.numbering.runs file.bytes (runs_are p is) }
+
+pub have_truths : FunctionsHaveTruths
+have_truths q functions sides file are =
+    All-map IsSorted (listed_of q) functions
+    (λ k d below. is_sorted q (get_or functions k d) sides file (are.each k d below) (are.small k d below))

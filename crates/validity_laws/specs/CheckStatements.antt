@@ -1,0 +1,59 @@
+-- What the laws of checked certificates say.
+use Rattle.std.specs.Prelude.{◌≡◌, ◌<◌, ◌^◌, [], ◌∷◌, List, map, All, Contains, IfSome}
+use Rattle.elf_read_spec.specs.Image.{function_named, global_pointer}
+use Rattle.elf_read_spec.specs.Runs.{HasBytes}
+use Rattle.elf_read_spec.specs.declared.SymbolValues.TheVariants.{One}
+use Rattle.code_reach_spec.specs.Code.{IsStack}
+use Rattle.cert_text_spec.specs.Derivation.{Derives}
+use Rattle.cert_text_spec.specs.Lines.{Line}
+use Rattle.cert_text_spec.specs.Certificates.{AHeader, Fits, after}
+use Rattle.validity_spec.specs.Claim.{IsValid}
+use Rattle.agreement_laws.specs.EntryFrame.{Pair, entry_frame, entry_opening}
+use Rattle.validity_laws.specs.Derivation.{Function, pair_for, no_zone, stated, AreSides, IsFunction}
+use Rattle.cert_check_spec.specs.Verdict.{Listed, IsProof}
+use Rattle.validity_laws.specs.Closed.{IsClosed, HasPart}
+
+-- lines that are expected one after the other, as those of every certificate are
+abbrev pub AreLines : List Line → Type 0
+AreLines lines = Derives Fits after (AHeader ∷ []) lines
+
+-- where no line breaks a rule each listed function has a part
+abbrev pub PartsAreClosed : Type 0
+PartsAreClosed = (listed : List Listed) (lines : List Line) → AreLines lines → IsProof listed lines → (f : Listed) → Contains listed f → HasPart listed f
+
+-- ---- functions of an executable and of a unit
+
+-- a function as it is listed: its frame at the entry
+abbrev pub listed_of : Pair → Function → Listed
+listed_of q g = record {
+  name = g.body.name;
+  stack = g.stack;
+  convention = stated (pair_for q g);
+  opening = entry_opening (pair_for q g) no_zone;
+  frame = entry_frame (pair_for q g);
+  runs = q.numbering.runs;
+}
+
+-- what the file has are bytes, and its global pointer is a word
+pub record IsFile (q : Pair) : Type 0 where
+  pub bytes : HasBytes q.image
+  pub pointer : IfSome (global_pointer q.image) (λ p. p < 2 ^ 32)
+
+-- each is one of both sides, and no two have a name
+pub record AreFunctions (q : Pair) (functions : List Function) : Type 0 where
+  pub each : All (IsFunction q) functions
+  pub small : All (λ (g : Function). g.stack < 2 ^ 32) functions
+  pub apart : (g h : Function) → Contains functions g → Contains functions h → g.body.name ≡ h.body.name → g ≡ h
+
+-- of a certificate that is a proof of the functions, each that the file has at its name, and that takes this much stack,
+-- is valid
+abbrev pub ProofsGiveValidity : Type 0
+ProofsGiveValidity = (q : Pair) (functions : List Function) (lines : List Line) → AreSides q → IsFile q → AreFunctions q functions → AreLines lines
+    → IsProof (map (listed_of q) functions) lines → (g : Function) → Contains functions g → function_named q.image g.body.name ≡ One g.entry
+    → IsStack q.image g.entry g.stack → IsValid q.image q.unit g.body.name g.stack
+
+-- a function whose frame at the entry has a proof by Leaf and Case, each obligation of which is closed, is valid, where
+-- the file has it at its name and it takes this much stack
+abbrev pub ClosedIsValid : Type 0
+ClosedIsValid = (q : Pair) (g : Function) → AreSides q → IsFile q → IsFunction q g → g.stack < 2 ^ 32 → IsClosed (listed_of q g) (listed_of q g).frame
+    → function_named q.image g.body.name ≡ One g.entry → IsStack q.image g.entry g.stack → IsValid q.image q.unit g.body.name g.stack

@@ -1,0 +1,5 @@
+pub mod Derivation
+pub mod Statements
+pub mod Closed
+pub mod CheckStatements
+pub mod Laws

@@ -1,6 +1,0 @@
-use Rattle.verdict_spec.proofs.Exists.{each-source}
-use Rattle.verdict_spec.proofs.Sources.{one-source}
-use Rattle.verdict_spec.proofs.one_source.Goals as goal
-
-pub returns : goal.returns
-returns c = record { one = one-source; each = each-source }

@@ -1,5 +1,0 @@
-use Rattle.verdict_spec.proofs.Alike.{one-verdict}
-use Rattle.verdict_spec.proofs.one_verdict.Goals as goal
-
-pub returns : goal.returns
-returns c = one-verdict

@@ -1,5 +1,0 @@
-use Rattle.verdict_spec.proofs.Written.{proved_is_checked}
-use Rattle.verdict_spec.proofs.proved_is_checked.Goals as goal
-
-pub returns : goal.returns
-returns c = proved_is_checked

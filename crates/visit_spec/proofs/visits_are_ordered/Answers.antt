@@ -1,5 +1,0 @@
-use Rattle.visit_spec.proofs.Order.{ordered}
-use Rattle.visit_spec.proofs.visits_are_ordered.Goals as goal
-
-pub returns : goal.returns
-returns c = ordered

@@ -1,5 +1,0 @@
-pub mod Growing
-pub mod Gaining
-pub mod Searching
-pub mod Leading
-pub mod Cutting

@@ -1,5 +1,0 @@
-use Rattle.walk_cut.proofs.Cutting.{IsCutSoFar}
-use Rattle.walk_cut.proofs.cut.cut_to.Given as goal
-
-abbrev pub invariant-loop-node : goal.invariant-loop-node
-invariant-loop-node l = IsCutSoFar l.found.keys l.point l.fn.shape.successors.items l.shape.successors.items l.node

@@ -1,2 +1,0 @@
-pub mod TransitionSystem
-pub mod Simulation

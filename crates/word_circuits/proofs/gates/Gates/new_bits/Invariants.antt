@@ -1,9 +1,0 @@
-use Rattle.std.proofs.Common.{ℕ, ◌-◌, ◌+◌}
-use Rattle.term_spec.specs.Term.{Term}
-use Rattle.blast_spec.specs.Circuits.{new_bits}
-use Rattle.word_circuits.proofs.Steps.{Adds}
-use Rattle.word_circuits.proofs.gates.Gates.new_bits.Given as goal
-
-abbrev pub invariant-loop : goal.invariant-loop
-invariant-loop l =
-    (term : Term) (index : ℕ) → Adds (new_bits term index l.count) l.fn.self l.self l.out.items (new_bits term (index + l.counter) (l.count - l.counter))

@@ -1,0 +1,8 @@
+use Rattle.word_steps_laws.proofs.Rules.{merges_sound, decided_sound}
+use Rattle.word_steps_laws.proofs.laws.rules_are_sound.Goals as goal
+
+pub returns-clause-merges : goal.returns-clause-merges
+returns-clause-merges c = merges_sound
+
+pub returns-clause-decisions : goal.returns-clause-decisions
+returns-clause-decisions c = decided_sound

@@ -1,0 +1,269 @@
+-- Blocks of word steps, and pairs of terms for the rules, worked by hand.
+use Rattle.std.specs.Prelude.{◌≡◌, ℕ, Bool, true, false, if◌then◌else◌, List, [], ◌∷◌, Option, Some}
+use Rattle.term_core_spec.specs.declared.Width.TheVariants.{W8, W16, W32}
+use Rattle.term_core_spec.specs.declared.Sort.TheVariants.{Truth, Word}
+use Rattle.term_core_spec.specs.declared.Atom.{Atom}
+use Rattle.term_core_spec.specs.declared.Family.TheVariants.{Register, IsSet}
+use Rattle.term_core_spec.specs.declared.BinaryOperator.TheVariants as binary
+use Rattle.term_core_spec.specs.Term.{Term, truth, constant, open_term, not_term, and_term, or_term, choose, complement, zero_extend, sign_extend, low, byte, equal, less, add, subtract, multiply, bit_and, bit_or, bit_xor, shift_left, shift_right, shift_right_signed, divide, remainder, join_four}
+use Rattle.word_steps_spec.specs.Numbers.{Two, Fact}
+use Rattle.word_steps_spec.specs.Lines.{MergeRule, Same, Ring, DecisionRule, RingOf, Next, Argument, Parts, Renew, RenewAll, MergeBy, DecideBy, Keep, Case, Block, merges_by, decided_by, goals_after}
+
+abbrev pub register : ℕ → Term
+register i = open_term (record { family = Register; index = i; instance = 0; sort = Word W32 })
+
+abbrev pub five : Term
+five = constant W32 5
+
+-- ---- a block that closes its goal
+
+-- `or (not (eq x 5)) (eq (sub (add x y) y) 5)`. Its subterms in post-order: 1 is x, 2 is 5, 3 is `eq x 5`, 4 is `not`,
+-- 5 is y, 6 is the sum, 7 the difference, 8 the second `eq`, 9 the goal
+abbrev pub goal : Term
+goal = or_term (not_term (equal (register 1) five)) (equal (subtract (add (register 1) (register 2)) (register 2)) five)
+
+abbrev pub is_true : ℕ → Fact
+is_true k = record { number = k; holds = true }
+
+abbrev pub is_false : ℕ → Fact
+is_false k = record { number = k; holds = false }
+
+-- both sides of the `or` are false, so `eq x 5` is true; the difference is x, and x is 5; what is left is the second `eq`
+abbrev pub block : Block
+block = record {
+  lines =
+      Parts (is_false 9)
+      ∷ Argument (is_false 4) 1
+      ∷ MergeBy Ring 7 1 []
+      ∷ MergeBy Same 1 2 (record { fact = is_true 3; as_made = true } ∷ [])
+      ∷ Renew 7
+      ∷ [];
+  end = Keep (record { fact = is_false 8; as_made = false } ∷ []);
+}
+
+-- ---- a block that takes its goal apart
+
+-- a truth value
+abbrev pub flag : Term
+flag = open_term (record { family = IsSet; index = 1; instance = 0; sort = Truth })
+
+-- `ite flag (not (eq (add x x) (add (mul x 2) 1))) (not flag)`. 1 is the flag, 2 is x, 3 is `add x x`, 4 is 2, 5 is
+-- `mul x 2`, 6 is 1, 7 the sum, 8 the `eq`, 9 and 10 the `not` of 8 and 1, 11 the goal
+abbrev pub split_goal : Term
+split_goal =
+    choose flag
+    (not_term (equal (add (register 1) (register 1)) (add (multiply (register 1) (constant W32 2)) (constant W32 1))))
+    (not_term flag)
+
+-- 12 is the `eq` turned round, of the same difference, which is 1; so both are false. All numbers are renewed, and the
+-- goal is taken apart by the flag
+abbrev pub split_block : Block
+split_block = record {
+  lines =
+      Next (Two binary.Equal 7 3)
+      ∷ MergeBy Ring 8 12 []
+      ∷ DecideBy RingOf 12 []
+      ∷ RenewAll
+      ∷ [];
+  end = Case (record { fact = is_false 11; as_made = false } ∷ []) 1;
+}
+
+-- what is left where the flag is true, and where it is false
+abbrev pub case_goal : Bool → Term
+case_goal b = not_term (and_term (not_term (choose flag (truth true) (not_term flag))) (if b then flag else not_term flag))
+
+-- of each, 7 is the goal, 6 the `and`, 5 and 4 the first `not` and its `ite`, 3 is `not flag`, 1 the flag
+abbrev pub true_block : Block
+true_block = record {
+  lines = Argument (is_false 7) 1 ∷ Parts (is_true 6) ∷ Argument (is_true 5) 1 ∷ [];
+  end = Keep (record { fact = is_false 4; as_made = false } ∷ []);
+}
+
+abbrev pub false_block : Block
+false_block = record {
+  lines = Argument (is_false 7) 1 ∷ Parts (is_true 6) ∷ Parts (is_true 3) ∷ Parts (is_true 5) ∷ [];
+  end = Keep (record { fact = is_false 4; as_made = false } ∷ []);
+}
+
+-- what is left of a goal after a block
+abbrev pub Leaves : Term → Block → List Term → Type 0
+Leaves t block goals = goals_after [] t block ≡ Some goals
+
+-- ---- rules on pairs of terms
+
+pub record Pair : Type 0 where
+  pub first : Term
+  pub second : Term
+
+infixl 90 ◌~◌
+abbrev pub ◌~◌ : Term → Term → Pair
+t ~ u = record { first = t; second = u }
+
+-- the rule accepts each pair, or refuses each
+abbrev pub Accepts : MergeRule → Bool → List Pair → Type 0
+Accepts rule test [] = Unit {0}
+Accepts rule test (pair ∷ rest) = (merges_by rule [] pair.first pair.second ≡ test) × Accepts rule test rest
+
+abbrev pub x : Term
+x = register 1
+
+abbrev pub y : Term
+y = register 2
+
+abbrev pub number : ℕ → Term
+number n = constant W32 n
+
+-- `ring`: products turned round and multiplied out, `bnot`, shifts, the top bit, remainders, low parts, and `eq` of opposite
+-- differences
+abbrev pub alike : List Pair
+alike =
+    multiply (add x y) (subtract x y) ~ subtract (multiply x x) (multiply y y)
+    ∷ complement x ~ subtract (number 4294967295) x
+    ∷ shift_left x (number 3) ~ multiply x (number 8)
+    ∷ bit_xor x (number 2147483648) ~ subtract x (number 2147483648)
+    ∷ add (remainder x y) (multiply y (divide x y)) ~ x
+    ∷ low W8 (add x y) ~ add (byte 0 y) (low W8 x)
+    ∷ equal x (add y (number 7)) ~ equal (subtract y x) (number 4294967289)
+    ∷ []
+
+-- near misses: another coefficient, a shift by a word, another bit, another divisor, another byte, another constant
+abbrev pub unlike : List Pair
+unlike =
+    multiply (add x y) (subtract x y) ~ add (multiply x x) (multiply y y)
+    ∷ complement x ~ subtract (number 0) x
+    ∷ shift_left x (number 3) ~ multiply x (number 4)
+    ∷ shift_left x y ~ multiply x y
+    ∷ bit_xor x (number 1073741824) ~ add x (number 1073741824)
+    ∷ add (remainder x y) (multiply y (divide x (number 3))) ~ x
+    ∷ low W8 (add x y) ~ add (byte 1 y) (low W8 x)
+    ∷ equal x (add y (number 7)) ~ equal (subtract y x) (number 7)
+    ∷ low W16 x ~ x
+    ∷ []
+
+abbrev pub z : Term
+z = register 3
+
+-- another truth value
+abbrev pub other : Term
+other = open_term (record { family = IsSet; index = 2; instance = 0; sort = Truth })
+
+-- `comm`: arguments of nested operators in another order, also each as often; of `eq` those of truth values, and both sides
+abbrev pub ordered : List Pair
+ordered =
+    multiply (multiply x y) z ~ multiply z (multiply y x)
+    ∷ bit_and (bit_and x y) (bit_and z x) ~ bit_and x (bit_and x (bit_and y z))
+    ∷ bit_or (add x y) (bit_or y x) ~ bit_or x (bit_or y (add x y))
+    ∷ bit_xor (bit_xor x y) z ~ bit_xor y (bit_xor z x)
+    ∷ equal x y ~ equal y x
+    ∷ equal (equal flag other) (equal x y) ~ equal other (equal (equal x y) flag)
+    ∷ and_term (or_term flag other) (equal x y) ~ and_term (equal x y) (or_term flag other)
+    ∷ or_term (or_term flag other) (equal x y) ~ or_term other (or_term (equal x y) flag)
+    ∷ []
+
+-- near misses: an operator where the order counts, another one of the arguments twice, two operators, nested `eq` of words, an
+-- argument that is equal only by the rule itself
+abbrev pub unordered : List Pair
+unordered =
+    subtract x y ~ subtract y x
+    ∷ bit_and x (bit_and x y) ~ bit_and y (bit_and x y)
+    ∷ multiply (multiply x x) y ~ multiply x (multiply y y)
+    ∷ bit_and (bit_or x y) z ~ bit_or (bit_and x y) z
+    ∷ equal (equal x y) (equal z five) ~ equal (equal x z) (equal y five)
+    ∷ and_term (or_term flag other) (equal x y) ~ and_term (equal x y) (or_term other flag)
+    ∷ less x y ~ less y x
+    ∷ []
+
+-- ---- `bits`
+
+-- the low byte of a word, as a word
+abbrev pub low_byte : Term → Term
+low_byte t = zero_extend W32 (low W8 t)
+
+-- bytes that are joined, shifts there and back, a mask, a shift by the width and one by more, sums where nothing is carried, an
+-- `ite` of one bit, and `eq` of the same pairs of bits
+abbrev pub of_one_list : List Pair
+of_one_list =
+    join_four (byte 0 x) (byte 1 x) (byte 2 x) (byte 3 x) ~ x
+    ∷ shift_right (shift_left x (number 24)) (number 24) ~ low_byte x
+    ∷ shift_right_signed (shift_left x (number 24)) (number 24) ~ sign_extend W32 (low W8 x)
+    ∷ bit_and x (number 255) ~ low_byte x
+    ∷ shift_right x (number 32) ~ number 0
+    ∷ shift_right_signed x (number 40) ~ shift_right_signed x (number 31)
+    ∷ add (shift_left x (number 8)) (zero_extend W32 (byte 3 x)) ~ bit_or (shift_right x (number 24)) (shift_left x (number 8))
+    ∷ bit_xor (bit_and x (number 15)) (low_byte x) ~ bit_and (number 240) (bit_xor (bit_and x (number 15)) (low_byte x))
+    ∷ bit_and (number 15) (choose flag (bit_and x (number 15)) (low_byte x)) ~ bit_and x (number 15)
+    ∷ equal (low_byte x) (low_byte y) ~ equal (low W8 y) (low W8 x)
+    ∷ []
+
+-- near misses: zeros for signs, a shift by less than the width, a carry, another mask, other bytes, an unknown shift, an `ite` of
+-- two bits, a bit more on one side
+abbrev pub of_two_lists : List Pair
+of_two_lists =
+    shift_right_signed (shift_left x (number 24)) (number 24) ~ low_byte x
+    ∷ shift_right x (number 31) ~ number 0
+    ∷ add (shift_left x (number 7)) (zero_extend W32 (byte 3 x)) ~ bit_or (shift_right x (number 24)) (shift_left x (number 7))
+    ∷ bit_and x (number 254) ~ low_byte x
+    ∷ join_four (byte 1 x) (byte 0 x) (byte 2 x) (byte 3 x) ~ x
+    ∷ shift_left x y ~ x
+    ∷ choose flag (bit_and x (number 15)) (low_byte x) ~ bit_and x (number 15)
+    ∷ equal (low_byte x) (low_byte y) ~ equal (low W16 x) (low W16 y)
+    ∷ []
+
+-- spellings of `ult`: below 1, above a constant, and with flipped top bits
+abbrev pub top : Term
+top = number 2147483648
+
+abbrev pub spelled : List Pair
+spelled =
+    less x (number 1) ~ equal x (number 0)
+    ∷ less (number 7) x ~ not_term (less x (number 8))
+    ∷ not_term (less x (number 8)) ~ less (number 7) x
+    ∷ less (bit_xor (low_byte x) top) (bit_xor top (low_byte y)) ~ less (low_byte x) (low_byte y)
+    ∷ less (bit_xor x top) top ~ not_term (less x top)
+    ∷ less (number 2147483647) (bit_xor x top) ~ less x top
+    ∷ []
+
+-- near misses: other constants, the greatest one, signs that are unknown, `not` left out
+abbrev pub misspelled : List Pair
+misspelled =
+    less x (number 2) ~ equal x (number 0)
+    ∷ less (number 7) x ~ not_term (less x (number 7))
+    ∷ less (number 4294967295) x ~ not_term (less x (number 0))
+    ∷ less (bit_xor x top) (bit_xor y top) ~ less x y
+    ∷ less (bit_xor x top) top ~ less x top
+    ∷ less (number 2147483648) (bit_xor x top) ~ less x top
+    ∷ []
+
+-- the rule decides each term so
+abbrev pub Decides : DecisionRule → List Term → Option Atom → Type 0
+Decides rule [] answer = Unit {0}
+Decides rule (t ∷ rest) answer = (decided_by rule [] t ≡ answer) × Decides rule rest answer
+
+abbrev pub known_true : List Term
+known_true =
+    equal (bit_and x (number 255)) (low_byte x)
+    ∷ less (low_byte x) (number 256)
+    ∷ less (add (remainder x (number 10)) (number 2)) (number 12)
+    ∷ less (choose flag (number 3) (number 7)) (number 8)
+    ∷ []
+
+-- the lowest bit of one side is 1, of the other 0; a byte has no ninth bit; other bounds
+abbrev pub known_false : List Term
+known_false =
+    equal (bit_or x (number 1)) (bit_and y (number 254))
+    ∷ equal (number 256) (low_byte x)
+    ∷ equal (add (remainder x (number 10)) (number 100)) (number 50)
+    ∷ less (number 255) (low_byte x)
+    ∷ less (number 268435455) (divide x (number 16))
+    ∷ []
+
+abbrev pub unknown : List Term
+unknown =
+    equal (bit_or x (number 1)) (bit_or y (number 1))
+    ∷ equal (number 255) (low_byte x)
+    ∷ less (low_byte x) (number 255)
+    ∷ less (remainder x y) (number 10)
+    ∷ less (add (low_byte x) y) y
+    ∷ less (subtract (low_byte x) (number 1)) (number 256)
+    ∷ x
+    ∷ []

@@ -1,0 +1,70 @@
+// Blocks of word steps and pairs of terms, worked by hand: each function's clause says what is left
+// of a goal, or which pairs a rule accepts, and its body is empty. They are in
+// `specs/Examples.antt`.
+
+ghost use Rattle.std.specs.Prelude.{true, false, [], ◌∷◌, Some, None};
+ghost use Rattle.term_core_spec.specs.Term.{truth};
+ghost use Rattle.term_core_spec.specs.declared.Atom.TheVariants.{Truth};
+ghost use Rattle.word_steps_spec.specs.Lines.{Ring, Comm, Bits, BitsOf};
+ghost use Rattle.word_steps_laws.specs.Examples.{goal, block, Leaves, Accepts, alike, unlike};
+ghost use Rattle.word_steps_laws.specs.Examples.{ordered, unordered, Decides};
+ghost use Rattle.word_steps_laws.specs.Examples.{of_one_list, of_two_lists};
+ghost use Rattle.word_steps_laws.specs.Examples.{known_true, known_false, unknown};
+ghost use Rattle.word_steps_laws.specs.Examples.{spelled, misspelled};
+ghost use Rattle.word_steps_laws.specs.Examples.{split_goal, split_block, case_goal};
+ghost use Rattle.word_steps_laws.specs.Examples.{true_block, false_block};
+
+/// Where x is 5, x + y - y is 5: nothing is left but `true`.
+pub fn a_block_proves_a_goal()
+    ensures { Leaves goal block (truth true ∷ []) }
+{}
+
+/// 2 x = 2 x + 1 is false, and the goal is taken apart by a truth value; a block closes each case.
+pub fn a_block_takes_a_goal_apart()
+    ensures cases { Leaves split_goal split_block (case_goal true ∷ case_goal false ∷ []) }
+    ensures first { Leaves (case_goal true) true_block (truth true ∷ []) }
+    ensures second { Leaves (case_goal false) false_block (truth true ∷ []) }
+{}
+
+/// Words with one polynomial, and equalities with one difference.
+pub fn words_have_one_polynomial()
+    ensures { Accepts Ring true alike }
+{}
+
+/// Near misses.
+pub fn words_have_two_polynomials()
+    ensures { Accepts Ring false unlike }
+{}
+
+/// One operator over the same arguments in another order.
+pub fn arguments_have_another_order()
+    ensures { Accepts Comm true ordered }
+{}
+
+/// Near misses.
+pub fn order_counts()
+    ensures { Accepts Comm false unordered }
+{}
+
+/// Words of the same bits, and equalities of the same pairs of bits.
+pub fn words_have_one_list_of_bits()
+    ensures { Accepts Bits true of_one_list }
+{}
+
+/// Near misses.
+pub fn words_have_two_lists_of_bits()
+    ensures { Accepts Bits false of_two_lists }
+{}
+
+/// Other spellings of `ult`, and near misses.
+pub fn orders_have_spellings()
+    ensures accepted { Accepts Bits true spelled }
+    ensures refused { Accepts Bits false misspelled }
+{}
+
+/// What bits or bounds decide, and what they don't.
+pub fn bits_and_bounds_decide()
+    ensures true_ones { Decides BitsOf known_true (Some (Truth true)) }
+    ensures false_ones { Decides BitsOf known_false (Some (Truth false)) }
+    ensures others { Decides BitsOf unknown None }
+{}
