@@ -7,8 +7,8 @@
 use crate::settings;
 use attempt::attempt;
 use cert_check_terms::{TermFault, read_line};
-use cert_text_parse::Line;
 use cert_text::{Cert, ReadError, read};
+use cert_text_parse::Line;
 use cert_text_spec::Symbol;
 use proof_tree::Setting;
 use row_io::{Out, split};
