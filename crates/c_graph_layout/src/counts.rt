@@ -16,6 +16,17 @@ use c_types_core::expression::Core;
 use c_types_spec::{Arithmetic, Scalar, TestPlace};
 use std::alloc::AllocError;
 
+/// The tests of a read: that its object can be accessed, and that it meets no byte of the zone.
+const READ_TESTS: usize = 2;
+/// The tests of a write, which a store has behind those of its operands: those of a read, and that
+/// it meets no fixed byte.
+const WRITE_TESTS: usize = READ_TESTS + 1;
+/// The nodes of a call behind the tests of its arguments: the call, and what it lands on.
+const CALL_NODES: usize = 2;
+/// The nodes of a loop behind the tests of its condition: where a round begins, the condition, and
+/// one between condition and body.
+const LOOP_NODES: usize = 3;
+
 /// A sum, or out of memory where it is more than can be counted.
 pub fn sum(a: usize, b: usize) -> Result<usize, AllocError>
     ensures { IfOk result (λ n. n ≡ a + b) }
@@ -50,10 +61,10 @@ fn with_tests(x: &Core<'_>, n: usize) -> Result<usize, AllocError>
     match x {
         Core::Constant(_, _) | Core::GlobalAddress(_) => Ok(n),
         Core::ReadLocal(_, _, _) => sum(n, 1),
-        Core::Target(_, _) => sum(n, 2),
+        Core::Target(_, _) => sum(n, READ_TESTS),
         Core::Load(_, address, _, _) => {
             let m = attempt!(with_tests(address, n));
-            sum(m, 2)
+            sum(m, READ_TESTS)
         }
         Core::Convert(_, operand) => with_tests(operand, n),
         Core::Operate(operator, of, left, right, _) => {
@@ -164,12 +175,12 @@ fn with_size(action: &Action<'_>, n: usize) -> Result<usize, AllocError>
         Action::Store(_, address, _, value, _) => {
             let m = attempt!(with_tests(address, n));
             let k = attempt!(with_tests(value, m));
-            sum(k, 4)
+            sum(k, WRITE_TESTS + 1)
         }
         Action::Call(_, _, arguments, _) => {
             let m = attempt!(argument_count(arguments.as_slice()));
             let k = attempt!(sum(n, m));
-            sum(k, 2)
+            sum(k, CALL_NODES)
         }
         Action::If(test, first, second) => {
             let m = attempt!(with_tests(test, n));
@@ -180,7 +191,7 @@ fn with_size(action: &Action<'_>, n: usize) -> Result<usize, AllocError>
         Action::Loop(_, place, test, step, body) => {
             let m = attempt!(with_tests(test, n));
             let k = attempt!(with_size(body, m));
-            let l = attempt!(sum(k, 3));
+            let l = attempt!(sum(k, LOOP_NODES));
             match place {
                 TestPlace::Before => with_size(step, l),
                 TestPlace::After => Ok(l),
