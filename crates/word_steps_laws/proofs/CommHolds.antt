@@ -305,7 +305,7 @@ module _ (assignment : Assignment) (assigns : IsAssignment assignment) where
     pub second : sort_of y ≡ Some sort.Truth
     pub value_is : truth_of (Binary o x y) ≡ on_bools o (truth_of x) (truth_of y)
 
-  value-equal_truths : (x y : Term) (a b : Bool) → value assignment x ≡ Truth a → value assignment y ≡ Truth b → value assignment (equal x y) ≡ Truth (if a then b else not b)
+  pub value-equal_truths : (x y : Term) (a b : Bool) → value assignment x ≡ Truth a → value assignment y ≡ Truth b → value assignment (equal x y) ≡ Truth (if a then b else not b)
   unfolding value binary_value
   value-equal_truths x y a b ex ey = rw (ex, ey) refl
 

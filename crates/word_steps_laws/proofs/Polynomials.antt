@@ -1,13 +1,19 @@
 -- The values of sums and products of polynomials.
-use Rattle.std.proofs.Common.{◌≡◌, ℕ, zero, suc, ◌+◌, ◌-◌, ◌*◌, ◌^◌, ◌<◌, Bool, true, false, cond, List, [], ◌∷◌, ◌++◌, Option, Some, None, option_map, refl, sym, ap, ◌∙◌, arith, eqb-true}
-use Rattle.std.specs.Prelude.{◌==◌}
+use Rattle.std.proofs.Common.{◌≡◌, ℕ, zero, suc, ◌+◌, ◌-◌, ◌*◌, ◌^◌, ◌<◌, Bool, true, false, cond, List, [], ◌∷◌, Option, Some, None, option_map, refl, sym, ap, ◌∙◌, subst, arith, eqb-true}
+use Rattle.std.specs.Prelude.{◌==◌, ◌&&◌}
+use Rattle.std.specs.List.{list_any}
+use Rattle.std.proofs.lemmas.Bool.{and_parts}
 use Rattle.std.proofs.lemmas.Option.{same_Some}
 use Rattle.std.proofs.lemmas.Nat.{pow_pos}
 use Rattle.term_core_spec.specs.Term.{Term}
 use Rattle.term_core_spec.specs.Same.{same_term}
-use Rattle.term_core_spec.specs.Value.{Assignment, value, low_bits}
+use Rattle.term_core_spec.specs.Value.{Assignment, IsAssignment, value, low_bits}
 use Rattle.term_core_spec.proofs.Same.{same_is}
-use Rattle.word_steps_spec.specs.Polynomial.{Summand, Polynomial, without, holds_of, same_atoms, with_summand, plus_summand, plus, scaled, minus, times_summand, times, constant_polynomial, atom_polynomial, number_of_value, product, polynomial_value}
+use Rattle.term_norm_spec.proofs.Truths.{truth_value_of}
+use Rattle.word_steps_spec.specs.Numbers.{is_bool}
+use Rattle.word_steps_spec.specs.Polynomial.{Summand, Polynomial, without, holds_of, same_atoms, with_atoms, with_summand, plus_summand, plus, scaled, minus, times_summand, times, constant_polynomial, atom_polynomial, number_of_value, product, polynomial_value}
+use Rattle.word_steps_laws.proofs.CommHolds.{either_test}
+use Rattle.word_steps_laws.proofs.Sorts.{bool_sort}
 use Rattle.word_steps_laws.proofs.Congruence.{IsCongruent, congruent_same, congruent_then, congruent_plus, congruent_product, congruent_multiple, congruent_mod}
 
 module _ (assignment : Assignment) where
@@ -50,13 +56,41 @@ module _ (assignment : Assignment) where
       by None d f again = absurd (cc)
       by (Some rest) d f again = ap (λ n. number t * n) (again rest f) ∙ sym (without_product t us (Some rest) d rest refl)
 
-  product-append : (ts us : List Term) → product assignment (ts ++ us) ≡ product assignment ts * product assignment us
+  -- a truth value is 1 or 0, and may be left out beside itself
+  truth_once : IsAssignment assignment → (t : Term) (us : List Term) → is_bool t ≡ true → list_any (same_term t) us ≡ true → product assignment us ≡ number t * product assignment us
   unfolding product
-  product-append [] us = omega arith
-  product-append (t ∷ ts) us = ap (λ n. number t * n) (product-append ts us) ∙ regroup (number t) (product assignment ts) (product assignment us)
+  truth_once assigns t [] b e = absurd (cc)
+  truth_once assigns t (u ∷ us) b e =
+      either_test (same_term t u) (list_any (same_term t) us) e
+      (λ same.
+      let is = truth_value_of assignment assigns t (bool_sort t b) in
+      subst (λ w. number w * product assignment us ≡ number t * (number w * product assignment us)) (same_is t u same) (square is.0 (number t) (product assignment us) (ap number_of_value is.1)))
+      (λ later. ap (λ n. number u * n) (truth_once assigns t us b later) ∙ swap (number u) (number t) (product assignment us))
     where
+      square : (b : Bool) (n r : ℕ) → n ≡ cond b 1 0 → n * r ≡ n * (n * r)
+      square true n r e = rw e (omega arith)
+      square false n r e = rw e (omega arith)
+
+      swap : (a b r : ℕ) → a * (b * r) ≡ b * (a * r)
+      swap a b r = omega arith
+
+  product-with_atoms : IsAssignment assignment → (ts us : List Term) → product assignment (with_atoms ts us) ≡ product assignment ts * product assignment us
+  unfolding with_atoms product
+  product-with_atoms assigns [] us = omega arith
+  product-with_atoms assigns (t ∷ ts) us = by (is_bool t && list_any (same_term t) us) refl (product-with_atoms assigns ts us)
+    where
+      swap : (a b c : ℕ) → a * (b * c) ≡ b * a * c
+      swap a b c = omega arith
+
       regroup : (a b c : ℕ) → a * (b * c) ≡ a * b * c
       regroup a b c = omega arith
+
+      by : (test : Bool) → (is_bool t && list_any (same_term t) us) ≡ test → product assignment (with_atoms ts us) ≡ product assignment ts * product assignment us
+          → product assignment (cond test (with_atoms ts us) (t ∷ with_atoms ts us)) ≡ number t * product assignment ts * product assignment us
+      by true e again =
+          let both = and_parts (is_bool t) (list_any (same_term t) us) e in
+          again ∙ ap (λ n. product assignment ts * n) (truth_once assigns t us both.0 both.1) ∙ swap (product assignment ts) (number t) (product assignment us)
+      by false e again = ap (λ n. number t * n) again ∙ regroup (number t) (product assignment ts) (product assignment us)
 
   -- ---- sums
 
@@ -153,27 +187,27 @@ module _ (assignment : Assignment) where
 
     -- ---- products
 
-    times_summand_value : (s : Summand) (q : Polynomial) → IsCongruent m (pv (times_summand count s q)) (s.coefficient * product assignment s.atoms * pv q)
+    times_summand_value : IsAssignment assignment → (s : Summand) (q : Polynomial) → IsCongruent m (pv (times_summand count s q)) (s.coefficient * product assignment s.atoms * pv q)
     unfolding times_summand polynomial_value
-    times_summand_value s [] = congruent_same m 0 (s.coefficient * product assignment s.atoms * 0) (omega arith)
-    times_summand_value s (u ∷ q) =
-        congruent_then m _ (s.coefficient * u.coefficient * product assignment (s.atoms ++ u.atoms) + pv (times_summand count s q)) _
-        (plus_summand_value (s.coefficient * u.coefficient) (s.atoms ++ u.atoms) (times_summand count s q))
-        (congruent_then m _ (s.coefficient * u.coefficient * product assignment (s.atoms ++ u.atoms) + s.coefficient * product assignment s.atoms * pv q) _
-        (congruent_plus m _ _ _ _ (congruent_same m (s.coefficient * u.coefficient * product assignment (s.atoms ++ u.atoms)) _ refl) (times_summand_value s q))
-        (congruent_same m _ _ (ap (λ n. s.coefficient * u.coefficient * n + s.coefficient * product assignment s.atoms * pv q) (product-append s.atoms u.atoms)
+    times_summand_value assigns s [] = congruent_same m 0 (s.coefficient * product assignment s.atoms * 0) (omega arith)
+    times_summand_value assigns s (u ∷ q) =
+        congruent_then m _ (s.coefficient * u.coefficient * product assignment (with_atoms s.atoms u.atoms) + pv (times_summand count s q)) _
+        (plus_summand_value (s.coefficient * u.coefficient) (with_atoms s.atoms u.atoms) (times_summand count s q))
+        (congruent_then m _ (s.coefficient * u.coefficient * product assignment (with_atoms s.atoms u.atoms) + s.coefficient * product assignment s.atoms * pv q) _
+        (congruent_plus m _ _ _ _ (congruent_same m (s.coefficient * u.coefficient * product assignment (with_atoms s.atoms u.atoms)) _ refl) (times_summand_value assigns s q))
+        (congruent_same m _ _ (ap (λ n. s.coefficient * u.coefficient * n + s.coefficient * product assignment s.atoms * pv q) (product-with_atoms assigns s.atoms u.atoms)
         ∙ regroup s.coefficient u.coefficient (product assignment s.atoms) (product assignment u.atoms) (pv q))))
       where
         regroup : (a b x y r : ℕ) → a * b * (x * y) + a * x * r ≡ a * x * (b * y + r)
         regroup a b x y r = omega arith
 
-    pub times_value : (p q : Polynomial) → IsCongruent m (pv (times count p q)) (pv p * pv q)
+    pub times_value : IsAssignment assignment → (p q : Polynomial) → IsCongruent m (pv (times count p q)) (pv p * pv q)
     unfolding times polynomial_value
-    times_value [] q = congruent_same m 0 (0 * pv q) (omega arith)
-    times_value (s ∷ p) q =
+    times_value assigns [] q = congruent_same m 0 (0 * pv q) (omega arith)
+    times_value assigns (s ∷ p) q =
         congruent_then m _ (pv (times_summand count s q) + pv (times count p q)) _ (plus_value (times_summand count s q) (times count p q))
         (congruent_then m _ (s.coefficient * product assignment s.atoms * pv q + pv p * pv q) _
-        (congruent_plus m _ _ _ _ (times_summand_value s q) (times_value p q))
+        (congruent_plus m _ _ _ _ (times_summand_value assigns s q) (times_value assigns p q))
         (congruent_same m _ _ (regroup (s.coefficient * product assignment s.atoms) (pv p) (pv q))))
       where
         regroup : (a b c : ℕ) → a * c + b * c ≡ (a + b) * c

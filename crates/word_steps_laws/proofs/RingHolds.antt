@@ -1,34 +1,44 @@
 -- The value of the polynomial of a word is the word's, modulo 2 ^ width.
-use Rattle.std.proofs.Common.{◌≡◌, ℕ, zero, suc, ◌+◌, ◌-◌, ◌*◌, ◌/◌, ◌%◌, ◌^◌, ◌<◌, Bool, true, false, cond, List, [], ◌∷◌, map, length, Some, refl, sym, ap, ◌∙◌, subst, arith, eqb-true, div-one}
-use Rattle.std.specs.Prelude.{◌==◌, ◌&&◌, nat_lt, nat_le, bit_xor}
+use Rattle.std.proofs.Common.{◌≡◌, ℕ, zero, suc, ◌+◌, ◌-◌, ◌*◌, ◌/◌, ◌%◌, ◌^◌, ◌<◌, Bool, true, false, cond, List, [], ◌∷◌, map, length, Some, ◌⊎◌, inl, inr, refl, sym, ap, ◌∙◌, subst, arith, eqb-true, div-one}
+use Rattle.std.specs.Prelude.{◌==◌, ◌&&◌, ◌||◌, not, if◌then◌else◌, nat_lt, nat_le, bit_xor}
 use Rattle.std.proofs.lemmas.Bool.{and_parts, leb-true}
 use Rattle.std.proofs.lemmas.Nat.{pow_pos, pow-add, xor_block, xor_comm, div-add-mod', div_below, mod_below}
 use Rattle.term_core_spec.specs.declared.Width.{Width}
 use Rattle.term_core_spec.specs.declared.Width.TheVariants.{W8, W16, W32, W64}
+use Rattle.term_core_spec.specs.declared.Sort.{Sort}
 use Rattle.term_core_spec.specs.declared.Sort.TheVariants as sort
 use Rattle.term_core_spec.specs.declared.Atom.TheVariants as atom
 use Rattle.term_core_spec.specs.declared.UnaryOperator.{UnaryOperator}
 use Rattle.term_core_spec.specs.declared.UnaryOperator.TheVariants as unary
 use Rattle.term_core_spec.specs.declared.WordOperator.{WordOperator}
 use Rattle.term_core_spec.specs.declared.WordOperator.TheVariants as word
+use Rattle.term_core_spec.specs.declared.BinaryOperator.{BinaryOperator}
 use Rattle.term_core_spec.specs.declared.BinaryOperator.TheVariants as binary
-use Rattle.term_core_spec.specs.Term.{Term, Leaf, Unary, Binary, constant, complement, low, byte, divide, on_words}
-use Rattle.term_core_spec.specs.Sort.{bits, sort_of, sort_of_unary}
-use Rattle.term_core_spec.specs.Value.{Number, Assignment, IsAssignment, value, unary_value, operation}
+use Rattle.term_core_spec.specs.declared.TernaryOperator.TheVariants as ternary
+use Rattle.term_core_spec.specs.Term.{Term, Leaf, Unary, Binary, Ternary, constant, complement, not_term, and_term, or_term, equal, choose, low, byte, divide, on_words}
+use Rattle.term_core_spec.specs.Sort.{bits, sort_if, is_truth, sort_of, sort_of_unary, sort_of_binary}
+use Rattle.term_core_spec.specs.Value.{Truth, Number, Assignment, IsAssignment, value, unary_value, operation}
 use Rattle.term_core_spec.proofs.Same.{same_is}
+use Rattle.term_core_spec.proofs.Sorts.{sort_if-some, with_two-some, same_sort-true}
 use Rattle.memory_spec.specs.Runs.{fixed_byte}
 use Rattle.term_norm_spec.specs.Fixed.{HoldsFixed}
 use Rattle.term_norm_spec.specs.Patterns.{width_of, width_of_sort, is_constant, number_of}
 use Rattle.term_norm_spec.specs.Normal.{normal_low}
 use Rattle.term_norm_spec.proofs.Numbers.{mod-small, xor-zero_right}
+use Rattle.term_norm_spec.proofs.Equals.{Alike, truths, words, alike_of}
+use Rattle.term_norm_spec.proofs.Truths.{sort-under_not, truth_value_of, value-not, value-and, value-or, value-choose}
 use Rattle.term_norm_spec.proofs.Keeps.{width_is, constant_is, constant_sorted, value-constant}
 use Rattle.term_norm_spec.proofs.Words.{sort-words, sort-under_complement, words_of, word_of, value-words, value-complement}
 use Rattle.term_norm_spec.proofs.Cuts.{low_of, byte_parts, keeps_low}
-use Rattle.word_steps_spec.specs.Polynomial.{Polynomial, MONOMIALS, plus, scaled, minus, times, plus_summand, constant_polynomial, atom_polynomial, lowered, bounded, has_small_monomials, number_of_value, product, polynomial_value}
-use Rattle.word_steps_spec.specs.Ring.{top_bit, is_top_bit, complement_polynomial, flipped_polynomial, polynomial_of_operation, polynomial_of_unary, polynomial}
+use Rattle.word_steps_spec.specs.Numbers.{is_bool}
+use Rattle.word_steps_spec.specs.Polynomial.{Polynomial, MONOMIALS, low_atom, plus, scaled, minus, times, plus_summand, constant_polynomial, atom_polynomial, lowered, bounded, has_small_monomials, number_of_value, product, polynomial_value}
+use Rattle.word_steps_spec.specs.Ring.{CHOICE_WIDTH, are_few_pairs, condition, choice_polynomial, top_bit, is_top_bit, complement_polynomial, flipped_polynomial, polynomial_of_operation, polynomial_of_unary, polynomial}
 use Rattle.word_steps_laws.proofs.Congruence.{IsCongruent, congruent_same, congruent_sym, congruent_then, congruent_plus, congruent_times, congruent_product, congruent_multiple, congruent_mod, congruent_minus, congruent_divisor, congruent_equal}
 use Rattle.word_steps_laws.proofs.Polynomials.{plus_summand_value, plus_value, scaled_value, minus_value, times_value, constant_value, atom_value}
-use Rattle.word_steps_laws.proofs.Atoms.{AreWords, HasAtoms, plus_summand_atoms, plus_atoms, scaled_atoms, minus_atoms, times_atoms, constant_atoms}
+use Rattle.word_steps_laws.proofs.Sorts.{bool_sort, sort_bool}
+use Rattle.word_steps_laws.proofs.CommHolds.{value-equal_truths}
+use Rattle.word_steps_laws.proofs.BitsHold.{IsChoice, choice_of}
+use Rattle.word_steps_laws.proofs.Atoms.{IsAtom, AreAtoms, HasAtoms, plus_summand_atoms, plus_atoms, scaled_atoms, minus_atoms, times_atoms, constant_atoms}
 
 -- the number of a word
 number_same : (w v : Width) (a b : ℕ) → Number w a ≡ Number v b → a ≡ b
@@ -88,7 +98,7 @@ module _ (assignment : Assignment) (assigns : IsAssignment assignment) where
 
   atom_is : (w : Width) (t : Term) → sort_of t ≡ Some (sort.Word w) → IsPolynomialOf w t (atom_polynomial t)
   atom_is w t h = record {
-    atoms = ((h, tt), tt);
+    atoms = ((inl h, tt), tt);
     value_is = λ n e. congruent_same (2 ^ bits w) (pv (atom_polynomial t)) n (atom_value assignment t ∙ ap number_of_value e);
   }
 
@@ -156,7 +166,7 @@ module _ (assignment : Assignment) (assigns : IsAssignment assignment) where
     multiply_is : IsPolynomialOf w (on_words word.Multiply x y) (times c p q)
     unfolding operation
     multiply_is = of_operation word.Multiply (times c p q) (times_atoms w c p q of_x.atoms of_y.atoms) (λ i j bi bj vi vj ci cj.
-        congruent_then m (pv (times c p q)) (pv p * pv q) ((i * j) % m) (times_value assignment c p q)
+        congruent_then m (pv (times c p q)) (pv p * pv q) ((i * j) % m) (times_value assignment c assigns p q)
         (congruent_then m (pv p * pv q) (i * j) ((i * j) % m) (congruent_product m (pv p) i (pv q) j ci cj) (congruent_sym m ((i * j) % m) (i * j) (congruent_mod m (i * j)))))
 
     shift_is : is_constant y ≡ true → nat_lt (number_of y) c ≡ true → IsPolynomialOf w (on_words word.ShiftLeft x y) (scaled c (2 ^ number_of y) p)
@@ -182,7 +192,7 @@ module _ (assignment : Assignment) (assigns : IsAssignment assignment) where
         let d : ℕ = operation word.Divide c i j in
         let quotient = (atom_is w (divide x y) (sort-words word.Divide w x y hx hy)).value_is d (value-words assignment word.Divide w x y i j vi vj) in
         by_sum p (times c q (atom_polynomial (divide x y))) i (j * d) (cond (j == 0) i (i % j)) (minus_value assignment c p (times c q (atom_polynomial (divide x y)))) ci
-        (congruent_then m (pv (times c q (atom_polynomial (divide x y)))) (pv q * pv (atom_polynomial (divide x y))) (j * d) (times_value assignment c q (atom_polynomial (divide x y)))
+        (congruent_then m (pv (times c q (atom_polynomial (divide x y)))) (pv q * pv (atom_polynomial (divide x y))) (j * d) (times_value assignment c assigns q (atom_polynomial (divide x y)))
         (congruent_product m (pv q) j (pv (atom_polynomial (divide x y))) d cj quotient))
         (congruent_same m (cond (j == 0) i (i % j) + j * d) i (divided i j (j == 0) refl)))
       where
@@ -285,31 +295,47 @@ module _ (assignment : Assignment) (assigns : IsAssignment assignment) where
         (congruent_then (2 ^ bits w) (vt.0 % 2 ^ bits w) vt.0 (number_of_value (value assignment t)) (congruent_mod (2 ^ bits w) vt.0)
         (congruent_same (2 ^ bits w) vt.0 (number_of_value (value assignment t)) (sym (ap number_of_value vt.1))))
 
-    low_product : (ts : List Term) → AreWords v ts → IsCongruent (2 ^ bits w) (product assignment (map (normal_low w) ts)) (product assignment ts)
+    low_atom_number : (t : Term) → IsAtom v t → IsCongruent (2 ^ bits w) (number_of_value (value assignment (low_atom w t))) (number_of_value (value assignment t))
+    low_atom_number t h = by (is_bool t) refl h
+      where
+        by : (test : Bool) → is_bool t ≡ test → IsAtom v t → IsCongruent (2 ^ bits w) (number_of_value (value assignment (cond test t (normal_low w t)))) (number_of_value (value assignment t))
+        by true e h = congruent_same (2 ^ bits w) (number_of_value (value assignment t)) (number_of_value (value assignment t)) refl
+        by false e (inl h) = low_number t h
+        by false e (inr h) = let d = sort_bool t h in absurd (cc)
+
+    low_atom_is : (t : Term) → IsAtom v t → IsAtom w (low_atom w t)
+    low_atom_is t h = by (is_bool t) refl h
+      where
+        by : (test : Bool) → is_bool t ≡ test → IsAtom v t → IsAtom w (cond test t (normal_low w t))
+        by true e h = inr (bool_sort t e)
+        by false e (inl h) = inl ((keeps_low [] w t (sort-low t h)).sorted)
+        by false e (inr h) = let d = sort_bool t h in absurd (cc)
+
+    low_product : (ts : List Term) → AreAtoms v ts → IsCongruent (2 ^ bits w) (product assignment (map (low_atom w) ts)) (product assignment ts)
     unfolding product
     low_product [] h = congruent_same (2 ^ bits w) 1 1 refl
     low_product (t ∷ ts) h =
-        congruent_product (2 ^ bits w) (number_of_value (value assignment (normal_low w t))) (number_of_value (value assignment t))
-        (product assignment (map (normal_low w) ts)) (product assignment ts) (low_number t h.0) (low_product ts h.1)
+        congruent_product (2 ^ bits w) (number_of_value (value assignment (low_atom w t))) (number_of_value (value assignment t))
+        (product assignment (map (low_atom w) ts)) (product assignment ts) (low_atom_number t h.0) (low_product ts h.1)
 
-    low_words : (ts : List Term) → AreWords v ts → AreWords w (map (normal_low w) ts)
+    low_words : (ts : List Term) → AreAtoms v ts → AreAtoms w (map (low_atom w) ts)
     low_words [] h = tt
-    low_words (t ∷ ts) h = ((keeps_low [] w t (sort-low t h.0)).sorted, low_words ts h.1)
+    low_words (t ∷ ts) h = (low_atom_is t h.0, low_words ts h.1)
 
     lowered_atoms : (p : Polynomial) → HasAtoms v p → HasAtoms w (lowered w p)
     unfolding lowered
     lowered_atoms [] h = tt
-    lowered_atoms (s ∷ p) h = plus_summand_atoms w (bits w) s.coefficient (map (normal_low w) s.atoms) (lowered w p) (low_words s.atoms h.0) (lowered_atoms p h.1)
+    lowered_atoms (s ∷ p) h = plus_summand_atoms w (bits w) s.coefficient (map (low_atom w) s.atoms) (lowered w p) (low_words s.atoms h.0) (lowered_atoms p h.1)
 
     lowered_value : (p : Polynomial) → HasAtoms v p → IsCongruent (2 ^ bits w) (pv (lowered w p)) (pv p)
     unfolding lowered polynomial_value
     lowered_value [] h = congruent_same (2 ^ bits w) 0 0 refl
     lowered_value (s ∷ p) h =
-        congruent_then (2 ^ bits w) (pv (plus_summand (bits w) s.coefficient (map (normal_low w) s.atoms) (lowered w p)))
-        (s.coefficient * product assignment (map (normal_low w) s.atoms) + pv (lowered w p)) (s.coefficient * product assignment s.atoms + pv p)
-        (plus_summand_value assignment (bits w) s.coefficient (map (normal_low w) s.atoms) (lowered w p))
-        (congruent_plus (2 ^ bits w) (s.coefficient * product assignment (map (normal_low w) s.atoms)) (s.coefficient * product assignment s.atoms) (pv (lowered w p)) (pv p)
-        (congruent_times (2 ^ bits w) s.coefficient (product assignment (map (normal_low w) s.atoms)) (product assignment s.atoms) (low_product s.atoms h.0))
+        congruent_then (2 ^ bits w) (pv (plus_summand (bits w) s.coefficient (map (low_atom w) s.atoms) (lowered w p)))
+        (s.coefficient * product assignment (map (low_atom w) s.atoms) + pv (lowered w p)) (s.coefficient * product assignment s.atoms + pv p)
+        (plus_summand_value assignment (bits w) s.coefficient (map (low_atom w) s.atoms) (lowered w p))
+        (congruent_plus (2 ^ bits w) (s.coefficient * product assignment (map (low_atom w) s.atoms)) (s.coefficient * product assignment s.atoms) (pv (lowered w p)) (pv p)
+        (congruent_times (2 ^ bits w) s.coefficient (product assignment (map (low_atom w) s.atoms)) (product assignment s.atoms) (low_product s.atoms h.0))
         (lowered_value p h.1))
 
     -- the low bits of t, of the polynomial p
@@ -396,6 +422,227 @@ module _ (assignment : Assignment) (assigns : IsAssignment assignment) where
   unary_is (unary.ZeroExtend u) w x p h is = atom_is w (Unary (unary.ZeroExtend u) x) h
   unary_is (unary.SignExtend u) w x p h is = atom_is w (Unary (unary.SignExtend u) x) h
 
+  -- ---- conditions
+
+  -- the polynomial of a truth value is 1 where it holds, else 0
+  record IsConditionOf (w : Width) (t : Term) (p : Polynomial) : Type 0 where
+    pub atoms : HasAtoms w p
+    pub value_is : IsCongruent (2 ^ bits w) (polynomial_value assignment p) (number_of_value (value assignment t))
+
+  difference_is : (w : Width) (r s : Polynomial) (i k n : ℕ) → IsCongruent (2 ^ bits w) (pv r) i → IsCongruent (2 ^ bits w) (pv s) k → n + k ≡ i → IsCongruent (2 ^ bits w) (pv (minus (bits w) r s)) n
+  difference_is w r s i k n ci ck sum =
+      congruent_minus (2 ^ bits w) (pv (minus (bits w) r s)) n (pv s)
+      (congruent_then (2 ^ bits w) (pv (minus (bits w) r s) + pv s) (pv r) (n + pv s) (minus_value assignment (bits w) r s)
+      (congruent_then (2 ^ bits w) (pv r) i (n + pv s) ci
+      (congruent_then (2 ^ bits w) i (n + k) (n + pv s) (congruent_same (2 ^ bits w) i (n + k) (sym sum))
+      (congruent_plus (2 ^ bits w) n n k (pv s) (congruent_same (2 ^ bits w) n n refl) (congruent_sym (2 ^ bits w) (pv s) k ck)))))
+
+  module _ (w : Width) where
+    condition_atom : (t : Term) → sort_of t ≡ Some sort.Truth → IsConditionOf w t (atom_polynomial t)
+    condition_atom t h = record {
+      atoms = ((inr h, tt), tt);
+      value_is = congruent_same (2 ^ bits w) (pv (atom_polynomial t)) (number_of_value (value assignment t)) (atom_value assignment t);
+    }
+
+    condition_if : (t : Term) (test : Bool) (p : Polynomial) → sort_of t ≡ Some sort.Truth → (test ≡ true → IsConditionOf w t p) → IsConditionOf w t (cond test p (atom_polynomial t))
+    condition_if t true p h f = f refl
+    condition_if t false p h f = condition_atom t h
+
+    condition_bounded : (t : Term) (p : Polynomial) → sort_of t ≡ Some sort.Truth → IsConditionOf w t p → IsConditionOf w t (bounded t p)
+    condition_bounded t p h is = condition_if t (nat_le (length p) MONOMIALS && has_small_monomials p) p h (λ e. is)
+
+    -- of a number that is a truth value
+    abbrev digit : Bool → ℕ
+    digit b = cond b 1 0
+
+    product_is : (x y : Term) (p q : Polynomial) → IsConditionOf w x p → IsConditionOf w y q
+        → IsCongruent (2 ^ bits w) (pv (times (bits w) p q)) (number_of_value (value assignment x) * number_of_value (value assignment y))
+    product_is x y p q of_x of_y =
+        congruent_then (2 ^ bits w) (pv (times (bits w) p q)) (pv p * pv q) (number_of_value (value assignment x) * number_of_value (value assignment y))
+        (times_value assignment (bits w) assigns p q)
+        (congruent_product (2 ^ bits w) (pv p) (number_of_value (value assignment x)) (pv q) (number_of_value (value assignment y)) of_x.value_is of_y.value_is)
+
+    sum_is : (x y : Term) (p q : Polynomial) → IsConditionOf w x p → IsConditionOf w y q
+        → IsCongruent (2 ^ bits w) (pv (plus (bits w) p q)) (number_of_value (value assignment x) + number_of_value (value assignment y))
+    sum_is x y p q of_x of_y =
+        congruent_then (2 ^ bits w) (pv (plus (bits w) p q)) (pv p + pv q) (number_of_value (value assignment x) + number_of_value (value assignment y))
+        (plus_value assignment (bits w) p q)
+        (congruent_plus (2 ^ bits w) (pv p) (number_of_value (value assignment x)) (pv q) (number_of_value (value assignment y)) of_x.value_is of_y.value_is)
+
+    -- the opposite
+    not_is : (x : Term) (p : Polynomial) → sort_of x ≡ Some sort.Truth → IsConditionOf w x p → IsConditionOf w (not_term x) (minus (bits w) (constant_polynomial (bits w) 1) p)
+    not_is x p hx of_x = record {
+      atoms = minus_atoms w (bits w) (constant_polynomial (bits w) 1) p (constant_atoms w (bits w) 1) of_x.atoms;
+      value_is =
+          let vx = truth_value_of assignment assigns x hx in
+          difference_is w (constant_polynomial (bits w) 1) p 1 (number_of_value (value assignment x)) (number_of_value (value assignment (not_term x)))
+          (constant_value assignment (bits w) 1) of_x.value_is
+          (ap (λ n. n + number_of_value (value assignment x)) (ap number_of_value (value-not assignment x vx.0 vx.1)) ∙ ap (λ n. digit (not vx.0) + n) (ap number_of_value vx.1) ∙ one vx.0);
+    }
+      where
+        one : (b : Bool) → digit (not b) + digit b ≡ 1
+        one true = refl
+        one false = refl
+
+    module _ (x y : Term) (hx : sort_of x ≡ Some sort.Truth) (hy : sort_of y ≡ Some sort.Truth) (p q : Polynomial)
+        (of_x : IsConditionOf w x p) (of_y : IsConditionOf w y q) where
+      abbrev i : ℕ
+      i = number_of_value (value assignment x)
+
+      abbrev j : ℕ
+      j = number_of_value (value assignment y)
+
+      -- what is true of both digits is true of i and j
+      of_digits : (P : ℕ → ℕ → ℕ → Type 0) (t : Term) (f : Bool → Bool → Bool)
+          → ((a b : Bool) → value assignment x ≡ Truth a → value assignment y ≡ Truth b → value assignment t ≡ Truth (f a b))
+          → ((a b : Bool) → P (digit (f a b)) (digit a) (digit b)) → P (number_of_value (value assignment t)) i j
+      of_digits P t f is holds =
+          let vx = truth_value_of assignment assigns x hx in
+          let vy = truth_value_of assignment assigns y hy in
+          subst (λ n. P n i j) (sym (ap number_of_value (is vx.0 vy.0 vx.1 vy.1)))
+          (subst (λ n. P (digit (f vx.0 vy.0)) n j) (sym (ap number_of_value vx.1)) (subst (λ n. P (digit (f vx.0 vy.0)) (digit vx.0) n) (sym (ap number_of_value vy.1)) (holds vx.0 vy.0)))
+
+      and_is : IsConditionOf w (and_term x y) (times (bits w) p q)
+      and_is = record {
+        atoms = times_atoms w (bits w) p q of_x.atoms of_y.atoms;
+        value_is =
+            congruent_then (2 ^ bits w) (pv (times (bits w) p q)) (i * j) (number_of_value (value assignment (and_term x y))) (product_is x y p q of_x of_y)
+            (congruent_same (2 ^ bits w) (i * j) (number_of_value (value assignment (and_term x y))) (of_digits (λ n k l. k * l ≡ n) (and_term x y) ◌&&◌ (value-and assignment x y) both));
+      }
+        where
+          both : (a b : Bool) → digit a * digit b ≡ digit (a && b)
+          both true true = refl
+          both true false = refl
+          both false true = refl
+          both false false = refl
+
+      or_is : IsConditionOf w (or_term x y) (minus (bits w) (plus (bits w) p q) (times (bits w) p q))
+      or_is = record {
+        atoms = minus_atoms w (bits w) (plus (bits w) p q) (times (bits w) p q) (plus_atoms w (bits w) p q of_x.atoms of_y.atoms) (times_atoms w (bits w) p q of_x.atoms of_y.atoms);
+        value_is =
+            difference_is w (plus (bits w) p q) (times (bits w) p q) (i + j) (i * j) (number_of_value (value assignment (or_term x y))) (sum_is x y p q of_x of_y) (product_is x y p q of_x of_y)
+            (of_digits (λ n k l. n + k * l ≡ k + l) (or_term x y) ◌||◌ (value-or assignment x y) either);
+      }
+        where
+          either : (a b : Bool) → digit (a || b) + digit a * digit b ≡ digit a + digit b
+          either true true = refl
+          either true false = refl
+          either false true = refl
+          either false false = refl
+
+      equal_is : IsConditionOf w (equal x y) (minus (bits w) (plus (bits w) (constant_polynomial (bits w) 1) (scaled (bits w) 2 (times (bits w) p q))) (plus (bits w) p q))
+      equal_is = record {
+        atoms =
+            minus_atoms w (bits w) (plus (bits w) (constant_polynomial (bits w) 1) (scaled (bits w) 2 (times (bits w) p q))) (plus (bits w) p q)
+            (plus_atoms w (bits w) (constant_polynomial (bits w) 1) (scaled (bits w) 2 (times (bits w) p q)) (constant_atoms w (bits w) 1)
+            (scaled_atoms w (bits w) 2 (times (bits w) p q) (times_atoms w (bits w) p q of_x.atoms of_y.atoms)))
+            (plus_atoms w (bits w) p q of_x.atoms of_y.atoms);
+        value_is =
+            difference_is w (plus (bits w) (constant_polynomial (bits w) 1) (scaled (bits w) 2 (times (bits w) p q))) (plus (bits w) p q) (1 + 2 * (i * j)) (i + j)
+            (number_of_value (value assignment (equal x y)))
+            (congruent_then (2 ^ bits w) (pv (plus (bits w) (constant_polynomial (bits w) 1) (scaled (bits w) 2 (times (bits w) p q))))
+            (pv (constant_polynomial (bits w) 1) + pv (scaled (bits w) 2 (times (bits w) p q))) (1 + 2 * (i * j))
+            (plus_value assignment (bits w) (constant_polynomial (bits w) 1) (scaled (bits w) 2 (times (bits w) p q)))
+            (congruent_plus (2 ^ bits w) (pv (constant_polynomial (bits w) 1)) 1 (pv (scaled (bits w) 2 (times (bits w) p q))) (2 * (i * j)) (constant_value assignment (bits w) 1)
+            (congruent_then (2 ^ bits w) (pv (scaled (bits w) 2 (times (bits w) p q))) (2 * pv (times (bits w) p q)) (2 * (i * j)) (scaled_value assignment (bits w) 2 (times (bits w) p q))
+            (congruent_times (2 ^ bits w) 2 (pv (times (bits w) p q)) (i * j) (product_is x y p q of_x of_y)))))
+            (sum_is x y p q of_x of_y)
+            (of_digits (λ n k l. n + (k + l) ≡ 1 + 2 * (k * l)) (equal x y) (λ a b. if a then b else not b) (value-equal_truths assignment assigns x y) same);
+      }
+        where
+          same : (a b : Bool) → digit (if a then b else not b) + (digit a + digit b) ≡ 1 + 2 * (digit a * digit b)
+          same true true = refl
+          same true false = refl
+          same false true = refl
+          same false false = refl
+
+    both_truths : (o : BinaryOperator) (x y : Term) → ((s t : Sort) → sort_of_binary o s t ≡ sort_if (is_truth s && is_truth t) sort.Truth) → sort_of (Binary o x y) ≡ Some sort.Truth
+        → (sort_of x ≡ Some sort.Truth) × (sort_of y ≡ Some sort.Truth)
+    unfolding sort_of
+    both_truths o x y is h =
+        let parts = with_two-some (sort_of_binary o) (sort_of x) (sort_of y) sort.Truth h in
+        let both = and_parts (is_truth parts.0) (is_truth parts.1) ((sort_if-some (is_truth parts.0 && is_truth parts.1) sort.Truth sort.Truth (sym (is parts.0 parts.1) ∙ parts.4)).0) in
+        (parts.2 ∙ ap Some (same_sort-true parts.0 sort.Truth both.0), parts.3 ∙ ap Some (same_sort-true parts.1 sort.Truth both.1))
+
+    condition_is : (t : Term) → sort_of t ≡ Some sort.Truth → IsConditionOf w t (condition (bits w) t)
+    unfolding condition value sort_of_binary
+    condition_is (Leaf (atom.Truth b)) h = record { atoms = constant_atoms w (bits w) (digit b); value_is = constant_value assignment (bits w) (digit b) }
+    condition_is (Unary unary.Not x) h =
+        let hx = sort-under_not x h in
+        condition_bounded (not_term x) (minus (bits w) (constant_polynomial (bits w) 1) (condition (bits w) x)) h (not_is x (condition (bits w) x) hx (condition_is x hx))
+    condition_is (Binary binary.And x y) h =
+        let both = both_truths binary.And x y (λ s t. refl) h in
+        let p : Polynomial = condition (bits w) x in
+        let q : Polynomial = condition (bits w) y in
+        condition_if (and_term x y) (are_few_pairs p q) (bounded (and_term x y) (times (bits w) p q)) h
+        (λ e. condition_bounded (and_term x y) (times (bits w) p q) h (and_is x y both.0 both.1 p q (condition_is x both.0) (condition_is y both.1)))
+    condition_is (Binary binary.Or x y) h =
+        let both = both_truths binary.Or x y (λ s t. refl) h in
+        let p : Polynomial = condition (bits w) x in
+        let q : Polynomial = condition (bits w) y in
+        condition_if (or_term x y) (are_few_pairs p q) (bounded (or_term x y) (minus (bits w) (plus (bits w) p q) (times (bits w) p q))) h
+        (λ e. condition_bounded (or_term x y) (minus (bits w) (plus (bits w) p q) (times (bits w) p q)) h (or_is x y both.0 both.1 p q (condition_is x both.0) (condition_is y both.1)))
+    condition_is (Binary binary.Equal x y) h = by (condition (bits w) x) (condition (bits w) y) (condition_is x) (condition_is y)
+      where
+        beside : Alike x y → sort_of x ≡ Some sort.Truth → sort_of y ≡ Some sort.Truth
+        beside (truths hx hy) g = hy
+        beside (words v hx hy) g = absurd (cc)
+
+        by : (p q : Polynomial) → (sort_of x ≡ Some sort.Truth → IsConditionOf w x p) → (sort_of y ≡ Some sort.Truth → IsConditionOf w y q)
+            → IsConditionOf w (equal x y) (cond (is_bool x && are_few_pairs p q)
+            (bounded (equal x y) (minus (bits w) (plus (bits w) (constant_polynomial (bits w) 1) (scaled (bits w) 2 (times (bits w) p q))) (plus (bits w) p q)))
+            (atom_polynomial (equal x y)))
+        by p q first second =
+            let r : Polynomial = minus (bits w) (plus (bits w) (constant_polynomial (bits w) 1) (scaled (bits w) 2 (times (bits w) p q))) (plus (bits w) p q) in
+            condition_if (equal x y) (is_bool x && are_few_pairs p q) (bounded (equal x y) r) h
+            (λ e.
+            let tests = and_parts (is_bool x) (are_few_pairs p q) e in
+            let hx = bool_sort x tests.0 in
+            let hy = beside (alike_of x y sort.Truth h).1 hx in
+            condition_bounded (equal x y) r h (equal_is x y hx hy p q (first hx) (second hy)))
+    condition_is t h = condition_atom t h
+
+  -- ---- choices
+
+  choice_is : (w : Width) (c x y : Term) (r p q : Polynomial) → IsChoice assignment assigns w c x y → IsConditionOf w c r → IsPolynomialOf w x p → IsPolynomialOf w y q
+      → IsPolynomialOf w (choose c x y) (plus (bits w) q (times (bits w) r (minus (bits w) p q)))
+  choice_is w c x y r p q is of_c of_x of_y = record {
+    atoms =
+        plus_atoms w (bits w) q (times (bits w) r (minus (bits w) p q)) of_y.atoms
+        (times_atoms w (bits w) r (minus (bits w) p q) of_c.atoms (minus_atoms w (bits w) p q of_x.atoms of_y.atoms));
+    value_is = λ n e.
+        let vc = truth_value_of assignment assigns c is.test in
+        congruent_then (2 ^ bits w) (pv (plus (bits w) q (times (bits w) r (minus (bits w) p q)))) (pv q + pv r * pv (minus (bits w) p q)) n
+        (congruent_then (2 ^ bits w) (pv (plus (bits w) q (times (bits w) r (minus (bits w) p q)))) (pv q + pv (times (bits w) r (minus (bits w) p q))) (pv q + pv r * pv (minus (bits w) p q))
+        (plus_value assignment (bits w) q (times (bits w) r (minus (bits w) p q)))
+        (congruent_plus (2 ^ bits w) (pv q) (pv q) (pv (times (bits w) r (minus (bits w) p q))) (pv r * pv (minus (bits w) p q))
+        (congruent_same (2 ^ bits w) (pv q) (pv q) refl) (times_value assignment (bits w) assigns r (minus (bits w) p q))))
+        (by n vc.0 (subst (λ k. IsCongruent (2 ^ bits w) (pv r) k) (ap number_of_value vc.1) of_c.value_is) (sym (value-choose assignment c x y vc.0 vc.1) ∙ e));
+  }
+    where
+      digits : (k : ℕ) → IsCongruent (2 ^ bits w) (pv r) k → IsCongruent (2 ^ bits w) (pv q + pv r * pv (minus (bits w) p q)) (pv q + k * pv (minus (bits w) p q))
+      digits k h =
+          congruent_plus (2 ^ bits w) (pv q) (pv q) (pv r * pv (minus (bits w) p q)) (k * pv (minus (bits w) p q)) (congruent_same (2 ^ bits w) (pv q) (pv q) refl)
+          (congruent_product (2 ^ bits w) (pv r) k (pv (minus (bits w) p q)) (pv (minus (bits w) p q)) h (congruent_same (2 ^ bits w) (pv (minus (bits w) p q)) (pv (minus (bits w) p q)) refl))
+
+      one : (a b : ℕ) → a + 1 * b ≡ b + a
+      one a b = omega arith
+
+      none : (a b : ℕ) → a + 0 * b ≡ a
+      none a b = omega arith
+
+      by : (n : ℕ) (test : Bool) → IsCongruent (2 ^ bits w) (pv r) (cond test 1 0) → cond test (value assignment x) (value assignment y) ≡ Number w n
+          → IsCongruent (2 ^ bits w) (pv q + pv r * pv (minus (bits w) p q)) n
+      by n true h e =
+          congruent_then (2 ^ bits w) (pv q + pv r * pv (minus (bits w) p q)) (pv q + 1 * pv (minus (bits w) p q)) n (digits 1 h)
+          (congruent_then (2 ^ bits w) (pv q + 1 * pv (minus (bits w) p q)) (pv (minus (bits w) p q) + pv q) n
+          (congruent_same (2 ^ bits w) (pv q + 1 * pv (minus (bits w) p q)) (pv (minus (bits w) p q) + pv q) (one (pv q) (pv (minus (bits w) p q))))
+          (congruent_then (2 ^ bits w) (pv (minus (bits w) p q) + pv q) (pv p) n (minus_value assignment (bits w) p q) (of_x.value_is n e)))
+      by n false h e =
+          congruent_then (2 ^ bits w) (pv q + pv r * pv (minus (bits w) p q)) (pv q + 0 * pv (minus (bits w) p q)) n (digits 0 h)
+          (congruent_then (2 ^ bits w) (pv q + 0 * pv (minus (bits w) p q)) (pv q) n
+          (congruent_same (2 ^ bits w) (pv q + 0 * pv (minus (bits w) p q)) (pv q) (none (pv q) (pv (minus (bits w) p q)))) (of_y.value_is n e))
+
   -- ---- the theorem
 
   constant_polynomial_is : (v : Width) (n : ℕ) → IsPolynomialOf v (constant v n) (constant_polynomial (bits v) n)
@@ -418,6 +665,16 @@ module _ (assignment : Assignment) (assigns : IsAssignment assignment) where
       let hy = is.3 in
       subst (λ u. IsPolynomialOf u (on_words o x y) (polynomial_of_operation o x y (polynomial x) (polynomial y))) (sym (ap width_of_sort is.1))
       (operation_is is.0 x y hx hy (polynomial x) (polynomial y) (polynomial_is x is.0 hx) (polynomial_is y is.0 hy) o)
+  polynomial_is (Ternary ternary.Choose c x y) w h =
+      let is = choice_of assignment assigns w c x y h in
+      let p : Polynomial = polynomial x in
+      let q : Polynomial = polynomial y in
+      subst (λ u. IsPolynomialOf w (choose c x y) (choice_polynomial (bits u) (choose c x y) (condition (bits u) c) (polynomial x) (polynomial y))) (sym (width_is x w is.first))
+      (if_is w (choose c x y) (nat_le CHOICE_WIDTH (bits w) && nat_le (length (condition (bits w) c) * length (minus (bits w) p q)) MONOMIALS)
+      (bounded (choose c x y) (plus (bits w) q (times (bits w) (condition (bits w) c) (minus (bits w) p q)))) h
+      (λ e.
+      bounded_is w (choose c x y) (plus (bits w) q (times (bits w) (condition (bits w) c) (minus (bits w) p q))) h
+      (choice_is w c x y (condition (bits w) c) p q is (condition_is w c is.test) (polynomial_is x w is.first) (polynomial_is y w is.second))))
   polynomial_is t w h = atom_is w t h
 
 pub polynomial_number : (assignment : Assignment) → IsAssignment assignment → (t : Term) (w : Width) → sort_of t ≡ Some (sort.Word w) → (n : ℕ) → value assignment t ≡ Number w n

@@ -267,3 +267,29 @@ unknown =
     ∷ less (subtract (low_byte x) (number 1)) (number 256)
     ∷ x
     ∷ []
+
+-- ---- choices in `ring`
+
+-- sums and products of an `ite`, the opposite condition, one condition twice, `and`, `or` and `eq` of conditions, low bits
+abbrev pub choices : List Pair
+choices =
+    choose flag (add x (number 1)) x ~ add x (choose flag (number 1) (number 0))
+    ∷ multiply (choose flag (number 2) (number 3)) x ~ choose flag (multiply x (number 2)) (multiply x (number 3))
+    ∷ choose (not_term flag) x y ~ choose flag y x
+    ∷ choose flag (choose flag x y) z ~ choose flag x z
+    ∷ choose (and_term flag other) x y ~ choose flag (choose other x y) y
+    ∷ choose (or_term flag other) x y ~ choose flag x (choose other x y)
+    ∷ choose (equal flag other) x y ~ choose flag (choose other x y) (choose other y x)
+    ∷ low W16 (choose flag x y) ~ choose flag (low W16 x) (low W16 y)
+    ∷ []
+
+-- near misses: the words or the condition exchanged, `and` for `or`, an `eq` of words that would say which, bytes
+abbrev pub other_choices : List Pair
+other_choices =
+    choose flag x y ~ choose flag y x
+    ∷ choose flag x y ~ choose other x y
+    ∷ choose (and_term flag other) x y ~ choose (or_term flag other) x y
+    ∷ choose (equal flag other) x y ~ choose flag (choose other x y) (choose other x y)
+    ∷ choose (equal x y) x y ~ y
+    ∷ choose (not_term flag) (low W8 x) (low W8 y) ~ choose flag (low W8 y) (low W8 x)
+    ∷ []

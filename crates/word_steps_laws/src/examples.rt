@@ -10,7 +10,7 @@ ghost use Rattle.word_steps_laws.specs.Examples.{goal, block, Leaves, Accepts, a
 ghost use Rattle.word_steps_laws.specs.Examples.{ordered, unordered, Decides};
 ghost use Rattle.word_steps_laws.specs.Examples.{of_one_list, of_two_lists};
 ghost use Rattle.word_steps_laws.specs.Examples.{known_true, known_false, unknown};
-ghost use Rattle.word_steps_laws.specs.Examples.{spelled, misspelled};
+ghost use Rattle.word_steps_laws.specs.Examples.{spelled, misspelled, choices, other_choices};
 ghost use Rattle.word_steps_laws.specs.Examples.{split_goal, split_block, case_goal};
 ghost use Rattle.word_steps_laws.specs.Examples.{true_block, false_block};
 
@@ -67,4 +67,10 @@ pub fn bits_and_bounds_decide()
     ensures true_ones { Decides BitsOf known_true (Some (Truth true)) }
     ensures false_ones { Decides BitsOf known_false (Some (Truth false)) }
     ensures others { Decides BitsOf unknown None }
+{}
+
+/// Choices of one polynomial, and near misses.
+pub fn choices_have_polynomials()
+    ensures accepted { Accepts Ring true choices }
+    ensures refused { Accepts Ring false other_choices }
 {}

@@ -1,13 +1,16 @@
 -- Polynomials with coefficients modulo 2 ^ count, over atoms, which are terms.
-use Rattle.std.specs.Prelude.{ℕ, ◌+◌, ◌-◌, ◌*◌, ◌^◌, ◌==◌, ◌&&◌, not, nat_le, Bool, true, false, if◌then◌else◌, List, [], ◌∷◌, ◌++◌, length, map, Option, Some, None, option_map}
+use Rattle.std.specs.Prelude.{ℕ, ◌+◌, ◌-◌, ◌*◌, ◌^◌, ◌==◌, ◌&&◌, not, nat_le, Bool, true, false, if◌then◌else◌, List, [], ◌∷◌, length, map, Option, Some, None, option_map}
+use Rattle.std.specs.List.{list_any}
 use Rattle.term_core_spec.specs.declared.Width.{Width}
 use Rattle.term_core_spec.specs.Term.{Term}
 use Rattle.term_core_spec.specs.Sort.{bits}
 use Rattle.term_core_spec.specs.Same.{same_term}
 use Rattle.term_core_spec.specs.Value.{Value, Truth, Number, Bytes, Assignment, value, low_bits}
 use Rattle.term_norm_spec.specs.Normal.{normal_low}
+use Rattle.word_steps_spec.specs.Numbers.{is_bool}
 
--- a coefficient that is not 0, and a monomial: the product of some atoms, in any order
+-- a coefficient that is not 0, and a monomial: the product of some atoms, in any order. A truth value is 1 or 0, and is an atom of
+-- a monomial once at most
 pub record Summand : Type 0 where
   pub coefficient : ℕ
   pub atoms : List Term
@@ -40,6 +43,11 @@ same_atoms [] [] = true
 same_atoms [] (u ∷ rest) = false
 same_atoms (t ∷ more) atoms = holds_of (same_atoms more) (without t atoms)
 
+-- the atoms of a product of two monomials
+unfoldable pub with_atoms : List Term → List Term → List Term
+with_atoms [] atoms = atoms
+with_atoms (t ∷ more) atoms = if is_bool t && list_any (same_term t) atoms then with_atoms more atoms else t ∷ with_atoms more atoms
+
 -- ---- sums and products. A summand with the coefficient 0 is left out
 
 abbrev pub with_summand : ℕ → List Term → Polynomial → Polynomial
@@ -67,7 +75,7 @@ minus count p q = plus count (scaled count (2 ^ count - 1) q) p
 
 unfoldable pub times_summand : ℕ → Summand → Polynomial → Polynomial
 times_summand count s [] = []
-times_summand count s (u ∷ q) = plus_summand count (s.coefficient * u.coefficient) (s.atoms ++ u.atoms) (times_summand count s q)
+times_summand count s (u ∷ q) = plus_summand count (s.coefficient * u.coefficient) (with_atoms s.atoms u.atoms) (times_summand count s q)
 
 unfoldable pub times : ℕ → Polynomial → Polynomial → Polynomial
 times count [] q = []
@@ -79,10 +87,13 @@ constant_polynomial count n = with_summand (low_bits count n) [] []
 abbrev pub atom_polynomial : Term → Polynomial
 atom_polynomial t = record { coefficient = 1; atoms = t ∷ [] } ∷ []
 
--- the low bits, at a width: each atom becomes its low bits, as an atom
+abbrev pub low_atom : Width → Term → Term
+low_atom width t = if is_bool t then t else normal_low width t
+
+-- the low bits, at a width: each atom that is a word becomes its low bits, as an atom
 unfoldable pub lowered : Width → Polynomial → Polynomial
 lowered width [] = []
-lowered width (s ∷ p) = plus_summand (bits width) s.coefficient (map (normal_low width) s.atoms) (lowered width p)
+lowered width (s ∷ p) = plus_summand (bits width) s.coefficient (map (low_atom width) s.atoms) (lowered width p)
 
 -- ---- bounds and tests
 
@@ -111,7 +122,7 @@ is_only_constant count p = false
 
 abbrev pub number_of_value : Value → ℕ
 number_of_value (Number width n) = n
-number_of_value (Truth b) = 0
+number_of_value (Truth b) = if b then 1 else 0
 number_of_value (Bytes memory) = 0
 
 unfoldable pub product : Assignment → List Term → ℕ

@@ -9,11 +9,12 @@ use Rattle.term_core_spec.specs.declared.UnaryOperator.TheVariants as unary
 use Rattle.term_core_spec.specs.declared.WordOperator.{WordOperator}
 use Rattle.term_core_spec.specs.declared.WordOperator.TheVariants as word
 use Rattle.term_core_spec.specs.declared.BinaryOperator.TheVariants as binary
-use Rattle.term_core_spec.specs.Term.{Term, Leaf, Unary, Binary, constant, divide, on_words}
+use Rattle.term_core_spec.specs.declared.TernaryOperator.TheVariants as ternary
+use Rattle.term_core_spec.specs.Term.{Term, Leaf, Unary, Binary, Ternary, constant, choose, divide, on_words}
 use Rattle.term_core_spec.specs.Sort.{bits, sort_of}
 use Rattle.term_core_spec.specs.Same.{same_term}
 use Rattle.term_norm_spec.specs.Patterns.{width_of, is_constant, number_of}
-use Rattle.word_steps_spec.specs.Numbers.{has_sort, are_alike}
+use Rattle.word_steps_spec.specs.Numbers.{has_sort, is_bool, are_alike}
 use Rattle.word_steps_spec.specs.Polynomial.{Polynomial, MONOMIALS, plus, minus, scaled, times, constant_polynomial, atom_polynomial, lowered, bounded, is_empty, is_only_constant}
 
 -- the word whose top bit alone is set, at the width of a term
@@ -65,11 +66,52 @@ polynomial_of_unary (unary.Byte place) x p =
     if place == 0 then bounded (Unary (unary.Byte place) x) (lowered W8 p) else atom_polynomial (Unary (unary.Byte place) x)
 polynomial_of_unary operator x p = atom_polynomial (Unary operator x)
 
+-- ---- choices
+
+-- a product of more than so many pairs of monomials in a condition is an atom
+abbrev pub CONDITION_PAIRS : ℕ
+CONDITION_PAIRS = 8
+
+abbrev pub are_few_pairs : Polynomial → Polynomial → Bool
+are_few_pairs p q = nat_le (length p * length q) CONDITION_PAIRS
+
+-- the polynomial of a truth value: 1 where it holds, else 0
+unfoldable pub condition : ℕ → Term → Polynomial
+condition count (Leaf (atom.Truth b)) = constant_polynomial count (if b then 1 else 0)
+condition count (Unary unary.Not x) = bounded (Unary unary.Not x) (minus count (constant_polynomial count 1) (condition count x))
+condition count (Binary binary.And x y) =
+    if are_few_pairs (condition count x) (condition count y)
+    then bounded (Binary binary.And x y) (times count (condition count x) (condition count y)) else atom_polynomial (Binary binary.And x y)
+condition count (Binary binary.Or x y) =
+    if are_few_pairs (condition count x) (condition count y)
+    then bounded (Binary binary.Or x y)
+    (minus count (plus count (condition count x) (condition count y)) (times count (condition count x) (condition count y)))
+    else atom_polynomial (Binary binary.Or x y)
+condition count (Binary binary.Equal x y) =
+    if is_bool x && are_few_pairs (condition count x) (condition count y)
+    then bounded (Binary binary.Equal x y)
+    (minus count (plus count (constant_polynomial count 1) (scaled count 2 (times count (condition count x) (condition count y))))
+    (plus count (condition count x) (condition count y)))
+    else atom_polynomial (Binary binary.Equal x y)
+condition count t = atom_polynomial t
+
+-- an `ite` of words below this width is an atom
+abbrev pub CHOICE_WIDTH : ℕ
+CHOICE_WIDTH = 16
+
+-- an `ite` of words of the polynomials p and q, by a condition of the polynomial r: q + r (p - q)
+abbrev pub choice_polynomial : ℕ → Term → (r p q : Polynomial) → Polynomial
+choice_polynomial count t r p q =
+    if nat_le CHOICE_WIDTH count && nat_le (length r * length (minus count p q)) MONOMIALS
+    then bounded t (plus count q (times count r (minus count p q))) else atom_polynomial t
+
 -- the polynomial of a word
 unfoldable pub polynomial : Term → Polynomial
 polynomial (Leaf (atom.Constant width n)) = constant_polynomial (bits width) n
 polynomial (Unary operator x) = polynomial_of_unary operator x (polynomial x)
 polynomial (Binary (binary.Word operator) x y) = polynomial_of_operation operator x y (polynomial x) (polynomial y)
+polynomial (Ternary ternary.Choose test x y) =
+    choice_polynomial (bits (width_of x)) (choose test x y) (condition (bits (width_of x)) test) (polynomial x) (polynomial y)
 polynomial t = atom_polynomial t
 
 -- ---- the tests
