@@ -13,7 +13,7 @@ use Rattle.term_norm_spec.specs.Patterns.{width_of}
 use Rattle.term_norm_spec.proofs.Equals.{value-equal_words}
 use Rattle.term_norm_spec.proofs.Words.{word_of}
 use Rattle.word_steps_spec.specs.Polynomial.{number_of_value}
-use Rattle.word_steps_spec.specs.Ring.{are_words, Sides, sides_of}
+use Rattle.word_steps_spec.specs.Sides.{are_words, Sides, sides_of}
 use Rattle.word_steps_spec.specs.Bitwise.{Bit, Bits, BitPair, bit_value, same_bit, is_fixed, all_below, bits_of, have_same_bits, same_pair, is_among, are_among, unequal_pairs, pairs_of, have_same_pairs, same_bits_by, same_by_bits, are_opposite, has_opposite, has_none, decided_by_pairs, decided_by_bits}
 use Rattle.word_steps_laws.proofs.CommHolds.{either_test}
 use Rattle.word_steps_laws.proofs.BitsHold.{all_below_at, same_bit_equal, fixed_value, bits_equal, equal_bits}

@@ -23,7 +23,7 @@ use Rattle.term_norm_spec.proofs.Keeps.{width_is}
 use Rattle.term_norm_spec.proofs.Truths.{truth_value_of, value-choose}
 use Rattle.term_norm_spec.proofs.Words.{words_of, value-less}
 use Rattle.word_steps_spec.specs.Polynomial.{number_of_value}
-use Rattle.word_steps_spec.specs.Ring.{are_words, Sides, sides_of}
+use Rattle.word_steps_spec.specs.Sides.{are_words, Sides, sides_of}
 use Rattle.word_steps_spec.specs.Bitwise.{bit_value, is_fixed, bits_of}
 use Rattle.word_steps_spec.specs.Order.{Bounds, least_of_bits, greatest_of_bits, bounds_by_bits, within_both, within_one, divided_bounds, is_divisor, bounds_of_operation, bounds_by_own_bits, bounds_of, is_below, are_one_value, equality_by_bounds, order_by_bounds, order_of, by_sides, else_by, decided_by_bounds}
 use Rattle.word_steps_laws.proofs.CommHolds.{either_test, word_made}

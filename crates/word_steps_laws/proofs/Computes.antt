@@ -5,7 +5,8 @@ use Rattle.term_core_spec.specs.Subterms.{with_subterms}
 use Rattle.term_norm_spec.proofs.Computes.{forms_compute}
 use Rattle.word_steps_spec.specs.Numbers.{operands, at_places, made, operation_of, number_at, is_number, place_in, known_truth, merged_with, with_now, renew, renew_up_to, is_fact, are_facts}
 use Rattle.word_steps_spec.specs.Polynomial.{without, same_atoms, with_atoms, plus_summand, plus, scaled, times_summand, times, lowered, has_small_monomials}
-use Rattle.word_steps_spec.specs.Ring.{condition, polynomial_of_operation, polynomial_of_unary, polynomial, sides_of, one_polynomial, decided_by_polynomials}
+use Rattle.word_steps_spec.specs.Ring.{condition, polynomial_of_operation, polynomial_of_unary, polynomial, one_polynomial, decided_by_polynomials}
+use Rattle.word_steps_spec.specs.Sides.{sides_of}
 use Rattle.word_steps_spec.specs.Commuting.{is_commutative, arguments_under, same_up_to_order}
 use Rattle.word_steps_spec.specs.Bitwise.{all_below, joined_bits, bits_of_operation, bits_of_unary, bits_of, is_among, are_among, unequal_pairs, same_by_bits, has_opposite, decided_by_bits}
 use Rattle.word_steps_spec.specs.Order.{least_of_bits, greatest_of_bits, bounds_of_operation, bounds_of, order_of, decided_by_bounds, under_flip, same_by_spelling}

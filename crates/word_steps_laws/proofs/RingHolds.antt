@@ -1,8 +1,11 @@
 -- The value of the polynomial of a word is the word's, modulo 2 ^ width.
 use Rattle.std.proofs.Common.{◌≡◌, ℕ, zero, suc, ◌+◌, ◌-◌, ◌*◌, ◌/◌, ◌%◌, ◌^◌, ◌<◌, Bool, true, false, cond, List, [], ◌∷◌, map, length, Some, ◌⊎◌, inl, inr, refl, sym, ap, ◌∙◌, subst, arith, eqb-true, div-one}
-use Rattle.std.specs.Prelude.{◌==◌, ◌&&◌, ◌||◌, not, if◌then◌else◌, nat_lt, nat_le, bit_xor}
+use Rattle.std.specs.Prelude.{◌==◌, ◌&&◌, ◌||◌, not, if◌then◌else◌, nat_lt, nat_le, min, bit_and, bit_xor}
+use Rattle.std.specs.Int.{bit_at}
+use Rattle.std.specs.Int.Bits.{xor_add_and}
+use Rattle.std.proofs.lemmas.Nat.Bits.{bit_at-lt, bit_at_and, same_from_bits_below}
 use Rattle.std.proofs.lemmas.Bool.{and_parts, leb-true}
-use Rattle.std.proofs.lemmas.Nat.{pow_pos, pow-add, xor_block, xor_comm, div-add-mod', div_below, mod_below}
+use Rattle.std.proofs.lemmas.Nat.{pow_pos, pow-add, xor_block, xor_comm, and_le_l, div-add-mod', div_below, mod_below}
 use Rattle.term_core_spec.specs.declared.Width.{Width}
 use Rattle.term_core_spec.specs.declared.Width.TheVariants.{W8, W16, W32, W64}
 use Rattle.term_core_spec.specs.declared.Sort.{Sort}
@@ -31,13 +34,14 @@ use Rattle.term_norm_spec.proofs.Keeps.{width_is, constant_is, constant_sorted, 
 use Rattle.term_norm_spec.proofs.Words.{sort-words, sort-under_complement, words_of, word_of, value-words, value-complement}
 use Rattle.term_norm_spec.proofs.Cuts.{low_of, byte_parts, keeps_low}
 use Rattle.word_steps_spec.specs.Numbers.{is_bool}
+use Rattle.word_steps_spec.specs.Bitwise.{all_below, is_fixed, bits_of}
 use Rattle.word_steps_spec.specs.Polynomial.{Polynomial, MONOMIALS, low_atom, plus, scaled, minus, times, plus_summand, constant_polynomial, atom_polynomial, lowered, bounded, has_small_monomials, number_of_value, product, polynomial_value}
-use Rattle.word_steps_spec.specs.Ring.{CHOICE_WIDTH, are_few_pairs, condition, choice_polynomial, top_bit, is_top_bit, complement_polynomial, flipped_polynomial, polynomial_of_operation, polynomial_of_unary, polynomial}
+use Rattle.word_steps_spec.specs.Ring.{CHOICE_WIDTH, covers, is_cover, inverted_polynomial, are_few_pairs, condition, choice_polynomial, top_bit, is_top_bit, complement_polynomial, flipped_polynomial, polynomial_of_operation, polynomial_of_unary, polynomial}
 use Rattle.word_steps_laws.proofs.Congruence.{IsCongruent, congruent_same, congruent_sym, congruent_then, congruent_plus, congruent_times, congruent_product, congruent_multiple, congruent_mod, congruent_minus, congruent_divisor, congruent_equal}
 use Rattle.word_steps_laws.proofs.Polynomials.{plus_summand_value, plus_value, scaled_value, minus_value, times_value, constant_value, atom_value}
 use Rattle.word_steps_laws.proofs.Sorts.{bool_sort, sort_bool}
-use Rattle.word_steps_laws.proofs.CommHolds.{value-equal_truths}
-use Rattle.word_steps_laws.proofs.BitsHold.{IsChoice, choice_of}
+use Rattle.word_steps_laws.proofs.CommHolds.{either_test, value-equal_truths}
+use Rattle.word_steps_laws.proofs.BitsHold.{IsChoice, choice_of, all_below_at, bits_are, fixed_value, number_below, number_is_known}
 use Rattle.word_steps_laws.proofs.Atoms.{IsAtom, AreAtoms, HasAtoms, plus_summand_atoms, plus_atoms, scaled_atoms, minus_atoms, times_atoms, constant_atoms}
 
 -- the number of a word
@@ -88,7 +92,38 @@ top_flipped w i below = subst (λ m. IsCongruent m (2 ^ (bits w - 1) + i) (bit_x
         (subst (λ n. IsCongruent (2 * 2 ^ k) (2 ^ k + n) (bit_xor n (1 * 2 ^ k + 0))) parts
         (halves k (i / 2 ^ k) (i % 2 ^ k) (div_below i (2 ^ k) 2 (pow_pos k) below) (mod_below i (2 ^ k) (pow_pos k))))
 
+-- a number that has only bits of n, flipped at all places of n
+inverted_sum : (a n : ℕ) → bit_and a n ≡ a → bit_xor a n + a ≡ n
+inverted_sum a n e = let sum = xor_add_and a n in omega arith
+
 module _ (assignment : Assignment) (assigns : IsAssignment assignment) where
+  covered_bits : (w : Width) (y x : Term) → sort_of y ≡ Some (sort.Word w) → sort_of x ≡ Some (sort.Word w) → is_cover (bits w) y x ≡ true
+      → bit_and (number_of_value (value assignment x)) (number_of_value (value assignment y)) ≡ number_of_value (value assignment x)
+  covered_bits w y x hy hx e =
+      let both = and_parts (nat_le CHOICE_WIDTH (bits w)) (is_constant y && covers (number_of y) x) e in
+      let tests = and_parts (is_constant y) (covers (number_of y) x) both.1 in
+      let small = number_below assignment assigns w x hx in
+      let all = subst (λ u. all_below (bits u) (λ i. bit_at (number_of y) i == 1 || is_fixed false (bits_of x i)) ≡ true) (width_is x w hx) tests.1 in
+      ap (bit_and (number_of_value (value assignment x))) (number_is_known assignment assigns w y hy tests.0)
+      ∙ same_from_bits_below (bits w) (bit_and (number_of_value (value assignment x)) (number_of y)) (number_of_value (value assignment x))
+      (below_too (number_of_value (value assignment x)) (number_of y) (2 ^ bits w) small) small
+      (λ i l.
+      bit_at_and (number_of_value (value assignment x)) (number_of y) i
+      ∙ either_test (bit_at (number_of y) i == 1) (is_fixed false (bits_of x i)) (all_below_at (bits w) (λ k. bit_at (number_of y) k == 1 || is_fixed false (bits_of x k)) all i l)
+      (λ one. least_one (bit_at (number_of_value (value assignment x)) i) (bit_at (number_of y) i) (bit_at-lt (number_of_value (value assignment x)) i) (eqb-true (bit_at (number_of y) i) 1 one))
+      (λ none.
+      least_none (bit_at (number_of_value (value assignment x)) i) (bit_at (number_of y) i)
+      (sym (bits_are assignment assigns x w hx i l) ∙ fixed_value assignment assigns false (bits_of x i) none)))
+    where
+      below_too : (a n m : ℕ) → a < m → bit_and a n < m
+      below_too a n m l = let le = and_le_l a n in omega arith
+
+      least_one : (a b : ℕ) → a < 2 → b ≡ 1 → min a b ≡ a
+      least_one a b l e = omega arith
+
+      least_none : (a b : ℕ) → a ≡ 0 → min a b ≡ a
+      least_none a b e = omega arith
+
   abbrev pv : Polynomial → ℕ
   pv p = polynomial_value assignment p
 
@@ -203,6 +238,22 @@ module _ (assignment : Assignment) (assigns : IsAssignment assignment) where
             swap : (i j a b : ℕ) → a * j + b ≡ i → b + j * a ≡ i
             swap i j a b e = omega arith
 
+    -- ---- all bits that a word may have flipped
+
+    invert_second : is_cover c y x ≡ true → IsPolynomialOf w (on_words word.Xor x y) (minus c q p)
+    unfolding operation
+    invert_second e = of_operation word.Xor (minus c q p) (minus_atoms w c q p of_y.atoms of_x.atoms) (λ i j bi bj vi vj ci cj.
+        let covered = covered_bits w y x hy hx e in
+        let sum = inverted_sum i j (subst (λ k. bit_and i k ≡ i) (ap number_of_value vj) (subst (λ k. bit_and k (number_of_value (value assignment y)) ≡ k) (ap number_of_value vi) covered)) in
+        by_sum q p j i (bit_xor i j) (minus_value assignment c q p) cj ci (congruent_same m (bit_xor i j + i) j sum))
+
+    invert_first : is_cover c x y ≡ true → IsPolynomialOf w (on_words word.Xor x y) (minus c p q)
+    unfolding operation
+    invert_first e = of_operation word.Xor (minus c p q) (minus_atoms w c p q of_x.atoms of_y.atoms) (λ i j bi bj vi vj ci cj.
+        let covered = covered_bits w x y hx hy e in
+        let sum = inverted_sum j i (subst (λ k. bit_and j k ≡ j) (ap number_of_value vi) (subst (λ k. bit_and k (number_of_value (value assignment x)) ≡ k) (ap number_of_value vj) covered)) in
+        by_sum p q i j (bit_xor i j) (minus_value assignment c p q) ci cj (congruent_same m (bit_xor i j + j) i (ap (λ n. n + j) (xor_comm i j) ∙ sum)))
+
     -- ---- the top bit flipped
 
     top_number : (z : Term) → sort_of z ≡ Some (sort.Word w) → is_top_bit z ≡ true → (k : ℕ) → value assignment z ≡ Number w k → (k ≡ top_bit z) × (top_bit z ≡ 2 ^ (bits w - 1))
@@ -251,14 +302,25 @@ module _ (assignment : Assignment) (assigns : IsAssignment assignment) where
         subst (λ v. IsPolynomialOf w (on_words word.Xor x y) (flipped_polynomial (bits v) (on_words word.Xor x y) x y p q)) (sym (width_is x w hx))
         (first (is_top_bit y) refl)
       where
+        second : (test : Bool) → is_cover c x y ≡ test
+            → IsPolynomialOf w (on_words word.Xor x y) (cond test (bounded (on_words word.Xor x y) (minus c p q)) (atom_polynomial (on_words word.Xor x y)))
+        second true e = bounded_is w (on_words word.Xor x y) (minus c p q) (sort-words word.Xor w x y hx hy) (invert_first e)
+        second false e = atom_is w (on_words word.Xor x y) (sort-words word.Xor w x y hx hy)
+
+        inverted : (test : Bool) → is_cover c y x ≡ test
+            → IsPolynomialOf w (on_words word.Xor x y) (cond test (bounded (on_words word.Xor x y) (minus c q p))
+            (cond (is_cover c x y) (bounded (on_words word.Xor x y) (minus c p q)) (atom_polynomial (on_words word.Xor x y))))
+        inverted true e = bounded_is w (on_words word.Xor x y) (minus c q p) (sort-words word.Xor w x y hx hy) (invert_second e)
+        inverted false e = second (is_cover c x y) refl
+
         last : (test : Bool) → is_top_bit x ≡ test
-            → IsPolynomialOf w (on_words word.Xor x y) (cond test (bounded (on_words word.Xor x y) (plus c (constant_polynomial c (top_bit x)) q)) (atom_polynomial (on_words word.Xor x y)))
+            → IsPolynomialOf w (on_words word.Xor x y) (cond test (bounded (on_words word.Xor x y) (plus c (constant_polynomial c (top_bit x)) q)) (inverted_polynomial c (on_words word.Xor x y) x y p q))
         last true e = bounded_is w (on_words word.Xor x y) (plus c (constant_polynomial c (top_bit x)) q) (sort-words word.Xor w x y hx hy) (flip_first e)
-        last false e = atom_is w (on_words word.Xor x y) (sort-words word.Xor w x y hx hy)
+        last false e = inverted (is_cover c y x) refl
 
         first : (test : Bool) → is_top_bit y ≡ test
             → IsPolynomialOf w (on_words word.Xor x y) (cond test (bounded (on_words word.Xor x y) (plus c (constant_polynomial c (top_bit y)) p))
-            (cond (is_top_bit x) (bounded (on_words word.Xor x y) (plus c (constant_polynomial c (top_bit x)) q)) (atom_polynomial (on_words word.Xor x y))))
+            (cond (is_top_bit x) (bounded (on_words word.Xor x y) (plus c (constant_polynomial c (top_bit x)) q)) (inverted_polynomial c (on_words word.Xor x y) x y p q)))
         first true e = bounded_is w (on_words word.Xor x y) (plus c (constant_polynomial c (top_bit y)) p) (sort-words word.Xor w x y hx hy) (flip_second e)
         first false e = last (is_top_bit x) refl
     operation_is word.Remainder =

@@ -20,7 +20,8 @@ use Rattle.term_norm_spec.proofs.Keeps.{width_is}
 use Rattle.term_norm_spec.proofs.Words.{word_of}
 use Rattle.word_steps_spec.specs.Numbers.{has_sort, are_alike}
 use Rattle.word_steps_spec.specs.Polynomial.{Polynomial, plus, minus, is_empty, has_no_atom, is_only_constant, product, polynomial_value}
-use Rattle.word_steps_spec.specs.Ring.{polynomial, are_words, difference, Sides, sides_of, have_one_difference, one_polynomial_by, one_polynomial, decided_by_sides, decided_by_polynomials}
+use Rattle.word_steps_spec.specs.Ring.{polynomial, difference, have_one_difference, one_polynomial_by, one_polynomial, decided_by_sides, decided_by_polynomials}
+use Rattle.word_steps_spec.specs.Sides.{are_words, Sides, sides_of}
 use Rattle.word_steps_laws.proofs.Congruence.{IsCongruent, congruent_same, congruent_sym, congruent_then, congruent_plus, congruent_mod, congruent_minus, congruent_equal}
 use Rattle.word_steps_laws.proofs.Polynomials.{plus_value, minus_value}
 use Rattle.word_steps_laws.proofs.RingHolds.{polynomial_is}
@@ -68,7 +69,7 @@ module _ (assignment : Assignment) (assigns : IsAssignment assignment) where
           record { first = e; second = hy ∙ ap (λ v. Some (sort.Word v)) one }
 
   -- what is known of the difference of two words: with the second added it is the first
-  record Differ (x y : Term) : Type 0 where
+  pub record Differ (x y : Term) : Type 0 where
     pub first : ℕ
     pub second : ℕ
     pub first_is : value assignment x ≡ Number (width_of x) first
@@ -77,7 +78,7 @@ module _ (assignment : Assignment) (assigns : IsAssignment assignment) where
     pub second_below : second < 2 ^ bits (width_of x)
     pub sum : IsCongruent (2 ^ bits (width_of x)) (polynomial_value assignment (difference x y) + second) first
 
-  differ : (x y : Term) → are_words x y ≡ true → Differ x y
+  pub differ : (x y : Term) → are_words x y ≡ true → Differ x y
   differ x y h =
       let are = words_are x y h in
       let vx = word_of assignment assigns (width_of x) x are.first in
@@ -99,13 +100,13 @@ module _ (assignment : Assignment) (assigns : IsAssignment assignment) where
             (minus_value assignment (bits (width_of x)) (polynomial x) (polynomial y)) px);
       }
 
-  empty_value : (p : Polynomial) → is_empty p ≡ true → polynomial_value assignment p ≡ 0
+  pub empty_value : (p : Polynomial) → is_empty p ≡ true → polynomial_value assignment p ≡ 0
   unfolding polynomial_value
   empty_value [] e = refl
   empty_value (s ∷ p) e = absurd (cc)
 
   -- where the difference is 0 the words are equal, and the other way round
-  difference_none : (x y : Term) (d : Differ x y) → IsCongruent (2 ^ bits (width_of x)) (polynomial_value assignment (difference x y)) 0 → d.first ≡ d.second
+  pub difference_none : (x y : Term) (d : Differ x y) → IsCongruent (2 ^ bits (width_of x)) (polynomial_value assignment (difference x y)) 0 → d.first ≡ d.second
   difference_none x y d none =
       sym (congruent_equal (2 ^ bits (width_of x)) d.second d.first
       (congruent_then (2 ^ bits (width_of x)) d.second (polynomial_value assignment (difference x y) + d.second) d.first
@@ -117,7 +118,7 @@ module _ (assignment : Assignment) (assigns : IsAssignment assignment) where
       zero_add : (n : ℕ) → n ≡ 0 + n
       zero_add n = omega arith
 
-  equal_none : (x y : Term) (d : Differ x y) → d.first ≡ d.second → IsCongruent (2 ^ bits (width_of x)) (polynomial_value assignment (difference x y)) 0
+  pub equal_none : (x y : Term) (d : Differ x y) → d.first ≡ d.second → IsCongruent (2 ^ bits (width_of x)) (polynomial_value assignment (difference x y)) 0
   equal_none x y d e =
       congruent_minus (2 ^ bits (width_of x)) (polynomial_value assignment (difference x y)) 0 d.second
       (congruent_then (2 ^ bits (width_of x)) (polynomial_value assignment (difference x y) + d.second) d.first (0 + d.second) d.sum
@@ -127,7 +128,7 @@ module _ (assignment : Assignment) (assigns : IsAssignment assignment) where
       zero_add n = omega arith
 
   -- the `eq` of two words
-  equal_value : (x y : Term) (d : Differ x y) → value assignment (equal x y) ≡ Truth (d.first == d.second)
+  pub equal_value : (x y : Term) (d : Differ x y) → value assignment (equal x y) ≡ Truth (d.first == d.second)
   equal_value x y d = value-equal_words assignment (width_of x) x y d.first d.second d.first_is d.second_is
 
   -- ---- `ring X Y` of words

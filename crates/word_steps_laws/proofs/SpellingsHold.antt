@@ -20,7 +20,8 @@ use Rattle.term_norm_spec.proofs.Keeps.{width_is, value-constant}
 use Rattle.term_norm_spec.proofs.Truths.{value-not}
 use Rattle.term_norm_spec.proofs.Words.{words_of, word_of, value-less}
 use Rattle.word_steps_spec.specs.Polynomial.{number_of_value}
-use Rattle.word_steps_spec.specs.Ring.{top_bit, is_top_bit, Sides}
+use Rattle.word_steps_spec.specs.Ring.{top_bit, is_top_bit}
+use Rattle.word_steps_spec.specs.Sides.{Sides}
 use Rattle.word_steps_spec.specs.Bitwise.{is_fixed, bits_of}
 use Rattle.word_steps_spec.specs.Order.{order_of, under_flip, has_no_top, is_number_like, below_one, above_constant, both_flipped, flipped_below_top, flipped_above_rest, is_spelled, is_spelling, spells, same_by_spelling}
 use Rattle.word_steps_laws.proofs.Congruence.{IsCongruent, congruent_sym, congruent_then, congruent_multiple, congruent_equal}

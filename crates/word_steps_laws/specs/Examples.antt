@@ -270,7 +270,8 @@ unknown =
 
 -- ---- choices in `ring`
 
--- sums and products of an `ite`, the opposite condition, one condition twice, `and`, `or` and `eq` of conditions, low bits
+-- sums and products of an `ite`, the opposite condition, one condition twice, `and`, `or` and `eq` of conditions, low bits,
+-- and all bits flipped that a word may have
 abbrev pub choices : List Pair
 choices =
     choose flag (add x (number 1)) x ~ add x (choose flag (number 1) (number 0))
@@ -281,9 +282,12 @@ choices =
     ∷ choose (or_term flag other) x y ~ choose flag x (choose other x y)
     ∷ choose (equal flag other) x y ~ choose flag (choose other x y) (choose other y x)
     ∷ low W16 (choose flag x y) ~ choose flag (low W16 x) (low W16 y)
+    ∷ bit_xor (low_byte x) (number 255) ~ subtract (number 255) (low_byte x)
+    ∷ bit_xor (number 4294967295) x ~ subtract (number 4294967295) x
     ∷ []
 
--- near misses: the words or the condition exchanged, `and` for `or`, an `eq` of words that would say which, bytes
+-- near misses: the words or the condition exchanged, `and` for `or`, an `eq` of words that would say which, bytes,
+-- and a mask that is too short
 abbrev pub other_choices : List Pair
 other_choices =
     choose flag x y ~ choose flag y x
@@ -292,4 +296,6 @@ other_choices =
     ∷ choose (equal flag other) x y ~ choose flag (choose other x y) (choose other x y)
     ∷ choose (equal x y) x y ~ y
     ∷ choose (not_term flag) (low W8 x) (low W8 y) ~ choose flag (low W8 y) (low W8 x)
+    ∷ bit_xor (low_byte x) (number 127) ~ subtract (number 127) (low_byte x)
+    ∷ bit_xor x (number 255) ~ subtract (number 255) x
     ∷ []

@@ -17,7 +17,7 @@ use Rattle.term_core_spec.specs.Value.{Assignment, value}
 use Rattle.term_norm_spec.specs.Patterns.{width_of, is_constant, number_of}
 use Rattle.word_steps_spec.specs.Numbers.{same_sign}
 use Rattle.word_steps_spec.specs.Polynomial.{number_of_value}
-use Rattle.word_steps_spec.specs.Ring.{are_words, Sides, sides_of}
+use Rattle.word_steps_spec.specs.Sides.{are_words, Sides, sides_of}
 
 -- a bit that is known, or the bit of a word at a place, from 0 at the lowest
 pub data Bit : Type 0 where

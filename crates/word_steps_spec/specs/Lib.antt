@@ -1,8 +1,9 @@
 pub mod Numbers
+pub mod Sides
 pub mod Polynomial
+pub mod Bitwise
 pub mod Ring
 pub mod Commuting
-pub mod Bitwise
 pub mod Order
 pub mod Lines
 pub mod Invariant

@@ -10,7 +10,8 @@ use Rattle.term_core_spec.specs.Term.{Term, Binary, Ternary, constant, not_term,
 use Rattle.term_core_spec.specs.Sort.{bits}
 use Rattle.term_core_spec.specs.Same.{same_term}
 use Rattle.term_norm_spec.specs.Patterns.{width_of, is_constant, number_of}
-use Rattle.word_steps_spec.specs.Ring.{top_bit, is_top_bit, are_words, Sides, sides_of}
+use Rattle.word_steps_spec.specs.Ring.{top_bit, is_top_bit}
+use Rattle.word_steps_spec.specs.Sides.{are_words, Sides, sides_of}
 use Rattle.word_steps_spec.specs.Bitwise.{Bits, is_fixed, bits_of}
 
 -- ---- bounds

@@ -1,7 +1,7 @@
 -- The rule `ring`: the polynomial of a word, by the operators of the ring of numbers modulo 2 ^ width.
 use Rattle.std.specs.Prelude.{ℕ, ◌-◌, ◌*◌, ◌^◌, ◌==◌, ◌&&◌, ◌||◌, nat_lt, nat_le, Bool, true, false, if◌then◌else◌, length, Option, Some, None}
+use Rattle.std.specs.Int.{bit_at}
 use Rattle.term_core_spec.specs.declared.Width.TheVariants.{W8}
-use Rattle.term_core_spec.specs.declared.Sort.TheVariants as sort
 use Rattle.term_core_spec.specs.declared.Atom.{Atom}
 use Rattle.term_core_spec.specs.declared.Atom.TheVariants as atom
 use Rattle.term_core_spec.specs.declared.UnaryOperator.{UnaryOperator}
@@ -11,10 +11,12 @@ use Rattle.term_core_spec.specs.declared.WordOperator.TheVariants as word
 use Rattle.term_core_spec.specs.declared.BinaryOperator.TheVariants as binary
 use Rattle.term_core_spec.specs.declared.TernaryOperator.TheVariants as ternary
 use Rattle.term_core_spec.specs.Term.{Term, Leaf, Unary, Binary, Ternary, constant, choose, divide, on_words}
-use Rattle.term_core_spec.specs.Sort.{bits, sort_of}
+use Rattle.term_core_spec.specs.Sort.{bits}
 use Rattle.term_core_spec.specs.Same.{same_term}
 use Rattle.term_norm_spec.specs.Patterns.{width_of, is_constant, number_of}
-use Rattle.word_steps_spec.specs.Numbers.{has_sort, is_bool, are_alike}
+use Rattle.word_steps_spec.specs.Numbers.{is_bool}
+use Rattle.word_steps_spec.specs.Sides.{are_words, Sides, sides_of}
+use Rattle.word_steps_spec.specs.Bitwise.{all_below, is_fixed, bits_of}
 use Rattle.word_steps_spec.specs.Polynomial.{Polynomial, MONOMIALS, plus, minus, scaled, times, constant_polynomial, atom_polynomial, lowered, bounded, is_empty, is_only_constant}
 
 -- the word whose top bit alone is set, at the width of a term
@@ -37,12 +39,28 @@ abbrev pub shifted_polynomial : ℕ → Term → Term → Polynomial → Polynom
 shifted_polynomial count t y p =
     if is_constant y && nat_lt (number_of y) count then bounded t (scaled count (2 ^ number_of y) p) else atom_polynomial t
 
+-- choices and flipped bits of words below this width are atoms
+abbrev pub CHOICE_WIDTH : ℕ
+CHOICE_WIDTH = 16
+
+-- n has a 1 at each place where x may have one
+abbrev pub covers : ℕ → Term → Bool
+covers n x = all_below (bits (width_of x)) (λ i. bit_at n i == 1 || is_fixed false (bits_of x i))
+
+abbrev pub is_cover : ℕ → (y x : Term) → Bool
+is_cover count y x = nat_le CHOICE_WIDTH count && (is_constant y && covers (number_of y) x)
+
+-- to flip all bits that x may have, by the constant y, is y - x
+abbrev pub inverted_polynomial : ℕ → Term → (x y : Term) → Polynomial → Polynomial → Polynomial
+inverted_polynomial count t x y p q =
+    if is_cover count y x then bounded t (minus count q p) else if is_cover count x y then bounded t (minus count p q) else atom_polynomial t
+
 -- to flip the top bit is to add it
 abbrev pub flipped_polynomial : ℕ → Term → (x y : Term) → Polynomial → Polynomial → Polynomial
 flipped_polynomial count t x y p q =
     if is_top_bit y then bounded t (plus count (constant_polynomial count (top_bit y)) p)
     else if is_top_bit x then bounded t (plus count (constant_polynomial count (top_bit x)) q)
-    else atom_polynomial t
+    else inverted_polynomial count t x y p q
 
 -- `urem x y` is x - y `udiv x y`, also where y is 0
 abbrev pub remainder_polynomial : ℕ → Term → (x y : Term) → Polynomial → Polynomial → Polynomial
@@ -95,10 +113,6 @@ condition count (Binary binary.Equal x y) =
     else atom_polynomial (Binary binary.Equal x y)
 condition count t = atom_polynomial t
 
--- an `ite` of words below this width is an atom
-abbrev pub CHOICE_WIDTH : ℕ
-CHOICE_WIDTH = 16
-
 -- an `ite` of words of the polynomials p and q, by a condition of the polynomial r: q + r (p - q)
 abbrev pub choice_polynomial : ℕ → Term → (r p q : Polynomial) → Polynomial
 choice_polynomial count t r p q =
@@ -116,22 +130,9 @@ polynomial t = atom_polynomial t
 
 -- ---- the tests
 
--- two words of one width
-abbrev pub are_words : Term → Term → Bool
-are_words x y = has_sort (sort_of x) (sort.Word (width_of x)) && are_alike x y
-
 -- the difference of two words
 abbrev pub difference : Term → Term → Polynomial
 difference x y = minus (bits (width_of x)) (polynomial x) (polynomial y)
-
-pub record Sides : Type 0 where
-  pub left : Term
-  pub right : Term
-
--- the sides of an `eq` of words
-unfoldable pub sides_of : Term → Option Sides
-sides_of (Binary binary.Equal x y) = if are_words x y then Some (record { left = x; right = y }) else None
-sides_of t = None
 
 -- at one width, the differences are equal or opposite
 abbrev pub have_one_difference : Sides → Sides → Bool
