@@ -17,6 +17,7 @@ pub mod BitsSound
 pub mod BoundsHold
 pub mod SpellingsHold
 pub mod Rules
+pub mod LowBitsHold
 pub mod Lines
 pub mod Left
 pub mod Computes

@@ -299,3 +299,52 @@ other_choices =
     ∷ bit_xor (low_byte x) (number 127) ~ subtract (number 127) (low_byte x)
     ∷ bit_xor x (number 255) ~ subtract (number 255) x
     ∷ []
+
+-- ---- rules with facts
+
+-- a term, and facts that are given
+pub record Given : Type 0 where
+  pub facts : List Term
+  pub term : Term
+
+infixl 90 ◌⊢◌
+abbrev pub ◌⊢◌ : List Term → Term → Given
+facts ⊢ t = record { facts = facts; term = t }
+
+-- the rule decides each term so
+abbrev pub DecidesWith : DecisionRule → List Given → Option Atom → Type 0
+DecidesWith rule [] answer = Unit {0}
+DecidesWith rule (given ∷ rest) answer = (decided_by rule given.facts given.term ≡ answer) × DecidesWith rule rest answer
+
+-- ---- `low`
+
+-- the low bits of a word under a mask are those of n
+abbrev pub masked : Term → ℕ → ℕ → Term
+masked t mask n = equal (bit_and t (number mask)) (number n)
+
+abbrev pub aligned : Term → Term
+aligned t = masked t 3 0
+
+-- coefficients alone, own bits, two aligned words, a word with a constant, a multiple of an aligned word, and low bits of a sum
+abbrev pub low_bits_differ : List Given
+low_bits_differ =
+    [] ⊢ equal (add (multiply x (number 4)) (number 1)) (multiply y (number 2))
+    ∷ [] ⊢ equal (bit_and x (number 240)) (add (multiply y (number 16)) (number 8))
+    ∷ (aligned x ∷ aligned y ∷ []) ⊢ equal (add x (number 6)) y
+    ∷ (aligned (add x (number 1)) ∷ []) ⊢ equal (add x (number 2)) (multiply y (number 4))
+    ∷ (aligned x ∷ []) ⊢ equal (multiply x (number 2)) (add (multiply y (number 8)) (number 4))
+    ∷ (masked (add x y) 7 5 ∷ []) ⊢ equal (add x y) (number 4)
+    ∷ []
+
+-- near misses: one of both words isn't aligned, no bit is left, one bit too many, no mask of low bits, the opposite of a fact,
+-- another width, and no `eq`
+abbrev pub low_bits_agree : List Given
+low_bits_agree =
+    (aligned x ∷ []) ⊢ equal (add x (number 6)) y
+    ∷ (aligned x ∷ aligned y ∷ []) ⊢ equal (add x (number 4)) y
+    ∷ (aligned x ∷ []) ⊢ equal (multiply x (number 2)) (add (multiply y (number 16)) (number 8))
+    ∷ (masked x 6 0 ∷ []) ⊢ equal (add x (number 1)) (multiply y (number 4))
+    ∷ (not_term (aligned x) ∷ []) ⊢ equal (add x (number 1)) (multiply y (number 4))
+    ∷ (equal (bit_and (low W16 x) (constant W16 3)) (constant W16 0) ∷ []) ⊢ equal (add x (number 1)) (multiply y (number 4))
+    ∷ (aligned x ∷ []) ⊢ less (add x (number 1)) (multiply y (number 4))
+    ∷ []

@@ -5,12 +5,13 @@
 ghost use Rattle.std.specs.Prelude.{true, false, [], ◌∷◌, Some, None};
 ghost use Rattle.term_core_spec.specs.Term.{truth};
 ghost use Rattle.term_core_spec.specs.declared.Atom.TheVariants.{Truth};
-ghost use Rattle.word_steps_spec.specs.Lines.{Ring, Comm, Bits, BitsOf};
+ghost use Rattle.word_steps_spec.specs.Lines.{Ring, Comm, Bits, BitsOf, LowOf};
 ghost use Rattle.word_steps_laws.specs.Examples.{goal, block, Leaves, Accepts, alike, unlike};
 ghost use Rattle.word_steps_laws.specs.Examples.{ordered, unordered, Decides};
 ghost use Rattle.word_steps_laws.specs.Examples.{of_one_list, of_two_lists};
 ghost use Rattle.word_steps_laws.specs.Examples.{known_true, known_false, unknown};
 ghost use Rattle.word_steps_laws.specs.Examples.{spelled, misspelled, choices, other_choices};
+ghost use Rattle.word_steps_laws.specs.Examples.{DecidesWith, low_bits_differ, low_bits_agree};
 ghost use Rattle.word_steps_laws.specs.Examples.{split_goal, split_block, case_goal};
 ghost use Rattle.word_steps_laws.specs.Examples.{true_block, false_block};
 
@@ -73,4 +74,10 @@ pub fn bits_and_bounds_decide()
 pub fn choices_have_polynomials()
     ensures accepted { Accepts Ring true choices }
     ensures refused { Accepts Ring false other_choices }
+{}
+
+/// An `eq` of words whose low bits differ, and near misses.
+pub fn low_bits_decide()
+    ensures false_ones { DecidesWith LowOf low_bits_differ (Some (Truth false)) }
+    ensures others { DecidesWith LowOf low_bits_agree None }
 {}

@@ -5,5 +5,6 @@ pub mod Bitwise
 pub mod Ring
 pub mod Commuting
 pub mod Order
+pub mod LowBits
 pub mod Lines
 pub mod Invariant

@@ -11,6 +11,7 @@ use Rattle.word_steps_spec.specs.Ring.{one_polynomial, decided_by_polynomials}
 use Rattle.word_steps_spec.specs.Commuting.{same_up_to_order}
 use Rattle.word_steps_spec.specs.Bitwise.{same_by_bits, decided_by_bits}
 use Rattle.word_steps_spec.specs.Order.{same_by_spelling, else_by, decided_by_bounds}
+use Rattle.word_steps_spec.specs.LowBits.{decided_by_low}
 
 -- ---- the tests of the rules
 
@@ -20,7 +21,7 @@ pub data MergeRule : Type 0 where
 
 -- rules that say of a term which constant it is
 pub data DecisionRule : Type 0 where
-  RingOf BitsOf : DecisionRule
+  RingOf BitsOf LowOf : DecisionRule
 
 -- a fact is `eq` of both, either way
 abbrev pub is_equality : List Term → Term → Term → Bool
@@ -38,6 +39,7 @@ merges_by rule (fact ∷ facts) x y = false
 unfoldable pub decided_by : DecisionRule → List Term → Term → Option Atom
 decided_by RingOf [] x = decided_by_polynomials x
 decided_by BitsOf [] x = else_by (decided_by_bits x) (decided_by_bounds x)
+decided_by LowOf facts x = decided_by_low facts x
 decided_by rule (fact ∷ facts) x = None
 
 -- ---- lines
