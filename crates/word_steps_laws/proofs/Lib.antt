@@ -18,6 +18,8 @@ pub mod BoundsHold
 pub mod SpellingsHold
 pub mod Rules
 pub mod LowBitsHold
+pub mod Distances
+pub mod RangesHold
 pub mod Lines
 pub mod Left
 pub mod Computes

@@ -133,7 +133,7 @@ module _ (assignment : Assignment) (assigns : IsAssignment assignment) where
 
   -- ---- `ring X Y` of words
 
-  words_sound : (x y : Term) → are_words x y ≡ true → is_empty (difference x y) ≡ true → value assignment x ≡ value assignment y
+  pub words_sound : (x y : Term) → are_words x y ≡ true → is_empty (difference x y) ≡ true → value assignment x ≡ value assignment y
   words_sound x y h e =
       let d = differ x y h in
       d.first_is

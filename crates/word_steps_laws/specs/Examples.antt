@@ -348,3 +348,43 @@ low_bits_agree =
     ∷ (equal (bit_and (low W16 x) (constant W16 3)) (constant W16 0) ∷ []) ⊢ equal (add x (number 1)) (multiply y (number 4))
     ∷ (aligned x ∷ []) ⊢ less (add x (number 1)) (multiply y (number 4))
     ∷ []
+
+-- ---- `range`
+
+-- ranges within ranges, also behind the wrap and of opposite forms; `and` and `or`; two words of one form; a single atom by its
+-- bounds, and a truth value
+abbrev pub in_range : List Given
+in_range =
+    (less x (number 10) ∷ []) ⊢ less x (number 20)
+    ∷ (less (subtract x (number 4)) (number 8) ∷ []) ⊢ less x (number 12)
+    ∷ (less (number 3) x ∷ []) ⊢ not_term (equal x (number 2))
+    ∷ (and_term (not_term (less x (number 3))) (less x (number 10)) ∷ []) ⊢ less (subtract x (number 3)) (number 7)
+    ∷ (or_term (less x (number 3)) (equal x (number 3)) ∷ []) ⊢ less x (number 4)
+    ∷ (less (subtract x y) (number 10) ∷ []) ⊢ less (subtract y (subtract x (number 9))) (subtract y (add x (number 1)))
+    ∷ (less x (number 100) ∷ []) ⊢ less (add x (number 1)) (add x (number 5))
+    ∷ [] ⊢ less (add (low_byte x) (number 7)) (number 263)
+    ∷ [] ⊢ less (choose flag (number 1) (number 0)) (number 2)
+    ∷ []
+
+abbrev pub out_of_range : List Given
+out_of_range =
+    (less x (number 10) ∷ []) ⊢ less (number 9) x
+    ∷ (less (subtract x y) (number 10) ∷ []) ⊢ equal (subtract y x) (number 5)
+    ∷ (equal x (number 7) ∷ []) ⊢ less x (number 7)
+    ∷ [] ⊢ less (number 255) (low_byte x)
+    ∷ []
+
+-- near misses: one number more, another word, sums and differences that wrap, `ult` of one word and itself, ranges that neither
+-- meet nor touch, another bound, two facts, and a constant
+abbrev pub across_ranges : List Given
+across_ranges =
+    (less x (number 10) ∷ []) ⊢ less x (number 9)
+    ∷ (less x (number 10) ∷ []) ⊢ less y (number 20)
+    ∷ (less x (number 4294967295) ∷ []) ⊢ less (add x (number 1)) (add x (number 2))
+    ∷ (less x (number 10) ∷ []) ⊢ less (subtract x (number 1)) (number 9)
+    ∷ (less x (number 10) ∷ []) ⊢ less x x
+    ∷ (or_term (less x (number 3)) (equal x (number 5)) ∷ []) ⊢ less x (number 10)
+    ∷ [] ⊢ less (low_byte x) (number 255)
+    ∷ (less x (number 10) ∷ less x (number 10) ∷ []) ⊢ less x (number 20)
+    ∷ (less x (number 10) ∷ []) ⊢ less (number 3) (number 4)
+    ∷ []

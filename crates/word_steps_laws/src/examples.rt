@@ -5,13 +5,14 @@
 ghost use Rattle.std.specs.Prelude.{true, false, [], ◌∷◌, Some, None};
 ghost use Rattle.term_core_spec.specs.Term.{truth};
 ghost use Rattle.term_core_spec.specs.declared.Atom.TheVariants.{Truth};
-ghost use Rattle.word_steps_spec.specs.Lines.{Ring, Comm, Bits, BitsOf, LowOf};
+ghost use Rattle.word_steps_spec.specs.Lines.{Ring, Comm, Bits, BitsOf, LowOf, RangeOf};
 ghost use Rattle.word_steps_laws.specs.Examples.{goal, block, Leaves, Accepts, alike, unlike};
 ghost use Rattle.word_steps_laws.specs.Examples.{ordered, unordered, Decides};
 ghost use Rattle.word_steps_laws.specs.Examples.{of_one_list, of_two_lists};
 ghost use Rattle.word_steps_laws.specs.Examples.{known_true, known_false, unknown};
 ghost use Rattle.word_steps_laws.specs.Examples.{spelled, misspelled, choices, other_choices};
 ghost use Rattle.word_steps_laws.specs.Examples.{DecidesWith, low_bits_differ, low_bits_agree};
+ghost use Rattle.word_steps_laws.specs.Examples.{in_range, out_of_range, across_ranges};
 ghost use Rattle.word_steps_laws.specs.Examples.{split_goal, split_block, case_goal};
 ghost use Rattle.word_steps_laws.specs.Examples.{true_block, false_block};
 
@@ -80,4 +81,11 @@ pub fn choices_have_polynomials()
 pub fn low_bits_decide()
     ensures false_ones { DecidesWith LowOf low_bits_differ (Some (Truth false)) }
     ensures others { DecidesWith LowOf low_bits_agree None }
+{}
+
+/// What ranges decide, and near misses.
+pub fn ranges_decide()
+    ensures true_ones { DecidesWith RangeOf in_range (Some (Truth true)) }
+    ensures false_ones { DecidesWith RangeOf out_of_range (Some (Truth false)) }
+    ensures others { DecidesWith RangeOf across_ranges None }
 {}

@@ -6,5 +6,6 @@ pub mod Ring
 pub mod Commuting
 pub mod Order
 pub mod LowBits
+pub mod Ranges
 pub mod Lines
 pub mod Invariant

@@ -12,6 +12,7 @@ use Rattle.word_steps_spec.specs.Commuting.{same_up_to_order}
 use Rattle.word_steps_spec.specs.Bitwise.{same_by_bits, decided_by_bits}
 use Rattle.word_steps_spec.specs.Order.{same_by_spelling, else_by, decided_by_bounds}
 use Rattle.word_steps_spec.specs.LowBits.{decided_by_low}
+use Rattle.word_steps_spec.specs.Ranges.{decided_by_range}
 
 -- ---- the tests of the rules
 
@@ -21,7 +22,7 @@ pub data MergeRule : Type 0 where
 
 -- rules that say of a term which constant it is
 pub data DecisionRule : Type 0 where
-  RingOf BitsOf LowOf : DecisionRule
+  RingOf BitsOf LowOf RangeOf : DecisionRule
 
 -- a fact is `eq` of both, either way
 abbrev pub is_equality : List Term → Term → Term → Bool
@@ -40,6 +41,7 @@ unfoldable pub decided_by : DecisionRule → List Term → Term → Option Atom
 decided_by RingOf [] x = decided_by_polynomials x
 decided_by BitsOf [] x = else_by (decided_by_bits x) (decided_by_bounds x)
 decided_by LowOf facts x = decided_by_low facts x
+decided_by RangeOf facts x = decided_by_range facts x
 decided_by rule (fact ∷ facts) x = None
 
 -- ---- lines

@@ -3,5 +3,6 @@
 //! `specs/Lines.antt` the lines and what is left after a block, `specs/Invariant.antt` what every
 //! line keeps, `specs/Polynomial.antt` and `specs/Ring.antt` the rule `ring`,
 //! `specs/Commuting.antt` the rule `comm`, `specs/Bitwise.antt` and `specs/Order.antt` the rule
-//! `bits`, `specs/LowBits.antt` the rule `low`. Nothing of the crate runs.
+//! `bits`, `specs/LowBits.antt` the rule `low`, `specs/Ranges.antt` the rule
+//! `range`. Nothing of the crate runs.
 #![tactic(auto)]
