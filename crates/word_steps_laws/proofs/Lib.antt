@@ -20,6 +20,7 @@ pub mod Rules
 pub mod LowBitsHold
 pub mod Distances
 pub mod RangesHold
+pub mod ZonesHold
 pub mod Lines
 pub mod Left
 pub mod Computes

@@ -13,13 +13,15 @@ use Rattle.term_core_spec.specs.Value.{Assignment, value}
 use Rattle.memory_spec.specs.Runs.{Run, AreBytes}
 use Rattle.term_norm_spec.proofs.Equals.{Alike, truths, words, alike_of}
 use Rattle.word_steps_spec.specs.Numbers.{Operation, Number, Fact, Numbered, Known, State, Reading, number_at, is_number, operation_at, term_at, now_at, term_over, operands, operand_at, renewed, renew, renew_up_to, reading, same_sign, is_fact, are_facts, is_bool, are_alike, has_sort}
-use Rattle.word_steps_spec.specs.Lines.{MergeRule, DecisionRule, merges_by, decided_by, Line, Next, Argument, Parts, Renew, RenewAll, MergeBy, DecideBy, SWEEPS, are_numbers, is_open, is_value, new_number, with_number, next_number, with_fact, argument_fact, with_argument_fact, with_next_place, with_places, with_merge, merged, merged_if, with_constant, decided, decided_if, applied, after_lines}
+use Rattle.word_steps_spec.specs.Lines.{MergeRule, DecisionRule, merges_by, decided_by, Line, Next, Argument, Parts, Renew, RenewAll, MergeBy, DecideBy, Zone, SWEEPS, are_numbers, is_open, is_value, new_number, with_number, next_number, with_fact, argument_fact, with_argument_fact, with_next_place, with_places, with_merge, merged, merged_if, with_constant, decided, decided_if, zoned, zoned_if, applied, after_lines}
 use Rattle.word_steps_spec.specs.Invariant.{IsSorted, AreNumbers, IsFact, IsMerge, Holds}
 use Rattle.word_steps_laws.proofs.Places.{made-same}
 use Rattle.word_steps_laws.proofs.Lookups.{push-either, push-same, push-there}
 use Rattle.word_steps_laws.proofs.Sorts.{bool_sort}
 use Rattle.word_steps_laws.proofs.Renewing.{all_map, KeepTerms, kept_fact, kept_merge, kept_on_facts, kept_on_merges, now_keeps, now_sort, renew_holds, renew_up_to_holds}
 use Rattle.word_steps_laws.proofs.Keeping.{fact_holds, merge_holds, readings_values, known_argument}
+use Rattle.word_steps_spec.specs.Zones.{says_zone}
+use Rattle.word_steps_laws.proofs.ZonesHold.{zone_sound}
 use Rattle.word_steps_laws.proofs.Rules.{merges_sound, decided_sound}
 
 -- ---- one more number
@@ -260,6 +262,31 @@ module _ (runs : List Run) (small : AreBytes runs) (goal : Term) where
           ((renew_keeps x s).there x both.0) d
       by false tests d = absurd (cc)
 
+  -- ---- a fact by `zone`
+
+  zone_by : (x : ℕ) (facts : List Reading) (s t : State) → Holds runs goal s → are_facts s.facts facts ≡ true → IsFact s.numbers (record { number = x; holds = true })
+      → zoned runs x facts s ≡ Some t → Holds runs goal t
+  zone_by x facts s t h named is e =
+      let passed = cond_some (says_zone (map (reading runs s.numbers) facts) (now_at s.numbers x)) (with_fact runs (record { number = x; holds = true }) s) t e in
+      subst (Holds runs goal) passed.1
+      (fact_holds runs small goal (record { number = x; holds = true }) s h is (λ assignment refutes.
+      let before = h.agrees assignment refutes in
+      sym (before.on_nows x)
+      ∙ zone_sound assignment refutes.assigns (map (reading runs s.numbers) facts) (now_at s.numbers x) (readings_values runs small goal s h facts named assignment refutes) passed.0))
+
+  zoned_holds : (x : ℕ) (facts : List Reading) (s t : State) → Holds runs goal s → zoned_if runs x facts s ≡ Some t → Holds runs goal t
+  zoned_holds x facts s t h e = by (is_number s.numbers x && (is_bool (term_at s.numbers x) && are_facts s.facts facts)) refl e
+    where
+      by : (test : Bool) → (is_number s.numbers x && (is_bool (term_at s.numbers x) && are_facts s.facts facts)) ≡ test
+          → cond test (zoned runs x facts (renew runs x s)) None ≡ Some t → Holds runs goal t
+      by true tests d =
+          let one = and_parts (is_number s.numbers x) (is_bool (term_at s.numbers x) && are_facts s.facts facts) tests in
+          let two = and_parts (is_bool (term_at s.numbers x)) (are_facts s.facts facts) one.1 in
+          zone_by x facts (renew runs x s) t (renew_holds runs small goal x s h) (ap (λ fs. are_facts fs facts) (renew_facts x s) ∙ two.1)
+          (kept_fact s.numbers ((renew runs x s).numbers) (renew_keeps x s) (record { number = x; holds = true }) (record { there = one.0; truth = bool_sort (term_at s.numbers x) two.0 }))
+          d
+      by false tests d = absurd (cc)
+
   -- ---- lines
 
   swept_holds : (count : ℕ) (s : State) → Holds runs goal s → Holds runs goal (record s { sweeps = count })
@@ -290,6 +317,7 @@ module _ (runs : List Run) (small : AreBytes runs) (goal : Term) where
       (renew_up_to_holds runs small goal (length s.numbers) (record s { sweeps = s.sweeps + 1 }) (swept_holds (s.sweeps + 1) s h))
   line_holds (MergeBy rule x y facts) s t h e = merged_holds rule x y facts s t h e
   line_holds (DecideBy rule x facts) s t h e = decided_holds rule x facts s t h e
+  line_holds (Zone x facts) s t h e = zoned_holds x facts s t h e
 
   pub lines_hold : (lines : List Line) (s t : State) → Holds runs goal s → after_lines runs s lines ≡ Some t → Holds runs goal t
   unfolding after_lines

@@ -14,7 +14,7 @@ use Rattle.term_norm_spec.proofs.Words.{word_of}
 use Rattle.word_steps_spec.specs.Numbers.{are_alike}
 use Rattle.word_steps_spec.specs.Bitwise.{same_by_bits, decided_by_bits}
 use Rattle.word_steps_spec.specs.Order.{same_by_spelling, decided_by_bounds}
-use Rattle.word_steps_spec.specs.Lines.{MergeRule, Same, Ring, Comm, Bits, DecisionRule, RingOf, BitsOf, LowOf, RangeOf, is_equality, merges_by, decided_by}
+use Rattle.word_steps_spec.specs.Lines.{MergeRule, Same, Ring, Comm, Bits, DecisionRule, RingOf, BitsOf, LowOf, RangeOf, WithinOf, is_equality, merges_by, decided_by}
 use Rattle.word_steps_laws.proofs.RingSound.{ring_sound, decided_ring_sound}
 use Rattle.word_steps_laws.proofs.CommHolds.{either_test, comm_sound}
 use Rattle.word_steps_laws.proofs.BitsSound.{bits_sound, decided_bits_sound}
@@ -22,6 +22,7 @@ use Rattle.word_steps_laws.proofs.BoundsHold.{else_by_sound, decided_bounds_soun
 use Rattle.word_steps_laws.proofs.SpellingsHold.{spelling_sound}
 use Rattle.word_steps_laws.proofs.LowBitsHold.{decided_low_sound}
 use Rattle.word_steps_laws.proofs.RangesHold.{decided_range_sound}
+use Rattle.word_steps_laws.proofs.ZonesHold.{decided_within_sound}
 use Rattle.word_steps_laws.proofs.Sorts.{bool_sort}
 
 module _ (assignment : Assignment) (assigns : IsAssignment assignment) where
@@ -84,5 +85,6 @@ decided_sound BitsOf [] x constant alike assignment assigns are e =
     else_by_sound assignment assigns x constant (decided_by_bits x) (decided_by_bounds x) (decided_bits_sound assignment assigns x constant) (decided_bounds_sound assignment assigns x constant) e
 decided_sound LowOf facts x constant alike assignment assigns are e = decided_low_sound assignment assigns facts x constant are e
 decided_sound RangeOf facts x constant alike assignment assigns are e = decided_range_sound assignment assigns facts x constant are e
+decided_sound WithinOf facts x constant alike assignment assigns are e = decided_within_sound assignment assigns facts x constant are e
 decided_sound RingOf (f ∷ facts) x constant alike assignment assigns are e = absurd (cc)
 decided_sound BitsOf (f ∷ facts) x constant alike assignment assigns are e = absurd (cc)

@@ -8,6 +8,7 @@ use Rattle.term_core_spec.specs.declared.BinaryOperator.TheVariants as binary
 use Rattle.term_core_spec.specs.Term.{Term, truth, constant, open_term, not_term, and_term, or_term, choose, complement, zero_extend, sign_extend, low, byte, equal, less, add, subtract, multiply, bit_and, bit_or, bit_xor, shift_left, shift_right, shift_right_signed, divide, remainder, join_four}
 use Rattle.word_steps_spec.specs.Numbers.{Two, Fact}
 use Rattle.word_steps_spec.specs.Lines.{MergeRule, Same, Ring, DecisionRule, RingOf, Next, Argument, Parts, Renew, RenewAll, MergeBy, DecideBy, Keep, Case, Block, merges_by, decided_by, goals_after}
+use Rattle.word_steps_spec.specs.Zones.{says_zone}
 
 abbrev pub register : ℕ → Term
 register i = open_term (record { family = Register; index = i; instance = 0; sort = Word W32 })
@@ -387,4 +388,81 @@ across_ranges =
     ∷ [] ⊢ less (low_byte x) (number 255)
     ∷ (less x (number 10) ∷ less x (number 10) ∷ []) ⊢ less x (number 20)
     ∷ (less x (number 10) ∷ []) ⊢ less (number 3) (number 4)
+    ∷ []
+
+-- ---- `zone`
+
+abbrev pub SaysZone : Bool → List Given → Type 0
+SaysZone test [] = Unit {0}
+SaysZone test (given ∷ rest) = (says_zone given.facts given.term ≡ test) × SaysZone test rest
+
+-- four bytes from a on are outside the 100 from b on
+abbrev pub apart : (a b : Term) → Term
+apart a b = or_term (less (add a (number 3)) b) (not_term (less a (add b (number 100))))
+
+-- 100 can be added to y
+abbrev pub low_y : Term
+low_y = less y (number 4294967196)
+
+-- x isn't in the 100 bytes from y on
+abbrev pub far_from_y : Term
+far_from_y = not_term (less (subtract x y) (number 100))
+
+-- of words, also with the other facts in another order; the whole zone; of one byte; of constants, with the `or` turned round; and
+-- of an `and` that is false
+abbrev pub zones : List Given
+zones =
+    (apart x y ∷ low_y ∷ aligned x ∷ []) ⊢ far_from_y
+    ∷ (apart x y ∷ aligned x ∷ low_y ∷ []) ⊢ not_term (equal x (add y (number 50)))
+    ∷ (apart x y ∷ low_y ∷ aligned x ∷ []) ⊢ less (subtract x (add y (number 100))) (number 4294967193)
+    ∷ (or_term (less x y) (not_term (less x (add y (number 100)))) ∷ low_y ∷ []) ⊢ far_from_y
+    ∷ (or_term (not_term (less x (number 65636))) (less (add x (number 3)) (number 65536)) ∷ aligned x ∷ []) ⊢ not_term (equal x (number 65600))
+    ∷ (not_term (and_term (not_term (less (add x (number 3)) y)) (less x (add y (number 100)))) ∷ low_y ∷ aligned x ∷ []) ⊢ far_from_y
+    ∷ []
+
+-- near misses: without the alignment or the bound, or with less of them; more than the zone, on either side; `ult` on both sides,
+-- an `and`, and another word
+abbrev pub no_zones : List Given
+no_zones =
+    (apart x y ∷ low_y ∷ []) ⊢ far_from_y
+    ∷ (apart x y ∷ aligned x ∷ []) ⊢ far_from_y
+    ∷ (apart x y ∷ low_y ∷ masked x 1 0 ∷ []) ⊢ far_from_y
+    ∷ (apart x y ∷ less y (number 4294967197) ∷ aligned x ∷ []) ⊢ far_from_y
+    ∷ (apart x y ∷ low_y ∷ aligned x ∷ []) ⊢ not_term (less (subtract x y) (number 101))
+    ∷ (apart x y ∷ low_y ∷ aligned x ∷ []) ⊢ less (subtract x (add y (number 100))) (number 4294967192)
+    ∷ (or_term (less (add x (number 3)) y) (less x (add y (number 100))) ∷ low_y ∷ aligned x ∷ []) ⊢ far_from_y
+    ∷ (and_term (less (add x (number 3)) y) (not_term (less x (add y (number 100)))) ∷ low_y ∷ aligned x ∷ []) ⊢ far_from_y
+    ∷ (apart z y ∷ low_y ∷ aligned z ∷ []) ⊢ far_from_y
+    ∷ []
+
+-- ---- `within`
+
+-- x is in the 100 bytes from y on, and its opposite
+abbrev pub near_y : Term
+near_y = and_term (not_term (less x y)) (less x (add y (number 100)))
+
+abbrev pub not_near_y : Term
+not_near_y = or_term (less x y) (not_term (less x (add y (number 100))))
+
+abbrev pub within_window : List Given
+within_window =
+    (low_y ∷ less (subtract x y) (number 100) ∷ []) ⊢ near_y
+    ∷ (low_y ∷ far_from_y ∷ []) ⊢ not_near_y
+    ∷ (less (subtract x (number 16)) (number 8) ∷ []) ⊢ and_term (less x (number 32)) (not_term (less x (number 16)))
+    ∷ []
+
+abbrev pub outside_window : List Given
+outside_window =
+    (low_y ∷ equal (subtract x y) (number 100) ∷ []) ⊢ near_y
+    ∷ (low_y ∷ less (subtract x y) (number 50) ∷ []) ⊢ not_near_y
+    ∷ []
+
+-- near misses: no bound, or one more; a range of one more; two words, and both orders exchanged
+abbrev pub across_window : List Given
+across_window =
+    (less (subtract x y) (number 100) ∷ []) ⊢ near_y
+    ∷ (less y (number 4294967197) ∷ less (subtract x y) (number 100) ∷ []) ⊢ near_y
+    ∷ (low_y ∷ less (subtract x y) (number 101) ∷ []) ⊢ near_y
+    ∷ (low_y ∷ less (subtract x y) (number 100) ∷ []) ⊢ and_term (not_term (less x y)) (less z (add y (number 100)))
+    ∷ (low_y ∷ less (subtract x y) (number 100) ∷ []) ⊢ and_term (less x y) (not_term (less x (add y (number 100))))
     ∷ []

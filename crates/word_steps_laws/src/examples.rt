@@ -6,6 +6,7 @@ ghost use Rattle.std.specs.Prelude.{true, false, [], ◌∷◌, Some, None};
 ghost use Rattle.term_core_spec.specs.Term.{truth};
 ghost use Rattle.term_core_spec.specs.declared.Atom.TheVariants.{Truth};
 ghost use Rattle.word_steps_spec.specs.Lines.{Ring, Comm, Bits, BitsOf, LowOf, RangeOf};
+ghost use Rattle.word_steps_spec.specs.Lines.{WithinOf};
 ghost use Rattle.word_steps_laws.specs.Examples.{goal, block, Leaves, Accepts, alike, unlike};
 ghost use Rattle.word_steps_laws.specs.Examples.{ordered, unordered, Decides};
 ghost use Rattle.word_steps_laws.specs.Examples.{of_one_list, of_two_lists};
@@ -13,6 +14,8 @@ ghost use Rattle.word_steps_laws.specs.Examples.{known_true, known_false, unknow
 ghost use Rattle.word_steps_laws.specs.Examples.{spelled, misspelled, choices, other_choices};
 ghost use Rattle.word_steps_laws.specs.Examples.{DecidesWith, low_bits_differ, low_bits_agree};
 ghost use Rattle.word_steps_laws.specs.Examples.{in_range, out_of_range, across_ranges};
+ghost use Rattle.word_steps_laws.specs.Examples.{SaysZone, zones, no_zones};
+ghost use Rattle.word_steps_laws.specs.Examples.{within_window, outside_window, across_window};
 ghost use Rattle.word_steps_laws.specs.Examples.{split_goal, split_block, case_goal};
 ghost use Rattle.word_steps_laws.specs.Examples.{true_block, false_block};
 
@@ -88,4 +91,17 @@ pub fn ranges_decide()
     ensures true_ones { DecidesWith RangeOf in_range (Some (Truth true)) }
     ensures false_ones { DecidesWith RangeOf out_of_range (Some (Truth false)) }
     ensures others { DecidesWith RangeOf across_ranges None }
+{}
+
+/// Ranges of differences by the order of sums that don't wrap, and near misses.
+pub fn zones_are_found()
+    ensures accepted { SaysZone true zones }
+    ensures refused { SaysZone false no_zones }
+{}
+
+/// What the range of a difference decides of an order, and near misses.
+pub fn windows_decide()
+    ensures true_ones { DecidesWith WithinOf within_window (Some (Truth true)) }
+    ensures false_ones { DecidesWith WithinOf outside_window (Some (Truth false)) }
+    ensures others { DecidesWith WithinOf across_window None }
 {}

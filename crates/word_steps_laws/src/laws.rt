@@ -16,6 +16,7 @@ ghost use Rattle.word_steps_spec.specs.Lines.{goals_after, merges_by, decided_by
 ghost use Rattle.word_steps_spec.specs.Numbers.{State, start, are_alike};
 ghost use Rattle.word_steps_spec.specs.Polynomial.{polynomial_value};
 ghost use Rattle.word_steps_spec.specs.Ring.{polynomial};
+ghost use Rattle.word_steps_spec.specs.Zones.{says_zone};
 
 /// The invariant holds of the first state of a block.
 pub fn first_state_has_the_invariant()
@@ -46,6 +47,9 @@ pub fn rules_are_sound()
         → are_alike x (Leaf constant) ≡ true → (a : Assignment) → IsAssignment a
         → AllByRecursion (λ t. value a t ≡ TruthValue true) facts
         → decided_by rule facts x ≡ Some constant → value a x ≡ value a (Leaf constant) }
+    ensures zones { (facts : List Term) (x : Term) → (a : Assignment) → IsAssignment a
+        → AllByRecursion (λ t. value a t ≡ TruthValue true) facts
+        → says_zone facts x ≡ true → value a x ≡ TruthValue true }
 {}
 
 /// The polynomial of a word has the word's value, modulo 2^width.

@@ -7,5 +7,6 @@ pub mod Commuting
 pub mod Order
 pub mod LowBits
 pub mod Ranges
+pub mod Zones
 pub mod Lines
 pub mod Invariant

@@ -13,6 +13,7 @@ use Rattle.word_steps_spec.specs.Bitwise.{same_by_bits, decided_by_bits}
 use Rattle.word_steps_spec.specs.Order.{same_by_spelling, else_by, decided_by_bounds}
 use Rattle.word_steps_spec.specs.LowBits.{decided_by_low}
 use Rattle.word_steps_spec.specs.Ranges.{decided_by_range}
+use Rattle.word_steps_spec.specs.Zones.{says_zone, decided_within}
 
 -- ---- the tests of the rules
 
@@ -22,7 +23,7 @@ pub data MergeRule : Type 0 where
 
 -- rules that say of a term which constant it is
 pub data DecisionRule : Type 0 where
-  RingOf BitsOf LowOf RangeOf : DecisionRule
+  RingOf BitsOf LowOf RangeOf WithinOf : DecisionRule
 
 -- a fact is `eq` of both, either way
 abbrev pub is_equality : List Term → Term → Term → Bool
@@ -42,6 +43,7 @@ decided_by RingOf [] x = decided_by_polynomials x
 decided_by BitsOf [] x = else_by (decided_by_bits x) (decided_by_bounds x)
 decided_by LowOf facts x = decided_by_low facts x
 decided_by RangeOf facts x = decided_by_range facts x
+decided_by WithinOf facts x = decided_within facts x
 decided_by rule (fact ∷ facts) x = None
 
 -- ---- lines
@@ -61,6 +63,8 @@ pub data Line : Type 0 where
   MergeBy : (rule : MergeRule) → (first second : ℕ) → (facts : List Reading) → Line
   -- `ring X` and its like
   DecideBy : (rule : DecisionRule) → (number : ℕ) → (facts : List Reading) → Line
+  -- `zone F1 F2 F3 X`: a number becomes a fact
+  Zone : (number : ℕ) → (facts : List Reading) → Line
 
 -- at most so many lines of a block renew all numbers
 abbrev pub SWEEPS : ℕ
@@ -154,6 +158,17 @@ decided runs rule x facts s =
 abbrev pub decided_if : List Run → DecisionRule → ℕ → List Reading → State → Option State
 decided_if runs rule x facts s = if is_number s.numbers x && are_facts s.facts facts then decided runs rule x facts (renew runs x s) else None
 
+-- ---- a fact by `zone`
+
+abbrev pub zoned : List Run → ℕ → List Reading → State → Option State
+zoned runs x facts s =
+    if says_zone (map (reading runs s.numbers) facts) (now_at s.numbers x)
+    then Some (with_fact runs (record { number = x; holds = true }) s) else None
+
+abbrev pub zoned_if : List Run → ℕ → List Reading → State → Option State
+zoned_if runs x facts s =
+    if is_number s.numbers x && (is_bool (term_at s.numbers x) && are_facts s.facts facts) then zoned runs x facts (renew runs x s) else None
+
 -- ---- a line, and lines one after the other: none where one is not allowed
 
 unfoldable pub applied : List Run → State → Line → Option State
@@ -165,6 +180,7 @@ applied runs s RenewAll =
     if nat_lt s.sweeps SWEEPS then Some (renew_up_to runs (length s.numbers) (record s { sweeps = s.sweeps + 1 })) else None
 applied runs s (MergeBy rule x y facts) = merged_if runs rule x y facts s
 applied runs s (DecideBy rule x facts) = decided_if runs rule x facts s
+applied runs s (Zone x facts) = zoned_if runs x facts s
 
 unfoldable pub after_lines : List Run → State → List Line → Option State
 after_lines runs s [] = Some s

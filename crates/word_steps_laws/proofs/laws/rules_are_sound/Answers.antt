@@ -1,4 +1,5 @@
 use Rattle.word_steps_laws.proofs.Rules.{merges_sound, decided_sound}
+use Rattle.word_steps_laws.proofs.ZonesHold.{zone_sound}
 use Rattle.word_steps_laws.proofs.laws.rules_are_sound.Goals as goal
 
 pub returns-clause-merges : goal.returns-clause-merges
@@ -6,3 +7,6 @@ returns-clause-merges c = merges_sound
 
 pub returns-clause-decisions : goal.returns-clause-decisions
 returns-clause-decisions c = decided_sound
+
+pub returns-clause-zones : goal.returns-clause-zones
+returns-clause-zones c facts x a assigns are e = zone_sound a assigns facts x are e
