@@ -5,4 +5,5 @@ pub mod Alike
 pub mod Ends
 pub mod Valid
 pub mod Again
+pub mod Unbound
 pub mod Worked

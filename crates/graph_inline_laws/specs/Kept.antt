@@ -1,11 +1,12 @@
 -- What it means that inlining keeps what a graph does.
-use Rattle.std.specs.Prelude.{◌≡◌, ◌≢◌, ◌↔◌, ◌<◌, ℕ, true, List, [], length, All, Option, Some, None, slice_get}
+use Rattle.std.specs.Prelude.{◌≡◌, ◌≢◌, ◌↔◌, ◌<◌, ℕ, true, false, List, [], length, All, Option, Some, None, slice_get}
 use Rattle.term_core_spec.specs.declared.Variable.{Variable}
 use Rattle.term_core_spec.specs.Value.{Assignment}
 use Rattle.graph_core_spec.specs.TransitionSystem.{after}
 use Rattle.graph_core_spec.specs.Graph.{Binding, Call, Graph, Graphs, IsValid}
 use Rattle.graph_core_spec.specs.Run.{State, Running, Returned, Failed, is_shared, system_of}
 use Rattle.graph_core_spec.specs.Fixed.{AlwaysHoldsFixed}
+use Rattle.graph_core_spec.specs.Variables.{own_bindings}
 use Rattle.graph_inline_spec.specs.Inlined.{inlined, inlined_size}
 use Rattle.graph_inline_spec.specs.Inlining.{SpeaksOf, IsElsewhere, CanInline, NeverCalls, Inlines}
 
@@ -59,6 +60,16 @@ abbrev pub OthersStayFresh : Type 0
 OthersStayFresh = (caller : Graph) (n : ℕ) (callee : Graph) (own : List Variable) (instance : ℕ) → CanInline caller n callee own instance
     → (result : Graph) → inlined caller n callee own instance ≡ Some result → (other : ℕ) → other ≢ instance
     → All (SpeaksOf (IsElsewhere other)) caller.nodes → All (SpeaksOf (IsElsewhere other)) result.nodes
+
+-- no node binds the variable in the frame of its own function
+abbrev pub NeverBindsIt : Graph → Variable → Type 0
+NeverBindsIt g v = All (λ node. All (λ b. b.variable ≢ v) (own_bindings node)) g.nodes
+
+-- a function's own variable of another instance, such as a register at its entry, stays unbound where no node bound it
+abbrev pub OthersStayUnbound : Type 0
+OthersStayUnbound = (caller : Graph) (n : ℕ) (callee : Graph) (own : List Variable) (instance : ℕ) → CanInline caller n callee own instance
+    → (result : Graph) → inlined caller n callee own instance ≡ Some result → (v : Variable) → is_shared v ≡ false → v.instance ≢ instance
+    → NeverBindsIt caller v → NeverBindsIt result v
 
 abbrev pub StaysUncalled : Type 0
 StaysUncalled = (graphs : Graphs) (g n : ℕ) (own : List Variable) (instance : ℕ) (new : Graphs) → Inlines graphs g n own instance new → NeverCalls new g

@@ -2,7 +2,7 @@
 
 ghost use Rattle.graph_inline_laws.specs.Kept.{CallsAloneAreInlined, SizesAreSums, StayValid};
 ghost use Rattle.graph_inline_laws.specs.Kept.{RunsAreKept, FixedBytesAreKept};
-ghost use Rattle.graph_inline_laws.specs.Kept.{OthersStayFresh, StaysUncalled};
+ghost use Rattle.graph_inline_laws.specs.Kept.{OthersStayFresh, OthersStayUnbound, StaysUncalled};
 
 /// There is no inlined graph exactly where the node is no call, or is not there.
 pub fn calls_alone_are_inlined()
@@ -37,6 +37,12 @@ pub fn fixed_bytes_are_kept()
 /// inlined at that instance.
 pub fn other_instances_stay_fresh()
     ensures { OthersStayFresh }
+{}
+
+/// A function's own variable of another instance, such as a register at its entry, is bound by no
+/// node of the inlined graph if by none of the caller.
+pub fn other_instances_stay_unbound()
+    ensures { OthersStayUnbound }
 {}
 
 /// No graph of the set with the inlined graph calls it.
