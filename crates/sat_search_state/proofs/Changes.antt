@@ -1,9 +1,8 @@
 -- Changes of the lists of watchers.
-use Rattle.std.proofs.Common.{Vec, Global, ◌≡◌, ◌⊎◌, inl, inr, ℕ, zero, suc, ◌+◌, ◌-◌, ◌*◌, ◌<◌, ◌≤◌, Bool, true, false, List, [], ◌∷◌, ◌++◌, Some, None, length, get_or, set, map, take, refl, ap, sym, ◌∙◌, subst, arith}
+use Rattle.std.proofs.Common.{Vec, Global, ◌≡◌, ◌⊎◌, inl, inr, ℕ, ◌<◌, List, [], ◌∷◌, ◌++◌, Some, length, get_or, set, map, refl, ap, sym, ◌∙◌, subst, arith}
 use Rattle.std.specs.Prelude.{slice_get}
-use Rattle.std.specs.List.{swap_remove}
 use Rattle.std.proofs.lemmas.Option.{slice_get_within, slice_get-get_or, get_or_from_slice_get}
-use Rattle.std.proofs.lemmas.List.{length-set, length-map, length-take-le, length_push, get_or-set_same, get_or-set_other, get_or_default, map-set}
+use Rattle.std.proofs.lemmas.List.{length-set, get_or-set_same, get_or-set_other}
 use Rattle.cnf_core.specs.Codes.{code_of, same_code}
 use Rattle.clause_check_spec.specs.declared.Literal.{Literal}
 use Rattle.clause_check_spec.specs.Clause.{Clause}
@@ -12,8 +11,8 @@ use Rattle.sat_search_spec.specs.declared.Watcher.{Watcher}
 use Rattle.sat_search_spec.specs.Clauses.{Has}
 use Rattle.sat_search_spec.specs.Watches.{Watched, list_of, IsListed, AreListed, IsBlocker, AreBlockers}
 use Rattle.sat_search_spec.proofs.Members.{same_or_other}
-use Rattle.sat_search_spec.proofs.Trails.{get_left, get_last, get_cases, get_taken, taken_get, mapped_get}
-use Rattle.sat_search_state.specs.Lists.{IsAdded, IsStill, WasIn, IsRemovedFrom, IsRemoved, IsAttached, IsBare}
+use Rattle.sat_search_spec.proofs.Trails.{get_left, get_last, get_cases, mapped_get, some_same}
+use Rattle.sat_search_state.specs.Lists.{IsAdded, IsRemovedFrom, IsRemoved, IsReplaced, IsAttached}
 
 equal_or_other : (a b : ℕ) → (a ≡ b) ⊎ (a ≡ b → ⊥)
 equal_or_other a b = grind arith
@@ -33,6 +32,36 @@ list_read lists l code list below e here =
     ap items_of (here ∙ ap (λ k. get_or lists k list) e)
     ∙ sym (get_or_from_slice_get (lists_of lists) (code_of l) (items_of (get_or lists (code_of l) list)) []
     (mapped_get items_of lists (code_of l) (get_or lists (code_of l) list) (slice_get-get_or lists (code_of l) list below)))
+
+-- ---- one place of a list
+
+pub set_same : {X : Type 0} (xs : List X) (n : ℕ) (x : X) → n < length xs → slice_get (set xs n x) n ≡ Some x
+set_same xs n x below =
+    let count = length-set xs n x in
+    slice_get-get_or (set xs n x) n x (omega (arith, count, below)) ∙ ap Some (get_or-set_same xs n x x below)
+
+pub set_other : {X : Type 0} (xs : List X) (n k : ℕ) (x there : X) → (k ≡ n → ⊥) → slice_get xs k ≡ Some there → slice_get (set xs n x) k ≡ Some there
+set_other xs n k x there apart here =
+    let count = length-set xs n x in
+    let within = slice_get_within xs k there here in
+    slice_get-get_or (set xs n x) k there (omega (arith, count, within))
+    ∙ ap Some (get_or-set_other xs n k x there apart ∙ get_or_from_slice_get xs k there there here)
+
+pub set_cases : {X : Type 0} (xs : List X) (n i : ℕ) (new x : X) → n < length xs → slice_get (set xs n new) i ≡ Some x
+    → ((i ≡ n) × (x ≡ new)) ⊎ ((i ≡ n → ⊥) × (slice_get xs i ≡ Some x))
+set_cases xs n i new x below here =
+    let within = slice_get_within (set xs n new) i x here in
+    let count = length-set xs n new in
+    elim (equal_or_other i n) [
+      | inl same ↦
+          inl (same, sym (get_or_from_slice_get (set xs n new) i x new here) ∙ ap (λ k. get_or (set xs n new) k new) same ∙ get_or-set_same xs n new new below)
+      | inr apart ↦
+          inr (
+            apart,
+            slice_get-get_or xs i new (omega (arith, within, count))
+                ∙ ap Some (sym (get_or-set_other xs n i new new apart) ∙ get_or_from_slice_get (set xs n new) i x new here),
+          )
+    ]
 
 -- ---- a list of lists, one of which was changed
 
@@ -104,6 +133,61 @@ removed old new l place was list below e same from shorter =
       shorter = let n = ap length here in let m = ap length same in omega (arith, n, m, shorter);
       others = λ other apart. ap (λ n. list_of n other) e ∙ list_set_other old l other list apart;
     }
+
+-- ---- another watcher in a place
+
+pub replaced : (old new : List (List Watcher)) (l : Literal) (place : ℕ) (watcher : Watcher) (was list : List Watcher) → code_of l < length old → new ≡ set old (code_of l) list
+    → was ≡ list_of old l → list ≡ set was place watcher → IsReplaced old new l place watcher
+replaced old new l place watcher was list below e same f = record {
+  here = ap (λ n. list_of n l) e ∙ list_set_same old l list below ∙ f ∙ ap (λ xs. set xs place watcher) same;
+  others = λ other apart. ap (λ n. list_of n other) e ∙ list_set_other old l other list apart;
+}
+
+-- the clauses of a list stay the same
+pub listed_replaced : (old new : List (List Watcher)) (l : Literal) (place : ℕ) (was watcher : Watcher) → IsReplaced old new l place watcher
+    → slice_get (list_of old l) place ≡ Some was → watcher.clause ≡ was.clause
+    → (other : Literal) (start i : ℕ) → IsListed (list_of old other) start i → IsListed (list_of new other) start i
+listed_replaced old new l place was watcher is_replaced here e other start i listed =
+    elim (same_or_other other l) [
+      | inl f ↦
+          let there : slice_get (list_of old l) listed.place ≡ Some listed.watcher = subst (λ m. slice_get (list_of old m) listed.place ≡ Some listed.watcher) f listed.there in
+          subst (λ m. IsListed (list_of new m) start i) (sym f)
+          (subst (λ xs. IsListed xs start i) (sym is_replaced.here) (in_place (equal_or_other listed.place place) there))
+      | inr apart ↦ subst (λ xs. IsListed xs start i) (sym (is_replaced.others other apart)) listed
+    ]
+  where
+    in_place : (listed.place ≡ place) ⊎ (listed.place ≡ place → ⊥) → slice_get (list_of old l) listed.place ≡ Some listed.watcher
+        → IsListed (set (list_of old l) place watcher) start i
+    in_place (inl k) there =
+        let is_was = some_same (list_of old l) listed.place place listed.watcher was k there here in
+        let later = listed.later in
+        record {
+          place = place;
+          watcher = watcher;
+          later = omega (arith, later, k);
+          there = set_same (list_of old l) place watcher (slice_get_within (list_of old l) place was here);
+          same = e ∙ ap (λ (w : Watcher). w.clause) (sym is_was) ∙ listed.same;
+        }
+    in_place (inr apart) there = record {
+      place = listed.place;
+      watcher = listed.watcher;
+      later = listed.later;
+      there = set_other (list_of old l) place listed.place watcher listed.watcher apart there;
+      same = listed.same;
+    }
+
+pub blockers_replaced : (clauses : List Clause) (old new : List (List Watcher)) (l : Literal) (place : ℕ) (was watcher : Watcher) → IsReplaced old new l place watcher
+    → slice_get (list_of old l) place ≡ Some was → IsBlocker clauses watcher → AreBlockers clauses old → AreBlockers clauses new
+blockers_replaced clauses old new l place was watcher is_replaced here one blockers other k w there =
+    elim (same_or_other other l) [
+      | inl e ↦
+          elim (set_cases (list_of old l) place k watcher w (slice_get_within (list_of old l) place was here)
+          (ap (λ xs. slice_get xs k) (sym is_replaced.here) ∙ ap (λ m. slice_get (list_of new m) k) (sym e) ∙ there)) [
+            | inl now ↦ subst (λ x. IsBlocker clauses x) (sym now.1) one
+            | inr before ↦ blockers l k w before.1
+          ]
+      | inr apart ↦ blockers other k w (ap (λ xs. slice_get xs k) (sym (is_replaced.others other apart)) ∙ there)
+    ]
 
 -- ---- one more clause with its watches
 

@@ -1,13 +1,13 @@
 -- The places of variables, through each change of a trail.
-use Rattle.std.proofs.Common.{◌≡◌, ◌≢◌, ◌⊎◌, inl, inr, ℕ, ◌+◌, ◌-◌, ◌*◌, ◌<◌, ◌≤◌, Bool, true, false, List, [], ◌∷◌, ◌++◌, Some, length, get_or, set, take, replicate, refl, ap, sym, ◌∙◌, subst, arith}
+use Rattle.std.proofs.Common.{◌≡◌, ◌≢◌, ◌⊎◌, inl, inr, ℕ, ◌+◌, ◌-◌, ◌*◌, ◌<◌, ◌≤◌, Bool, true, false, List, [], ◌∷◌, ◌++◌, Some, length, get_or, set, take, replicate, ap, sym, ◌∙◌, subst, arith}
 use Rattle.std.specs.Prelude.{slice_get}
-use Rattle.std.proofs.lemmas.Option.{slice_get_within, get_or_from_slice_get}
-use Rattle.std.proofs.lemmas.List.{length-set, get_or-set_same, get_or-set_other, get_or-replicate, get_or_past, length-replicate, take-take, take_all}
+use Rattle.std.proofs.lemmas.Option.{slice_get_within}
+use Rattle.std.proofs.lemmas.List.{length-set, get_or-set_same, get_or-set_other, get_or-replicate, get_or_past, length-replicate, take-take}
 use Rattle.std.proofs.lemmas.Bool.Decides.{nat_tests}
 use Rattle.clause_check_spec.specs.declared.Literal.{Literal}
 use Rattle.clause_check_spec.specs.Clause.{negation, is_of}
 use Rattle.sat_search_spec.specs.declared.Entry.{Entry}
-use Rattle.sat_search_spec.specs.Trail.{IsAt, IsAbsent}
+use Rattle.sat_search_spec.specs.Trail.{IsAbsent}
 use Rattle.cnf_core.specs.Codes.{code_of, code_within, same_code}
 use Rattle.sat_search_spec.proofs.Members.{same_or_negated}
 use Rattle.sat_search_spec.proofs.Trails.{get_cases, get_left, get_last, get_taken, taken_get, some_same}

@@ -1,9 +1,9 @@
 -- Propagation of one entry, a clause at a time.
-use Rattle.std.proofs.Common.{◌≡◌, ◌⊎◌, inl, inr, ℕ, zero, suc, ◌+◌, ◌-◌, ◌*◌, ◌<◌, ◌≤◌, Bool, true, false, List, [], ◌∷◌, ◌++◌, Some, None, length, get_or, set, refl, ap, sym, ◌∙◌, subst, arith}
+use Rattle.std.proofs.Common.{◌≡◌, ◌⊎◌, inl, inr, ℕ, zero, suc, ◌+◌, ◌-◌, ◌<◌, ◌≤◌, true, List, [], ◌∷◌, ◌++◌, Some, None, length, set, refl, ap, sym, ◌∙◌, subst, arith}
 use Rattle.std.specs.Prelude.{slice_get}
 use Rattle.std.specs.List.{list_all}
-use Rattle.std.proofs.lemmas.Option.{slice_get_within, slice_get-get_or, get_or_from_slice_get}
-use Rattle.std.proofs.lemmas.List.{length-set, length_push, get_or-set_same, get_or-set_other}
+use Rattle.std.proofs.lemmas.Option.{slice_get_within, get_or_from_slice_get}
+use Rattle.std.proofs.lemmas.List.{length-set, length_push}
 use Rattle.std.proofs.lemmas.List.Sums.{AllPass-from_list_all}
 use Rattle.cnf_core.specs.Codes.{code_of, code_within}
 use Rattle.clause_check_spec.specs.declared.Literal.{Literal}
@@ -11,15 +11,15 @@ use Rattle.clause_check_spec.specs.Clause.{Clause, negation, is_of, are_of}
 use Rattle.sat_search_spec.specs.declared.Entry.{Entry}
 use Rattle.sat_search_spec.specs.declared.Watch.{Watch}
 use Rattle.sat_search_spec.specs.declared.Watcher.{Watcher}
-use Rattle.sat_search_spec.specs.Clauses.{Has, Numbered}
-use Rattle.sat_search_spec.specs.Trail.{Trailed, IsAt, IsAbsent, IsTrueBefore, IsForced, IsTrail, IsConflict, IsSound}
-use Rattle.sat_search_spec.specs.Watches.{IsSatisfied, IsGuarded, fixed, two, AreGuarded, Watched, list_of, IsListed, AreListed, IsBlocker, AreBlockers, IsRunning, IsTurning, IsElsewhere}
+use Rattle.sat_search_spec.specs.Clauses.{Has}
+use Rattle.sat_search_spec.specs.Trail.{Trailed, IsAt, IsAbsent, IsTrueBefore, IsForced, IsConflict}
+use Rattle.sat_search_spec.specs.Watches.{IsSatisfied, IsGuarded, fixed, two, AreGuarded, Watched, list_of, IsListed, IsBlocker, IsRunning, IsTurning, IsElsewhere}
 use Rattle.sat_search_spec.proofs.Members.{same_or_other, same_or_negated, negations_same, negation_twice, place_of, has_push}
-use Rattle.sat_search_spec.proofs.Trails.{get_left, get_last, get_cases, some_same, trail_more, trail_short}
+use Rattle.sat_search_spec.proofs.Trails.{get_left, get_last, get_cases, some_same, trail_more}
 use Rattle.sat_search_spec.proofs.Guards.{guarded_next, guarded_satisfied, guarded_moved, guarded_earlier, guarded_more, all_more}
-use Rattle.sat_search_state.specs.Lists.{IsAdded, IsRemovedFrom, IsRemoved}
+use Rattle.sat_search_state.specs.Lists.{IsAdded, IsRemoved, IsReplaced}
 use Rattle.sat_search_state.specs.Visits.{IsOpen, AreFalse, IsBeside, IsLooking}
-use Rattle.sat_search_state.proofs.Changes.{listed_added, listed_new, blockers_added}
+use Rattle.sat_search_state.proofs.Changes.{set_cases, set_same, listed_added, listed_new, blockers_added, listed_replaced, blockers_replaced}
 
 equal_or_other : (a b : ℕ) → (a ≡ b) ⊎ (a ≡ b → ⊥)
 equal_or_other a b = grind arith
@@ -353,22 +353,6 @@ turn_forced clauses trail watched falsified next watcher other clause looking he
 
 -- ---- a watch that moves
 
-set_cases : (watches : List Watch) (n i : ℕ) (new w : Watch) → n < length watches → slice_get (set watches n new) i ≡ Some w
-    → ((i ≡ n) × (w ≡ new)) ⊎ ((i ≡ n → ⊥) × (slice_get watches i ≡ Some w))
-set_cases watches n i new w below here =
-    let within = slice_get_within (set watches n new) i w here in
-    let count = length-set watches n new in
-    elim (equal_or_other i n) [
-      | inl same ↦
-          inl (same, sym (get_or_from_slice_get (set watches n new) i w new here) ∙ ap (λ k. get_or (set watches n new) k new) same ∙ get_or-set_same watches n new new below)
-      | inr apart ↦
-          inr (
-            apart,
-            slice_get-get_or watches i new (omega (arith, within, count))
-                ∙ ap Some (sym (get_or-set_other watches n i new new apart) ∙ get_or_from_slice_get (set watches n new) i w new here),
-          )
-    ]
-
 pub turn_moved : (clauses : List Clause) (trail : Trailed) (old new : Watched) (falsified : Literal) (next : ℕ) (watcher moved : Watcher) (watch : Watch)
     → (looking : IsLooking clauses trail old falsified next watcher watch.second)
     → ((clause : Clause) → slice_get clauses watcher.clause ≡ Some clause → IsOpen clause trail watch.second watch.first)
@@ -454,8 +438,7 @@ turn_moved clauses trail old new falsified next watcher moved watch looking is_o
       },
       record {
         watch = watch;
-        there = ap (λ ws. slice_get ws watcher.clause) e ∙ slice_get-get_or (set old.watches watcher.clause watch) watcher.clause watch (let n = length-set old.watches watcher.clause watch in omega (arith, n, below))
-            ∙ ap Some (get_or-set_same old.watches watcher.clause watch watch below);
+        there = ap (λ ws. slice_get ws watcher.clause) e ∙ set_same old.watches watcher.clause watch below;
         first = not_falsified;
         second = looking.apart;
       },
@@ -553,6 +536,39 @@ turn_removed clauses trail old new falsified next watcher turning elsewhere here
               }
           | inr apart ↦ subst (λ xs. IsListed xs 0 i) (sym (is_removed.others l apart)) listed
         ]
+
+-- ---- a watcher with another blocker
+
+pub turn_replaced : (clauses : List Clause) (trail : Trailed) (old new : Watched) (falsified : Literal) (next : ℕ) (watcher blocked : Watcher)
+    → IsTurning clauses trail old falsified (next + 1) → slice_get (list_of old.lists falsified) next ≡ Some watcher → blocked.clause ≡ watcher.clause → IsBlocker clauses blocked
+    → new.watches ≡ old.watches → new.head ≡ old.head → length new.lists ≡ length old.lists → IsReplaced old.lists new.lists falsified next blocked
+    → IsTurning clauses trail new falsified (next + 1)
+turn_replaced clauses trail old new falsified next watcher blocked turning here same_clause blocker e head room is_replaced =
+    let running = turning.running in
+    let still = listed_replaced old.lists new.lists falsified next watcher blocked is_replaced here same_clause in
+    record {
+      running = record {
+        sound = running.sound;
+        guarded =
+            subst (λ n. AreGuarded clauses trail.entries n new.watches) (sym head) (subst (λ ws. AreGuarded clauses trail.entries old.head ws) (sym e) running.guarded);
+        lists = λ i w there.
+            elim (running.lists i w (ap (λ ws. slice_get ws i) (sym e) ∙ there)) [
+              | inl same ↦ inl same
+              | inr both ↦ inr (still w.first 0 i both.0, still w.second 0 i both.1)
+            ];
+        blockers =
+            blockers_replaced clauses old.lists new.lists falsified next watcher blocked is_replaced here blocker running.blockers;
+        room = room ∙ running.room;
+        within = let h = running.within in omega (arith, h, head);
+        pending = λ i entry h at. running.pending i entry (omega (arith, h, head)) at;
+      };
+      turned = subst (λ n. IsAt trail.entries n (negation falsified)) (sym head) turning.turned;
+      after = λ i clause w at there.
+          elim (turning.after i clause w at (ap (λ ws. slice_get ws i) (sym e) ∙ there)) [
+            | inl guarded ↦ inl (subst (λ n. IsGuarded clause trail.entries (n + 1) w) (sym head) guarded)
+            | inr listed ↦ inr (still falsified (next + 1) i listed)
+          ];
+    }
 
 -- ---- the other watch settles it
 

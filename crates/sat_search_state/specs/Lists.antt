@@ -1,5 +1,5 @@
 -- Changes of the lists of watchers.
-use Rattle.std.specs.Prelude.{◌≡◌, ℕ, ◌<◌, ◌≤◌, List, [], ◌∷◌, ◌++◌, Some, slice_get, length, map}
+use Rattle.std.specs.Prelude.{◌≡◌, ℕ, ◌<◌, ◌≤◌, List, [], ◌∷◌, ◌++◌, Some, slice_get, slice_set, length}
 use Rattle.clause_check_spec.specs.declared.Literal.{Literal}
 use Rattle.clause_check_spec.specs.Clause.{Clause}
 use Rattle.sat_search_spec.specs.declared.Watch.{Watch}
@@ -31,6 +31,11 @@ pub record IsRemovedFrom (old new : List Watcher) (next : ℕ) : Type 0 where
 pub record IsRemoved (old new : List (List Watcher)) (literal : Literal) (next : ℕ) : Type 0 where
   pub here : IsRemovedFrom (list_of old literal) (list_of new literal) next
   pub shorter : length (list_of new literal) < length (list_of old literal)
+  pub others : (other : Literal) → (other ≡ literal → ⊥) → list_of new other ≡ list_of old other
+
+-- another watcher in a place of the list of a literal
+pub record IsReplaced (old new : List (List Watcher)) (literal : Literal) (place : ℕ) (watcher : Watcher) : Type 0 where
+  pub here : list_of new literal ≡ slice_set (list_of old literal) place watcher
   pub others : (other : Literal) → (other ≡ literal → ⊥) → list_of new other ≡ list_of old other
 
 -- the watches of one more clause

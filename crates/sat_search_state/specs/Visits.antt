@@ -36,6 +36,7 @@ AreFalse clause trail other = (l : Literal) → Has clause l → IsSameOrFalse t
 abbrev pub IsVisited : List Clause → Trailed → Watched → (falsified : Literal) → (next : ℕ) → Watcher → Visit → Type 0
 IsVisited clauses trail watched falsified next watcher Stays = IsTurning clauses trail watched falsified (next + 1)
 IsVisited clauses trail watched falsified next watcher Leaves = IsTurning clauses trail watched falsified (next + 1) × IsElsewhere watched watcher.clause falsified
+    × (slice_get (list_of watched.lists falsified) next ≡ Some watcher)
 IsVisited clauses trail watched falsified next watcher Fails = IsTurning clauses trail watched falsified next × IsConflict clauses trail.entries (watcher.clause + 1)
 
 -- after an entry was propagated
@@ -54,7 +55,7 @@ pub record IsKeptBy (old_trail new_trail : Trailed) (old new : Watched) (falsifi
   pub level : new_trail.level ≡ old_trail.level
   pub grown : length old_trail.entries ≤ length new_trail.entries
   pub head : new.head ≡ old.head
-  pub list : list_of new.lists falsified ≡ list_of old.lists falsified
+  pub count : length (list_of new.lists falsified) ≡ length (list_of old.lists falsified)
 
 -- one watch of the clause of a watcher became false; the other one
 pub record IsBeside (clauses : List Clause) (trail : Trailed) (watched : Watched) (falsified : Literal) (next : ℕ) (watcher : Watcher) (other : Literal) : Type 0 where

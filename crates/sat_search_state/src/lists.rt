@@ -1,7 +1,7 @@
-ghost use Rattle.std.specs.Prelude.{◌≡◌, ◌<◌, length, map, slice_get, Some, OnOk};
+ghost use Rattle.std.specs.Prelude.{◌≡◌, ◌<◌, length, map, slice_get, slice_set, Some, OnOk};
 ghost use Rattle.cnf_core.specs.Codes.{code_of};
 ghost use Rattle.sat_search_spec.specs.Watches.{list_of};
-ghost use Rattle.sat_search_state.specs.Lists.{IsAdded, IsRemovedFrom, IsRemoved};
+ghost use Rattle.sat_search_state.specs.Lists.{IsAdded, IsRemovedFrom, IsRemoved, IsReplaced};
 
 use cnf_core::Literal;
 use sat_search_spec::Watcher;
@@ -55,4 +55,15 @@ pub fn remove_watcher(lists: &mut [Vec<Watcher>], literal: Literal, place: usize
         (map (λ v. v.items) lists.new) literal place }
 {
     remove_from(&mut lists[literal.code()], place);
+}
+
+/// Puts another watcher into the place of one in the list of a literal.
+pub fn replace_watcher(lists: &mut [Vec<Watcher>], literal: Literal, place: usize, watcher: Watcher)
+    requires code { code_of literal < length lists.old }
+    requires place { place < length (list_of (map (λ v. v.items) lists.old) literal) }
+    ensures { IsReplaced (map (λ v. v.items) lists.old) (map (λ v. v.items) lists.new) literal
+        place
+        watcher }
+{
+    lists[literal.code()][place] = watcher;
 }

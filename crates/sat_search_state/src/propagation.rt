@@ -2,6 +2,7 @@ ghost use Rattle.std.specs.Prelude.{◌≡◌, ℕ, ◌+◌, ◌<◌, length, sl
 ghost use Rattle.std.specs.Prelude.{IfOk, OnOk, true};
 ghost use Rattle.std.specs.List.{list_all};
 ghost use Rattle.clause_check_spec.specs.Clause.{is_of};
+ghost use Rattle.sat_search_spec.specs.Trail.{IsAt};
 ghost use Rattle.sat_search_spec.specs.Watches.{list_of, IsRunning, IsTurning};
 ghost use Rattle.sat_search_state.specs.Visits.{IsSameLevel, IsOpen, AreFalse, IsVisited, IsTurned};
 ghost use Rattle.sat_search_state.specs.Visits.{IsPropagated, IsKeptBy, IsLooking, IsBeside};
@@ -150,6 +151,30 @@ fn visit_clause(
     }
 }
 
+/// Makes the other watch, which is true, the blocker of a watcher: the next look may end there.
+fn block_by(
+    clauses: &ClauseList,
+    trail: &Trail,
+    watches: &mut Watches,
+    falsified: Literal,
+    next: usize,
+    watcher: &Watcher,
+    other: Literal,
+)
+    requires beside { IsBeside clauses.now.clauses trail.now watches.old falsified next
+        watcher.now
+        other }
+    requires settled { (place : ℕ) × IsAt trail.now.entries place other }
+    ensures visited { IsTurning clauses.now.clauses trail.now watches.new falsified (next + 1) }
+    ensures kept { IsKeptBy trail.now trail.now watches.old watches.new falsified }
+{
+    let blocked = Watcher {
+        clause: watcher.clause,
+        blocker: other,
+    };
+    watches.replace(falsified, next, blocked);
+}
+
 /// Looks at a clause whose watch became false, by its other watch.
 fn visit_other(
     clauses: &ClauseList,
@@ -169,7 +194,10 @@ fn visit_other(
         return Ok(Visit::Stays);
     }
     match trail.place(other) {
-        Some(_place) => Ok(Visit::Stays),
+        Some(_place) => {
+            block_by(clauses, trail, watches, falsified, next, watcher, other);
+            Ok(Visit::Stays)
+        }
         None => visit_clause(clauses, trail, watches, falsified, next, watcher, other),
     }
 }

@@ -3,9 +3,10 @@ ghost use Rattle.std.specs.Prelude.{slice_set};
 ghost use Rattle.std.specs.Prelude.{Some, IfErr, IfOk, OnOk};
 ghost use Rattle.cnf_core.specs.Codes.{code_of};
 ghost use Rattle.sat_search_spec.specs.Watches.{list_of};
-ghost use Rattle.sat_search_state.specs.Lists.{IsAdded, IsRemoved, IsAttached, IsBare};
+ghost use Rattle.sat_search_state.specs.Lists.{IsAdded, IsRemoved, IsReplaced, IsAttached};
+ghost use Rattle.sat_search_state.specs.Lists.{IsBare};
 
-use crate::lists::{add_watcher, count_of, remove_watcher, watcher_at};
+use crate::lists::{add_watcher, count_of, remove_watcher, replace_watcher, watcher_at};
 use cnf_core::{Literal, MAX_VARIABLE};
 use sat_search_spec::{Watch, Watcher, is_same};
 use std::alloc::{AllocError, Global};
@@ -116,6 +117,17 @@ impl Watches {
         ensures same { self.new ≡ record self.old { lists = self.new.lists } }
     {
         add_watcher(self.lists.as_mut_slice(), literal, watcher)
+    }
+
+    /// Puts another watcher into the place of one in the list of a literal.
+    pub fn replace(&mut self, literal: Literal, place: usize, watcher: Watcher)
+        requires code { code_of literal < length self.old.lists }
+        requires place { place < length (list_of self.old.lists literal) }
+        ensures replaced { IsReplaced self.old.lists self.new.lists literal place watcher }
+        ensures room { length self.new.lists ≡ length self.old.lists }
+        ensures same { self.new ≡ record self.old { lists = self.new.lists } }
+    {
+        replace_watcher(self.lists.as_mut_slice(), literal, place, watcher);
     }
 
     /// Takes the watcher of a place out of the list of a literal.

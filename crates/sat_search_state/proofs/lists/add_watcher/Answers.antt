@@ -1,7 +1,6 @@
-use Rattle.std.proofs.Common.{rules, ◌≡◌, ◌<◌, ◌∙◌, ◌++◌, ◌∷◌, [], length, map, set, get_or, ap, sym, subst}
+use Rattle.std.proofs.Common.{rules, ◌≡◌, ◌<◌, ◌∙◌, ◌++◌, ◌∷◌, [], set, ap, sym, subst}
 use Rattle.std.proofs.lemmas.List.{map-set, length-map}
 use Rattle.cnf_core.specs.Codes.{code_of}
-use Rattle.sat_search_spec.specs.Watches.{list_of}
 use Rattle.sat_search_state.proofs.Changes.{added, items_of, lists_of, list_read}
 use Rattle.sat_search_state.proofs.lists.add_watcher.Goals as goal
 

@@ -1,11 +1,7 @@
-use Rattle.std.proofs.Common.{rules, ◌≡◌, ◌++◌, ◌∷◌, [], ◌∙◌, true, take, length, refl, ap, sym, subst}
+use Rattle.std.proofs.Common.{rules, ◌++◌, ◌∷◌, [], ◌∙◌, take, ap, sym, subst}
 use Rattle.std.proofs.lemmas.List.{take_more}
-use Rattle.std.proofs.lemmas.Option.{slice_get_read}
-use Rattle.clause_check_spec.specs.Clause.{is_of}
-use Rattle.sat_search_spec.specs.Clauses.{Has}
-use Rattle.sat_search_spec.proofs.Members.{has_at}
 use Rattle.sat_search_state.specs.Visits.{AreFalse, IsSameOrFalse}
-use Rattle.sat_search_state.proofs.Turns.{false_more, literal_of}
+use Rattle.sat_search_state.proofs.Turns.{false_more}
 use Rattle.sat_search_state.proofs.propagation.find_open.Goals as goal
 
 pub loop-literal-preserved : goal.loop-literal-preserved

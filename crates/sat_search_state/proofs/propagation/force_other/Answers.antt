@@ -1,10 +1,8 @@
-use Rattle.std.proofs.Common.{rules, ◌≡◌, ◌+◌, ◌∷◌, ◌++◌, ◌∙◌, [], true, length, ap, sym, subst, refl, arith}
-use Rattle.std.proofs.lemmas.List.{length_push}
-use Rattle.clause_check_spec.specs.Clause.{is_of, negation}
+use Rattle.std.proofs.Common.{◌≡◌, ◌+◌, ◌∷◌, ◌++◌, ◌∙◌, [], true, ap, sym, subst}
+use Rattle.clause_check_spec.specs.Clause.{is_of}
 use Rattle.sat_search_spec.specs.Trail.{IsAt, IsAbsent}
 use Rattle.sat_search_spec.specs.Watches.{IsTurning}
-use Rattle.sat_search_state.specs.Visits.{IsKeptBy}
-use Rattle.sat_search_state.proofs.Turns.{seen, other_of_variables, clause_below, turn_fails, turn_forced, forced_entry}
+use Rattle.sat_search_state.proofs.Turns.{seen, other_of_variables, clause_below, turn_fails, turn_forced}
 use Rattle.sat_search_state.proofs.propagation.force_other.Goals as goal
 
 pub place-requires : goal.place-requires

@@ -1,4 +1,5 @@
-use Rattle.std.proofs.Common.{◌≡◌, ◌<◌, ◌∙◌, length, ap, sym, subst, refl, arith}
+use Rattle.std.proofs.Common.{◌<◌, ◌∙◌, length, ap, sym, subst, refl, arith}
+use Rattle.std.specs.Prelude.{slice_get}
 use Rattle.cnf_core.specs.Codes.{code_of}
 use Rattle.sat_search_spec.specs.declared.Watch.{Watch}
 use Rattle.sat_search_spec.specs.declared.Watcher.{Watcher}
@@ -25,7 +26,7 @@ returns-clause-visited c =
     (c.listen.ensures.room ∙ ap length lists) refl refl
     (subst (λ ls. IsAdded ls c.listen.new.self.lists c.args.first moved) lists c.in_ok-listen.ensures.added)
     in
-    (all.0, all.1)
+    (all.0, all.1, ap (λ xs. slice_get xs c.args.next) all.2 ∙ c.requires.looking.beside.there)
 
 pub returns-clause-kept : goal.returns-clause-kept
 returns-clause-kept c =
@@ -45,5 +46,5 @@ returns-clause-kept c =
       level = refl;
       grown = omega arith;
       head = ap (λ w. w.head) c.listen.ensures.same ∙ ap (λ w. w.head) c.set_watch.ensures;
-      list = all.2;
+      count = ap length all.2;
     }

@@ -1,4 +1,4 @@
-use Rattle.std.proofs.Common.{◌≡◌, ◌≤◌, ◌-◌, length}
+use Rattle.std.proofs.Common.{◌-◌}
 use Rattle.sat_search_spec.specs.Watches.{IsRunning}
 use Rattle.sat_search_state.specs.Visits.{IsSameLevel}
 use Rattle.sat_search_state.proofs.propagation.propagate.Given as goal

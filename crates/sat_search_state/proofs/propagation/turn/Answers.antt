@@ -1,5 +1,4 @@
-use Rattle.std.proofs.Common.{rules, ◌≡◌, ◌≤◌, ◌+◌, ◌∙◌, length, Some, None, ap, sym, subst, arith}
-use Rattle.std.specs.Prelude.{slice_get}
+use Rattle.std.proofs.Common.{◌≤◌, ◌∙◌, length, ap, sym, subst, arith}
 use Rattle.std.proofs.lemmas.Option.{slice_get_past}
 use Rattle.sat_search_spec.specs.Trail.{IsConflict}
 use Rattle.sat_search_spec.specs.Watches.{list_of}
@@ -44,7 +43,7 @@ loop-next-preserved c =
     record {
       turning =
           turn_removed c.args.clauses.now.clauses c.visit_watcher.new.trail c.visit_watcher.new.watches c.remove.new.self c.args.falsified c.loop-next.next c.watcher-watcher.result
-          visited.0 visited.1 (ap (λ xs. slice_get xs c.loop-next.next) kept.list ∙ c.watcher-watcher.ensures)
+          visited.0 visited.1 visited.2
           (ap (λ w. w.watches) c.remove.ensures.same) (ap (λ w. w.head) c.remove.ensures.same) c.remove.ensures.room c.remove.ensures.removed;
       variables = kept.variables ∙ c.loop-next.invariant.variables;
       level = kept.level ∙ c.loop-next.invariant.level;

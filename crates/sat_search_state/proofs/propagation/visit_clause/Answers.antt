@@ -1,4 +1,4 @@
-use Rattle.std.proofs.Common.{◌≡◌, Some, sym, subst, ap, ◌∙◌}
+use Rattle.std.proofs.Common.{◌≡◌, Some, sym, subst, ◌∙◌}
 use Rattle.sat_search_state.specs.Visits.{IsOpen, AreFalse}
 use Rattle.sat_search_state.proofs.Turns.{clause_of, clause_below}
 use Rattle.sat_search_state.proofs.propagation.visit_clause.Goals as goal

@@ -1,4 +1,4 @@
-use Rattle.std.proofs.Common.{rules, ◌≡◌, inl, inr}
+use Rattle.std.proofs.Common.{rules, ◌≡◌, inl}
 use Rattle.sat_search_state.proofs.Turns.{other_of_variables, beside_stays}
 use Rattle.sat_search_state.proofs.propagation.visit_other.Goals as goal
 
@@ -11,7 +11,5 @@ returns-then-is_same-clause-visited c =
     let same : c.args.other ≡ c.args.falsified = search rules in
     (beside_stays c.args.clauses.now.clauses c.args.trail.now c.args.watches.now c.args.falsified c.args.next c.args.watcher.now c.args.other c.requires (inl same))
 
-pub returns-in-Some-clause-visited : goal.returns-in-Some-clause-visited
-returns-in-Some-clause-visited c =
-    (beside_stays c.args.clauses.now.clauses c.args.trail.now c.args.watches.now c.args.falsified c.args.next c.args.watcher.now c.args.other c.requires
-    (inr (c.in-Some._place, c.in-Some.ensures.there)))
+pub block_by-requires-clause-settled : goal.block_by-requires-clause-settled
+block_by-requires-clause-settled c = (c.in-Some._place, c.in-Some.ensures.there)

@@ -1,4 +1,4 @@
-use Rattle.std.proofs.Common.{rules, ◌≡◌, refl, inl, inr}
+use Rattle.std.proofs.Common.{rules, ◌≡◌}
 use Rattle.sat_search_spec.specs.Watches.{IsElsewhere}
 use Rattle.sat_search_state.proofs.Turns.{watch_below, turn_elsewhere}
 use Rattle.sat_search_state.proofs.propagation.visit_watch.Goals as goal
@@ -16,4 +16,5 @@ returns-clause-visited c =
     in (
       turn_elsewhere c.args.clauses.now.clauses c.args.trail.now c.args.watches.now c.args.falsified c.args.next c.args.watcher.now c.requires.turning c.requires.there elsewhere,
       elsewhere,
+      c.requires.there,
     )

@@ -1,5 +1,4 @@
 use Rattle.std.proofs.Common.{◌≡◌, ℕ, [], length, get_or, map}
-use Rattle.sat_search_spec.specs.declared.Watcher.{Watcher}
 use Rattle.sat_search_state.proofs.watched.Watches.new.Given as goal
 
 abbrev pub invariant-loop-index : goal.invariant-loop-index
