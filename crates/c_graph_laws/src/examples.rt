@@ -40,8 +40,8 @@ pub fn a_store_is_tested()
     ensures { nodes store_body ≡ store_nodes }
 {}
 
-/// The test of the fixed bytes is a conjunction by halves, so it nests only as deep as the number of
-/// runs can be halved.
+/// The test of the fixed bytes is a conjunction by halves, so it nests only as deep as the number
+/// of runs can be halved.
 pub fn a_conjunction_is_by_halves()
     ensures { (s t u v w : Term) → guards.conjunction (s ∷ t ∷ u ∷ v ∷ w ∷ [])
         ≡ and_term (and_term s t) (and_term u (and_term v w)) }

@@ -88,7 +88,7 @@ fn assign_one(
         bank.new (get nat_eq done.old) (get nat_eq done.new)) }
     ensures extends { Extends bank.old bank.new }
 {
-    let id = transfer(bank, from, binding.term, current, done)?;
+    let id = transfer(alloc, bank, from, binding.term, current, done)?;
     put(alloc, variables, made, binding.variable, id)
 }
 

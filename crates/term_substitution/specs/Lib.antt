@@ -1,3 +1,4 @@
+pub mod Paths
 pub mod Renaming
 pub mod States
 pub mod Transfers

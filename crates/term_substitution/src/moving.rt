@@ -1,13 +1,15 @@
 // Terms of one bank, taken to another with terms in place of their variables.
 
-ghost use Rattle.std.specs.Prelude.{◌≡◌, ◌<◌, nat_eq, length, IsSome, OnOk, List};
+ghost use Rattle.std.specs.Prelude.{◌≡◌, ℕ, ◌<◌, nat_eq, length, All, IsSome, IfNone, IfSome};
+ghost use Rattle.std.specs.Prelude.{IfOk, OnOk, List};
 ghost use Rattle.std.specs.HashMap.{get};
 ghost use Rattle.term_core_spec.specs.Term as tree;
 ghost use Rattle.term_core_spec.specs.Same.{same_variable};
 ghost use Rattle.term_core_spec.specs.Substitution.{State, substituted};
-ghost use Rattle.term_bank.specs.Nodes.{build, tree_at, Extends};
+ghost use Rattle.term_bank.specs.Nodes.{IsNode, build, tree_at, Holds, Extends};
 ghost use Rattle.term_bank.specs.Subterms.{arguments_of};
 ghost use Rattle.term_substitution.specs.States.{state_of, AreBelow, IsAt, IsFound};
+ghost use Rattle.term_substitution.specs.Paths.{left, Descends, IsNew, IsReady};
 ghost use Rattle.term_substitution.specs.Transfers.{atom_of, over, taken_id, AllTaken, AreTaken};
 ghost use Rattle.term_substitution.specs.Transfers.{AreWithin, HasTerms, TakesMore};
 
@@ -102,8 +104,73 @@ fn put_node(
     }
 }
 
-// Takes a term, after its arguments, unless it was taken.
+// The first argument of a node that was not taken.
+fn untaken(done: &Taken, node: TermNode) -> Option<TermId>
+    ensures none { IfNone result (AllTaken (get nat_eq done.now) (arguments_of node)) }
+    ensures new { IfSome result (IsNew (get nat_eq done.now)) }
+    ensures below { (n : ℕ) → IsNode n node → IfSome result (λ id. id < n) }
+{
+    let (ids, count) = arguments(node);
+    for k in 0..count {
+        if !done.contains_key(&ids[k]) {
+            return Some(ids[k]);
+        }
+    }
+    None
+}
+
+// Goes down from a term that was not taken, each time to the first argument that was not, to one
+// whose arguments all were. The terms above it are pushed.
+fn descend(
+    from: &Bank,
+    done: &Taken,
+    path: &mut Vec<TermId>,
+    id: TermId,
+) -> Result<(TermId, TermNode), AllocError>
+    requires id { id < length from.now }
+    requires new { IsNew (get nat_eq done.now) id }
+    requires path { All (λ k. k < length from.now) path.old.items }
+    ensures ready { IfOk result (λ r. IsReady from.now (get nat_eq done.now) r.0 r.1) }
+    ensures path { IfOk result (λ r. Descends (length from.now) id path.old.items r.0
+        path.new.items) }
+{
+    let mut lowest = id;
+    let mut node = from.node(id);
+    'down: while let Some(argument) = untaken(done, node) {
+        path.push(lowest)?;
+        lowest = argument;
+        node = from.node(argument);
+    }
+    Ok((lowest, node))
+}
+
+// Takes a term whose arguments were taken.
+fn take_one(
+    bank: &mut Bank,
+    id: TermId,
+    node: TermNode,
+    state: &HashMap<Variable, TermId>,
+    done: &mut Taken,
+) -> Result<(), AllocError>
+    requires state { AreBelow (length bank.old) (get same_variable state.now) }
+    requires done { AreWithin (length bank.old) (get nat_eq done.old) }
+    requires all { AllTaken (get nat_eq done.old) (arguments_of node) }
+    ensures more { (from : List tree.Term) → Holds from id (build from node)
+        → OnOk result (TakesMore from (get same_variable state.now) bank.old bank.new
+        (get nat_eq done.old) (get nat_eq done.new)) }
+    ensures fewer { (n : ℕ) → id < n → IsNew (get nat_eq done.old) id
+        → OnOk result (left (get nat_eq done.new) n < left (get nat_eq done.old) n) }
+    ensures extends { Extends bank.old bank.new }
+{
+    let index = put_node(bank, node, state, done)?;
+    done.insert(id, index)?;
+    Ok(())
+}
+
+// Takes a term, after its arguments, unless it was taken. `path` has terms whose arguments are
+// being taken, so that a term may be as deep as memory allows.
 fn take_term(
+    alloc: Global,
     bank: &mut Bank,
     from: &Bank,
     id: TermId,
@@ -118,16 +185,14 @@ fn take_term(
     ensures there { OnOk result (IsSome (get nat_eq done.new id)) }
     ensures extends { Extends bank.old bank.new }
 {
-    if done.contains_key(&id) {
-        return Ok(());
+    let mut path = Vec::new(alloc);
+    'terms: while !done.contains_key(&id) {
+        let next = path.pop().unwrap_or(id);
+        if !done.contains_key(&next) {
+            let (lowest, node) = descend(from, done, &mut path, next)?;
+            take_one(bank, lowest, node, state, done)?;
+        }
     }
-    let node = from.node(id);
-    let (ids, count) = arguments(node);
-    for k in 0..count {
-        take_term(bank, from, ids[k], state, done)?;
-    }
-    let index = put_node(bank, node, state, done)?;
-    done.insert(id, index)?;
     Ok(())
 }
 
@@ -136,6 +201,7 @@ fn take_term(
 /// this state, and gets each subterm that is new, so the work is linear in these. Out of memory,
 /// the bank may have some more terms, and the table is of no use.
 pub fn transfer(
+    alloc: Global,
     bank: &mut Bank,
     from: &Bank,
     id: TermId,
@@ -153,7 +219,7 @@ pub fn transfer(
         (get nat_eq done.old) (get nat_eq done.new)) }
     ensures extends { Extends bank.old bank.new }
 {
-    take_term(bank, from, id, state, done)?;
+    take_term(alloc, bank, from, id, state, done)?;
     Ok(index_of(done, id))
 }
 
@@ -173,5 +239,5 @@ pub fn transfer_one(
     ensures extends { Extends bank.old bank.new }
 {
     let mut done = HashMap::new(alloc);
-    transfer(bank, from, id, state, &mut done)
+    transfer(alloc, bank, from, id, state, &mut done)
 }

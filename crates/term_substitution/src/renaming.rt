@@ -50,7 +50,8 @@ fn two(
 /// A copy of the term in which each variable of the families `own` belongs to `instance`; every
 /// other variable stays. Where a call is inlined, `own` lists the families of the function's own
 /// variables (parameters, locals, values at entry), and leaves out those that caller and callee
-/// share (registers, memories).
+/// share (registers, memories). It calls itself once a level of the term: terms of certificates
+/// nest at most `NESTING_LIMIT` levels deep (`tv_limits`).
 #[tactic(auto, unfolding(term_core_spec::specs::Substitution::renamed))]
 pub fn rename(
     alloc: Global,

@@ -25,7 +25,8 @@ pub(crate) fn put_atom<L: Lookup>(
 ) -> Result<TermId, AllocError>
     requires state { AreBelow size (L.terms state.now) }
     requires size { size ≤ length bank.old }
-    ensures tree { (base : List tree.Term) → Extends base bank.old → IsStateOf base (L.terms state.now)
+    ensures tree { (base : List tree.Term) → Extends base bank.old
+        → IsStateOf base (L.terms state.now)
         → IsAt bank.new result (substituted_atom (state_of base (L.terms state.now)) atom) }
     ensures within { IsFound bank.new result }
     ensures extends { Extends bank.old bank.new }
@@ -175,7 +176,9 @@ fn over_eight(
     bank.add(TermNode::Octonary(a, b, c, d, e, f, g, h))
 }
 
-// The index of a tree with the terms of the state in place of its variables.
+// The index of a tree with the terms of the state in place of its variables. It calls itself once a
+// level of the tree: trees come from certificates, whose terms nest at most `NESTING_LIMIT` levels
+// deep (`tv_limits`), from instructions and from frames, whose terms nest less than 16.
 fn put<L: Lookup>(
     bank: &mut Bank,
     term: &Term,
@@ -184,8 +187,10 @@ fn put<L: Lookup>(
 ) -> Result<TermId, AllocError>
     requires state { AreBelow size (L.terms state.now) }
     requires size { size ≤ length bank.old }
-    ensures tree { (base : List tree.Term) → Extends base bank.old → IsStateOf base (L.terms state.now)
-        → IsAt bank.new result (substituted (state_of base (L.terms state.now)) (term_of term.now)) }
+    ensures tree { (base : List tree.Term) → Extends base bank.old
+        → IsStateOf base (L.terms state.now)
+        → IsAt bank.new result
+        (substituted (state_of base (L.terms state.now)) (term_of term.now)) }
     ensures within { IsFound bank.new result }
     ensures extends { Extends bank.old bank.new }
     ensures longer { length bank.old ≤ length bank.new }
