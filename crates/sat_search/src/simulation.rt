@@ -1,3 +1,5 @@
+ghost use Rattle.std.specs.Prelude.{◌<◌};
+
 use crate::choice::value;
 use crate::search::Search;
 use crate::signatures::{Candidate, Signatures};
@@ -5,6 +7,7 @@ use attempt::attempt;
 use cnf_core::{Cnf, Literal};
 use sat_search_state::Trail;
 use std::alloc::{AllocError, Global};
+use std::mem;
 
 /// In how many words of patterns the variables get values; a word has 64 patterns.
 const WORDS: usize = 8;
@@ -49,17 +52,55 @@ fn last_variable(clause: &[Literal]) -> usize {
     last
 }
 
-/// By variable: the indices of the clauses in which it is the last one.
-fn definitions(alloc: Global, cnf: &Cnf) -> Result<Vec<Vec<usize>>, AllocError> {
-    let mut found = Vec::new(alloc);
-    for _variable in 0..=cnf.variables() {
-        attempt!(found.push(Vec::new(alloc)), AllocError);
+/// The clauses in which each variable is the last one, as lists linked backwards, in four bytes a
+/// clause, since there may be millions. Clauses have numbers from 1; 0 ends a list.
+#[derive(Drop)]
+struct Definitions {
+    /// By variable: the last clause.
+    last: Vec<u32>,
+    /// By clause: the one before it, of the same variable.
+    before: Vec<u32>,
+}
+
+impl Definitions {
+    /// The last clause of a variable.
+    fn last(&self, variable: usize) -> u32 {
+        self.last.get(variable).copied().unwrap_or(0)
     }
+
+    /// The clause before one.
+    fn before(&self, number: u32) -> u32
+        ensures { 0 < number → result < number }
+    {
+        let index = number.saturating_sub(1) as usize;
+        self.before
+            .get(index)
+            .copied()
+            .unwrap_or(0)
+            .min(number.saturating_sub(1))
+    }
+
+    /// Adds a clause.
+    fn add(&mut self, variable: usize, number: u32) -> Result<(), AllocError> {
+        let before = match self.last.get_mut(variable) {
+            Some(last) => mem::replace(last, number),
+            None => 0,
+        };
+        attempt!(self.before.push(before), AllocError);
+        Ok(())
+    }
+}
+
+/// The clauses in which each variable is the last one.
+fn find_definitions(alloc: Global, cnf: &Cnf) -> Result<Definitions, AllocError> {
+    let count = cnf.variables().saturating_add(1);
+    let mut found = Definitions {
+        last: attempt!(vec![in alloc; 0; count]),
+        before: Vec::new(alloc),
+    };
     for index in 0..cnf.len() {
-        if let Some(clause) = cnf.clause(index) {
-            if let Some(list) = found.get_mut(last_variable(clause)) {
-                attempt!(list.push(index), AllocError);
-            }
+        if let (Some(clause), Ok(number)) = (cnf.clause(index), u32::try_from(index + 1)) {
+            attempt!(found.add(last_variable(clause), number));
         }
     }
     Ok(found)
@@ -85,12 +126,28 @@ fn add_forced(forced: &mut Forced, clause: &[Literal], variable: usize, signatur
     }
 }
 
+/// The patterns in which its clauses force a variable.
+fn force(cnf: &Cnf, definitions: &Definitions, variable: usize, signatures: &Signatures) -> Forced {
+    let mut forced = Forced {
+        to_true: 0,
+        to_false: 0,
+    };
+    let mut number = definitions.last(variable);
+    'clauses: while number > 0 {
+        if let Some(clause) = cnf.clause(number as usize - 1) {
+            add_forced(&mut forced, clause, variable, signatures);
+        }
+        number = definitions.before(number);
+    }
+    forced
+}
+
 /// The values of a variable in 64 patterns: its value before every decision, if it has one, else
 /// what its clauses force, else pseudo-random bits.
 fn simulated(
     cnf: &Cnf,
     trail: &Trail,
-    clauses: &[usize],
+    definitions: &Definitions,
     variable: usize,
     signatures: &Signatures,
     random: u64,
@@ -102,15 +159,7 @@ fn simulated(
             None => {}
         }
     }
-    let mut forced = Forced {
-        to_true: 0,
-        to_false: 0,
-    };
-    for index in clauses {
-        if let Some(clause) = cnf.clause(*index) {
-            add_forced(&mut forced, clause, variable, signatures);
-        }
-    }
+    let forced = force(cnf, definitions, variable, signatures);
     forced.to_true | random & !forced.to_false
 }
 
@@ -118,14 +167,13 @@ fn simulated(
 fn simulate(
     cnf: &Cnf,
     trail: &Trail,
-    definitions: &[Vec<usize>],
+    definitions: &Definitions,
     signatures: &mut Signatures,
     bits: &mut Bits,
 ) {
-    for variable in 1..definitions.len() {
+    for variable in 1..=cnf.variables() {
         let random = bits.next_word();
-        let clauses = definitions[variable].as_slice();
-        let word = simulated(cnf, trail, clauses, variable, signatures, random);
+        let word = simulated(cnf, trail, definitions, variable, signatures, random);
         signatures.note(variable, word);
     }
 }
@@ -133,17 +181,11 @@ fn simulate(
 /// The variables that have the same values in all patterns, or opposite ones. The search must be
 /// before every decision.
 pub fn candidates(alloc: Global, cnf: &Cnf, search: &Search) -> Result<Vec<Candidate>, AllocError> {
-    let definitions = attempt!(definitions(alloc, cnf));
+    let definitions = attempt!(find_definitions(alloc, cnf));
     let mut signatures = attempt!(Signatures::new(alloc, cnf.variables()));
     let mut bits = Bits::new();
     for _word in 0..WORDS {
-        simulate(
-            cnf,
-            &search.trail,
-            definitions.as_slice(),
-            &mut signatures,
-            &mut bits,
-        );
+        simulate(cnf, &search.trail, &definitions, &mut signatures, &mut bits);
     }
     signatures.candidates(alloc, &search.order)
 }
