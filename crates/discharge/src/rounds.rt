@@ -16,10 +16,6 @@ use term_core::{Assignment, Value};
 /// How many assignments are tried: zeros, and then three times four that begin with other values.
 const ROUNDS: u64 = 13;
 
-/// More terms than these are many: a term is taken to a bank of its own by recursion, which may be
-/// as deep as they are many.
-const MANY: usize = 16_384;
-
 // Whether a term has the value false.
 fn is_false(values: &[Value], id: TermId) -> bool
     requires { id < length values.now }
@@ -81,17 +77,13 @@ fn guess_in(alloc: Global, bank: &Bank, form: TermId) -> Result<Option<Assignmen
     Ok(None)
 }
 
-/// An assignment under which a term is false, if one of those that are tried is. The work is that of
-/// evaluating each of its subterms so often, and it holds a value for each of them; of a bank of
-/// many terms each term is evaluated.
+/// An assignment under which a term is false, if one of those that are tried is. The work is that
+/// of evaluating each of its subterms so often, and it holds a value for each of them.
 pub fn guess(alloc: Global, bank: &Bank, form: TermId) -> Result<Option<Assignment>, AllocError>
     requires { form < length bank.now }
     ensures { IfOk result (λ found. IfSome found (λ assignment.
         value (assignment_of assignment) (tree_at bank.now form) ≡ Truth false)) }
 {
-    if bank.len() > MANY {
-        return guess_in(alloc, bank, form);
-    }
     let mut own = Bank::new(alloc);
     match alone(alloc, bank, form, &mut own) {
         Ok(id) => guess_in(alloc, &own, id),

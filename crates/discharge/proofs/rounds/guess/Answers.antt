@@ -10,5 +10,5 @@ use Rattle.discharge.proofs.rounds.guess.Goals as goal
 
 pub returns-in-Ok : goal.returns-in-Ok
 returns-in-Ok c =
-    subst (λ (t : Term). IfOk c.guess_in-in-Ok.result (λ found. IfSome found (λ (a : Assignment). value (assignment_of a) t ≡ Truth false)))
-    (get_or_from_slice_get c.alone.new.own c.in-Ok.id (tree_at c.args.bank.now c.args.form) _ c.in-Ok.ensures.tree) c.guess_in-in-Ok.ensures
+    subst (λ (t : Term). IfOk c.guess_in.result (λ found. IfSome found (λ (a : Assignment). value (assignment_of a) t ≡ Truth false)))
+    (get_or_from_slice_get c.alone.new.own c.in-Ok.id (tree_at c.args.bank.now c.args.form) _ c.in-Ok.ensures.tree) c.guess_in.ensures
