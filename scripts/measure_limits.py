@@ -6,7 +6,8 @@
 - each nest that is legal, of expressions, types and statements, at the limits of docs/FORMATS.md, and one deeper;
 - 4 MiB of C of each dense kind (those of `measure_types.py` and `measure_syntax.py`), whole and with a fault at the end;
 - 16 MiB of executables, 65,534 segments, functions of many instructions and branches, 4,096 functions;
-- 65,534 runs of fixed bytes, which a store tests, and the certificate of such a proof, or one with the least logs;
+- 65,534 runs of fixed bytes, which a store tests, and the certificate of such a proof, or one with the least logs; 65,500
+  of them, nearly as many as a graph has nodes for, also beside a source that stores something else;
 - certificates: terms and proofs at depth 128 and one deeper, 64 MiB of each kind of line, good and with a fault at the end.
 
 The stack is limited to 8 MiB. Each row is an input: the command, its bytes, the first line of the report and the status,
@@ -34,10 +35,11 @@ from measure_types import TEXTS  # noqa: E402
 MIB = 1 << 20
 C_LIMIT, ELF_LIMIT, CERTIFICATE_LIMIT = 4 * MIB, 16 * MIB, 64 * MIB
 RET, ADD, NOP = 0x00008067, 0x00B50533, 0x00000013
-STORE_WORD = 0x00B52023  # sw a1,0(a0)
+STORE_WORD, STORE_BYTE = 0x00B52023, 0x00B50023  # sw a1,0(a0); sb a1,0(a0)
 EXAMPLE = Path(__file__).resolve().parent.parent / "examples/counter"
 SUM = "unsigned f(unsigned a,unsigned b){return a+b;}"
 WRITE = "void f(unsigned *p,unsigned v){*p=v;}"
+WRITE_BYTE, WRONG_BYTE = (f"void f(unsigned char *p,unsigned char v){{*p={value};}}" for value in ("v", "v+1"))
 FRONT = "tv-cert 1\nfunction f stack 0\n"
 LEAF = "leaf 3\nlog 0\nlog 0\nlog 0\n"
 
@@ -262,6 +264,10 @@ def executables(rows):
         rows.check(f"a store, {count} runs of fixed bytes, least logs", least, elf=store, source=WRITE)
         if "\nleaf" in found:
             rows.check(f"a store, {count} runs of fixed bytes, as found", found, lambda made: made.status == 0, store, WRITE)
+    store = executable([("f", [STORE_BYTE, RET])], runs=65499)
+    prove("a store of a byte, 65500 runs of fixed bytes", store, WRITE_BYTE)
+    prove("a wrong store of a byte, 65500 runs of fixed bytes", store, WRONG_BYTE)
+    rows.check("a store of a byte, 65500 runs of fixed bytes, least logs", FRONT + LEAF + "end\n", elf=store, source=WRITE_BYTE)
     for count in (10, 100, 1000, 10000, 21000):
         prove(f"a function of {count} branches in a row", executable([("f", branches(count))]))
     for count in (512, 1024, 2048, 4096):
