@@ -28,7 +28,8 @@ fn two(
 }
 
 /// The tree of a term, in memory of its own. It is as large as its text: a subterm is there as
-/// often as it occurs. The depth of the recursion is that of the term.
+/// often as it occurs. It calls itself once a level: a test is a line of a certificate, which nests
+/// at most `NESTING_LIMIT` levels deep (`tv_limits`).
 pub fn tree(alloc: Global, bank: &Bank, id: TermId) -> Result<Box<Term>, AllocError>
     requires { id < length bank.now }
     ensures { IfOk result (λ t. term_of t.value ≡ tree_at bank.now id) }

@@ -28,7 +28,10 @@ fn add_leaf(variables: &mut IndexSet<Variable>, node: TermNode) -> Result<(), Al
     Ok(())
 }
 
-/// Adds the variables of a term, from left to right, unless it was seen.
+/// Adds the variables of a term, from left to right, unless it was seen. It calls itself once a
+/// level: a term of a graph is that of one instruction, or of one C expression, whose operators are
+/// at most `OPERATOR_LIMIT` (`tv_limits`), each of a few levels; the tests of runs of fixed bytes
+/// are joined by halves, 16 levels deep.
 fn add_term(
     variables: &mut IndexSet<Variable>,
     seen: &mut IndexSet<TermId>,

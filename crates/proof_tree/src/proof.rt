@@ -66,7 +66,8 @@ pub enum Proof {
     Wait(Box<Points>),
 }
 
-/// Whether a term nests at most so deep: it has at most so many operators on a path.
+/// Whether a term nests at most so deep: it has at most so many operators on a path. It calls
+/// itself at most `room` levels deep.
 #[tactic(auto, unfolding(proof_tree_spec::specs::Proofs::term_nesting))]
 pub fn term_nests_within(term: &Term, room: usize) -> bool
     ensures { IsTrue result ↔ (spec.term_nesting (term_of term.now) ≤ room) }
@@ -102,7 +103,7 @@ pub fn term_nests_within(term: &Term, room: usize) -> bool
 }
 
 /// Whether a proof nests at most so deep: it has at most so many nodes on a path, its last node
-/// among them.
+/// among them. It calls itself at most `room` levels deep.
 #[tactic(auto, unfolding(proof_tree_spec::specs::Proofs::nesting))]
 pub fn nests_within(proof: &Proof, room: usize) -> bool
     ensures { IsTrue result ↔ (spec.nesting (proof_of proof.now) ≤ room) }

@@ -1,6 +1,7 @@
 //! Which terms may be lines of a proof.
 
-ghost use Rattle.std.specs.Prelude.{◌≡◌, ◌⊎◌, ◌+◌, ◌<◌, ◌≤◌, ◌↔◌, Any, IsTrue, Some, map, slice_get};
+ghost use Rattle.std.specs.Prelude.{◌≡◌, ◌⊎◌, ◌+◌, ◌<◌, ◌≤◌, ◌↔◌, Any, IsTrue, Some, map};
+ghost use Rattle.std.specs.Prelude.{slice_get};
 ghost use Rattle.term_core_spec.specs.Term.{Occurs, OccursInAtom};
 ghost use Rattle.term_core.specs.Trees.{term_of};
 ghost use Rattle.proof_tree_spec.specs.Scope as spec;
@@ -39,7 +40,8 @@ pub fn is_line(setting: &Setting, path: &[u32], term: &Term) -> bool
     sort(term) == Some(Sort::Truth) && sees_all(setting, path, term)
 }
 
-/// Whether each variable of a term is in scope.
+/// Whether each variable of a term is in scope. It calls itself once a level: terms of proofs nest
+/// at most `NESTING_LIMIT` levels deep (`tv_limits`).
 #[tactic(auto, unfolding(term_core_spec::specs::Term::Occurs))]
 fn sees_all(setting: &Setting, path: &[u32], term: &Term) -> bool
     ensures { IsTrue result ↔ ((v : Variable) → Occurs v (term_of term.now)
@@ -114,7 +116,8 @@ fn is_entry(argument_words: usize, v: Variable) -> bool
 
 /// Whether a variable is a parameter.
 fn is_parameter(parameters: &[Sort], v: Variable) -> bool
-    ensures { IsTrue result ↔ ((v.instance ≡ 0) × (slice_get parameters.now v.index ≡ Some v.sort)) }
+    ensures { IsTrue result ↔ ((v.instance ≡ 0)
+        × (slice_get parameters.now v.index ≡ Some v.sort)) }
 {
     v.instance == 0 && v.index < parameters.len() && parameters[v.index] == v.sort
 }

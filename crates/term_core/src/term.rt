@@ -20,7 +20,9 @@ use term_core_spec::{
     Atom, BinaryOperator, QuaternaryOperator, Sort, TernaryOperator, UnaryOperator, Width,
 };
 
-/// A term: an operator and its arguments.
+/// A term: an operator and its arguments. What goes over one, and what lets go of it, calls itself
+/// once a level: terms of certificates nest at most `NESTING_LIMIT` levels deep (`tv_limits`),
+/// those of instructions and of frames less than 16. Terms of any depth are in banks (`term_bank`).
 #[derive(Drop)]
 pub enum Term {
     /// a term without arguments
