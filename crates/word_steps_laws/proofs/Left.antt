@@ -24,7 +24,7 @@ use Rattle.word_steps_laws.proofs.Lines.{lines_hold}
 
 -- ---- conjunctions
 
-abbrev AreBools : List Term → Type 0
+abbrev pub AreBools : List Term → Type 0
 AreBools ts = AllByRecursion (λ t. sort_of t ≡ Some sort.Truth) ts
 
 abbrev AreTrue : Assignment → List Term → Type 0
@@ -55,7 +55,7 @@ module _ (runs : List Run) (small : AreBytes runs) where
   unfolding sort_of sort_of_unary
   not_sort ts h = rw (conjunction_sort ts h) refl
 
-  not_all_sort : (ts : List Term) → AreBools ts → sort_of (not_all runs ts) ≡ Some sort.Truth
+  pub not_all_sort : (ts : List Term) → AreBools ts → sort_of (not_all runs ts) ≡ Some sort.Truth
   not_all_sort ts h = (keeps_normal runs small (not_term (conjunction ts)) sort.Truth (not_sort ts h)).sorted
 
   -- where all are true, the goal that they are not is false
@@ -66,7 +66,7 @@ module _ (runs : List Run) (small : AreBytes runs) where
       (keeps_normal runs small (not_term (conjunction ts)) sort.Truth (not_sort ts h)).value_is assignment assigns fixed
       ∙ rw (conjunction_true assignment ts are) refl
 
-  all_append : (P : Term → Type 0) (xs ys : List Term) → AllByRecursion P xs → AllByRecursion P ys → AllByRecursion P (xs ++ ys)
+  pub all_append : (P : Term → Type 0) (xs ys : List Term) → AllByRecursion P xs → AllByRecursion P ys → AllByRecursion P (xs ++ ys)
   all_append P [] ys h g = g
   all_append P (x ∷ xs) ys h g = (h.0, all_append P xs ys h.1 g)
 
@@ -75,7 +75,7 @@ module _ (runs : List Run) (small : AreBytes runs) where
     false_true b e d = let one : Truth true ≡ Truth false = sym e ∙ d in cc
 
     -- a goal of the kept facts and some terms that hold is false where the goal is
-    kept_false : (s : State) → Holds runs goal s → (kept : List Reading) → are_facts s.facts kept ≡ true → (more : List Term) → AreBools more
+    pub kept_false : (s : State) → Holds runs goal s → (kept : List Reading) → are_facts s.facts kept ≡ true → (more : List Term) → AreBools more
         → (assignment : Assignment) → Refutes runs goal assignment → AreTrue assignment more → value assignment (kept_goal runs s kept more) ≡ Truth false
     kept_false s h kept named more sorts assignment refutes are =
         not_all_false (map (reading runs s.numbers) kept ++ more)

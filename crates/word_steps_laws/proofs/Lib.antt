@@ -23,4 +23,7 @@ pub mod RangesHold
 pub mod ZonesHold
 pub mod Lines
 pub mod Left
+pub mod Obligations
+pub mod Decisions
+pub mod OldVariables
 pub mod Computes

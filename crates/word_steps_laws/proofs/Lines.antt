@@ -151,7 +151,7 @@ module _ (runs : List Run) (small : AreBytes runs) (goal : Term) where
   unfolding renew
   with_fact_named g f s e = is_fact_more g f s.facts e
 
-  argument_holds : (f : Fact) (place : ℕ) (s t : State) → StillHolds f s → with_argument_fact runs f place s ≡ Some t → StillHolds f t
+  pub argument_holds : (f : Fact) (place : ℕ) (s t : State) → StillHolds f s → with_argument_fact runs f place s ≡ Some t → StillHolds f t
   argument_holds f place s t h e = on_place (operand_at place (operation_at s.numbers f.number)) refl e
     where
       on_fact : (x : ℕ) → operand_at place (operation_at s.numbers f.number) ≡ Some x → (o : Option Fact) → argument_fact runs s.numbers f place x ≡ o
@@ -180,7 +180,7 @@ module _ (runs : List Run) (small : AreBytes runs) (goal : Term) where
       on_place None at e = absurd (cc)
       on_place (Some x) at e = on_fact x at (argument_fact runs s.numbers f place x) refl e
 
-  places_hold : (f : Fact) (count : ℕ) (s t : State) → StillHolds f s → with_places runs f count s ≡ Some t → StillHolds f t
+  pub places_hold : (f : Fact) (count : ℕ) (s t : State) → StillHolds f s → with_places runs f count s ≡ Some t → StillHolds f t
   unfolding with_places
   places_hold f zero s t h e = absurd (cc)
   places_hold f (suc i) s t h e = by (with_places runs f i s) refl e (places_hold f i s)
@@ -289,7 +289,7 @@ module _ (runs : List Run) (small : AreBytes runs) (goal : Term) where
 
   -- ---- lines
 
-  swept_holds : (count : ℕ) (s : State) → Holds runs goal s → Holds runs goal (record s { sweeps = count })
+  pub swept_holds : (count : ℕ) (s : State) → Holds runs goal s → Holds runs goal (record s { sweeps = count })
   swept_holds count s h = record {
     state = record { fit = h.state.fit; true_or_false = h.state.true_or_false; alike = h.state.alike };
     agrees = λ assignment refutes.

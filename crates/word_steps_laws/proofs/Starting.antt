@@ -68,10 +68,10 @@ module _ (runs : List Run) (goal : Term) (goal_sort : sort_of goal ≡ Some sort
       )
 
   -- a number is that of a subterm, or missing
-  either : (k : ℕ) → (number_at numbers k ≡ missing) ⊎ ((u : Term) × IsIn u ts × (number_at numbers k ≡ number_of_subterm ts u))
+  pub start_number : (k : ℕ) → (number_at numbers k ≡ missing) ⊎ ((u : Term) × IsIn u ts × (number_at numbers k ≡ number_of_subterm ts u))
   unfolding number_at
-  either zero = inl refl
-  either (suc i) = listed (number_of_subterm ts) ts i
+  start_number zero = inl refl
+  start_number (suc i) = listed (number_of_subterm ts) ts i
 
   goal_in : IsIn goal ts
   goal_in = there goal []
@@ -81,7 +81,7 @@ module _ (runs : List Run) (goal : Term) (goal_sort : sort_of goal ≡ Some sort
 
   makes : (k : ℕ) → term_at numbers k ≡ term_over numbers (operation_at numbers k)
   unfolding made at_places
-  makes k = by (either k)
+  makes k = by (start_number k)
     where
       by : (number_at numbers k ≡ missing) ⊎ ((u : Term) × IsIn u ts × (number_at numbers k ≡ number_of_subterm ts u))
           → term_at numbers k ≡ term_over numbers (operation_at numbers k)
@@ -93,7 +93,7 @@ module _ (runs : List Run) (goal : Term) (goal_sort : sort_of goal ≡ Some sort
 
   within : (k i x : ℕ) → operand_at i (operation_at numbers k) ≡ Some x → is_number numbers x ≡ true
   unfolding operands
-  within k i x at = by (either k)
+  within k i x at = by (start_number k)
     where
       none : (j : ℕ) → operand_at j (missing.operation) ≡ Some x → ⊥
       none zero e = cc
@@ -107,7 +107,7 @@ module _ (runs : List Run) (goal : Term) (goal_sort : sort_of goal ≡ Some sort
 
   sorted : (k : ℕ) → IsSorted numbers k
   unfolding sort_of sort_of_atom
-  sorted k = by (either k)
+  sorted k = by (start_number k)
     where
       by : (number_at numbers k ≡ missing) ⊎ ((u : Term) × IsIn u ts × (number_at numbers k ≡ number_of_subterm ts u)) → IsSorted numbers k
       by (inl e) = record {
@@ -124,7 +124,7 @@ module _ (runs : List Run) (goal : Term) (goal_sort : sort_of goal ≡ Some sort
           }
 
   nows : (assignment : Assignment) (k : ℕ) → value assignment (now_at numbers k) ≡ value assignment (term_at numbers k)
-  nows assignment k = by (either k)
+  nows assignment k = by (start_number k)
     where
       by : (number_at numbers k ≡ missing) ⊎ ((u : Term) × IsIn u ts × (number_at numbers k ≡ number_of_subterm ts u))
           → value assignment (now_at numbers k) ≡ value assignment (term_at numbers k)

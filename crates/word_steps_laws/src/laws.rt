@@ -11,6 +11,8 @@ ghost use Rattle.term_core_spec.specs.declared.Atom.{Atom};
 ghost use Rattle.term_core_spec.specs.declared.Sort.TheVariants.{Truth, Word};
 ghost use Rattle.term_core_spec.specs.declared.Width.{Width};
 ghost use Rattle.word_steps_spec.specs.Invariant.{Holds, IsValid};
+ghost use Rattle.word_steps_spec.specs.Invariant.{Refutes, RefutesOne, HasOnlyOf};
+ghost use Rattle.term_norm_spec.specs.Normal.{normal};
 ghost use Rattle.word_steps_spec.specs.Lines.{Line, Block, MergeRule, DecisionRule, applied};
 ghost use Rattle.word_steps_spec.specs.Lines.{goals_after, merges_by, decided_by};
 ghost use Rattle.word_steps_spec.specs.Numbers.{State, start, are_alike};
@@ -35,6 +37,30 @@ pub fn blocks_are_sound()
     ensures { (runs : List Run) → AreBytes runs → (goal : Term) → sort_of goal ≡ Some Truth
         → (block : Block) (goals : List Term) → goals_after runs goal block ≡ Some goals
         → AllByRecursion (IsValid runs) goals → IsValid runs goal }
+{}
+
+/// What is left after a block are truth values, in normal form.
+pub fn goals_left_are_normal()
+    ensures sorts { (runs : List Run) → AreBytes runs → (goal : Term) → sort_of goal ≡ Some Truth
+        → (block : Block) (goals : List Term) → goals_after runs goal block ≡ Some goals
+        → AllByRecursion (λ t. sort_of t ≡ Some Truth) goals }
+    ensures normal { (runs : List Run) → AreBytes runs → (goal : Term) → sort_of goal ≡ Some Truth
+        → (block : Block) (goals : List Term) → goals_after runs goal block ≡ Some goals
+        → AllByRecursion (λ t. normal runs t ≡ t) goals }
+{}
+
+/// It has no variable but those of the goal.
+pub fn goals_left_have_no_new_variable()
+    ensures { (runs : List Run) → AreBytes runs → (goal : Term) → sort_of goal ≡ Some Truth
+        → (block : Block) (goals : List Term) → goals_after runs goal block ≡ Some goals
+        → AllByRecursion (HasOnlyOf goal) goals }
+{}
+
+/// An assignment that makes the goal false makes one of those false that are left.
+pub fn one_left_is_refuted()
+    ensures { (runs : List Run) → AreBytes runs → (goal : Term) → sort_of goal ≡ Some Truth
+        → (block : Block) (goals : List Term) → goals_after runs goal block ≡ Some goals
+        → (a : Assignment) → Refutes runs goal a → RefutesOne runs goals a }
 {}
 
 /// Where the facts that a rule is given are true, what its test accepts has one value.

@@ -1,9 +1,10 @@
 -- What holds of the state of a block, and is kept by every line.
-use Rattle.std.specs.Prelude.{◌≡◌, ℕ, true, false, List, Some}
+use Rattle.std.specs.Prelude.{◌≡◌, ◌⊎◌, ℕ, true, false, List, [], ◌∷◌, Some}
 use Rattle.std.specs.List.{AllByRecursion}
 use Rattle.term_core_spec.specs.declared.Sort.{Sort}
 use Rattle.term_core_spec.specs.declared.Sort.TheVariants as sort
-use Rattle.term_core_spec.specs.Term.{Term}
+use Rattle.term_core_spec.specs.declared.Variable.{Variable}
+use Rattle.term_core_spec.specs.Term.{Term, Occurs}
 use Rattle.term_core_spec.specs.Sort.{sort_of}
 use Rattle.term_core_spec.specs.Value.{Truth, Assignment, IsAssignment, value}
 use Rattle.memory_spec.specs.Runs.{Run}
@@ -74,3 +75,12 @@ pub record Holds (runs : List Run) (goal : Term) (s : State) : Type 0 where
 -- a goal is true wherever each memory of the source holds the fixed bytes
 abbrev pub IsValid : List Run → Term → Type 0
 IsValid runs goal = (assignment : Assignment) → IsAssignment assignment → HoldsFixed runs assignment → value assignment goal ≡ Truth true
+
+-- the assignment makes one of the goals false
+unfoldable pub RefutesOne : List Run → List Term → Assignment → Type 0
+RefutesOne runs [] assignment = ⊥
+RefutesOne runs (goal ∷ rest) assignment = Refutes runs goal assignment ⊎ RefutesOne runs rest assignment
+
+-- each variable of t is one of the goal
+abbrev pub HasOnlyOf : Term → Term → Type 0
+HasOnlyOf goal t = (v : Variable) → Occurs v t → Occurs v goal
