@@ -13,6 +13,6 @@ mod FixedBytes
 mod FixedOrder
 mod ExtentSteps
 mod RunsOf
-mod Chained
-mod ChainSteps
 mod SizeSteps
+mod NameSteps
+mod NamedSteps

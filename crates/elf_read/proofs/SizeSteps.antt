@@ -1,5 +1,5 @@
 -- The sizes of functions, collected from the last symbol to the first.
-use Rattle.std.proofs.Common.{◌≡◌, ◌==◌, ◌-◌, ◌<◌, ◌≤◌, ◌∙◌, ◌&&◌, ℕ, suc, Bool, true, false, cond, if◌then◌else◌, max, Option, Some, unwrap_or, List, ◌∷◌, length, get_or, drop, map, ap, sym, refl, arith, eq-eqb, ne_eqb, eqb-true, nat_cmp}
+use Rattle.std.proofs.Common.{◌≡◌, ◌==◌, ◌-◌, ◌<◌, ◌≤◌, ◌∙◌, ◌&&◌, ℕ, suc, Bool, true, false, cond, if◌then◌else◌, max, Option, Some, unwrap_or, List, [], ◌∷◌, length, get_or, drop, map, ap, sym, refl, arith, eq-eqb, ne_eqb, eqb-true, nat_cmp}
 use Rattle.std.specs.Cmp.{ranks}
 use Rattle.std.specs.Ordering.{is_eq, MatchOrdering}
 use Rattle.std.specs.declared.cmp.Ordering.{Ordering}
@@ -8,6 +8,10 @@ use Rattle.std.proofs.Math.Seq.{drop-cons}
 use Rattle.elf_read_spec.specs.Image as spec
 use Rattle.elf_read.specs.declared.parts.Symbol.{Symbol}
 use Rattle.elf_read.specs.Values.{symbol_of}
+
+-- the symbol that is given where none is read
+abbrev pub blank : Symbol
+blank = record { name = record { ref_ptr = (0, 0); now = [] }; value = 0; size = 0; kind = 0 }
 
 -- what the symbols from one place before on say of an entry
 pub size_step : (symbols : List Symbol) (at entry : ℕ) (d : Symbol) → 0 < at → at ≤ length symbols

@@ -11,6 +11,7 @@ mod fields;
 mod fixed;
 mod header;
 mod loaded;
+mod named;
 mod names;
 mod parts;
 mod reader;

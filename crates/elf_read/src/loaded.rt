@@ -8,11 +8,11 @@ ghost use Rattle.std.specs.Option.{option_map};
 ghost use Rattle.elf_read_spec.specs.Image as spec;
 
 use crate::fixed::{byte_at, extent_at, extents, fixed_segments};
-use crate::names::Chains;
+use crate::named::Named;
 use crate::sizes::sizes;
 use crate::{Extent, Segment, Symbol};
 use elf_read_spec::SymbolValues;
-use elf_read_spec::fields::{PF_W, STT_FUNC, STT_OBJECT};
+use elf_read_spec::fields::PF_W;
 use memory_spec::Run;
 use std::alloc::{AllocError, Global};
 use std::collections::BTreeMap;
@@ -28,8 +28,8 @@ pub struct Image<'a> {
     fixed: Vec<Segment<'a>>,
     // The addresses of the runs of fixed bytes.
     extents: Vec<Extent>,
-    // The symbols by their names.
-    chains: Chains,
+    // The values of the symbols, by their names.
+    named: Named<'a>,
     // The size of each function, by its entry.
     sizes: BTreeMap<u32, u32>,
     global_pointer: Option<u32>,
@@ -50,17 +50,21 @@ impl<'a> Model for Image<'a> {
 impl<'a> Image<'a> {
     ghost use Rattle.elf_read.specs.Values.{segment_of, symbol_of, IsExtentAt};
     ghost use Rattle.elf_read.specs.Separate.{AreSeparate};
+    ghost use Rattle.elf_read.specs.Firsts.{ArePlaced};
     ghost use Rattle.elf_read_spec.specs.Runs.{AreRuns, bytes_from};
     ghost use Rattle.memory_spec.specs.Runs.{AreBytes};
     ghost use Rattle.memory_spec.specs.Viewed.{runs_of};
 
-    /// The image of some segments and symbols.
+    /// The image of some segments and symbols, whose names begin at these offsets of one string
+    /// table.
     pub(crate) fn new(
         alloc: Global,
         segments: Vec<Segment<'a>>,
         symbols: Vec<Symbol<'a>>,
+        offsets: &[u32],
     ) -> Result<Image<'a>, AllocError>
-        requires { AreSeparate (map segment_of segments.items) }
+        requires separate { AreSeparate (map segment_of segments.items) }
+        requires placed { ArePlaced symbols.items offsets.now }
         ensures { IfOk result (λ image. image
             ≡ record {
               segments = map segment_of segments.entry.items;
@@ -70,7 +74,7 @@ impl<'a> Image<'a> {
     {
         let fixed = fixed_segments(alloc, segments.as_slice())?;
         let extents = extents(alloc, fixed.as_slice())?;
-        let chains = Chains::new(alloc, symbols.as_slice())?;
+        let named = Named::new(alloc, symbols.as_slice(), offsets)?;
         let sizes = sizes(alloc, symbols.as_slice())?;
         let global_pointer = first_named(symbols.as_slice(), b"__global_pointer$");
         Ok(Image {
@@ -78,7 +82,7 @@ impl<'a> Image<'a> {
             symbols,
             fixed,
             extents,
-            chains,
+            named,
             sizes,
             global_pointer,
         })
@@ -109,14 +113,14 @@ impl<'a> Image<'a> {
     pub fn function(&self, name: &[u8]) -> SymbolValues
         ensures { result ≡ spec.function_named self.now name.now }
     {
-        self.chains.named(self.symbols.as_slice(), STT_FUNC, name)
+        self.named.function(name)
     }
 
     /// The globals of a name: its symbols of type `STT_OBJECT`.
     pub fn object(&self, name: &[u8]) -> SymbolValues
         ensures { result ≡ spec.object_named self.now name.now }
     {
-        self.chains.named(self.symbols.as_slice(), STT_OBJECT, name)
+        self.named.object(name)
     }
 
     /// The value of the first symbol `__global_pointer$`, of any type (RISC-V psABI, global
@@ -177,15 +181,6 @@ impl<'a> Image<'a> {
 
 ghost use Rattle.elf_read.specs.Fixed as fixed;
 ghost use Rattle.elf_read.specs.Values as values;
-
-impl<'a> Symbol<'a> {
-    /// Whether this is a symbol of a type and a name.
-    pub(crate) fn has_name(&self, kind: u8, name: &[u8]) -> bool
-        ensures { result ≡ spec.has_name kind name.now (values.symbol_of self.now) }
-    {
-        self.kind == kind && self.name == name
-    }
-}
 
 impl<'a> Segment<'a> {
     /// It has bytes, and nothing may write them: it is without the flag `PF_W`.

@@ -1,107 +1,136 @@
-//! The symbols of a name, found without looking at all symbols.
+//! The names of symbols: the first symbol of a name stands for all symbols of that name.
+//!
+//! Names are told apart by their lengths first. Many may be ends of one long text; but two of one
+//! length that begin at different offsets share no byte, since each is ended by a 0 byte. And of
+//! each offset one name is looked up. So each byte of the string table is compared only as often as
+//! one look-up compares names.
 
-ghost use Rattle.std.specs.Prelude.{◌≡◌, ◌<◌, true, IfOk, map, filter, length, drop};
-ghost use Rattle.std.specs.Prelude.{slice_index_or};
-ghost use Rattle.elf_read_spec.specs.Image as spec;
-ghost use Rattle.elf_read.specs.declared.parts.Symbol.{Symbol as symbol};
-ghost use Rattle.elf_read.specs.Values.{symbol_of};
-ghost use Rattle.elf_read.specs.Buckets.{AreChained, bucket_of, mixed};
+ghost use Rattle.std.specs.Prelude.{◌≡◌, length, IfOk, Some};
+ghost use Rattle.elf_read.specs.Firsts.{ArePlaced, AreFirsts, AreNamed, IsAdded, index_among};
+ghost use Rattle.elf_read.specs.Firsts.{index_of as place_of, with_first as values_with};
 
 use crate::Symbol;
 use elf_read_spec::SymbolValues;
 use std::alloc::{AllocError, Global};
+use std::collections::BTreeMap;
 
-/// The symbols in chains, one for each bucket of names: the index of the first symbol of each
-/// bucket, and after each symbol the index of the next one of its bucket; after the last one
-/// the number of symbols.
-#[derive(Debug, Drop)]
-pub(crate) struct Chains {
-    pub heads: Vec<usize>,
-    pub nexts: Vec<usize>,
+/// The index of the first symbol of each name, by the name's length, then by its bytes.
+pub(crate) type Firsts<'a> = BTreeMap<usize, BTreeMap<&'a [u8], usize>>;
+
+/// The names of some symbols.
+#[derive(Drop)]
+pub(crate) struct Names<'a> {
+    pub firsts: Firsts<'a>,
+    /// For each symbol the index of the first symbol of its name.
+    pub numbers: Vec<usize>,
 }
 
-/// A number made of some bytes, given one before them.
-fn mix(start: usize, bytes: &[u8]) -> usize
-    requires { start < 1000003 }
-    ensures mixed { result ≡ mixed start bytes.now }
-    ensures small { result < 1000003 }
-{
-    let mut mixed = start;
-    for byte in bytes {
-        mixed = (mixed * 257 + *byte as usize) % 1000003;
-    }
-    mixed
-}
-
-/// The bucket of a name, of so many.
-#[tactic(auto, unfolding(crate::specs::Buckets::bucket_of))]
-fn bucket(name: &[u8], count: usize) -> usize
-    requires { 0 < count }
-    ensures bucket { result ≡ bucket_of name.now count }
-    ensures inside { result < count }
-{
-    let first = mix(name.len() % 1000003, &name[..name.len().min(8)]);
-    mix(first, &name[name.len().saturating_sub(8)..]) % count
-}
-
-impl Chains {
-    /// The chains of some symbols.
-    pub(crate) fn new(alloc: Global, symbols: &[Symbol]) -> Result<Chains, AllocError>
-        ensures { IfOk result (λ chains. AreChained symbols.now chains.heads.items
-            chains.nexts.items) }
+impl<'a> Names<'a> {
+    /// The names of some symbols, of which each begins at an offset of one string table.
+    pub(crate) fn new(
+        alloc: Global,
+        symbols: &[Symbol<'a>],
+        offsets: &[u32],
+    ) -> Result<Names<'a>, AllocError>
+        requires { ArePlaced symbols.now offsets.now }
+        ensures firsts { IfOk result (λ names. AreFirsts names.firsts symbols.now
+            names.numbers.items) }
+        ensures long { IfOk result (λ names. length names.numbers.items ≡ length symbols.now) }
     {
-        let count = symbols.len() + 1;
-        let mut heads = vec![in alloc; symbols.len(); count]?;
-        let mut nexts = vec![in alloc; symbols.len(); symbols.len()]?;
+        let mut firsts = BTreeMap::new(alloc);
+        let mut seen = BTreeMap::new(alloc);
+        let mut numbers = Vec::new(alloc);
+        for i in 0..symbols.len() {
+            let number = match seen.get(&offsets[i]).copied() {
+                Some(earlier) => numbers[earlier],
+                None => {
+                    seen.insert(offsets[i], i)?;
+                    add_name(alloc, &mut firsts, symbols[i].name, i)?
+                }
+            };
+            numbers.push(number)?;
+        }
+        Ok(Names { firsts, numbers })
+    }
+
+    /// The values of the symbols of a type, at the index of the first symbol of their name; from
+    /// the last symbol to the first.
+    pub(crate) fn values(
+        &self,
+        alloc: Global,
+        symbols: &[Symbol],
+        kind: u8,
+    ) -> Result<Vec<SymbolValues>, AllocError>
+        requires firsts { AreFirsts self.now.firsts symbols.now self.now.numbers.items }
+        requires long { length self.now.numbers.items ≡ length symbols.now }
+        ensures { IfOk result (λ values. AreNamed self.now.firsts symbols.now kind
+            values.items 0) }
+    {
+        let mut values = vec![in alloc; SymbolValues::Absent; symbols.len()]?;
         let mut at = symbols.len();
         while at > 0 {
             at -= 1;
-            let place = bucket(symbols[at].name, count);
-            nexts[at] = heads[place];
-            heads[place] = at;
-        }
-        Ok(Chains { heads, nexts })
-    }
-
-    /// The symbols of a type and a name, by their values.
-    pub(crate) fn named(&self, symbols: &[Symbol], kind: u8, name: &[u8]) -> SymbolValues
-        requires { AreChained symbols.now self.now.heads.items self.now.nexts.items }
-        ensures { result ≡ spec.named_of
-            (map (λ s. s.value) (filter (spec.has_name kind name.now)
-            (map symbol_of symbols.now))) }
-    {
-        let heads = self.heads.as_slice();
-        let nexts = self.nexts.as_slice();
-        let mut at = heads[bucket(name, heads.len())];
-        while at < symbols.len() {
-            if symbols[at].has_name(kind, name) {
-                return self.named_from(symbols, kind, name, at);
+            if symbols[at].kind == kind {
+                let number = self.numbers[at];
+                values[number] = with_first(symbols[at].value, values[number]);
             }
-            at = nexts[at];
         }
-        SymbolValues::Absent
+        Ok(values)
     }
+}
 
-    /// The symbols of a type and a name from an index on, by their values; the symbol at that index
-    /// is one.
-    fn named_from(&self, symbols: &[Symbol], kind: u8, name: &[u8], first: usize) -> SymbolValues
-        requires chained { AreChained symbols.now self.now.heads.items self.now.nexts.items }
-        requires inside { first < length symbols.now }
-        requires named { (d : symbol) → spec.has_name kind name.now
-            (symbol_of (slice_index_or symbols.now first d)) ≡ true }
-        ensures { result ≡ spec.named_of
-            (map (λ s. s.value) (filter (spec.has_name kind name.now)
-            (map symbol_of (drop first symbols.now)))) }
-    {
-        let value = symbols[first].value;
-        let nexts = self.nexts.as_slice();
-        let mut at = nexts[first];
-        while at < symbols.len() {
-            if symbols[at].has_name(kind, name) && symbols[at].value != value {
-                return SymbolValues::Two(value, symbols[at].value);
-            }
-            at = nexts[at];
-        }
-        SymbolValues::One(value)
+/// Adds a name with the index of a symbol, unless it is there; its index.
+fn add_name<'a>(
+    alloc: Global,
+    firsts: &mut Firsts<'a>,
+    name: &'a [u8],
+    i: usize,
+) -> Result<usize, AllocError>
+    ensures { IfOk result (λ first. IsAdded (place_of firsts.old) (place_of firsts.new)
+        name.now i first) }
+{
+    if let Some(names) = firsts.get_mut(&name.len()) {
+        return add_among(names, name, i);
+    }
+    let mut names = BTreeMap::new(alloc);
+    names.insert(name, i)?;
+    firsts.insert(name.len(), names)?;
+    Ok(i)
+}
+
+/// Adds a name to those of its length.
+fn add_among<'a>(
+    names: &mut BTreeMap<&'a [u8], usize>,
+    name: &'a [u8],
+    i: usize,
+) -> Result<usize, AllocError>
+    ensures { IfOk result (λ first. IsAdded (index_among (Some names.old))
+        (index_among (Some names.new)) name.now i first) }
+{
+    if let Some(first) = names.get(name).copied() {
+        return Ok(first);
+    }
+    names.insert(name, i)?;
+    Ok(i)
+}
+
+/// The index of the first symbol of a name.
+pub(crate) fn index_of(firsts: &Firsts, name: &[u8]) -> Option<usize>
+    ensures { result ≡ place_of firsts.now name.now }
+{
+    let names = firsts.get(&name.len())?;
+    names.get(name).copied()
+}
+
+/// The values of the symbols of a name, given the first symbol's and those of all others.
+fn with_first(value: u32, later: SymbolValues) -> SymbolValues
+    ensures { result ≡ values_with value later }
+{
+    match later {
+        SymbolValues::Absent => SymbolValues::One(value),
+        SymbolValues::One(other) if other == value => SymbolValues::One(value),
+        SymbolValues::One(other) => SymbolValues::Two(value, other),
+        SymbolValues::Two(first, other) if first == value => SymbolValues::Two(value, other),
+        SymbolValues::Two(first, _) => SymbolValues::Two(value, first),
     }
 }

@@ -12,7 +12,9 @@ use crate::Image;
 use crate::header::check_header;
 use crate::segments::{loads, overlap_fault, range_fault, segments};
 use crate::strings::Strings;
-use crate::symbols::{defined_symbols, has_strings, is_table, name_fault, strings, symbol_table};
+use crate::symbols::{
+    defined_symbols, has_strings, is_table, name_fault, name_offsets, strings, symbol_table,
+};
 use elf_read_spec::ElfKind;
 use elf_read_spec::fields::{E_SHNUM, E_SHOFF, EHDR_SIZE, PHDR_SIZE, SHDR_SIZE};
 use std::alloc::{AllocError, Global};
@@ -68,7 +70,8 @@ pub fn read<'a>(alloc: Global, bytes: &'a [u8]) -> Result<Image<'a>, ElfError>
     check_names(bytes, table, &strings)?;
     let segments = segments(alloc, bytes, loads.as_slice())?;
     let symbols = defined_symbols(alloc, bytes, table, &strings)?;
-    Ok(Image::new(alloc, segments, symbols)?)
+    let offsets = name_offsets(alloc, bytes, table)?;
+    Ok(Image::new(alloc, segments, symbols, offsets.as_slice())?)
 }
 
 /// Refuses a file for the first fault of its segments.

@@ -4,7 +4,7 @@ ghost use Rattle.std.specs.Prelude.{◌≡◌, ◌==◌, ◌+◌, ◌*◌, ◌�
 ghost use Rattle.std.specs.Prelude.{Some, All, IfOk, IfSome, IsTrue, MatchOption};
 ghost use Rattle.elf_read_spec.specs.File as spec;
 ghost use Rattle.elf_read.specs.Values.{symbol_of};
-ghost use Rattle.elf_read.specs.Names.{IsFirstUnended};
+ghost use Rattle.elf_read.specs.Names.{IsFirstUnended, names_of};
 
 use crate::Symbol;
 use crate::fields::{u16_at, u32_at};
@@ -145,4 +145,27 @@ fn symbol_at<'a>(bytes: &[u8], table: usize, at: usize, strings: &Strings<'a>) -
         size: u32_at(bytes, at + ST_SIZE),
         kind: bytes[at + ST_INFO] % 16,
     }
+}
+
+/// The offsets in the string table of the names of the defined symbols of a symbol table, in order.
+pub(crate) fn name_offsets(
+    alloc: Global,
+    bytes: &[u8],
+    table: usize,
+) -> Result<Vec<u32>, AllocError>
+    requires table { table + SHDR_SIZE ≤ length bytes.now }
+    requires is_table { spec.IsTable bytes.now table }
+    ensures { IfOk result (λ offsets. map (spec.name_in (spec.strings_of bytes.now table))
+        offsets.items ≡ names_of bytes.now table) }
+{
+    let start = u32_at(bytes, table + SH_OFFSET) as usize;
+    let count = u32_at(bytes, table + SH_SIZE) as usize / SYM_SIZE;
+    let mut offsets = Vec::new(alloc);
+    for i in 0..count {
+        let at = start + SYM_SIZE * i;
+        if u16_at(bytes, at + ST_SHNDX) != SHN_UNDEF {
+            offsets.push(u32_at(bytes, at))?;
+        }
+    }
+    Ok(offsets)
 }

@@ -1,6 +1,5 @@
 use Rattle.std.proofs.Common.{◌-◌, ◌∙◌, max, unwrap_or, get_or, ap, arith}
-use Rattle.elf_read.proofs.Chained.{blank}
-use Rattle.elf_read.proofs.SizeSteps.{sized}
+use Rattle.elf_read.proofs.SizeSteps.{blank, sized}
 use Rattle.elf_read.proofs.sizes.sizes.Goals as goal
 
 pub loop-at-preserved-in_ok-insert : goal.loop-at-preserved-in_ok-insert

@@ -1,0 +1,8 @@
+use Rattle.std.proofs.Common.{◌∙◌, sym}
+use Rattle.elf_read.proofs.NameSteps.{added}
+use Rattle.elf_read.proofs.names.add_among.Goals as goal
+
+pub returns : goal.returns
+returns c =
+    added _ _ _ _ (sym (c.copied.ensures ∙ c.get.ensures.value) ∙ c.in_default.is)
+    (λ other. c.in_ok-insert.ensures.updates.0 (record { ref_ptr = (0, 0); now = other }))
