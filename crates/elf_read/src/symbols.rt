@@ -162,9 +162,9 @@ pub(crate) fn name_offsets(
     let count = u32_at(bytes, table + SH_SIZE) as usize / SYM_SIZE;
     let mut offsets = Vec::new(alloc);
     for i in 0..count {
-        let at = start + SYM_SIZE * i;
-        if u16_at(bytes, at + ST_SHNDX) != SHN_UNDEF {
-            offsets.push(u32_at(bytes, at))?;
+        let entry = start + SYM_SIZE * i;
+        if u16_at(bytes, entry + ST_SHNDX) != SHN_UNDEF {
+            offsets.push(u32_at(bytes, entry))?;
         }
     }
     Ok(offsets)
