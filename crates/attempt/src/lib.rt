@@ -2,8 +2,9 @@
 #![tactic(auto)]
 
 /// The value of a result. An error ends the function around, whose error it becomes, or the second
-/// argument does: what `?` does, but without a conversion. `?` is two calls more, each with the whole
-/// result as a value; where a function has several of them, the prover takes twice as long over it.
+/// argument does: what `?` does, but without a conversion. `?` is two calls more, each with the
+/// whole result as a value; where a function has several of them, the prover takes twice as long
+/// over it.
 #[macro_export]
 macro_rules! attempt {
     ($result:expr) => {

@@ -125,7 +125,8 @@ pub fn ternary_bits(
     x: &[Literal],
     y: &[Literal],
 ) -> Result<Vec<Literal>, AllocError>
-    ensures { MakesWord result (spec.ternary_bits operator test.now x.now y.now) gates.old gates.new }
+    ensures { MakesWord result (spec.ternary_bits operator test.now x.now y.now) gates.old
+        gates.new }
 {
     match operator {
         TernaryOperator::Choose => gates.choose_bits(alloc, bit_of(test), x, y),

@@ -62,7 +62,8 @@ impl Gates {
         x: &[Literal],
         y: &[Literal],
     ) -> Result<(), AllocError>
-        ensures { MakesClauses result (circuits.division q.now r.now x.now y.now) self.old self.new }
+        ensures { MakesClauses result (circuits.division q.now r.now x.now y.now) self.old
+            self.new }
     {
         let some = self.or_all(y)?;
         let same = self.makes_up(alloc, q, r, x, y)?;

@@ -1,8 +1,8 @@
 //! Circuits for words, as clauses over numbered variables.
 //!
 //! The main type is [`Gates`], which a contract sees as the clauses of the gates so far. Each of
-//! its calls makes exactly the gates that `bit_blast_spec` (`specs/Gates.antt`, `specs/Circuits.antt`)
-//! has for it, numbered on from the last variable (`specs/Built.antt`).
+//! its calls makes exactly the gates that `bit_blast_spec` (`specs/Gates.antt`,
+//! `specs/Circuits.antt`) has for it, numbered on from the last variable (`specs/Built.antt`).
 #![tactic(auto)]
 
 mod bitwise;

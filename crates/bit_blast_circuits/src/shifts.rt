@@ -86,7 +86,8 @@ impl Gates {
         xs: &[Literal],
         counts: &[Literal],
     ) -> Result<Vec<Literal>, AllocError>
-        ensures { MakesWord result (circuits.shift_signed_bits xs.now counts.now) self.old self.new }
+        ensures { MakesWord result (circuits.shift_signed_bits xs.now counts.now) self.old
+            self.new }
     {
         let sign = sign_of(xs);
         let (word, past) = self.shift_stages(alloc, Shift::Down(sign), xs, counts)?;

@@ -1,10 +1,10 @@
-//! Laws of the gates and circuits of `bit_blast_spec`: each function's clause is one law, and its body
-//! is empty.
+//! Laws of the gates and circuits of `bit_blast_spec`: each function's clause is one law, and its
+//! body is empty.
 //!
 //! An assignment satisfies the clauses of gates exactly where each gate's variable has the value
 //! that its arguments give it (`specs/Meaning.antt`). So where it satisfies a circuit's clauses,
-//! the number of its bits is that of the operator (`term_core_spec`), whatever the number of variables
-//! before the circuit.
+//! the number of its bits is that of the operator (`term_core_spec`), whatever the number of
+//! variables before the circuit.
 
 ghost use Rattle.std.specs.Prelude.{◌≡◌, ◌==◌, ◌+◌, ◌*◌, ◌^◌, ◌↔◌, ℕ, true, nat_lt, if◌then◌else◌};
 ghost use Rattle.std.specs.Prelude.{bit_and, bit_or, bit_xor, List, length};

@@ -1,13 +1,13 @@
-//! Laws of goals and of their normal forms (`term_norm_spec`): each function's clause is one law, and
-//! its body is empty.
+//! Laws of goals and of their normal forms (`term_norm_spec`): each function's clause is one law,
+//! and its body is empty.
 //!
 //! Each load in the normal form of a well-sorted term has a variable as its memory: none that is
-//! stored to, laid over or chosen. So the laws of `mem_terms_spec` hold of normal forms, and a model of
-//! the clauses of a normal form is reconstructed as an assignment that makes the normal form false.
-//! The clauses know only those fixed bytes whose addresses were constants; `specs/Held.antt` lays
-//! all of them over the memories of the source. Where each load of a fixed address gives the fixed
-//! byte already, the goal itself is then false; where one doesn't, the goal can be true under each
-//! assignment that holds the fixed bytes.
+//! stored to, laid over or chosen. So the laws of `mem_terms_spec` hold of normal forms, and a
+//! model of the clauses of a normal form is reconstructed as an assignment that makes the normal
+//! form false. The clauses know only those fixed bytes whose addresses were constants;
+//! `specs/Held.antt` lays all of them over the memories of the source. Where each load of a fixed
+//! address gives the fixed byte already, the goal itself is then false; where one doesn't, the goal
+//! can be true under each assignment that holds the fixed bytes.
 
 ghost use Rattle.std.specs.Prelude.{◌≡◌, true, false, List, [], Some};
 ghost use Rattle.clause_check_spec.specs.Clause.{Valuation, satisfies};

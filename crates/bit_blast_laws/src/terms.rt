@@ -1,5 +1,5 @@
-//! Laws of the clauses of a goal (`bit_blast_spec`): each function's clause is one law, and its body is
-//! empty.
+//! Laws of the clauses of a goal (`bit_blast_spec`): each function's clause is one law, and its
+//! body is empty.
 //!
 //! A model whose bits of the goal's variables and loads are those of an assignment
 //! (`specs/Reads.antt`) gives each of its terms the bits of its value (`specs/Shows.antt`), and the

@@ -2,9 +2,9 @@
 //!
 //! [`parse`] has the crate's contract: it gives the tree of a unit exactly where the tokens are
 //! one, and else the fault of the tokens with its kind. Both are defined in `c_parse_spec`, by
-//! the grammar's derivations alone (`specs/Units.antt`, `specs/Faults.antt`). [`definition_in`] gives
-//! where the first struct or enum is defined within an initial value of a global, of which no tree
-//! is kept.
+//! the grammar's derivations alone (`specs/Units.antt`, `specs/Faults.antt`). [`definition_in`]
+//! gives where the first struct or enum is defined within an initial value of a global, of which no
+//! tree is kept.
 #![tactic(auto)]
 
 ghost use Rattle.std.specs.Prelude.{◌≡◌, IfOk, IfErr, Err, drop};

@@ -12,7 +12,8 @@ ghost use Rattle.c_run_laws.specs.Typing.{LocalsHaveTypes, HasBytes, HasAddresse
 
 /// The value of an expression is one of its type, where the locals have values of their types.
 pub fn a_value_has_its_type()
-    ensures { (scope : Scope) (target : Option Scalar) (core : Core) (type : Scalar) (setting : Setting)
+    ensures { (scope : Scope) (target : Option Scalar) (core : Core) (type : Scalar)
+        (setting : Setting)
         (locals : Locals) (memory : Memory) (place : ℕ) (v : ℤ) → HasType scope target core type
         → LocalsHaveTypes scope.locals locals → HasBytes memory → HasAddresses setting
         → value setting locals memory place core ≡ Ok v → IsTrue (is_of type v) }

@@ -1,8 +1,8 @@
-//! What a C function does with a number of turns. A turn is taken before each round of a loop and at
-//! each call, so a run with a number of turns always has an outcome. The run of a call is `c_run` in
-//! `specs/Calls.antt`, over the typed core, by its statements (`specs/Execution.antt`), expressions
-//! (`specs/Evaluation.antt`) and accesses to memory (`specs/Accesses.antt`). [`Guard`] names what a
-//! run may not do. Nothing of it runs.
+//! What a C function does with a number of turns. A turn is taken before each round of a loop and
+//! at each call, so a run with a number of turns always has an outcome. The run of a call is
+//! `c_run` in `specs/Calls.antt`, over the typed core, by its statements (`specs/Execution.antt`),
+//! expressions (`specs/Evaluation.antt`) and accesses to memory (`specs/Accesses.antt`). [`Guard`]
+//! names what a run may not do. Nothing of it runs.
 #![tactic(auto)]
 
 /// What a run may not do, in the order of their numbers. A run that does it breaks this guard, and

@@ -62,7 +62,8 @@ fn meets_zone(size: u32, zone: Zone, address: u64) -> bool
 #[tactic(auto, using(crate::proofs::Steps::some_steps))]
 fn meets_fixed(size: u32, fixed: &[Run], address: u64) -> bool
     requires { address + size ≤ 2 ^ 32 }
-    ensures { result ≡ spec.some_byte (λ a. is_some (fixed_byte (runs_of fixed.now) a)) size address }
+    ensures { result ≡ spec.some_byte (λ a. is_some (fixed_byte (runs_of fixed.now) a)) size
+        address }
 {
     if size == 0 {
         return false;
@@ -198,7 +199,8 @@ pub fn store_object(
     value: i128,
     offset: usize,
 ) -> Result<(), Stop>
-    ensures exact { Gives (λ _. memory.new) result (spec.stored (setting_of setting.now) memory.old of
+    ensures exact { Gives (λ _. memory.new) result
+        (spec.stored (setting_of setting.now) memory.old of
         address value offset) }
     ensures kept { IsKept memory.old memory.new result }
 {

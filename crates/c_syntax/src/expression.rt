@@ -329,7 +329,8 @@ impl<'a> TypeSpecifier<'a> {
 
     /// `struct tag`
     pub fn struct_tag(alloc: Global, tag: Name<'a>) -> Result<Box<TypeSpecifier<'a>>, AllocError>
-        ensures { IfOk result (λ x. type_specifier_of x.value ≡ tree.StructTag (name_of tag.entry)) }
+        ensures { IfOk result (λ x. type_specifier_of x.value
+            ≡ tree.StructTag (name_of tag.entry)) }
     {
         boxed(alloc, TypeSpecifier::StructTag(tag))
     }
@@ -465,7 +466,8 @@ impl<'a> Dimensions<'a> {
         is_open: bool,
         lengths: Vec<Box<Expression<'a>>>,
     ) -> Result<Box<Dimensions<'a>>, AllocError>
-        ensures { IfOk result (λ x. dimensions_of x.value ≡ (is_open, expressions_in lengths.entry)) }
+        ensures { IfOk result (λ x. dimensions_of x.value
+            ≡ (is_open, expressions_in lengths.entry)) }
     {
         boxed(alloc, Dimensions { is_open, lengths })
     }

@@ -116,7 +116,8 @@ impl<'a> Statement<'a> {
         parts: Vec<Part<'a>>,
         offset: usize,
     ) -> Result<Box<Statement<'a>>, AllocError>
-        ensures { IfOk result (λ x. statement_of x.value ≡ tree.Block (parts_in parts.entry) offset) }
+        ensures { IfOk result (λ x. statement_of x.value
+            ≡ tree.Block (parts_in parts.entry) offset) }
     {
         boxed(alloc, Statement::Block(parts, offset))
     }

@@ -1,7 +1,8 @@
 //! Character constants.
 
 ghost use Rattle.std.specs.Prelude.{◌≡◌, ◌≤◌, ◌<◌, length, IfSome};
-ghost use Rattle.c_token_spec.specs.Characters.{escape_of, digits_of, escaped, element_of, character_of};
+ghost use Rattle.c_token_spec.specs.Characters.{escape_of, digits_of, escaped, element_of};
+ghost use Rattle.c_token_spec.specs.Characters.{character_of};
 
 use crate::number::{count_digits, digits_value};
 

@@ -3,7 +3,8 @@
 ghost use Rattle.std.specs.Prelude.{◌≡◌, ◌≤◌, ◌<◌, ◌^◌, length, SomeIff};
 ghost use Rattle.std.specs.List.{prefix_len};
 ghost use Rattle.c_token_spec.specs.Words.{entry_of};
-ghost use Rattle.c_token_spec.specs.Numbers.{goes_on, number_len, is_digit_to, digit_value, digits_value};
+ghost use Rattle.c_token_spec.specs.Numbers.{goes_on, number_len, is_digit_to, digit_value};
+ghost use Rattle.c_token_spec.specs.Numbers.{digits_value};
 ghost use Rattle.c_token_spec.specs.Numbers.{suffixes, type_of, number_to, number_of};
 
 use crate::word::{entry_of, is_word_byte};
@@ -118,7 +119,8 @@ fn digit_value(byte: u8) -> u64
 /// The value of some digits, if it is below 2^64.
 pub fn digits_value(base: u8, digits: &[u8]) -> Option<u64>
     requires { 0 < base }
-    ensures { SomeIff result (digits_value base digits.now < 2 ^ 64) (digits_value base digits.now) }
+    ensures { SomeIff result (digits_value base digits.now < 2 ^ 64)
+        (digits_value base digits.now) }
 {
     let mut value: u64 = 0;
     for digit in digits {

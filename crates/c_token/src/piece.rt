@@ -3,7 +3,8 @@
 ghost use Rattle.std.specs.Prelude.{◌≡◌, ◌≤◌, ◌<◌, ◌+◌, ◌∷◌, length, Some};
 ghost use Rattle.std.specs.List.{prefix_len};
 ghost use Rattle.c_token_spec.specs.Words.{is_word_byte};
-ghost use Rattle.c_token_spec.specs.Lexical.{first_piece, word_piece, number_piece, character_piece};
+ghost use Rattle.c_token_spec.specs.Lexical.{first_piece, word_piece, number_piece};
+ghost use Rattle.c_token_spec.specs.Lexical.{character_piece};
 ghost use Rattle.c_token_spec.specs.Lexical.{comment_piece, mark_piece};
 ghost use Rattle.c_token.specs.Pieces.{piece_of, count_of};
 

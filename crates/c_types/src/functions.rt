@@ -61,7 +61,8 @@ fn signature(
 /// The scalars among types, after those so far.
 #[tactic(auto, using(crate::proofs::Lists::scalar_lists))]
 fn scalars(types: &[CType], found: &mut Vec<Scalar>) -> Result<(), TypeFault>
-    ensures { Gives (λ _. found.new.items) result (Ok (found.old.items ++ rule.scalars_of (map type_of
+    ensures { Gives (λ _. found.new.items) result
+        (Ok (found.old.items ++ rule.scalars_of (map type_of
         types.now))) }
 {
     for of in types {

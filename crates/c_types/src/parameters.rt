@@ -27,7 +27,8 @@ fn declared_parameter<'a>(
     has_body: bool,
     state: &mut State<'a>,
 ) -> Result<CType, TypeFault>
-    ensures { Runs type_of result state.new (rule.declared_parameter (parameter_of given.now) has_body
+    ensures { Runs type_of result state.new
+        (rule.declared_parameter (parameter_of given.now) has_body
         (state_of state.old)) }
 {
     let base = attempt!(specifiers(alloc, &given.specifiers, state));

@@ -102,7 +102,8 @@ fn signature_in(meaning: &Meaning) -> Option<&Signature>
 /// The type of a global, where a name means one.
 fn object_in<'b>(structs: &[Definition<'_>], name: &[u8], meaning: &'b Meaning) -> Option<&'b CType>
     ensures { option_map (λ t. global_of name.now (units.global_size (structs_of
-        structs.now) (type_of t.now))) result ≡ global_at (structs_of structs.now) name.now meaning.now }
+        structs.now) (type_of t.now))) result
+        ≡ global_at (structs_of structs.now) name.now meaning.now }
 {
     match meaning {
         Meaning::Object(of) => Some(of),

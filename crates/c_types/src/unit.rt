@@ -70,7 +70,8 @@ fn globals<'a>(
     is_typedef: bool,
     state: &mut State<'a>,
 ) -> Result<(), TypeFault>
-    ensures { Runs nothing result state.new (rule.globals (map global_of (unboxed list.now)) (type_of
+    ensures { Runs nothing result state.new
+        (rule.globals (map global_of (unboxed list.now)) (type_of
         base.now) is_typedef (state_of state.old)) }
 {
     for item in list {

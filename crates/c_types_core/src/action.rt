@@ -71,7 +71,8 @@ impl<'a> Action<'a> {
         local: usize,
         value: Box<Core<'a>>,
     ) -> Result<Box<Action<'a>>, AllocError>
-        ensures { IfOk result (λ x. action_of x.value ≡ tree.Set local (core_of value.entry.value)) }
+        ensures { IfOk result (λ x. action_of x.value
+            ≡ tree.Set local (core_of value.entry.value)) }
     {
         boxed(alloc, Action::Set(local, value))
     }

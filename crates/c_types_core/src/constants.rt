@@ -79,7 +79,8 @@ fn operated(
 
 /// A comparison of constants.
 fn compared(operator: Comparison, left: Option<i128>, right: Option<i128>) -> Option<i128>
-    ensures { result ≡ tree.with_both left right (λ a b. Some (rule.comparison_value operator a b)) }
+    ensures { result ≡ tree.with_both left right
+        (λ a b. Some (rule.comparison_value operator a b)) }
 {
     match (left, right) {
         (Some(a), Some(b)) => Some(comparison_value(operator, a, b)),

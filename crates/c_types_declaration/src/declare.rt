@@ -228,7 +228,8 @@ fn with_length(old: &CType, of: &CType, length: Option<u64>) -> Result<Option<CT
 /// The type of an object after one more declaration, or none where the types differ.
 #[tactic(auto, using(crate::proofs::Outers::by_outer))]
 fn composite(alloc: Global, old: &CType, of: &CType) -> Result<Option<CType>, TypeFault>
-    ensures { Gives (λ t. option_map type_of t) result (Ok (rule.composite (type_of old.now) (type_of
+    ensures { Gives (λ t. option_map type_of t) result
+        (Ok (rule.composite (type_of old.now) (type_of
         of.now))) }
 {
     match (old.outer(), of.outer()) {

@@ -34,7 +34,8 @@ fn is_large(size: Option<u64>) -> bool
 
 /// The size of the elements of an array, or none.
 fn element_size(structs: &[Definition<'_>], of: &CType) -> Result<Option<u64>, TypeFault>
-    ensures { Gives (λ n. n) result (Ok (capped (specs.element_size (structs_of structs.now) (type_of
+    ensures { Gives (λ n. n) result
+        (Ok (capped (specs.element_size (structs_of structs.now) (type_of
         of.now)))) }
 {
     match attempt!(part_or_memory(of.element())) {

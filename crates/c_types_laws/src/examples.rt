@@ -1,6 +1,7 @@
 //! Examples worked by hand.
 
-ghost use Rattle.std.specs.Prelude.{◌≡◌, ℕ, ℤ, true, List, [], ◌∷◌, Option, Some, None, pos, negsuc};
+ghost use Rattle.std.specs.Prelude.{◌≡◌, ℕ, ℤ, true, List, [], ◌∷◌, Option, Some, None, pos};
+ghost use Rattle.std.specs.Prelude.{negsuc};
 ghost use Rattle.std.specs.Prelude.{Ok};
 ghost use Rattle.c_syntax_spec.specs.declared.IntegerType.TheVariants as integer;
 ghost use Rattle.c_syntax_spec.specs.declared.BinaryOperator.TheVariants as binary;
@@ -9,15 +10,19 @@ ghost use Rattle.c_types_spec.specs.declared.TypeFaultKind.TheVariants as fault;
 ghost use Rattle.c_types_spec.specs.declared.LeftOut.TheVariants as left_out;
 ghost use Rattle.c_types_spec.specs.Types.{CType, Integer, int, unsigned_int};
 ghost use Rattle.c_types_spec.specs.Units.{typed};
-ghost use Rattle.c_types_laws.specs.TypeSamples.{sum_unit, sum_typed, address_unit, fault_of, layout_of};
+ghost use Rattle.c_types_laws.specs.TypeSamples.{sum_unit, sum_typed, address_unit, fault_of};
+ghost use Rattle.c_types_laws.specs.TypeSamples.{layout_of};
 ghost use Rattle.c_types_laws.specs.TypeStatements.{loop_unit, loop_typed, call_unit, call_typed};
 ghost use Rattle.c_types_laws.specs.TypeStatements.{member_unit, member_typed};
 ghost use Rattle.c_types_laws.specs.TypeSamples.{char_int, int_char, array_short_char, nested};
-ghost use Rattle.c_types_laws.specs.TypeSamples.{pointer_char, five, type_of, value_of, two, one, cast};
+ghost use Rattle.c_types_laws.specs.TypeSamples.{pointer_char, five, type_of, value_of, two, one};
+ghost use Rattle.c_types_laws.specs.TypeSamples.{cast};
 ghost use Rattle.c_types_laws.specs.TypeSamples.{int_number, unsigned_number, minus, wide_unit};
 ghost use Rattle.c_types_laws.specs.TypeSamples.{unknown_unit, ended_unit, twice_unit, break_unit};
-ghost use Rattle.c_types_laws.specs.TypeSamples.{value_unit, void_unit, words_unit, fallthrough_unit};
-ghost use Rattle.c_types_laws.specs.TypeSamples.{hidden_unit, array_unit, static_unit, function_unit};
+ghost use Rattle.c_types_laws.specs.TypeSamples.{value_unit, void_unit, words_unit};
+ghost use Rattle.c_types_laws.specs.TypeSamples.{fallthrough_unit};
+ghost use Rattle.c_types_laws.specs.TypeSamples.{hidden_unit, array_unit, static_unit};
+ghost use Rattle.c_types_laws.specs.TypeSamples.{function_unit};
 ghost use Rattle.c_types_laws.specs.TypeSamples.{difference_unit, struct_unit, place_unit};
 
 /// The typed core of `unsigned f(unsigned a,unsigned b){return a+b;}`.

@@ -61,8 +61,8 @@ pub fn names_mean_their_innermost_declaration()
         → in_scope (opened scopes) name ≡ in_scope scopes name }
 {}
 
-/// A block ends with the scopes that it began with, whatever it declared. At the end of a group of a
-/// `switch` the names that it declared are hidden, and all others mean what they meant before it.
+/// A block ends with the scopes that it began with, whatever it declared. At the end of a group of
+/// a `switch` the names that it declared are hidden, and all others mean what they meant before it.
 pub fn names_end_with_their_block()
     ensures ended { (list : Names Meaning) (scopes : Scopes Meaning)
         → closed (all_declared list (opened scopes)) ≡ scopes }

@@ -3,8 +3,8 @@
 //! (`specs/Gives.antt`).
 #![tactic(auto)]
 
-/// What `attempt!` does, but an error lets go of the values that are still owned by calls of `drop`:
-/// else each field and variant of them is let go of in place, at each of these exits again.
+/// What `attempt!` does, but an error lets go of the values that are still owned by calls of
+/// `drop`: else each field and variant of them is let go of in place, at each of these exits again.
 #[macro_export]
 macro_rules! attempt_or_drop {
     ($result:expr; $($owned:expr),+) => {

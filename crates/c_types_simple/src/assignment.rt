@@ -49,7 +49,8 @@ fn stored<'a>(
     core: Box<Core<'a>>,
     offset: usize,
 ) -> Result<Box<Action<'a>>, TypeFault>
-    ensures { Gives action_in result (rule.stored (operand_of x.entry) (core_in core.entry) offset) }
+    ensures { Gives action_in result
+        (rule.stored (operand_of x.entry) (core_in core.entry) offset) }
 {
     let Operand {
         category,
@@ -121,7 +122,8 @@ pub fn assignment<'a>(
 /// The object that is assigned to, as a value.
 #[tactic(auto, unfolding(c_types_operator::specs::Operands::valued_of))]
 fn target<'a>(alloc: Global, of: CType, offset: usize) -> Result<Valued<'a>, TypeFault>
-    ensures { Gives valued_of result (rule.target_value (ctype_of of) (types.scalar_of (ctype_of of))
+    ensures { Gives valued_of result
+        (rule.target_value (ctype_of of) (types.scalar_of (ctype_of of))
         offset) }
 {
     match of.scalar() {
@@ -167,7 +169,8 @@ pub fn compound<'a>(
     offset: usize,
     state: &State<'a>,
 ) -> Result<Box<Action<'a>>, TypeFault>
-    ensures { Runs action_in result state.now (rule.compound operator (operand_of x.entry) (valued_of
+    ensures { Runs action_in result state.now
+        (rule.compound operator (operand_of x.entry) (valued_of
         b.entry) offset (state_of state.now)) }
 {
     if !is_assignable(&x) {

@@ -12,7 +12,8 @@ ghost use Rattle.c_types_operator.specs.Operands.{core_in, operand_of, valued_of
 ghost use Rattle.c_types_expression.specs.Trees.{expressions_in};
 ghost use Rattle.c_types_scope.specs.Meanings.{signature_of};
 ghost use Rattle.c_types_scope.specs.States.{nothing, state_of, Runs};
-ghost use Rattle.c_types_simple.specs.Contexts.{action_in, context_of, cores_in, made_of, seen_local};
+ghost use Rattle.c_types_simple.specs.Contexts.{action_in, context_of, cores_in, made_of};
+ghost use Rattle.c_types_simple.specs.Contexts.{seen_local};
 ghost use Rattle.c_types_core.specs.Actions.{actions_in};
 ghost use Rattle.c_types_simple.specs.Contexts.{values_in};
 ghost use Rattle.c_types_simple.specs.Calls as specs;
@@ -80,7 +81,8 @@ fn pass<'a>(
     cores: &mut Vec<Box<Core<'a>>>,
 ) -> Result<bool, TypeFault>
     ensures { Gives (λ all. if all then Some (cores_in cores.new) else None) result (Ok (after
-        (cores_in cores.old) (rule.passed (map type_of types.now) (values_in values.entry.items)))) }
+        (cores_in cores.old) (rule.passed (map type_of types.now)
+        (values_in values.entry.items)))) }
 {
     let mut place = 0;
     for v in values {
@@ -113,7 +115,8 @@ fn made_by<'a>(
     values: Vec<Valued<'a>>,
     number: usize,
 ) -> Result<Box<Made<'a>>, TypeFault>
-    ensures { Gives (λ m. made_of m.value) result (rule.made_of (signature_of signature.now) (name_of
+    ensures { Gives (λ m. made_of m.value) result
+        (rule.made_of (signature_of signature.now) (name_of
         callee.entry) (values_in values.entry.items) number) }
 {
     let mut arguments = Vec::new(alloc);
@@ -303,7 +306,8 @@ fn through_global<'a>(
     offset: usize,
     state: &mut State<'a>,
 ) -> Result<Box<Action<'a>>, TypeFault>
-    ensures { Runs action_in result state.new (rule.through_local (context_of context.entry) (made_of
+    ensures { Runs action_in result state.new
+        (rule.through_local (context_of context.entry) (made_of
         made.entry.value) (λ v. rule.assignment (operand_of x.entry) v offset) (state_of
         state.old)) }
 {
@@ -320,7 +324,8 @@ pub fn through_return<'a>(
     made: Box<Made<'a>>,
     state: &mut State<'a>,
 ) -> Result<Box<Action<'a>>, TypeFault>
-    ensures { Runs action_in result state.new (rule.through_local (context_of context.entry) (made_of
+    ensures { Runs action_in result state.new
+        (rule.through_local (context_of context.entry) (made_of
         made.entry.value) (λ v. rule.return_value (context_of context.entry) v) (state_of
         state.old)) }
 {
@@ -355,7 +360,8 @@ fn call_stored<'a>(
     offset: usize,
     state: &mut State<'a>,
 ) -> Result<Box<Action<'a>>, TypeFault>
-    ensures { Runs action_in result state.new (rule.call_stored (context_of context.entry) (operand_of
+    ensures { Runs action_in result state.new
+        (rule.call_stored (context_of context.entry) (operand_of
         x.entry) (made_of made.entry.value) offset (state_of state.old)) }
 {
     match &x.category {

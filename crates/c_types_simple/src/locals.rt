@@ -57,7 +57,8 @@ fn begins<'a>(
     offset: usize,
     state: &mut State<'a>,
 ) -> Result<Box<Action<'a>>, TypeFault>
-    ensures { Runs action_in result state.new (rule.initial (Some (tree_value_of given.now)) (type_of
+    ensures { Runs action_in result state.new
+        (rule.initial (Some (tree_value_of given.now)) (type_of
         of.now) local offset (state_of state.old)) }
 {
     match given {

@@ -134,8 +134,8 @@ pub enum Standing {
 pub enum LeftOut {
     /// an integer of 64 bits, other than in a typedef
     Word64,
-    /// a struct as a value: a local, an argument, a result, an assignment; or a struct or an enum that
-    /// is defined within the initial value of a global
+    /// a struct as a value: a local, an argument, a result, an assignment; or a struct or an enum
+    /// that is defined within the initial value of a global
     Struct,
     /// a local array
     Array,

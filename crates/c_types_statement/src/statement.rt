@@ -78,7 +78,8 @@ fn leave<'a>(
     is_allowed: bool,
     offset: usize,
 ) -> Result<Box<Action<'a>>, TypeFault>
-    ensures { Gives action_in result (if is_allowed then Ok (core.Leave jump) else names.fail Mismatch
+    ensures { Gives action_in result
+        (if is_allowed then Ok (core.Leave jump) else names.fail Mismatch
         offset) }
 {
     if is_allowed {

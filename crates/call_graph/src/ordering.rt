@@ -1,5 +1,5 @@
-//! An order in which each node comes after those that it calls, as long as no cycle is there. Nothing
-//! rests on it: a node whose calls have no depth yet gets none.
+//! An order in which each node comes after those that it calls, as long as no cycle is there.
+//! Nothing rests on it: a node whose calls have no depth yet gets none.
 
 use crate::reaching::called;
 use std::alloc::{AllocError, Global};

@@ -130,9 +130,10 @@ fn known_depths(
     Ok(known)
 }
 
-/// How deep the calls of each node go: its own depth, and the greatest of what it calls. A node from
-/// which a cycle is reached has none. Each other node from which only nodes of the graph are reached
-/// has its own, unless that is 2^64 or more: then [`crate::is_cyclic`] answers for it, in more time.
+/// How deep the calls of each node go: its own depth, and the greatest of what it calls. A node
+/// from which a cycle is reached has none. Each other node from which only nodes of the graph are
+/// reached has its own, unless that is 2^64 or more: then [`crate::is_cyclic`] answers for it, in
+/// more time.
 pub fn depths(
     alloc: Global,
     graph: &[Vec<usize>],

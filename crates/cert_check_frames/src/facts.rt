@@ -1,6 +1,7 @@
 //! The terms of both sides' variables at a function's entry.
 
-ghost use Rattle.std.specs.Prelude.{◌≡◌, ◌++◌, ◌∷◌, [], ◌<◌, ◌^◌, IfOk, OnOk, Some, None, slice_get};
+ghost use Rattle.std.specs.Prelude.{◌≡◌, ◌++◌, ◌∷◌, [], ◌<◌, ◌^◌, IfOk, OnOk, Some, None};
+ghost use Rattle.std.specs.Prelude.{slice_get};
 ghost use Rattle.term_core_spec.specs.Term as tree;
 ghost use Rattle.term_core.specs.Trees.{term_of};
 ghost use Rattle.decompile_spec.specs.State as code;

@@ -4,8 +4,9 @@
 //! [`Entry::new`] makes what a function's frame is made of, [`Entry::convention`] what holds where
 //! the function returns, and [`list`] puts them together as the check takes them: exactly
 //! `listed_of` of `validity_laws`, that is the frames and terms of `agreement_laws`
-//! (`specs/EntryFrame.antt` there). [`frame`] gives the frame of a [`Listed`] with further premises,
-//! [`known`] the terms of its variables in a bank; a [`Job`] is what is expected inside its part.
+//! (`specs/EntryFrame.antt` there). [`frame`] gives the frame of a [`Listed`] with further
+//! premises, [`known`] the terms of its variables in a bank; a [`Job`] is what is expected inside
+//! its part.
 #![tactic(auto)]
 
 mod entries;

@@ -1,7 +1,8 @@
 //! The functions that have a part, and where a part begins.
 
 ghost use Rattle.std.specs.Prelude.{◌≡◌, ◌↔◌, IsTrue, OnOk, length};
-ghost use Rattle.cert_check_frames.specs.Parts.{AreIndices, HasPart, IsFreeAt, IsIndexOf, IsMissingAt};
+ghost use Rattle.cert_check_frames.specs.Parts.{AreIndices, HasPart, IsFreeAt, IsIndexOf};
+ghost use Rattle.cert_check_frames.specs.Parts.{IsMissingAt};
 
 use crate::listed::Listed;
 

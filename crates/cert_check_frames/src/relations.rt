@@ -269,8 +269,8 @@ fn add_result(
     }
 }
 
-// What holds where a function returns whose result has this type: its result, and the registers that
-// a callee keeps (psABI, integer register convention).
+// What holds where a function returns whose result has this type: its result, and the registers
+// that a callee keeps (psABI, integer register convention).
 fn return_lines(alloc: Global, result_type: Option<Scalar>) -> Result<Vec<Box<Term>>, AllocError>
     ensures { IfOk result (λ lines. terms_of lines.items
         ≡ calling.return_lines (spec.result_term result_type)) }

@@ -2,9 +2,9 @@
 //! that a line breaks, or a limit.
 //!
 //! `specs/Terms.antt` has the terms of certificates as terms over the variables of a proof,
-//! `specs/Verdict.antt` the walk along the lines. Of the rules it has Leaf and Case; at the lines of
-//! the others the fault is [`RuleFault::Later`]. A log is checked as a whole at its line; a step that
-//! doesn't follow is a fault at the step's own line. Of the crate only the types below run.
+//! `specs/Verdict.antt` the walk along the lines. Of the rules it has Leaf and Case; at the lines
+//! of the others the fault is [`RuleFault::Later`]. A log is checked as a whole at its line; a step
+//! that doesn't follow is a fault at the step's own line. Of the crate only the types below run.
 #![tactic(auto)]
 
 pub mod samples;

@@ -4,7 +4,8 @@ ghost use Rattle.std.specs.Prelude.{◌≡◌, [], length, List};
 ghost use Rattle.term_core_spec.specs.Term.{Term};
 ghost use Rattle.term_bank.specs.Nodes.{Extends};
 ghost use Rattle.cert_check_terms.specs.Reading as spec;
-ghost use Rattle.cert_check_terms.specs.Views.{AreInside, AreSubtermsInside, arguments_of, entries_of};
+ghost use Rattle.cert_check_terms.specs.Views.{AreInside, AreSubtermsInside, arguments_of};
+ghost use Rattle.cert_check_terms.specs.Views.{entries_of};
 ghost use Rattle.cert_check_terms.specs.Outcomes.{AreNext, IsMade, Takes};
 
 use crate::fault::TermFault;

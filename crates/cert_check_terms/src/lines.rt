@@ -5,7 +5,8 @@ ghost use Rattle.term_core_spec.specs.Term.{Term};
 ghost use Rattle.term_bank.specs.Nodes.{Extends};
 ghost use Rattle.proof_tree.specs.Scope.{setting_of};
 ghost use Rattle.cert_check_terms.specs.Reading as spec;
-ghost use Rattle.cert_check_terms.specs.Views.{AreInside, IsInside, entries_of, entry_of, reading_of};
+ghost use Rattle.cert_check_terms.specs.Views.{AreInside, IsInside, entries_of, entry_of};
+ghost use Rattle.cert_check_terms.specs.Views.{reading_of};
 ghost use Rattle.cert_check_terms.specs.Views.{subterm_of};
 ghost use Rattle.cert_check_terms.specs.Outcomes.{AreNext, Finds, Goes, IsRead};
 

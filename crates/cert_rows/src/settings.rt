@@ -75,8 +75,8 @@ fn argument_words(name: &str) -> usize {
     }
 }
 
-/// `bodies`: two parameters in two argument words, and four bodies; `call`: a parameter, and a body;
-/// `words`: three argument words; else nothing.
+/// `bodies`: two parameters in two argument words, and four bodies; `call`: a parameter, and a
+/// body; `words`: three argument words; else nothing.
 pub(crate) fn setting(alloc: Global, name: &str) -> Result<Setting, AllocError> {
     let parameters = attempt!(Vec::from_slice(alloc, parameters(name)), AllocError);
     let mut setting = Setting {

@@ -2,7 +2,8 @@
 //! entry), `p.0` (a parameter), `v.0` (a local), `s.0` (whether it is set), `w.2` (a further word
 //! of the source), `m`, `am` and `z` (the memories of the source, of the binary and in the zone) or
 //! `q` (any address); what a callee leaves of it has a `'` after its name. A word of another width
-//! than 32 bits has `:` and the width after it, as a constant has. `T` and `F` are the truth values.
+//! than 32 bits has `:` and the width after it, as a constant has. `T` and `F` are the truth
+//! values.
 
 ghost use Rattle.std.specs.Prelude.{◌<◌, length};
 

@@ -24,7 +24,8 @@ fn out_of_memory(error: GraphError) -> AllocError
     }
 }
 
-/// The graph of the function at an entry, of some that have graphs and whose callees are among them.
+/// The graph of the function at an entry, of some that have graphs and whose callees are among
+/// them.
 fn code_graph(
     alloc: Global,
     image: &Image<'_>,

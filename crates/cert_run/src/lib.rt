@@ -5,9 +5,9 @@
 //!
 //! Both work over [`Sides`], which [`Sides::new`] makes of the pairs that `pair_setup` answers: all
 //! graphs and the frames at the functions' entries. [`Sides::conventions`] says what holds where
-//! the functions return; [`Sides::listed`] lends them as `cert_check` takes them. A certificate that
-//! is a proof of what is lent makes each function of the pairs valid ([`checked_pairs_are_valid`]).
-//! Of which two sides they are is defined in `specs/Sides.antt`.
+//! the functions return; [`Sides::listed`] lends them as `cert_check` takes them. A certificate
+//! that is a proof of what is lent makes each function of the pairs valid
+//! ([`checked_pairs_are_valid`]). Of which two sides they are is defined in `specs/Sides.antt`.
 #![tactic(auto)]
 
 mod code;

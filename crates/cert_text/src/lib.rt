@@ -1,6 +1,6 @@
 //! Certificates as the program keeps them ([`Cert`]). [`read`] gives one exactly where the bytes
-//! are a certificate by `cert_text_spec` (`specs/Certificates.antt` there), and else the length of the
-//! longest prefix that begins one; [`write`] gives its spelling, of which there is one, and
+//! are a certificate by `cert_text_spec` (`specs/Certificates.antt` there), and else the length of
+//! the longest prefix that begins one; [`write`] gives its spelling, of which there is one, and
 //! [`offset`] where a line begins in it.
 #![tactic(auto)]
 

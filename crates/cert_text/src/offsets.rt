@@ -8,8 +8,8 @@ use crate::writing::{Left, push_lines};
 use attempt::attempt;
 use std::alloc::{AllocError, Global};
 
-/// Where the line of an index begins in the spelling of a certificate, in bytes. It spells the lines
-/// before it: so it is for the fault of a certificate, and not for each of its lines.
+/// Where the line of an index begins in the spelling of a certificate, in bytes. It spells the
+/// lines before it: so it is for the fault of a certificate, and not for each of its lines.
 pub fn offset(alloc: Global, cert: &Cert, line: usize) -> Result<usize, AllocError>
     requires { line ≤ length cert.now.lines.items }
     ensures { IfOk result (λ at. at ≡ length (text_of (take line (certificate_of cert.now)))) }

@@ -1,7 +1,7 @@
 //! Reference parsers of certificates, as functions on lists of bytes (`specs/Readers.antt`,
 //! `specs/Parts.antt`, `specs/Heads.antt`, `specs/Lines.antt`), and the law that they read exactly
-//! the certificates that `cert_text_spec` defines, and refuse other bytes after the longest prefix that
-//! begins one. Nothing runs.
+//! the certificates that `cert_text_spec` defines, and refuse other bytes after the longest prefix
+//! that begins one. Nothing runs.
 #![tactic(auto)]
 
 ghost use Rattle.cert_text_laws.specs.Exactness.{ReadsExactly, HasOneCertificate, HasOneSpelling};

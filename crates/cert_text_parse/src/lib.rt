@@ -1,9 +1,10 @@
-//! Parsers of a certificate's lines over the bytes that are left of it ([`Cursor`]): words, numbers,
-//! addresses, names, points and terms, and whole lines ([`next_line`], [`Line`]).
+//! Parsers of a certificate's lines over the bytes that are left of it ([`Cursor`]): words,
+//! numbers, addresses, names, points and terms, and whole lines ([`next_line`], [`Line`]).
 //!
 //! Each gives exactly what the reference parser of `cert_text_laws` gives (`specs/Readers.antt`,
 //! `specs/Parts.antt`, `specs/Heads.antt` and `specs/Lines.antt` there): the value and the bytes
-//! after it, or the wrong byte. `specs/Views.antt` says which line of `cert_text_spec` a [`Line`] is.
+//! after it, or the wrong byte. `specs/Views.antt` says which line of `cert_text_spec` a [`Line`]
+//! is.
 #![tactic(auto)]
 
 mod addresses;

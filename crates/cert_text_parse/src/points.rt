@@ -6,7 +6,8 @@ ghost use Rattle.proof_tree_spec.specs.declared.Place.TheVariants as place;
 ghost use Rattle.cert_text_laws.specs.Readers as readers;
 ghost use Rattle.cert_text_laws.specs.Parts as parts;
 ghost use Rattle.cert_text_parse.specs.Outcomes.{Parses};
-ghost use Rattle.cert_text_parse.specs.PartOutcomes.{ParsesAs, ending_text, read_address_at, read_place_at};
+ghost use Rattle.cert_text_parse.specs.PartOutcomes.{ParsesAs, ending_text, read_address_at};
+ghost use Rattle.cert_text_parse.specs.PartOutcomes.{read_place_at};
 ghost use Rattle.cert_text_parse.specs.PartOutcomes.{ParsesBinary, ParsesSource};
 
 use crate::numbers::number;

@@ -7,7 +7,8 @@ ghost use Rattle.cert_text_laws.specs.Parts as parts;
 ghost use Rattle.cert_text_parse.specs.Outcomes.{Parses};
 ghost use Rattle.cert_text_parse.specs.PartOutcomes.{ParsesAs};
 ghost use Rattle.cert_text_parse.specs.Keywords.{rule_of};
-ghost use Rattle.cert_text_parse.specs.LineOutcomes.{ParsesLine, read_call_numbers, read_split_numbers};
+ghost use Rattle.cert_text_parse.specs.LineOutcomes.{ParsesLine, read_call_numbers};
+ghost use Rattle.cert_text_parse.specs.LineOutcomes.{read_split_numbers};
 
 use crate::keywords::Rule;
 use crate::lines::{BinaryRestriction, Call, Line, SourceRestriction, Split, boxed};

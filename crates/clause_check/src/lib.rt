@@ -2,8 +2,8 @@
 //!
 //! The main type is [`Log`]: clauses, and the steps that were added so far. [`Log::step`] accepts
 //! exactly the RUP steps whose hints lead to a conflict (as in LRAT), and else reports the first
-//! fault; `clause_check_spec` (`specs/Step.antt`) defines both. Where a log is closed, no assignment
-//! satisfies all clauses that it began with.
+//! fault; `clause_check_spec` (`specs/Step.antt`) defines both. Where a log is closed, no
+//! assignment satisfies all clauses that it began with.
 #![tactic(auto)]
 
 mod hints;

@@ -46,8 +46,10 @@ fn words(
     addresses: &[u32],
 ) -> Result<Vec<(u32, u32)>, CodeError>
     requires { All (IsPlace entry size) addresses.now }
-    ensures listed { IfOk result (λ words. AreWords image.now entry size addresses.now words.items) }
-    ensures fault { IfErr result (λ error. IsListingError image.now entry size addresses.now error) }
+    ensures listed { IfOk result
+        (λ words. AreWords image.now entry size addresses.now words.items) }
+    ensures fault { IfErr result
+        (λ error. IsListingError image.now entry size addresses.now error) }
 {
     let mut words = Vec::new(alloc);
     for address in addresses {

@@ -46,8 +46,8 @@ fn lowered(rd: Reg, source: Reg, imm: i32) -> u64
     }
 }
 
-/// By how many bytes an instruction lowers the stack pointer, if it is `addi x2, x2, imm`; 0 for any
-/// other.
+/// By how many bytes an instruction lowers the stack pointer, if it is `addi x2, x2, imm`; 0 for
+/// any other.
 pub fn lowering(instruction: &Instr) -> u64
     ensures { result ≡ opening_of (Some instruction.now) }
 {

@@ -47,7 +47,8 @@ impl Function<'_> {
     fn add_blocks(&self, alloc: Global, graph: &mut Graph, items: &[Item]) -> Result<(), AllocError>
         requires none { seen graph.old ≡ empty }
         requires stay { All (λ item. Stays (setting_of self.now) (item_of item).flow) items.now }
-        ensures { OnOk result (seen graph.new ≡ laid (setting_of self.now) (map item_of items.now)) }
+        ensures { OnOk result (seen graph.new
+            ≡ laid (setting_of self.now) (map item_of items.now)) }
     {
         let first = self.node(self.entry, 0)?;
         graph.add(Node::Basic {

@@ -95,9 +95,9 @@ pub(crate) fn count_nodes(runs: usize, items: &[Item], maximum: usize) -> Result
     Ok(count)
 }
 
-/// Numbers the first node of each of some instructions, where there are so many runs of fixed bytes:
-/// the landing node at the entry has the number 0, and the nodes of the instructions follow in
-/// order.
+/// Numbers the first node of each of some instructions, where there are so many runs of fixed
+/// bytes: the landing node at the entry has the number 0, and the nodes of the instructions follow
+/// in order.
 fn number_nodes(
     firsts: &mut IndexMap<u32, usize>,
     runs: usize,

@@ -1,8 +1,8 @@
 //! Laws on the terms of instructions: under any values of the variables that are alike a machine,
 //! each instruction's term evaluates to what the machine computes, loads, stores or tests.
 //!
-//! The terms are those of `decompile_spec`, the machine that of `rv_machine_spec`. Nothing of the crate
-//! runs: each function's clause is one law, and its body is empty.
+//! The terms are those of `decompile_spec`, the machine that of `rv_machine_spec`. Nothing of the
+//! crate runs: each function's clause is one law, and its body is empty.
 
 ghost use Rattle.decompile_laws.specs.Evaluation.{OperationsCompute, BranchesTest, LoadsGive};
 ghost use Rattle.decompile_laws.specs.Evaluation.{StoresLeave};

@@ -1,8 +1,8 @@
 //! The law that the machine and the graphs of its code step together.
 //!
 //! `specs/Together.antt` says how a machine corresponds to a run of graphs; the graphs are those of
-//! `decompile_spec`, their runs those of `graph_core_spec`, the machine that of `rv_machine_spec`. Nothing of
-//! the crate runs: each function's clause is one law, and its body is empty.
+//! `decompile_spec`, their runs those of `graph_core_spec`, the machine that of `rv_machine_spec`.
+//! Nothing of the crate runs: each function's clause is one law, and its body is empty.
 
 ghost use Rattle.decompile_laws.specs.Together.{StepsTogether, ReturnsTogether};
 

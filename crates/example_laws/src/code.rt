@@ -3,7 +3,8 @@
 
 ghost use Rattle.std.specs.Prelude.{◌≡◌, Some, [], ◌∷◌};
 ghost use Rattle.code_reach_spec.specs.declared.CodeKind.TheVariants.{Indirect, Leaves};
-ghost use Rattle.code_reach_spec.specs.Code.{Calls, Jumps, Stops, flow_at, IsReachable, AreReachable};
+ghost use Rattle.code_reach_spec.specs.Code.{Calls, Jumps, Stops, flow_at, IsReachable};
+ghost use Rattle.code_reach_spec.specs.Code.{AreReachable};
 ghost use Rattle.code_reach_spec.specs.Code.{CallsOn, Reaches, IsCyclic, IsStack};
 ghost use Rattle.code_reach_spec.specs.Faults.{direct_flow, IsInstructionFault};
 ghost use Rattle.example_laws.specs.CodeSamples.{pair, tail_call, circle, frame};

@@ -1,9 +1,9 @@
 //! Worked facts of the definitions of graphs and walks: each function's clause is one fact, and its
 //! body is empty.
 //!
-//! They hold the runs of `graph_core_spec` against two small graphs (`specs/Call.antt`), of which one
-//! calls the other, worked by hand; and the simulation of `graph_core_spec` against walks that end alike
-//! or unlike (`specs/Loops.antt`).
+//! They hold the runs of `graph_core_spec` against two small graphs (`specs/Call.antt`), of which
+//! one calls the other, worked by hand; and the simulation of `graph_core_spec` against walks that
+//! end alike or unlike (`specs/Loops.antt`).
 
 ghost use Rattle.std.specs.Prelude.{◌≡◌, ℕ, Some, None, true, false, [], ◌∷◌};
 ghost use Rattle.graph_core_spec.specs.TransitionSystem.{after, arrivals, KeepsBounds, StopsAt};

@@ -1,6 +1,7 @@
 //! Graphs over the terms of a bank.
 
-ghost use Rattle.std.specs.Prelude.{◌≡◌, ◌<◌, ◌≤◌, ◌^◌, ◌∷◌, [], IfOk, OnOk, OnErr, All, length, map};
+ghost use Rattle.std.specs.Prelude.{◌≡◌, ◌<◌, ◌≤◌, ◌^◌, ◌∷◌, [], IfOk, OnOk, OnErr, All, length};
+ghost use Rattle.std.specs.Prelude.{map};
 ghost use Rattle.term_core.specs.Trees.{term_of};
 ghost use Rattle.term_bank.specs.Nodes.{IsNode as IsTermNode, Holds, build, Extends};
 ghost use Rattle.graph_core_spec.specs.Graph as spec;

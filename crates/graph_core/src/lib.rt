@@ -3,8 +3,8 @@
 //! The main type is [`Graph`], whose nodes share the terms of a bank; [`validate`] is true exactly
 //! where each node that is named exists and each term is well sorted. The trait [`Walks`] is what
 //! the proofs of simulation know of a transition system; the run of a set of graphs ([`GraphRun`])
-//! is one. Graphs and their runs are defined in `graph_core_spec`, transition systems in `graph_core_spec`;
-//! `specs/Graphs.antt` has the graph of trees that a [`Graph`] is.
+//! is one. Graphs and their runs are defined in `graph_core_spec`, transition systems in
+//! `graph_core_spec`; `specs/Graphs.antt` has the graph of trees that a [`Graph`] is.
 #![tactic(auto)]
 
 mod graph;

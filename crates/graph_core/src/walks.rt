@@ -1,8 +1,10 @@
 //! Transition systems as a trait, and the laws of their runs.
 
 ghost use Rattle.std.specs.Prelude.{◌≡◌, ◌⊎◌, ℕ, ◌+◌, Bool, true, false, List};
-ghost use Rattle.graph_core_spec.specs.TransitionSystem.{TransitionSystem, IsTransitionSystem, Mark};
-ghost use Rattle.graph_core_spec.specs.TransitionSystem.{AreCounted, Always, StopsAt, after, arrivals};
+ghost use Rattle.graph_core_spec.specs.TransitionSystem.{TransitionSystem, IsTransitionSystem};
+ghost use Rattle.graph_core_spec.specs.TransitionSystem.{Mark};
+ghost use Rattle.graph_core_spec.specs.TransitionSystem.{AreCounted, Always, StopsAt, after};
+ghost use Rattle.graph_core_spec.specs.TransitionSystem.{arrivals};
 ghost use Rattle.graph_core_spec.specs.TransitionSystem.{marks_left, stopped};
 
 /// A deterministic transition system whose states may be at numbered nodes (`graph_core_spec`,

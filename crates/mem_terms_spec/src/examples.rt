@@ -1,7 +1,8 @@
 // Terms with their flat terms, worked by hand: each function's clause is a table, and its body is
 // empty. The tables are in `specs/Examples.antt`.
 
-ghost use Rattle.mem_terms_spec.specs.Examples.{AreFlat, no_loads, two_addresses, nested, two_memories};
+ghost use Rattle.mem_terms_spec.specs.Examples.{AreFlat, no_loads, two_addresses, nested};
+ghost use Rattle.mem_terms_spec.specs.Examples.{two_memories};
 
 /// Nothing is loaded.
 pub fn terms_without_loads_are_kept()

@@ -131,8 +131,8 @@ fn add_named(
 }
 
 /// Adds the entries of the listed functions, and those of all that their code reaches, where
-/// nothing of it has a fault; or else the fault of the first function that has one. Some of them may
-/// be there.
+/// nothing of it has a fault; or else the fault of the first function that has one. Some of them
+/// may be there.
 fn add_listed(
     alloc: Global,
     firsts: &mut Vec<u32>,

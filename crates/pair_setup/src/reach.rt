@@ -1,6 +1,7 @@
 //! Cycles, and the stack of listed functions.
 
-ghost use Rattle.std.specs.Prelude.{◌≡◌, ◌↔◌, ℕ, List, [], All, get_or, length, nat_eq, nat_lt, None};
+ghost use Rattle.std.specs.Prelude.{◌≡◌, ◌↔◌, ℕ, List, [], All, get_or, length, nat_eq, nat_lt};
+ghost use Rattle.std.specs.Prelude.{None};
 ghost use Rattle.std.specs.Prelude.{if◌then◌else◌, IfErr, IfOk, IfSome, IsSome, IsTrue, OnOk, Some};
 ghost use Rattle.std.specs.Prelude.{slice_get};
 ghost use Rattle.indexmap.specs.IndexMap.{get};

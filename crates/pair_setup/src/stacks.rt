@@ -129,8 +129,8 @@ fn add_tasks(tasks: &mut Vec<Task>, words: &[(u32, u32)]) -> Result<(), AllocErr
     Ok(())
 }
 
-/// Adds to the tasks that a function be left, and on top that those be entered that it calls, unless
-/// it was entered before.
+/// Adds to the tasks that a function be left, and on top that those be entered that it calls,
+/// unless it was entered before.
 fn enter(
     alloc: Global,
     tasks: &mut Vec<Task>,

@@ -5,7 +5,8 @@ ghost use Rattle.std.specs.Prelude.{◌≡◌, true, false, [], ◌∷◌};
 ghost use Rattle.term_core_spec.specs.declared.Width.TheVariants.{W32};
 ghost use Rattle.term_core_spec.specs.Term.{truth, constant, open_term, or_term, choose};
 ghost use Rattle.path_cond_spec.specs.Conditions.{conditional_of};
-ghost use Rattle.path_cond_spec.specs.Samples.{conditions, diamond, diamond_visits, found, if_fails};
+ghost use Rattle.path_cond_spec.specs.Samples.{conditions, diamond, diamond_visits, found};
+ghost use Rattle.path_cond_spec.specs.Samples.{if_fails};
 ghost use Rattle.path_cond_spec.specs.Samples.{if_holds, joined, joined_visits, word, word_at};
 
 /// After a test with an assignment on each side: the edges in the order of their sources, and the

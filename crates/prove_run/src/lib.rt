@@ -1,9 +1,9 @@
 //! The search for proofs of listed functions by a bare Leaf.
 //!
 //! [`prove`] finds for each function the logs of its obligations, or a [`Trail`], which says why
-//! there are none, as `prove_run_spec` defines them (`specs/Proofs.antt`, `specs/Trails.antt` there).
-//! [`certificate`] is the certificate of the functions that are proved, and [`Trails`] keeps the
-//! names of the others.
+//! there are none, as `prove_run_spec` defines them (`specs/Proofs.antt`, `specs/Trails.antt`
+//! there). [`certificate`] is the certificate of the functions that are proved, and [`Trails`]
+//! keeps the names of the others.
 #![tactic(auto)]
 
 mod goals;

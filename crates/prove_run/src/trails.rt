@@ -6,7 +6,8 @@ ghost use Rattle.cert_check_spec.specs.Verdict as spec;
 ghost use Rattle.cert_check_frames.specs.Listed.{AreListed};
 ghost use Rattle.prove_run_spec.specs.Written.{failures};
 ghost use Rattle.prove_run.specs.Found.{found_of, trail_of};
-ghost use Rattle.prove_run.specs.Trails.{failure_in, failures_in, failures_of, over_in, unproved_in};
+ghost use Rattle.prove_run.specs.Trails.{failure_in, failures_in, failures_of, over_in};
+ghost use Rattle.prove_run.specs.Trails.{unproved_in};
 
 use crate::trail::{Found, Trail};
 use attempt::attempt;

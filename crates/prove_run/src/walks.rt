@@ -83,8 +83,8 @@ fn round(binary: Option<WalkFault>, node: usize) -> Result<Trail, AllocError>
     }
 }
 
-// The trail of a function one of whose walks has too many visits, where the binary's has this fault,
-// if any, and a Leaf has this many.
+// The trail of a function one of whose walks has too many visits, where the binary's has this
+// fault, if any, and a Leaf has this many.
 fn many(binary: Option<WalkFault>, count: usize) -> Result<Trail, AllocError>
     ensures { IfOk result (λ trail. IsMany binary count (trail_of trail)) }
 {

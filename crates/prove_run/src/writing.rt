@@ -1,6 +1,7 @@
 //! The certificate of the functions that are proved.
 
-ghost use Rattle.std.specs.Prelude.{◌≡◌, ◌<◌, ◌∷◌, ◌++◌, [], IfErr, IfOk, List, OnOk, false, length, map};
+ghost use Rattle.std.specs.Prelude.{◌≡◌, ◌<◌, ◌∷◌, ◌++◌, [], IfErr, IfOk, List, OnOk, false};
+ghost use Rattle.std.specs.Prelude.{length, map};
 ghost use Rattle.cert_text_spec.specs.Lines as lines;
 ghost use Rattle.cert_text_parse.specs.Views.{is_step, line_of};
 ghost use Rattle.cert_text.specs.Certificates.{certificate_of};

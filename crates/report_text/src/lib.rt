@@ -1,6 +1,6 @@
 //! The verdicts of a run as the program has them ([`Verdict`]). [`report`] and [`status`] give
-//! exactly the bytes and the number that `report_text_spec` defines for each, so that a report never says
-//! more than was found.
+//! exactly the bytes and the number that `report_text_spec` defines for each, so that a report
+//! never says more than was found.
 #![tactic(auto)]
 
 mod lines;

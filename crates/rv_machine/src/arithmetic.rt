@@ -1,5 +1,6 @@
 ghost use Rattle.std.specs.Prelude.{◌≡◌, ◌↔◌, IsTrue};
-ghost use Rattle.rv_machine_spec.specs.Arithmetic.{arithmetic as arithmetic_of, holds as holds_of, number};
+ghost use Rattle.rv_machine_spec.specs.Arithmetic.{arithmetic as arithmetic_of, holds as holds_of};
+ghost use Rattle.rv_machine_spec.specs.Arithmetic.{number};
 ghost use Rattle.rv_machine_spec.specs.Arithmetic.{high_word, word};
 
 use rv_instr::{ArithmeticOperation, BranchTest};

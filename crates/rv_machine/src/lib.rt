@@ -1,11 +1,11 @@
 //! The RV32IM machine as a program, by which the definitions can be tried.
 //!
 //! The main type is [`Machine`]: 32 registers, pc and [`Memory`], which contracts see as the record
-//! of `rv_machine_spec`. [`step`] and [`run`] are `step` and `after` of `rv_machine_spec` (`specs/Step.antt`),
-//! exactly; at a trap, and when out of memory, the machine is as it was before the step.
-//! [`effects::effect`] says what an instruction does, its operands read, and allocates nothing; it
-//! is `effect_of` in `specs/Effects.antt`, and what an [`Effect`] means for the machine is
-//! `applied`.
+//! of `rv_machine_spec`. [`step`] and [`run`] are `step` and `after` of `rv_machine_spec`
+//! (`specs/Step.antt`), exactly; at a trap, and when out of memory, the machine is as it was before
+//! the step. [`effects::effect`] says what an instruction does, its operands read, and allocates
+//! nothing; it is `effect_of` in `specs/Effects.antt`, and what an [`Effect`] means for the machine
+//! is `applied`.
 
 #![tactic(auto)]
 

@@ -1,5 +1,6 @@
 ghost use Rattle.std.specs.Prelude.{◌≡◌, ◌+◌, ◌%◌, ◌^◌, ◌<◌, IfOk, OnOk, OnErr, Some, replicate};
-ghost use Rattle.rv_machine_spec.specs.Machine.{IsMachine, read_register, write_register, past, load_word};
+ghost use Rattle.rv_machine_spec.specs.Machine.{IsMachine, read_register, write_register, past};
+ghost use Rattle.rv_machine_spec.specs.Machine.{load_word};
 ghost use Rattle.rv_machine_spec.specs.Step.{put, next};
 ghost use Rattle.rv_machine.specs.Effects.{applied, IsAligned};
 ghost use Rattle.rv_machine.specs.Stores.{load_size, store_size};

@@ -2,7 +2,8 @@ ghost use Rattle.std.specs.Prelude.{ℕ, ◌≡◌, ◌+◌, ◌%◌, ◌^◌, �
 ghost use Rattle.std.specs.Prelude.{Option, Some, None};
 ghost use Rattle.std.specs.FinMap as map;
 ghost use Rattle.memory_spec.specs.Memory.{byte_at};
-ghost use Rattle.rv_machine_spec.specs.Machine.{store_byte, load_half as half_at, load_word as word_at};
+ghost use Rattle.rv_machine_spec.specs.Machine.{store_byte, load_half as half_at};
+ghost use Rattle.rv_machine_spec.specs.Machine.{load_word as word_at};
 ghost use Rattle.rv_machine_spec.specs.Step.{load as load_of, store as store_of};
 ghost use Rattle.rv_machine_spec.specs.Arithmetic.{extended};
 ghost use Rattle.rv_machine.specs.Stores.{put_back, store_bytes, load_size, store_size};

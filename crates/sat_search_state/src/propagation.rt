@@ -135,7 +135,8 @@ fn visit_clause(
     watcher: &Watcher,
     other: Literal,
 ) -> Result<Visit, AllocError>
-    requires { IsLooking clauses.now.clauses trail.old watches.old falsified next watcher.now other }
+    requires { IsLooking clauses.now.clauses trail.old watches.old falsified next watcher.now
+        other }
     ensures visited { IfOk result (λ visit. IsVisited clauses.now.clauses trail.new watches.new
         falsified next watcher.now visit) }
     ensures kept { OnOk result (IsKeptBy trail.old trail.new watches.old watches.new falsified) }

@@ -1,6 +1,7 @@
 //! What a call relies on at its callee.
 
-ghost use Rattle.std.specs.Prelude.{◌≡◌, ◌∷◌, [], ◌++◌, ◌<◌, ◌^◌, ◌+◌, IfOk, Option, OnOk, option_map};
+ghost use Rattle.std.specs.Prelude.{◌≡◌, ◌∷◌, [], ◌++◌, ◌<◌, ◌^◌, ◌+◌, IfOk, Option, OnOk};
+ghost use Rattle.std.specs.Prelude.{option_map};
 ghost use Rattle.c_graph_spec.specs.State as state;
 ghost use Rattle.graph_core.specs.Graphs.{boxed_term};
 ghost use Rattle.proof_tree.specs.Frames.{terms_of};

@@ -137,8 +137,8 @@ impl Lookup for Returned<'_> {
     }
 }
 
-// The binary's memory, as a tree: the zone is as before, but for the callee's stack, and the rest is
-// what the callee leaves of the source's memory.
+// The binary's memory, as a tree: the zone is as before, but for the callee's stack, and the rest
+// is what the callee leaves of the source's memory.
 fn left_memory(alloc: Global, from: &Term, to: &Term, stack: u32) -> Result<Box<Term>, AllocError>
     ensures { IfOk result (λ t. term_of t.value
         ≡ left_memory_by (term_of from.now) (term_of to.now) stack) }

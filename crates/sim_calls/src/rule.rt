@@ -53,8 +53,8 @@ pub struct CallLines<'a> {
 /// Why a call has no obligations.
 #[derive(Clone, Copy)]
 pub enum CallFault {
-    /// The line at this index is the first that is none: it is ill-sorted, no truth value, or speaks
-    /// of a variable out of scope. The lines after the call come after those before it.
+    /// The line at this index is the first that is none: it is ill-sorted, no truth value, or
+    /// speaks of a variable out of scope. The lines after the call come after those before it.
     Sort(usize),
     /// There was no memory.
     NoMemory,

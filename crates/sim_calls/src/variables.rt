@@ -42,8 +42,8 @@ pub(crate) const GLOBAL_POINTER: usize = 3;
 /// The number of the first register of arguments, which is that of the result, too.
 pub(crate) const FIRST_ARGUMENT: usize = 10;
 
-/// The registers that a callee leaves as they are: the stack, the global and the thread pointer, and
-/// those that it saves (psABI).
+/// The registers that a callee leaves as they are: the stack, the global and the thread pointer,
+/// and those that it saves (psABI).
 const KEPT_REGISTERS: [usize; 15] = [2, 3, 4, 8, 9, 18, 19, 20, 21, 22, 23, 24, 25, 26, 27];
 
 /// Whether a callee leaves the register of a number as it is.

@@ -11,10 +11,10 @@ ghost use Rattle.proof_tree.specs.Frames.{HasPaths, frame_of, stop_of};
 use proof_tree::{Frame, Goal, Reachable, Stop};
 use proof_tree_spec::{Cut, Nodes};
 
-/// Whether the goals of a frame, which knows what its starts and goals lead to, allow a cut: each is
-/// at another node, and where it counts more than one arrival, no walk goes from the start to it and
-/// on to the cut, on either side. Where the cut is at calls, none is at a landing node after them
-/// either. It takes no memory.
+/// Whether the goals of a frame, which knows what its starts and goals lead to, allow a cut: each
+/// is at another node, and where it counts more than one arrival, no walk goes from the start to it
+/// and on to the cut, on either side. Where the cut is at calls, none is at a landing node after
+/// them either. It takes no memory.
 pub fn cut_allowed(frame: &Frame<'_>, cut: Cut) -> bool
     ensures { HasPaths frame.now → (IsTrue result ↔ spec.IsAllowed (frame_of frame.now) cut) }
 {

@@ -5,7 +5,8 @@ ghost use Rattle.std.specs.Prelude.{None, Option, true};
 ghost use Rattle.std.specs.List.{All, Contains};
 ghost use Rattle.term_core_spec.specs.Term.{Term, not_term};
 ghost use Rattle.proof_tree_spec.specs.Frames.{Frame, with_binary_bound, with_premise};
-ghost use Rattle.proof_tree_spec.specs.Frames.{Hold, from_cut, goal_at, with_goal, with_source_bound};
+ghost use Rattle.proof_tree_spec.specs.Frames.{Hold, from_cut, goal_at, with_goal};
+ghost use Rattle.proof_tree_spec.specs.Frames.{with_source_bound};
 ghost use Rattle.proof_tree_spec.specs.Cuts.{IsKept, Waits};
 ghost use Rattle.proof_tree_spec.specs.Cuts as cuts;
 ghost use Rattle.proof_tree_spec.specs.Cuts.{both};
@@ -78,8 +79,8 @@ pub fn wait_law()
         (hold_over c hold) }
 {}
 
-/// Call: where its obligations are true, and what holds at entry and the relation before hold at the
-/// calls, the callee's entry relation holds where it begins.
+/// Call: where its obligations are true, and what holds at entry and the relation before hold at
+/// the calls, the callee's entry relation holds where it begins.
 pub fn call_entry_law()
     ensures { (c : Convention) (f : Frame) (calls : CallPair) (callee : Callee)
         (before later terms : List Term) (g m k n : ℕ) (x y : Assignment) → IsConvention c

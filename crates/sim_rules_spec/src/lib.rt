@@ -2,8 +2,8 @@
 //!
 //! `specs/Points.antt` defines what a term says of a state of each side, `specs/Systems.antt` a
 //! frame over graphs and terms as one over their transition systems, and what its simulation is;
-//! `specs/Rules.antt` has the obligations of Leaf and Restrict, `specs/Calls.antt` those of Call, and
-//! `specs/Proper.antt` what is assumed of a frame. The laws are the clauses of [`laws`]: valid
+//! `specs/Rules.antt` has the obligations of Leaf and Restrict, `specs/Calls.antt` those of Call,
+//! and `specs/Proper.antt` what is assumed of a frame. The laws are the clauses of [`laws`]: valid
 //! obligations, and the simulations of the sub-proofs, give the simulation of a frame.
 
 #![tactic(auto)]

@@ -2,9 +2,9 @@
 //!
 //! A [`Way`] is one side of a frame, a [`Sight`] its visits with their conditions and states, a
 //! [`Part`] several of them as one. [`relation`] gives what holds at a point, [`premises`] and
-//! [`bounded_premises`] what may be used: exactly the terms of `sim_rules_spec` (`specs/Sides.antt`,
-//! `specs/Rules.antt` there). [`all_lines`] is the conjunction of lines over the terms of their
-//! variables, [`first_bad`] the first term that is no line.
+//! [`bounded_premises`] what may be used: exactly the terms of `sim_rules_spec`
+//! (`specs/Sides.antt`, `specs/Rules.antt` there). [`all_lines`] is the conjunction of lines over
+//! the terms of their variables, [`first_bad`] the first term that is no line.
 
 #![tactic(auto)]
 

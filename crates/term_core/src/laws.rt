@@ -8,7 +8,8 @@ ghost use Rattle.term_core_spec.specs.Term.{Term, Occurs, open_term};
 ghost use Rattle.term_core_spec.specs.Sort.{sort_of};
 ghost use Rattle.term_core_spec.specs.Same.{same_term};
 ghost use Rattle.term_core_spec.specs.Value.{Assignment, IsAssignment, IsOfSort, value};
-ghost use Rattle.term_core_spec.specs.Substitution.{State, substituted, values_of, renamed, at_instance};
+ghost use Rattle.term_core_spec.specs.Substitution.{State, substituted, values_of, renamed};
+ghost use Rattle.term_core_spec.specs.Substitution.{at_instance};
 ghost use Rattle.term_core_spec.specs.Subterms.{subterms, IsIn, IsClosed};
 
 /// The value of a well-sorted term is of its sort.

@@ -1,7 +1,7 @@
-//! The rules of the normal form (`term_norm_spec`, `specs/Normal.antt`) but that of loads, in a bank:
-//! each function gives the index of the normal form of one operator whose arguments are in normal
-//! form, by a table of rules in their order (`src/form.rt`). The work is constant, but for the
-//! width of a term: a walk down the first arguments of word operations and of choices.
+//! The rules of the normal form (`term_norm_spec`, `specs/Normal.antt`) but that of loads, in a
+//! bank: each function gives the index of the normal form of one operator whose arguments are in
+//! normal form, by a table of rules in their order (`src/form.rt`). The work is constant, but for
+//! the width of a term: a walk down the first arguments of word operations and of choices.
 
 #![tactic(auto)]
 

@@ -1,8 +1,8 @@
 //! Rows of terms, goals and logs, each with the answer that is expected of it.
 //!
 //! A row is `QUESTION WORDS = ANSWER`; each is printed with `ok`, or with what was found in place
-//! of the answer. The modules `terms`, `trees`, `goals`, `closing` and `logs` have the questions, and `words` has
-//! how a term is written. A row without ` = ` is a title.
+//! of the answer. The modules `terms`, `trees`, `goals`, `closing` and `logs` have the questions,
+//! and `words` has how a term is written. A row without ` = ` is a title.
 #![tactic(auto)]
 
 mod closing;

@@ -1,5 +1,5 @@
-//! The limit on each quantity that is bounded, once: clauses and code name it. A quantity is reported
-//! as too large exactly where it is above its limit.
+//! The limit on each quantity that is bounded, once: clauses and code name it. A quantity is
+//! reported as too large exactly where it is above its limit.
 #![tactic(auto)]
 
 /// Bytes of an ELF file.

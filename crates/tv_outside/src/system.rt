@@ -25,9 +25,9 @@ fn refused<T>(faults: &mut u64, error: &io::Error) -> Result<T, OutsideFault>
 const NOTHING: &str = "/dev/null";
 
 /// Files that are kept open so that descriptors 0 to 2 are taken: the operating system gives a file
-/// the lowest descriptor that is free, and a program may be started with some of these three closed.
-/// A file that is opened later then has another one, and what is written to a standard descriptor
-/// that was closed fails.
+/// the lowest descriptor that is free, and a program may be started with some of these three
+/// closed. A file that is opened later then has another one, and what is written to a standard
+/// descriptor that was closed fails.
 #[derive(Drop)]
 pub struct Descriptors<R: Files> {
     files: [R::File; 3],

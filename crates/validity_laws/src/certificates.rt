@@ -1,6 +1,7 @@
 //! The laws of checked certificates: each function's clause is one law, and its body is empty.
 
-ghost use Rattle.validity_laws.specs.CheckStatements.{ClosedIsValid, PartsAreClosed, ProofsGiveValidity};
+ghost use Rattle.validity_laws.specs.CheckStatements.{ClosedIsValid, PartsAreClosed};
+ghost use Rattle.validity_laws.specs.CheckStatements.{ProofsGiveValidity};
 
 /// Of a certificate no line of which breaks a rule, each listed function has a part, and each
 /// obligation of that part is closed.

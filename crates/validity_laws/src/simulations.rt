@@ -1,6 +1,7 @@
 //! The laws of proofs: each function's clause is one law, and its body is empty.
 
-ghost use Rattle.validity_laws.specs.Statements.{CodeGraphsAreOwn, FunctionsAgree, FunctionsAreValid};
+ghost use Rattle.validity_laws.specs.Statements.{CodeGraphsAreOwn, FunctionsAgree};
+ghost use Rattle.validity_laws.specs.Statements.{FunctionsAreValid};
 ghost use Rattle.validity_laws.specs.Statements.{ProofsSimulate, SourceGraphsAreOwn};
 
 /// Where the functions that a proof calls are simulated at their entries, the frame that it

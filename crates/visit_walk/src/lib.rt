@@ -2,8 +2,8 @@
 //!
 //! [`visits`] lists them as [`Visits`], in reversed post-order of a depth-first walk, with the
 //! edges into each; or answers that the walk goes round a cycle, or has too many visits: exactly as
-//! `visit_walk_spec` defines them (`specs/Visits.antt`, `specs/Outcomes.antt`). [`Shape`] is what it
-//! reads of a graph.
+//! `visit_walk_spec` defines them (`specs/Visits.antt`, `specs/Outcomes.antt`). [`Shape`] is what
+//! it reads of a graph.
 
 #![tactic(auto)]
 

@@ -98,7 +98,8 @@ fn add_all(words: &mut Words, text: &str) -> Result<(), AllocError> {
     Ok(())
 }
 
-/// The walk of a text; it starts at node 0, and has at most 65,536 visits, unless it says otherwise.
+/// The walk of a text; it starts at node 0, and has at most 65,536 visits, unless it says
+/// otherwise.
 pub(crate) fn read(alloc: Global, text: &str) -> Result<Words, AllocError> {
     let mut words = Words {
         shape: Shape {
