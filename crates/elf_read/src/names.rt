@@ -1,9 +1,10 @@
 //! The names of symbols: the first symbol of a name stands for all symbols of that name.
 //!
-//! Names are told apart by their lengths first. Many may be ends of one long text; but two of one
-//! length that begin at different offsets share no byte, since each is ended by a 0 byte. And of
-//! each offset one name is looked up. So each byte of the string table is compared only as often as
-//! one look-up compares names.
+//! Names are told apart by their lengths first: two of one length that begin at different offsets
+//! share no byte, since each is ended by a 0 byte, and of each offset one name is looked up. So a
+//! look-up among the names of one length reads each byte of the string table once for each name
+//! that it is compared with. Many names that are ends of a few long texts can still cost their
+//! lengths.
 
 ghost use Rattle.std.specs.Prelude.{◌≡◌, length, IfOk, Some};
 ghost use Rattle.elf_read.specs.Firsts.{ArePlaced, AreFirsts, AreNamed, IsAdded, index_among};
