@@ -1,12 +1,12 @@
 -- What is asked of types, by what they are from outside.
-use Rattle.std.proofs.Common.{◌≡◌, ℕ, refl}
+use Rattle.std.proofs.Common.{◌≡◌, refl}
 use Rattle.std.specs.Prelude.{Bool, true, false, if◌then◌else◌, is_none, Option, Some, None}
 use Rattle.c_types_spec.specs.Types as types
 use Rattle.c_types_spec.specs.Declarations as rule
 use Rattle.c_types_layout.specs.declared.types.Outer.{Outer}
 use Rattle.c_types_layout.specs.declared.types.Outer.TheVariants as outer
-use Rattle.c_types_layout.specs.Types.{outer_of}
-use Rattle.c_types_declaration.specs.Sizes.{element_size, element_pointer}
+use Rattle.c_types_layout.specs.Types.{outer_of, element_of}
+use Rattle.c_types_declaration.specs.Sizes.{element_size}
 use Rattle.c_types_declaration.specs.Objects.{with_length}
 
 abbrev pub void_outer : Outer → Bool
@@ -81,19 +81,17 @@ lacks_element-outer structs (types.Pointer t) = refl
 lacks_element-outer structs (types.Array n t) = refl
 lacks_element-outer structs (types.Struct m) = refl
 
-abbrev pub adjusted_by : types.CType → Outer → types.CType
-adjusted_by type (outer.Array length) = element_pointer type
-adjusted_by type outer.Void = type
-adjusted_by type (outer.Integer scalar) = type
-adjusted_by type outer.Pointer = type
-adjusted_by type (outer.Struct number) = type
+-- a parameter's type, by the element of an array
+abbrev pub adjusted_by : types.CType → Option types.CType → types.CType
+adjusted_by type (Some element) = types.Pointer element
+adjusted_by type None = type
 
-pub adjusted-outer : (type : types.CType) → rule.adjusted type ≡ adjusted_by type (outer_of type)
-adjusted-outer types.Void = refl
-adjusted-outer (types.Integer s) = refl
-adjusted-outer (types.Pointer t) = refl
-adjusted-outer (types.Array n t) = refl
-adjusted-outer (types.Struct m) = refl
+pub adjusted-element : (type : types.CType) → rule.adjusted type ≡ adjusted_by type (element_of type)
+adjusted-element types.Void = refl
+adjusted-element (types.Integer s) = refl
+adjusted-element (types.Pointer t) = refl
+adjusted-element (types.Array n t) = refl
+adjusted-element (types.Struct m) = refl
 
 abbrev pub composite_by : (old type : types.CType) → Outer → Outer → Option types.CType
 composite_by old type (outer.Array None) (outer.Array length) = with_length length old type
@@ -138,4 +136,6 @@ composite-outer (types.Struct m) (types.Array None u) = refl
 composite-outer (types.Struct m) (types.Array (Some k) u) = refl
 composite-outer (types.Struct m) (types.Struct l) = refl
 
-pub ruleset by_outer = (is_void-outer, is_struct-outer, is_array-outer, too_large-outer, lacks_element-outer, adjusted-outer, composite-outer)
+pub ruleset by_outer = (is_void-outer, is_struct-outer, is_array-outer, too_large-outer, lacks_element-outer, composite-outer)
+
+pub ruleset adjusting = (adjusted-element)

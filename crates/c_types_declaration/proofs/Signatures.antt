@@ -1,7 +1,9 @@
 -- Lists of types, item by item.
 use Rattle.std.proofs.Common.{◌≡◌, ℕ, suc, ◌+◌, ◌<◌, ◌≤◌, List, [], ◌∷◌, length, map, drop, get_or, refl, sym, ◌∙◌, ap, arith}
-use Rattle.std.specs.Prelude.{Bool, true, false, ◌&&◌}
+use Rattle.std.specs.Prelude.{Bool, true, false, ◌&&◌, nat_lt}
+use Rattle.std.proofs.lemmas.Bool.{lt-ltb, le-ltb}
 use Rattle.std.proofs.lemmas.List.{drop_more, drop_all}
+use Rattle.c_types_spec.specs.declared.TheConstants.{ARGUMENT_WORDS}
 use Rattle.c_types_spec.specs.Types as types
 use Rattle.c_types_spec.specs.Declarations.{same_types, words_of}
 use Rattle.c_types_layout.specs.declared.types.CType.{CType}
@@ -36,6 +38,13 @@ types-ended a b i h k = ap (λ l. same_types (map type_of l) (map type_of (drop 
 
 pub words-more : (a : List CType) (i : ℕ) (d : CType) → i < length a → words_of (map type_of (drop i a)) ≡ words (type_of (get_or a i d)) + words_of (map type_of (drop (i + 1) a))
 words-more a i d h = ap (λ l. words_of (map type_of l)) (drop_more a i d h)
+
+-- of the words that can be passed so many are left, and the next argument has more
+pub many-words : (n left w rest : ℕ) → n + left ≡ ARGUMENT_WORDS + (w + rest) → left < w → true ≡ nat_lt ARGUMENT_WORDS n
+many-words n left w rest is h = sym (lt-ltb ARGUMENT_WORDS n (omega (arith, is, h)))
+
+pub few-words : (n left : ℕ) → n + left ≡ ARGUMENT_WORDS → false ≡ nat_lt ARGUMENT_WORDS n
+few-words n left is = sym (le-ltb ARGUMENT_WORDS n (omega (arith, is)))
 
 pub ruleset one_more = (types-more, lengths-differ, types-ended)
 

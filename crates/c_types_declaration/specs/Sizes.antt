@@ -1,7 +1,6 @@
--- Sizes of elements of arrays.
-use Rattle.std.specs.Prelude.{ℕ, List, [], ◌∷◌, ◌++◌, Option, Some, None, Result, Ok}
-use Rattle.c_types_spec.specs.declared.TypeFaultKind.TheVariants.{Incomplete}
-use Rattle.c_types_spec.specs.Names.{Fault, fail}
+-- Sizes of elements of arrays, and of members.
+use Rattle.std.specs.Prelude.{ℕ, ◌<◌, List, [], ◌∷◌, ◌++◌, Option, Some, None}
+use Rattle.c_types_spec.specs.declared.TheConstants.{SIZE_LIMIT}
 use Rattle.c_types_spec.specs.Types as types
 
 -- the size of the elements of an array
@@ -12,10 +11,10 @@ element_size structs (types.Integer scalar) = None
 element_size structs (types.Pointer target) = None
 element_size structs (types.Struct number) = None
 
--- a size that is there
-abbrev pub size_needed : Option ℕ → (offset : ℕ) → Result ℕ Fault
-size_needed (Some size) offset = Ok size
-size_needed None offset = fail Incomplete offset
+-- there is a size, below the limit
+abbrev pub IsKnown : Option ℕ → Type 0
+IsKnown None = ⊥
+IsKnown (Some size) = size < SIZE_LIMIT
 
 -- one more member, of a distance
 abbrev pub with_placed : types.Layout → List ℕ → types.CType → (distance : ℕ) → types.Layout
@@ -24,7 +23,3 @@ with_placed layout name type distance = record {
   filled = layout.filled;
   alignment = layout.alignment;
 }
-
-abbrev pub element_pointer : types.CType → types.CType
-element_pointer (types.Array length element) = types.Pointer element
-element_pointer type = type

@@ -1,6 +1,6 @@
 //! Declared names (6.7): what is asked of them, and what they mean.
 
-ghost use Rattle.std.specs.Prelude.{◌≡◌, Ok, map, option_map};
+ghost use Rattle.std.specs.Prelude.{◌≡◌, Ok, map, nat_lt, option_map};
 ghost use Rattle.c_token_spec.specs.Words.{entry_of};
 ghost use Rattle.c_syntax.specs.Names.{name_of};
 ghost use Rattle.c_types_spec.specs.Declarations as rule;
@@ -361,19 +361,19 @@ fn words(of: &CType) -> usize
     }
 }
 
-/// How many words arguments of these types have.
+/// Arguments of these types have more words than a call passes.
 #[tactic(auto, using(crate::proofs::Signatures::more_words))]
-fn words_of(types: &[CType]) -> Result<usize, TypeFault>
-    ensures { Gives (λ n. n) result (Ok (rule.words_of (map type_of types.now))) }
+fn has_too_many_words(types: &[CType]) -> bool
+    ensures { result ≡ nat_lt ARGUMENT_WORDS (rule.words_of (map type_of types.now)) }
 {
-    let mut sum = 0;
+    let mut left = ARGUMENT_WORDS;
     for of in types {
-        match words(of).checked_add(sum) {
-            Some(more) => sum = more,
-            None => return Err(TypeFault::Memory),
+        match left.checked_sub(words(of)) {
+            Some(less) => left = less,
+            None => return true,
         }
     }
-    Ok(sum)
+    false
 }
 
 /// What is refused of a function.
@@ -389,12 +389,12 @@ fn function_faults(
     let meaning = state.meaning_in_file(name.spelling);
     let again = is_once(meaning) || (has_body && had_body(meaning));
     let other = differs(meaning, signature) || is_array(&signature.returned);
-    let words = attempt!(words_of(signature.parameters.as_slice()));
+    let is_long = has_too_many_words(signature.parameters.as_slice());
     first_fault(
         &[
             (again, TypeFaultKind::Twice),
             (other, TypeFaultKind::Mismatch),
-            (words > ARGUMENT_WORDS, TypeFaultKind::TooManyWords),
+            (is_long, TypeFaultKind::TooManyWords),
             (
                 signature.returned.is_wide(),
                 TypeFaultKind::LeftOut(LeftOut::Word64),

@@ -1,6 +1,6 @@
 //! Sizes of declared types, and what is refused of them (6.7.6.2, 6.7.2.1).
 
-ghost use Rattle.std.specs.Prelude.{◌≡◌, Ok, is_none, is_some};
+ghost use Rattle.std.specs.Prelude.{◌≡◌, Ok, Some, false, is_none, is_some};
 ghost use Rattle.c_syntax.specs.Names.{name_of};
 ghost use Rattle.c_types_spec.specs.Declarations as rule;
 ghost use Rattle.c_types_spec.specs.Names as names;
@@ -167,7 +167,7 @@ fn rounded_up(alignment: u64, n: u64) -> Result<u64, TypeFault>
     ensures { Gives (λ r. r) result (Ok (types.round_up alignment n)) }
 {
     if alignment == 0 {
-        return Err(TypeFault::Memory);
+        return Ok(n);
     }
     let missing = (alignment - n % alignment) % alignment;
     match n.checked_add(missing) {
@@ -176,21 +176,15 @@ fn rounded_up(alignment: u64, n: u64) -> Result<u64, TypeFault>
     }
 }
 
-/// A size that is below the limit.
-#[tactic(auto, using(crate::proofs::Capped::capping))]
-fn known_size(structs: &[Definition<'_>], of: &CType, offset: usize) -> Result<u64, TypeFault>
-    ensures { Gives (λ n. n) result (specs.size_needed (types.size_of (structs_of structs.now)
-        (type_of of.now)) offset) }
+/// The size of a type that has one below the limit.
+#[tactic(auto, using(crate::proofs::Capped::knowing))]
+fn known_size(structs: &[Definition<'_>], of: &CType) -> u64
+    requires { specs.IsKnown (types.size_of (structs_of structs.now) (type_of of.now)) }
+    ensures { types.size_of (structs_of structs.now) (type_of of.now) ≡ Some result }
 {
     match size(structs, of) {
-        Some(size) => {
-            if size < SIZE_LIMIT {
-                Ok(size)
-            } else {
-                Err(TypeFault::Memory)
-            }
-        }
-        None => Err(TypeFault::At(TypeFaultKind::Incomplete, offset)),
+        Some(size) => size,
+        None => unreachable!(),
     }
 }
 
@@ -202,12 +196,14 @@ fn push_member<'a>(
     of: CType,
     distance: u64,
 ) -> Result<(), TypeFault>
+    requires { is_some (types.member_named (layout_of layout.old) name.now) ≡ false }
     ensures { Gives (λ _. layout_of layout.new) result (Ok (specs.with_placed (layout_of layout.old)
         name.now (type_of of) distance)) }
 {
     match layout.members.insert(name, Placed { of, distance }) {
         Ok(None) => Ok(()),
-        Ok(Some(_)) | Err(_) => Err(TypeFault::Memory),
+        Ok(Some(_)) => unreachable!(),
+        Err(_) => Err(TypeFault::Memory),
     }
 }
 
@@ -220,6 +216,7 @@ fn with_member<'a>(
     size: u64,
     alignment: u64,
 ) -> Result<(), TypeFault>
+    requires { is_some (types.member_named (layout_of layout.old) name.now) ≡ false }
     ensures { Gives (λ _. layout_of layout.new) result (Ok (types.with_member (layout_of layout.old)
         name.now (type_of of) size alignment)) }
 {
@@ -250,7 +247,7 @@ fn layout_fits(layout: &Layout<'_>, offset: usize) -> Result<(), TypeFault>
 }
 
 /// One more member of a struct.
-#[tactic(auto, unfolding(c_types_spec::specs::Declarations::member))]
+#[tactic(auto, unfolding(c_types_spec::specs::Declarations::member), using(crate::proofs::Capped::knowing))]
 pub fn member<'a>(
     structs: &[Definition<'a>],
     layout: &mut Layout<'a>,
@@ -261,7 +258,7 @@ pub fn member<'a>(
         (layout_of layout.old) (name_of name.entry) (type_of of)) }
 {
     attempt_or_drop!(member_faults(structs, layout, name, &of); of);
-    let size = attempt_or_drop!(known_size(structs, &of, name.offset); of);
+    let size = known_size(structs, &of);
     let alignment = alignment(structs, &of);
     attempt!(with_member(layout, name.spelling, of, size, alignment));
     layout_fits(layout, name.offset)
@@ -283,25 +280,16 @@ pub fn empty_layout<'a>(alloc: Global) -> Result<Box<Layout<'a>>, TypeFault>
     }
 }
 
-/// A pointer to the elements of an array.
-fn pointer_to_element(of: CType) -> Result<CType, TypeFault>
-    ensures { Gives type_of result (Ok (specs.element_pointer (type_of of))) }
-{
-    let found = of.element();
-    drop(of);
-    match attempt!(part_or_memory(found)) {
-        Some(element) => type_or_memory(element.pointer()),
-        None => Err(TypeFault::Memory),
-    }
-}
-
 /// The type of a parameter: an array is a pointer (6.7.6.3p7).
-#[tactic(auto, using(crate::proofs::Outers::by_outer, crate::proofs::Capped::capping))]
+#[tactic(auto, using(crate::proofs::Outers::adjusting))]
 pub fn adjusted(of: CType) -> Result<CType, TypeFault>
     ensures { Gives type_of result (Ok (rule.adjusted (type_of of))) }
 {
-    match of.outer() {
-        Outer::Array(_) => pointer_to_element(of),
-        Outer::Void | Outer::Integer(_) | Outer::Pointer | Outer::Struct(_) => Ok(of),
+    match attempt_or_drop!(part_or_memory(of.element()); of) {
+        Some(element) => {
+            drop(of);
+            type_or_memory(element.pointer())
+        }
+        None => Ok(of),
     }
 }

@@ -4,14 +4,15 @@ use Rattle.std.specs.Prelude.{slice_get}
 use Rattle.std.specs.Option.{option_map}
 use Rattle.std.proofs.lemmas.Option.{slice_get_read}
 use Rattle.std.proofs.Math.Seq.{get_or-append_seam}
-use Rattle.std.proofs.lemmas.Bool.{le-leb}
+use Rattle.std.proofs.lemmas.Bool.{le-leb, leb-true}
 use Rattle.std.proofs.lemmas.List.{append_assoc, append-nil}
 use Rattle.std.specs.Prelude.{◌&&◌, ◌≤◌, if◌then◌else◌, Result, Ok, Err}
-use Rattle.std.specs.Prelude.{OnOk, nat_le, ◌<◌, ◌↔◌}
+use Rattle.std.specs.Prelude.{OnOk, IfSome, nat_le, ◌<◌, ◌↔◌}
 use Rattle.memory_spec.specs.Runs.{Run}
 use Rattle.term_core_spec.specs.Term.{Term}
 use Rattle.term_core_spec.specs.Subterms.{subterm_count}
-use Rattle.term_core_spec.specs.Value.{value}
+use Rattle.term_core_spec.specs.Value.{Truth, value}
+use Rattle.term_core.specs.declared.assignment.Assignment.{Assignment}
 use Rattle.term_core.specs.Assignment.{assignment_of}
 use Rattle.term_norm_spec.specs.Normal.{normal}
 use Rattle.tv_limits.specs.declared.TheConstants.{MAX_TERMS, MAX_VARIABLES}
@@ -21,7 +22,7 @@ use Rattle.clause_check_spec.specs.Clause.{Clause, Cnf}
 use Rattle.clause_check_spec.specs.Step.{Outcome, Follows, Refused, outcome}
 use Rattle.clause_check_spec.specs.Log.{Step, AllFollow, none, some, Refutes}
 use Rattle.discharge_spec.specs.Closing.{Closing, Closes, Unclosed, Fails, is_empty, after, at_end, checked}
-use Rattle.discharge_spec.specs.Closing.{IsLarge, has_no_step, is_truth, closing_of_clauses, closing_of_form, closing}
+use Rattle.discharge_spec.specs.Closing.{IsLarge, has_no_step, is_truth, closing_of_clauses, closing_of_form, closing, IsSmall, IsFirstAbove}
 use Rattle.discharge_spec.specs.declared.GoalQuantity.{GoalQuantity}
 use Rattle.discharge_spec.specs.declared.GoalQuantity.TheVariants.{Terms, Variables}
 use Rattle.clause_check.specs.Logged.{Logged, clauses_of}
@@ -35,7 +36,7 @@ use Rattle.discharge.specs.declared.error.SeekError.{SeekError}
 use Rattle.discharge.specs.declared.error.SeekError.TheVariants as seek
 use Rattle.discharge.specs.declared.seeking.Sought.{Sought}
 use Rattle.discharge.specs.declared.seeking.Sought.TheVariants.{Valid, Refuted, Limit}
-use Rattle.discharge.specs.Answers.{TakesFirst, refusal, Answers, CountsVariables, IsAbove, SeeksForm, Seeks, is_empty_some, ends_empty}
+use Rattle.discharge.specs.Answers.{TakesFirst, refusal, Answers, CountsVariables, CountsLarge, HasFewVariables, RefutesGoal, SeeksForm, Seeks, is_empty_some, ends_empty}
 
 -- a log by its first step
 pub rest_of : (variables : ℕ) (clauses : List Clause) (is_closed : Bool) (number : ℕ) (steps : List Step) (step : Step) (others : List Step) → steps ≡ step ∷ others
@@ -210,12 +211,41 @@ pub of_form : (runs : List Run) (goal : Term) (log : List Step) → nat_le (subt
     → closing runs goal log ≡ closing_of_form (normal runs goal) log
 of_form runs goal log small = ap (λ b. if b then closing_of_form (normal runs goal) log else IsLarge Terms) small
 
+-- and is small where the clauses of its normal form are
+small_by : (runs : List Run) (goal form : Term) → nat_le (subterm_count goal) MAX_TERMS ≡ true → form ≡ normal runs goal → HasFewVariables form → IsSmall runs goal
+small_by runs goal form small is few = record { terms = leb-true (subterm_count goal) MAX_TERMS small; variables = subst HasFewVariables is few }
+
+-- or is too large by those
+large_by : (runs : List Run) (goal form : Term) (quantity : GoalQuantity) (count : ℕ) → nat_le (subterm_count goal) MAX_TERMS ≡ true → form ≡ normal runs goal
+    → (quantity ≡ Variables) × (MAX_VARIABLES < count) × (count ≤ (cnf_of form).variables) → IsFirstAbove runs goal quantity count
+large_by runs goal form quantity count small is large =
+    subst (λ q. IsFirstAbove runs goal q count) (sym large.0) (record {
+      earlier = leb-true (subterm_count goal) MAX_TERMS small;
+      above = large.1;
+      least = subst (λ f. count ≤ (cnf_of f).variables) is large.2;
+    })
+
+pub counts_by : {A : Type 0} (runs : List Run) (goal form : Term) (result : Result A CloseError) → nat_le (subterm_count goal) MAX_TERMS ≡ true → form ≡ normal runs goal
+    → CountsVariables form result → CountsLarge runs goal result
+counts_by runs goal form (Ok done) small is counts = tt
+counts_by runs goal form (Err (close.Large quantity count)) small is counts = large_by runs goal form quantity count small is counts
+counts_by runs goal form (Err (close.Step number)) small is counts = tt
+counts_by runs goal form (Err close.Unclosed) small is counts = tt
+counts_by runs goal form (Err close.NoMemory) small is counts = tt
+
+-- a goal with few terms is refuted where its normal form is
+pub refutes_by : (runs : List Run) (goal form : Term) (found : Option Assignment) → nat_le (subterm_count goal) MAX_TERMS ≡ true → form ≡ normal runs goal
+    → IfSome found (λ a. value (assignment_of a) form ≡ Truth false) → IfSome found (RefutesGoal runs goal)
+refutes_by runs goal form None small is refuted = tt
+refutes_by runs goal form (Some a) small is refuted = (leb-true (subterm_count goal) MAX_TERMS small, ap (value (assignment_of a)) (sym is) ∙ refuted)
+
 pub seeks_by : (runs : List Run) (goal form : Term) (limit : ℕ) (result : Result Sought SeekError) → nat_le (subterm_count goal) MAX_TERMS ≡ true
     → form ≡ normal runs goal → SeeksForm form limit result → Seeks runs goal limit result
 seeks_by runs goal form limit (Ok (Valid log)) small is sought =
     (of_form runs goal log.items small ∙ ap (λ f. closing_of_form f log.items) (sym is) ∙ sought.0, subst (λ f. Lean (cnf_of f) log.items limit) is sought.1)
-seeks_by runs goal form limit (Ok (Refuted assignment)) small is sought = ap (value (assignment_of assignment)) (sym is) ∙ sought
-seeks_by runs goal form limit (Ok (Limit log)) small is sought = subst (λ f. Spent (cnf_of f) log.items limit) is sought
-seeks_by runs goal form limit (Err (seek.Large quantity count)) small is sought =
-    subst (λ q. IsAbove runs goal q count) (sym sought.0) (sought.1, subst (λ f. count ≤ (cnf_of f).variables) is sought.2)
+seeks_by runs goal form limit (Ok (Refuted assignment)) small is sought =
+    (small_by runs goal form small is sought.0, ap (value (assignment_of assignment)) (sym is) ∙ sought.1)
+seeks_by runs goal form limit (Ok (Limit log)) small is sought =
+    (small_by runs goal form small is sought.0, subst (λ f. Spent (cnf_of f) log.items limit) is sought.1)
+seeks_by runs goal form limit (Err (seek.Large quantity count)) small is sought = large_by runs goal form quantity count small is sought
 seeks_by runs goal form limit (Err seek.NoMemory) small is sought = tt

@@ -3,6 +3,7 @@ use Rattle.std.specs.Prelude.{◌≡◌, ℕ, ◌+◌, ◌-◌, ◌<◌, ◌≤�
 use Rattle.memory_spec.specs.Runs.{Run}
 use Rattle.term_core_spec.specs.Term.{Term}
 use Rattle.term_core_spec.specs.Value.{Truth, value}
+use Rattle.term_core.specs.declared.assignment.Assignment.{Assignment}
 use Rattle.term_core.specs.Assignment.{assignment_of}
 use Rattle.term_norm_spec.specs.Normal.{normal}
 use Rattle.clause_check_spec.specs.declared.StepFaultKind.{StepFaultKind}
@@ -15,9 +16,9 @@ use Rattle.clause_check.specs.declared.log.StepError.TheVariants.{Fault, NoMemor
 use Rattle.bit_blast_spec.specs.Goal.{cnf_of}
 use Rattle.sat_search_spec.specs.Logs.{Spent, Lean}
 use Rattle.discharge_spec.specs.declared.GoalQuantity.{GoalQuantity}
-use Rattle.discharge_spec.specs.declared.GoalQuantity.TheVariants.{Variables}
+use Rattle.discharge_spec.specs.declared.GoalQuantity.TheVariants.{Terms, Variables}
 use Rattle.tv_limits.specs.declared.TheConstants.{MAX_VARIABLES}
-use Rattle.discharge_spec.specs.Closing.{Closing, Closes, IsLarge, Fails, Unclosed, is_empty, closing_of_form, closing, measured, maximum}
+use Rattle.discharge_spec.specs.Closing.{Closing, Closes, IsLarge, Fails, Unclosed, is_empty, closing_of_form, closing, IsWithin, IsSmall, IsFirstAbove}
 use Rattle.discharge.specs.declared.error.CloseError.{CloseError}
 use Rattle.discharge.specs.declared.error.CloseError.TheVariants as close
 use Rattle.discharge.specs.declared.error.SeekError.{SeekError}
@@ -33,12 +34,8 @@ Answers verdict (Err (close.Step number)) = verdict ≡ Fails number
 Answers verdict (Err close.Unclosed) = verdict ≡ Unclosed
 Answers verdict (Err close.NoMemory) = Unit {0}
 
--- the count of a quantity that is above its maximum: the quantity is at least that
-abbrev pub IsAbove : List Run → (goal : Term) → GoalQuantity → (count : ℕ) → Type 0
-IsAbove runs goal quantity count = (maximum quantity < count) × (count ≤ measured runs goal quantity)
-
 abbrev pub CountsLarge : {A : Type 0} → List Run → (goal : Term) → Result A CloseError → Type 0
-CountsLarge runs goal (Err (close.Large quantity count)) = IsAbove runs goal quantity count
+CountsLarge runs goal (Err (close.Large quantity count)) = IsFirstAbove runs goal quantity count
 CountsLarge runs goal other = Unit {0}
 
 -- for a goal in normal form
@@ -71,21 +68,32 @@ is_empty_some (Some clause) = is_empty clause
 abbrev pub ends_empty : List Clause → Bool
 ends_empty clauses = is_empty_some (slice_get clauses (length clauses - 1))
 
--- What the search for a log finds, for a goal in normal form: a log that closes it, an assignment under which it is
--- false, or the log of as many learnt clauses as were allowed.
+-- it makes the normal form of the goal false, which doesn't have too many terms
+abbrev pub RefutesGoal : List Run → (goal : Term) → Assignment → Type 0
+RefutesGoal runs goal assignment = IsWithin runs goal Terms × (value (assignment_of assignment) (normal runs goal) ≡ Truth false)
+
+-- its clauses have at most the maximum of variables
+abbrev pub HasFewVariables : (form : Term) → Type 0
+HasFewVariables form = (cnf_of form).variables ≤ MAX_VARIABLES
+
+-- What the search for a log finds, for a goal in normal form: a log that closes it; or, of one whose clauses don't have
+-- too many variables, an assignment under which it is false, or the log of as many learnt clauses as were allowed.
 abbrev pub IsSought : (form : Term) → (limit : ℕ) → Sought → Type 0
 IsSought form limit (Valid log) = (closing_of_form form log.items ≡ Closes) × Lean (cnf_of form) log.items limit
-IsSought form limit (Refuted assignment) = value (assignment_of assignment) form ≡ Truth false
-IsSought form limit (Limit log) = Spent (cnf_of form) log.items limit
+IsSought form limit (Refuted assignment) = HasFewVariables form × (value (assignment_of assignment) form ≡ Truth false)
+IsSought form limit (Limit log) = HasFewVariables form × Spent (cnf_of form) log.items limit
 
 abbrev pub SeeksForm : (form : Term) → (limit : ℕ) → Result Sought SeekError → Type 0
 SeeksForm form limit (Ok sought) = IsSought form limit sought
 SeeksForm form limit (Err (seek.Large quantity count)) = (quantity ≡ Variables) × (MAX_VARIABLES < count) × (count ≤ (cnf_of form).variables)
 SeeksForm form limit (Err seek.NoMemory) = Unit {0}
 
--- the same for a goal, before its normal form is made
+-- The same for a goal, before its normal form is made: what isn't closed and has a quantity above its maximum is too
+-- large, and is neither refuted nor searched.
 abbrev pub Seeks : List Run → (goal : Term) → (limit : ℕ) → Result Sought SeekError → Type 0
 Seeks runs goal limit (Ok (Valid log)) = (closing runs goal log.items ≡ Closes) × Lean (cnf_of (normal runs goal)) log.items limit
-Seeks runs goal limit (Ok other) = IsSought (normal runs goal) limit other
-Seeks runs goal limit (Err (seek.Large quantity count)) = IsAbove runs goal quantity count
+Seeks runs goal limit (Ok (Refuted assignment)) =
+    IsSmall runs goal × (value (assignment_of assignment) (normal runs goal) ≡ Truth false)
+Seeks runs goal limit (Ok (Limit log)) = IsSmall runs goal × Spent (cnf_of (normal runs goal)) log.items limit
+Seeks runs goal limit (Err (seek.Large quantity count)) = IsFirstAbove runs goal quantity count
 Seeks runs goal limit (Err seek.NoMemory) = Unit {0}

@@ -2,10 +2,10 @@
 
 ghost use Rattle.std.specs.Prelude.{◌≡◌, ◌<◌, false, length, IfOk, IfSome};
 ghost use Rattle.memory_spec.specs.Viewed.{runs_of};
-ghost use Rattle.term_norm_spec.specs.Normal as spec;
 ghost use Rattle.term_core_spec.specs.Value.{Truth, value};
 ghost use Rattle.term_core.specs.Assignment.{assignment_of};
 ghost use Rattle.term_bank.specs.Nodes.{Extends, tree_at};
+ghost use Rattle.discharge.specs.Answers.{RefutesGoal};
 
 use crate::closing::is_truth;
 use crate::guess;
@@ -37,9 +37,8 @@ pub fn refute(
     runs: &[Run],
 ) -> Result<Option<Assignment>, AllocError>
     requires { goal < length bank.old }
-    ensures refutes { IfOk result (λ found. IfSome found (λ assignment.
-        value (assignment_of assignment) (spec.normal (runs_of runs.now) (tree_at bank.old goal))
-        ≡ Truth false)) }
+    ensures refutes { IfOk result (λ found. IfSome found
+        (RefutesGoal (runs_of runs.now) (tree_at bank.old goal))) }
     ensures extends { Extends bank.old bank.new }
 {
     match is_within(alloc, bank, goal) {

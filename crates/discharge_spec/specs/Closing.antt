@@ -1,6 +1,6 @@
 -- When a log closes a goal: the normal form of the goal is true and the log has no step; or each step follows from the
 -- clauses of the normal form and from the steps before it, and the last has no literal.
-use Rattle.std.specs.Prelude.{ℕ, ◌+◌, ◌&&◌, Bool, true, false, if◌then◌else◌, nat_le, List, [], ◌∷◌, ◌++◌}
+use Rattle.std.specs.Prelude.{ℕ, ◌+◌, ◌<◌, ◌≤◌, ◌&&◌, Bool, true, false, if◌then◌else◌, nat_le, List, [], ◌∷◌, ◌++◌}
 use Rattle.memory_spec.specs.Runs.{Run}
 use Rattle.term_core_spec.specs.declared.Atom.TheVariants as atom
 use Rattle.term_core_spec.specs.Term.{Term, Leaf}
@@ -73,3 +73,22 @@ measured runs goal Variables = (cnf_of (normal runs goal)).variables
 abbrev pub maximum : GoalQuantity → ℕ
 maximum Terms = MAX_TERMS
 maximum Variables = MAX_VARIABLES
+
+abbrev pub IsWithin : List Run → (goal : Term) → GoalQuantity → Type 0
+IsWithin runs goal quantity = measured runs goal quantity ≤ maximum quantity
+
+-- no quantity of the goal is above its maximum
+pub record IsSmall (runs : List Run) (goal : Term) : Type 0 where
+  pub terms : IsWithin runs goal Terms
+  pub variables : IsWithin runs goal Variables
+
+-- the quantities that are tried before one are within their maxima
+abbrev pub AreWithinBefore : List Run → (goal : Term) → GoalQuantity → Type 0
+AreWithinBefore runs goal Terms = Unit {0}
+AreWithinBefore runs goal Variables = IsWithin runs goal Terms
+
+-- the first quantity that is above its maximum, which is below the count; the goal has as much at least
+pub record IsFirstAbove (runs : List Run) (goal : Term) (quantity : GoalQuantity) (count : ℕ) : Type 0 where
+  pub earlier : AreWithinBefore runs goal quantity
+  pub above : maximum quantity < count
+  pub least : count ≤ measured runs goal quantity

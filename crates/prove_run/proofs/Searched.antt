@@ -167,9 +167,9 @@ module _ (f : spec.Listed) (trees : List Term) (ids : List ℕ) (has : HasGoals 
   trail_for (trails.Later side node) at = absurd at.is
   trail_for (trails.Large (measure.Visits side) count) at = absurd at.is
   trail_for (trails.Large (measure.Obligation n quantity) count) at =
-      (at.goal, obligation n at.goal (ap (slice_get has.are.terms) at.is.0 ∙ at.there), at.is.1, at.is.2)
-  trail_for (trails.Refuted n a) at = (at.goal, obligation n at.goal (ap (slice_get has.are.terms) at.is.0 ∙ at.there), at.is.1, at.is.2)
-  trail_for (trails.Spent n log) at = (at.goal, obligation n at.goal (ap (slice_get has.are.terms) at.is.0 ∙ at.there), at.is.1)
+      (at.goal, obligation n at.goal (ap (slice_get has.are.terms) at.is.0 ∙ at.there), at.is.1)
+  trail_for (trails.Refuted n a) at = (at.goal, obligation n at.goal (ap (slice_get has.are.terms) at.is.0 ∙ at.there), at.is.1, at.is.2, at.is.3)
+  trail_for (trails.Spent n log) at = (at.goal, obligation n at.goal (ap (slice_get has.are.terms) at.is.0 ∙ at.there), at.is.1, at.is.2)
 
   found_for : (one : Found) → IsSearched f.runs has.are.terms one → IsFound f (found_of one)
   found_for (Proved logs) all = record {

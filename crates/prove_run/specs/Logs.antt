@@ -1,5 +1,5 @@
 -- The logs of obligations, or the trail of one that has none.
-use Rattle.std.specs.Prelude.{◌≡◌, ◌<◌, ◌≤◌, ℕ, false, Vec, List, [], ◌∷◌, ◌++◌, All, Option, Some, None, slice_get}
+use Rattle.std.specs.Prelude.{◌≡◌, ℕ, false, Vec, List, [], ◌∷◌, ◌++◌, All, Option, Some, None, slice_get}
 use Rattle.std.specs.Global.{Global}
 use Rattle.memory_spec.specs.Runs.{Run}
 use Rattle.term_core_spec.specs.declared.Sort.TheVariants as sort
@@ -9,7 +9,8 @@ use Rattle.term_core_spec.specs.Value.{Truth, IsAssignment, value}
 use Rattle.term_norm_spec.specs.Normal.{normal}
 use Rattle.clause_check_spec.specs.Log.{Step}
 use Rattle.bit_blast_spec.specs.Goal.{cnf_of}
-use Rattle.discharge_spec.specs.Closing.{Closes, closing, measured, maximum}
+use Rattle.discharge_spec.specs.declared.GoalQuantity.TheVariants.{Terms}
+use Rattle.discharge_spec.specs.Closing.{Closes, closing, IsWithin, IsSmall, IsFirstAbove}
 use Rattle.sat_search_spec.specs.Logs as logs
 use Rattle.tv_limits.specs.declared.TheConstants.{SEARCH_LIMIT}
 use Rattle.prove_run_spec.specs.declared.Measure.TheVariants.{Visits, Obligation}
@@ -34,9 +35,9 @@ pub record IsLeanLog (runs : List Run) (goal : Term) (log : List Step) : Type 0 
 abbrev pub IsGoalTrail : List Run → (goal : Term) → (number : ℕ) → spec.Trail → Type 0
 IsGoalTrail runs goal number (spec.Later side node) = ⊥
 IsGoalTrail runs goal number (spec.Large (Visits side) count) = ⊥
-IsGoalTrail runs goal number (spec.Large (Obligation n quantity) count) = (n ≡ number) × (maximum quantity < count) × (count ≤ measured runs goal quantity)
-IsGoalTrail runs goal number (spec.Refuted n a) = (n ≡ number) × IsAssignment a × (value a (normal runs goal) ≡ Truth false)
-IsGoalTrail runs goal number (spec.Spent n log) = (n ≡ number) × logs.Spent (cnf_of (normal runs goal)) log SEARCH_LIMIT
+IsGoalTrail runs goal number (spec.Large (Obligation n quantity) count) = (n ≡ number) × IsFirstAbove runs goal quantity count
+IsGoalTrail runs goal number (spec.Refuted n a) = (n ≡ number) × IsWithin runs goal Terms × IsAssignment a × (value a (normal runs goal) ≡ Truth false)
+IsGoalTrail runs goal number (spec.Spent n log) = (n ≡ number) × IsSmall runs goal × logs.Spent (cnf_of (normal runs goal)) log SEARCH_LIMIT
 
 -- its log is added, or this is its trail
 abbrev pub HasLog : List Run → (goal : Term) → (number : ℕ) → (old new : List (Vec Step Global)) → Option Trail → Type 0

@@ -1,5 +1,5 @@
 -- Trails: why the search found no proof of a function by a bare Leaf; and what it finds.
-use Rattle.std.specs.Prelude.{◌≡◌, ◌<◌, ◌≤◌, ℕ, false, List, length, Some, slice_get}
+use Rattle.std.specs.Prelude.{◌≡◌, ℕ, false, List, length, Some, slice_get}
 use Rattle.term_core_spec.specs.Term.{Term}
 use Rattle.term_core_spec.specs.Value.{Truth, Assignment, IsAssignment, value}
 use Rattle.term_norm_spec.specs.Normal.{normal}
@@ -11,7 +11,8 @@ use Rattle.sim_rules_spec.specs.Obligations as rule
 use Rattle.tv_limits.specs.declared.TheConstants.{MAX_VISITS}
 use Rattle.clause_check_spec.specs.Log.{Step}
 use Rattle.bit_blast_spec.specs.Goal.{cnf_of}
-use Rattle.discharge_spec.specs.Closing.{measured, maximum}
+use Rattle.discharge_spec.specs.declared.GoalQuantity.TheVariants.{Terms}
+use Rattle.discharge_spec.specs.Closing.{IsWithin, IsSmall, IsFirstAbove}
 use Rattle.sat_search_spec.specs.Logs as logs
 use Rattle.cert_check_spec.specs.Verdict.{Listed}
 use Rattle.tv_limits.specs.declared.TheConstants.{SEARCH_LIMIT}
@@ -25,7 +26,7 @@ use Rattle.prove_run_spec.specs.Proofs.{HasLeanProof}
 pub data Trail : Type 0 where
   -- the walk of a side goes round at a node: a bare Leaf is no proof, and the rules for loops are not tried yet
   Later : (side : Side) → (node : ℕ) → Trail
-  -- a quantity is above its maximum; it is at least the count
+  -- a quantity is above its maximum, and those that are tried before it aren't; it is at least the count
   Large : (measure : Measure) → (count : ℕ) → Trail
   -- the assignment makes the obligation of a number false
   Refuted : (obligation : ℕ) → Assignment → Trail
@@ -65,9 +66,10 @@ abbrev pub IsTrail : Listed → Trail → Type 0
 IsTrail f (Later side node) = GoesRound f side node
 IsTrail f (Large (Visits side) count) = HasManyVisits f side count
 IsTrail f (Large (Obligation number quantity) count) =
-    (goal : Term) × IsObligation f number goal × (maximum quantity < count) × (count ≤ measured f.runs goal quantity)
-IsTrail f (Refuted number a) = (goal : Term) × IsObligation f number goal × IsAssignment a × (value a (normal f.runs goal) ≡ Truth false)
-IsTrail f (Spent number log) = (goal : Term) × IsObligation f number goal × logs.Spent (cnf_of (normal f.runs goal)) log SEARCH_LIMIT
+    (goal : Term) × IsObligation f number goal × IsFirstAbove f.runs goal quantity count
+IsTrail f (Refuted number a) =
+    (goal : Term) × IsObligation f number goal × IsWithin f.runs goal Terms × IsAssignment a × (value a (normal f.runs goal) ≡ Truth false)
+IsTrail f (Spent number log) = (goal : Term) × IsObligation f number goal × IsSmall f.runs goal × logs.Spent (cnf_of (normal f.runs goal)) log SEARCH_LIMIT
 
 -- ---- what is found
 

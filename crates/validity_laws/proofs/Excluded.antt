@@ -129,10 +129,10 @@ module _ (f : Listed) (logs : List (List Step)) (proof : HasProof f logs) where
   excluded (Later side.Source node) bytes truths is other = proof.acyclic node (inr is)
   excluded (Large (measure.Visits side.Binary) count) bytes truths is other = proof.small count (is.binary, is.source, inl is.many)
   excluded (Large (measure.Visits side.Source) count) bytes truths is other = proof.small count (is.binary, is.source, inr is.many)
-  excluded (Large (measure.Obligation number q) count) bytes truths (goal, is, above, least) other =
+  excluded (Large (measure.Obligation number q) count) bytes truths (goal, is, large) other =
       let closed = there_closed number goal is in
-      never_above f.runs goal closed.log q count closed.closes above least
-  excluded (Refuted number a) bytes truths (goal, is, fine, false_there) other =
+      never_above f.runs goal closed.log q count closed.closes large.above large.least
+  excluded (Refuted number a) bytes truths (goal, is, few, fine, false_there) other =
       let closed = there_closed number goal is in
       never_false f.runs bytes goal closed.log (sorted_at is.terms number goal (truths is.terms is.are) is.there) closed.closes a fine false_there
   excluded (Spent number log) bytes truths is other = absurd (let e : true ≡ false = other in cc)
