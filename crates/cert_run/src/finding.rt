@@ -16,6 +16,7 @@ use cert_check_frames::Listed;
 use cert_text::{Cert, write};
 use prove_run::{Found, Trails, certificate, prove};
 use std::alloc::{AllocError, Global};
+use tv_base::Notes;
 use tv_limits::MAX_CERTIFICATE_BYTES;
 
 /// What the search for proofs of the functions of a list finds.
@@ -121,10 +122,14 @@ fn search_of(
 }
 
 /// What the search for proofs finds of each of the functions.
-pub(crate) fn find(alloc: Global, listed: &[Listed<'_>]) -> Result<Search, AllocError>
+pub(crate) fn find<N: Notes>(
+    alloc: Global,
+    listed: &[Listed<'_>],
+    notes: &mut N,
+) -> Result<Search, AllocError>
     ensures { IfOk result (Searches listed.now) }
 {
-    let found = attempt!(prove(alloc, listed));
+    let found = attempt!(prove(alloc, listed, notes));
     let cert = attempt!(certificate(alloc, listed, found.as_slice()));
     search_of(alloc, listed, found, cert)
 }

@@ -15,6 +15,7 @@ use cert_run_spec::laws::{files_have_words, logged_leaves_are_valid, proofs_are_
 use elf_read::Image;
 use pair_setup::Pairs;
 use std::alloc::{AllocError, Global};
+use tv_base::Notes;
 use validity_laws::trails::functions_have_truths;
 
 // The verdict on the bytes of a certificate, of functions of both sides.
@@ -56,12 +57,16 @@ pub fn check(
 }
 
 // What a search finds of the functions of both sides.
-fn search_sides(alloc: Global, sides: &Sides<'_>) -> Result<Search, AllocError>
+fn search_sides<N: Notes>(
+    alloc: Global,
+    sides: &Sides<'_>,
+    notes: &mut N,
+) -> Result<Search, AllocError>
     ensures { IfOk result (SearchesSides sides.now) }
 {
     match sides.conventions(alloc) {
         Ok(conventions) => match sides.listed(alloc, conventions.as_slice()) {
-            Ok(listed) => find(alloc, listed.as_slice()),
+            Ok(listed) => find(alloc, listed.as_slice(), notes),
             Err(error) => Err(error),
         },
         Err(error) => Err(error),
@@ -69,13 +74,14 @@ fn search_sides(alloc: Global, sides: &Sides<'_>) -> Result<Search, AllocError>
 }
 
 /// What a search finds of the functions of a list with pairs: which it proves, each by a bare Leaf
-/// and logs, the certificate of these, and the trails of the others.
-pub fn prove(
+/// and logs, the certificate of these, and the trails of the others. `notes` is told how it goes on.
+pub fn prove<N: Notes>(
     alloc: Global,
     image: &Image<'_>,
     unit: &Typed<'_>,
     list: &[&[u8]],
     pairs: &Pairs,
+    notes: &mut N,
 ) -> Result<Search, AllocError>
     requires { CanRun image.now (typed_of unit.now) (texts_of list.now)
         (pairs_of (texts_of list.now) pairs.now) }
@@ -87,5 +93,5 @@ pub fn prove(
     functions_have_truths();
     logged_leaves_are_valid();
     let sides = attempt!(Sides::new(alloc, image, unit, list, pairs));
-    search_sides(alloc, &sides)
+    search_sides(alloc, &sides, notes)
 }

@@ -16,6 +16,7 @@ mod own;
 mod rounds;
 mod seeking;
 mod steps;
+mod truth;
 mod values;
 
 pub use closing::close;
@@ -25,5 +26,7 @@ pub use guessing::refute;
 pub use laws::closed_goals_are_true;
 pub use memory_spec::Run;
 pub use rounds::guess;
-pub use seeking::{Sought, seek};
+pub use sat_search::Counts;
+pub use seeking::{Cost, Sought, seek, seek_counting};
 pub use steps::{Listing, Steps};
+pub use truth::is_true;

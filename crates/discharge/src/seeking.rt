@@ -18,7 +18,7 @@ use crate::limits::is_within;
 use bit_blast::{BlastError, Blasted, blast, read_back};
 use discharge_spec::GoalQuantity;
 use memory_spec::Run;
-use sat_search::{Found, solve};
+use sat_search::{Counts, Found, solve_counting};
 use sat_search_analysis::Step;
 use std::alloc::Global;
 use term_bank::{Bank, TermId};
@@ -35,6 +35,25 @@ pub enum Sought {
     Refuted(Assignment),
     /// The limit was reached: a log of as many learnt clauses, none of which closes the goal.
     Limit(Vec<Step>),
+}
+
+/// What a search took.
+#[derive(Clone, Copy)]
+pub struct Cost {
+    /// The variables of the clauses; 0 where there was nothing to search.
+    pub variables: usize,
+    /// The clauses that were learnt, and the assignments.
+    pub counts: Counts,
+}
+
+impl Cost {
+    /// That of no search.
+    pub fn new() -> Cost {
+        Cost {
+            variables: 0,
+            counts: Counts::new(),
+        }
+    }
 }
 
 /// What a search over the clauses of a goal in normal form found.
@@ -56,7 +75,13 @@ fn outcome(alloc: Global, blasted: &Blasted, found: Found) -> Result<Sought, See
 }
 
 /// Searches for a log that closes a goal in normal form.
-fn seek_form(alloc: Global, bank: &Bank, form: TermId, limit: usize) -> Result<Sought, SeekError>
+fn seek_form(
+    alloc: Global,
+    bank: &Bank,
+    form: TermId,
+    limit: usize,
+    cost: &mut Cost,
+) -> Result<Sought, SeekError>
     requires { form < length bank.now }
     ensures { sort_of (tree_at bank.now form) ≡ Some sort.Truth
         → TableLoadsFromVariables (visit (tree_at bank.now form) [] 1).out
@@ -66,12 +91,42 @@ fn seek_form(alloc: Global, bank: &Bank, form: TermId, limit: usize) -> Result<S
         return Ok(Sought::Valid(Vec::new(alloc)));
     }
     match blast(alloc, bank, form, MAX_VARIABLES) {
-        Ok(blasted) => match solve(alloc, &blasted.cnf, limit) {
-            Ok(found) => outcome(alloc, &blasted, found),
-            Err(_) => Err(SeekError::NoMemory),
-        },
+        Ok(blasted) => {
+            cost.variables = blasted.cnf.variables();
+            match solve_counting(alloc, &blasted.cnf, limit, &mut cost.counts) {
+                Ok(found) => outcome(alloc, &blasted, found),
+                Err(_) => Err(SeekError::NoMemory),
+            }
+        }
         Err(BlastError::Large(count)) => Err(SeekError::Large(GoalQuantity::Variables, count)),
         Err(BlastError::NoMemory) => Err(SeekError::NoMemory),
+    }
+}
+
+/// Searches as [`seek`] does, and says what that took.
+pub fn seek_counting(
+    alloc: Global,
+    bank: &mut Bank,
+    goal: TermId,
+    limit: usize,
+    runs: &[Run],
+    cost: &mut Cost,
+) -> Result<Sought, SeekError>
+    requires { goal < length bank.old }
+    ensures seeks { sort_of (tree_at bank.old goal) ≡ Some sort.Truth
+        → Seeks (runs_of runs.now) (tree_at bank.old goal) limit result }
+    ensures extends { Extends bank.old bank.new }
+{
+    *cost = Cost::new();
+    hold_runs(runs);
+    match is_within(alloc, bank, goal) {
+        Ok(true) => {}
+        Ok(false) => return Err(SeekError::Large(GoalQuantity::Terms, MAX_TERMS + 1)),
+        Err(_) => return Err(SeekError::NoMemory),
+    }
+    match normal(alloc, bank, goal, runs) {
+        Ok(form) => seek_form(alloc, bank, form, limit, cost),
+        Err(_) => Err(SeekError::NoMemory),
     }
 }
 
@@ -89,14 +144,6 @@ pub fn seek(
         → Seeks (runs_of runs.now) (tree_at bank.old goal) limit result }
     ensures extends { Extends bank.old bank.new }
 {
-    hold_runs(runs);
-    match is_within(alloc, bank, goal) {
-        Ok(true) => {}
-        Ok(false) => return Err(SeekError::Large(GoalQuantity::Terms, MAX_TERMS + 1)),
-        Err(_) => return Err(SeekError::NoMemory),
-    }
-    match normal(alloc, bank, goal, runs) {
-        Ok(form) => seek_form(alloc, bank, form, limit),
-        Err(_) => Err(SeekError::NoMemory),
-    }
+    let mut cost = Cost::new();
+    seek_counting(alloc, bank, goal, limit, runs, &mut cost)
 }

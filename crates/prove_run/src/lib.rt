@@ -8,6 +8,7 @@
 
 mod goals;
 mod logs;
+mod premises;
 mod search;
 mod trail;
 mod trails;

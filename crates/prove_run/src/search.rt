@@ -1,6 +1,6 @@
 //! The search for proofs of functions.
 
-ghost use Rattle.std.specs.Prelude.{◌≡◌, [], All, IfOk, List, OnOk, length, map};
+ghost use Rattle.std.specs.Prelude.{◌≡◌, ◌<◌, [], All, IfOk, List, OnOk, length, map};
 ghost use Rattle.cert_check_spec.specs.Verdict as spec;
 ghost use Rattle.cert_check_frames.specs.Listed.{AreListed, IsListed};
 ghost use Rattle.prove_run_spec.specs.Proofs.{HasTruths};
@@ -17,26 +17,28 @@ use cert_check_frames::{Listed, known};
 use sim_rules_terms::Opening;
 use std::alloc::{AllocError, Global};
 use term_bank::Bank;
+use tv_base::{Note, Notes};
 
 // What the search finds of a function, the terms of whose variables at the entry are known.
-fn find_opened(
+fn find_opened<N: Notes>(
     alloc: Global,
     function: &Listed<'_>,
     opening: Opening<'_>,
     bank: &mut Bank,
+    notes: &mut N,
 ) -> Result<Found, AllocError>
     requires { AreOpened function.now bank.old opening }
     ensures { (f : spec.Listed) → IsListed function.now f → HasTruths f
         → IfOk result (λ found. IsFound f (found_of found)) }
 {
     match leaf_goals(alloc, function, opening, bank) {
-        Ok(goals) => search(alloc, bank, goals.as_slice(), function.runs),
+        Ok(goals) => search(alloc, bank, goals.as_slice(), function.runs, notes),
         Err(fault) => why(alloc, function, fault),
     }
 }
 
 // What the search finds of a function.
-fn find(alloc: Global, function: &Listed<'_>) -> Result<Found, AllocError>
+fn find<N: Notes>(alloc: Global, function: &Listed<'_>, notes: &mut N) -> Result<Found, AllocError>
     ensures { (f : spec.Listed) → IsListed function.now f → HasTruths f
         → IfOk result (λ found. IsFound f (found_of found)) }
 {
@@ -47,11 +49,27 @@ fn find(alloc: Global, function: &Listed<'_>) -> Result<Found, AllocError>
         binary: &binary,
         source: &source,
     };
-    find_opened(alloc, function, opening, &mut bank)
+    find_opened(alloc, function, opening, &mut bank, notes)
+}
+
+// Notes that a function is the next.
+fn begin<N: Notes>(listed: &[Listed<'_>], index: usize, notes: &mut N)
+    requires { index < length listed.now }
+{
+    notes.note(&Note::Begun {
+        name: listed[index].name,
+        done: index,
+        all: listed.len(),
+    });
 }
 
 // Adds what the search finds of each function.
-fn add_found(alloc: Global, listed: &[Listed<'_>], all: &mut Vec<Found>) -> Result<(), AllocError>
+fn add_found<N: Notes>(
+    alloc: Global,
+    listed: &[Listed<'_>],
+    all: &mut Vec<Found>,
+    notes: &mut N,
+) -> Result<(), AllocError>
     requires { all.old.items ≡ [] }
     ensures found { (functions : List spec.Listed) → AreListed listed.now functions
         → All HasTruths functions
@@ -59,7 +77,8 @@ fn add_found(alloc: Global, listed: &[Listed<'_>], all: &mut Vec<Found>) -> Resu
     ensures count { OnOk result (length all.new.items ≡ length listed.now) }
 {
     for index in 0..listed.len() {
-        let found = attempt!(find(alloc, &listed[index]));
+        begin(listed, index, notes);
+        let found = attempt!(find(alloc, &listed[index], notes));
         attempt!(all.push(found), AllocError);
     }
     Ok(())
@@ -68,14 +87,20 @@ fn add_found(alloc: Global, listed: &[Listed<'_>], all: &mut Vec<Found>) -> Resu
 /// What the search finds of each listed function, in their order: the logs of its obligations, or
 /// the trail of an obligation that has none: of the first that a few assignments refute, or else of
 /// the first whose search finds none. Each function has a bank of its own, and each obligation a
-/// search that learns at most [`SEARCH_LIMIT`](tv_limits::SEARCH_LIMIT) clauses.
-pub fn prove(alloc: Global, listed: &[Listed<'_>]) -> Result<Vec<Found>, AllocError>
+/// search that learns at most [`SEARCH_LIMIT`](tv_limits::SEARCH_LIMIT) clauses. `notes` is told
+/// which function is in work, and what each search took.
+pub fn prove<N: Notes>(
+    alloc: Global,
+    listed: &[Listed<'_>],
+    notes: &mut N,
+) -> Result<Vec<Found>, AllocError>
     ensures found { (functions : List spec.Listed) → AreListed listed.now functions
         → All HasTruths functions
         → IfOk result (λ all. AreFound functions (map found_of all.items)) }
     ensures count { IfOk result (λ all. length all.items ≡ length listed.now) }
 {
     let mut all = Vec::new(alloc);
-    attempt!(add_found(alloc, listed, &mut all));
+    attempt!(add_found(alloc, listed, &mut all, notes));
+    notes.note(&Note::Finished);
     Ok(all)
 }

@@ -12,7 +12,7 @@ use crate::judge::judge;
 use report_text::Verdict;
 use report_text_spec::Quantity;
 use std::alloc::Global;
-use tv_base::{Desk, OutsideFault, read_up_to};
+use tv_base::{Desk, Notes, OutsideFault, read_up_to};
 use tv_limits::{MAX_C_BYTES, MAX_ELF_BYTES};
 use tv_words::Job;
 
@@ -62,12 +62,13 @@ pub(crate) fn read_file<D: Desk>(
 }
 
 /// The verdict on what was read of two files, of which the executable is within its maximum.
-fn judge_read<D: Desk>(
+fn judge_read<D: Desk, N: Notes>(
     alloc: Global,
     job: &Job<'_>,
     elf: &[u8],
     source: &[u8],
     desk: &mut D,
+    notes: &mut N,
 ) -> Result<Decision, OutsideFault>
     ensures judged { IfOk result (λ decision. JudgesRead (D.bytes desk.old) elf.now source.now
         (job_of job.now) (decision_of decision)) }
@@ -82,15 +83,16 @@ fn judge_read<D: Desk>(
     if source.len() > MAX_C_BYTES {
         return Ok(plain(alloc, Verdict::TooLarge(Quantity::C)));
     }
-    judge(alloc, elf, source, job, desk)
+    judge(alloc, elf, source, job, desk, notes)
 }
 
 /// The verdict on the files of a job, of which the executable is read. It reads the source.
-fn judge_with_elf<D: Desk>(
+fn judge_with_elf<D: Desk, N: Notes>(
     alloc: Global,
     job: &Job<'_>,
     desk: &mut D,
     elf: &[u8],
+    notes: &mut N,
 ) -> Result<Decision, OutsideFault>
     requires { AreOf (D.bytes desk.old) (asked_of (job_of job.now)).elf ELF_BYTES elf.now }
     ensures judged { IfOk result (λ decision. JudgesFiles (D.bytes desk.old) (job_of job.now)
@@ -108,16 +110,17 @@ fn judge_with_elf<D: Desk>(
         return Ok(plain(alloc, Verdict::TooLarge(Quantity::Elf)));
     }
     match read_file(alloc, desk, source_name(job), MAX_C_BYTES) {
-        Ok(source) => judge_read(alloc, job, elf, source.as_slice(), desk),
+        Ok(source) => judge_read(alloc, job, elf, source.as_slice(), desk, notes),
         Err(fault) => Err(fault),
     }
 }
 
 /// The verdict on the files of a job, which it reads.
-pub(crate) fn judge_files<D: Desk>(
+pub(crate) fn judge_files<D: Desk, N: Notes>(
     alloc: Global,
     job: &Job<'_>,
     desk: &mut D,
+    notes: &mut N,
 ) -> Result<Decision, OutsideFault>
     ensures judged { IfOk result (λ decision. JudgesFiles (D.bytes desk.old) (job_of job.now)
         (decision_of decision)) }
@@ -131,7 +134,7 @@ pub(crate) fn judge_files<D: Desk>(
         result }
 {
     match read_file(alloc, desk, elf_name(job), MAX_ELF_BYTES) {
-        Ok(elf) => judge_with_elf(alloc, job, desk, elf.as_slice()),
+        Ok(elf) => judge_with_elf(alloc, job, desk, elf.as_slice(), notes),
         Err(fault) => Err(fault),
     }
 }

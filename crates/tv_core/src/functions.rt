@@ -38,7 +38,7 @@ use prove_run::Trails;
 use report_text::{Judgement, Shown, Verdict};
 use report_text_spec::Quantity;
 use std::alloc::{AllocError, Global};
-use tv_base::{Bytes, Desk, OutsideFault};
+use tv_base::{Bytes, Desk, Notes, OutsideFault};
 use tv_limits::{MAX_CERTIFICATE_BYTES, MAX_FUNCTIONS};
 use tv_words::Job;
 
@@ -133,19 +133,20 @@ fn decide(
 
 /// What `prove` decides of the functions of a list with pairs: a function is valid where a search
 /// finds a proof of it.
-fn judge_all(
+fn judge_all<N: Notes>(
     alloc: Global,
     image: &Image<'_>,
     unit: &Typed<'_>,
     list: &[&[u8]],
     pairs: &Pairs,
+    notes: &mut N,
 ) -> Result<Decision, AllocError>
     requires { CanRun image.now (typed_of unit.now) (texts_of list.now)
         (pairs_of (texts_of list.now) pairs.now) }
     ensures { IfOk result (JudgesAll image.now (typed_of unit.now) (texts_of list.now)
         (pairs_of (texts_of list.now) pairs.now)) }
 {
-    let search = attempt!(prove(alloc, image, unit, list, pairs));
+    let search = attempt!(prove(alloc, image, unit, list, pairs, notes));
     decide(alloc, list, pairs.functions.as_slice(), search)
 }
 
@@ -293,7 +294,7 @@ fn show_function(
 }
 
 /// The verdict on the functions of a list, which have pairs.
-fn judge_paired<D: Desk>(
+fn judge_paired<D: Desk, N: Notes>(
     alloc: Global,
     image: &Image<'_>,
     unit: &Typed<'_>,
@@ -301,6 +302,7 @@ fn judge_paired<D: Desk>(
     list: &[&[u8]],
     pairs: &Pairs,
     desk: &mut D,
+    notes: &mut N,
 ) -> Result<Decision, OutsideFault>
     requires run { CanRun image.now (typed_of unit.now) (texts_of list.now)
         (pairs_of (texts_of list.now) pairs.now) }
@@ -312,7 +314,7 @@ fn judge_paired<D: Desk>(
         result }
 {
     match job {
-        Job::Prove(_) => from_memory(judge_all(alloc, image, unit, list, pairs)),
+        Job::Prove(_) => from_memory(judge_all(alloc, image, unit, list, pairs, notes)),
         Job::Check(job) => check_all(alloc, image, unit, list, pairs, job.certificate, desk),
         Job::Show(_) => plain_from_memory(
             alloc,
@@ -370,13 +372,14 @@ fn refused(
 }
 
 /// The verdict on a list within its limit.
-fn judge_list<D: Desk>(
+fn judge_list<D: Desk, N: Notes>(
     alloc: Global,
     image: &Image<'_>,
     unit: &Typed<'_>,
     job: &Job<'_>,
     list: &[&[u8]],
     desk: &mut D,
+    notes: &mut N,
 ) -> Result<Decision, OutsideFault>
     requires read { IsRead image.now }
     requires typed { IsTypedUnit (typed_of unit.now) }
@@ -388,7 +391,7 @@ fn judge_list<D: Desk>(
         result }
 {
     match pair(alloc, image, unit, list) {
-        Ok(pairs) => judge_paired(alloc, image, unit, job, list, &pairs, desk),
+        Ok(pairs) => judge_paired(alloc, image, unit, job, list, &pairs, desk, notes),
         Err(error) => plain_from_memory(alloc, refused(alloc, image, unit, list, error)),
     }
 }
@@ -405,13 +408,14 @@ fn texts<'n>(alloc: Global, names: &'n [Bytes]) -> Result<Vec<&'n [u8]>, AllocEr
 }
 
 /// The verdict on an image, a unit and the names that a job lists.
-pub(crate) fn judge_names<D: Desk>(
+pub(crate) fn judge_names<D: Desk, N: Notes>(
     alloc: Global,
     image: &Image<'_>,
     unit: &Typed<'_>,
     job: &Job<'_>,
     names: &[Bytes],
     desk: &mut D,
+    notes: &mut N,
 ) -> Result<Decision, OutsideFault>
     requires read { IsRead image.now }
     requires typed { IsTypedUnit (typed_of unit.now) }
@@ -425,5 +429,5 @@ pub(crate) fn judge_names<D: Desk>(
         return Ok(plain(alloc, Verdict::TooLarge(Quantity::Functions)));
     }
     let list = attempt!(texts(alloc, names), OutsideFault::NoMemory);
-    judge_list(alloc, image, unit, job, list.as_slice(), desk)
+    judge_list(alloc, image, unit, job, list.as_slice(), desk, notes)
 }

@@ -42,16 +42,17 @@ use elf_read::{ElfError, Image};
 use report_text::Verdict;
 use report_text_spec::SourceKind;
 use std::alloc::Global;
-use tv_base::{Desk, OutsideFault};
+use tv_base::{Desk, Notes, OutsideFault};
 use tv_words::Job;
 
 /// The verdict on an executable and a source within their limits. It fails only out of memory.
-pub(crate) fn judge<D: Desk>(
+pub(crate) fn judge<D: Desk, N: Notes>(
     alloc: Global,
     elf: &[u8],
     source: &[u8],
     job: &Job<'_>,
     desk: &mut D,
+    notes: &mut N,
 ) -> Result<Decision, OutsideFault>
     ensures judged { IfOk result (λ decision. JudgesWith (D.bytes desk.old) elf.now source.now
         (job_of job.now) (decision_of decision)) }
@@ -67,19 +68,20 @@ pub(crate) fn judge<D: Desk>(
         Ok(image) => {
             // a law, of which nothing runs
             image_is_read(elf, &image);
-            judge_source(alloc, &image, source, job, desk)
+            judge_source(alloc, &image, source, job, desk, notes)
         }
         Err(error) => plainly(alloc, refused_elf(error)),
     }
 }
 
 /// The verdict on an image and a source.
-fn judge_source<D: Desk>(
+fn judge_source<D: Desk, N: Notes>(
     alloc: Global,
     image: &Image<'_>,
     source: &[u8],
     job: &Job<'_>,
     desk: &mut D,
+    notes: &mut N,
 ) -> Result<Decision, OutsideFault>
     requires { IsRead image.now }
     ensures { JudgesBy image.now source.now (job_of job.now)
@@ -88,19 +90,20 @@ fn judge_source<D: Desk>(
         result }
 {
     match tokens(alloc, source) {
-        Ok(lexed) => judge_tokens(alloc, image, source, lexed.as_slice(), job, desk),
+        Ok(lexed) => judge_tokens(alloc, image, source, lexed.as_slice(), job, desk, notes),
         Err(error) => plainly(alloc, without_tokens(error)),
     }
 }
 
 /// The verdict on an image and a source, of which these are the tokens.
-fn judge_tokens<D: Desk>(
+fn judge_tokens<D: Desk, N: Notes>(
     alloc: Global,
     image: &Image<'_>,
     source: &[u8],
     lexed: &[Token<'_>],
     job: &Job<'_>,
     desk: &mut D,
+    notes: &mut N,
 ) -> Result<Decision, OutsideFault>
     requires read { IsRead image.now }
     requires lexes { AreTokens source.now (list_of lexed.now) }
@@ -110,13 +113,13 @@ fn judge_tokens<D: Desk>(
         result }
 {
     match parse(alloc, lexed) {
-        Ok(tree) => judge_parsed(alloc, image, source, lexed, &tree, job, desk),
+        Ok(tree) => judge_parsed(alloc, image, source, lexed, &tree, job, desk, notes),
         Err(error) => plainly(alloc, without_unit(error, lexed, source)),
     }
 }
 
 /// The verdict on an image and a source, of which these are the tokens and the tree.
-fn judge_parsed<D: Desk>(
+fn judge_parsed<D: Desk, N: Notes>(
     alloc: Global,
     image: &Image<'_>,
     source: &[u8],
@@ -124,6 +127,7 @@ fn judge_parsed<D: Desk>(
     tree: &TranslationUnit<'_>,
     job: &Job<'_>,
     desk: &mut D,
+    notes: &mut N,
 ) -> Result<Decision, OutsideFault>
     requires read { IsRead image.now }
     requires lexes { AreTokens source.now (list_of lexed.now) }
@@ -135,19 +139,20 @@ fn judge_parsed<D: Desk>(
 {
     match definition_in(lexed) {
         Some(offset) => plainly(alloc, with_definition(offset)),
-        None => judge_tree(alloc, image, source, tree, job, desk),
+        None => judge_tree(alloc, image, source, tree, job, desk, notes),
     }
 }
 
 /// The verdict on an image and a source, whose tree this is. The source defines nothing within
 /// initial values of globals.
-fn judge_tree<D: Desk>(
+fn judge_tree<D: Desk, N: Notes>(
     alloc: Global,
     image: &Image<'_>,
     source: &[u8],
     tree: &TranslationUnit<'_>,
     job: &Job<'_>,
     desk: &mut D,
+    notes: &mut N,
 ) -> Result<Decision, OutsideFault>
     requires read { IsRead image.now }
     requires derives { HasTree source.now (tree_of tree.now) }
@@ -161,18 +166,19 @@ fn judge_tree<D: Desk>(
     cores_of_units_are_typed();
     cores_have_small_sizes();
     match check(alloc, tree) {
-        Ok(unit) => judge_unit(alloc, image, &unit, job, desk),
+        Ok(unit) => judge_unit(alloc, image, &unit, job, desk, notes),
         Err(error) => plainly(alloc, without_types(error)),
     }
 }
 
 /// The verdict on an image and a source of this typed core.
-fn judge_unit<D: Desk>(
+fn judge_unit<D: Desk, N: Notes>(
     alloc: Global,
     image: &Image<'_>,
     unit: &Typed<'_>,
     job: &Job<'_>,
     desk: &mut D,
+    notes: &mut N,
 ) -> Result<Decision, OutsideFault>
     requires read { IsRead image.now }
     requires typed { IsTypedUnit (typed_of unit.now) }
@@ -183,7 +189,7 @@ fn judge_unit<D: Desk>(
         result }
 {
     let names = attempt!(names(alloc, job, image, unit), OutsideFault::NoMemory);
-    judge_names(alloc, image, unit, job, names.as_slice(), desk)
+    judge_names(alloc, image, unit, job, names.as_slice(), desk, notes)
 }
 
 /// The verdict where there is an image and the source has no tokens.

@@ -15,7 +15,7 @@ use crate::publish::publish;
 use prove_run::Trails;
 use report_text::{Verdict, status};
 use std::alloc::Global;
-use tv_base::{Desk, OutsideFault, Sink, Store};
+use tv_base::{Desk, Notes, OutsideFault, Sink, Store};
 use tv_core_spec::{one_verdict, proved_is_checked, unproved_is_missing};
 use tv_words::{Job, WordsError, command};
 
@@ -33,10 +33,11 @@ fn asked(alloc: Global, words: &[String]) -> Result<Option<Job<'_>>, OutsideFaul
 }
 
 /// The outcome of a job, or of words that are no command.
-fn outcome<D: Desk>(
+fn outcome<D: Desk, N: Notes>(
     alloc: Global,
     job: &Option<Job<'_>>,
     desk: &mut D,
+    notes: &mut N,
 ) -> Result<Decision, OutsideFault>
     ensures exact { IfOk result (λ decision. (words : List (List ℕ))
         → AskFor words (option_map job_of job.now)
@@ -53,7 +54,7 @@ fn outcome<D: Desk>(
         result }
 {
     match job {
-        Some(job) => judge_files(alloc, job, desk),
+        Some(job) => judge_files(alloc, job, desk, notes),
         None => Ok(plain(alloc, Verdict::RefusedWords)),
     }
 }
@@ -101,13 +102,14 @@ fn give<R: Sink, K: Store>(
 }
 
 /// A run on a job, or on words that are no command, up to its status, or to what cut it off.
-fn run_job<D: Desk, R: Sink, K: Store>(
+fn run_job<D: Desk, R: Sink, K: Store, N: Notes>(
     alloc: Global,
     job: &Option<Job<'_>>,
     desk: &mut D,
     report: &mut R,
     certificate: &mut K,
     trails: &mut Trails,
+    notes: &mut N,
 ) -> Result<u8, OutsideFault>
     ensures { (words : List (List ℕ)) → AskFor words (option_map job_of job.now)
         → RunsTo words
@@ -121,20 +123,21 @@ fn run_job<D: Desk, R: Sink, K: Store>(
         (sink_state (K.held certificate.new) (K.begun certificate.new) (K.faults certificate.new)))
         (trails_of trails.old) (trails_of trails.new) result }
 {
-    match outcome(alloc, job, desk) {
+    match outcome(alloc, job, desk, notes) {
         Ok(decision) => give(alloc, name_of(job), decision, report, certificate, trails),
         Err(fault) => Err(fault),
     }
 }
 
 /// A run up to its status, or to what cut it off.
-fn try_run<D: Desk, R: Sink, K: Store>(
+fn try_run<D: Desk, R: Sink, K: Store, N: Notes>(
     alloc: Global,
     words: &[String],
     desk: &mut D,
     report: &mut R,
     certificate: &mut K,
     trails: &mut Trails,
+    notes: &mut N,
 ) -> Result<u8, OutsideFault>
     ensures { RunsTo (map string_bytes words.now)
         (state_of (desk_state (D.bytes desk.old) (D.left desk.old) (D.opened desk.old)
@@ -148,7 +151,7 @@ fn try_run<D: Desk, R: Sink, K: Store>(
         (trails_of trails.old) (trails_of trails.new) result }
 {
     match asked(alloc, words) {
-        Ok(job) => run_job(alloc, &job, desk, report, certificate, trails),
+        Ok(job) => run_job(alloc, &job, desk, report, certificate, trails, notes),
         Err(fault) => Err(fault),
     }
 }
@@ -160,7 +163,8 @@ fn try_run<D: Desk, R: Sink, K: Store>(
 /// function (`show`). The last two write no certificate. At status 0 and 1 `trails` has the
 /// unproved functions in the order of the list, each with why no proof of it was found; where the
 /// certificate is longer than its maximum (status 7) it has that certificate; at every other end it
-/// is empty. The answer is the exit status:
+/// is empty. While it works `notes` is told which function is in work and what was tried; a note has
+/// no answer, so that its faults change nothing. The answer is the exit status:
 ///
 /// | Status | Meaning |
 /// |---|---|
@@ -181,13 +185,14 @@ fn try_run<D: Desk, R: Sink, K: Store>(
 ///
 /// The contract is [`Ends`](../specs/Ends.antt): its field `valid` is the validity theorem, and
 /// the others give the cause of every status and what was written.
-pub fn run<D: Desk, R: Sink, K: Store>(
+pub fn run<D: Desk, R: Sink, K: Store, N: Notes>(
     alloc: Global,
     words: &[String],
     desk: &mut D,
     report: &mut R,
     certificate: &mut K,
     trails: &mut Trails,
+    notes: &mut N,
 ) -> u8
     ensures { Ends (map string_bytes words.now)
         (state_of (desk_state (D.bytes desk.old) (D.left desk.old) (D.opened desk.old)
@@ -205,7 +210,7 @@ pub fn run<D: Desk, R: Sink, K: Store>(
     proved_is_checked();
     unproved_is_missing();
     *trails = Trails::new(alloc);
-    match try_run(alloc, words, desk, report, certificate, trails) {
+    match try_run(alloc, words, desk, report, certificate, trails, notes) {
         Ok(code) => code,
         Err(OutsideFault::Failed) => 4,
         Err(OutsideFault::NoMemory) => 5,

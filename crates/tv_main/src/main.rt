@@ -2,14 +2,18 @@
 //!
 //! It makes the objects of the outside, calls [`tv_core::run`] with the words that it was started
 //! with, and exits with its answer. All that is claimed of a run is a clause of that call. A word
-//! `--why` before all others is none of the run's: with it, what [`tv_core::run`] hands out of each
-//! function that it calls unproved is printed after the report.
+//! `--why` before all others is none of the run's: with it, what [`tv_core::run`] hands out and tells
+//! of each function that it calls unproved is printed after the report. Where standard error is a
+//! terminal, it says how many functions are done and which is in work.
 #![tactic(auto)]
 
+mod notes;
 mod reasons;
 mod values;
 
+use notes::Teller;
 use row_io::{Out, output};
+use std::io::{IsTerminal, Stderr};
 use std::process::ExitCode;
 use std::rt::Env;
 use std::{env, io};
@@ -22,27 +26,50 @@ fn words(rt: &(impl Env + AllocGlobal)) -> io::Result<Vec<String>> {
     Ok(words)
 }
 
+/// Takes the notes of a run: progress is shown where standard error is a terminal.
+fn teller(rt: HostRuntime, keeps: bool) -> Teller<Stderr> {
+    let error = rt.stderr();
+    let terminal = if error.is_terminal() {
+        Some(error)
+    } else {
+        None
+    };
+    Teller::new(rt.alloc(), terminal, keeps)
+}
+
 /// A run on these words, over the real outside.
-fn status(rt: HostRuntime, words: &[String], trails: &mut Trails) -> u8 {
+fn status(
+    rt: HostRuntime,
+    words: &[String],
+    trails: &mut Trails,
+    notes: &mut Teller<Stderr>,
+) -> u8 {
     let mut desk = FileDesk::new(rt);
     let mut report = OutSink::new(rt);
     let mut certificate = FileStore::new(rt);
-    run(
+    let status = run(
         rt.alloc(),
         words,
         &mut desk,
         &mut report,
         &mut certificate,
         trails,
-    )
+        notes,
+    );
+    notes.clear();
+    status
 }
 
 /// A run on these words, and why functions are unproved.
 fn explained(rt: HostRuntime, words: &[String]) -> io::Result<u8> {
     let mut trails = Trails::new(rt.alloc());
-    let status = status(rt, words, &mut trails);
+    let mut notes = teller(rt, true);
+    let status = status(rt, words, &mut trails, &mut notes);
     let mut out = Out::new(rt.alloc());
-    reasons::put_reasons(rt.alloc(), &trails, &mut out);
+    match notes.told() {
+        Some(told) => reasons::put_reasons(rt.alloc(), &trails, told, &mut out),
+        None => out.fail(),
+    }
     output(rt, &out)?;
     Ok(status)
 }
@@ -66,7 +93,7 @@ fn answered(rt: HostRuntime, words: &[String]) -> io::Result<u8> {
         return explained(rt, rest);
     }
     let mut trails = Trails::new(rt.alloc());
-    Ok(status(rt, words, &mut trails))
+    Ok(status(rt, words, &mut trails, &mut teller(rt, false)))
 }
 
 /// The status of a run that was cut off: out of memory, or a failed read or write.

@@ -1,5 +1,6 @@
 //! Why functions are unproved, as a user reads it.
 
+use crate::notes::{Search, Told};
 use crate::values::put_values;
 use row_io::Out;
 use std::alloc::Global;
@@ -59,16 +60,61 @@ fn put_trail(alloc: Global, trail: &Trail, out: &mut Out) {
     }
 }
 
-/// A line for each trail of each unproved function, and one if the certificate is too large.
-pub(crate) fn put_reasons(alloc: Global, trails: &Trails, out: &mut Out) {
+/// The search that took longest of a function of this name, if there was any.
+fn longest_of(told: &[Told], name: &[u8]) -> Option<Search> {
+    for one in told {
+        if one.name.as_slice() == name {
+            return one.longest;
+        }
+    }
+    None
+}
+
+/// What a search took.
+fn put_search(search: &Search, out: &mut Out) {
+    out.put("longest was the search for a proof that ");
+    out.put(obligation(search.obligation));
+    out.put(": variables ");
+    out.show(&search.variables);
+    out.put(", learnt clauses ");
+    out.show(&search.learnt);
+    out.put(", assignments ");
+    out.show(&search.assignments);
+}
+
+/// The beginning of a line about a function.
+fn put_name(name: &[u8], out: &mut Out) {
+    out.put("why ");
+    out.bytes(name);
+    out.put(": ");
+}
+
+/// A line for each function of which no call meets the premises.
+fn put_vacuous(told: &[Told], out: &mut Out) {
+    for one in told {
+        if one.vacuous {
+            put_name(one.name.as_slice(), out);
+            out.put("each run of the source breaks a guard, so nothing is asked of the code\n");
+        }
+    }
+}
+
+/// A line for each trail of each unproved function, and one for its longest search; and one for each
+/// function of which nothing is asked.
+pub(crate) fn put_reasons(alloc: Global, trails: &Trails, told: &[Told], out: &mut Out) {
     for index in 0..trails.len() {
         let function = trails.get(index);
+        let name = function.name.as_slice();
         for trail in &function.trails {
-            out.put("why ");
-            out.bytes(function.name.as_slice());
-            out.put(": ");
+            put_name(name, out);
             put_trail(alloc, trail, out);
             out.put("\n");
         }
+        if let Some(search) = longest_of(told, name) {
+            put_name(name, out);
+            put_search(&search, out);
+            out.put("\n");
+        }
     }
+    put_vacuous(told, out);
 }

@@ -7,6 +7,7 @@ use crate::words::read_words;
 use attempt::attempt;
 use row_io::{Out, decimal, split};
 use std::alloc::{AllocError, Global};
+use tv_base::NoNotes;
 use tv_core::{Trails, run};
 use tv_outside::{GivenFile, MemDesk, MemSink, MemStore, SteadyDesk, SteadySink, SteadyStore};
 
@@ -122,6 +123,7 @@ fn put_outcome(
         &mut report,
         &mut store,
         &mut trails,
+        &mut NoNotes,
     ));
     out.put(" ");
     out.show(&(desk.faults(), report.faults(), store.faults()));
@@ -168,6 +170,7 @@ fn put_reported(
         &mut report,
         &mut store,
         &mut trails,
+        &mut NoNotes,
     ));
     out.put(" ");
     out.show(&(desk.faults(), report.faults(), store.faults()));
@@ -189,6 +192,7 @@ fn put_unproved(alloc: Global, words: &[String], files: &[GivenFile<'_>], out: &
         &mut report,
         &mut store,
         &mut trails,
+        &mut NoNotes,
     ));
     trails::put_trails(&trails, out);
 }
@@ -253,7 +257,7 @@ fn run_steadily(
 ) -> u8
     ensures { result ≢ 4 }
 {
-    run(alloc, words, desk, report, store, trails)
+    run(alloc, words, desk, report, store, trails, &mut NoNotes)
 }
 
 /// The outcome of a row `steady`.
@@ -278,6 +282,7 @@ pub(crate) fn put_steady(
         &mut report,
         &mut store,
         &mut trails,
+        &mut NoNotes,
     ));
     out.put(" ");
     out.bytes(report.text());

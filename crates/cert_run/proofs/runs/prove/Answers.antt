@@ -6,10 +6,10 @@ use Rattle.cert_run.proofs.SideFacts.{finds}
 use Rattle.cert_run.proofs.runs.prove.Goals as goal
 
 pub new-requires : goal.new-requires
-new-requires c = record { typed = c.requires.typed; sizes = c.requires.sizes; paired = c.requires.paired }
+new-requires g c = record { typed = c.requires.typed; sizes = c.requires.sizes; paired = c.requires.paired }
 
 pub returns-2 : goal.returns-2
-returns-2 c =
+returns-2 g c =
     let list = texts_of c.args.list.now in
     IfOk-weaker c.search_sides.result _ _
     (finds c.args.image.now (typed_of c.args.unit.now) list (pairs_of list c.args.pairs.now) c.requires c.in-Ok-attempt.field-0 (c.in-Ok-attempt.ensures c.requires.read)

@@ -8,7 +8,7 @@ use Rattle.cert_check_frames.specs.Entries.{AreConventions}
 use Rattle.cert_run.proofs.runs.search_sides.Goals as goal
 
 pub returns-in-Ok-listed : goal.returns-in-Ok-listed
-returns-in-Ok-listed c =
+returns-in-Ok-listed g c =
     IfOk-weaker c.find.result _ _
     (λ made searches q functions entries graphs truths.
     searches (map (listed_of q) functions)

@@ -8,18 +8,18 @@ use Rattle.prove_run.proofs.Searched.{none_so_far, inside_now, truth_now, one_so
 use Rattle.prove_run.proofs.logs.add_logs.Goals as goal
 
 pub loop-index-init : goal.loop-index-init
-loop-index-init c = record {
+loop-index-init g c = record {
   grown = extends_itself c.args.bank.now;
   so_far = none_so_far (runs_of c.args.runs.now) c.args.bank.now c.args.goals.now c.args.logs.now.items c.requires.nothing;
 }
 
 pub add_log-requires : goal.add_log-requires
-add_log-requires c =
+add_log-requires g c =
     inside_now (runs_of c.args.runs.now) c.args.bank.now c.args.goals.now c.loop-index.bank c.loop-index.invariant.grown c.requires.within c.loop-index.index
     (get_or c.args.goals.now c.loop-index.index 0) 0 c.loop-index-test.true refl
 
 pub loop-index-preserved : goal.loop-index-preserved
-loop-index-preserved c =
+loop-index-preserved g c =
     let id : ℕ = get_or c.args.goals.now c.loop-index.index 0 in
     record {
       grown = extends_then c.args.bank.now c.loop-index.bank c.add_log.new.bank c.loop-index.invariant.grown c.add_log.ensures.extends;
@@ -36,7 +36,7 @@ loop-index-preserved c =
     }
 
 pub returns-in-Ok-Some : goal.returns-in-Ok-Some
-returns-in-Ok-Some c =
+returns-in-Ok-Some g c =
     let id : ℕ = get_or c.args.goals.now c.loop-index.index 0 in
     one_trail (runs_of c.args.runs.now) c.args.bank.now c.args.goals.now c.loop-index.bank c.loop-index.invariant.grown c.requires.within c.loop-index.index
     (get_or c.args.goals.now c.loop-index.index 0) 0 c.loop-index-test.true refl c.in-Ok-Some.trail
@@ -48,4 +48,4 @@ returns-in-Ok-Some c =
     (get_or c.args.goals.now c.loop-index.index 0) 0 c.loop-index-test.true refl truths)))
 
 pub returns : goal.returns
-returns c = all_so_far (runs_of c.args.runs.now) c.args.bank.now c.args.goals.now c.loop-index.index c.loop-index.logs.items c.loop-index-test.false c.loop-index.invariant.so_far
+returns g c = all_so_far (runs_of c.args.runs.now) c.args.bank.now c.args.goals.now c.loop-index.index c.loop-index.logs.items c.loop-index-test.false c.loop-index.invariant.so_far

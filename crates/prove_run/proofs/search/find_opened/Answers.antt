@@ -4,10 +4,10 @@ use Rattle.prove_run.proofs.Searched.{found_there}
 use Rattle.prove_run.proofs.search.find_opened.Goals as goal
 
 pub returns-in-Ok : goal.returns-in-Ok
-returns-in-Ok c = λ f is truths.
+returns-in-Ok g c = λ f is truths.
     found_there f c.leaf_goals.new.bank c.as_slice.result.now
     (subst (λ (ids : List ℕ). HasGoals f.convention f.opening f.frame c.leaf_goals.new.bank ids) (sym c.as_slice.ensures.value) (c.in-Ok.ensures.goals f is))
     c.args.function.now is truths c.search.result c.search.ensures
 
 pub returns-in-Err : goal.returns-in-Err
-returns-in-Err c = λ f is truths. c.why.ensures f is (c.in-Err.ensures.goals f is)
+returns-in-Err g c = λ f is truths. c.why.ensures f is (c.in-Err.ensures.goals f is)

@@ -10,16 +10,16 @@ use Rattle.tv_core.proofs.Judged.{all_decided, as_many}
 use Rattle.tv_core.proofs.functions.judge_all.Goals as goal
 
 pub decide-requires-clause-many : goal.decide-requires-clause-many
-decide-requires-clause-many c =
+decide-requires-clause-many g c =
     as_many c.args.image.now (typed_of c.args.unit.now) (texts_of c.args.list.now) c.args.pairs.now c.as_slice.result.now c.as_slice.ensures.value
     c.requires.paired c.in-Ok-attempt.field-0 c.in-Ok-attempt.ensures ∙ texts_length c.args.list.now
 
 pub decide-requires-clause-enough : goal.decide-requires-clause-enough
-decide-requires-clause-enough c =
+decide-requires-clause-enough g c =
     enough c.args.image.now (typed_of c.args.unit.now) c.args.list.now c.args.pairs.now c.as_slice.result.now c.as_slice.ensures.value c.requires.paired
 
 pub returns-2 : goal.returns-2
-returns-2 c =
+returns-2 g c =
     let image = c.args.image.now in
     let unit = typed_of c.args.unit.now in
     let list = texts_of c.args.list.now in

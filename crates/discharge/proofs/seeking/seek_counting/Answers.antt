@@ -9,7 +9,7 @@ use Rattle.bit_blast_laws.proofs.NormalWhole.{goal_from}
 use Rattle.std.proofs.lemmas.Option.{get_or_from_slice_get}
 use Rattle.term_bank.specs.Nodes.{tree_at}
 use Rattle.discharge.proofs.Rest.{seeks_by}
-use Rattle.discharge.proofs.seeking.seek.Goals as goal
+use Rattle.discharge.proofs.seeking.seek_counting.Goals as goal
 
 pub returns-in-Ok-clause-seeks : goal.returns-in-Ok-clause-seeks
 returns-in-Ok-clause-seeks c = λ sorted.
