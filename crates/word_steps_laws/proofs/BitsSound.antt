@@ -35,7 +35,7 @@ module _ (assignment : Assignment) (assigns : IsAssignment assignment) where
       let vy = word_of assignment assigns (width_of x) y are.second in
       (vx.1 ∙ ap (Number (width_of x)) (sym (ap number_of_value vx.1)), vy.1 ∙ ap (Number (width_of x)) (sym (ap number_of_value vy.1)))
 
-  words_same : (x y : Term) → have_same_bits x y ≡ true → value assignment x ≡ value assignment y
+  pub words_same : (x y : Term) → have_same_bits x y ≡ true → value assignment x ≡ value assignment y
   words_same x y e =
       let both = and_parts (are_words x y) (all_below (bits (width_of x)) (λ i. same_bit (bits_of x i) (bits_of y i))) e in
       let are = words_are assignment assigns x y both.0 in

@@ -21,6 +21,12 @@ pub mod LowBitsHold
 pub mod Distances
 pub mod RangesHold
 pub mod ZonesHold
+pub mod QuotientNumbers
+pub mod QuotientsHold
+pub mod SignedNumbers
+pub mod SignedHold
+pub mod QuotientsSound
+pub mod ChoicesHold
 pub mod Lines
 pub mod Left
 pub mod Obligations

@@ -83,7 +83,7 @@ sum_is v u a b h g =
     (lower (min a.count b.count) a.count v a.rest (min_first a.count b.count) h)
     (lower (min a.count b.count) b.count u b.rest (min_second a.count b.count) g))
 
-zeros_divide : (k n : ℕ) → (q : ℕ) × (n ≡ q * 2 ^ zeros k n)
+pub zeros_divide : (k n : ℕ) → (q : ℕ) × (n ≡ q * 2 ^ zeros k n)
 unfolding zeros
 zeros_divide zero n = (n, one n)
   where

@@ -1,6 +1,6 @@
 -- Blocks of word steps, and pairs of terms for the rules, worked by hand.
 use Rattle.std.specs.Prelude.{◌≡◌, ℕ, Bool, true, false, if◌then◌else◌, List, [], ◌∷◌, Option, Some}
-use Rattle.term_core_spec.specs.declared.Width.TheVariants.{W8, W16, W32}
+use Rattle.term_core_spec.specs.declared.Width.TheVariants.{W8, W16, W32, W64}
 use Rattle.term_core_spec.specs.declared.Sort.TheVariants.{Truth, Word}
 use Rattle.term_core_spec.specs.declared.Atom.{Atom}
 use Rattle.term_core_spec.specs.declared.Family.TheVariants.{Register, IsSet}
@@ -465,4 +465,107 @@ across_window =
     ∷ (low_y ∷ less (subtract x y) (number 101) ∷ []) ⊢ near_y
     ∷ (low_y ∷ less (subtract x y) (number 100) ∷ []) ⊢ and_term (not_term (less x y)) (less z (add y (number 100)))
     ∷ (low_y ∷ less (subtract x y) (number 100) ∷ []) ⊢ and_term (less x y) (not_term (less x (add y (number 100))))
+    ∷ []
+
+-- ---- `quot`
+
+-- two terms, and facts that are given
+pub record Claim : Type 0 where
+  pub facts : List Term
+  pub pair : Pair
+
+abbrev pub where_true : List Term → Pair → Claim
+where_true facts pair = record { facts = facts; pair = pair }
+
+abbrev pub AcceptsWith : MergeRule → Bool → List Claim → Type 0
+AcceptsWith rule test [] = Unit {0}
+AcceptsWith rule test (claim ∷ rest) = (merges_by rule claim.facts claim.pair.first claim.pair.second ≡ test) × AcceptsWith rule test rest
+
+abbrev pub wide_product : Term → ℕ → Term
+wide_product t c = multiply (zero_extend W64 t) (constant W64 c)
+
+-- the upper half of a product of 64 bits
+abbrev pub upper_product : Term → ℕ → Term
+upper_product t c = join_four (byte 4 (wide_product t c)) (byte 5 (wide_product t c)) (byte 6 (wide_product t c)) (byte 7 (wide_product t c))
+
+abbrev pub seventh : Term → Term
+seventh t = shift_right (add (shift_right (subtract t (upper_product t 613566757)) (number 1)) (upper_product t 613566757)) (number 2)
+
+-- y turned down by k places
+abbrev pub turn : Term → ℕ → ℕ → Term
+turn t k j = bit_or (shift_right t (number k)) (shift_left t (number j))
+
+-- by 10, by 7 with a multiplier of 33 bits, of a byte, of a word that a fact bounds, by 16, by 14 with a shift before; two divisions;
+-- by 8 the rest; whether 3 and 6 divide a word
+abbrev pub quotients : List Claim
+quotients =
+    where_true [] (shift_right (upper_product x 3435973837) (number 3) ~ divide x (number 10))
+    ∷ where_true [] (divide x (number 7) ~ seventh x)
+    ∷ where_true [] (shift_right (multiply (low_byte x) (number 205)) (number 11) ~ divide (low_byte x) (number 10))
+    ∷ where_true (less x (number 16384) ∷ []) (shift_right (multiply x (number 6554)) (number 16) ~ divide x (number 10))
+    ∷ where_true [] (shift_right x (number 4) ~ divide x (number 16))
+    ∷ where_true [] (shift_right (upper_product (shift_right x (number 1)) 2454267027) (number 2) ~ divide x (number 14))
+    ∷ where_true [] (divide (divide x (number 3)) (number 5) ~ divide x (number 15))
+    ∷ where_true [] (bit_and x (number 7) ~ remainder x (number 8))
+    ∷ where_true [] (less (multiply x (number 2863311531)) (number 1431655766) ~ equal (remainder x (number 3)) (number 0))
+    ∷ where_true [] (less (turn (multiply x (number 2863311531)) 1 31) (number 715827883) ~ equal (remainder x (number 6)) (number 0))
+    ∷ []
+
+-- near misses: another divisor, a multiplier that is too small, no bound, a bound that is one too great, another word; a product that
+-- isn't the divisor; another mask; a limit one too great and one too small, and another turn
+abbrev pub other_quotients : List Claim
+other_quotients =
+    where_true [] (shift_right (upper_product x 3435973837) (number 3) ~ divide x (number 11))
+    ∷ where_true [] (shift_right (upper_product x 3435973836) (number 3) ~ divide x (number 10))
+    ∷ where_true [] (shift_right (multiply x (number 205)) (number 11) ~ divide x (number 10))
+    ∷ where_true (less x (number 16385) ∷ []) (shift_right (multiply x (number 6554)) (number 16) ~ divide x (number 10))
+    ∷ where_true [] (shift_right (upper_product y 3435973837) (number 3) ~ divide x (number 10))
+    ∷ where_true [] (divide (divide x (number 3)) (number 5) ~ divide x (number 8))
+    ∷ where_true [] (divide (divide x (number 0)) (number 5) ~ divide x (number 0))
+    ∷ where_true [] (bit_and x (number 6) ~ remainder x (number 7))
+    ∷ where_true [] (less (multiply x (number 2863311531)) (number 1431655767) ~ equal (remainder x (number 3)) (number 0))
+    ∷ where_true [] (less (multiply x (number 2863311531)) (number 1431655765) ~ equal (remainder x (number 3)) (number 0))
+    ∷ where_true [] (less (turn (multiply x (number 2863311531)) 2 30) (number 715827883) ~ equal (remainder x (number 6)) (number 0))
+    ∷ []
+
+-- `quot` of words with a sign: what C means by a quotient
+
+abbrev pub quotient_in_c : Term → ℕ → Term
+quotient_in_c t d =
+    choose (less t top) (divide (choose (less t top) t (subtract (number 0) t)) (number d))
+    (subtract (number 0) (divide (choose (less t top) t (subtract (number 0) t)) (number d)))
+
+abbrev pub signed_wide : Term → ℕ → Term
+signed_wide t c = multiply (sign_extend W64 t) (constant W64 c)
+
+-- the upper half of a product of 64 bits, with signs
+abbrev pub signed_upper : Term → ℕ → Term
+signed_upper t c = join_four (byte 4 (signed_wide t c)) (byte 5 (signed_wide t c)) (byte 6 (signed_wide t c)) (byte 7 (signed_wide t c))
+
+abbrev pub tenth : Term → Term
+tenth t = shift_right_signed (signed_upper t 1717986919) (number 2)
+
+-- the sum with a factor below 0
+abbrev pub signed_seventh : Term → Term
+signed_seventh t = shift_right_signed (add (signed_upper t 18446744071868851347) t) (number 2)
+
+-- by 10 less the signs of the word, by 5, by 7 with its sign, and with that of the floor
+abbrev pub signed_quotients : List Claim
+signed_quotients =
+    where_true [] (subtract (tenth x) (shift_right_signed x (number 31)) ~ quotient_in_c x 10)
+    ∷ where_true [] (quotient_in_c x 5 ~ subtract (shift_right_signed (signed_upper x 1717986919) (number 1)) (shift_right_signed x (number 31)))
+    ∷ where_true [] (add (signed_seventh x) (shift_right x (number 31)) ~ quotient_in_c x 7)
+    ∷ where_true [] (add (shift_right (signed_seventh x) (number 31)) (signed_seventh x) ~ quotient_in_c x 7)
+    ∷ []
+
+-- near misses: another divisor, the sign left out, of another word or a bit too low, a product without signs, and a factor that is a
+-- little too great
+abbrev pub other_signed_quotients : List Claim
+other_signed_quotients =
+    where_true [] (subtract (tenth x) (shift_right_signed x (number 31)) ~ quotient_in_c x 11)
+    ∷ where_true [] (tenth x ~ quotient_in_c x 10)
+    ∷ where_true [] (subtract (tenth x) (shift_right_signed y (number 31)) ~ quotient_in_c x 10)
+    ∷ where_true [] (subtract (tenth x) (shift_right_signed x (number 30)) ~ quotient_in_c x 10)
+    ∷ where_true [] (subtract (shift_right_signed (upper_product x 1717986919) (number 2)) (shift_right_signed x (number 31)) ~ quotient_in_c x 10)
+    ∷ where_true [] (subtract (shift_right_signed (signed_upper x 1717986920) (number 2)) (shift_right_signed x (number 31)) ~ quotient_in_c x 10)
     ∷ []

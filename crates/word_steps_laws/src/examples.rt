@@ -6,7 +6,7 @@ ghost use Rattle.std.specs.Prelude.{true, false, [], ◌∷◌, Some, None};
 ghost use Rattle.term_core_spec.specs.Term.{truth};
 ghost use Rattle.term_core_spec.specs.declared.Atom.TheVariants.{Truth};
 ghost use Rattle.word_steps_spec.specs.Lines.{Ring, Comm, Bits, BitsOf, LowOf, RangeOf};
-ghost use Rattle.word_steps_spec.specs.Lines.{WithinOf};
+ghost use Rattle.word_steps_spec.specs.Lines.{WithinOf, Quot};
 ghost use Rattle.word_steps_laws.specs.Examples.{goal, block, Leaves, Accepts, alike, unlike};
 ghost use Rattle.word_steps_laws.specs.Examples.{ordered, unordered, Decides};
 ghost use Rattle.word_steps_laws.specs.Examples.{of_one_list, of_two_lists};
@@ -16,6 +16,8 @@ ghost use Rattle.word_steps_laws.specs.Examples.{DecidesWith, low_bits_differ, l
 ghost use Rattle.word_steps_laws.specs.Examples.{in_range, out_of_range, across_ranges};
 ghost use Rattle.word_steps_laws.specs.Examples.{SaysZone, zones, no_zones};
 ghost use Rattle.word_steps_laws.specs.Examples.{within_window, outside_window, across_window};
+ghost use Rattle.word_steps_laws.specs.Examples.{AcceptsWith, quotients, other_quotients};
+ghost use Rattle.word_steps_laws.specs.Examples.{signed_quotients, other_signed_quotients};
 ghost use Rattle.word_steps_laws.specs.Examples.{split_goal, split_block, case_goal};
 ghost use Rattle.word_steps_laws.specs.Examples.{true_block, false_block};
 
@@ -104,4 +106,16 @@ pub fn windows_decide()
     ensures true_ones { DecidesWith WithinOf within_window (Some (Truth true)) }
     ensures false_ones { DecidesWith WithinOf outside_window (Some (Truth false)) }
     ensures others { DecidesWith WithinOf across_window None }
+{}
+
+/// What compilers write for division by a constant, and near misses.
+pub fn quotients_are_recognised()
+    ensures accepted { AcceptsWith Quot true quotients }
+    ensures refused { AcceptsWith Quot false other_quotients }
+{}
+
+/// The same of words with a sign, and near misses.
+pub fn signed_quotients_are_recognised()
+    ensures accepted { AcceptsWith Quot true signed_quotients }
+    ensures refused { AcceptsWith Quot false other_signed_quotients }
 {}

@@ -8,5 +8,7 @@ pub mod Order
 pub mod LowBits
 pub mod Ranges
 pub mod Zones
+pub mod Quotients
+pub mod Choices
 pub mod Lines
 pub mod Invariant

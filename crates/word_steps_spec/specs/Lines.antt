@@ -14,12 +14,13 @@ use Rattle.word_steps_spec.specs.Order.{same_by_spelling, else_by, decided_by_bo
 use Rattle.word_steps_spec.specs.LowBits.{decided_by_low}
 use Rattle.word_steps_spec.specs.Ranges.{decided_by_range}
 use Rattle.word_steps_spec.specs.Zones.{says_zone, decided_within}
+use Rattle.word_steps_spec.specs.Quotients.{same_by_quotient}
 
 -- ---- the tests of the rules
 
 -- rules that say of two terms that they have one value
 pub data MergeRule : Type 0 where
-  Same Ring Comm Bits : MergeRule
+  Same Ring Comm Bits Quot : MergeRule
 
 -- rules that say of a term which constant it is
 pub data DecisionRule : Type 0 where
@@ -36,6 +37,7 @@ merges_by Same facts x y = is_equality facts x y
 merges_by Ring [] x y = one_polynomial x y
 merges_by Comm [] x y = same_up_to_order x y
 merges_by Bits [] x y = same_by_bits x y || same_by_spelling x y
+merges_by Quot facts x y = same_by_quotient facts x y
 merges_by rule (fact ∷ facts) x y = false
 
 unfoldable pub decided_by : DecisionRule → List Term → Term → Option Atom

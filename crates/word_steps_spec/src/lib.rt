@@ -4,5 +4,6 @@
 //! line keeps, `specs/Polynomial.antt` and `specs/Ring.antt` the rule `ring`,
 //! `specs/Commuting.antt` the rule `comm`, `specs/Bitwise.antt` and `specs/Order.antt` the rule
 //! `bits`, `specs/LowBits.antt` the rule `low`, `specs/Ranges.antt` the rule
-//! `range`, `specs/Zones.antt` the rules `zone` and `within`. Nothing of the crate runs.
+//! `range`, `specs/Zones.antt` the rules `zone` and `within`, `specs/Quotients.antt` the rule
+//! `quot`. Nothing of the crate runs.
 #![tactic(auto)]
