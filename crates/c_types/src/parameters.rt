@@ -10,12 +10,12 @@ ghost use Rattle.c_types_spec.specs.Units as rule;
 
 use attempt::attempt;
 use c_syntax::unit::Parameter;
+use c_types_core::fault::TypeFault;
 use c_types_declaration::declare::parameter;
 use c_types_expression::expression::{lengths, specifiers};
 use c_types_expression::types::declared_type;
 use c_types_layout::types::CType;
 use c_types_operator::attempt_or_drop;
-use c_types_operator::operand::TypeFault;
 use c_types_scope::state::{State, push};
 use std::alloc::Global;
 

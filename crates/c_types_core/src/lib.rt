@@ -6,4 +6,5 @@
 pub mod action;
 pub mod constants;
 pub mod expression;
+pub mod fault;
 pub mod values;

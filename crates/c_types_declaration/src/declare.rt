@@ -19,9 +19,10 @@ use crate::sizes::{
 use crate::tags::is_declared;
 use attempt::attempt;
 use c_syntax::expression::Name;
+use c_types_core::fault::TypeFault;
 use c_types_layout::types::{CType, Outer, same_type};
 use c_types_operator::attempt_or_drop;
-use c_types_operator::operand::{TypeFault, part_or_memory, type_or_memory};
+use c_types_operator::operand::{part_or_memory, type_or_memory};
 use c_types_scope::meaning::{Meaning, Signature};
 use c_types_scope::state::State;
 use c_types_spec::{ARGUMENT_WORDS, LeftOut, POINTER_WIDTH, TypeFaultKind};

@@ -4,7 +4,7 @@ ghost use Rattle.c_types_spec.specs.Names as rule;
 ghost use Rattle.c_types_scope.specs.States.{nothing};
 ghost use Rattle.c_types_operator.specs.Gives.{Gives};
 
-use c_types_operator::operand::TypeFault;
+use c_types_core::fault::TypeFault;
 use c_types_spec::TypeFaultKind;
 
 /// The first of the kinds whose test holds.

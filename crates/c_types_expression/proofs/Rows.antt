@@ -12,8 +12,8 @@ use Rattle.c_types_spec.specs.Types.{Layout}
 use Rattle.c_types_spec.specs.Names.{State, Fault, Typing, bind, give, ◌>>=◌, ◌>>◌}
 use Rattle.c_types_spec.specs.Declarations.{enumerator}
 use Rattle.c_types_spec.specs.Expressions.{specifiers, member_declarators, members, enumerators}
-use Rattle.c_types_operator.specs.declared.operand.TypeFault.{TypeFault}
-use Rattle.c_types_operator.specs.declared.operand.TypeFault.TheVariants.{Memory, At}
+use Rattle.c_types_core.specs.declared.fault.TypeFault.{TypeFault}
+use Rattle.c_types_core.specs.declared.fault.TypeFault.TheVariants.{Memory, At}
 use Rattle.c_types_scope.specs.declared.state.State.{State as Program}
 use Rattle.c_types_scope.specs.States.{Runs}
 use Rattle.c_types_expression.specs.Trees.{members_in, constants_in, constant_value, member_row, next_constant}

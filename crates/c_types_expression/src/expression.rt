@@ -22,6 +22,7 @@ use c_syntax::expression::{
 };
 use c_syntax_spec::{Access, BinaryOperator, UnaryOperator};
 use c_types_core::constants::INT;
+use c_types_core::fault::TypeFault;
 use c_types_declaration::names::{named, not_wide, number_operand, typedef_named};
 use c_types_declaration::sizes::{empty_layout, member};
 use c_types_declaration::tags::{
@@ -34,7 +35,7 @@ use c_types_operator::binary::binary_rule;
 use c_types_operator::cast::cast;
 use c_types_operator::conditional::conditional;
 use c_types_operator::member::{arrow, constant_operand, dot, size_operand, unary_rule};
-use c_types_operator::operand::{Operand, TypeFault, Valued};
+use c_types_operator::operand::{Operand, Valued};
 use c_types_operator::pointer::{bound_of, subscript};
 use c_types_operator::value::value_of;
 use c_types_scope::state::{State, push};

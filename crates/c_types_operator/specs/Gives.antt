@@ -1,8 +1,8 @@
 -- What it means that the program gives what a definition gives. Memory may be refused at any time.
 use Rattle.std.specs.Prelude.{◌≡◌, Result, Ok, Err}
 use Rattle.c_types_spec.specs.Names.{Fault}
-use Rattle.c_types_operator.specs.declared.operand.TypeFault.{TypeFault}
-use Rattle.c_types_operator.specs.declared.operand.TypeFault.TheVariants.{Memory, At}
+use Rattle.c_types_core.specs.declared.fault.TypeFault.{TypeFault}
+use Rattle.c_types_core.specs.declared.fault.TypeFault.TheVariants.{Memory, At}
 
 abbrev pub Gives : {A B : Type 0} → (view : A → B) → Result A TypeFault → Result B Fault → Type 0
 Gives view (Ok x) given = given ≡ Ok (view x)

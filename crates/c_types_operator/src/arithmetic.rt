@@ -4,10 +4,11 @@ ghost use Rattle.c_types_spec.specs.Operators as operators;
 ghost use Rattle.c_types_operator.specs.Gives.{Gives};
 ghost use Rattle.c_types_operator.specs.Operands.{operand_of, valued_of};
 
-use crate::operand::{Operand, TypeFault, Valued, convert, core_or_memory};
+use crate::operand::{Operand, Valued, convert, core_or_memory};
 use crate::scalar::{both, common, integer_operand, promoted};
 use attempt::attempt;
 use c_types_core::expression::Core;
+use c_types_core::fault::TypeFault;
 use c_types_spec::{Arithmetic, TypeFaultKind};
 use std::alloc::Global;
 

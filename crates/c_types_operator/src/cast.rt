@@ -8,10 +8,11 @@ ghost use Rattle.c_types_operator.specs.Casts.{standing_by, void_cast};
 ghost use Rattle.c_types_operator.specs.Gives.{Gives};
 ghost use Rattle.c_types_operator.specs.Operands.{operand_of, valued_of};
 
-use crate::operand::{Operand, TypeFault, Valued, convert};
+use crate::operand::{Operand, Valued, convert};
 use crate::scalar::{kept, value_operand};
 use crate::value::is_zero;
 use attempt::attempt;
+use c_types_core::fault::TypeFault;
 use c_types_layout::types::{Base, CType, Outer, WORD};
 use c_types_spec::{Position, Scalar, Standing, TypeFaultKind};
 use std::alloc::Global;

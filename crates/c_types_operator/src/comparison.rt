@@ -10,12 +10,13 @@ ghost use Rattle.c_types_operator.specs.Gives.{Gives};
 ghost use Rattle.c_types_operator.specs.Operands.{core_in, operand_of, valued_of};
 
 use crate::conversion::pointers_agree;
-use crate::operand::{Operand, TypeFault, Valued, convert, core_or_memory};
+use crate::operand::{Operand, Valued, convert, core_or_memory};
 use crate::scalar::{both, common, integer_operand};
 use crate::value::is_null;
 use attempt::attempt;
 use c_types_core::constants::INT;
 use c_types_core::expression::Core;
+use c_types_core::fault::TypeFault;
 use c_types_layout::types::{Outer, WORD, same_type};
 use c_types_spec::{Comparison, Scalar, Standing, TypeFaultKind};
 use std::alloc::Global;

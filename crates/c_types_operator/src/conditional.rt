@@ -10,11 +10,12 @@ ghost use Rattle.c_types_operator.specs.Operands.{operand_of, valued_of};
 
 use crate::arms::Arms;
 use crate::conversion::pointers_agree;
-use crate::operand::{Operand, TypeFault, Valued, convert, core_or_memory, type_or_memory};
+use crate::operand::{Operand, Valued, convert, core_or_memory, type_or_memory};
 use crate::scalar::{both, common, value_operand};
 use crate::value::is_null;
 use attempt::attempt;
 use c_types_core::expression::Core;
+use c_types_core::fault::TypeFault;
 use c_types_layout::types::{Base, CType, Outer, WORD, same_type};
 use c_types_spec::{Scalar, TypeFaultKind};
 use std::alloc::Global;

@@ -9,10 +9,11 @@ ghost use Rattle.c_types_operator.specs.Conversions.{pointer_by};
 ghost use Rattle.c_types_operator.specs.Gives.{Gives};
 ghost use Rattle.c_types_operator.specs.Operands.{core_in, valued_of};
 
-use crate::operand::{TypeFault, Valued, convert};
+use crate::operand::{Valued, convert};
 use crate::value::is_null;
 use attempt::attempt;
 use c_types_core::expression::Core;
+use c_types_core::fault::TypeFault;
 use c_types_layout::types::{CType, Outer, WORD, same_type};
 use c_types_spec::Scalar;
 use std::alloc::Global;

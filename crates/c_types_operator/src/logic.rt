@@ -7,11 +7,12 @@ ghost use Rattle.c_types_operator.specs.Gives.{Gives};
 ghost use Rattle.c_types_operator.specs.Operands.{core_in, operand_of, valued_of};
 
 use crate::comparison::compared;
-use crate::operand::{Operand, TypeFault, Valued, convert, core_or_memory};
+use crate::operand::{Operand, Valued, convert, core_or_memory};
 use crate::scalar::{both, integer_operand, kept, promoted};
 use attempt::attempt;
 use c_types_core::constants::{INT, has_width, type_of};
 use c_types_core::expression::Core;
+use c_types_core::fault::TypeFault;
 use c_types_core::values::convert as convert_value;
 use c_types_spec::{Arithmetic, Comparison, Scalar, TypeFaultKind};
 use std::alloc::Global;

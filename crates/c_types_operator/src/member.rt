@@ -10,9 +10,7 @@ ghost use Rattle.c_types_operator.specs.Members.{name_of, arrow_in_by};
 ghost use Rattle.c_types_operator.specs.Operands.{core_in, operand_of, valued_of};
 
 use crate::logic::{complement, minus, negation, plus};
-use crate::operand::{
-    Category, Operand, TypeFault, Valued, core_or_memory, part_or_memory, type_or_memory,
-};
+use crate::operand::{Category, Operand, Valued, core_or_memory, part_or_memory, type_or_memory};
 use crate::pointer::{address_of, dereferenced, size_needed};
 use crate::scalar::integer_operand;
 use crate::value::value_of;
@@ -20,6 +18,7 @@ use attempt::attempt;
 use c_syntax_spec::UnaryOperator;
 use c_types_core::constants::has_width;
 use c_types_core::expression::Core;
+use c_types_core::fault::TypeFault;
 use c_types_core::values::convert as convert_value;
 use c_types_layout::structs::{Definition, Layout, member_named, struct_layout};
 use c_types_layout::types::{CType, Outer, WORD};

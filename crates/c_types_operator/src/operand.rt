@@ -10,18 +10,10 @@ ghost use Rattle.c_types_operator.specs.Operands.{core_in, operand_of, valued_of
 use attempt::attempt;
 use c_types_core::constants::{INT, WORD, type_of};
 use c_types_core::expression::Core;
+use c_types_core::fault::TypeFault;
 use c_types_layout::types::{CType, Outer, same_scalar};
-use c_types_spec::{Direction, LeftOut, Order, Scalar, Standing, TypeFaultKind};
+use c_types_spec::{Direction, LeftOut, Order, Scalar, Standing};
 use std::alloc::{AllocError, Global};
-
-/// Why there is no typed core.
-#[derive(Clone, Copy)]
-pub enum TypeFault {
-    /// Out of memory.
-    Memory,
-    /// A fault of the unit, and its offset.
-    At(TypeFaultKind, usize),
-}
 
 /// What an expression designates.
 #[derive(Drop)]

@@ -10,12 +10,13 @@ ghost use Rattle.c_types_operator.specs.Operands.{core_in, operand_of, valued_of
 
 use crate::arithmetic::arithmetic;
 use crate::operand::{
-    Category, Operand, TypeFault, Valued, core_or_memory, displaced, part_or_memory, type_or_memory,
+    Category, Operand, Valued, core_or_memory, displaced, part_or_memory, type_or_memory,
 };
 use crate::scalar::value_operand;
 use crate::value::value_of;
 use attempt::attempt;
 use c_types_core::expression::Core;
+use c_types_core::fault::TypeFault;
 use c_types_layout::structs::{Definition, size};
 use c_types_layout::types::{CType, Outer, same_type};
 use c_types_spec::{

@@ -10,11 +10,12 @@ ghost use Rattle.c_types_operator.specs.Gives.{Gives};
 ghost use Rattle.c_types_operator.specs.Operands.{core_in, operand_of, valued_of, decayed};
 
 use crate::operand::{
-    Category, Operand, TypeFault, Valued, core_or_memory, displaced, part_or_memory, type_or_memory,
+    Category, Operand, Valued, core_or_memory, displaced, part_or_memory, type_or_memory,
 };
 use attempt::attempt;
 use c_types_core::constants::constant_value;
 use c_types_core::expression::Core;
+use c_types_core::fault::TypeFault;
 use c_types_layout::types::{CType, Outer, WORD};
 use c_types_spec::{LeftOut, Scalar, Standing, TypeFaultKind};
 use std::alloc::Global;

@@ -5,8 +5,8 @@ use Rattle.std.specs.Borrow.{Bor}
 use Rattle.std.specs.declared.alloc.Global.{Global}
 use Rattle.c_types_spec.specs.Names as names
 use Rattle.c_types_layout.specs.Structs.{structs_of}
-use Rattle.c_types_operator.specs.declared.operand.TypeFault.{TypeFault}
-use Rattle.c_types_operator.specs.declared.operand.TypeFault.TheVariants.{Memory, At}
+use Rattle.c_types_core.specs.declared.fault.TypeFault.{TypeFault}
+use Rattle.c_types_core.specs.declared.fault.TypeFault.TheVariants.{Memory, At}
 use Rattle.c_types_scope.specs.declared.state.State.{State}
 use Rattle.c_types_scope.specs.Meanings.{types_in, seen_meaning, seen_tag, scopes_by}
 

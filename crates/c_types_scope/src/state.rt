@@ -11,9 +11,9 @@ ghost use Rattle.c_types_scope.specs.States.{state_of, nothing, Runs};
 use crate::meaning::{Meaning, Tag};
 use crate::scopes::Scopes;
 use attempt::attempt;
+use c_types_core::fault::TypeFault;
 use c_types_layout::structs::Definition;
 use c_types_layout::types::CType;
-use c_types_operator::operand::TypeFault;
 use std::alloc::{AllocError, Global};
 
 /// The state in which a unit is read.

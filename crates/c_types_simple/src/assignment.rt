@@ -16,14 +16,13 @@ use c_syntax_spec::{BinaryOperator, StepOperator};
 use c_types_core::action::Action;
 use c_types_core::constants::INT;
 use c_types_core::expression::Core;
+use c_types_core::fault::TypeFault;
 use c_types_declaration::sizes::{is_array, is_void};
 use c_types_layout::types::{Base, CType};
 use c_types_operator::attempt_or_drop;
 use c_types_operator::binary::binary_rule;
 use c_types_operator::conversion::assigned;
-use c_types_operator::operand::{
-    Category, Operand, TypeFault, Valued, core_or_memory, type_or_memory,
-};
+use c_types_operator::operand::{Category, Operand, Valued, core_or_memory, type_or_memory};
 use c_types_operator::value::{read_local, value_of};
 use c_types_scope::state::State;
 use c_types_spec::{LeftOut, Standing, TypeFaultKind};

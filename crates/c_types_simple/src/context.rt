@@ -4,8 +4,8 @@ ghost use Rattle.std.specs.Prelude.{◌≡◌, Ok, MatchResult};
 ghost use Rattle.c_types_simple.specs.Contexts.{action_in, context_of};
 
 use c_types_core::action::Action;
+use c_types_core::fault::TypeFault;
 use c_types_layout::types::CType;
-use c_types_operator::operand::TypeFault;
 use std::alloc::AllocError;
 
 /// Where a statement stands.

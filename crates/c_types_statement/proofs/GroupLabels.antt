@@ -6,8 +6,8 @@ use Rattle.c_syntax_spec.specs.Unit as tree
 use Rattle.c_types_spec.specs.declared.Scalar.{Scalar}
 use Rattle.c_types_spec.specs.Names.{State, Fault}
 use Rattle.c_types_spec.specs.Statements.{labels}
-use Rattle.c_types_operator.specs.declared.operand.TypeFault.{TypeFault}
-use Rattle.c_types_operator.specs.declared.operand.TypeFault.TheVariants.{Memory, At}
+use Rattle.c_types_core.specs.declared.fault.TypeFault.{TypeFault}
+use Rattle.c_types_core.specs.declared.fault.TypeFault.TheVariants.{Memory, At}
 use Rattle.c_types_operator.specs.Gives.{Gives}
 use Rattle.c_types_scope.specs.declared.state.State.{State as Program}
 use Rattle.c_types_scope.specs.States.{Runs, state_of}

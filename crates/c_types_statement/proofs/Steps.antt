@@ -2,8 +2,8 @@
 use Rattle.std.proofs.Common.{◌≡◌, sym, ap, ◌∙◌}
 use Rattle.std.specs.Prelude.{Result, Ok, Err}
 use Rattle.c_types_spec.specs.Names.{State, Fault, bind}
-use Rattle.c_types_operator.specs.declared.operand.TypeFault.{TypeFault}
-use Rattle.c_types_operator.specs.declared.operand.TypeFault.TheVariants.{Memory, At}
+use Rattle.c_types_core.specs.declared.fault.TypeFault.{TypeFault}
+use Rattle.c_types_core.specs.declared.fault.TypeFault.TheVariants.{Memory, At}
 use Rattle.c_types_scope.specs.declared.state.State.{State as Program}
 use Rattle.c_types_scope.specs.States.{Runs}
 

@@ -9,7 +9,7 @@ ghost use Rattle.c_types_operator.specs.Gives.{Gives};
 
 use attempt::attempt;
 use c_syntax::statement::{ForStart, Group, Part, Statement};
-use c_types_operator::operand::TypeFault;
+use c_types_core::fault::TypeFault;
 
 /// A sum; out of memory where it is no `usize`.
 pub fn sum(a: usize, b: usize) -> Result<usize, TypeFault>
