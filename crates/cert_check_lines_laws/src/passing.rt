@@ -1,0 +1,16 @@
+//! What lines show that pass: each function's clause is one law, and its body is empty.
+
+ghost use Rattle.cert_check_lines_spec.specs.Shown.{ClosingPasses, PassedIsShown};
+
+/// Where the lines of a proof pass one after the other and leave nothing, the frame has a tree of
+/// the rules Leaf, Case, Restrict, Split and Call, what each asks holds, and a log closes each of
+/// its obligations.
+pub fn what_passes_is_shown()
+    ensures { PassedIsShown }
+{}
+
+/// Where a log closes a goal, its line and its steps pass one after the other: no step depends on
+/// those after it.
+pub fn logs_that_close_pass()
+    ensures { ClosingPasses }
+{}

@@ -1,0 +1,4 @@
+pub mod Sites
+pub mod Jobs
+pub mod LineRules
+pub mod Shown
