@@ -3,21 +3,37 @@
 
     scripts/compare_search.py sets [PROGRAM]      2,000 random clause sets, and 200 of goals of words
     scripts/compare_search.py goals [PROGRAM]     learnt clauses and seconds on goals of words
+    scripts/compare_search.py suite FOLDER        writes goals of compiled functions into a folder, in the DIMACS format
+    scripts/compare_search.py compiled FOLDER [PROGRAM [BEFORE]]
+                                                  learnt clauses, assignments, seconds and logs on those goals, also
+                                                  beside those of an earlier program
 
-It is run outside the gate and needs minisat and cadical (Debian: minisat, cadical) on the path, and the program `sat_rows` as `rt run` builds it in its folder. Clause sets of goals are made by `terms.py`, which makes the
-clauses that `bit_blast` makes (`compare_clauses.py`). Of `sets` the answers must be the same, each log is checked by
-`clause_check`, and each model by the clauses. In `goals` the number of learnt clauses is the least limit at which the
-search closes the clauses; seconds are the processor's, the least of a few runs.
+It is run outside the gate and needs minisat and cadical (Debian: minisat, cadical) on the path, and the program
+`sat_rows` as `rt run` builds it in its folder. `suite` needs gcc, clang and lld besides, as compare_compilers.py does,
+and the program `tv_rows`, whose rows write the goals.
+
+Clause sets of goals of words are made by `terms.py`, which makes the clauses that `bit_blast` makes
+(`compare_clauses.py`). Of `sets` the answers must be the same, each log is checked by `clause_check`, and each model by
+the clauses. In `goals` the number of learnt clauses is the least limit at which the search closes the clauses; seconds
+are the processor's, the least of a few runs.
+
+A goal of the suite is an obligation of a function of functions.txt as gcc or clang compiled it, of which minisat without
+preprocessing needs a thousand conflicts or more: easier ones close in a tenth of a second. Each set of clauses is there once, of a function at most so many. The
+functions are in two halves, by their names: constants of the search are chosen on the goals of the first half, `train`,
+and the figures that count are those of the second one, `held`.
 """
 
+import hashlib
 import random
 import resource
+import statistics
 import subprocess
 import sys
 import tempfile
 from pathlib import Path
 
 from compare_clauses import goals as random_goals, is_met, written
+from compare_compilers import COMPILERS, LEVELS, compiled, functions
 from compare_terms import FIXED
 from probe import ROOT
 from terms import clauses, normal
@@ -51,15 +67,17 @@ def counted(text, name):
 
 
 def other(solver, count, rows):
-    """Whether another solver finds a model, or None after its time, its conflicts and its seconds."""
+    """Whether another solver finds a model, or None after its time, its conflicts, its seconds and its assignments."""
     with tempfile.TemporaryDirectory() as folder:
         path = Path(folder, "goal.cnf")
         path.write_text(f"p cnf {count} {len(rows)}\n{written(rows)}")
-        words = ["cadical", "-t", str(SECONDS)] if solver == "cadical" else ["minisat", f"-cpu-lim={SECONDS}"]
-        ran, seconds = run([*words, str(path)] + ([str(path) + ".out"] if solver == "minisat" else []))
+        is_minisat = solver.startswith("minisat")
+        words = [*solver.split(), f"-cpu-lim={SECONDS}"] if is_minisat else [*solver.split(), "-t", str(SECONDS)]
+        ran, seconds = run([*words, str(path)] + ([str(path) + ".out"] if is_minisat else []))
     if ran.returncode not in (0, 10, 20):
         sys.exit(f"{solver} ended with status {ran.returncode}")
-    return {0: None, 10: True, 20: False}[ran.returncode], counted(ran.stdout, "conflicts"), seconds
+    has_model = {0: None, 10: True, 20: False}[ran.returncode]
+    return has_model, counted(ran.stdout, "conflicts"), seconds, counted(ran.stdout, "propagations")
 
 
 def question(word, limit, count, rows):
@@ -109,7 +127,7 @@ def compare_sets(program, random_count=2000, circuit_count=200):
     for (name, count, rows), answer in zip(sets, found):
         models = []
         for solver, total in totals.items():
-            has_model, conflicts, spent = other(solver, count, rows)
+            has_model, conflicts, spent, _ = other(solver, count, rows)
             total[0] += conflicts
             total[1] += spent
             models.append(has_model)
@@ -252,28 +270,6 @@ def goals():
     yield "ult by the borrow", ("eq", ("ult", a, b), ("not", ("eq", masked(borrow, 1 << 31), word(32, 0))))
 
 
-def learnt(program, count, rows):
-    """The least limit at which the clauses are closed, or None."""
-    low, high = 0, LIMIT
-    limits = [0] + [2**k for k in range(17)]
-    for limit in limits:
-        (found,), _ = asked(program, [question("count ", limit, count, rows)])
-        if not found.startswith("limit"):
-            high = limit
-            break
-        low = limit
-    else:
-        return None
-    while high - low > 1:
-        middle = (low + high) // 2
-        (found,), _ = asked(program, [question("count ", middle, count, rows)])
-        if found.startswith("limit"):
-            low = middle
-        else:
-            high = middle
-    return high
-
-
 def peak(program, text):
     """The peak of memory of a run, in MiB."""
     ran = subprocess.run(["/usr/bin/time", "-f", "%M", str(program)], input=text, capture_output=True, text=True)
@@ -290,7 +286,7 @@ def best_of(once):
 
 
 def by_other(solver, count, rows):
-    has_model, conflicts, seconds = other(solver, count, rows)
+    has_model, conflicts, seconds, _ = other(solver, count, rows)
     return seconds, conflicts, has_model is None
 
 
@@ -308,7 +304,7 @@ def compare_goals(program):
         text = question("count ", LIMIT, count, rows)
         seconds, found = best_of(lambda: by_search(program, text))
         others = [best_of(lambda: by_other(solver, count, rows)) for solver in ("cadical", "minisat")]
-        ours = learnt(program, count, rows) if found[0] == "closed" else None
+        ours = int(found[4]) + 1 if found[0] == "closed" else None
         cells = [name, count, len(rows), ours or f"over {LIMIT}", found[1] if ours else "", f"{seconds:.2f}", f"{peak(program, text):.0f}"]
         for spent, conflicts, is_over in others:
             cells += [f"over {conflicts}" if is_over else conflicts, f"{spent:.2f}"]
@@ -318,9 +314,165 @@ def compare_goals(program):
     return 0
 
 
+# ---- goals of compiled functions
+
+# of the obligations of a function at most so many are in the suite; easier ones than this aren't
+MOST, EASY = 6, 1000
+
+# goals closed within these seconds are counted
+PATIENCE = 5
+
+TV_ROWS = ROOT / "crates/tv_rows/out/tv_rows"
+
+
+class All:
+    """Which functions compare_compilers.py gives."""
+
+    random, only = 0, ""
+
+
+def obligations(text, data):
+    """The clauses of the obligations of the function `f` of a source and its code: their variables, and the clauses."""
+    source = text.replace("\\", "\\\\").replace("\n", "\\n")
+    rows = f"x: elf {data.hex()}\nx: c {source}\nx (f): proof goals\n"
+    ran, _ = run([str(TV_ROWS)], input=rows)
+    found = []
+    for line in ran.stdout.splitlines():
+        words = line.removeprefix("x (f): ").split()
+        if words[:2] == ["p", "cnf"]:
+            found.append((int(words[2]), []))
+        elif found and words[-1:] == ["0"]:
+            found[-1][1].append([int(word) for word in words[:-1]])
+    return found
+
+
+def hard(function, folder):
+    """The goals of a function that aren't easy, with the compiler and the level, each set of clauses once."""
+    seen = set()
+    for compiler, command in COMPILERS.items():
+        for level in LEVELS:
+            data = compiled(folder, "f", function.text, [*command, f"-{level}"])
+            for number, (count, rows) in enumerate(obligations(function.text, data)):
+                text = f"p cnf {count} {len(rows)}\n{written(rows)}"
+                key = hashlib.sha256(text.encode()).hexdigest()
+                if rows and key not in seen and other("minisat -no-pre", count, rows)[1] >= EASY:
+                    seen.add(key)
+                    yield f"{compiler} {level} {number}", text
+
+
+def write_suite(folder):
+    folder = Path(folder)
+    for half in ("train", "held"):
+        Path(folder, half).mkdir(parents=True, exist_ok=True)
+    written_goals = 0
+    for function in functions(All):
+        half = "train" if hashlib.sha256(function.name.encode()).digest()[0] % 2 else "held"
+        with tempfile.TemporaryDirectory() as scratch:
+            found = list(hard(function, Path(scratch)))
+        # evenly over compilers and levels
+        for where, text in found[:: -(-len(found) // MOST) or 1]:
+            name = f"{function.name} {where}".replace(",", "").replace("'", "").replace(" ", "_")
+            Path(folder, half, name + ".cnf").write_text(text)
+            written_goals += 1
+    print(f"{written_goals} goals")
+    return 0
+
+
+def read_cnf(path):
+    """The number of variables and the clauses of a file."""
+    head, *lines = path.read_text().splitlines()
+    return int(head.split()[2]), [[int(word) for word in line.split()[:-1]] for line in lines]
+
+
+class Measured:
+    """What a search took: whether it closed the clauses, learnt clauses, assignments, seconds, bytes of its log."""
+
+    def __init__(self, closed, learnt, assignments, seconds, size):
+        self.closed, self.learnt, self.assignments, self.seconds, self.size = closed, learnt, assignments, seconds, size
+
+    def cells(self):
+        over = "" if self.closed else "over "
+        size = [self.size] if self.size is not None else []
+        return [f"{over}{self.learnt}", self.assignments, f"{self.seconds:.2f}", *size]
+
+
+def limited(words, **more):
+    """As `run`, but given up after some processor seconds."""
+    return run(["sh", "-c", f'ulimit -t {SECONDS}; exec "$@"', "sh", *words], **more)
+
+
+def by_program(program, count, rows):
+    ran, seconds = limited([str(program)], input=question("count ", LIMIT, count, rows))
+    words = ran.stdout.strip().rpartition(": found ")[2].split(" ")
+    if len(words) < 6:
+        return Measured(False, 0, 0, seconds, 0)
+    steps, learnt, assignments = int(words[1]), int(words[4]), int(words[5])
+    size = 0
+    if words[0] == "closed":
+        ran, _ = limited([str(program)], input=question("log ", LIMIT, count, rows))
+        size = len(ran.stdout.strip().rpartition(": found ")[2]) + 2 * steps
+    return Measured(words[0] == "closed", learnt, assignments, seconds, size)
+
+
+def by_solver(solver, count, rows):
+    has_model, conflicts, seconds, assignments = other(solver, count, rows)
+    return Measured(has_model is False, conflicts, assignments, seconds, None)
+
+
+def quotients(name, pairs, of):
+    """The median quotient of a figure of two searches, over the goals that both close."""
+    found = [of(a) / of(b) for a, b in pairs if a.closed and b.closed and of(a) and of(b)]
+    if found:
+        print(f"{name}: {statistics.median(found):.2f} in the median of {len(found)}")
+
+
+def summed_up(half, goals_):
+    """What the goals of a half say: `goals_` has what each search took of each goal, by the search's name."""
+    print(f"\n{half}: {len(goals_)} goals")
+    for name in goals_[0]:
+        found = [goal[name] for goal in goals_]
+        soon = sum(one.closed and one.seconds <= PATIENCE for one in found)
+        print(f"{name}: {sum(one.closed for one in found)} closed, {soon} within {PATIENCE} s")
+    for name in list(goals_[0])[1:]:
+        pairs = [(goal["here"], goal[name]) for goal in goals_]
+        print(f"beside {name}: {sum(b.closed and not a.closed for a, b in pairs)} lost, {sum(a.closed and not b.closed for a, b in pairs)} gained")
+        quotients("  learnt", pairs, lambda one: one.learnt)
+        quotients("  assignments", pairs, lambda one: one.assignments)
+        quotients("  seconds", pairs, lambda one: max(one.seconds, 0.01))
+        quotients("  seconds for each assignment", pairs, lambda one: max(one.seconds, 0.01) / max(1, one.assignments))
+        quotients("  bytes of log", pairs, lambda one: one.size)
+
+
+def compare_compiled(folder, program, before=None):
+    searches = {"here": lambda *goal: by_program(program, *goal)}
+    if before:
+        searches["before"] = lambda *goal: by_program(before, *goal)
+    for solver in ("minisat", "minisat -no-pre", "cadical"):
+        searches[solver] = lambda *goal, solver=solver: by_solver(solver, *goal)
+    titles = ["Goal", "Variables", "Clauses"]
+    for name in searches:
+        titles += [f"Learnt ({name})", "Assignments", "Seconds"] + (["Bytes"] if name in ("here", "before") else [])
+    for half in ("train", "held"):
+        print("\n| " + " | ".join(titles) + " |\n" + "|---" * len(titles) + "|", flush=True)
+        found = []
+        for path in sorted(Path(folder, half).glob("*.cnf")):
+            count, rows = read_cnf(path)
+            found.append({name: search(count, rows) for name, search in searches.items()})
+            cells = [path.stem.replace("_", " "), count, len(rows)] + [cell for one in found[-1].values() for cell in one.cells()]
+            print("| " + " | ".join(map(str, cells)) + " |", flush=True)
+        if found:
+            summed_up(half, found)
+    return 0
+
+
 if __name__ == "__main__":
-    jobs = {"sets": compare_sets, "goals": compare_goals}
-    if len(sys.argv) not in (2, 3) or sys.argv[1] not in jobs:
-        sys.exit(__doc__)
-    where = Path(sys.argv[2]) if len(sys.argv) == 3 else ROOT / "crates/sat_rows/out/sat_rows"
-    sys.exit(bool(jobs[sys.argv[1]](where)))
+    sat_rows = ROOT / "crates/sat_rows/out/sat_rows"
+    job, words = (sys.argv[1:2] or [""])[0], sys.argv[2:]
+    if job in ("sets", "goals") and len(words) < 2:
+        where = Path(words[0]) if words else sat_rows
+        sys.exit(bool({"sets": compare_sets, "goals": compare_goals}[job](where)))
+    if job == "suite" and len(words) == 1:
+        sys.exit(write_suite(words[0]))
+    if job == "compiled" and 1 <= len(words) <= 3:
+        sys.exit(compare_compiled(words[0], *(words[1:] or [sat_rows])))
+    sys.exit(__doc__)

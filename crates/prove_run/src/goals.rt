@@ -11,7 +11,7 @@ ghost use Rattle.cert_check_frames.specs.Listed.{IsListed};
 ghost use Rattle.prove_run.specs.Goals.{AnswersGoals, AreOpened, IsLeafFault};
 
 use attempt::attempt;
-use cert_check_frames::{Listed, frame};
+use cert_check_frames::{Listed, frame, known};
 use proof_tree::Frame;
 use sim_rules::{Rule, RuleFault, Setup, obligations};
 use sim_rules_terms::{Convention, Opening};
@@ -50,7 +50,7 @@ fn frame_goals(
 }
 
 /// The obligations of a Leaf at the entry of a function, or why it has none.
-pub(crate) fn leaf_goals(
+fn leaf_goals(
     alloc: Global,
     function: &Listed<'_>,
     opening: Opening<'_>,
@@ -69,4 +69,31 @@ pub(crate) fn leaf_goals(
         RuleFault::NoMemory
     );
     frame_goals(alloc, &frame, function.convention, opening, bank)
+}
+
+/// The obligations of a bare Leaf at the entry of a function, or why it has none. The terms of the
+/// variables at the entry are added to the bank first.
+pub fn leaf_obligations(
+    alloc: Global,
+    function: &Listed<'_>,
+    bank: &mut Bank,
+) -> Result<Vec<TermId>, RuleFault>
+    ensures goals { (f : spec.Listed) → IsListed function.now f
+        → AnswersGoals f.convention f.opening f.frame bank.new result }
+    ensures within { IfOk result (λ goals. All (λ goal. goal < length bank.new) goals.items) }
+    ensures fault { IfErr result IsLeafFault }
+{
+    let binary = attempt!(
+        known(alloc, bank, function.binary_terms),
+        RuleFault::NoMemory
+    );
+    let source = attempt!(
+        known(alloc, bank, function.source_terms),
+        RuleFault::NoMemory
+    );
+    let opening = Opening {
+        binary: &binary,
+        source: &source,
+    };
+    leaf_goals(alloc, function, opening, bank)
 }

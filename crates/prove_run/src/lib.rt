@@ -15,6 +15,7 @@ mod trails;
 mod walks;
 mod writing;
 
+pub use goals::leaf_obligations;
 pub use prove_run_spec::{Measure, Side};
 pub use search::prove;
 pub use trail::{Found, Trail};

@@ -6,36 +6,16 @@ ghost use Rattle.cert_check_frames.specs.Listed.{AreListed, IsListed};
 ghost use Rattle.prove_run_spec.specs.Proofs.{HasTruths};
 ghost use Rattle.prove_run_spec.specs.Trails.{AreFound, IsFound};
 ghost use Rattle.prove_run.specs.Found.{found_of};
-ghost use Rattle.prove_run.specs.Goals.{AreOpened};
 
-use crate::goals::leaf_goals;
+use crate::goals::leaf_obligations;
 use crate::logs::search;
 use crate::trail::Found;
 use crate::walks::why;
 use attempt::attempt;
-use cert_check_frames::{Listed, known};
-use sim_rules_terms::Opening;
+use cert_check_frames::Listed;
 use std::alloc::{AllocError, Global};
 use term_bank::Bank;
 use tv_base::{Note, Notes};
-
-// What the search finds of a function, the terms of whose variables at the entry are known.
-fn find_opened<N: Notes>(
-    alloc: Global,
-    function: &Listed<'_>,
-    opening: Opening<'_>,
-    bank: &mut Bank,
-    notes: &mut N,
-) -> Result<Found, AllocError>
-    requires { AreOpened function.now bank.old opening }
-    ensures { (f : spec.Listed) → IsListed function.now f → HasTruths f
-        → IfOk result (λ found. IsFound f (found_of found)) }
-{
-    match leaf_goals(alloc, function, opening, bank) {
-        Ok(goals) => search(alloc, bank, goals.as_slice(), function.runs, notes),
-        Err(fault) => why(alloc, function, fault),
-    }
-}
 
 // What the search finds of a function.
 fn find<N: Notes>(alloc: Global, function: &Listed<'_>, notes: &mut N) -> Result<Found, AllocError>
@@ -43,13 +23,10 @@ fn find<N: Notes>(alloc: Global, function: &Listed<'_>, notes: &mut N) -> Result
         → IfOk result (λ found. IsFound f (found_of found)) }
 {
     let mut bank = Bank::new(alloc);
-    let binary = attempt!(known(alloc, &mut bank, function.binary_terms));
-    let source = attempt!(known(alloc, &mut bank, function.source_terms));
-    let opening = Opening {
-        binary: &binary,
-        source: &source,
-    };
-    find_opened(alloc, function, opening, &mut bank, notes)
+    match leaf_obligations(alloc, function, &mut bank) {
+        Ok(goals) => search(alloc, &mut bank, goals.as_slice(), function.runs, notes),
+        Err(fault) => why(alloc, function, fault),
+    }
 }
 
 // Notes that a function is the next.

@@ -1,5 +1,6 @@
 //! Rows of certificates.
 
+ghost use Rattle.std.specs.Prelude.{IfSome};
 ghost use Rattle.c_graph_spec.specs.Sizes.{UnitSizes};
 ghost use Rattle.c_types_spec.specs.HasType.{IsTypedUnit};
 ghost use Rattle.c_types.specs.Typed.{typed_of};
@@ -9,8 +10,10 @@ ghost use Rattle.pair_setup.specs.Answers.{pairs_of};
 ghost use Rattle.cert_text.specs.Certificates.{certificate_of};
 ghost use Rattle.validity_laws.specs.CheckStatements.{AreLines};
 
+use crate::obligations::put_obligations;
 use crate::outcomes::put_cert;
 use c_types::typed::Typed;
+use cert_check_frames::Listed;
 use cert_run::Sides;
 use cert_text::{Cert, ReadError, read};
 use elf_read::Image;
@@ -34,53 +37,63 @@ fn add_names<'a>(names: &mut Vec<&'a [u8]>, list: &'a str) -> Result<(), AllocEr
     Ok(())
 }
 
-/// What the check says of a certificate, of functions of both sides.
-fn put_checked(alloc: Global, sides: &Sides<'_>, cert: &Cert, out: &mut Out)
-    requires { AreLines (certificate_of cert.now) }
+/// What the check says of a certificate of functions, or their obligations where there is none.
+fn put_functions(alloc: Global, listed: &[Listed<'_>], cert: Option<&Cert>, out: &mut Out)
+    requires { IfSome cert (λ cert. AreLines (certificate_of cert.now)) }
+{
+    match cert {
+        Some(cert) => put_cert(alloc, listed, cert, out),
+        None => put_obligations(alloc, listed, out),
+    }
+}
+
+/// The same of functions of both sides.
+fn put_sides(alloc: Global, sides: &Sides<'_>, cert: Option<&Cert>, out: &mut Out)
+    requires { IfSome cert (λ cert. AreLines (certificate_of cert.now)) }
 {
     match sides.conventions(alloc) {
         Ok(conventions) => match sides.listed(alloc, conventions.as_slice()) {
-            Ok(listed) => put_cert(alloc, listed.as_slice(), cert, out),
+            Ok(listed) => put_functions(alloc, listed.as_slice(), cert, out),
             Err(_) => out.fail(),
         },
         Err(_) => out.fail(),
     }
 }
 
-/// What the check says of a certificate, of the functions of a list that has pairs.
+/// The same of the functions of a list that has pairs.
 fn put_paired(
     alloc: Global,
     image: &Image<'_>,
     unit: &Typed<'_>,
     list: &[&[u8]],
     pairs: &Pairs,
-    cert: &Cert,
+    cert: Option<&Cert>,
     out: &mut Out,
 )
     requires typed { IsTypedUnit (typed_of unit.now) }
     requires sizes { UnitSizes (typed_of unit.now) }
     requires paired { IsPaired image.now (typed_of unit.now) (texts_of list.now)
         (pairs_of (texts_of list.now) pairs.now) }
-    requires lines { AreLines (certificate_of cert.now) }
+    requires lines { IfSome cert (λ cert. AreLines (certificate_of cert.now)) }
 {
     match Sides::new(alloc, image, unit, list, pairs) {
-        Ok(sides) => put_checked(alloc, &sides, cert, out),
+        Ok(sides) => put_sides(alloc, &sides, cert, out),
         Err(_) => out.fail(),
     }
 }
 
-/// What the check says of a certificate, of the functions of a list.
+/// The same of the functions of a list.
 fn put_listed(
     alloc: Global,
     image: &Image<'_>,
     unit: &Typed<'_>,
     list: &[&[u8]],
-    cert: &Cert,
+    cert: Option<&Cert>,
     out: &mut Out,
 )
     requires typed { IsTypedUnit (typed_of unit.now) }
     requires sizes { UnitSizes (typed_of unit.now) }
-    requires lines { AreLines (certificate_of cert.now) }
+    requires lines { IfSome cert (λ cert. AreLines (certificate_of cert.now)) }
 {
     match pair(alloc, image, unit, list) {
         Ok(pairs) => put_paired(alloc, image, unit, list, &pairs, cert, out),
@@ -88,7 +101,7 @@ fn put_listed(
     }
 }
 
-/// The outcome of a certificate's text.
+/// The outcome of a certificate's text, or of the word `goals`.
 fn put_text(
     alloc: Global,
     image: &Image<'_>,
@@ -100,8 +113,11 @@ fn put_text(
     requires typed { IsTypedUnit (typed_of unit.now) }
     requires sizes { UnitSizes (typed_of unit.now) }
 {
+    if text == b"goals".as_slice() {
+        return put_listed(alloc, image, unit, list, None, out);
+    }
     match read(alloc, text) {
-        Ok(cert) => put_listed(alloc, image, unit, list, &cert, out),
+        Ok(cert) => put_listed(alloc, image, unit, list, Some(&cert), out),
         Err(ReadError::Refused(offset)) => {
             out.put("refused at ");
             out.show(&offset);

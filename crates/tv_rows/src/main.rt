@@ -20,7 +20,9 @@
 //!   and read from it
 //! - `proof TEXT`: what the check says of a certificate, in which `|` is a line feed, of those
 //!   functions of the pair that are in brackets in the row's name: whether it is a proof, or the
-//!   function, the offset and the rule of its first fault, or the offset at which it is refused
+//!   function, the offset and the rule of its first fault, or the offset at which it is refused;
+//!   `proof goals`: the clauses of the obligations of a bare Leaf of these functions, in the DIMACS
+//!   format
 //! - `pair PARTS | LIST | TEXT`: what pairing answers of an executable, by its parts as `row_io`
 //!   has them, listed functions, separated by blanks, and a C text: of each function its entry,
 //!   size and stack, and then all entries that are reached; or the refusal
@@ -38,6 +40,7 @@ mod certificates;
 mod check;
 mod files;
 mod judgements;
+mod obligations;
 mod outcomes;
 mod pair;
 mod runs;

@@ -1,5 +1,13 @@
-use Rattle.prove_run.proofs.Opened.{opened_both}
+use Rattle.std.proofs.Common.{ℕ, List, sym, subst}
+use Rattle.prove_run.specs.Goals.{HasGoals}
+use Rattle.prove_run.proofs.Searched.{found_there}
 use Rattle.prove_run.proofs.search.find.Goals as goal
 
-pub find_opened-requires : goal.find_opened-requires
-find_opened-requires g c = opened_both c.args.function.now c.known.new.bank c.known-2.new.bank _ c.known-2.ensures.extends c.in-Ok-attempt.ensures.terms c.in-Ok-attempt-source.ensures.terms
+pub returns-in-Ok : goal.returns-in-Ok
+returns-in-Ok g c = λ f is truths.
+    found_there f c.leaf_obligations.new.bank c.as_slice.result.now
+    (subst (λ (ids : List ℕ). HasGoals f.convention f.opening f.frame c.leaf_obligations.new.bank ids) (sym c.as_slice.ensures.value) (c.in-Ok.ensures.goals f is))
+    c.args.function.now is truths c.search.result c.search.ensures
+
+pub returns-in-Err : goal.returns-in-Err
+returns-in-Err g c = λ f is truths. c.why.ensures f is (c.in-Err.ensures.goals f is)
