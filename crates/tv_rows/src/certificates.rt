@@ -101,6 +101,28 @@ fn put_listed(
     }
 }
 
+/// The outcome of a certificate's text.
+fn put_certificate(
+    alloc: Global,
+    image: &Image<'_>,
+    unit: &Typed<'_>,
+    list: &[&[u8]],
+    text: &[u8],
+    out: &mut Out,
+)
+    requires typed { IsTypedUnit (typed_of unit.now) }
+    requires sizes { UnitSizes (typed_of unit.now) }
+{
+    match read(alloc, text) {
+        Ok(cert) => put_listed(alloc, image, unit, list, Some(&cert), out),
+        Err(ReadError::Refused(offset)) => {
+            out.put("refused at ");
+            out.show(&offset);
+        }
+        Err(ReadError::NoMemory) => out.fail(),
+    }
+}
+
 /// The outcome of a certificate's text, or of the word `goals`.
 fn put_text(
     alloc: Global,
@@ -114,15 +136,9 @@ fn put_text(
     requires sizes { UnitSizes (typed_of unit.now) }
 {
     if text == b"goals".as_slice() {
-        return put_listed(alloc, image, unit, list, None, out);
-    }
-    match read(alloc, text) {
-        Ok(cert) => put_listed(alloc, image, unit, list, Some(&cert), out),
-        Err(ReadError::Refused(offset)) => {
-            out.put("refused at ");
-            out.show(&offset);
-        }
-        Err(ReadError::NoMemory) => out.fail(),
+        put_listed(alloc, image, unit, list, None, out);
+    } else {
+        put_certificate(alloc, image, unit, list, text, out);
     }
 }
 
