@@ -282,7 +282,6 @@ pub(crate) fn put_steady(
         &mut report,
         &mut store,
         &mut trails,
-        &mut NoNotes,
     ));
     out.put(" ");
     out.bytes(report.text());
