@@ -17,16 +17,29 @@ use std::alloc::{AllocError, Global};
 use term_bank::Bank;
 use tv_base::{Note, Notes};
 
+// What the search finds of a function; the bank is for its terms.
+fn find_in<N: Notes>(
+    alloc: Global,
+    function: &Listed<'_>,
+    bank: &mut Bank,
+    notes: &mut N,
+) -> Result<Found, AllocError>
+    ensures { (f : spec.Listed) → IsListed function.now f → HasTruths f
+        → IfOk result (λ found. IsFound f (found_of found)) }
+{
+    match leaf_obligations(alloc, function, bank) {
+        Ok(goals) => search(alloc, bank, goals.as_slice(), function.runs, notes),
+        Err(fault) => why(alloc, function, fault),
+    }
+}
+
 // What the search finds of a function.
 fn find<N: Notes>(alloc: Global, function: &Listed<'_>, notes: &mut N) -> Result<Found, AllocError>
     ensures { (f : spec.Listed) → IsListed function.now f → HasTruths f
         → IfOk result (λ found. IsFound f (found_of found)) }
 {
     let mut bank = Bank::new(alloc);
-    match leaf_obligations(alloc, function, &mut bank) {
-        Ok(goals) => search(alloc, &mut bank, goals.as_slice(), function.runs, notes),
-        Err(fault) => why(alloc, function, fault),
-    }
+    find_in(alloc, function, &mut bank, notes)
 }
 
 // Notes that a function is the next.

@@ -8,7 +8,7 @@ use tv_base::{Note, Notes};
 const CLEAR: &[u8] = b"\r\x1b[K";
 
 /// How many bytes of a name are shown, so that a line is no longer than a row.
-const SHOWN: usize = 40;
+const SHOWN: usize = 36;
 
 /// A search for a log.
 #[derive(Clone, Copy)]

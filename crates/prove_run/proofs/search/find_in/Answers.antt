@@ -1,7 +1,7 @@
 use Rattle.std.proofs.Common.{ℕ, List, sym, subst}
 use Rattle.prove_run.specs.Goals.{HasGoals}
 use Rattle.prove_run.proofs.Searched.{found_there}
-use Rattle.prove_run.proofs.search.find.Goals as goal
+use Rattle.prove_run.proofs.search.find_in.Goals as goal
 
 pub returns-in-Ok : goal.returns-in-Ok
 returns-in-Ok g c = λ f is truths.
