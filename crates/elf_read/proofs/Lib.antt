@@ -14,5 +14,6 @@ mod FixedOrder
 mod ExtentSteps
 mod RunsOf
 mod SizeSteps
-mod NameSteps
+mod Texts
+mod TreeSteps
 mod NamedSteps

@@ -1,8 +1,11 @@
 -- The values of the symbols of each name, collected from the last symbol to the first.
-use Rattle.std.proofs.Common.{◌≡◌, ◌==◌, ◌-◌, ◌<◌, ◌≤◌, ◌∙◌, ℕ, zero, suc, Bool, true, false, not, cond, List, [], ◌∷◌, Option, None, Some, length, get_or, drop, map, filter, find, bytes_eq, unwrap_or, ap, sym, refl, arith, subst, eqb-true, eq-eqb, set, replicate}
-use Rattle.std.specs.Option.{option_map}
+use Rattle.std.proofs.Common.{◌≡◌, ◌==◌, ◌-◌, ◌<◌, ◌≤◌, ◌∙◌, ℕ, suc, Bool, true, false, not, cond, List, [], ◌∷◌, Option, None, Some, length, get_or, drop, map, filter, find, bytes_eq, unwrap_or, ap, sym, refl, arith, subst, eqb-true, eq-eqb, nat_cmp}
+use Rattle.std.specs.Cmp.{ranks}
+use Rattle.std.specs.Ordering.{is_eq}
+use Rattle.std.specs.Option.{option_and_then}
+use Rattle.std.specs.BTreeMap.{BTreeMap, get}
 use Rattle.std.proofs.Math.Seq.{drop-cons}
-use Rattle.std.proofs.lemmas.List.{drop_all, get_or_default, get_or-set_same, get_or-set_other}
+use Rattle.std.proofs.lemmas.List.{drop_all, get_or_default}
 use Rattle.std.proofs.lemmas.Slice.Eq.{bytes_eq-Decides}
 use Rattle.elf_read_spec.specs.Image as spec
 use Rattle.elf_read_spec.specs.declared.SymbolValues.{SymbolValues}
@@ -10,7 +13,8 @@ use Rattle.elf_read_spec.specs.declared.SymbolValues.TheVariants.{Absent, Two}
 use Rattle.elf_read.specs.declared.parts.Symbol.{Symbol}
 use Rattle.elf_read.specs.Values.{symbol_of}
 use Rattle.elf_read_spec.specs.File.{name_in}
-use Rattle.elf_read.specs.Firsts.{ArePlaced, Firsts, index_of, AreFirsts, looked_up, named_among, AreNamed, with_first}
+use Rattle.elf_read.specs.NameTree.{ArePlaced, Tree, node_of, AreNumbered, looked_up, named_among, AreNamed, with_first}
+use Rattle.elf_read.proofs.SizeSteps.{same_test}
 
 abbrev differs : ℕ → ℕ → Bool
 differs value other = not (other == value)
@@ -65,80 +69,79 @@ among_next symbols kind name at d b some h test =
         ap (λ xs. spec.named_of (map (λ s. s.value) xs)) miss
 
 -- a symbol of another type
-pub named_passed : (firsts : Firsts) (values : List SymbolValues) (symbols : List Symbol) (kind at : ℕ) (d : Symbol) → 0 < at → at ≤ length symbols
-    → ((get_or symbols (at - 1) d).kind == kind) ≡ false → AreNamed firsts symbols kind values at → AreNamed firsts symbols kind values (at - 1)
-named_passed firsts values symbols kind at d some h other named name =
+pub named_passed : (tree : Tree) (values : BTreeMap ℕ SymbolValues) (symbols : List Symbol) (kind at : ℕ) (d : Symbol) → 0 < at → at ≤ length symbols
+    → ((get_or symbols (at - 1) d).kind == kind) ≡ false → AreNamed tree symbols kind values at → AreNamed tree symbols kind values (at - 1)
+named_passed tree values symbols kind at d some h other named name =
     let fails : spec.has_name kind name (symbol_of (get_or symbols (at - 1) d)) ≡ false = rw other refl in
     named name ∙ sym (among_next symbols kind name at d false some h fails)
 
--- the values at an index that isn't written stay
-other_index : (values : List SymbolValues) (number : ℕ) (joined : SymbolValues) (o : Option ℕ) → (o ≡ Some number → ⊥)
-    → unwrap_or (option_map (λ i. get_or (set values number joined) i Absent) o) Absent ≡ unwrap_or (option_map (λ i. get_or values i Absent) o) Absent
-other_index values number joined None apart = refl
-other_index values number joined (Some i) apart = get_or-set_other values number i joined Absent (λ same. apart (ap Some same))
-
--- the index of a name's first symbol
-pub first_inside : (firsts : Firsts) (symbols : List Symbol) (numbers : List ℕ) (at number : ℕ) (d : Symbol) → at < length numbers
-    → AreFirsts firsts symbols numbers → number ≡ get_or numbers at number → number < length numbers
-first_inside firsts symbols numbers at number d inside so is =
-    (so.own (get_or symbols at d).name.now number d (so.each at d inside ∙ ap Some (sym (is ∙ get_or_default numbers at number 0 inside)))).0
+-- the values at a node that isn't written stay
+other_node : (old new : BTreeMap ℕ SymbolValues) (number : ℕ) (joined : SymbolValues) (o : Option ℕ) → (o ≡ Some number → ⊥)
+    → ((node : ℕ) → get nat_cmp new node ≡ cond (is_eq (nat_cmp number node)) (Some joined) (get nat_cmp old node))
+    → unwrap_or (option_and_then (λ node. get nat_cmp new node) o) Absent ≡ unwrap_or (option_and_then (λ node. get nat_cmp old node) o) Absent
+other_node old new number joined None apart writes = refl
+other_node old new number joined (Some node) apart writes =
+    ap (λ v. unwrap_or v Absent)
+    (writes node
+    ∙ ap (λ b. cond b (Some joined) (get nat_cmp old node)) (same_test number node (nat_cmp number node) (ranks number node))
+    ∙ by_test (number == node) refl)
+  where
+    by_test : (b : Bool) → (number == node) ≡ b → cond (number == node) (Some joined) (get nat_cmp old node) ≡ get nat_cmp old node
+    by_test true e = absurd (apart (ap Some (sym (eqb-true number node e))))
+    by_test false e = ap (λ b. cond b (Some joined) (get nat_cmp old node)) e
 
 -- a symbol of the type
-pub named_written : (firsts : Firsts) (values : List SymbolValues) (symbols : List Symbol) (numbers : List ℕ) (kind at number : ℕ)
+pub named_written : (tree : Tree) (old new : BTreeMap ℕ SymbolValues) (symbols : List Symbol) (numbers : List ℕ) (kind at number : ℕ)
     (later joined : SymbolValues) (d : Symbol)
-    → 0 < at → at ≤ length symbols → length numbers ≡ length symbols → length values ≡ length symbols → AreFirsts firsts symbols numbers
-    → number ≡ get_or numbers (at - 1) number → (get_or symbols (at - 1) d).kind ≡ kind → later ≡ get_or values number later
-    → joined ≡ with_first (get_or symbols (at - 1) d).value later → AreNamed firsts symbols kind values at
-    → AreNamed firsts symbols kind (set values number joined) (at - 1)
-named_written firsts values symbols numbers kind at number later joined d some h count long so number_is kind_is later_is joined_is named name =
+    → 0 < at → at ≤ length symbols → length numbers ≡ length symbols → AreNumbered tree symbols numbers
+    → number ≡ get_or numbers (at - 1) number → (get_or symbols (at - 1) d).kind ≡ kind → later ≡ unwrap_or (get nat_cmp old number) Absent
+    → joined ≡ with_first (get_or symbols (at - 1) d).value later
+    → ((node : ℕ) → get nat_cmp new node ≡ cond (is_eq (nat_cmp number node)) (Some joined) (get nat_cmp old node))
+    → AreNamed tree symbols kind old at → AreNamed tree symbols kind new (at - 1)
+named_written tree old new symbols numbers kind at number later joined d some h count so number_is kind_is later_is joined_is writes named name =
     by_name (bytes_eq s.name.now name) refl
   where
     s : Symbol
     s = get_or symbols (at - 1) d
 
-    first : index_of firsts s.name.now ≡ Some number
+    first : node_of tree s.name.now ≡ Some number
     first = so.each (at - 1) d (omega arith) ∙ ap Some (sym (number_is ∙ get_or_default numbers (at - 1) number 0 (omega arith)))
 
-    inside : number < length values
-    inside = omega (arith, (so.own s.name.now number d first).0)
-
-    by_name : (b : Bool) → bytes_eq s.name.now name ≡ b → looked_up firsts (set values number joined) name ≡ named_among symbols kind name (at - 1)
+    by_name : (b : Bool) → bytes_eq s.name.now name ≡ b → looked_up tree new name ≡ named_among symbols kind name (at - 1)
     by_name true e =
         let same : s.name.now ≡ name = (bytes_eq-Decides s.name.now name).0 e in
-        let here : index_of firsts name ≡ Some number = ap (λ n. index_of firsts n) (sym same) ∙ first in
-        let written : looked_up firsts (set values number joined) name ≡ joined =
-        ap (λ o. unwrap_or (option_map (λ i. get_or (set values number joined) i Absent) o) Absent) here
-        ∙ get_or-set_same values number joined Absent inside in
+        let here : node_of tree name ≡ Some number = ap (λ n. node_of tree n) (sym same) ∙ first in
+        let equal : is_eq (nat_cmp number number) ≡ true =
+        same_test number number (nat_cmp number number) (ranks number number) ∙ eq-eqb number number refl in
+        let written : looked_up tree new name ≡ joined =
+        ap (λ o. unwrap_or (option_and_then (λ node. get nat_cmp new node) o) Absent) here
+        ∙ ap (λ v. unwrap_or v Absent) (writes number ∙ ap (λ b. cond b (Some joined) (get nat_cmp old number)) equal) in
         let before : later ≡ named_among symbols kind name at =
-        later_is ∙ get_or_default values number later Absent inside ∙ sym (ap (λ o. unwrap_or (option_map (λ i. get_or values i Absent) o) Absent) here) ∙ named name in
+        later_is ∙ sym (ap (λ o. unwrap_or (option_and_then (λ node. get nat_cmp old node) o) Absent) here) ∙ named name in
         let passes : spec.has_name kind name (symbol_of s) ≡ true =
         let kinds : (s.kind == kind) ≡ true = eq-eqb s.kind kind kind_is in rw (kinds, e) refl in
         written ∙ joined_is ∙ ap (λ v. with_first s.value v) before ∙ sym (among_next symbols kind name at d true some h passes)
     by_name false e =
         let fails : spec.has_name kind name (symbol_of s) ≡ false =
         let kinds : (s.kind == kind) ≡ true = eq-eqb s.kind kind kind_is in rw (kinds, e) refl in
-        other_index values number joined (index_of firsts name)
+        other_node old new number joined (node_of tree name)
         (λ here.
-        let same : s.name.now ≡ name = sym (so.own s.name.now number d first).1 ∙ (so.own name number d here).1 in
+        let same : s.name.now ≡ name = so.once s.name.now name number first here in
         let equal : bytes_eq s.name.now name ≡ true = (bytes_eq-Decides s.name.now name).1 same in absurd cc)
+        writes
         ∙ named name ∙ sym (among_next symbols kind name at d false some h fails)
 
 -- without symbols there are no values
-pub named_begins : (firsts : Firsts) (symbols : List Symbol) (kind count : ℕ) (values : List SymbolValues) → values ≡ replicate count Absent
-    → AreNamed firsts symbols kind values (length symbols)
-named_begins firsts symbols kind count values are name =
-    ap (λ vs. looked_up firsts vs name) are ∙ nothing (index_of firsts name)
+pub named_begins : (tree : Tree) (symbols : List Symbol) (kind : ℕ) (values : BTreeMap ℕ SymbolValues) → values.entries ≡ []
+    → AreNamed tree symbols kind values (length symbols)
+named_begins tree symbols kind values none name =
+    nothing (node_of tree name)
     ∙ ap (λ xs. spec.named_of (map (λ s. s.value) (filter (spec.has_name kind name) (map symbol_of xs))))
     (sym (drop_all (length symbols) symbols (omega arith)))
   where
-    each : (n i : ℕ) → get_or (replicate n Absent) i Absent ≡ Absent
-    each zero i = refl
-    each (suc n) zero = refl
-    each (suc n) (suc i) = each n i
-
-    nothing : (o : Option ℕ) → unwrap_or (option_map (λ i. get_or (replicate count Absent) i Absent) o) Absent ≡ Absent
+    nothing : (o : Option ℕ) → unwrap_or (option_and_then (λ node. get nat_cmp values node) o) Absent ≡ Absent
     nothing None = refl
-    nothing (Some i) = each count i
+    nothing (Some node) = rw none refl
 
 map_twice : {X Y Z : Type 0} (f : X → Y) (g : Y → Z) (xs : List X) → map g (map f xs) ≡ map (λ x. g (f x)) xs
 map_twice f g [] = refl
@@ -146,8 +149,7 @@ map_twice f g (x ∷ xs) = ap (λ ys. g (f x) ∷ ys) (map_twice f g xs)
 
 -- symbols and offsets that are made of the same entries
 pub placed : (symbols : List Symbol) (offsets strings entries : List ℕ) (at : ℕ → spec.Symbol) → map symbol_of symbols ≡ map at entries
-    → map (name_in strings) offsets ≡ map (λ e. (at e).name) entries → ArePlaced symbols offsets
-placed symbols offsets strings entries at symbols_are names_are = (
-  strings,
-  names_are ∙ sym (map_twice at (λ (s : spec.Symbol). s.name) entries) ∙ ap (λ (xs : List spec.Symbol). map (λ s. s.name) xs) (sym symbols_are) ∙ map_twice symbol_of (λ (s : spec.Symbol). s.name) symbols,
-)
+    → map (name_in strings) offsets ≡ map (λ e. (at e).name) entries → ArePlaced symbols strings offsets
+placed symbols offsets strings entries at symbols_are names_are =
+    names_are ∙ sym (map_twice at (λ (s : spec.Symbol). s.name) entries) ∙ ap (λ (xs : List spec.Symbol). map (λ s. s.name) xs) (sym symbols_are)
+    ∙ map_twice symbol_of (λ (s : spec.Symbol). s.name) symbols

@@ -9,4 +9,4 @@ pub mod Names
 pub mod Separate
 pub mod Fixed
 pub mod Extents
-pub mod Firsts
+pub mod NameTree

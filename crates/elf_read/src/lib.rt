@@ -20,6 +20,7 @@ mod segments;
 mod sizes;
 mod strings;
 mod symbols;
+mod tree;
 
 pub use elf_read_spec::SymbolValues;
 pub use loaded::Image;

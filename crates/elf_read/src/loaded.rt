@@ -50,21 +50,22 @@ impl<'a> Model for Image<'a> {
 impl<'a> Image<'a> {
     ghost use Rattle.elf_read.specs.Values.{segment_of, symbol_of, IsExtentAt};
     ghost use Rattle.elf_read.specs.Separate.{AreSeparate};
-    ghost use Rattle.elf_read.specs.Firsts.{ArePlaced};
+    ghost use Rattle.elf_read.specs.NameTree.{ArePlaced};
     ghost use Rattle.elf_read_spec.specs.Runs.{AreRuns, bytes_from};
     ghost use Rattle.memory_spec.specs.Runs.{AreBytes};
     ghost use Rattle.memory_spec.specs.Viewed.{runs_of};
 
-    /// The image of some segments and symbols, whose names begin at these offsets of one string
+    /// The image of some segments and symbols, whose names begin at these offsets of a string
     /// table.
     pub(crate) fn new(
         alloc: Global,
         segments: Vec<Segment<'a>>,
         symbols: Vec<Symbol<'a>>,
+        strings: &'a [u8],
         offsets: &[u32],
     ) -> Result<Image<'a>, AllocError>
         requires separate { AreSeparate (map segment_of segments.items) }
-        requires placed { ArePlaced symbols.items offsets.now }
+        requires placed { ArePlaced symbols.items strings.now offsets.now }
         ensures { IfOk result (λ image. image
             ≡ record {
               segments = map segment_of segments.entry.items;
@@ -74,7 +75,7 @@ impl<'a> Image<'a> {
     {
         let fixed = fixed_segments(alloc, segments.as_slice())?;
         let extents = extents(alloc, fixed.as_slice())?;
-        let named = Named::new(alloc, symbols.as_slice(), offsets)?;
+        let named = Named::new(alloc, symbols.as_slice(), strings, offsets)?;
         let sizes = sizes(alloc, symbols.as_slice())?;
         let global_pointer = first_named(symbols.as_slice(), b"__global_pointer$");
         Ok(Image {

@@ -3,42 +3,45 @@
 ghost use Rattle.std.specs.Prelude.{◌≡◌, IfOk};
 ghost use Rattle.elf_read_spec.specs.declared.fields.TheConstants.{STT_FUNC as FUNC};
 ghost use Rattle.elf_read_spec.specs.declared.fields.TheConstants.{STT_OBJECT as OBJECT};
-ghost use Rattle.elf_read.specs.Firsts.{ArePlaced, AreNamed, looked_up};
+ghost use Rattle.elf_read.specs.NameTree.{ArePlaced, AreNamed, looked_up};
 
 use crate::Symbol;
-use crate::names::{Firsts, Names, index_of};
+use crate::names::Names;
+use crate::tree::{Tree, node};
 use elf_read_spec::SymbolValues;
 use elf_read_spec::fields::{STT_FUNC, STT_OBJECT};
 use std::alloc::{AllocError, Global};
+use std::collections::BTreeMap;
 
-/// The values of functions and of globals, at the index of the first symbol of their name.
+/// The values of functions and of globals, by the nodes of their names.
 #[derive(Debug, Drop)]
 pub(crate) struct Named<'a> {
-    pub firsts: Firsts<'a>,
-    pub functions: Vec<SymbolValues>,
-    pub objects: Vec<SymbolValues>,
+    pub tree: Tree<'a>,
+    pub functions: BTreeMap<usize, SymbolValues>,
+    pub objects: BTreeMap<usize, SymbolValues>,
 }
 
 impl<'a> Named<'a> {
-    /// The values of some symbols, whose names begin at these offsets of one string table.
+    /// The values of some symbols, whose names begin at these offsets of a string table.
     pub(crate) fn new(
         alloc: Global,
         symbols: &[Symbol<'a>],
+        strings: &'a [u8],
         offsets: &[u32],
     ) -> Result<Named<'a>, AllocError>
-        requires { ArePlaced symbols.now offsets.now }
-        ensures functions { IfOk result (λ named. AreNamed named.firsts symbols.now FUNC
-            named.functions.items 0) }
-        ensures objects { IfOk result (λ named. AreNamed named.firsts symbols.now OBJECT
-            named.objects.items 0) }
+        requires { ArePlaced symbols.now strings.now offsets.now }
+        ensures functions { IfOk result (λ named. AreNamed named.tree symbols.now FUNC
+            named.functions 0) }
+        ensures objects { IfOk result (λ named. AreNamed named.tree symbols.now OBJECT
+            named.objects 0) }
     {
-        let names = Names::new(alloc, symbols, offsets)?;
+        let names = Names::new(alloc, symbols, strings, offsets)?;
         let functions = names.values(alloc, symbols, STT_FUNC)?;
         let objects = names.values(alloc, symbols, STT_OBJECT)?;
-        let Names { firsts, numbers } = names;
+        let Names { tree, numbers } = names;
         drop(numbers);
         Ok(Named {
-            firsts,
+            tree,
             functions,
             objects,
         })
@@ -46,25 +49,25 @@ impl<'a> Named<'a> {
 
     /// The functions of a name.
     pub(crate) fn function(&self, name: &[u8]) -> SymbolValues
-        ensures { result ≡ looked_up self.now.firsts self.now.functions.items name.now }
+        ensures { result ≡ looked_up self.now.tree self.now.functions name.now }
     {
-        values_at(&self.firsts, self.functions.as_slice(), name)
+        values_at(&self.tree, &self.functions, name)
     }
 
     /// The globals of a name.
     pub(crate) fn object(&self, name: &[u8]) -> SymbolValues
-        ensures { result ≡ looked_up self.now.firsts self.now.objects.items name.now }
+        ensures { result ≡ looked_up self.now.tree self.now.objects name.now }
     {
-        values_at(&self.firsts, self.objects.as_slice(), name)
+        values_at(&self.tree, &self.objects, name)
     }
 }
 
 /// The values of a name.
-fn values_at(firsts: &Firsts, values: &[SymbolValues], name: &[u8]) -> SymbolValues
-    ensures { result ≡ looked_up firsts.now values.now name.now }
+fn values_at(tree: &Tree, values: &BTreeMap<usize, SymbolValues>, name: &[u8]) -> SymbolValues
+    ensures { result ≡ looked_up tree.now values.now name.now }
 {
-    match index_of(firsts, name) {
-        Some(i) => values.get(i).copied().unwrap_or(SymbolValues::Absent),
+    match node(tree, name) {
+        Some(node) => values.get(&node).copied().unwrap_or(SymbolValues::Absent),
         None => SymbolValues::Absent,
     }
 }

@@ -66,12 +66,13 @@ pub fn read<'a>(alloc: Global, bytes: &'a [u8]) -> Result<Image<'a>, ElfError>
     let loads = loads(alloc, bytes)?;
     check_loads(alloc, bytes, loads.as_slice())?;
     let table = check_table(bytes)?;
-    let strings = Strings::new(alloc, strings(bytes, table))?;
+    let text = strings(bytes, table);
+    let strings = Strings::new(alloc, text)?;
     check_names(bytes, table, &strings)?;
     let segments = segments(alloc, bytes, loads.as_slice())?;
     let symbols = defined_symbols(alloc, bytes, table, &strings)?;
     let offsets = name_offsets(alloc, bytes, table)?;
-    Ok(Image::new(alloc, segments, symbols, offsets.as_slice())?)
+    Ok(Image::new(alloc, segments, symbols, text, offsets.as_slice())?)
 }
 
 /// Refuses a file for the first fault of its segments.

@@ -15,8 +15,9 @@ new-requires-2-clause-separate c =
 
 pub new-requires-2-clause-placed : goal.new-requires-2-clause-placed
 new-requires-2-clause-placed c =
-    placed _ _ (strings_of c.args.bytes.now c.in_ok-table.table) _ (symbol_at c.args.bytes.now c.in_ok-table.table) c.in_ok-symbols.ensures
-    (rw c.as_slice-3.ensures.value c.in_ok-offsets.ensures)
+    rw c.strings-text.ensures.strings
+    (placed _ _ (strings_of c.args.bytes.now c.in_ok-table.table) _ (symbol_at c.args.bytes.now c.in_ok-table.table) c.in_ok-symbols.ensures
+    (rw c.as_slice-3.ensures.value c.in_ok-offsets.ensures))
 
 pub returns-clause-accepted : goal.returns-clause-accepted
 returns-clause-accepted c =

@@ -1,13 +1,12 @@
-use Rattle.std.proofs.Common.{◌≡◌, ◌≤◌, length}
-use Rattle.elf_read.specs.Firsts.{AreNamed}
+use Rattle.std.proofs.Common.{◌≤◌, length}
+use Rattle.elf_read.specs.NameTree.{AreNamed}
 use Rattle.elf_read.proofs.names.Names.values.Given as goal
 
 abbrev pub invariant-loop-at : goal.invariant-loop-at
 invariant-loop-at l =
     record {
       upto : l.at ≤ length l.symbols;
-      long : length l.values.items ≡ length l.symbols;
-      named : AreNamed l.self.firsts l.symbols l.kind l.values.items l.at;
+      named : AreNamed l.self.tree l.symbols l.kind l.values l.at;
     }
 
 abbrev pub decreases-loop-at : goal.decreases-loop-at

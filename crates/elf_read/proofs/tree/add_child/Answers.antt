@@ -1,6 +1,6 @@
 use Rattle.std.proofs.Common.{◌∙◌, sym}
-use Rattle.elf_read.proofs.NameSteps.{added}
-use Rattle.elf_read.proofs.names.add_among.Goals as goal
+use Rattle.elf_read.proofs.TreeSteps.{added}
+use Rattle.elf_read.proofs.tree.add_child.Goals as goal
 
 pub returns : goal.returns
 returns c =
