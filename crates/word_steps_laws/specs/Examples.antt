@@ -1,5 +1,5 @@
 -- Blocks of word steps, and pairs of terms for the rules, worked by hand.
-use Rattle.std.specs.Prelude.{◌≡◌, ℕ, Bool, true, false, if◌then◌else◌, List, [], ◌∷◌, Option, Some}
+use Rattle.std.specs.Prelude.{◌≡◌, ℕ, ◌==◌, Bool, true, false, if◌then◌else◌, List, [], ◌∷◌, Option, Some}
 use Rattle.term_core_spec.specs.declared.Width.TheVariants.{W8, W16, W32, W64}
 use Rattle.term_core_spec.specs.declared.Sort.TheVariants.{Truth, Word}
 use Rattle.term_core_spec.specs.declared.Atom.{Atom}
@@ -568,4 +568,40 @@ other_signed_quotients =
     ∷ where_true [] (subtract (tenth x) (shift_right_signed x (number 30)) ~ quotient_in_c x 10)
     ∷ where_true [] (subtract (shift_right_signed (upper_product x 1717986919) (number 2)) (shift_right_signed x (number 31)) ~ quotient_in_c x 10)
     ∷ where_true [] (subtract (shift_right_signed (signed_upper x 1717986920) (number 2)) (shift_right_signed x (number 31)) ~ quotient_in_c x 10)
+    ∷ []
+
+-- ---- `lift`
+
+abbrev pub chosen_bytes : (tests : ℕ → Term) → Term
+chosen_bytes test =
+    join_four (choose (test 0) (byte 0 x) (byte 0 y)) (choose (test 1) (byte 1 x) (byte 1 y)) (choose (test 2) (byte 2 x) (byte 2 y))
+    (choose (test 3) (byte 3 x) (byte 3 y))
+
+abbrev pub bytes_of : Term → Term
+bytes_of t = join_four (byte 0 t) (byte 1 t) (byte 2 t) (byte 3 t)
+
+-- out of a join, out of both arms, and out of an `eq` of constants or of opposite words
+abbrev pub lifted : List Pair
+lifted =
+    chosen_bytes (λ i. flag) ~ choose flag (bytes_of x) (bytes_of y)
+    ∷ choose flag (choose flag x y) z ~ choose flag x z
+    ∷ choose flag x (choose flag y z) ~ choose flag x z
+    ∷ equal (choose flag (number 3) (number 7)) (number 3) ~ flag
+    ∷ not_term flag ~ equal (choose flag (number 3) (number 7)) (number 7)
+    ∷ equal (choose flag (number 3) (number 7)) (number 5) ~ truth false
+    ∷ equal (choose flag x (subtract (number 0) x)) (number 0) ~ equal x (number 0)
+    ∷ []
+
+-- near misses: another condition in a join or an arm, arms exchanged, one constant twice, `not` left out, a word for a constant,
+-- words that aren't opposite, and another constant than 0
+abbrev pub not_lifted : List Pair
+not_lifted =
+    chosen_bytes (λ i. if i == 2 then other else flag) ~ choose flag (bytes_of x) (bytes_of y)
+    ∷ chosen_bytes (λ i. flag) ~ choose flag (bytes_of y) (bytes_of x)
+    ∷ choose flag (choose other x y) z ~ choose flag x z
+    ∷ equal (choose flag (number 3) (number 3)) (number 3) ~ flag
+    ∷ equal (choose flag (number 3) (number 7)) (number 7) ~ flag
+    ∷ equal (choose flag x (number 7)) (number 7) ~ not_term flag
+    ∷ equal (choose flag x (subtract y x)) (number 0) ~ equal x (number 0)
+    ∷ equal (choose flag x (subtract (number 0) x)) (number 1) ~ equal x (number 1)
     ∷ []

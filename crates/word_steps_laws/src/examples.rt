@@ -6,7 +6,7 @@ ghost use Rattle.std.specs.Prelude.{true, false, [], ◌∷◌, Some, None};
 ghost use Rattle.term_core_spec.specs.Term.{truth};
 ghost use Rattle.term_core_spec.specs.declared.Atom.TheVariants.{Truth};
 ghost use Rattle.word_steps_spec.specs.Lines.{Ring, Comm, Bits, BitsOf, LowOf, RangeOf};
-ghost use Rattle.word_steps_spec.specs.Lines.{WithinOf, Quot};
+ghost use Rattle.word_steps_spec.specs.Lines.{WithinOf, Quot, Lift};
 ghost use Rattle.word_steps_laws.specs.Examples.{goal, block, Leaves, Accepts, alike, unlike};
 ghost use Rattle.word_steps_laws.specs.Examples.{ordered, unordered, Decides};
 ghost use Rattle.word_steps_laws.specs.Examples.{of_one_list, of_two_lists};
@@ -18,6 +18,7 @@ ghost use Rattle.word_steps_laws.specs.Examples.{SaysZone, zones, no_zones};
 ghost use Rattle.word_steps_laws.specs.Examples.{within_window, outside_window, across_window};
 ghost use Rattle.word_steps_laws.specs.Examples.{AcceptsWith, quotients, other_quotients};
 ghost use Rattle.word_steps_laws.specs.Examples.{signed_quotients, other_signed_quotients};
+ghost use Rattle.word_steps_laws.specs.Examples.{lifted, not_lifted};
 ghost use Rattle.word_steps_laws.specs.Examples.{split_goal, split_block, case_goal};
 ghost use Rattle.word_steps_laws.specs.Examples.{true_block, false_block};
 
@@ -118,4 +119,10 @@ pub fn quotients_are_recognised()
 pub fn signed_quotients_are_recognised()
     ensures accepted { AcceptsWith Quot true signed_quotients }
     ensures refused { AcceptsWith Quot false other_signed_quotients }
+{}
+
+/// Choices out of joins, arms and equalities, and near misses.
+pub fn choices_are_lifted()
+    ensures accepted { Accepts Lift true lifted }
+    ensures refused { Accepts Lift false not_lifted }
 {}

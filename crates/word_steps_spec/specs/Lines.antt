@@ -15,12 +15,13 @@ use Rattle.word_steps_spec.specs.LowBits.{decided_by_low}
 use Rattle.word_steps_spec.specs.Ranges.{decided_by_range}
 use Rattle.word_steps_spec.specs.Zones.{says_zone, decided_within}
 use Rattle.word_steps_spec.specs.Quotients.{same_by_quotient}
+use Rattle.word_steps_spec.specs.Choices.{same_by_lifting}
 
 -- ---- the tests of the rules
 
 -- rules that say of two terms that they have one value
 pub data MergeRule : Type 0 where
-  Same Ring Comm Bits Quot : MergeRule
+  Same Ring Comm Bits Quot Lift : MergeRule
 
 -- rules that say of a term which constant it is
 pub data DecisionRule : Type 0 where
@@ -38,6 +39,7 @@ merges_by Ring [] x y = one_polynomial x y
 merges_by Comm [] x y = same_up_to_order x y
 merges_by Bits [] x y = same_by_bits x y || same_by_spelling x y
 merges_by Quot facts x y = same_by_quotient facts x y
+merges_by Lift [] x y = same_by_lifting x y
 merges_by rule (fact ∷ facts) x y = false
 
 unfoldable pub decided_by : DecisionRule → List Term → Term → Option Atom
