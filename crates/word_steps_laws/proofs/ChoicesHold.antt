@@ -1,9 +1,8 @@
 -- What the rule `lift` accepts has one value.
-use Rattle.std.proofs.Common.{◌≡◌, ℕ, ◌+◌, ◌^◌, ◌<◌, Bool, true, false, cond, List, Option, Some, None, refl, sym, ap, ◌∙◌, subst, arith, eq-eqb, ne_eqb}
+use Rattle.std.proofs.Common.{◌≡◌, ℕ, ◌+◌, ◌^◌, ◌<◌, Bool, true, false, cond, Option, Some, None, refl, sym, ap, ◌∙◌, subst, arith, eq-eqb, ne_eqb}
 use Rattle.std.specs.Prelude.{◌==◌, ◌&&◌, ◌||◌, not}
 use Rattle.std.proofs.lemmas.Bool.{and_parts}
 use Rattle.std.proofs.lemmas.Option.{same_Some, cond_some}
-use Rattle.std.proofs.lemmas.Nat.{pow_pos}
 use Rattle.term_core_spec.specs.declared.Width.{Width}
 use Rattle.term_core_spec.specs.declared.Sort.{Sort}
 use Rattle.term_core_spec.specs.declared.Sort.TheVariants as sort
@@ -11,16 +10,16 @@ use Rattle.term_core_spec.specs.declared.BinaryOperator.TheVariants as binary
 use Rattle.term_core_spec.specs.declared.TernaryOperator.TheVariants as ternary
 use Rattle.term_core_spec.specs.Term.{Term, Leaf, Unary, Binary, Ternary, Quaternary, Octonary, truth, constant, not_term, equal, choose}
 use Rattle.term_core_spec.specs.Sort.{bits, sort_of, sort_of_ternary, is_truth, same_sort}
-use Rattle.term_core_spec.specs.Value.{Truth, Number, Assignment, IsAssignment, value, binary_value}
+use Rattle.term_core_spec.specs.Value.{Truth, Number, Assignment, IsAssignment, value}
 use Rattle.term_core_spec.specs.Same.{same_term}
 use Rattle.term_core_spec.proofs.Same.{same_is, same_itself}
 use Rattle.term_core_spec.proofs.Sorts.{sort_if-some, with_three-some, same_sort-true}
-use Rattle.term_norm_spec.specs.Patterns.{width_of, width_of_sort, is_constant, number_of}
-use Rattle.term_norm_spec.proofs.Keeps.{constant_is, value-constant, width_is}
+use Rattle.term_norm_spec.specs.Patterns.{width_of, is_constant, number_of}
+use Rattle.term_norm_spec.proofs.Keeps.{constant_is, value-constant}
 use Rattle.term_norm_spec.proofs.Equals.{Alike, truths, words, alike_of, value-equal_words}
 use Rattle.term_norm_spec.proofs.Truths.{truth_value_of, value-not, value-choose}
 use Rattle.term_norm_spec.proofs.Words.{word_of}
-use Rattle.word_steps_spec.specs.Numbers.{Operation, operands, at_places, made, operation_of}
+use Rattle.word_steps_spec.specs.Numbers.{operands, at_places, made, operation_of}
 use Rattle.word_steps_spec.specs.Polynomial.{plus, is_empty, polynomial_value}
 use Rattle.word_steps_spec.specs.Sides.{are_words}
 use Rattle.word_steps_spec.specs.Ring.{polynomial}

@@ -1,5 +1,5 @@
 -- What a rule decides of a term is a truth value.
-use Rattle.std.proofs.Common.{◌≡◌, Bool, true, false, cond, List, [], ◌∷◌, Option, Some, None, option_and_then, refl, sym}
+use Rattle.std.proofs.Common.{◌≡◌, Bool, true, false, cond, List, [], ◌∷◌, Option, Some, None, option_and_then, sym}
 use Rattle.std.proofs.lemmas.Option.{same_Some}
 use Rattle.term_core_spec.specs.declared.Atom.{Atom}
 use Rattle.term_core_spec.specs.declared.Atom.TheVariants as atom

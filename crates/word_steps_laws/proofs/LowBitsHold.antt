@@ -12,12 +12,12 @@ use Rattle.term_core_spec.specs.declared.Atom.{Atom}
 use Rattle.term_core_spec.specs.declared.Atom.TheVariants as atom
 use Rattle.term_core_spec.specs.declared.WordOperator.TheVariants as word
 use Rattle.term_core_spec.specs.declared.BinaryOperator.TheVariants as binary
-use Rattle.term_core_spec.specs.Term.{Term, Leaf, Binary, equal, on_words}
+use Rattle.term_core_spec.specs.Term.{Term, Leaf, Binary}
 use Rattle.term_core_spec.specs.Sort.{bits, sort_of}
 use Rattle.term_core_spec.specs.Value.{Truth, Number, Assignment, IsAssignment, value, operation}
 use Rattle.term_norm_spec.specs.Patterns.{width_of, width_of_sort, is_constant, number_of}
 use Rattle.term_norm_spec.proofs.Words.{words_of, word_of}
-use Rattle.word_steps_spec.specs.Polynomial.{Summand, Polynomial, minus, has_no_atom, is_empty, number_of_value, product, polynomial_value}
+use Rattle.word_steps_spec.specs.Polynomial.{Summand, Polynomial, minus, has_no_atom, number_of_value, product, polynomial_value}
 use Rattle.word_steps_spec.specs.Sides.{are_words, Sides, sides_of}
 use Rattle.word_steps_spec.specs.Bitwise.{Bit, Fixed, Of, Bits, bit_value, bits_of}
 use Rattle.word_steps_spec.specs.Ring.{polynomial, difference}
@@ -28,7 +28,7 @@ use Rattle.word_steps_laws.proofs.CommHolds.{word_made}
 use Rattle.word_steps_laws.proofs.BitPlaces.{bit_moved_down}
 use Rattle.word_steps_laws.proofs.BitsHold.{bits_are, number_is_known}
 use Rattle.word_steps_laws.proofs.RingHolds.{polynomial_is}
-use Rattle.word_steps_laws.proofs.RingSound.{words_are, sides_are, IsEquality, not_equal, Differ, differ, equal_none, equal_value, empty_value}
+use Rattle.word_steps_laws.proofs.RingSound.{words_are, sides_are, IsEquality, not_equal, differ, equal_none, equal_value, empty_value}
 use Rattle.word_steps_laws.proofs.BitsSound.{equality_value}
 
 -- ---- numbers

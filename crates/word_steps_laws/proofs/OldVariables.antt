@@ -4,7 +4,6 @@ use Rattle.std.specs.Prelude.{◌+◌, ◌==◌, ◌&&◌, not, nat_lt}
 use Rattle.std.specs.List.{AllByRecursion, list_any}
 use Rattle.std.proofs.lemmas.Bool.{and_parts}
 use Rattle.std.proofs.lemmas.Option.{same_Some, cond_some}
-use Rattle.term_core_spec.specs.declared.Variable.{Variable}
 use Rattle.term_core_spec.specs.declared.Sort.TheVariants as sort
 use Rattle.term_core_spec.specs.declared.Atom.{Atom}
 use Rattle.term_core_spec.specs.declared.Atom.TheVariants as atom
@@ -16,14 +15,14 @@ use Rattle.term_core_spec.proofs.Subterms.{in_either, in_one}
 use Rattle.memory_spec.specs.Runs.{Run, AreBytes}
 use Rattle.term_norm_spec.specs.Normal.{normal}
 use Rattle.term_norm_spec.proofs.Variables.{occurs-normal}
-use Rattle.word_steps_spec.specs.Numbers.{Operation, Alone, One, Two, Three, Four, Eight, operands, at_places, operand_at, made, Number, Fact, Other, Numbered, Known, Merge, State, missing, start, number_of_subterm, is_number, number_at, operation_at, term_at, now_at, term_over, rebuilt, known_truth, merged_with, truth_or, other_or, other_now, renewed, with_now, renew, renew_up_to, Reading, signed, reading, is_fact, are_facts, is_bool, are_alike}
+use Rattle.word_steps_spec.specs.Numbers.{Operation, Alone, One, Two, Three, Four, Eight, operands, at_places, operand_at, made, Number, Fact, Other, Numbered, Known, Merge, State, missing, start, number_of_subterm, is_number, number_at, operation_at, term_at, now_at, term_over, rebuilt, known_truth, merged_with, truth_or, other_or, renewed, with_now, renew, renew_up_to, Reading, signed, reading, is_fact, are_facts, is_bool, are_alike}
 use Rattle.word_steps_spec.specs.Zones.{says_zone}
-use Rattle.word_steps_spec.specs.Lines.{MergeRule, DecisionRule, merges_by, decided_by, Line, Next, Argument, Parts, Renew, RenewAll, MergeBy, DecideBy, Zone, SWEEPS, are_numbers, is_open, is_value, new_number, with_number, next_number, with_fact, argument_fact, with_argument_fact, with_next_place, with_places, with_merge, merged, merged_if, with_constant, decided, decided_if, zoned, zoned_if, applied, after_lines, and_all, conjunction, not_all, End, Keep, Case, Block, kept_goal, left, goals_after}
+use Rattle.word_steps_spec.specs.Lines.{MergeRule, DecisionRule, merges_by, decided_by, Line, Next, Argument, Parts, Renew, RenewAll, MergeBy, DecideBy, Zone, SWEEPS, are_numbers, is_open, is_value, new_number, with_number, next_number, with_fact, argument_fact, with_argument_fact, with_next_place, with_places, with_merge, merged, merged_if, with_constant, decided, decided_if, zoned, zoned_if, applied, after_lines, and_all, conjunction, End, Keep, Case, Block, kept_goal, left, goals_after}
 use Rattle.word_steps_spec.specs.Invariant.{AreNumbers, HasOnlyOf, Holds}
 use Rattle.word_steps_laws.proofs.Lookups.{with_now-term, with_now-now, push-either}
 use Rattle.word_steps_laws.proofs.Renewing.{renew_holds, renew_up_to_holds}
 use Rattle.word_steps_laws.proofs.Starting.{start_number, start_holds}
-use Rattle.word_steps_laws.proofs.Lines.{push_fits, StillHolds, argument_holds, places_hold, swept_holds, line_holds, lines_hold}
+use Rattle.word_steps_laws.proofs.Lines.{push_fits, StillHolds, places_hold, swept_holds, line_holds, lines_hold}
 use Rattle.word_steps_laws.proofs.Decisions.{IsTruth, decides_truths}
 
 module _ (runs : List Run) (small : AreBytes runs) (goal : Term) where

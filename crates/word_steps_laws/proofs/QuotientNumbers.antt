@@ -1,12 +1,11 @@
 -- Division of numbers by scaled floors, and divisibility by turned products.
-use Rattle.std.proofs.Common.{◌≡◌, ℕ, zero, suc, ◌+◌, ◌-◌, ◌*◌, ◌/◌, ◌%◌, ◌^◌, ◌<◌, ◌≤◌, Bool, true, false, ◌⊎◌, inl, inr, refl, sym, ap, ◌∙◌, subst, arith, eqb-true, eq-eqb, ne_eqb, lt-ltb, le-ltb}
+use Rattle.std.proofs.Common.{◌≡◌, ℕ, zero, suc, ◌+◌, ◌-◌, ◌*◌, ◌/◌, ◌%◌, ◌^◌, ◌<◌, ◌≤◌, Bool, true, false, ◌⊎◌, inl, inr, refl, sym, ap, ◌∙◌, subst, arith, eqb-true, lt-ltb, le-ltb}
 use Rattle.std.specs.Prelude.{◌==◌, nat_lt}
 use Rattle.std.proofs.lemmas.Bool.{cases_lt, eqb-false}
-use Rattle.std.proofs.lemmas.Nat.{pow_pos, pow-add, mod_below, mul-le, div_below, div-add-mod', div-mul-add, shr-shr}
+use Rattle.std.proofs.lemmas.Nat.{pow_pos, mod_below, mul-le, div-add-mod', div-mul-add, shr-shr}
 use Rattle.std.proofs.Math.Nat.{div-mul-le_self, le_of_mul-le-mul_right, lt_of_mul-lt-mul_right, add-mul-div_right, mul-div_cancel, mul-mod_left}
 use Rattle.std.proofs.Math.Arith.{mod-mul}
-use Rattle.term_norm_spec.proofs.Numbers.{mod-small}
-use Rattle.word_steps_laws.proofs.Congruence.{IsCongruent, congruent_same, congruent_sym, congruent_then, congruent_product, congruent_multiple, congruent_mod, congruent_equal}
+use Rattle.word_steps_laws.proofs.Congruence.{IsCongruent, congruent_same, congruent_sym, congruent_then, congruent_product, congruent_mod, congruent_equal}
 
 -- ---- floors
 

@@ -1,23 +1,22 @@
 -- What the rule `quot` accepts has one value.
-use Rattle.std.proofs.Common.{◌≡◌, ℕ, zero, suc, ◌+◌, ◌-◌, ◌*◌, ◌/◌, ◌%◌, ◌^◌, ◌<◌, ◌≤◌, Bool, true, false, cond, List, [], ◌∷◌, Option, Some, None, option_and_then, ◌⊎◌, inl, inr, refl, sym, ap, ◌∙◌, subst, arith, eqb-true, ltb-true, leb-true, eq-eqb, ne_eqb, div-one}
-use Rattle.std.specs.Prelude.{◌==◌, ◌&&◌, ◌||◌, nat_lt, nat_le, min, bit_and, bit_or}
+use Rattle.std.proofs.Common.{◌≡◌, ℕ, zero, suc, ◌+◌, ◌-◌, ◌*◌, ◌/◌, ◌%◌, ◌^◌, ◌<◌, ◌≤◌, Bool, true, false, cond, List, [], ◌∷◌, Option, Some, None, option_and_then, ◌⊎◌, inl, inr, refl, sym, ap, ◌∙◌, subst, arith, eqb-true, ltb-true, leb-true, ne_eqb, div-one}
+use Rattle.std.specs.Prelude.{◌==◌, ◌&&◌, nat_lt, nat_le, min, bit_and, bit_or}
 use Rattle.std.specs.List.{AllByRecursion}
 use Rattle.std.specs.Int.Bits.{or_shifted_r}
 use Rattle.std.proofs.lemmas.Bool.{and_parts, lt-ltb, cases_lt}
 use Rattle.std.proofs.lemmas.Option.{same_Some, cond_some}
-use Rattle.std.proofs.lemmas.Nat.{pow_pos, pow-add, mod_below, mul-le, div_below, and_mask, shr-shr, div-add-mod'}
+use Rattle.std.proofs.lemmas.Nat.{pow_pos, pow-add, mul-le, div_below, and_mask, shr-shr, div-add-mod'}
 use Rattle.std.proofs.Math.Nat.{div-div-eq-div-mul, mul-div_cancel}
 use Rattle.term_core_spec.specs.declared.Width.{Width}
 use Rattle.term_core_spec.specs.declared.Width.TheVariants.{W32, W64}
 use Rattle.term_core_spec.specs.declared.Sort.{Sort}
 use Rattle.term_core_spec.specs.declared.Sort.TheVariants as sort
-use Rattle.term_core_spec.specs.declared.UnaryOperator.TheVariants as unary
 use Rattle.term_core_spec.specs.declared.WordOperator.{WordOperator}
 use Rattle.term_core_spec.specs.declared.WordOperator.TheVariants as word
 use Rattle.term_core_spec.specs.declared.BinaryOperator.TheVariants as binary
 use Rattle.term_core_spec.specs.declared.QuaternaryOperator.TheVariants as quaternary
-use Rattle.term_core_spec.specs.Term.{Term, Unary, Binary, Quaternary, constant, equal, less, zero_extend, low, on_words}
-use Rattle.term_core_spec.specs.Sort.{bits, sort_of}
+use Rattle.term_core_spec.specs.Term.{Term, Binary, Quaternary, constant, equal, less, zero_extend, low, on_words}
+use Rattle.term_core_spec.specs.Sort.{sort_of}
 use Rattle.term_core_spec.specs.Value.{Truth, Number, Assignment, IsAssignment, value, unary_value, operation}
 use Rattle.term_core_spec.specs.Same.{same_term}
 use Rattle.term_core_spec.proofs.Same.{same_is}
@@ -33,20 +32,20 @@ use Rattle.word_steps_spec.specs.Polynomial.{Polynomial, minus, is_empty, number
 use Rattle.word_steps_spec.specs.Sides.{are_words, Sides}
 use Rattle.word_steps_spec.specs.Ring.{polynomial}
 use Rattle.word_steps_spec.specs.Bitwise.{have_same_bits}
-use Rattle.word_steps_spec.specs.Order.{bounds_of, order_of}
+use Rattle.word_steps_spec.specs.Order.{order_of}
 use Rattle.word_steps_spec.specs.LowBits.{form_of, constant_of, zeros}
 use Rattle.word_steps_spec.specs.Ranges.{Range, distance, opposite, as_of, below_range, range_of}
-use Rattle.word_steps_spec.specs.Quotients.{is_word32, number32, is_number32, greatest_in, greatest_known, greatest_by, greatest_of, Floor, if_fits, or_itself, shifted_floor, product_floor, is_rest, under_half, halved_floor_of, else_floor, under_byte, is_upper_half, wide_product, upper_floor_of, upper_floor, floor_of, is_quotient, is_quotient_of, moved, some_below, is_shifted_quotient, is_division, is_nested_division, is_mask_for, is_written, turned, under_shift, under_turn, is_inverse_product, is_turned_product, is_turned_inverse, tests_divisor, under_remainder, divided_of, is_divisor_test}
-use Rattle.word_steps_laws.proofs.Congruence.{IsCongruent, congruent_same, congruent_sym, congruent_then, congruent_plus, congruent_equal}
+use Rattle.word_steps_spec.specs.Quotients.{is_word32, number32, is_number32, greatest_in, greatest_known, greatest_by, greatest_of, Floor, if_fits, or_itself, shifted_floor, product_floor, is_rest, under_half, halved_floor_of, else_floor, under_byte, is_upper_half, wide_product, upper_floor_of, upper_floor, floor_of, is_quotient, is_quotient_of, moved, some_below, is_shifted_quotient, is_division, is_nested_division, is_mask_for, is_written, turned, under_turn, is_inverse_product, is_turned_product, is_turned_inverse, tests_divisor, under_remainder, divided_of, is_divisor_test}
+use Rattle.word_steps_laws.proofs.Congruence.{IsCongruent, congruent_equal}
 use Rattle.word_steps_laws.proofs.Polynomials.{minus_value}
 use Rattle.word_steps_laws.proofs.CommHolds.{either_test, word_made}
 use Rattle.word_steps_laws.proofs.BitsHold.{number_below, number_is_known}
 use Rattle.word_steps_laws.proofs.RingSound.{words_are}
-use Rattle.word_steps_laws.proofs.BitsSound.{number_value, words_same}
-use Rattle.word_steps_laws.proofs.BoundsHold.{IsWithin, bounds_are, IsOrder, order_is, order_value}
+use Rattle.word_steps_laws.proofs.BitsSound.{words_same}
+use Rattle.word_steps_laws.proofs.BoundsHold.{bounds_are, IsOrder, order_is, order_value}
 use Rattle.word_steps_laws.proofs.LowBitsHold.{form_sum, one_form_value, word_low, zeros_divide}
 use Rattle.word_steps_laws.proofs.Distances.{distance_sum, among}
-use Rattle.word_steps_laws.proofs.RangesHold.{in_range, as_of_is, IsKnownRange, fact_range}
+use Rattle.word_steps_laws.proofs.RangesHold.{as_of_is, IsKnownRange, fact_range}
 use Rattle.word_steps_laws.proofs.QuotientNumbers.{quotient_by_floor, halved_floor_is, floor_short, moved_up_low, divisor_test}
 
 -- ---- numbers

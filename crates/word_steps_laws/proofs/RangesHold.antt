@@ -1,9 +1,9 @@
 -- A truth value that reads as a range says that the form is in it, and what ranges decide is so.
-use Rattle.std.proofs.Common.{◌≡◌, ℕ, zero, suc, ◌+◌, ◌-◌, ◌*◌, ◌%◌, ◌^◌, ◌<◌, ◌≤◌, Bool, true, false, cond, List, [], ◌∷◌, Option, Some, None, option_map, option_and_then, ◌⊎◌, inl, inr, refl, sym, ap, ◌∙◌, subst, arith, eqb-true, lt-ltb, le-ltb, leb-true}
+use Rattle.std.proofs.Common.{◌≡◌, ℕ, zero, suc, ◌+◌, ◌-◌, ◌%◌, ◌^◌, ◌<◌, ◌≤◌, Bool, true, false, cond, List, [], ◌∷◌, Option, Some, None, option_map, option_and_then, refl, sym, ap, ◌∙◌, subst, arith, eqb-true, lt-ltb, le-ltb, leb-true}
 use Rattle.std.specs.Prelude.{◌==◌, ◌&&◌, ◌||◌, not, nat_lt, nat_le, min, max}
 use Rattle.std.specs.List.{AllByRecursion}
 use Rattle.std.proofs.lemmas.Bool.{and_parts, eqb-false}
-use Rattle.std.proofs.lemmas.Option.{same_Some, cond_some}
+use Rattle.std.proofs.lemmas.Option.{same_Some}
 use Rattle.std.proofs.lemmas.Nat.{pow_pos, mod_below}
 use Rattle.term_core_spec.specs.declared.Atom.{Atom}
 use Rattle.term_core_spec.specs.declared.Atom.TheVariants as atom
@@ -13,16 +13,15 @@ use Rattle.term_core_spec.specs.Term.{Term, Leaf, Unary, Binary, equal, less}
 use Rattle.term_core_spec.specs.Sort.{bits}
 use Rattle.term_core_spec.specs.Value.{Truth, Assignment, IsAssignment, value, unary_value, binary_value}
 use Rattle.term_norm_spec.specs.Patterns.{width_of}
-use Rattle.term_norm_spec.proofs.Numbers.{mod-small}
 use Rattle.term_norm_spec.proofs.Truths.{truth_value_of}
 use Rattle.word_steps_spec.specs.Numbers.{is_bool}
 use Rattle.word_steps_spec.specs.Polynomial.{Polynomial, plus, atom_polynomial, is_empty, number_of_value, polynomial_value}
-use Rattle.word_steps_spec.specs.Sides.{are_words, Sides}
+use Rattle.word_steps_spec.specs.Sides.{are_words}
 use Rattle.word_steps_spec.specs.Ring.{polynomial, difference}
 use Rattle.word_steps_spec.specs.Order.{Bounds, bounds_of}
 use Rattle.word_steps_spec.specs.LowBits.{form_of, constant_of, is_one_form}
-use Rattle.word_steps_spec.specs.Ranges.{Range, distance, opposite, outside, are_opposite_forms, as_of, is_inside, joined_at, else_range, joined, union, below_range, above_range, order_range_at, order_range, equality_range, both_ranges, range_of, decided_inside, decided_as, only_atom, atom_of, bounds_of_atom, range_in, range_of_atom, known_range, decided_with, decided_by_range}
-use Rattle.word_steps_laws.proofs.Congruence.{IsCongruent, congruent_same, congruent_sym, congruent_then, congruent_plus, congruent_mod, congruent_equal}
+use Rattle.word_steps_spec.specs.Ranges.{Range, distance, outside, are_opposite_forms, as_of, is_inside, joined_at, else_range, joined, union, below_range, above_range, order_range_at, order_range, equality_range, both_ranges, range_of, decided_inside, decided_as, atom_of, bounds_of_atom, range_in, range_of_atom, known_range, decided_with, decided_by_range}
+use Rattle.word_steps_laws.proofs.Congruence.{IsCongruent, congruent_same, congruent_sym, congruent_then, congruent_mod, congruent_equal}
 use Rattle.word_steps_laws.proofs.Polynomials.{plus_value, atom_value}
 use Rattle.word_steps_laws.proofs.Sorts.{bool_sort}
 use Rattle.word_steps_laws.proofs.CommHolds.{either_test}
@@ -30,7 +29,7 @@ use Rattle.word_steps_laws.proofs.BitsHold.{number_below}
 use Rattle.word_steps_laws.proofs.RingSound.{words_are, difference_none, Differ, differ, equal_none, equal_value, empty_value}
 use Rattle.word_steps_laws.proofs.BoundsHold.{IsWithin, bounds_are, order_value}
 use Rattle.word_steps_laws.proofs.LowBitsHold.{form_sum, one_form_value, word_low}
-use Rattle.word_steps_laws.proofs.Distances.{mod_least, distance_below, distance_sum, distance_is, distance_small, distance_same, among, among_others, among_opposite, among_joined, among_inside, among_all, word_place, above_place, order_place}
+use Rattle.word_steps_laws.proofs.Distances.{mod_least, distance_below, distance_sum, distance_is, distance_same, among, among_others, among_opposite, among_joined, among_inside, among_all, word_place, above_place, order_place}
 
 module _ (assignment : Assignment) (assigns : IsAssignment assignment) where
   abbrev number : Term → ℕ

@@ -1,9 +1,9 @@
 -- What the rule `quot` accepts as a quotient of words with a sign, rounded towards 0, has one value.
-use Rattle.std.proofs.Common.{◌≡◌, ℕ, zero, suc, ◌+◌, ◌-◌, ◌*◌, ◌/◌, ◌%◌, ◌^◌, ◌<◌, ◌≤◌, Bool, true, false, cond, Option, Some, None, ◌⊎◌, inl, inr, refl, sym, ap, ◌∙◌, subst, arith, eqb-true, ne_eqb, ltb-true, leb-true, leb-false, div-one}
-use Rattle.std.specs.Prelude.{◌==◌, ◌&&◌, nat_lt, nat_le}
+use Rattle.std.proofs.Common.{◌≡◌, ℕ, zero, suc, ◌+◌, ◌-◌, ◌*◌, ◌/◌, ◌%◌, ◌^◌, ◌<◌, ◌≤◌, Bool, true, false, cond, Option, Some, None, ◌⊎◌, inl, inr, refl, sym, ap, ◌∙◌, subst, arith, ltb-true, leb-true, leb-false, div-one}
+use Rattle.std.specs.Prelude.{◌&&◌, nat_lt, nat_le}
 use Rattle.std.proofs.lemmas.Bool.{and_parts, lt-ltb, le-ltb, cases_lt}
 use Rattle.std.proofs.lemmas.Option.{same_Some, cond_some}
-use Rattle.std.proofs.lemmas.Nat.{pow_pos, pow-add, mod_below, mul-le, div_below, mod-mul-add, shr-shr}
+use Rattle.std.proofs.lemmas.Nat.{pow_pos, pow-add, mod_below, mul-le, div_below, shr-shr}
 use Rattle.term_core_spec.specs.declared.Width.TheVariants.{W32, W64}
 use Rattle.term_core_spec.specs.declared.Sort.TheVariants as sort
 use Rattle.term_core_spec.specs.declared.WordOperator.TheVariants as word
@@ -11,8 +11,8 @@ use Rattle.term_core_spec.specs.declared.BinaryOperator.TheVariants as binary
 use Rattle.term_core_spec.specs.declared.TernaryOperator.TheVariants as ternary
 use Rattle.term_core_spec.specs.declared.QuaternaryOperator.TheVariants as quaternary
 use Rattle.term_core_spec.specs.Term.{Term, Binary, Ternary, Quaternary, choose, sign_extend, on_words}
-use Rattle.term_core_spec.specs.Sort.{bits, sort_of}
-use Rattle.term_core_spec.specs.Value.{Truth, Number, Assignment, IsAssignment, value, unary_value, operation, is_negative, ones_if, low_bits, shifted_with_sign}
+use Rattle.term_core_spec.specs.Sort.{sort_of}
+use Rattle.term_core_spec.specs.Value.{Truth, Assignment, IsAssignment, value, unary_value, operation, is_negative, ones_if, low_bits, shifted_with_sign}
 use Rattle.term_core_spec.specs.Same.{same_term}
 use Rattle.term_core_spec.proofs.Same.{same_is}
 use Rattle.term_norm_spec.specs.Patterns.{is_constant, number_of}
@@ -22,12 +22,12 @@ use Rattle.term_norm_spec.proofs.Truths.{value-choose}
 use Rattle.term_norm_spec.proofs.Words.{word_of, value-less}
 use Rattle.word_steps_spec.specs.Polynomial.{number_of_value}
 use Rattle.word_steps_spec.specs.Sides.{Sides}
-use Rattle.word_steps_spec.specs.Quotients.{is_word32, number32, is_number32, Floor, or_itself, shifted_floor, else_floor, under_byte, is_upper_half, signed_product, signed_product_of, upper_signed, if_small, signed_floor, raised_floor, signed_floor_of, under_sign, under_signs, is_floor, has_sign, rounded_floor, is_rounded_quotient, at_least_zero, negated, truncated, divided_by, truncated_by, under_less, truncated_with, truncated_of, is_signed_division}
+use Rattle.word_steps_spec.specs.Quotients.{is_word32, number32, is_number32, Floor, or_itself, shifted_floor, else_floor, under_byte, is_upper_half, signed_product, signed_product_of, upper_signed, if_small, signed_floor, raised_floor, signed_floor_of, under_sign, under_signs, is_floor, has_sign, rounded_floor, is_rounded_quotient, at_least_zero, negated, truncated, divided_by, under_less, truncated_with, truncated_of, is_signed_division}
 use Rattle.word_steps_laws.proofs.Congruence.{IsCongruent}
 use Rattle.word_steps_laws.proofs.CommHolds.{word_made}
 use Rattle.word_steps_laws.proofs.BitsHold.{number_below, number_is_known, IsChoice, choice_of}
 use Rattle.word_steps_laws.proofs.QuotientNumbers.{quotient_by_floor, floor_short}
-use Rattle.word_steps_laws.proofs.SignedNumbers.{below_floor, below_small, below_large, shift_positive, shift_negative, shift_below, upper_positive, upper_negative, upper_raised, quotient_below}
+use Rattle.word_steps_laws.proofs.SignedNumbers.{below_floor, below_large, shift_positive, shift_negative, shift_below, upper_positive, upper_negative, upper_raised, quotient_below}
 use Rattle.word_steps_laws.proofs.QuotientsHold.{IsWord, word32, arguments, made, known, number32_is, below32, same_number, upper_half_is, divided, one_value}
 
 -- ---- numbers

@@ -1,5 +1,5 @@
 -- The ranges that the rules `zone` and `within` find are those of the difference.
-use Rattle.std.proofs.Common.{◌≡◌, ℕ, zero, suc, ◌+◌, ◌-◌, ◌*◌, ◌/◌, ◌%◌, ◌^◌, ◌<◌, ◌≤◌, Bool, true, false, cond, List, [], ◌∷◌, Option, Some, None, option_map, option_and_then, ◌⊎◌, inl, inr, refl, sym, ap, ◌∙◌, subst, arith, eqb-true, ltb-true, ltb-false, lt-ltb, le-ltb}
+use Rattle.std.proofs.Common.{◌≡◌, ℕ, ◌+◌, ◌-◌, ◌*◌, ◌/◌, ◌%◌, ◌^◌, ◌<◌, ◌≤◌, Bool, true, false, cond, List, [], ◌∷◌, Option, Some, None, option_map, option_and_then, ◌⊎◌, inl, inr, refl, sym, ap, ◌∙◌, subst, arith, eqb-true, ltb-true, lt-ltb, le-ltb}
 use Rattle.std.specs.Prelude.{◌==◌, ◌&&◌, ◌||◌, not, nat_lt, min}
 use Rattle.std.specs.List.{AllByRecursion}
 use Rattle.std.proofs.lemmas.Bool.{and_parts, cases_lt}
@@ -14,14 +14,13 @@ use Rattle.term_core_spec.specs.Term.{Term, Leaf, Unary, Binary}
 use Rattle.term_core_spec.specs.Sort.{bits, sort_of}
 use Rattle.term_core_spec.specs.Value.{Truth, Assignment, IsAssignment, value}
 use Rattle.term_norm_spec.specs.Patterns.{width_of}
-use Rattle.term_norm_spec.proofs.Numbers.{mod-small}
 use Rattle.term_norm_spec.proofs.Keeps.{width_is}
 use Rattle.word_steps_spec.specs.Numbers.{same_sign}
 use Rattle.word_steps_spec.specs.Polynomial.{Polynomial, is_empty, number_of_value, polynomial_value}
 use Rattle.word_steps_spec.specs.Sides.{are_words, Sides}
 use Rattle.word_steps_spec.specs.Ring.{polynomial, difference}
 use Rattle.word_steps_spec.specs.Order.{bounds_of, order_of}
-use Rattle.word_steps_spec.specs.LowBits.{LowBits, known, form_of, constant_of, known_forms, low_of_form, low_of}
+use Rattle.word_steps_spec.specs.LowBits.{known, form_of, constant_of, known_forms, low_of_form, low_of}
 use Rattle.word_steps_spec.specs.Ranges.{Range, outside, as_of, is_inside, else_range, below_range, range_of, decided_with}
 use Rattle.word_steps_spec.specs.Zones.{Order, order_with, order_where, Either, either_order, either_of, either_where, constant_distance, difference_range, is_known_inside, is_inside_by, is_word_below, adds_within, zone_at, zone_of, is_zone, says_zone, are_one_word, window_at, window_of, window_where, window_range, decided_by_window, decided_within}
 use Rattle.word_steps_laws.proofs.Congruence.{IsCongruent, congruent_same, congruent_sym, congruent_then, congruent_plus, congruent_mod, congruent_minus, congruent_equal}
@@ -30,7 +29,7 @@ use Rattle.word_steps_laws.proofs.CommHolds.{either_test}
 use Rattle.word_steps_laws.proofs.BitsHold.{number_below}
 use Rattle.word_steps_laws.proofs.RingSound.{words_are, words_sound, empty_value}
 use Rattle.word_steps_laws.proofs.BoundsHold.{bounds_are, order_is, order_value}
-use Rattle.word_steps_laws.proofs.LowBitsHold.{lower, HasLow, form_sum, word_low, forms_known, low_is}
+use Rattle.word_steps_laws.proofs.LowBitsHold.{lower, form_sum, word_low, forms_known, low_is}
 use Rattle.word_steps_laws.proofs.RangesHold.{in_range, as_of_is, outside_is, inside_is, below_is, reading_is, IsReading, IsKnownRange, fact_range, decided_with_is, not_value, or_value, and_value, truth_is}
 
 -- ---- numbers
