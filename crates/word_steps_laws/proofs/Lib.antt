@@ -23,6 +23,8 @@ pub mod RangesHold
 pub mod ZonesHold
 pub mod QuotientNumbers
 pub mod QuotientsHold
+pub mod SignedDivisorNumbers
+pub mod SignedDivisors
 pub mod SignedNumbers
 pub mod SignedHold
 pub mod QuotientsSound

@@ -165,7 +165,7 @@ module _ (x i n p q r : ℕ) (pos_n : 0 < n) (pos_p : 0 < p) (pos_q : 0 < q) (be
       once x = omega arith
 
   -- where r is among the multiples, x is r d
-  multiple : r * (n * p) < p * q → r * (n * p) ≡ x
+  pub multiple : r * (n * p) < p * q → r * (n * p) ≡ x
   multiple small =
       congruent_equal (p * q) (r * (n * p)) x (congruent_then (p * q) (r * (n * p)) (y * n) x (congruent_same (p * q) (r * (n * p)) (y * n) (sym whole)) back) small below
     where
@@ -209,7 +209,7 @@ module _ (x i n p q r : ℕ) (pos_n : 0 < n) (pos_p : 0 < p) (pos_q : 0 < q) (be
           moved h p n = omega arith
 
   -- where d divides x, r is x / d
-  quotient : (k : ℕ) → k * (n * p) ≡ x → r ≡ k
+  pub quotient : (k : ℕ) → k * (n * p) ≡ x → r ≡ k
   quotient k e =
       let short : k * p < p * q = below_too k n p pos_n (subst (λ j. j < p * q) (sym e) below) in
       let y_is : y ≡ k * p = congruent_equal (p * q) y (k * p) (congruent_then (p * q) y (x * i) (k * p) (congruent_mod (p * q) (x * i)) products) (mod_below (x * i) (p * q) pos_m) short in

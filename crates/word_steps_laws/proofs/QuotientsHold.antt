@@ -484,7 +484,7 @@ module _ (assignment : Assignment) (assigns : IsAssignment assignment) where
       vt.1 ∙ ap (Number W32) (sym (ap number_of_value vt.1) ∙ e ∙ ap number_of_value vu.1) ∙ sym vu.1
 
   -- an operation on z is of its sort
-  operation_sort : (o : WordOperator) (z c : Term) (w : Width) → IsWord z → sort_of (on_words o z c) ≡ Some (sort.Word w) → w ≡ W32
+  pub operation_sort : (o : WordOperator) (z c : Term) (w : Width) → IsWord z → sort_of (on_words o z c) ≡ Some (sort.Word w) → w ≡ W32
   operation_sort o z c w hz h = ap width_of_sort (same_Some (sort.Word w) (sort.Word W32) (sym (arguments o w z c h).0 ∙ hz))
 
   sorted_pair : (o : WordOperator) (t z c : Term) → Alike t (on_words o z c) → IsWord z → IsWord t × IsWord (on_words o z c)
@@ -518,7 +518,7 @@ module _ (assignment : Assignment) (assigns : IsAssignment assignment) where
 
   -- ---- whether d divides x
 
-  inverse_is : (n : ℕ) (x y : Term) → IsWord y → is_inverse_product n x y ≡ true → (i : ℕ) × (number y ≡ number x * i % 2 ^ 32) × (i * n % 2 ^ 32 ≡ 1)
+  pub inverse_is : (n : ℕ) (x y : Term) → IsWord y → is_inverse_product n x y ≡ true → (i : ℕ) × (number y ≡ number x * i % 2 ^ 32) × (i * n % 2 ^ 32 ≡ 1)
   unfolding is_inverse_product operation
   inverse_is n x (Binary (binary.Word word.Multiply) u c) hy e =
       let one = and_parts (same_term u x) (is_constant c && number_of c * n % 2 ^ 32 == 1) e in
@@ -530,10 +530,10 @@ module _ (assignment : Assignment) (assigns : IsAssignment assignment) where
       )
   inverse_is n x y hy e = absurd (cc)
 
-  powers : (k : ℕ) → k < 32 → 2 ^ 32 ≡ 2 ^ k * 2 ^ (32 - k)
+  pub powers : (k : ℕ) → k < 32 → 2 ^ 32 ≡ 2 ^ k * 2 ^ (32 - k)
   powers k below = let sum : k + (32 - k) ≡ 32 = omega arith in sym (sym (pow-add 2 k (32 - k)) ∙ ap (λ n. 2 ^ n) sum)
 
-  turned_number : (k : ℕ) (y : Term) → (k == 0) ≡ false → k < 32 → IsWord y → number (turned k y) ≡ number y % 2 ^ k * 2 ^ (32 - k) + number y / 2 ^ k
+  pub turned_number : (k : ℕ) (y : Term) → (k == 0) ≡ false → k < 32 → IsWord y → number (turned k y) ≡ number y % 2 ^ k * 2 ^ (32 - k) + number y / 2 ^ k
   unfolding operation
   turned_number k y some below hy =
       let hk = sort-constant W32 k (omega arith) in
@@ -617,12 +617,12 @@ module _ (assignment : Assignment) (assigns : IsAssignment assignment) where
       by false le = omega arith
 
   -- d is n * 2 ^ k
-  record IsSplit (d : ℕ) : Type 0 where
+  pub record IsSplit (d : ℕ) : Type 0 where
     pub short : zeros 32 d < 32
     pub positive : 0 < d / 2 ^ zeros 32 d
     pub whole : d / 2 ^ zeros 32 d * 2 ^ zeros 32 d ≡ d
 
-  split_is : (d : ℕ) → 0 < d → d < 2 ^ 32 → IsSplit d
+  pub split_is : (d : ℕ) → 0 < d → d < 2 ^ 32 → IsSplit d
   split_is d some below =
       let q = zeros_divide 32 d in
       let is : d / 2 ^ zeros 32 d ≡ q.0 = ap (λ n. n / 2 ^ zeros 32 d) q.1 ∙ mul-div_cancel q.0 (pow_pos (zeros 32 d)) in
@@ -662,7 +662,7 @@ module _ (assignment : Assignment) (assigns : IsAssignment assignment) where
       (subst (λ n. nat_lt (number r) ((2 ^ zeros 32 d * 2 ^ (32 - zeros 32 d) - 1) / n + 1) ≡ (number x % n == 0)) split.whole test)
 
   -- `eq (urem x d) 0`, for a constant d
-  record IsDivided (u : Term) (s : Sides) : Type 0 where
+  pub record IsDivided (u : Term) (s : Sides) : Type 0 where
     pub zero : Term
     pub is : u ≡ equal (on_words word.Remainder s.left s.right) zero
     pub constant : is_constant s.right ≡ true
@@ -675,7 +675,7 @@ module _ (assignment : Assignment) (assigns : IsAssignment assignment) where
       subst (λ (p : Sides). (on_words word.Remainder x d ≡ on_words word.Remainder p.left p.right) × (is_constant p.right ≡ true)) passed.1 (refl, passed.0)
   under_remainder_is t s e = absurd (cc)
 
-  divided_of_is : (u : Term) (s : Sides) → divided_of u ≡ Some s → IsDivided u s
+  pub divided_of_is : (u : Term) (s : Sides) → divided_of u ≡ Some s → IsDivided u s
   unfolding divided_of
   divided_of_is (Binary binary.Equal t z) s e = by (is_number32 z 0) refl e
     where
@@ -684,7 +684,7 @@ module _ (assignment : Assignment) (assigns : IsAssignment assignment) where
       by false d h = absurd (cc)
   divided_of_is t s e = absurd (cc)
 
-  remainder_number : (x d : Term) → IsWord (on_words word.Remainder x d) → is_constant d ≡ true → 0 < number_of d → number (on_words word.Remainder x d) ≡ number x % number_of d
+  pub remainder_number : (x d : Term) → IsWord (on_words word.Remainder x d) → is_constant d ≡ true → 0 < number_of d → number (on_words word.Remainder x d) ≡ number x % number_of d
   unfolding operation
   remainder_number x d h e positive =
       let are = arguments word.Remainder W32 x d h in
@@ -739,7 +739,7 @@ module _ (assignment : Assignment) (assigns : IsAssignment assignment) where
           ∙ sym (ap (value assignment) of_u.is ∙ value-equal_words assignment W32 (on_words word.Remainder e.left e.right) of_u.zero va.0 vz.0 va.1 vz.1
           ∙ ap (λ n. Truth (n == vz.0)) rest ∙ ap (λ n. Truth (number e.left % number_of e.right == n)) none)
 
-  less_sort : (s : Sides) → are_words s.left s.right ≡ true → sort_of (less s.left s.right) ≡ Some sort.Truth
+  pub less_sort : (s : Sides) → are_words s.left s.right ≡ true → sort_of (less s.left s.right) ≡ Some sort.Truth
   less_sort s h = let are = words_are assignment assigns s.left s.right h in sort-less (width_of s.left) s.left s.right are.first are.second
 
   pub divisor_sound : (t u : Term) → sort_of t ≡ sort_of u → is_divisor_test (order_of t) (divided_of u) ≡ true → value assignment t ≡ value assignment u

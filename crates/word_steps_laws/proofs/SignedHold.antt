@@ -22,11 +22,12 @@ use Rattle.term_norm_spec.proofs.Truths.{value-choose}
 use Rattle.term_norm_spec.proofs.Words.{word_of, value-less}
 use Rattle.word_steps_spec.specs.Polynomial.{number_of_value}
 use Rattle.word_steps_spec.specs.Sides.{Sides}
-use Rattle.word_steps_spec.specs.Quotients.{is_word32, number32, is_number32, Floor, or_itself, shifted_floor, else_floor, under_byte, is_upper_half, signed_product, signed_product_of, upper_signed, if_small, signed_floor, raised_floor, signed_floor_of, under_sign, under_signs, is_floor, has_sign, rounded_floor, is_rounded_quotient, at_least_zero, negated, truncated, divided_by, under_less, truncated_with, truncated_of, is_signed_division}
+use Rattle.word_steps_spec.specs.Quotients.{is_word32, number32, is_number32, Floor, or_itself, shifted_floor, else_floor, under_byte, is_upper_half, signed_product, signed_product_of, upper_signed, if_small, signed_floor, raised_floor, signed_floor_of, under_sign, under_signs, is_floor, has_sign, rounded_floor, is_rounded_quotient, at_least_zero, negated, magnitude, truncated, divided_by, under_less, truncated_with, truncated_of, is_signed_division}
 use Rattle.word_steps_laws.proofs.Congruence.{IsCongruent}
 use Rattle.word_steps_laws.proofs.CommHolds.{word_made}
 use Rattle.word_steps_laws.proofs.BitsHold.{number_below, number_is_known, IsChoice, choice_of}
 use Rattle.word_steps_laws.proofs.QuotientNumbers.{quotient_by_floor, floor_short}
+use Rattle.word_steps_laws.proofs.SignedDivisorNumbers.{without_sign}
 use Rattle.word_steps_laws.proofs.SignedNumbers.{below_floor, below_large, shift_positive, shift_negative, shift_below, upper_positive, upper_negative, upper_raised, quotient_below}
 use Rattle.word_steps_laws.proofs.QuotientsHold.{IsWord, word32, arguments, made, known, number32_is, below32, same_number, upper_half_is, divided, one_value}
 
@@ -449,42 +450,50 @@ module _ (assignment : Assignment) (assigns : IsAssignment assignment) where
     chosen : (u v : Term) (b : Bool) → nat_lt (number x) (2 ^ 31) ≡ b → number (choose (at_least_zero x) u v) ≡ number_of_value (cond b (value assignment u) (value assignment v))
     chosen u v b e = ap number_of_value (value-choose assignment (at_least_zero x) u v b (test_is ∙ ap Truth e))
 
-    module _ (d : Term) (hd : is_constant d ≡ true) (ht : Is32 (truncated x d)) where
-      abbrev magnitude : Term
-      magnitude = choose (at_least_zero x) x (negated x)
+    opposite : (n : ℕ) → n < 2 ^ 32 → 2 ^ 31 ≤ n → (0 + (2 ^ 32 - n % 2 ^ 32)) % 2 ^ 32 ≡ 2 ^ 32 - n
+    opposite n below from = omega arith
 
+    magnitude_positive : number x < 2 ^ 31 → number (magnitude x) ≡ number x
+    magnitude_positive below = chosen x (negated x) true (lt-ltb (number x) (2 ^ 31) below)
+
+    magnitude_negative : Is32 (magnitude x) → 2 ^ 31 ≤ number x → number (magnitude x) ≡ 2 ^ 32 - number x
+    magnitude_negative hm from =
+        let sorts = choice_of assignment assigns W32 (at_least_zero x) x (negated x) hm in
+        chosen x (negated x) false (le-ltb (number x) (2 ^ 31) from) ∙ negated_is x sorts.second ∙ opposite (number x) below_x from
+
+    pub magnitude_is : Is32 (magnitude x) → number (magnitude x) ≡ without_sign (number x)
+    magnitude_is hm = by (cases_lt (number x) (2 ^ 31))
+      where
+        by : (number x < 2 ^ 31) ⊎ (2 ^ 31 ≤ number x) → number (magnitude x) ≡ without_sign (number x)
+        by (inl less) = magnitude_positive less ∙ sym (ap (λ t. cond t (number x) (2 ^ 32 - number x)) (lt-ltb (number x) (2 ^ 31) less))
+        by (inr from) = magnitude_negative hm from ∙ sym (ap (λ t. cond t (number x) (2 ^ 32 - number x)) (le-ltb (number x) (2 ^ 31) from))
+
+    module _ (d : Term) (hd : is_constant d ≡ true) (ht : Is32 (truncated x d)) where
       abbrev quotient : Term
-      quotient = on_words word.Divide magnitude d
+      quotient = on_words word.Divide (magnitude x) d
 
       both : IsChoice assignment assigns W32 (at_least_zero x) quotient (negated quotient)
       both = choice_of assignment assigns W32 (at_least_zero x) quotient (negated quotient) ht
 
-      quotient_sorts : Is32 magnitude × Is32 d
-      quotient_sorts = arguments assignment assigns word.Divide W32 magnitude d both.first
-
-      negated_sort : Is32 (negated x)
-      negated_sort = (choice_of assignment assigns W32 (at_least_zero x) x (negated x) quotient_sorts.0).second
+      quotient_sorts : Is32 (magnitude x) × Is32 d
+      quotient_sorts = arguments assignment assigns word.Divide W32 (magnitude x) d both.first
 
       truncated_positive : 0 < number_of d → number x < 2 ^ 31 → number (truncated x d) ≡ number x / number_of d
       truncated_positive some below =
           let test = lt-ltb (number x) (2 ^ 31) below in
-          chosen quotient (negated quotient) true test ∙ divided assignment assigns magnitude d both.first some hd ∙ ap (λ n. n / number_of d) (chosen x (negated x) true test)
+          chosen quotient (negated quotient) true test ∙ divided assignment assigns (magnitude x) d both.first some hd ∙ ap (λ n. n / number_of d) (magnitude_positive below)
 
       truncated_negative : 0 < number_of d → 2 ^ 31 ≤ number x → number (truncated x d) ≡ (2 ^ 32 - (2 ^ 32 - number x) / number_of d) % 2 ^ 32
       truncated_negative some from =
           let test = le-ltb (number x) (2 ^ 31) from in
-          let below = below_x in
-          let magnitude_is : number magnitude ≡ 2 ^ 32 - number x = chosen x (negated x) false test ∙ negated_is x negated_sort ∙ opposite (number x) below from in
-          let quotient_is2 : number quotient ≡ (2 ^ 32 - number x) / number_of d = divided assignment assigns magnitude d both.first some hd ∙ ap (λ n. n / number_of d) magnitude_is in
+          let quotient_is2 : number quotient ≡ (2 ^ 32 - number x) / number_of d =
+          divided assignment assigns (magnitude x) d both.first some hd ∙ ap (λ n. n / number_of d) (magnitude_negative quotient_sorts.0 from) in
           let small = below32 assignment assigns quotient both.first in
           chosen quotient (negated quotient) false test ∙ negated_is quotient both.second ∙ ap (λ n. (0 + (2 ^ 32 - n)) % 2 ^ 32) (mod-small (number quotient) (2 ^ 32) small)
           ∙ ap (λ n. (0 + (2 ^ 32 - n)) % 2 ^ 32) quotient_is2 ∙ ap (λ n. n % 2 ^ 32) (plain (2 ^ 32 - (2 ^ 32 - number x) / number_of d))
         where
           plain : (n : ℕ) → 0 + n ≡ n
           plain n = omega arith
-
-          opposite : (n : ℕ) → n < 2 ^ 32 → 2 ^ 31 ≤ n → (0 + (2 ^ 32 - n % 2 ^ 32)) % 2 ^ 32 ≡ 2 ^ 32 - n
-          opposite n below from = omega arith
 
       truncated_equal : (t : Term) → IsQuotient t (number_of d) → number t ≡ number (truncated x d)
       truncated_equal t is = by (cases_lt (number x) (2 ^ 31))

@@ -570,6 +570,37 @@ other_signed_quotients =
     ∷ where_true [] (subtract (shift_right_signed (signed_upper x 1717986920) (number 2)) (shift_right_signed x (number 31)) ~ quotient_in_c x 10)
     ∷ []
 
+-- `quot` of words with a sign: whether a number divides a word
+
+abbrev pub is_multiple_in_c : Term → ℕ → Term
+is_multiple_in_c t d = equal (remainder (choose (less t top) t (subtract (number 0) t)) (number d)) (number 0)
+
+-- a product with a constant added
+abbrev pub moved_product : Term → ℕ → ℕ → Term
+moved_product t c b = add (multiply t (number c)) (number b)
+
+-- by 3, by 5, and by 10 with a turn
+abbrev pub signed_multiples : List Claim
+signed_multiples =
+    where_true [] (less (moved_product x 2863311531 715827882) (number 1431655765) ~ is_multiple_in_c x 3)
+    ∷ where_true [] (is_multiple_in_c x 5 ~ less (moved_product x 3435973837 429496729) (number 858993459))
+    ∷ where_true [] (less (turn (moved_product x 3435973837 429496728) 1 31) (number 429496729) ~ is_multiple_in_c x 10)
+    ∷ []
+
+-- near misses: a limit that is one too great and one too small, nothing added, too little added, an odd number added before a turn,
+-- another turn, another word, and the word without a sign
+abbrev pub no_signed_multiples : List Claim
+no_signed_multiples =
+    where_true [] (less (moved_product x 2863311531 715827882) (number 1431655766) ~ is_multiple_in_c x 3)
+    ∷ where_true [] (less (moved_product x 2863311531 715827882) (number 1431655764) ~ is_multiple_in_c x 3)
+    ∷ where_true [] (less (multiply x (number 2863311531)) (number 1431655766) ~ is_multiple_in_c x 3)
+    ∷ where_true [] (less (moved_product x 2863311531 715827881) (number 1431655765) ~ is_multiple_in_c x 3)
+    ∷ where_true [] (less (turn (moved_product x 3435973837 429496729) 1 31) (number 429496729) ~ is_multiple_in_c x 10)
+    ∷ where_true [] (less (turn (moved_product x 3435973837 429496728) 2 30) (number 429496729) ~ is_multiple_in_c x 10)
+    ∷ where_true [] (less (moved_product y 2863311531 715827882) (number 1431655765) ~ is_multiple_in_c x 3)
+    ∷ where_true [] (less (moved_product x 2863311531 715827882) (number 1431655765) ~ equal (remainder x (number 3)) (number 0))
+    ∷ []
+
 -- ---- `lift`
 
 abbrev pub chosen_bytes : (tests : ℕ → Term) → Term

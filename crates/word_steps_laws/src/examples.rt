@@ -18,6 +18,7 @@ ghost use Rattle.word_steps_laws.specs.Examples.{SaysZone, zones, no_zones};
 ghost use Rattle.word_steps_laws.specs.Examples.{within_window, outside_window, across_window};
 ghost use Rattle.word_steps_laws.specs.Examples.{AcceptsWith, quotients, other_quotients};
 ghost use Rattle.word_steps_laws.specs.Examples.{signed_quotients, other_signed_quotients};
+ghost use Rattle.word_steps_laws.specs.Examples.{signed_multiples, no_signed_multiples};
 ghost use Rattle.word_steps_laws.specs.Examples.{lifted, not_lifted};
 ghost use Rattle.word_steps_laws.specs.Examples.{split_goal, split_block, case_goal};
 ghost use Rattle.word_steps_laws.specs.Examples.{true_block, false_block};
@@ -119,6 +120,12 @@ pub fn quotients_are_recognised()
 pub fn signed_quotients_are_recognised()
     ensures accepted { AcceptsWith Quot true signed_quotients }
     ensures refused { AcceptsWith Quot false other_signed_quotients }
+{}
+
+/// Whether a number divides a word with a sign, and near misses.
+pub fn signed_multiples_are_recognised()
+    ensures accepted { AcceptsWith Quot true signed_multiples }
+    ensures refused { AcceptsWith Quot false no_signed_multiples }
 {}
 
 /// Choices out of joins, arms and equalities, and near misses.

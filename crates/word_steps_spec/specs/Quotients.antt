@@ -250,10 +250,12 @@ at_least_zero x = less x (number32 (2 ^ 31))
 abbrev pub negated : Term → Term
 negated u = on_words word.Subtract (number32 0) u
 
+-- x without its sign
+abbrev pub magnitude : Term → Term
+magnitude x = choose (at_least_zero x) x (negated x)
+
 abbrev pub truncated : (x d : Term) → Term
-truncated x d =
-    choose (at_least_zero x) (on_words word.Divide (choose (at_least_zero x) x (negated x)) d)
-    (negated (on_words word.Divide (choose (at_least_zero x) x (negated x)) d))
+truncated x d = choose (at_least_zero x) (on_words word.Divide (magnitude x) d) (negated (on_words word.Divide (magnitude x) d))
 
 unfoldable pub divided_by : Term → Option Term
 divided_by (Binary (binary.Word word.Divide) w d) = Some d
@@ -327,8 +329,59 @@ abbrev pub is_divisor_test : Option Sides → Option Sides → Bool
 is_divisor_test (Some s) (Some e) = tests_divisor s.left s.right e.left (number_of e.right)
 is_divisor_test o p = false
 
--- `quot X Y F ..`
+-- ---- whether d divides a word with a sign
+
+-- b, where the term is x times the inverse of the odd number n, and b more
+unfoldable pub inverse_sum : ℕ → Term → Term → Option ℕ
+inverse_sum n x (Binary (binary.Word word.Add) y b) = if is_inverse_product n x y && is_constant b then Some (number_of b) else None
+inverse_sum n x t = None
+
+abbrev pub turned_sum_of : ℕ → ℕ → (x r : Term) → Option Term → Option ℕ
+turned_sum_of k n x r (Some y) = if have_same_bits r (turned k y) && is_word32 y then inverse_sum n x y else None
+turned_sum_of k n x r None = None
+
+-- and this turned down by k places
+abbrev pub turned_sum : ℕ → ℕ → (x r : Term) → Option ℕ
+turned_sum k n x r = if k == 0 then inverse_sum n x r else turned_sum_of k n x r (under_turn r)
+
+-- s, which is b n, is a multiple of d and what is added so that no word x + s is below -d; c is the number of multiples of d from 0
+-- to the greatest x + s
+abbrev pub counts_multiples : (k n d c b : ℕ) → Bool
+counts_multiples k n d c b =
+    b % 2 ^ k == 0 && (nat_le (b * n) (2 ^ 31) && (nat_lt (2 ^ 31) (b * n + d)
+    && (nat_le (b * n + 2 ^ 31) (c * d) && nat_lt ((c - 1) * d) (b * n + 2 ^ 31))))
+
+abbrev pub counts_with : (k n d c : ℕ) → Option ℕ → Bool
+counts_with k n d c (Some b) = counts_multiples k n d c b
+counts_with k n d c None = false
+
+-- `ult r c`, where d is n * 2 ^ k, n odd
+abbrev pub tests_signed_divisor : (r c x : Term) → ℕ → Bool
+tests_signed_divisor r c x d =
+    is_word32 x && (is_word32 r && (is_constant c && (nat_lt 0 d
+    && counts_with (zeros 32 d) (d / 2 ^ zeros 32 d) d (number_of c) (turned_sum (zeros 32 d) (d / 2 ^ zeros 32 d) x r))))
+
+-- x, where the term is x without its sign
+unfoldable pub under_magnitude : Term → Option Term
+under_magnitude (Ternary ternary.Choose p u v) = if same_term (Ternary ternary.Choose p u v) (magnitude u) then Some u else None
+under_magnitude t = None
+
+abbrev pub tests_signed_with : Sides → Sides → Option Term → Bool
+tests_signed_with s e (Some x) = tests_signed_divisor s.left s.right x (number_of e.right)
+tests_signed_with s e None = false
+
+-- the remainder of x without its sign is 0
+abbrev pub is_signed_divisor_test : Option Sides → Option Sides → Bool
+is_signed_divisor_test (Some s) (Some e) = tests_signed_with s e (under_magnitude e.left)
+is_signed_divisor_test o p = false
+
+-- ---- `quot X Y F ..`
+
+-- either of the tests for divisors
+abbrev pub is_any_divisor_test : Option Sides → Option Sides → Bool
+is_any_divisor_test o p = is_divisor_test o p || is_signed_divisor_test o p
+
 unfoldable pub same_by_quotient : List Term → Term → Term → Bool
 same_by_quotient facts t u =
     is_written facts t u || (is_written facts u t || (is_signed_division t (truncated_of u) || (is_signed_division u (truncated_of t)
-    || (is_divisor_test (order_of t) (divided_of u) || is_divisor_test (order_of u) (divided_of t)))))
+    || (is_any_divisor_test (order_of t) (divided_of u) || is_any_divisor_test (order_of u) (divided_of t)))))
