@@ -26,6 +26,7 @@ pub mod QuotientsHold
 pub mod SignedDivisorNumbers
 pub mod SignedDivisors
 pub mod SignedNumbers
+pub mod SignedFloors
 pub mod SignedHold
 pub mod QuotientsSound
 pub mod ChoicesHold

@@ -30,20 +30,20 @@ module _ (assignment : Assignment) (assigns : IsAssignment assignment) where
   pub quotient_sound : (facts : List Term) (t u : Term) → AllByRecursion (λ t. value assignment t ≡ Truth true) facts → Alike t u → same_by_quotient facts t u ≡ true → value assignment t ≡ value assignment u
   unfolding same_by_quotient
   quotient_sound facts t u are alike e =
-      either_test (is_written facts t u) (is_written facts u t || (is_signed_division t (truncated_of u) || (is_signed_division u (truncated_of t)
+      either_test (is_written facts t u) (is_written facts u t || (is_signed_division facts t (truncated_of u) || (is_signed_division facts u (truncated_of t)
       || (is_any_divisor_test (order_of t) (divided_of u) || is_any_divisor_test (order_of u) (divided_of t))))) e
       (λ h. written_sound assignment assigns facts t u are alike h)
       (λ f.
       either_test (is_written facts u t)
-      (is_signed_division t (truncated_of u) || (is_signed_division u (truncated_of t) || (is_any_divisor_test (order_of t) (divided_of u) || is_any_divisor_test (order_of u) (divided_of t)))) f
+      (is_signed_division facts t (truncated_of u) || (is_signed_division facts u (truncated_of t) || (is_any_divisor_test (order_of t) (divided_of u) || is_any_divisor_test (order_of u) (divided_of t)))) f
       (λ h. sym (written_sound assignment assigns facts u t are (turned_alike t u alike) h))
       (λ g.
-      either_test (is_signed_division t (truncated_of u))
-      (is_signed_division u (truncated_of t) || (is_any_divisor_test (order_of t) (divided_of u) || is_any_divisor_test (order_of u) (divided_of t))) g
-      (λ h. signed_division_sound assignment assigns t u (alike_sorts t u alike) h)
+      either_test (is_signed_division facts t (truncated_of u))
+      (is_signed_division facts u (truncated_of t) || (is_any_divisor_test (order_of t) (divided_of u) || is_any_divisor_test (order_of u) (divided_of t))) g
+      (λ h. signed_division_sound assignment assigns facts t u are (alike_sorts t u alike) h)
       (λ k.
-      either_test (is_signed_division u (truncated_of t)) (is_any_divisor_test (order_of t) (divided_of u) || is_any_divisor_test (order_of u) (divided_of t)) k
-      (λ h. sym (signed_division_sound assignment assigns u t (sym (alike_sorts t u alike)) h))
+      either_test (is_signed_division facts u (truncated_of t)) (is_any_divisor_test (order_of t) (divided_of u) || is_any_divisor_test (order_of u) (divided_of t)) k
+      (λ h. sym (signed_division_sound assignment assigns facts u t are (sym (alike_sorts t u alike)) h))
       (λ j.
       either_test (is_any_divisor_test (order_of t) (divided_of u)) (is_any_divisor_test (order_of u) (divided_of t)) j
       (λ h. any_divisor_sound t u (alike_sorts t u alike) h) (λ h. sym (any_divisor_sound u t (sym (alike_sorts t u alike)) h))))))

@@ -1,4 +1,4 @@
--- Scaled floors of numbers with a sign, and what is left of a quotient that is rounded towards 0.
+-- Shifts with the sign, and what is left of a quotient that is rounded towards 0.
 use Rattle.std.proofs.Common.{◌≡◌, ℕ, zero, suc, ◌+◌, ◌-◌, ◌*◌, ◌/◌, ◌%◌, ◌^◌, ◌<◌, ◌≤◌, Bool, true, false, ◌⊎◌, inl, inr, refl, sym, ap, ◌∙◌, subst, arith, leb-true, leb-false}
 use Rattle.std.proofs.lemmas.Bool.{cases_lt}
 use Rattle.std.proofs.lemmas.Nat.{pow_pos, pow-add, mod_below, mul-le, div_below, div-add-mod', div-mul-add, shr-shr, shr_below}
@@ -7,21 +7,6 @@ use Rattle.term_core_spec.specs.Value.{is_negative, ones_if, shifted_with_sign, 
 use Rattle.term_norm_spec.proofs.Numbers.{mod-small}
 use Rattle.word_steps_laws.proofs.Congruence.{IsCongruent, congruent_same, congruent_sym, congruent_then, congruent_plus, congruent_times, congruent_mod, congruent_equal}
 
-pub least_quotient : (n p a : ℕ) → 0 < p → a * p ≤ n → a ≤ n / p
-least_quotient n p a positive le = by (cases_lt (n / p) a)
-  where
-    one : (a b : ℕ) → (a + 1) * b ≡ a * b + b
-    one a b = omega arith
-
-    by : (n / p < a) ⊎ (a ≤ n / p) → a ≤ n / p
-    by (inr h) = h
-    by (inl less) =
-        let parts = div-add-mod' n p in
-        let small = mod_below n p positive in
-        let over = mul-le (n / p + 1) p a p (omega arith) (omega arith) in
-        let step = one (n / p) p in
-        absurd (omega arith)
-
 power32 : (k : ℕ) → 2 ^ (32 + k) ≡ 2 ^ 32 * 2 ^ k
 power32 k = pow-add 2 32 k
 
@@ -29,15 +14,6 @@ power32 k = pow-add 2 32 k
 
 abbrev pub below_floor : ℕ → ℕ → ℕ
 below_floor k v = (2 ^ (32 + k) - v) / 2 ^ k
-
-pub below_small : (k v : ℕ) → 0 < v → below_floor k v < 2 ^ 32
-below_small k v some =
-    let power = power32 k in
-    let positive = pow_pos k in
-    div_below (2 ^ (32 + k) - v) (2 ^ k) (2 ^ 32) (pow_pos k) (omega arith)
-
-pub below_large : (k v : ℕ) → v ≤ 2 ^ 31 * 2 ^ k → 2 ^ 31 ≤ below_floor k v
-below_large k v le = let power = power32 k in least_quotient (2 ^ (32 + k) - v) (2 ^ k) (2 ^ 31) (pow_pos k) (omega arith)
 
 -- ---- shifts with the sign
 
@@ -74,99 +50,11 @@ shift_negative y c small from below = by (is_negative 32 y) refl
     by true e = let h = part in let g = within in mod-small (y / 2 ^ c + (2 ^ 32 - 2 ^ (32 - c))) (2 ^ 32) (omega arith)
     by false e = let less = leb-false (2 ^ 31) y e in absurd (omega arith)
 
-pub shift_below : (k c v : ℕ) → c < 32 → v ≤ 2 ^ 31 * 2 ^ k → below_floor k v / 2 ^ c + (2 ^ 32 - 2 ^ (32 - c)) ≡ below_floor (k + c) v
-shift_below k c v small le =
-    ap (λ n. n + (2 ^ 32 - 2 ^ (32 - c))) (shr-shr (2 ^ (32 + k) - v) k c) ∙ sym (add-mul-div_right (2 ^ (32 + k) - v) (2 ^ 32 - 2 ^ (32 - c)) (pow_pos (k + c)))
-    ∙ ap (λ n. n / 2 ^ (k + c)) whole
-  where
-    low : 2 ^ (32 + k) ≡ 2 ^ (32 - c) * 2 ^ (k + c)
-    low = let sum : 32 + k ≡ (32 - c) + (k + c) = omega arith in ap (λ n. 2 ^ n) sum ∙ pow-add 2 (32 - c) (k + c)
-
-    high : 2 ^ (32 + (k + c)) ≡ 2 ^ 32 * 2 ^ (k + c)
-    high = pow-add 2 32 (k + c)
-
-    within : 2 ^ (32 - c) ≤ 2 ^ 32
-    within =
-        let sum : 32 ≡ (32 - c) + c = omega arith in
-        let power : 2 ^ 32 ≡ 2 ^ (32 - c) * 2 ^ c = ap (λ n. 2 ^ n) sum ∙ pow-add 2 (32 - c) c in
-        let positive = pow_pos c in
-        let le1 = mul-le (2 ^ (32 - c)) 1 (2 ^ (32 - c)) (2 ^ c) (omega arith) (omega arith) in
-        omega arith
-
-    gather : (a b p u v : ℕ) → a ≤ b → v ≤ a * p → u ≡ a * p → u - v + (b - a) * p ≡ b * p - v
-    gather a b p u v h g e =
-        let split : b ≡ a + (b - a) = omega arith in
-        let product : b * p ≡ a * p + (b - a) * p = ap (λ n. n * p) split ∙ spread a (b - a) p in
-        omega arith
-      where
-        spread : (a d p : ℕ) → (a + d) * p ≡ a * p + d * p
-        spread a d p = omega arith
-
-    whole : 2 ^ (32 + k) - v + (2 ^ 32 - 2 ^ (32 - c)) * 2 ^ (k + c) ≡ 2 ^ (32 + (k + c)) - v
-    whole =
-        let power = power32 k in
-        gather (2 ^ (32 - c)) (2 ^ 32) (2 ^ (k + c)) (2 ^ (32 + k)) v within (subst (λ n. v ≤ n) low (omega arith)) low ∙ ap (λ n. n - v) (sym high)
-
--- ---- upper halves of products
-
-pub upper_positive : (x n : ℕ) → x < 2 ^ 31 → n ≤ 2 ^ 32 → x * n % 2 ^ 64 / 2 ^ 32 ≡ x * n / 2 ^ 32
-upper_positive x n below le = let product = mul-le x n (2 ^ 31) (2 ^ 32) (omega arith) le in ap (λ k. k / 2 ^ 32) (mod-small (x * n) (2 ^ 64) (omega arith))
-
--- u is x with its sign, of 64 bits
-pub upper_negative : (x u n : ℕ) → 2 ^ 31 ≤ x → x < 2 ^ 32 → u ≡ x + (2 ^ 64 - 2 ^ 32) → 0 < n → n ≤ 2 ^ 32 → u * n % 2 ^ 64 / 2 ^ 32 ≡ below_floor 32 ((2 ^ 32 - x) * n)
-upper_negative x u n from below is some le =
-    let product = mul-le (2 ^ 32 - x) n (2 ^ 31) (2 ^ 32) (omega arith) le in
-    let least = mul-le 1 1 (2 ^ 32 - x) n (omega arith) (omega arith) in
-    let sum : u + (2 ^ 32 - x) ≡ 2 ^ 64 = omega arith in
-    let all : u * n + (2 ^ 32 - x) * n ≡ 2 ^ 64 * n = spread u (2 ^ 32 - x) n ∙ ap (λ k. k * n) sum in
-    ap (λ k. k / 2 ^ 32)
-    (congruent_equal (2 ^ 64) (u * n % 2 ^ 64) (2 ^ 64 - (2 ^ 32 - x) * n)
-    (congruent_then (2 ^ 64) (u * n % 2 ^ 64) (u * n) (2 ^ 64 - (2 ^ 32 - x) * n) (congruent_mod (2 ^ 64) (u * n)) (record { first = 1; second = n; same = omega arith }))
-    (mod_below (u * n) (2 ^ 64) (pow_pos 64)) (omega arith))
-  where
-    spread : (a b n : ℕ) → a * n + b * n ≡ (a + b) * n
-    spread a b n = omega arith
-
--- x added to the upper half of a product adds 2 ^ 32 to the factor
-pub upper_raised : (x u c : ℕ) → IsCongruent (2 ^ 32) u x → (u * c % 2 ^ 64 / 2 ^ 32 % 2 ^ 32 + x) % 2 ^ 32 ≡ u * ((c + 2 ^ 32) % 2 ^ 64) % 2 ^ 64 / 2 ^ 32
-upper_raised x u c alike =
-    congruent_equal (2 ^ 32) ((u * c % 2 ^ 64 / 2 ^ 32 % 2 ^ 32 + x) % 2 ^ 32) (u * ((c + 2 ^ 32) % 2 ^ 64) % 2 ^ 64 / 2 ^ 32)
-    (congruent_then (2 ^ 32) ((u * c % 2 ^ 64 / 2 ^ 32 % 2 ^ 32 + x) % 2 ^ 32) (u * c % 2 ^ 64 / 2 ^ 32 % 2 ^ 32 + x) (u * ((c + 2 ^ 32) % 2 ^ 64) % 2 ^ 64 / 2 ^ 32) (congruent_mod (2 ^ 32) (u * c % 2 ^ 64 / 2 ^ 32 % 2 ^ 32 + x))
-    (congruent_then (2 ^ 32) (u * c % 2 ^ 64 / 2 ^ 32 % 2 ^ 32 + x) (u * c % 2 ^ 64 / 2 ^ 32 + u) (u * ((c + 2 ^ 32) % 2 ^ 64) % 2 ^ 64 / 2 ^ 32)
-    (congruent_plus (2 ^ 32) (u * c % 2 ^ 64 / 2 ^ 32 % 2 ^ 32) (u * c % 2 ^ 64 / 2 ^ 32) x u (congruent_mod (2 ^ 32) (u * c % 2 ^ 64 / 2 ^ 32)) (congruent_sym (2 ^ 32) u x alike))
-    (halves (u * c % 2 ^ 64) (u * ((c + 2 ^ 32) % 2 ^ 64) % 2 ^ 64) sums)))
-    (mod_below (u * c % 2 ^ 64 / 2 ^ 32 % 2 ^ 32 + x) (2 ^ 32) (pow_pos 32)) (div_below (u * ((c + 2 ^ 32) % 2 ^ 64) % 2 ^ 64) (2 ^ 32) (2 ^ 32) (pow_pos 32) (mod_below (u * ((c + 2 ^ 32) % 2 ^ 64)) (2 ^ 64) (pow_pos 64)))
-  where
-    sums : IsCongruent (2 ^ 64) (u * c % 2 ^ 64 + u * 2 ^ 32) (u * ((c + 2 ^ 32) % 2 ^ 64) % 2 ^ 64)
-    sums =
-        congruent_then (2 ^ 64) (u * c % 2 ^ 64 + u * 2 ^ 32) (u * c + u * 2 ^ 32) (u * ((c + 2 ^ 32) % 2 ^ 64) % 2 ^ 64)
-        (congruent_plus (2 ^ 64) (u * c % 2 ^ 64) (u * c) (u * 2 ^ 32) (u * 2 ^ 32) (congruent_mod (2 ^ 64) (u * c)) (congruent_same (2 ^ 64) (u * 2 ^ 32) (u * 2 ^ 32) refl))
-        (congruent_then (2 ^ 64) (u * c + u * 2 ^ 32) (u * (c + 2 ^ 32)) (u * ((c + 2 ^ 32) % 2 ^ 64) % 2 ^ 64) (congruent_same (2 ^ 64) (u * c + u * 2 ^ 32) (u * (c + 2 ^ 32)) (spread u c))
-        (congruent_sym (2 ^ 64) (u * ((c + 2 ^ 32) % 2 ^ 64) % 2 ^ 64) (u * (c + 2 ^ 32))
-        (congruent_then (2 ^ 64) (u * ((c + 2 ^ 32) % 2 ^ 64) % 2 ^ 64) (u * ((c + 2 ^ 32) % 2 ^ 64)) (u * (c + 2 ^ 32)) (congruent_mod (2 ^ 64) (u * ((c + 2 ^ 32) % 2 ^ 64)))
-        (congruent_times (2 ^ 64) u ((c + 2 ^ 32) % 2 ^ 64) (c + 2 ^ 32) (congruent_mod (2 ^ 64) (c + 2 ^ 32))))))
-      where
-        spread : (u c : ℕ) → u * c + u * 2 ^ 32 ≡ u * (c + 2 ^ 32)
-        spread u c = omega arith
-
-    halves : (h g : ℕ) → IsCongruent (2 ^ 64) (h + u * 2 ^ 32) g → IsCongruent (2 ^ 32) (h / 2 ^ 32 + u) (g / 2 ^ 32)
-    halves h g k = record {
-      first = k.first;
-      second = k.second;
-      same =
-          let e = k.same in
-          let left : (h + (u + k.first * 2 ^ 32) * 2 ^ 32) / 2 ^ 32 ≡ h / 2 ^ 32 + (u + k.first * 2 ^ 32) = add-mul-div_right h (u + k.first * 2 ^ 32) (pow_pos 32) in
-          let right : (g + k.second * 2 ^ 32 * 2 ^ 32) / 2 ^ 32 ≡ g / 2 ^ 32 + k.second * 2 ^ 32 = add-mul-div_right g (k.second * 2 ^ 32) (pow_pos 32) in
-          let one : h + (u + k.first * 2 ^ 32) * 2 ^ 32 ≡ g + k.second * 2 ^ 32 * 2 ^ 32 = omega arith in
-          let two : h / 2 ^ 32 + (u + k.first * 2 ^ 32) ≡ g / 2 ^ 32 + k.second * 2 ^ 32 = sym left ∙ ap (λ n. n / 2 ^ 32) one ∙ right in
-          omega arith;
-    }
-
 -- ---- quotients
 
 -- a is what x is below 0, p is a little less than n d: rounded towards 0
-pub quotient_below : (a n k d : ℕ) → 0 < a → a ≤ 2 ^ 31 → 2 ^ k < n * d → (n * d - 2 ^ k) * 2 ^ 31 ≤ 2 ^ k → below_floor k (a * n) + 1 ≡ 2 ^ 32 - a / d
-quotient_below a n k d some le over small = by d refl
+pub quotient_below : (a n k d g : ℕ) → 0 < a → a ≤ 2 ^ 31 → a ≤ g + 1 → 2 ^ k < n * d → (n * d - 2 ^ k) * (g + 1) ≤ 2 ^ k → below_floor k (a * n) + 1 ≡ 2 ^ 32 - a / d
+quotient_below a n k d g some le within over small = by d refl
   where
     by : (j : ℕ) → j ≡ d → below_floor k (a * n) + 1 ≡ 2 ^ 32 - a / d
     by zero e = absurd (nothing n (2 ^ k) d over (sym e))
@@ -193,8 +81,8 @@ quotient_below a n k d some le over small = by d refl
 
         most : a * (n * d - 2 ^ k) ≤ 2 ^ k
         most =
-            let l = mul-le a (n * d - 2 ^ k) (2 ^ 31) (n * d - 2 ^ k) le (omega arith) in
-            let turn : 2 ^ 31 * (n * d - 2 ^ k) ≡ (n * d - 2 ^ k) * 2 ^ 31 = swap (2 ^ 31) (n * d - 2 ^ k) in
+            let l = mul-le a (n * d - 2 ^ k) (g + 1) (n * d - 2 ^ k) within (omega arith) in
+            let turn : (g + 1) * (n * d - 2 ^ k) ≡ (n * d - 2 ^ k) * (g + 1) = swap (g + 1) (n * d - 2 ^ k) in
             omega arith
           where
             swap : (a b : ℕ) → a * b ≡ b * a

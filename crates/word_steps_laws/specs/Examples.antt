@@ -1,5 +1,5 @@
 -- Blocks of word steps, and pairs of terms for the rules, worked by hand.
-use Rattle.std.specs.Prelude.{◌≡◌, ℕ, ◌==◌, Bool, true, false, if◌then◌else◌, List, [], ◌∷◌, Option, Some}
+use Rattle.std.specs.Prelude.{◌≡◌, ℕ, ◌*◌, ◌==◌, Bool, true, false, if◌then◌else◌, List, [], ◌∷◌, Option, Some}
 use Rattle.term_core_spec.specs.declared.Width.TheVariants.{W8, W16, W32, W64}
 use Rattle.term_core_spec.specs.declared.Sort.TheVariants.{Truth, Word}
 use Rattle.term_core_spec.specs.declared.Atom.{Atom}
@@ -549,17 +549,34 @@ tenth t = shift_right_signed (signed_upper t 1717986919) (number 2)
 abbrev pub signed_seventh : Term → Term
 signed_seventh t = shift_right_signed (add (signed_upper t 18446744071868851347) t) (number 2)
 
--- by 10 less the signs of the word, by 5, by 7 with its sign, and with that of the floor
+-- x is from -n to n - 1
+abbrev pub at_most_far : ℕ → Term
+at_most_far n = less (add x (number n)) (number (2 * n))
+
+-- the word added to a product, and to a product moved down
+abbrev pub raised_third : Term → Term
+raised_third t = shift_right_signed (add (signed_upper t 1431655766) t) (number 2)
+
+abbrev pub later_third : Term → Term
+later_third t = shift_right_signed (add t (shift_right_signed (signed_upper t 2863311531) (number 1))) (number 2)
+
+abbrev pub less_its_signs : Term → Term
+less_its_signs t = subtract t (shift_right_signed x (number 31))
+
+-- by 10 less the signs of the word, by 5, by 7 with its sign, and with that of the floor; by 10 and by 3 for words that a fact bounds
 abbrev pub signed_quotients : List Claim
 signed_quotients =
     where_true [] (subtract (tenth x) (shift_right_signed x (number 31)) ~ quotient_in_c x 10)
     ∷ where_true [] (quotient_in_c x 5 ~ subtract (shift_right_signed (signed_upper x 1717986919) (number 1)) (shift_right_signed x (number 31)))
     ∷ where_true [] (add (signed_seventh x) (shift_right x (number 31)) ~ quotient_in_c x 7)
     ∷ where_true [] (add (shift_right (signed_seventh x) (number 31)) (signed_seventh x) ~ quotient_in_c x 7)
+    ∷ where_true (at_most_far 1073741824 ∷ []) (less_its_signs (signed_upper x 429496730) ~ quotient_in_c x 10)
+    ∷ where_true (at_most_far 1073741824 ∷ []) (less_its_signs (raised_third x) ~ quotient_in_c x 3)
+    ∷ where_true (at_most_far 1073741824 ∷ []) (quotient_in_c x 3 ~ less_its_signs (later_third x))
     ∷ []
 
--- near misses: another divisor, the sign left out, of another word or a bit too low, a product without signs, and a factor that is a
--- little too great
+-- near misses: another divisor, the sign left out, of another word or a bit too low, a product without signs, a factor that is a
+-- little too great, the sign of a product with a factor below 0; a bound that is one too great, and sums that may wrap round
 abbrev pub other_signed_quotients : List Claim
 other_signed_quotients =
     where_true [] (subtract (tenth x) (shift_right_signed x (number 31)) ~ quotient_in_c x 11)
@@ -568,6 +585,10 @@ other_signed_quotients =
     ∷ where_true [] (subtract (tenth x) (shift_right_signed x (number 30)) ~ quotient_in_c x 10)
     ∷ where_true [] (subtract (shift_right_signed (upper_product x 1717986919) (number 2)) (shift_right_signed x (number 31)) ~ quotient_in_c x 10)
     ∷ where_true [] (subtract (shift_right_signed (signed_upper x 1717986920) (number 2)) (shift_right_signed x (number 31)) ~ quotient_in_c x 10)
+    ∷ where_true [] (subtract (tenth x) (shift_right_signed (signed_upper x 18446744073709551615) (number 31)) ~ quotient_in_c x 10)
+    ∷ where_true (at_most_far 1073741825 ∷ []) (less_its_signs (signed_upper x 429496730) ~ quotient_in_c x 10)
+    ∷ where_true [] (less_its_signs (raised_third x) ~ quotient_in_c x 3)
+    ∷ where_true [] (quotient_in_c x 3 ~ less_its_signs (later_third x))
     ∷ []
 
 -- `quot` of words with a sign: whether a number divides a word

@@ -1,5 +1,5 @@
 -- The rule `quot`, for words of 32 bits: what compilers write for division by a constant.
-use Rattle.std.specs.Prelude.{ℕ, zero, suc, ◌+◌, ◌-◌, ◌*◌, ◌/◌, ◌%◌, ◌^◌, ◌==◌, ◌&&◌, ◌||◌, not, nat_lt, nat_le, min, Bool, true, false, if◌then◌else◌, List, [], ◌∷◌, Option, Some, None, option_and_then}
+use Rattle.std.specs.Prelude.{ℕ, zero, suc, ◌+◌, ◌-◌, ◌*◌, ◌/◌, ◌%◌, ◌^◌, ◌==◌, ◌&&◌, ◌||◌, not, nat_lt, nat_le, min, max, Bool, true, false, if◌then◌else◌, List, [], ◌∷◌, Option, Some, None, option_and_then}
 use Rattle.term_core_spec.specs.declared.Width.TheVariants.{W32, W64}
 use Rattle.term_core_spec.specs.declared.Sort.TheVariants as sort
 use Rattle.term_core_spec.specs.declared.UnaryOperator.TheVariants as unary
@@ -176,6 +176,26 @@ is_written facts t u = false
 
 -- ---- words with a sign
 
+-- a number g for which x is from -g - 1 to g, where x + 2 ^ 31 is one of first, .., first + length - 1 and these don't wrap round 0
+abbrev pub reach_from : (first length : ℕ) → ℕ
+reach_from first length =
+    if nat_le (first + length) (2 ^ 32) then max (2 ^ 31 - 1 - first) (first + length - 1 - 2 ^ 31) else 2 ^ 31 - 1
+
+-- where x = F + a, and F is in a range
+abbrev pub reach_known : Term → Option Range → ℕ
+reach_known x (Some k) = reach_from (distance 32 (opposite 32 (constant_of (polynomial x) + 2 ^ 31)) k.start) k.length
+reach_known x None = 2 ^ 31 - 1
+
+abbrev pub reach_by : Term → Term → ℕ
+reach_by x fact = reach_known x (option_and_then (as_of (below_range 32 (polynomial x) 0)) (range_of fact))
+
+-- the least of these, by the ranges of facts
+unfoldable pub reach_of : List Term → Term → ℕ
+reach_of [] x = 2 ^ 31 - 1
+reach_of (fact ∷ facts) x = min (reach_by x fact) (reach_of facts x)
+
+-- ---- scaled floors of words with a sign
+
 -- an upper half of `mul (sext 64 x) c`, as c
 unfoldable pub signed_product : Term → Term → Option ℕ
 signed_product x (Binary (binary.Word word.Multiply) y c) =
@@ -190,27 +210,57 @@ unfoldable pub upper_signed : Term → Term → Option ℕ
 upper_signed x (Quaternary quaternary.Join a b c d) = signed_product_of x (Quaternary quaternary.Join a b c d) (under_byte a)
 upper_signed x t = None
 
--- of all words x the scaled floor is in the range of words with a sign
-abbrev pub if_small : Floor → Option Floor
-if_small f = if nat_lt 0 f.multiplier && nat_le f.multiplier (2 ^ f.shift) then Some f else None
+-- the whole part of x * (raised - 2 ^ shift) / 2 ^ shift, of words with a sign: the multiplier, which may be below 0, is counted from
+-- -2 ^ shift on
+pub record SignedFloor : Type 0 where
+  pub raised : ℕ
+  pub shift : ℕ
 
-abbrev pub signed_floor : ℕ → Option ℕ → Option Floor
-signed_floor more (Some c) = if_small (record { multiplier = (c + more) % 2 ^ 64; shift = 32 })
-signed_floor more None = None
+-- the scaled floors of all x from -g - 1 to g are words with a sign
+abbrev pub fits_signed : (g raised shift : ℕ) → Bool
+fits_signed g raised shift =
+    if nat_le (2 ^ shift) raised then nat_le ((g + 1) * (raised - 2 ^ shift)) (2 ^ (31 + shift))
+    else nat_lt ((g + 1) * (2 ^ shift - raised)) (2 ^ (31 + shift))
 
--- an upper half with x added
-abbrev pub raised_floor : (x p q : Term) → Option Floor
-raised_floor x p q = if same_term q x then signed_floor (2 ^ 32) (upper_signed x p) else None
+abbrev pub if_fits_signed : ℕ → SignedFloor → Option SignedFloor
+if_fits_signed g f = if fits_signed g f.raised f.shift then Some f else None
 
--- t as a scaled floor of x, each with its sign
-unfoldable pub signed_floor_of : Term → Term → Option Floor
-signed_floor_of x (Binary (binary.Word word.ShiftRightSigned) y c) =
-    or_itself x (on_words word.ShiftRightSigned y c) (shifted_floor c (signed_floor_of x y))
-signed_floor_of x (Binary (binary.Word word.Add) p q) =
-    or_itself x (on_words word.Add p q) (else_floor (raised_floor x p q) (raised_floor x q p))
-signed_floor_of x (Quaternary quaternary.Join a b c d) =
-    or_itself x (Quaternary quaternary.Join a b c d) (signed_floor 0 (upper_signed x (Quaternary quaternary.Join a b c d)))
-signed_floor_of x t = or_itself x t None
+abbrev pub signed_or_itself : Term → Term → Option SignedFloor → Option SignedFloor
+signed_or_itself x t o = if same_term t x then Some (record { raised = 2; shift = 0 }) else o
+
+abbrev pub signed_shifted : Term → Option SignedFloor → Option SignedFloor
+signed_shifted c (Some f) =
+    if is_constant c && nat_lt (number_of c) 32
+    then Some (record { raised = f.raised + 2 ^ f.shift * 2 ^ number_of c - 2 ^ f.shift; shift = f.shift + number_of c }) else None
+signed_shifted c None = None
+
+-- the upper half of x times c
+abbrev pub signed_upper_floor : ℕ → Option ℕ → Option SignedFloor
+signed_upper_floor g (Some c) = if_fits_signed g (record { raised = (c + 2 ^ 32) % 2 ^ 64; shift = 32 })
+signed_upper_floor g None = None
+
+-- with x added
+abbrev pub signed_sum : ℕ → Option SignedFloor → Option SignedFloor
+signed_sum g (Some f) = if_fits_signed g (record { raised = f.raised + 2 ^ f.shift; shift = f.shift })
+signed_sum g None = None
+
+abbrev pub signed_sum_if : ℕ → Bool → Option SignedFloor → Option SignedFloor
+signed_sum_if g test o = if test then signed_sum g o else None
+
+abbrev pub else_signed : Option SignedFloor → Option SignedFloor → Option SignedFloor
+else_signed (Some f) o = Some f
+else_signed None o = o
+
+-- t as a scaled floor of x, which is from -g - 1 to g
+unfoldable pub signed_floor_of : ℕ → Term → Term → Option SignedFloor
+signed_floor_of g x (Binary (binary.Word word.ShiftRightSigned) y c) =
+    signed_or_itself x (on_words word.ShiftRightSigned y c) (signed_shifted c (signed_floor_of g x y))
+signed_floor_of g x (Binary (binary.Word word.Add) p q) =
+    signed_or_itself x (on_words word.Add p q)
+    (else_signed (signed_sum_if g (same_term q x) (signed_floor_of g x p)) (signed_sum_if g (same_term p x) (signed_floor_of g x q)))
+signed_floor_of g x (Quaternary quaternary.Join a b c d) =
+    signed_or_itself x (Quaternary quaternary.Join a b c d) (signed_upper_floor g (upper_signed x (Quaternary quaternary.Join a b c d)))
+signed_floor_of g x t = signed_or_itself x t None
 
 -- `shr y 31`, and `sar y 31`
 unfoldable pub under_sign : Term → Option Term
@@ -221,27 +271,30 @@ unfoldable pub under_signs : Term → Option Term
 under_signs (Binary (binary.Word word.ShiftRightSigned) y c) = if is_number32 c 31 then Some y else None
 under_signs t = None
 
--- y has the sign of x
-abbrev pub is_floor : Option Floor → Bool
-is_floor (Some f) = true
-is_floor None = false
+-- y has the sign of x: the multiplier is above 0
+abbrev pub is_above_zero : Option SignedFloor → Bool
+is_above_zero (Some f) = nat_lt (2 ^ f.shift) f.raised
+is_above_zero None = false
 
-abbrev pub has_sign : Term → Option Term → Bool
-has_sign x (Some y) = is_word32 y && is_floor (signed_floor_of x y)
-has_sign x None = false
+abbrev pub has_sign : ℕ → Term → Option Term → Bool
+has_sign g x (Some y) = is_word32 y && is_above_zero (signed_floor_of g x y)
+has_sign g x None = false
 
 -- a scaled floor with 1 added where x is below 0
-unfoldable pub rounded_floor : Term → Term → Option Floor
-rounded_floor x (Binary (binary.Word word.Add) p q) =
-    else_floor (if has_sign x (under_sign q) then signed_floor_of x p else None) (if has_sign x (under_sign p) then signed_floor_of x q else None)
-rounded_floor x (Binary (binary.Word word.Subtract) p q) = if has_sign x (under_signs q) then signed_floor_of x p else None
-rounded_floor x t = None
+unfoldable pub rounded_floor : ℕ → Term → Term → Option SignedFloor
+rounded_floor g x (Binary (binary.Word word.Add) p q) =
+    else_signed (if has_sign g x (under_sign q) then signed_floor_of g x p else None)
+    (if has_sign g x (under_sign p) then signed_floor_of g x q else None)
+rounded_floor g x (Binary (binary.Word word.Subtract) p q) = if has_sign g x (under_signs q) then signed_floor_of g x p else None
+rounded_floor g x t = None
 
--- for all x with a sign it is x / d, rounded towards 0
-abbrev pub is_rounded_quotient : ℕ → Option Floor → Bool
-is_rounded_quotient d (Some f) =
-    nat_lt (2 ^ f.shift) (f.multiplier * d) && nat_le ((f.multiplier * d - 2 ^ f.shift) * 2 ^ 31) (2 ^ f.shift)
-is_rounded_quotient d None = false
+-- for all x from -g - 1 to g it is x / d, rounded towards 0
+abbrev pub rounds_to : (g d multiplier power : ℕ) → Bool
+rounds_to g d multiplier power = nat_lt power (multiplier * d) && nat_le ((multiplier * d - power) * (g + 1)) power
+
+abbrev pub is_rounded_quotient : (g d : ℕ) → Option SignedFloor → Bool
+is_rounded_quotient g d (Some f) = nat_lt (2 ^ f.shift) f.raised && rounds_to g d (f.raised - 2 ^ f.shift) (2 ^ f.shift)
+is_rounded_quotient g d None = false
 
 -- `ite p u (sub 0 u)`, where p is `ult x 2^31`, and u is `udiv (ite p x (sub 0 x)) d`
 abbrev pub at_least_zero : Term → Term
@@ -277,10 +330,11 @@ unfoldable pub truncated_of : Term → Option Sides
 truncated_of (Ternary ternary.Choose p u v) = truncated_with (Ternary ternary.Choose p u v) (under_less p) (divided_by u)
 truncated_of t = None
 
-abbrev pub is_signed_division : Term → Option Sides → Bool
-is_signed_division t (Some s) =
-    is_word32 s.left && (is_word32 t && (is_constant s.right && is_rounded_quotient (number_of s.right) (rounded_floor s.left t)))
-is_signed_division t None = false
+abbrev pub is_signed_division : List Term → Term → Option Sides → Bool
+is_signed_division facts t (Some s) =
+    is_word32 s.left && (is_word32 t && (is_constant s.right
+    && is_rounded_quotient (reach_of facts s.left) (number_of s.right) (rounded_floor (reach_of facts s.left) s.left t)))
+is_signed_division facts t None = false
 
 -- ---- whether d divides x
 
@@ -383,5 +437,5 @@ is_any_divisor_test o p = is_divisor_test o p || is_signed_divisor_test o p
 
 unfoldable pub same_by_quotient : List Term → Term → Term → Bool
 same_by_quotient facts t u =
-    is_written facts t u || (is_written facts u t || (is_signed_division t (truncated_of u) || (is_signed_division u (truncated_of t)
+    is_written facts t u || (is_written facts u t || (is_signed_division facts t (truncated_of u) || (is_signed_division facts u (truncated_of t)
     || (is_any_divisor_test (order_of t) (divided_of u) || is_any_divisor_test (order_of u) (divided_of t)))))

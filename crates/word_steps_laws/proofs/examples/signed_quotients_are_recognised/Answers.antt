@@ -4,8 +4,8 @@ use Rattle.word_steps_laws.proofs.examples.signed_quotients_are_recognised.Goals
 
 pub returns-clause-accepted : goal.returns-clause-accepted
 unfolding blocks_compute
-returns-clause-accepted c = (refl, (refl, (refl, (refl, tt))))
+returns-clause-accepted c = (refl, (refl, (refl, (refl, (refl, (refl, (refl, tt)))))))
 
 pub returns-clause-refused : goal.returns-clause-refused
 unfolding blocks_compute
-returns-clause-refused c = (refl, (refl, (refl, (refl, (refl, (refl, tt))))))
+returns-clause-refused c = (refl, (refl, (refl, (refl, (refl, (refl, (refl, (refl, (refl, (refl, tt))))))))))
