@@ -52,7 +52,7 @@ next_greatest false p (suc (suc b)) r g small is le = absurd (omega arith)
 next_bit : (n k : ℕ) → n % 2 ^ suc k ≡ bit_at n k * 2 ^ k + n % 2 ^ k
 next_bit n k = let e : suc k ≡ 1 + k = omega arith in ap (λ j. n % 2 ^ j) e ∙ mod-pow-add n 1 k
 
-div_mono : (a m k : ℕ) → 0 < k → a ≤ m → a / k ≤ m / k
+pub div_mono : (a m k : ℕ) → 0 < k → a ≤ m → a / k ≤ m / k
 div_mono a m k positive le =
     let split = div-add-mod' m k in
     let rest = mod_below m k positive in
@@ -100,7 +100,7 @@ within_if n false b c f g = g
 divided : (n k : ℕ) (b : Bounds) → 0 < k → IsWithin n b → IsWithin (n / k) (divided_bounds k b)
 divided n k b positive h = record { least = div_mono b.least n k positive h.least; greatest = div_mono n b.greatest k positive h.greatest }
 
-positive_divisor : (n : ℕ) → not (n == 0) ≡ true → (0 < n) × ((n == 0) ≡ false)
+pub positive_divisor : (n : ℕ) → not (n == 0) ≡ true → (0 < n) × ((n == 0) ≡ false)
 positive_divisor zero e = absurd (cc)
 positive_divisor (suc k) e = (omega arith, ne_eqb (suc k) 0 (λ same. absurd (omega arith)))
 
@@ -302,7 +302,7 @@ module _ (assignment : Assignment) (assigns : IsAssignment assignment) where
           ap Truth (eq-eqb m n same) ∙ ap (λ a. value assignment (Leaf a)) (same_Some (atom.Truth true) constant d)
       by_one false h d = by_apart (is_below b c || is_below c b) refl d
 
-  order_decided : (m n : ℕ) (b c : Bounds) → IsWithin m b → IsWithin n c → (constant : Atom) → order_by_bounds b c ≡ Some constant → Truth (nat_lt m n) ≡ value assignment (Leaf constant)
+  pub order_decided : (m n : ℕ) (b c : Bounds) → IsWithin m b → IsWithin n c → (constant : Atom) → order_by_bounds b c ≡ Some constant → Truth (nat_lt m n) ≡ value assignment (Leaf constant)
   unfolding value
   order_decided m n b c hm hn constant e = by_below (is_below b c) refl e
     where

@@ -30,6 +30,8 @@ pub mod SignedFloors
 pub mod SignedHold
 pub mod QuotientsSound
 pub mod ChoicesHold
+pub mod SpanNumbers
+pub mod SpansHold
 pub mod Lines
 pub mod Left
 pub mod Obligations

@@ -5,6 +5,7 @@ use Rattle.std.specs.List.{AllByRecursion, list_any}
 use Rattle.std.proofs.lemmas.Bool.{and_parts}
 use Rattle.std.proofs.lemmas.Option.{same_Some, cond_some}
 use Rattle.term_core_spec.specs.declared.Sort.TheVariants as sort
+use Rattle.term_core_spec.specs.declared.Width.{Width}
 use Rattle.term_core_spec.specs.declared.Atom.{Atom}
 use Rattle.term_core_spec.specs.declared.Atom.TheVariants as atom
 use Rattle.term_core_spec.specs.Term.{Term, Leaf, Unary, Binary, Ternary, Quaternary, Octonary, truth, not_term, and_term, Occurs}
@@ -23,7 +24,7 @@ use Rattle.word_steps_laws.proofs.Lookups.{with_now-term, with_now-now, push-eit
 use Rattle.word_steps_laws.proofs.Renewing.{renew_holds, renew_up_to_holds}
 use Rattle.word_steps_laws.proofs.Starting.{start_number, start_holds}
 use Rattle.word_steps_laws.proofs.Lines.{push_fits, StillHolds, places_hold, swept_holds, line_holds, lines_hold}
-use Rattle.word_steps_laws.proofs.Decisions.{IsTruth, decides_truths}
+use Rattle.word_steps_laws.proofs.Decisions.{IsConstant, a_truth, a_word, decides_constants}
 
 module _ (runs : List Run) (small : AreBytes runs) (goal : Term) where
   -- a term that has only variables of the goal
@@ -38,6 +39,10 @@ module _ (runs : List Run) (small : AreBytes runs) (goal : Term) where
   only_truth : (b : Bool) → Only (truth b)
   unfolding Occurs
   only_truth b v o = absurd o
+
+  only_word : (width : Width) (n : ℕ) → Only (Leaf (atom.Constant width n))
+  unfolding Occurs
+  only_word width n v o = absurd o
 
   only_signed : (b : Bool) (t : Term) → Only t → Only (signed b t)
   unfolding Occurs
@@ -260,8 +265,9 @@ module _ (runs : List Run) (small : AreBytes runs) (goal : Term) where
       first true d = second (merges_by rule (map (reading runs (renew runs x s).numbers) facts) (now_at (renew runs x s).numbers x) (now_at (renew runs x s).numbers y)) d
       first false d = absurd (cc)
 
-  only_constant : (c : Atom) → IsTruth c → Only (Leaf c)
-  only_constant c is = subst (λ a. Only (Leaf a)) (sym is.1) (only_truth is.0)
+  only_constant : (c : Atom) → IsConstant c → Only (Leaf c)
+  only_constant c (a_truth b) = only_truth b
+  only_constant c (a_word width n) = only_word width n
 
   old_decided : (rule : DecisionRule) (x : ℕ) (facts : List Reading) (s t : State) → Holds runs goal s → IsOld s → decided_if runs rule x facts s ≡ Some t → IsOld t
   old_decided rule x facts s t h old e = first (is_number s.numbers x && are_facts s.facts facts) e
@@ -269,7 +275,7 @@ module _ (runs : List Run) (small : AreBytes runs) (goal : Term) where
       fit : AreNumbers (renew runs x s).numbers
       fit = (renew_holds runs small goal x s h).state.fit
 
-      third : (c : Atom) → IsTruth c → (test : Bool) → cond test (Some (with_merge runs x (Known c) (renew runs x s))) None ≡ Some t → IsOld t
+      third : (c : Atom) → IsConstant c → (test : Bool) → cond test (Some (with_merge runs x (Known c) (renew runs x s))) None ≡ Some t → IsOld t
       third c is true d =
           subst IsOld (same_Some (with_merge runs x (Known c) (renew runs x s)) t d) (old_with_merge x (Known c) (renew runs x s) fit (old_renew x s h.state.fit old) (only_constant c is))
       third c is false d = absurd (cc)
@@ -277,7 +283,7 @@ module _ (runs : List Run) (small : AreBytes runs) (goal : Term) where
       second : (o : Option Atom) → decided_by rule (map (reading runs (renew runs x s).numbers) facts) (now_at (renew runs x s).numbers x) ≡ o
           → option_and_then (with_constant runs x (renew runs x s)) o ≡ Some t → IsOld t
       second (Some c) g d =
-          third c (decides_truths c rule (map (reading runs (renew runs x s).numbers) facts) (now_at (renew runs x s).numbers x) g) (are_alike (term_at (renew runs x s).numbers x) (Leaf c)) d
+          third c (decides_constants c rule (map (reading runs (renew runs x s).numbers) facts) (now_at (renew runs x s).numbers x) g) (are_alike (term_at (renew runs x s).numbers x) (Leaf c)) d
       second None g d = absurd (cc)
 
       first : (test : Bool) → cond test (decided runs rule x facts (renew runs x s)) None ≡ Some t → IsOld t

@@ -14,7 +14,7 @@ use Rattle.term_norm_spec.proofs.Words.{word_of}
 use Rattle.word_steps_spec.specs.Numbers.{are_alike}
 use Rattle.word_steps_spec.specs.Bitwise.{same_by_bits, decided_by_bits}
 use Rattle.word_steps_spec.specs.Order.{same_by_spelling, decided_by_bounds}
-use Rattle.word_steps_spec.specs.Lines.{MergeRule, Same, Ring, Comm, Bits, Quot, Lift, DecisionRule, RingOf, BitsOf, LowOf, RangeOf, WithinOf, is_equality, merges_by, decided_by}
+use Rattle.word_steps_spec.specs.Lines.{MergeRule, Same, Ring, Comm, Bits, Quot, Lift, Fit, DecisionRule, RingOf, BitsOf, LowOf, RangeOf, WithinOf, FitOf, is_equality, merges_by, decided_by}
 use Rattle.word_steps_laws.proofs.RingSound.{ring_sound, decided_ring_sound}
 use Rattle.word_steps_laws.proofs.CommHolds.{either_test, comm_sound}
 use Rattle.word_steps_laws.proofs.BitsSound.{bits_sound, decided_bits_sound}
@@ -25,6 +25,7 @@ use Rattle.word_steps_laws.proofs.RangesHold.{decided_range_sound}
 use Rattle.word_steps_laws.proofs.ZonesHold.{decided_within_sound}
 use Rattle.word_steps_laws.proofs.QuotientsSound.{quotient_sound}
 use Rattle.word_steps_laws.proofs.ChoicesHold.{lifting_sound}
+use Rattle.word_steps_laws.proofs.SpansHold.{fit_sound, decided_fit_sound}
 use Rattle.word_steps_laws.proofs.Sorts.{bool_sort}
 
 module _ (assignment : Assignment) (assigns : IsAssignment assignment) where
@@ -77,6 +78,7 @@ merges_sound Bits [] x y alike assignment assigns are e =
     either_test (same_by_bits x y) (same_by_spelling x y) e (bits_sound assignment assigns x y) (spelling_sound assignment assigns x y)
 merges_sound Quot facts x y alike assignment assigns are e = quotient_sound assignment assigns facts x y are ((alike_of x y sort.Truth (bool_sort (equal x y) alike)).1) e
 merges_sound Lift [] x y alike assignment assigns are e = lifting_sound assignment assigns x y ((alike_of x y sort.Truth (bool_sort (equal x y) alike)).1) e
+merges_sound Fit facts x y alike assignment assigns are e = fit_sound assignment assigns facts x y are e
 merges_sound Lift (f ∷ facts) x y alike assignment assigns are e = absurd (cc)
 merges_sound Ring (f ∷ facts) x y alike assignment assigns are e = absurd (cc)
 merges_sound Comm (f ∷ facts) x y alike assignment assigns are e = absurd (cc)
@@ -91,5 +93,6 @@ decided_sound BitsOf [] x constant alike assignment assigns are e =
 decided_sound LowOf facts x constant alike assignment assigns are e = decided_low_sound assignment assigns facts x constant are e
 decided_sound RangeOf facts x constant alike assignment assigns are e = decided_range_sound assignment assigns facts x constant are e
 decided_sound WithinOf facts x constant alike assignment assigns are e = decided_within_sound assignment assigns facts x constant are e
+decided_sound FitOf facts x constant alike assignment assigns are e = decided_fit_sound assignment assigns facts x constant are e
 decided_sound RingOf (f ∷ facts) x constant alike assignment assigns are e = absurd (cc)
 decided_sound BitsOf (f ∷ facts) x constant alike assignment assigns are e = absurd (cc)

@@ -657,3 +657,72 @@ not_lifted =
     ∷ equal (choose flag x (subtract y x)) (number 0) ~ equal x (number 0)
     ∷ equal (choose flag x (subtract (number 0) x)) (number 1) ~ equal x (number 1)
     ∷ []
+
+-- ---- `fit`
+
+abbrev pub low_half : Term → Term
+low_half t = low W16 t
+
+abbrev pub signed_byte : Term → Term
+signed_byte t = sign_extend W32 (byte 0 t)
+
+-- a word cut to 8 bits by shifts
+abbrev pub high_byte : Term → Term
+high_byte t = shift_left t (number 24)
+
+-- words that fit 8 bits, with a sign and without; sums and products
+abbrev pub fitting : List Claim
+fitting =
+    where_true (less x (number 128) ∷ []) (signed_byte x ~ x)
+    ∷ where_true (less x (number 256) ∷ []) (x ~ zero_extend W32 (byte 0 x))
+    ∷ where_true (less x (number 256) ∷ []) (bit_and x (number 255) ~ x)
+    ∷ where_true (at_most_far 128 ∷ []) (shift_right_signed (high_byte x) (number 24) ~ x)
+    ∷ where_true (less x (number 256) ∷ []) (shift_right (high_byte x) (number 24) ~ x)
+    ∷ where_true [] (bit_and (add (low_byte x) (low_byte y)) (number 511) ~ add (low_byte x) (low_byte y))
+    ∷ where_true [] (sign_extend W32 (low_half (multiply (signed_byte x) (signed_byte y))) ~ multiply (signed_byte x) (signed_byte y))
+    ∷ where_true (less x (number 100) ∷ less y (number 50) ∷ []) (bit_and (choose flag x y) (number 127) ~ choose flag x y)
+    ∷ []
+
+-- near misses: bounds that are one too great, a word without a sign for one with, no mask, another shift, a bit too few for a sum and a
+-- product, and a fact of one arm alone
+abbrev pub not_fitting : List Claim
+not_fitting =
+    where_true (less x (number 129) ∷ []) (signed_byte x ~ x)
+    ∷ where_true (less x (number 257) ∷ []) (x ~ zero_extend W32 (byte 0 x))
+    ∷ where_true (less x (number 256) ∷ []) (signed_byte x ~ x)
+    ∷ where_true (less x (number 2) ∷ []) (bit_and x (number 254) ~ x)
+    ∷ where_true (at_most_far 129 ∷ []) (shift_right_signed (high_byte x) (number 24) ~ x)
+    ∷ where_true (less x (number 2) ∷ []) (shift_right (high_byte x) (number 23) ~ x)
+    ∷ where_true [] (bit_and (add (low_byte x) (low_byte y)) (number 255) ~ add (low_byte x) (low_byte y))
+    ∷ where_true [] (signed_byte (multiply (signed_byte x) (signed_byte y)) ~ multiply (signed_byte x) (signed_byte y))
+    ∷ where_true (less x (number 100) ∷ []) (bit_and (choose flag x y) (number 127) ~ choose flag x y)
+    ∷ []
+
+-- at least 2
+abbrev pub from_two : Term → Term
+from_two t = not_term (less t (number 2))
+
+abbrev pub fit_below : List Given
+fit_below =
+    (less x (number 100) ∷ []) ⊢ less (multiply x x) (number 9802)
+    ∷ (less x (number 100) ∷ from_two y ∷ []) ⊢ less (divide x y) (number 50)
+    ∷ []
+
+abbrev pub fit_apart : List Given
+fit_apart =
+    (less x (number 100) ∷ []) ⊢ equal (add (multiply x (number 3)) (number 1)) (number 299)
+    ∷ (at_most_far 10 ∷ []) ⊢ equal (multiply x x) (number 101)
+    ∷ []
+
+abbrev pub only_zero : List Given
+only_zero = (less x (number 1) ∷ []) ⊢ x ∷ []
+
+-- bounds that are one too great, and a divisor that may be 0
+abbrev pub fit_unknown : List Given
+fit_unknown =
+    (less x (number 100) ∷ []) ⊢ less (multiply x x) (number 9801)
+    ∷ (less x (number 100) ∷ []) ⊢ less (divide x y) (number 50)
+    ∷ (less x (number 100) ∷ []) ⊢ equal (add (multiply x (number 3)) (number 1)) (number 298)
+    ∷ (at_most_far 10 ∷ []) ⊢ equal (multiply x x) (number 100)
+    ∷ (less x (number 2) ∷ []) ⊢ x
+    ∷ []

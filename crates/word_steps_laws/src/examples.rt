@@ -4,9 +4,10 @@
 
 ghost use Rattle.std.specs.Prelude.{true, false, [], ◌∷◌, Some, None};
 ghost use Rattle.term_core_spec.specs.Term.{truth};
-ghost use Rattle.term_core_spec.specs.declared.Atom.TheVariants.{Truth};
+ghost use Rattle.term_core_spec.specs.declared.Atom.TheVariants.{Truth, Constant};
+ghost use Rattle.term_core_spec.specs.declared.Width.TheVariants.{W32};
 ghost use Rattle.word_steps_spec.specs.Lines.{Ring, Comm, Bits, BitsOf, LowOf, RangeOf};
-ghost use Rattle.word_steps_spec.specs.Lines.{WithinOf, Quot, Lift};
+ghost use Rattle.word_steps_spec.specs.Lines.{WithinOf, Quot, Lift, Fit, FitOf};
 ghost use Rattle.word_steps_laws.specs.Examples.{goal, block, Leaves, Accepts, alike, unlike};
 ghost use Rattle.word_steps_laws.specs.Examples.{ordered, unordered, Decides};
 ghost use Rattle.word_steps_laws.specs.Examples.{of_one_list, of_two_lists};
@@ -19,7 +20,8 @@ ghost use Rattle.word_steps_laws.specs.Examples.{within_window, outside_window, 
 ghost use Rattle.word_steps_laws.specs.Examples.{AcceptsWith, quotients, other_quotients};
 ghost use Rattle.word_steps_laws.specs.Examples.{signed_quotients, other_signed_quotients};
 ghost use Rattle.word_steps_laws.specs.Examples.{signed_multiples, no_signed_multiples};
-ghost use Rattle.word_steps_laws.specs.Examples.{lifted, not_lifted};
+ghost use Rattle.word_steps_laws.specs.Examples.{lifted, not_lifted, fitting, not_fitting};
+ghost use Rattle.word_steps_laws.specs.Examples.{fit_below, fit_apart, only_zero, fit_unknown};
 ghost use Rattle.word_steps_laws.specs.Examples.{split_goal, split_block, case_goal};
 ghost use Rattle.word_steps_laws.specs.Examples.{true_block, false_block};
 
@@ -132,4 +134,18 @@ pub fn signed_multiples_are_recognised()
 pub fn choices_are_lifted()
     ensures accepted { Accepts Lift true lifted }
     ensures refused { Accepts Lift false not_lifted }
+{}
+
+/// Words that fit the bits that are kept of them, and near misses.
+pub fn words_fit()
+    ensures accepted { AcceptsWith Fit true fitting }
+    ensures refused { AcceptsWith Fit false not_fitting }
+{}
+
+/// What spans decide: orders, equalities and words; and what they don't.
+pub fn spans_decide()
+    ensures below { DecidesWith FitOf fit_below (Some (Truth true)) }
+    ensures apart { DecidesWith FitOf fit_apart (Some (Truth false)) }
+    ensures zero { DecidesWith FitOf only_zero (Some (Constant W32 0)) }
+    ensures unknown { DecidesWith FitOf fit_unknown None }
 {}

@@ -10,5 +10,6 @@ pub mod Ranges
 pub mod Zones
 pub mod Quotients
 pub mod Choices
+pub mod Spans
 pub mod Lines
 pub mod Invariant

@@ -16,16 +16,17 @@ use Rattle.word_steps_spec.specs.Ranges.{decided_by_range}
 use Rattle.word_steps_spec.specs.Zones.{says_zone, decided_within}
 use Rattle.word_steps_spec.specs.Quotients.{same_by_quotient}
 use Rattle.word_steps_spec.specs.Choices.{same_by_lifting}
+use Rattle.word_steps_spec.specs.Spans.{same_by_fit, decided_by_fit}
 
 -- ---- the tests of the rules
 
 -- rules that say of two terms that they have one value
 pub data MergeRule : Type 0 where
-  Same Ring Comm Bits Quot Lift : MergeRule
+  Same Ring Comm Bits Quot Lift Fit : MergeRule
 
 -- rules that say of a term which constant it is
 pub data DecisionRule : Type 0 where
-  RingOf BitsOf LowOf RangeOf WithinOf : DecisionRule
+  RingOf BitsOf LowOf RangeOf WithinOf FitOf : DecisionRule
 
 -- a fact is `eq` of both, either way
 abbrev pub is_equality : List Term → Term → Term → Bool
@@ -40,6 +41,7 @@ merges_by Comm [] x y = same_up_to_order x y
 merges_by Bits [] x y = same_by_bits x y || same_by_spelling x y
 merges_by Quot facts x y = same_by_quotient facts x y
 merges_by Lift [] x y = same_by_lifting x y
+merges_by Fit facts x y = same_by_fit facts x y
 merges_by rule (fact ∷ facts) x y = false
 
 unfoldable pub decided_by : DecisionRule → List Term → Term → Option Atom
@@ -48,6 +50,7 @@ decided_by BitsOf [] x = else_by (decided_by_bits x) (decided_by_bounds x)
 decided_by LowOf facts x = decided_by_low facts x
 decided_by RangeOf facts x = decided_by_range facts x
 decided_by WithinOf facts x = decided_within facts x
+decided_by FitOf facts x = decided_by_fit facts x
 decided_by rule (fact ∷ facts) x = None
 
 -- ---- lines

@@ -5,5 +5,6 @@
 //! `specs/Commuting.antt` the rule `comm`, `specs/Bitwise.antt` and `specs/Order.antt` the rule
 //! `bits`, `specs/LowBits.antt` the rule `low`, `specs/Ranges.antt` the rule
 //! `range`, `specs/Zones.antt` the rules `zone` and `within`, `specs/Quotients.antt` the rule
-//! `quot`, `specs/Choices.antt` the rule `lift`. Nothing of the crate runs.
+//! `quot`, `specs/Choices.antt` the rule `lift`, `specs/Spans.antt` the rule `fit`.
+//! Nothing of the crate runs.
 #![tactic(auto)]
