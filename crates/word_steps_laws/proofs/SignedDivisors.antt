@@ -10,7 +10,7 @@ use Rattle.term_core_spec.specs.declared.Sort.TheVariants as sort
 use Rattle.term_core_spec.specs.declared.WordOperator.TheVariants as word
 use Rattle.term_core_spec.specs.declared.BinaryOperator.TheVariants as binary
 use Rattle.term_core_spec.specs.declared.TernaryOperator.TheVariants as ternary
-use Rattle.term_core_spec.specs.Term.{Term, Binary, Ternary, equal, on_words}
+use Rattle.term_core_spec.specs.Term.{Term, Binary, Ternary, on_words}
 use Rattle.term_core_spec.specs.Sort.{sort_of}
 use Rattle.term_core_spec.specs.Value.{Truth, Assignment, IsAssignment, value, operation}
 use Rattle.term_core_spec.specs.Same.{same_term}
@@ -28,7 +28,7 @@ use Rattle.word_steps_laws.proofs.BitsHold.{choice_of}
 use Rattle.word_steps_laws.proofs.RingSound.{words_are}
 use Rattle.word_steps_laws.proofs.BitsSound.{words_same}
 use Rattle.word_steps_laws.proofs.BoundsHold.{IsOrder, order_is, order_value}
-use Rattle.word_steps_laws.proofs.QuotientsHold.{IsWord, word32, arguments, made, known, number32_is, below32, inverse_is, powers, turned_number, IsSplit, split_is, IsDivided, divided_of_is, remainder_number, operation_sort, less_sort}
+use Rattle.word_steps_laws.proofs.QuotientsHold.{IsWord, word32, arguments, made, known, number32_is, below32, inverse_is, powers, turned_number, split_is, IsDivided, divided_of_is, remainder_number, less_sort}
 use Rattle.word_steps_laws.proofs.SignedDivisorNumbers.{without_sign, signed_divisor_test}
 use Rattle.word_steps_laws.proofs.SignedHold.{magnitude_is}
 

@@ -1,13 +1,12 @@
 -- Scaled floors of numbers with a sign, which are counted from -2 ^ 31 on.
-use Rattle.std.proofs.Common.{◌≡◌, ℕ, zero, suc, ◌+◌, ◌-◌, ◌*◌, ◌/◌, ◌%◌, ◌^◌, ◌<◌, ◌≤◌, Bool, true, false, cond, ◌⊎◌, inl, inr, refl, sym, ap, ◌∙◌, subst, arith, ltb-true, leb-true, leb-false}
+use Rattle.std.proofs.Common.{◌≡◌, ℕ, zero, suc, ◌+◌, ◌-◌, ◌*◌, ◌/◌, ◌%◌, ◌^◌, ◌<◌, ◌≤◌, Bool, true, false, cond, ◌⊎◌, inl, inr, refl, sym, ap, ◌∙◌, arith, ltb-true, leb-true, leb-false}
 use Rattle.std.specs.Prelude.{nat_lt, nat_le, max}
 use Rattle.std.proofs.lemmas.Bool.{cases_lt}
 use Rattle.std.proofs.lemmas.Nat.{pow_pos, pow-add, mod_below, mul-le, div-add-mod', div_below}
 use Rattle.term_core_spec.specs.Value.{shifted_with_sign}
-use Rattle.term_norm_spec.proofs.Numbers.{mod-small}
 use Rattle.word_steps_spec.specs.Ranges.{distance, opposite}
 use Rattle.word_steps_spec.specs.Quotients.{fits_signed, reach_from}
-use Rattle.word_steps_laws.proofs.Congruence.{IsCongruent, congruent_same, congruent_sym, congruent_then, congruent_plus, congruent_product, congruent_mod, congruent_equal}
+use Rattle.word_steps_laws.proofs.Congruence.{IsCongruent, congruent_sym, congruent_then, congruent_product, congruent_mod, congruent_equal}
 use Rattle.word_steps_laws.proofs.Distances.{distance_sum, among}
 use Rattle.word_steps_laws.proofs.QuotientNumbers.{whole_part}
 use Rattle.word_steps_laws.proofs.SignedNumbers.{below_floor, shift_positive, shift_negative}

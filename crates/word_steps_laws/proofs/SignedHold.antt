@@ -1,10 +1,10 @@
 -- What the rule `quot` accepts as a quotient of words with a sign, rounded towards 0, has one value.
-use Rattle.std.proofs.Common.{◌≡◌, ℕ, zero, suc, ◌+◌, ◌-◌, ◌*◌, ◌/◌, ◌%◌, ◌^◌, ◌<◌, ◌≤◌, Bool, true, false, cond, List, [], ◌∷◌, Option, Some, None, option_and_then, ◌⊎◌, inl, inr, refl, sym, ap, ◌∙◌, subst, arith, ltb-true, leb-true, leb-false, div-one}
+use Rattle.std.proofs.Common.{◌≡◌, ℕ, zero, suc, ◌+◌, ◌-◌, ◌*◌, ◌/◌, ◌%◌, ◌^◌, ◌<◌, ◌≤◌, Bool, true, false, cond, List, [], ◌∷◌, Option, Some, None, option_and_then, ◌⊎◌, inl, inr, refl, sym, ap, ◌∙◌, subst, arith, ltb-true, leb-true, leb-false}
 use Rattle.std.specs.Prelude.{◌&&◌, nat_lt, nat_le, min}
 use Rattle.std.specs.List.{AllByRecursion}
 use Rattle.std.proofs.lemmas.Bool.{and_parts, lt-ltb, le-ltb, cases_lt}
 use Rattle.std.proofs.lemmas.Option.{same_Some, cond_some}
-use Rattle.std.proofs.lemmas.Nat.{pow_pos, pow-add, mod_below, mul-le, div_below, shr-shr}
+use Rattle.std.proofs.lemmas.Nat.{pow_pos, pow-add}
 use Rattle.term_core_spec.specs.declared.Width.TheVariants.{W32, W64}
 use Rattle.term_core_spec.specs.declared.Sort.TheVariants as sort
 use Rattle.term_core_spec.specs.declared.WordOperator.TheVariants as word
@@ -26,7 +26,7 @@ use Rattle.word_steps_spec.specs.Ring.{polynomial}
 use Rattle.word_steps_spec.specs.LowBits.{form_of, constant_of}
 use Rattle.word_steps_spec.specs.Ranges.{Range, as_of, below_range, range_of}
 use Rattle.word_steps_spec.specs.Sides.{Sides}
-use Rattle.word_steps_spec.specs.Quotients.{is_word32, number32, is_number32, reach_known, reach_by, reach_of, SignedFloor, fits_signed, signed_or_itself, signed_shifted, under_byte, is_upper_half, signed_product, signed_product_of, upper_signed, signed_upper_floor, signed_sum_if, else_signed, signed_floor_of, under_sign, under_signs, is_above_zero, has_sign, rounded_floor, rounds_to, is_rounded_quotient, at_least_zero, negated, magnitude, truncated, divided_by, truncated_by, under_less, truncated_with, truncated_of, is_signed_division}
+use Rattle.word_steps_spec.specs.Quotients.{is_word32, number32, is_number32, reach_known, reach_by, reach_of, SignedFloor, fits_signed, signed_or_itself, signed_shifted, under_byte, is_upper_half, signed_product, signed_product_of, upper_signed, signed_upper_floor, signed_sum_if, else_signed, signed_floor_of, under_sign, under_signs, is_above_zero, has_sign, rounded_floor, rounds_to, is_rounded_quotient, at_least_zero, negated, magnitude, truncated, divided_by, under_less, truncated_with, truncated_of, is_signed_division}
 use Rattle.word_steps_laws.proofs.Congruence.{IsCongruent, congruent_mod}
 use Rattle.word_steps_laws.proofs.LowBitsHold.{form_sum, word_low}
 use Rattle.word_steps_laws.proofs.RangesHold.{as_of_is, IsKnownRange, fact_range}
@@ -35,7 +35,7 @@ use Rattle.word_steps_laws.proofs.BitsHold.{number_below, number_is_known, IsCho
 use Rattle.word_steps_laws.proofs.QuotientNumbers.{quotient_by_floor}
 use Rattle.word_steps_laws.proofs.SignedDivisorNumbers.{without_sign}
 use Rattle.word_steps_laws.proofs.SignedNumbers.{below_floor, shift_positive, shift_negative, quotient_below}
-use Rattle.word_steps_laws.proofs.SignedFloors.{place, Reaches, reaches_all, reaches_in, IsScaled, scaled_itself, HasRoom, room, scaled_sum, scaled_shift, scaled_upper, scaled_positive, scaled_negative}
+use Rattle.word_steps_laws.proofs.SignedFloors.{place, Reaches, reaches_all, reaches_in, IsScaled, scaled_itself, room, scaled_sum, scaled_shift, scaled_upper, scaled_positive, scaled_negative}
 use Rattle.word_steps_laws.proofs.QuotientsHold.{IsWord, word32, arguments, made, known, number32_is, below32, same_number, upper_half_is, divided, one_value}
 
 -- ---- numbers

@@ -1,11 +1,9 @@
 -- Shifts with the sign, and what is left of a quotient that is rounded towards 0.
-use Rattle.std.proofs.Common.{◌≡◌, ℕ, zero, suc, ◌+◌, ◌-◌, ◌*◌, ◌/◌, ◌%◌, ◌^◌, ◌<◌, ◌≤◌, Bool, true, false, ◌⊎◌, inl, inr, refl, sym, ap, ◌∙◌, subst, arith, leb-true, leb-false}
-use Rattle.std.proofs.lemmas.Bool.{cases_lt}
-use Rattle.std.proofs.lemmas.Nat.{pow_pos, pow-add, mod_below, mul-le, div_below, div-add-mod', div-mul-add, shr-shr, shr_below}
-use Rattle.std.proofs.Math.Nat.{le_of_mul-le-mul_right, lt_of_mul-lt-mul_right, add-mul-div_right}
+use Rattle.std.proofs.Common.{◌≡◌, ℕ, zero, suc, ◌+◌, ◌-◌, ◌*◌, ◌/◌, ◌%◌, ◌^◌, ◌<◌, ◌≤◌, Bool, true, false, refl, sym, ap, ◌∙◌, subst, arith, leb-true, leb-false}
+use Rattle.std.proofs.lemmas.Nat.{pow_pos, pow-add, mod_below, mul-le, div-add-mod', div-mul-add, shr_below}
+use Rattle.std.proofs.Math.Nat.{le_of_mul-le-mul_right, lt_of_mul-lt-mul_right}
 use Rattle.term_core_spec.specs.Value.{is_negative, ones_if, shifted_with_sign, low_bits}
 use Rattle.term_norm_spec.proofs.Numbers.{mod-small}
-use Rattle.word_steps_laws.proofs.Congruence.{IsCongruent, congruent_same, congruent_sym, congruent_then, congruent_plus, congruent_times, congruent_mod, congruent_equal}
 
 power32 : (k : ℕ) → 2 ^ (32 + k) ≡ 2 ^ 32 * 2 ^ k
 power32 k = pow-add 2 32 k

@@ -1,5 +1,5 @@
 -- Numbers in spans and between integers: sums, products, cuts, quotients, and words that fit.
-use Rattle.std.proofs.Common.{◌≡◌, ℕ, zero, suc, ◌+◌, ◌-◌, ◌*◌, ◌/◌, ◌%◌, ◌^◌, ◌<◌, ◌≤◌, Bool, true, false, cond, ◌⊎◌, inl, inr, refl, sym, ap, ◌∙◌, subst, arith, ltb-true, leb-true, leb-false}
+use Rattle.std.proofs.Common.{◌≡◌, ℕ, ◌+◌, ◌-◌, ◌*◌, ◌/◌, ◌%◌, ◌^◌, ◌<◌, ◌≤◌, Bool, true, false, cond, ◌⊎◌, inl, inr, refl, sym, ap, ◌∙◌, arith, ltb-true, leb-true, leb-false}
 use Rattle.std.specs.Prelude.{◌&&◌, nat_lt, nat_le, min, max}
 use Rattle.std.proofs.lemmas.Bool.{and_parts, cases_lt}
 use Rattle.std.proofs.lemmas.Nat.{pow_pos, pow-add, mod_below, mul-le, div-add-mod', mod-mul-add}
@@ -10,7 +10,7 @@ use Rattle.word_steps_spec.specs.Order.{Bounds}
 use Rattle.word_steps_spec.specs.Ranges.{distance, opposite}
 use Rattle.word_steps_spec.specs.Spans.{Span, all_words, capped, shorter, bounds_span, unsigned_bounds, Interval, as_integers, as_span, sum_of, scaled_by, negative_of, times_coefficient, corner, product_of, sign_extended_span, quotient_span, span_from, both_spans, cut_at, cut}
 use Rattle.word_steps_laws.proofs.Congruence.{IsCongruent, congruent_same, congruent_sym, congruent_then, congruent_plus, congruent_times, congruent_product, congruent_mod, congruent_equal}
-use Rattle.word_steps_laws.proofs.Distances.{mod_least, distance_sum, distance_is}
+use Rattle.word_steps_laws.proofs.Distances.{mod_least, distance_sum}
 use Rattle.word_steps_laws.proofs.BoundsHold.{IsWithin, div_mono}
 
 -- n is one of the words of a span

@@ -1,6 +1,6 @@
 -- The value of a word is in its span, and what the rule `fit` accepts or decides is so.
-use Rattle.std.proofs.Common.{◌≡◌, ℕ, zero, suc, ◌+◌, ◌-◌, ◌*◌, ◌/◌, ◌%◌, ◌^◌, ◌<◌, ◌≤◌, Bool, true, false, cond, List, [], ◌∷◌, Option, Some, None, option_and_then, ◌⊎◌, inl, inr, refl, sym, ap, ◌∙◌, subst, arith, eqb-true, ltb-true, leb-true, lt-ltb}
-use Rattle.std.specs.Prelude.{◌==◌, ◌&&◌, ◌||◌, nat_lt, nat_le, bit_and}
+use Rattle.std.proofs.Common.{◌≡◌, ℕ, zero, suc, ◌+◌, ◌-◌, ◌*◌, ◌/◌, ◌%◌, ◌^◌, ◌<◌, ◌≤◌, Bool, true, false, cond, List, [], ◌∷◌, Option, Some, None, option_and_then, inl, inr, refl, sym, ap, ◌∙◌, subst, arith, eqb-true, ltb-true, leb-true, lt-ltb}
+use Rattle.std.specs.Prelude.{◌==◌, ◌&&◌, nat_lt, nat_le, bit_and}
 use Rattle.std.specs.List.{AllByRecursion}
 use Rattle.std.proofs.lemmas.Bool.{and_parts, le-leb, lt-leb, leb-false}
 use Rattle.std.proofs.lemmas.Option.{same_Some, cond_some}
@@ -8,7 +8,6 @@ use Rattle.std.proofs.lemmas.Nat.{pow_pos, pow-add, mod_below, mul-le, and_mask}
 use Rattle.std.proofs.Math.Nat.{mul-div_cancel}
 use Rattle.term_core_spec.specs.declared.Width.{Width}
 use Rattle.term_core_spec.specs.declared.Width.TheVariants.{W8, W16, W32, W64}
-use Rattle.term_core_spec.specs.declared.Sort.{Sort}
 use Rattle.term_core_spec.specs.declared.Sort.TheVariants as sort
 use Rattle.term_core_spec.specs.declared.Atom.{Atom}
 use Rattle.term_core_spec.specs.declared.Atom.TheVariants as atom
@@ -29,27 +28,27 @@ use Rattle.term_norm_spec.proofs.Truths.{truth_value_of, value-choose}
 use Rattle.term_norm_spec.proofs.Cuts.{zero_extend_of, sign_extend_of, low_of, byte_parts}
 use Rattle.term_norm_spec.proofs.Words.{words_of, word_of}
 use Rattle.word_steps_spec.specs.Numbers.{is_bool}
-use Rattle.word_steps_spec.specs.Polynomial.{Summand, Polynomial, number_of_value, product, polynomial_value}
+use Rattle.word_steps_spec.specs.Polynomial.{Polynomial, number_of_value, product, polynomial_value}
 use Rattle.word_steps_spec.specs.Sides.{are_words, Sides, sides_of}
 use Rattle.word_steps_spec.specs.Ring.{polynomial}
-use Rattle.word_steps_spec.specs.Order.{Bounds, is_divisor, bounds_of, order_by_bounds, order_of, else_by}
+use Rattle.word_steps_spec.specs.Order.{is_divisor, bounds_of, order_of, else_by}
 use Rattle.word_steps_spec.specs.LowBits.{form_of, constant_of, mask_length}
 use Rattle.word_steps_spec.specs.Ranges.{Range, distance, as_of, below_range, range_of}
-use Rattle.word_steps_spec.specs.Spans.{Span, all_words, shorter, bounds_span, unsigned_bounds, Interval, as_integers, times_coefficient, monomial_interval, polynomial_interval, atom_interval, polynomial_span, sign_extended_span, quotient_span, both_spans, shifted_span, remainder_span, operator_span, cut, cut_by, cut_by_facts, STEPS, span_within, span_of, Kept, kept_low, kept_high, kept_under, kept_of, fits_signed_bits, fits_bits, fits_in, is_kept, same_by_fit, only_word, equality_by_span, unsigned_of, order_by_span, decided_by_fit}
-use Rattle.word_steps_laws.proofs.Congruence.{IsCongruent, congruent_same, congruent_sym, congruent_then, congruent_plus, congruent_mod, congruent_equal}
+use Rattle.word_steps_spec.specs.Spans.{Span, all_words, shorter, bounds_span, unsigned_bounds, as_integers, times_coefficient, monomial_interval, polynomial_interval, atom_interval, polynomial_span, sign_extended_span, quotient_span, both_spans, shifted_span, remainder_span, operator_span, cut_by, cut_by_facts, STEPS, span_within, span_of, Kept, kept_low, kept_high, kept_of, fits_signed_bits, fits_bits, fits_in, is_kept, same_by_fit, only_word, equality_by_span, unsigned_of, order_by_span, decided_by_fit}
+use Rattle.word_steps_laws.proofs.Congruence.{IsCongruent, congruent_same, congruent_then, congruent_mod, congruent_equal}
 use Rattle.word_steps_laws.proofs.Atoms.{IsAtom, AreAtoms, HasAtoms}
 use Rattle.word_steps_laws.proofs.Sorts.{bool_sort, sort_bool}
 use Rattle.word_steps_laws.proofs.CommHolds.{either_test, word_made}
 use Rattle.word_steps_laws.proofs.BitsHold.{number_below, number_is_known, choice_of}
 use Rattle.word_steps_laws.proofs.RingHolds.{polynomial_is}
 use Rattle.word_steps_laws.proofs.RingSound.{words_are, sides_are, not_equal}
-use Rattle.word_steps_laws.proofs.BitsSound.{number_value, equality_value}
-use Rattle.word_steps_laws.proofs.BoundsHold.{IsWithin, bounds_are, positive_divisor, IsOrder, order_is, order_value, order_decided, else_by_sound}
+use Rattle.word_steps_laws.proofs.BitsSound.{equality_value}
+use Rattle.word_steps_laws.proofs.BoundsHold.{IsWithin, bounds_are, positive_divisor, order_is, order_value, order_decided, else_by_sound}
 use Rattle.word_steps_laws.proofs.LowBitsHold.{form_sum, word_low}
 use Rattle.word_steps_laws.proofs.Distances.{mod_least, distance_sum, distance_is}
 use Rattle.word_steps_laws.proofs.RangesHold.{as_of_is, IsKnownRange, fact_range}
 use Rattle.word_steps_laws.proofs.QuotientNumbers.{moved_up_low}
-use Rattle.word_steps_laws.proofs.SpanNumbers.{IsIn, IsBetween, half_power, signed_back, in_all, in_capped, in_shorter, in_bounds, unsigned_within, integers_in, span_in, between_same, sum_in, coefficient_in, product_in, in_first, in_second, in_cut, in_quotient, fitting, in_sign_extended}
+use Rattle.word_steps_laws.proofs.SpanNumbers.{IsIn, IsBetween, signed_back, in_all, in_shorter, in_bounds, unsigned_within, integers_in, span_in, between_same, sum_in, coefficient_in, product_in, in_first, in_second, in_cut, in_quotient, fitting, in_sign_extended}
 
 bits_some : (w : Width) → 0 < bits w
 bits_some W8 = omega arith

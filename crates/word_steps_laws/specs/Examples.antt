@@ -1,13 +1,15 @@
 -- Blocks of word steps, and pairs of terms for the rules, worked by hand.
-use Rattle.std.specs.Prelude.{◌≡◌, ℕ, ◌*◌, ◌==◌, Bool, true, false, if◌then◌else◌, List, [], ◌∷◌, Option, Some}
+use Rattle.std.specs.Prelude.{◌≡◌, ℕ, ◌*◌, ◌==◌, Bool, true, false, if◌then◌else◌, List, [], ◌∷◌, replicate, Option, Some, None}
 use Rattle.term_core_spec.specs.declared.Width.TheVariants.{W8, W16, W32, W64}
 use Rattle.term_core_spec.specs.declared.Sort.TheVariants.{Truth, Word}
 use Rattle.term_core_spec.specs.declared.Atom.{Atom}
+use Rattle.term_core_spec.specs.declared.Atom.TheVariants as atom
 use Rattle.term_core_spec.specs.declared.Family.TheVariants.{Register, IsSet}
 use Rattle.term_core_spec.specs.declared.BinaryOperator.TheVariants as binary
+use Rattle.term_core_spec.specs.declared.WordOperator.TheVariants as word
 use Rattle.term_core_spec.specs.Term.{Term, truth, constant, open_term, not_term, and_term, or_term, choose, complement, zero_extend, sign_extend, low, byte, equal, less, add, subtract, multiply, bit_and, bit_or, bit_xor, shift_left, shift_right, shift_right_signed, divide, remainder, join_four}
-use Rattle.word_steps_spec.specs.Numbers.{Two, Fact}
-use Rattle.word_steps_spec.specs.Lines.{MergeRule, Same, Ring, DecisionRule, RingOf, Next, Argument, Parts, Renew, RenewAll, MergeBy, DecideBy, Keep, Case, Block, merges_by, decided_by, goals_after}
+use Rattle.word_steps_spec.specs.Numbers.{Alone, Two, Fact}
+use Rattle.word_steps_spec.specs.Lines.{Line, MergeRule, Same, Ring, DecisionRule, RingOf, Next, Argument, Parts, Renew, RenewAll, MergeBy, DecideBy, Keep, Case, Block, merges_by, decided_by, goals_after}
 use Rattle.word_steps_spec.specs.Zones.{says_zone}
 
 abbrev pub register : ℕ → Term
@@ -90,6 +92,36 @@ false_block = record {
 abbrev pub Leaves : Term → Block → List Term → Type 0
 Leaves t block goals = goals_after [] t block ≡ Some goals
 
+-- ---- blocks that are refused
+
+abbrev pub keeps : Fact → List Line → Block
+keeps f lines = record { lines = lines; end = Keep (record { fact = f; as_made = false } ∷ []) }
+
+-- a merge of two sorts, a fact that is none, a number that isn't there, a fact before it is one, a new variable, a sum of a word and a
+-- truth value, all numbers renewed once too often; and a fact to be kept that is none
+abbrev pub no_blocks : List Block
+no_blocks =
+    keeps (is_false 9) (MergeBy Ring 1 3 [] ∷ [])
+    ∷ keeps (is_false 9) (Argument (is_true 4) 1 ∷ [])
+    ∷ keeps (is_false 9) (Renew 10 ∷ [])
+    ∷ keeps (is_false 9) (MergeBy Same 1 2 (record { fact = is_true 3; as_made = true } ∷ []) ∷ [])
+    ∷ keeps (is_false 9) (Next (Alone (atom.Open (record { family = Register; index = 1; instance = 0; sort = Word W32 }))) ∷ [])
+    ∷ keeps (is_false 9) (Next (Two (binary.Word word.Add) 1 3) ∷ [])
+    ∷ keeps (is_false 9) (replicate 17 RenewAll)
+    ∷ keeps (is_true 9) []
+    ∷ []
+
+abbrev pub AreRefused : Term → List Block → Type 0
+AreRefused t [] = Unit {0}
+AreRefused t (block ∷ rest) = (goals_after [] t block ≡ None) × AreRefused t rest
+
+-- what holds in one case is no fact in the other: the flag where it is false, and its opposite where it is true
+abbrev pub in_false_case : Block
+in_false_case = keeps (is_true 1) (Argument (is_false 7) 1 ∷ Parts (is_true 6) ∷ Parts (is_true 3) ∷ [])
+
+abbrev pub in_true_case : Block
+in_true_case = keeps (is_true 3) (Argument (is_false 7) 1 ∷ Parts (is_true 6) ∷ [])
+
 -- ---- rules on pairs of terms
 
 pub record Pair : Type 0 where
@@ -114,8 +146,8 @@ y = register 2
 abbrev pub number : ℕ → Term
 number n = constant W32 n
 
--- `ring`: products turned round and multiplied out, `bnot`, shifts, the top bit, remainders, low parts, and `eq` of opposite
--- differences
+-- `ring`: products turned round and multiplied out, `bnot`, shifts, the top bit, remainders, low parts, `eq` of opposite
+-- differences, and a coefficient that is 0 modulo 2^32
 abbrev pub alike : List Pair
 alike =
     multiply (add x y) (subtract x y) ~ subtract (multiply x x) (multiply y y)
@@ -125,6 +157,7 @@ alike =
     ∷ add (remainder x y) (multiply y (divide x y)) ~ x
     ∷ low W8 (add x y) ~ add (byte 0 y) (low W8 x)
     ∷ equal x (add y (number 7)) ~ equal (subtract y x) (number 4294967289)
+    ∷ multiply (multiply x (number 2147483648)) (number 2) ~ number 0
     ∷ []
 
 -- near misses: another coefficient, a shift by a word, another bit, another divisor, another byte, another constant
@@ -139,6 +172,7 @@ unlike =
     ∷ low W8 (add x y) ~ add (byte 1 y) (low W8 x)
     ∷ equal x (add y (number 7)) ~ equal (subtract y x) (number 7)
     ∷ low W16 x ~ x
+    ∷ multiply (multiply x (number 1073741824)) (number 2) ~ number 0
     ∷ []
 
 abbrev pub z : Term

@@ -24,6 +24,8 @@ ghost use Rattle.word_steps_laws.specs.Examples.{lifted, not_lifted, fitting, no
 ghost use Rattle.word_steps_laws.specs.Examples.{fit_below, fit_apart, only_zero, fit_unknown};
 ghost use Rattle.word_steps_laws.specs.Examples.{split_goal, split_block, case_goal};
 ghost use Rattle.word_steps_laws.specs.Examples.{true_block, false_block};
+ghost use Rattle.word_steps_laws.specs.Examples.{AreRefused, no_blocks};
+ghost use Rattle.word_steps_laws.specs.Examples.{in_false_case, in_true_case};
 
 /// Where x is 5, x + y - y is 5: nothing is left but `true`.
 pub fn a_block_proves_a_goal()
@@ -35,6 +37,13 @@ pub fn a_block_takes_a_goal_apart()
     ensures cases { Leaves split_goal split_block (case_goal true ∷ case_goal false ∷ []) }
     ensures first { Leaves (case_goal true) true_block (truth true ∷ []) }
     ensures second { Leaves (case_goal false) false_block (truth true ∷ []) }
+{}
+
+/// Blocks with a line that isn't allowed, and facts of one case that are kept in the other.
+pub fn blocks_are_refused()
+    ensures lines { AreRefused goal no_blocks }
+    ensures flag { AreRefused (case_goal false) (in_false_case ∷ []) }
+    ensures opposite { AreRefused (case_goal true) (in_true_case ∷ []) }
 {}
 
 /// Words with one polynomial, and equalities with one difference.

@@ -4,4 +4,4 @@ use Rattle.word_steps_laws.proofs.examples.words_have_one_polynomial.Goals as go
 
 pub returns : goal.returns
 unfolding blocks_compute
-returns c = (refl, (refl, (refl, (refl, (refl, (refl, (refl, tt)))))))
+returns c = (refl, (refl, (refl, (refl, (refl, (refl, (refl, (refl, tt))))))))
