@@ -35,6 +35,8 @@ pub(crate) struct Teller<W: Write + Drop> {
     alloc: Global,
     /// Where it is shown, if anywhere.
     terminal: Option<W>,
+    /// Whether a line is shown now.
+    is_shown: bool,
     /// Whether notes are kept.
     keeps: bool,
     told: Vec<Told>,
@@ -48,6 +50,7 @@ impl<W: Write + Drop> Teller<W> {
         Teller {
             alloc,
             terminal,
+            is_shown: false,
             keeps,
             told: Vec::new(alloc),
             failed: false,
@@ -65,6 +68,7 @@ impl<W: Write + Drop> Teller<W> {
     /// Shows a line in place of the last. Where that fails, nothing is shown from then on.
     fn show(&mut self, name: &[u8], done: usize, all: usize) {
         let alloc = self.alloc;
+        self.is_shown = true;
         if let Some(terminal) = &mut self.terminal {
             if put_line(alloc, terminal, name, done, all).is_err() {
                 self.terminal = None;
@@ -72,8 +76,12 @@ impl<W: Write + Drop> Teller<W> {
         }
     }
 
-    /// Clears the line that is shown.
+    /// Clears the line that is shown, if one is: what others wrote to the terminal stays.
     pub(crate) fn clear(&mut self) {
+        if !self.is_shown {
+            return;
+        }
+        self.is_shown = false;
         if let Some(terminal) = &mut self.terminal {
             if terminal.write_all(CLEAR).is_err() {
                 self.terminal = None;
