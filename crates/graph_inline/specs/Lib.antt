@@ -1,0 +1,5 @@
+pub mod Taken
+pub mod Marks
+pub mod Moved
+pub mod Outcome
+pub mod Filled
