@@ -15,12 +15,12 @@ and the program `tv_rows`, whose rows write the goals.
 Clause sets of goals of words are made by `terms.py`, which makes the clauses that `bit_blast` makes
 (`compare_clauses.py`). Of `sets` the answers must be the same, each log is checked by `clause_check`, and each model by
 the clauses. In `goals` the number of learnt clauses is the least limit at which the search closes the clauses; seconds
-are the processor's, the least of a few runs.
+are the least of a few runs. All seconds are user time of the processor.
 
-A goal of the suite is an obligation of a function of functions.txt as gcc or clang compiled it, of which minisat without
-preprocessing needs a thousand conflicts or more: easier ones close in a tenth of a second. Each set of clauses is there once, of a function at most so many. The
-functions are in two halves, by their names: constants of the search are chosen on the goals of the first half, `train`,
-and the figures that count are those of the second one, `held`.
+A goal of the suite is an obligation of a function of functions.txt as gcc or clang compiled it, for which minisat
+without preprocessing needs a thousand conflicts or more: easier ones close in a tenth of a second. Each set of clauses
+is there once, of a function at most six. The functions are in two halves, by their names: constants of the search are
+chosen on the goals of the first half, `train`, and the figures that count are those of the second one, `held`.
 """
 
 import hashlib
@@ -50,11 +50,11 @@ SLOW = 5
 
 
 def run(words, **more):
-    """What a program writes, and its processor seconds."""
+    """What a program writes, and its user seconds."""
     before = resource.getrusage(resource.RUSAGE_CHILDREN)
     ran = subprocess.run(words, capture_output=True, text=True, **more)
     after = resource.getrusage(resource.RUSAGE_CHILDREN)
-    return ran, after.ru_utime + after.ru_stime - before.ru_utime - before.ru_stime
+    return ran, after.ru_utime - before.ru_utime
 
 
 def counted(text, name):
@@ -67,7 +67,7 @@ def counted(text, name):
 
 
 def other(solver, count, rows):
-    """Whether another solver finds a model, or None after its time, its conflicts, its seconds and its assignments."""
+    """Whether another solver finds a model (None: its time ended), its conflicts, its seconds and its assignments."""
     with tempfile.TemporaryDirectory() as folder:
         path = Path(folder, "goal.cnf")
         path.write_text(f"p cnf {count} {len(rows)}\n{written(rows)}")
@@ -426,16 +426,25 @@ def quotients(name, pairs, of):
         print(f"{name}: {statistics.median(found):.2f} in the median of {len(found)}")
 
 
+def is_soon(one):
+    return one.closed and one.seconds <= PATIENCE
+
+
+def changed(pairs, is_done):
+    """How many goals the second search of each pair closes and the first one doesn't, and the other way round."""
+    lost = sum(is_done(b) and not is_done(a) for a, b in pairs)
+    return f"{lost} lost, {sum(is_done(a) and not is_done(b) for a, b in pairs)} gained"
+
+
 def summed_up(half, goals_):
     """What the goals of a half say: `goals_` has what each search took of each goal, by the search's name."""
     print(f"\n{half}: {len(goals_)} goals")
     for name in goals_[0]:
         found = [goal[name] for goal in goals_]
-        soon = sum(one.closed and one.seconds <= PATIENCE for one in found)
-        print(f"{name}: {sum(one.closed for one in found)} closed, {soon} within {PATIENCE} s")
+        print(f"{name}: {sum(one.closed for one in found)} closed, {sum(map(is_soon, found))} within {PATIENCE} s")
     for name in list(goals_[0])[1:]:
         pairs = [(goal["here"], goal[name]) for goal in goals_]
-        print(f"beside {name}: {sum(b.closed and not a.closed for a, b in pairs)} lost, {sum(a.closed and not b.closed for a, b in pairs)} gained")
+        print(f"beside {name}: {changed(pairs, lambda one: one.closed)}; within {PATIENCE} s {changed(pairs, is_soon)}")
         quotients("  learnt", pairs, lambda one: one.learnt)
         quotients("  assignments", pairs, lambda one: one.assignments)
         quotients("  seconds", pairs, lambda one: max(one.seconds, 0.01))
