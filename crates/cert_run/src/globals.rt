@@ -1,6 +1,7 @@
 //! Where the globals of an executable are.
 
 ghost use Rattle.std.specs.Prelude.{◌≡◌, ◌==◌, ℕ, List, ◌+◌, [], IfOk, OnOk, Some, slice_get};
+ghost use Rattle.elf_read_spec.specs.Image.{object_named};
 ghost use Rattle.elf_read.specs.Values.{symbol_of};
 ghost use Rattle.c_run_value.specs.Settings.{address_in};
 ghost use Rattle.validity_spec.specs.Claim.{globals_of};
@@ -19,18 +20,28 @@ fn is_object(symbol: &Symbol<'_>) -> bool
     symbol.kind == STT_OBJECT
 }
 
-/// Adds the global of an OBJECT symbol's name, where all of that name have one value.
+/// The values of the globals of the name of a symbol, which is at this index.
+fn values_at(image: &Image<'_>, index: usize, symbol: &Symbol<'_>) -> SymbolValues
+    requires { slice_get image.now.symbols index ≡ Some (symbol_of symbol.now) }
+    ensures { result ≡ object_named image.now symbol.now.name.now }
+{
+    image.object_at(index).unwrap_or(SymbolValues::Absent)
+}
+
+/// Adds the global of the name of an OBJECT symbol, which is at this index, where all of that name
+/// have one value.
 fn add_object<'a>(
     globals: &mut Vec<Placed<'a>>,
     image: &Image<'a>,
+    index: usize,
     symbol: &Symbol<'a>,
 ) -> Result<(), AllocError>
-    requires { symbol.now.kind ≡ STT_OBJECT }
-    ensures { (n : ℕ) → slice_get image.now.symbols n ≡ Some (symbol_of symbol.now)
-        → ArePlaced image.now n globals.old.items
-        → OnOk result (ArePlaced image.now (n + 1) globals.new.items) }
+    requires kind { symbol.now.kind ≡ STT_OBJECT }
+    requires place { slice_get image.now.symbols index ≡ Some (symbol_of symbol.now) }
+    ensures { ArePlaced image.now index globals.old.items
+        → OnOk result (ArePlaced image.now (index + 1) globals.new.items) }
 {
-    match image.object(symbol.name) {
+    match values_at(image, index, symbol) {
         SymbolValues::One(address) => {
             let name = symbol.name;
             attempt!(globals.push(Placed { name, address }), AllocError);
@@ -41,19 +52,20 @@ fn add_object<'a>(
     }
 }
 
-/// Adds the global of a symbol's name, where it is an OBJECT symbol and all of that name have one
-/// value.
+/// Adds the global of the name of a symbol, which is at this index, where it is an OBJECT symbol
+/// and all of that name have one value.
 fn add_global<'a>(
     globals: &mut Vec<Placed<'a>>,
     image: &Image<'a>,
+    index: usize,
     symbol: &Symbol<'a>,
 ) -> Result<(), AllocError>
-    ensures { (n : ℕ) → slice_get image.now.symbols n ≡ Some (symbol_of symbol.now)
-        → ArePlaced image.now n globals.old.items
-        → OnOk result (ArePlaced image.now (n + 1) globals.new.items) }
+    requires { slice_get image.now.symbols index ≡ Some (symbol_of symbol.now) }
+    ensures { ArePlaced image.now index globals.old.items
+        → OnOk result (ArePlaced image.now (index + 1) globals.new.items) }
 {
     if is_object(symbol) {
-        add_object(globals, image, symbol)
+        add_object(globals, image, index, symbol)
     } else {
         Ok(())
     }
@@ -67,7 +79,7 @@ fn add_globals<'a>(globals: &mut Vec<Placed<'a>>, image: &Image<'a>) -> Result<(
 {
     for index in 0..usize::MAX {
         match image.symbol(index) {
-            Some(symbol) => attempt!(add_global(globals, image, symbol)),
+            Some(symbol) => attempt!(add_global(globals, image, index, symbol)),
             None => return Ok(()),
         }
     }

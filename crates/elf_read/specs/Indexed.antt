@@ -7,8 +7,7 @@ use Rattle.elf_read.specs.declared.loaded.Image.TheInside.{Inside}
 use Rattle.elf_read.specs.Values.{segment_of, symbol_of}
 use Rattle.elf_read.specs.Fixed.{AreFixed}
 use Rattle.elf_read.specs.Extents.{AreExtents}
-use Rattle.elf_read.specs.NameTree.{AreNamed}
-use Rattle.elf_read_spec.specs.declared.fields.TheConstants.{STT_FUNC, STT_OBJECT}
+use Rattle.elf_read.specs.Lookups.{AreLookups}
 
 abbrev pub image_view : Inside → spec.Image
 image_view a = record { segments = map segment_of a.segments.items; symbols = map symbol_of a.symbols.items }
@@ -16,7 +15,6 @@ image_view a = record { segments = map segment_of a.segments.items; symbols = ma
 pub record IsIndexed (a : Inside) : Type 0 where
   pub fixed : AreFixed a.segments.items a.fixed.items
   pub extents : AreExtents a.fixed.items a.extents.items
-  pub functions : AreNamed a.named.tree a.symbols.items STT_FUNC a.named.functions 0
-  pub objects : AreNamed a.named.tree a.symbols.items STT_OBJECT a.named.objects 0
+  pub named : AreLookups a.named a.symbols.items
   pub sizes : (entry : ℕ) → get nat_cmp a.sizes entry ≡ spec.size_among (map symbol_of a.symbols.items) entry
   pub global_pointer : a.global_pointer ≡ spec.global_pointer (image_view a)

@@ -10,3 +10,4 @@ pub mod Separate
 pub mod Fixed
 pub mod Extents
 pub mod NameTree
+pub mod Lookups

@@ -1,6 +1,6 @@
 -- The names of a string table as a tree. A node is an offset of the table and stands for the name there; 0 is the empty
 -- name. A name is read from its end: in whole blocks, then what is left before them.
-use Rattle.std.specs.Prelude.{◌≡◌, ◌==◌, ◌/◌, ◌%◌, ◌<◌, ◌≤◌, ◌++◌, ◌⊎◌, ℕ, zero, suc, List, length, take, drop, slice_index, slice_index_or, Option, Some, unwrap_or, map, filter, if◌then◌else◌}
+use Rattle.std.specs.Prelude.{◌≡◌, ◌==◌, ◌/◌, ◌%◌, ◌<◌, ◌≤◌, ◌++◌, ◌⊎◌, ℕ, zero, suc, List, [], ◌∷◌, length, take, drop, slice_index, slice_index_or, Option, None, Some, unwrap_or, map, filter, if◌then◌else◌}
 use Rattle.std.specs.Borrow.{Bor}
 use Rattle.std.specs.Ordering.{nat_cmp}
 use Rattle.std.specs.Cmp.Lexicographic.{slice_cmp}
@@ -89,21 +89,33 @@ pub record AreNumbered (tree : Tree) (symbols : List Symbol) (numbers : List ℕ
   pub each : (i : ℕ) (d : Symbol) → i < length numbers → node_of tree (slice_index_or symbols i d).name.now ≡ Some (slice_index numbers i)
   pub once : (name other : List ℕ) (node : ℕ) → node_of tree name ≡ Some node → node_of tree other ≡ Some node → name ≡ other
 
--- the values of a name, given those of each node
-abbrev pub looked_up : Tree → BTreeMap ℕ SymbolValues → (name : List ℕ) → SymbolValues
-looked_up tree values name = unwrap_or (option_and_then (λ node. get nat_cmp values node) (node_of tree name)) Absent
+-- what is known of a name, given what is known of each node
+abbrev pub looked_up : {V : Type 0} → Tree → BTreeMap ℕ V → (name : List ℕ) → Option V
+looked_up tree known name = option_and_then (λ node. get nat_cmp known node) (node_of tree name)
 
--- the values of the symbols of a type and a name, of those from an index on
-abbrev pub named_among : List Symbol → (kind : ℕ) (name : List ℕ) (from : ℕ) → SymbolValues
-named_among symbols kind name from =
-    spec.named_of (map (λ s. s.value) (filter (spec.has_name kind name) (map symbol_of (drop from symbols))))
+-- what is known of symbols: of none nothing, and of more what a step makes of the first and of what is known of the others
+abbrev pub collected : {V : Type 0} → (step : spec.Symbol → Option V → V) → List spec.Symbol → Option V
+collected step [] = None
+collected step (symbol ∷ symbols) = Some (step symbol (collected step symbols))
 
--- these are the values of each name
-abbrev pub AreNamed : Tree → List Symbol → (kind : ℕ) → BTreeMap ℕ SymbolValues → (from : ℕ) → Type 0
-AreNamed tree symbols kind values from = (name : List ℕ) → looked_up tree values name ≡ named_among symbols kind name from
+-- the same of the symbols of a type and a name, of those from an index on
+abbrev pub known_among : {V : Type 0} → (step : spec.Symbol → Option V → V) → List Symbol → (kind : ℕ) (name : List ℕ) (from : ℕ) → Option V
+known_among step symbols kind name from = collected step (filter (spec.has_name kind name) (map symbol_of (drop from symbols)))
+
+-- this is what is known of each name
+abbrev pub AreCollected : {V : Type 0} → Tree → List Symbol → (kind : ℕ) → (step : spec.Symbol → Option V → V) → BTreeMap ℕ V → (from : ℕ) → Type 0
+AreCollected tree symbols kind step known from = (name : List ℕ) → looked_up tree known name ≡ known_among step symbols kind name from
 
 -- the values of the symbols of a name, given the first symbol's value and those of all others
 abbrev pub with_first : ℕ → SymbolValues → SymbolValues
 with_first value Absent = One value
 with_first value (One other) = if other == value then One value else Two value other
 with_first value (Two first other) = if first == value then Two value other else Two value first
+
+-- with the value of one symbol more, at the start
+abbrev pub values_step : spec.Symbol → Option SymbolValues → SymbolValues
+values_step symbol later = with_first symbol.value (unwrap_or later Absent)
+
+-- the size of the first symbol
+abbrev pub size_step : spec.Symbol → Option ℕ → ℕ
+size_step symbol later = symbol.size

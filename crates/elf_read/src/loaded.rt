@@ -28,7 +28,7 @@ pub struct Image<'a> {
     fixed: Vec<Segment<'a>>,
     // The addresses of the runs of fixed bytes.
     extents: Vec<Extent>,
-    // The values of the symbols, by their names.
+    // The values and sizes of the symbols, by their names.
     named: Named<'a>,
     // The size of each function, by its entry.
     sizes: BTreeMap<u32, u32>,
@@ -51,6 +51,7 @@ impl<'a> Image<'a> {
     ghost use Rattle.elf_read.specs.Values.{segment_of, symbol_of, IsExtentAt};
     ghost use Rattle.elf_read.specs.Separate.{AreSeparate};
     ghost use Rattle.elf_read.specs.NameTree.{ArePlaced};
+    ghost use Rattle.elf_read_spec.specs.declared.fields.TheConstants.{STT_OBJECT};
     ghost use Rattle.elf_read_spec.specs.Runs.{AreRuns, bytes_from};
     ghost use Rattle.memory_spec.specs.Runs.{AreBytes};
     ghost use Rattle.memory_spec.specs.Viewed.{runs_of};
@@ -122,6 +123,22 @@ impl<'a> Image<'a> {
         ensures { result ≡ spec.object_named self.now name.now }
     {
         self.named.object(name)
+    }
+
+    /// The size in bytes of the first global of a name.
+    pub fn object_size(&self, name: &[u8]) -> Option<u32>
+        ensures { result ≡ spec.first_of (map (λ (s : spec.Symbol). s.size)
+            (filter (spec.has_name STT_OBJECT name.now) self.now.symbols)) }
+    {
+        self.named.object_size(name)
+    }
+
+    /// The globals of the name of the symbol at an index. The name isn't read.
+    pub fn object_at(&self, i: usize) -> Option<SymbolValues>
+        ensures { result ≡ option_map (λ (s : spec.Symbol). spec.object_named self.now s.name)
+            (slice_get self.now.symbols i) }
+    {
+        self.named.object_at(i)
     }
 
     /// The value of the first symbol `__global_pointer$`, of any type (RISC-V psABI, global

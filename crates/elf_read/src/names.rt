@@ -1,8 +1,8 @@
-//! The nodes of the names of symbols, and the values of these.
+//! The nodes of the names of symbols, and the values and sizes of these.
 
 ghost use Rattle.std.specs.Prelude.{◌≡◌, length, IfOk};
-ghost use Rattle.elf_read.specs.NameTree.{ArePlaced, AreNumbered, AreNamed};
-ghost use Rattle.elf_read.specs.NameTree.{with_first as values_with};
+ghost use Rattle.elf_read.specs.NameTree.{ArePlaced, AreCollected, AreNumbered};
+ghost use Rattle.elf_read.specs.NameTree.{size_step, values_step, with_first as values_with};
 
 use crate::Symbol;
 use crate::tree::{Tree, add_blocks, add_name};
@@ -52,7 +52,8 @@ impl<'a> Names<'a> {
     ) -> Result<BTreeMap<usize, SymbolValues>, AllocError>
         requires nodes { AreNumbered self.now.tree symbols.now self.now.numbers.items }
         requires long { length self.now.numbers.items ≡ length symbols.now }
-        ensures { IfOk result (λ values. AreNamed self.now.tree symbols.now kind values 0) }
+        ensures { IfOk result (λ values. AreCollected self.now.tree symbols.now kind values_step
+            values 0) }
     {
         let mut values = BTreeMap::new(alloc);
         let mut at = symbols.len();
@@ -65,6 +66,30 @@ impl<'a> Names<'a> {
             }
         }
         Ok(values)
+    }
+
+    /// The sizes of the first symbols of a type and of each name, by the nodes of their names; from
+    /// the last symbol to the first.
+    pub(crate) fn sizes(
+        &self,
+        alloc: Global,
+        symbols: &[Symbol],
+        kind: u8,
+    ) -> Result<BTreeMap<usize, u32>, AllocError>
+        requires nodes { AreNumbered self.now.tree symbols.now self.now.numbers.items }
+        requires long { length self.now.numbers.items ≡ length symbols.now }
+        ensures { IfOk result (λ sizes. AreCollected self.now.tree symbols.now kind size_step
+            sizes 0) }
+    {
+        let mut sizes = BTreeMap::new(alloc);
+        let mut at = symbols.len();
+        while at > 0 {
+            at -= 1;
+            if symbols[at].kind == kind {
+                sizes.insert(self.numbers[at], symbols[at].size)?;
+            }
+        }
+        Ok(sizes)
     }
 }
 

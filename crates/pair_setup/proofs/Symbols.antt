@@ -1,13 +1,9 @@
--- The first OBJECT symbol of a name, and whether it has a size of a global.
-use Rattle.std.proofs.Common.{◌≡◌, ◌∙◌, ℕ, zero, suc, ◌+◌, ◌<◌, ◌≤◌, List, [], ◌∷◌, length, map, drop, min, refl, sym, ap, inl, inr, arith, true≢false}
-use Rattle.std.specs.Prelude.{◌↔◌, ◌⊎◌, Bool, true, false, not, IsTrue, filter, Option, Some, None, slice_get}
-use Rattle.std.proofs.lemmas.List.{drop_more, drop_all}
-use Rattle.std.proofs.lemmas.Bool.{cases_lt}
-use Rattle.std.proofs.lemmas.Option.{slice_get_within, get_or_from_slice_get}
-use Rattle.elf_read_spec.specs.declared.fields.TheConstants.{STT_OBJECT}
+-- Whether the first OBJECT symbol of a name has a size of a global.
+use Rattle.std.proofs.Common.{◌≡◌, ◌∙◌, ℕ, ◌<◌, List, min, refl, sym, ap, arith, true≢false}
+use Rattle.std.specs.Prelude.{◌↔◌, Bool, true, false, not, IsTrue, Option, Some, None}
 use Rattle.elf_read_spec.specs.declared.SymbolValues.{SymbolValues}
 use Rattle.elf_read_spec.specs.declared.SymbolValues.TheVariants.{One}
-use Rattle.elf_read_spec.specs.Image.{Image, Symbol, has_name, first_of, object_named}
+use Rattle.elf_read_spec.specs.Image.{Image, object_named}
 use Rattle.c_types_spec.specs.declared.TheConstants.{SIZE_LIMIT}
 use Rattle.c_types_spec.specs.Types.{CType, Void, Integer, Pointer, Array, Struct, Structs, is_open_array, size_of}
 use Rattle.c_types_spec.specs.Core.{GlobalSize}
@@ -18,40 +14,6 @@ use Rattle.c_types_layout.specs.Types.{outer_of}
 use Rattle.c_types_layout.specs.Structs.{capped}
 use Rattle.c_types.specs.Typed.{global_of}
 use Rattle.pair_setup_spec.specs.Faults.{object_size, HasSize, IsPlaced}
-
--- the size of the first of these symbols
-abbrev pub first_size : List ℕ → List Symbol → Option ℕ
-first_size name symbols = first_of (map (λ (s : Symbol). s.size) (filter (has_name STT_OBJECT name) symbols))
-
-module _ (name : List ℕ) (symbols : List Symbol) (i : ℕ) where
-  pub size-past : None ≡ slice_get symbols i → first_size name (drop i symbols) ≡ None
-  size-past none = at (cases_lt i (length symbols))
-    where
-      at : (i < length symbols) ⊎ (length symbols ≤ i) → first_size name (drop i symbols) ≡ None
-      at (inr past) = ap (first_size name) (drop_all i symbols past)
-      at (inl below) = absurd (never symbols i below none)
-        where
-          never : (list : List Symbol) (k : ℕ) → k < length list → None ≡ slice_get list k → ⊥
-          never [] k below e = omega (arith, below)
-          never (x ∷ list) zero below e = cc
-          never (x ∷ list) (suc k) below e = never list k (omega (arith, below)) e
-
-  size-at : (s : Symbol) → Some s ≡ slice_get symbols i → first_size name (drop i symbols) ≡ first_size name (s ∷ drop (i + 1) symbols)
-  size-at s is =
-      ap (first_size name)
-      (drop_more symbols i s (slice_get_within symbols i s (sym is)) ∙ ap (λ (x : Symbol). x ∷ drop (i + 1) symbols) (get_or_from_slice_get symbols i s s (sym is)))
-
-  pub size-here : (s : Symbol) → Some s ≡ slice_get symbols i → has_name STT_OBJECT name s ≡ true → first_size name (drop i symbols) ≡ Some s.size
-  size-here s is passes = size-at s is ∙ first
-    where
-      first : first_size name (s ∷ drop (i + 1) symbols) ≡ Some s.size
-      first = rw passes refl
-
-  pub size-next : (s : Symbol) → Some s ≡ slice_get symbols i → has_name STT_OBJECT name s ≡ false → first_size name (drop i symbols) ≡ first_size name (drop (i + 1) symbols)
-  size-next s is fails = size-at s is ∙ first
-    where
-      first : first_size name (s ∷ drop (i + 1) symbols) ≡ first_size name (drop (i + 1) symbols)
-      first = rw fails refl
 
 -- ---- sizes
 

@@ -2,8 +2,6 @@
 
 ghost use Rattle.std.specs.Prelude.{◌≡◌, ◌↔◌, ℕ, [], Option, Some, IfOk, IsTrue, OnOk};
 ghost use Rattle.std.specs.Prelude.{option_map};
-ghost use Rattle.elf_read_spec.specs.Image.{has_name};
-ghost use Rattle.elf_read.specs.Values.{symbol_of};
 ghost use Rattle.c_types_layout.specs.Structs.{capped, structs_of};
 ghost use Rattle.c_types_layout.specs.Types.{type_of};
 ghost use Rattle.c_types_spec.specs.Types as types;
@@ -20,42 +18,16 @@ use c_types_layout::structs::size;
 use c_types_layout::types::{CType, Outer};
 use c_types_scope::meaning::Meaning;
 use c_types_spec::SIZE_LIMIT;
-use elf_read::{Image, Symbol, SymbolValues};
-use elf_read_spec::fields::STT_OBJECT;
+use elf_read::{Image, SymbolValues};
 use std::alloc::{AllocError, Global};
 
-/// Whether a symbol is an OBJECT symbol of a name.
-fn is_object(symbol: &Symbol<'_>, name: &[u8]) -> bool
-    ensures { result ≡ has_name STT_OBJECT name.now (symbol_of symbol.now) }
-{
-    symbol.kind == STT_OBJECT && symbol.name == name
-}
-
-/// The size of the first OBJECT symbol of a name.
-fn object_size(image: &Image<'_>, name: &[u8]) -> Result<Option<u32>, AllocError>
-    ensures { IfOk result (λ size. size ≡ spec.object_size image.now name.now) }
-{
-    for i in 0..usize::MAX {
-        match image.symbol(i) {
-            None => return Ok(None),
-            Some(symbol) => {
-                if is_object(symbol, name) {
-                    return Ok(Some(symbol.size));
-                }
-            }
-        }
-    }
-    Err(AllocError)
-}
-
 /// Whether the first OBJECT symbol of a name has a size in bytes.
-fn has_size(image: &Image<'_>, name: &[u8], size: u64) -> Result<bool, AllocError>
-    ensures { IfOk result (λ found. IsTrue found
-        ↔ (spec.object_size image.now name.now ≡ Some size)) }
+fn has_size(image: &Image<'_>, name: &[u8], size: u64) -> bool
+    ensures { IsTrue result ↔ (spec.object_size image.now name.now ≡ Some size) }
 {
-    match attempt!(object_size(image, name)) {
-        Some(found) => Ok(u64::from(found) == size),
-        None => Ok(false),
+    match image.object_size(name) {
+        Some(found) => u64::from(found) == size,
+        None => false,
     }
 }
 
@@ -72,7 +44,7 @@ fn is_sized(image: &Image<'_>, name: &[u8], size: Option<u64>) -> Result<bool, A
             if size >= SIZE_LIMIT {
                 return Err(AllocError);
             }
-            has_size(image, name, size)
+            Ok(has_size(image, name, size))
         }
     }
 }

@@ -2,11 +2,14 @@ use Rattle.std.proofs.Common.{sym}
 use Rattle.cert_run.proofs.Placing.{none_placed, all_placed}
 use Rattle.cert_run.proofs.globals.add_globals.Goals as goal
 
+pub add_global-requires : goal.add_global-requires
+add_global-requires c = sym c.in-Some.ensures
+
 pub loop-index-init : goal.loop-index-init
 loop-index-init c = none_placed c.args.image.now c.args.globals.now.items c.requires
 
 pub loop-index-preserved : goal.loop-index-preserved
-loop-index-preserved c = c.in-Ok-attempt.ensures c.loop-index.index (sym c.in-Some.ensures) c.loop-index.invariant
+loop-index-preserved c = c.in-Ok-attempt.ensures c.loop-index.invariant
 
 pub returns-in-None : goal.returns-in-None
 returns-in-None c = all_placed c.args.image.now c.loop-index.index c.loop-index.globals.items (sym c.in-None.ensures) c.loop-index.invariant

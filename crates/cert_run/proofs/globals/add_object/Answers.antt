@@ -7,17 +7,17 @@ use Rattle.cert_run.proofs.Placing.{nothing_added, one_placed, other_value}
 use Rattle.cert_run.proofs.globals.add_object.Goals as goal
 
 pub returns-in-Absent : goal.returns-in-Absent
-returns-in-Absent c = λ n there are.
-    nothing_added c.args.image.now n c.args.globals.now.items (symbol_of c.args.symbol.now) there
+returns-in-Absent c = λ are.
+    nothing_added c.args.image.now c.args.index c.args.globals.now.items (symbol_of c.args.symbol.now) c.requires.place
     (other_value c.args.image.now (symbol_of c.args.symbol.now) Absent (sym c.in-Absent.ensures) refl) are
 
 pub returns-in-Two : goal.returns-in-Two
-returns-in-Two c = λ n there are.
-    nothing_added c.args.image.now n c.args.globals.now.items (symbol_of c.args.symbol.now) there
+returns-in-Two c = λ are.
+    nothing_added c.args.image.now c.args.index c.args.globals.now.items (symbol_of c.args.symbol.now) c.requires.place
     (other_value c.args.image.now (symbol_of c.args.symbol.now) (Two c.in-Two.field-0 c.in-Two.field-1) (sym c.in-Two.ensures) refl) are
 
 pub returns-in-Ok-attempt : goal.returns-in-Ok-attempt
-returns-in-Ok-attempt c = λ n there are.
-    subst (λ (l : List Global). ArePlaced c.args.image.now (n + 1) l) (sym c.in-Ok-attempt.ensures.items)
-    (one_placed c.args.image.now n c.args.globals.now.items (record { name = c.args.symbol.now.name; address = c.in-One.address }) (symbol_of c.args.symbol.now) there
-    c.requires refl (sym c.in-One.ensures) are)
+returns-in-Ok-attempt c = λ are.
+    subst (λ (l : List Global). ArePlaced c.args.image.now (c.args.index + 1) l) (sym c.in-Ok-attempt.ensures.items)
+    (one_placed c.args.image.now c.args.index c.args.globals.now.items (record { name = c.args.symbol.now.name; address = c.in-One.address }) (symbol_of c.args.symbol.now)
+    c.requires.place c.requires.kind refl (sym c.in-One.ensures) are)

@@ -1,7 +1,13 @@
-use Rattle.std.proofs.Common.{◌∙◌}
-use Rattle.elf_read_spec.specs.Image.{function_named}
+use Rattle.std.proofs.Common.{◌∙◌, ap, filter, map, unwrap_or}
+use Rattle.elf_read_spec.specs.declared.SymbolValues.TheVariants.{Absent}
+use Rattle.elf_read_spec.specs.Image.{function_named, has_name}
+use Rattle.elf_read.specs.Values.{symbol_of}
+use Rattle.elf_read.proofs.NamedSteps.{named_known}
 use Rattle.elf_read.proofs.loaded.Image.function.Goals as goal
 
 pub returns : goal.returns
 unfolding function_named
-returns c = rw (← c.self.view_is) (c.function.ensures ∙ c.self.invariant.functions c.args.name.now)
+returns c =
+    rw (← c.self.view_is)
+    (c.function.ensures ∙ ap (λ o. unwrap_or o Absent) (c.self.invariant.named.functions c.args.name.now)
+    ∙ named_known (filter (has_name 2 c.args.name.now) (map symbol_of c.self.inside.symbols.items)))

@@ -6,6 +6,7 @@ use Rattle.elf_read.specs.declared.parts.Symbol.{Symbol}
 use Rattle.elf_read.specs.Values.{symbol_of}
 use Rattle.elf_read.specs.Fixed.{AreFixed}
 use Rattle.elf_read.specs.Extents.{AreExtents}
+use Rattle.elf_read.specs.Lookups.{AreLookups}
 use Rattle.elf_read.proofs.loaded.Image.new.Goals as goal
 
 pub invariant_of-result : goal.invariant_of-result
@@ -13,8 +14,7 @@ unfolding global_pointer
 invariant_of-result c = record {
   fixed = subst (λ xs. AreFixed xs c.in_ok-fixed.fixed.items) c.as_slice.ensures.value c.in_ok-fixed.ensures;
   extents = subst (λ xs. AreExtents xs c.in_ok-extents.extents.items) c.as_slice-2.ensures.value c.in_ok-extents.ensures;
-  functions = rw c.as_slice-3.ensures.value at c.in_ok-named.ensures.functions;
-  objects = rw c.as_slice-3.ensures.value at c.in_ok-named.ensures.objects;
+  named = subst (λ xs. AreLookups c.in_ok-named.named xs) c.as_slice-3.ensures.value c.in_ok-named.ensures;
   sizes =
       subst (λ (xs : List Symbol). (entry : ℕ) → get nat_cmp c.in_ok-sizes.sizes entry ≡ size_among (map symbol_of xs) entry)
       c.as_slice-4.ensures.value c.in_ok-sizes.ensures;
