@@ -46,6 +46,7 @@ use Rattle.sim_rules_spec.specs.Calling.{word, at_entry, global_pointer_lines, o
 use Rattle.sim_rules_spec.specs.Calls.{CallPair, BeginsWell, begun_at, callee_lines, machine_register}
 use Rattle.sim_rules_spec.specs.Crossing.{AreCallsAt, CalleesAgree, GivesBack, begins, pair_of}
 use Rattle.sim_rules_spec.specs.Systems.{Relation, frame_over, hold_over, entry_holds, IsBinaryFine, IsSourceFine}
+use Rattle.sim_rules_spec.proofs.Start.{holds_fixed}
 use Rattle.sim_rules_spec.proofs.Truths.{all_left, all_right, all_mapped, all_pass}
 use Rattle.agreement_laws.specs.Callers.{function_of, argument_lines, callee_of, frame_of, BindsCall}
 use Rattle.agreement_laws.specs.EntryFrame.{Pair, place_of, convention_of, run_of, entry_premises, result_term, widened, registers}
@@ -58,7 +59,7 @@ use Rattle.agreement_laws.proofs.Called.{IsGiven, never_fails, given_forth, give
 use Rattle.agreement_laws.proofs.Lines.{not_less, within, word_value, no_rest, not_below, equal_back, either_line, gp_is, zero_past, same_fixed}
 use Rattle.agreement_laws.proofs.MadeMemory.{made_memory}
 use Rattle.agreement_laws.proofs.Opening.{fact_value}
-use Rattle.agreement_laws.proofs.Pairs.{code, runs_are, typed_body, plain, keeps_fixed, body_there}
+use Rattle.agreement_laws.proofs.Pairs.{code, runs_are, typed_body, plain, fixed_below, keeps_fixed, body_there}
 use Rattle.agreement_laws.proofs.Premises.{IsCalled}
 use Rattle.agreement_laws.proofs.ReadBack.{open_value, line_value, zone_from_is}
 
@@ -692,6 +693,8 @@ module _ (q : Pair) (entry stack : ℕ) (body : Body) (zone : Zone) (known : Rel
             let among = any_contains calling.kept_registers k is_kept in
             given.kept k among ∙ sym (entries k) ∙ sym (begun_kept k among) ∙ begins_a.same k (not_one k among);
         memory = laid_value;
+        fixed = holds_fixed (fixed_byte q.image) (fixed_below p is) (d source_memory)
+            (λ i. ap (λ (v : Value). has_byte v i (bounded (fixed_byte q.image) i)) right.1 ∙ right_far i);
       },
     )
       where

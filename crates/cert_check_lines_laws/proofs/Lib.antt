@@ -1,3 +1,4 @@
 pub mod Logs
 pub mod Showing
 pub mod Stepping
+pub mod Accepting

@@ -39,7 +39,7 @@ module _ (p : Part) where
   JobShown (Close goal) = IsClosed p goal
   JobShown (InLog offset variables clauses left) = LogShown variables clauses left
 
-  JobsShown : List Job → Type 0
+  pub JobsShown : List Job → Type 0
   JobsShown [] = Unit {0}
   JobsShown (job ∷ jobs) = JobShown job × JobsShown jobs
 
@@ -86,7 +86,7 @@ module _ (p : Part) where
 
   -- ---- one line
 
-  before : (at : ℕ) (jobs next : List Job) (line : Line) → Passes p at jobs line next → JobsShown next → JobsShown jobs
+  pub before : (at : ℕ) (jobs next : List Job) (line : Line) → Passes p at jobs line next → JobsShown next → JobsShown jobs
   unfolding JobsShown
   before at js next line (leaf origin f jobs terms leaves) h =
       let closed = closed_first terms jobs h in
@@ -116,6 +116,15 @@ module _ (p : Part) where
   before at js next line (log goal jobs left small few) h = (with_log p.runs goal left small few h.0, h.1)
   before at js next line (step offset variables clauses left jobs one follows) h = (logs.one_step variables clauses left one follows h.0, h.1)
   before at js next line (last_step offset variables clauses jobs one follows empty) h = (logs.last_step variables clauses one follows empty, h)
+
+  -- of nothing that is expected there is nothing to show, and of one proof that
+  pub nothing_left : JobsShown []
+  unfolding JobsShown
+  nothing_left = tt
+
+  pub one_proof : (origin : Origin) (f : Frame) → JobsShown (Prove origin f ∷ []) → IsShown p origin f
+  unfolding JobsShown
+  one_proof origin f h = h.0
 
   -- ---- all lines
 

@@ -1,5 +1,6 @@
 //! What lines show that pass: each function's clause is one law, and its body is empty.
 
+ghost use Rattle.cert_check_lines_spec.specs.Parts.{AcceptedIsShown, PlainIsShown};
 ghost use Rattle.cert_check_lines_spec.specs.Shown.{ClosingPasses, PassedIsShown};
 
 /// Where the lines of a proof pass one after the other and leave nothing, the frame has a tree of
@@ -13,4 +14,15 @@ pub fn what_passes_is_shown()
 /// those after it.
 pub fn logs_that_close_pass()
     ensures { ClosingPasses }
+{}
+
+/// Where the lines of a certificate are accepted one after the other, the frames of the functions
+/// that have a part are shown, in the order of the parts, each with its calls inlined.
+pub fn what_is_accepted_is_shown()
+    ensures { AcceptedIsShown }
+{}
+
+/// Where none of the lines inlines a call, the frames are those of the functions themselves.
+pub fn plain_parts_are_shown()
+    ensures { PlainIsShown }
 {}

@@ -2,3 +2,4 @@ pub mod Sites
 pub mod Jobs
 pub mod LineRules
 pub mod Shown
+pub mod Parts

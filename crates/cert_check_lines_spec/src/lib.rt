@@ -1,5 +1,6 @@
-//! What each line inside a proof of a certificate asks and leaves, one line at a time: the rules
-//! Leaf, Case, Restrict, Split and Call, lines of relations, logs and their steps.
+//! What each line of a certificate asks and leaves, one line at a time: the rules Leaf, Case,
+//! Restrict, Split and Call, lines of relations, logs and their steps; and around them where parts
+//! begin, the calls that they inline, and the end (`specs/Parts.antt`).
 //!
 //! `specs/Sites.antt` has the nodes of points, `specs/Jobs.antt` what is expected inside a part,
 //! `specs/LineRules.antt` which lines pass, and the first rule or limit that another one breaks. No

@@ -25,9 +25,9 @@ use Rattle.proof_tree_spec.specs.Cuts.{both}
 use Rattle.proof_tree_spec.specs.Frames.{Frame}
 use Rattle.sim_rules_spec.specs.Points.{Convention, source_memory, is_binary, is_source, all_hold, same_byte, with_memory, bounded, source_zone}
 use Rattle.sim_rules_spec.specs.Systems.{relation, IsBinaryFine, IsSourceFine}
-use Rattle.sim_rules_spec.specs.Rules.{at_cut, terms_at, under, IsTrueWith, AreTrueWith}
+use Rattle.sim_rules_spec.specs.Rules.{at_cut, terms_at, IsTrueWith}
 use Rattle.sim_rules_spec.specs.Proper.{IsConvention, IsOpened, AreOwnBindings, IsOwnBinding}
-use Rattle.sim_rules_spec.specs.Calls.{CallPair, Callee, IsCallPair, unset_or, entered_terms, is_entry, binary_begins, source_begins, begins_well, returns_well, call_premises, callee_lines, AreOfCall, begun_binary, begun_at, BeginsWell}
+use Rattle.sim_rules_spec.specs.Calls.{CallPair, Callee, IsCallPair, unset_or, entered_terms, is_entry, binary_begins, source_begins, begins_well, call_premises, callee_lines, entry_term, begun_binary, begun_at, BeginsWell}
 use Rattle.sim_rules_spec.proofs.Truths.{IsTrue, all_pass, pass_all, all_left, all_right, all_mapped, all_true, from_under}
 use Rattle.sim_rules_spec.proofs.Sides.{joined, joined-sort, start_values, point_values}
 use Rattle.sim_rules_spec.proofs.Start.{holds_fixed, start_lines}
@@ -123,7 +123,7 @@ module _ (c : Convention) (convention : IsConvention c) (f : Frame) (before : Li
   -- ---- the callee's entry
 
   module _ (calls : CallPair) (callee : Callee) (is : IsCallPair calls)
-      (valid : IsTrueWith c (under (call_premises c f before) (begins_well c calls callee (at_cut c)))) (at : ℕ) where
+      (valid : IsTrueWith c (entry_term c f calls callee before)) (at : ℕ) where
     abbrev now : Assignment
     now = joined at x y
 
@@ -152,11 +152,9 @@ module _ (c : Convention) (convention : IsConvention c) (f : Frame) (before : Li
         (λ line h. sym (ap is_truth (value-substituted now terms line) ∙ ap (λ (b : Assignment). is_truth (value b line)) later) ∙ h)
         (with_memory c (callee_lines c callee)) each)
 
-pub callees_begin_well : (c : Convention) (f : Frame) (calls : CallPair) (callee : Callee) (before after : List Term) (terms : List Term)
-    (g m k n : ℕ) (x y : Assignment) → IsConvention c → IsCallPair calls → AreOfCall c f calls callee before after terms → AreTrueWith c terms
+pub callees_begin_well : (c : Convention) (f : Frame) (calls : CallPair) (callee : Callee) (before : List Term)
+    (g m k n : ℕ) (x y : Assignment) → IsConvention c → IsCallPair calls → IsTrueWith c (entry_term c f calls callee before)
     → IsRelated (both (all_hold f.entry) (relation c before)) (Running g m x []) (Running k n y [])
     → IsBinaryFine c f (Running g m x []) → IsSourceFine c f (Running k n y []) → BeginsWell c calls callee x y
-callees_begin_well c f calls callee before later terms g m k n x y convention is are valid related fine_x fine_y =
-    begun c convention f before g m k n x y related fine_x fine_y calls callee is
-    (All-head (IsTrueWith c) (under (call_premises c f before) (begins_well c calls callee (at_cut c)))
-    (under (call_premises c f before) (returns_well c calls callee (at_cut c) later) ∷ []) (subst (AreTrueWith c) are valid))
+callees_begin_well c f calls callee before g m k n x y convention is valid related fine_x fine_y =
+    begun c convention f before g m k n x y related fine_x fine_y calls callee is valid

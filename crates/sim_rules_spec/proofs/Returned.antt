@@ -24,9 +24,9 @@ use Rattle.proof_tree_spec.specs.Frames.{Frame}
 use Rattle.sim_rules_spec.specs.Points.{Convention, binary_memory, source_memory, zone_memory, zone_low, zone_high, address, is_binary, is_source, of_sides, other_values, all_hold, with_memory}
 use Rattle.sim_rules_spec.specs.Systems.{relation, IsBinaryFine, IsSourceFine}
 use Rattle.sim_rules_spec.specs.Calling.{word, register}
-use Rattle.sim_rules_spec.specs.Rules.{Opening, at_cut, terms_at, terms_at_start, under, IsTrueWith, AreTrueWith}
+use Rattle.sim_rules_spec.specs.Rules.{Opening, at_cut, terms_at, terms_at_start}
 use Rattle.sim_rules_spec.specs.Proper.{IsConvention}
-use Rattle.sim_rules_spec.specs.Calls.{CallPair, Callee, begins_well, returns_well, call_premises, AreOfCall, fresh, left, is_left, is_left_family, machine_register, is_kept_register, result_or, left_register, left_memory, binary_returns, source_returns, IsPlain, IsPlainLine, IsGiven, IsGivenTerm, IsReturnOf, IsGivenBack}
+use Rattle.sim_rules_spec.specs.Calls.{CallPair, Callee, returns_well, call_premises, return_term, IsTrueAcross, fresh, left, is_left, is_left_family, machine_register, is_kept_register, result_or, left_register, left_memory, binary_returns, source_returns, IsPlain, IsPlainLine, IsGiven, IsGivenTerm, IsReturnOf, IsGivenBack}
 use Rattle.sim_rules_spec.proofs.Truths.{IsTrue, all_pass, all_mapped, all_true, from_under}
 use Rattle.sim_rules_spec.proofs.Sides.{joined, start_values, by_sides, sides-binary, sides-source, sides-others}
 use Rattle.sim_rules_spec.proofs.Calls.{Has, assigned-by, lines_hold, sorted_there, opened_there, fixed_there}
@@ -337,25 +337,21 @@ module _ (at : ℕ) (x y r s : Assignment) where
 
 -- ---- the law
 
-pub callees_return_well : (c : Convention) (f : Frame) (calls : CallPair) (callee : Callee) (before later obligations : List Term)
-    (g m l k n e : ℕ) (x y r s : Assignment) → IsConvention c → IsReturnOf c f calls callee before later → AreOfCall c f calls callee before later obligations → AreTrueWith c obligations
+pub callees_return_well : (c : Convention) (f : Frame) (calls : CallPair) (callee : Callee) (before later : List Term)
+    (g m l k n e : ℕ) (x y r s : Assignment) → IsConvention c → IsReturnOf c f calls callee before later → IsTrueAcross c (return_term c f calls callee before later)
     → IsRelated (both (all_hold f.entry) (relation c before)) (Running g m x []) (Running k n y [])
     → IsBinaryFine c f (Running g m x []) → IsSourceFine c f (Running k n y []) → IsAssignment r → IsAssignment s → IsGivenBack c callee x r s
     → IsRelated (relation c later) (Running g l (resumed [] r x) []) (Running k e (resumed calls.source_outputs s y) [])
-callees_return_well c f calls callee before later obligations g m l k n e x y r s convention is are valid related fine_x fine_y sorted_r sorted_s given at =
+callees_return_well c f calls callee before later g m l k n e x y r s convention is valid related fine_x fine_y sorted_r sorted_s given at =
     let now : Assignment = a at x y r s in
     let o = at_cut c in
     let opened = opened_there c convention f before g m k n x y related fine_x fine_y at in
     let premises = starts_hold at x y r s c convention f calls callee before later is given opened.binary opened.source (f.entry ++ before) is.before_plain
     (all_pass (λ (line : Term). holds (joined at x y) line) (f.entry ++ before) (lines_hold c convention f before g m k n x y related fine_x fine_y at)) in
-    let all : AreTrueWith c (map (under (call_premises c f before)) (begins_well c calls callee o ∷ returns_well c calls callee o later ∷ [])) = subst (AreTrueWith c) are valid in
-    let second : IsTrueWith c (under (call_premises c f before) (returns_well c calls callee o later)) =
-    All-head (IsTrueWith c) (under (call_premises c f before) (returns_well c calls callee o later)) []
-    (All-tail (IsTrueWith c) (under (call_premises c f before) (begins_well c calls callee o)) (under (call_premises c f before) (returns_well c calls callee o later) ∷ []) all) in
     let goal : IsTrue now (returns_well c calls callee o later) =
     from_under now (call_premises c f before) (returns_well c calls callee o later)
-    (second now (left-sort at x y r s (sorted_there c convention f before g m k n x y related fine_x fine_y at) sorted_r sorted_s)
-    (fixed_there c convention f before g m k n x y related fine_x fine_y)) premises in
+    (valid now (left-sort at x y r s (sorted_there c convention f before g m k n x y related fine_x fine_y at) sorted_r sorted_s)
+    (fixed_there c convention f before g m k n x y related fine_x fine_y) given.fixed) premises in
     let point = terms_at (binary_returns c callee o) (source_returns calls o) in
     lines_after at x y r s c convention f calls callee before later is given opened.binary opened.source (with_memory c later) is.after_plain
     (all_mapped (IsTrue now) (substituted point) (with_memory c later) (all_true now (map (substituted point) (with_memory c later)) goal))

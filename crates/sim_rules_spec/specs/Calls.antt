@@ -10,7 +10,7 @@ use Rattle.term_core_spec.specs.declared.Variable.{Variable}
 use Rattle.term_core_spec.specs.Same.{same_variable}
 use Rattle.term_core_spec.specs.Sort.{is_memory}
 use Rattle.term_core_spec.specs.Term.{Term, Occurs, truth, not_term, equal, less, bit_and, subtract, constant, open_term, over}
-use Rattle.term_core_spec.specs.Value.{Assignment, value, laid_over}
+use Rattle.term_core_spec.specs.Value.{Assignment, IsAssignment, value, laid_over}
 use Rattle.term_core_spec.specs.Substitution.{State as Terms, substituted, at_instance}
 use Rattle.graph_core_spec.specs.Graph.{Binding}
 use Rattle.graph_core_spec.specs.Run.{is_shared, is_register, entered}
@@ -20,7 +20,7 @@ use Rattle.proof_tree_spec.specs.Frames.{Frame}
 use Rattle.sim_rules_spec.specs.Points.{Convention, binary_memory, source_memory, zone_memory, is_binary, is_source, of_sides, other_values, with_memory}
 use Rattle.sim_rules_spec.specs.Calling.{word, register, at_entry, kept_registers}
 use Rattle.sim_rules_spec.specs.Proper.{AreOwnBindings}
-use Rattle.sim_rules_spec.specs.Rules.{Opening, terms_at_start, terms_at, at_cut, all_of, under}
+use Rattle.sim_rules_spec.specs.Rules.{Opening, terms_at_start, terms_at, at_cut, all_of, under, HasFixed, IsTrueWith}
 
 -- a function that was shown to be right before: how many bytes below its stack pointer it takes; the lines of its
 -- arguments, over registers, memory and its own parameters where it begins; and its result, widened to a word, over the
@@ -141,6 +141,22 @@ call_terms c f calls callee before after =
 abbrev pub AreOfCall : Convention → Frame → CallPair → Callee → (before after : List Term) → List Term → Type 0
 AreOfCall c f calls callee before after terms = terms ≡ call_terms c f calls callee before after
 
+-- the first of them, and the second
+abbrev pub entry_term : Convention → Frame → CallPair → Callee → (before : List Term) → Term
+entry_term c f calls callee before = under (call_premises c f before) (begins_well c calls callee (at_cut c))
+
+abbrev pub return_term : Convention → Frame → CallPair → Callee → (before after : List Term) → Term
+return_term c f calls callee before after = under (call_premises c f before) (returns_well c calls callee (at_cut c) after)
+
+-- the term is true wherever the source's memory holds the fixed bytes, and the one that its callee leaves does
+abbrev pub IsTrueAcross : Convention → Term → Type 0
+IsTrueAcross c t = (a : Assignment) → IsAssignment a → HasFixed c (a source_memory) → HasFixed c (a (fresh source_memory)) → holds a t ≡ true
+
+-- the obligations are true; where both are back there are two memories of the source
+pub record AreTrueOfCall (c : Convention) (f : Frame) (calls : CallPair) (callee : Callee) (before after : List Term) : Type 0 where
+  pub begins : IsTrueWith c (entry_term c f calls callee before)
+  pub returns : IsTrueAcross c (return_term c f calls callee before after)
+
 -- ---- what they give: x and y are the callers' values at their calls
 
 -- the values where the callee begins, those at entry being the caller's
@@ -200,8 +216,9 @@ pub record IsReturnOf (c : Convention) (f : Frame) (calls : CallPair) (callee : 
   pub before_plain : All IsPlainLine (f.entry ++ before)
   pub after_plain : All IsPlainLine (with_memory c after)
 
--- the callee has returned its result in x10, if it has one; the registers that a callee saves are as before the call; and
--- the binary's memory is the source's with the zone's over it, which is as before but for the callee's stack
+-- the callee has returned its result in x10, if it has one; the registers that a callee saves are as before the call; the
+-- binary's memory is the source's with the zone's over it, which is as before but for the callee's stack; and the source's
+-- holds the fixed bytes
 pub record IsGivenBack (c : Convention) (callee : Callee) (x r s : Assignment) : Type 0 where
   pub result : (t : Term) → callee.result ≡ Some t → r (machine_register 10) ≡ value s t
   pub kept : (k : ℕ) → is_kept_register k ≡ true → r (machine_register k) ≡ x (machine_register k)
@@ -210,3 +227,4 @@ pub record IsGivenBack (c : Convention) (callee : Callee) (x r s : Assignment) :
       (laid_over (x binary_memory) (r binary_memory) (value x (subtract (register 2) (word callee.stack))) (x (machine_register 2)))
       (value x c.zone_from) (value x c.zone_to)
       ≡ r binary_memory
+  pub fixed : HasFixed c (s source_memory)

@@ -4,7 +4,7 @@ use Rattle.std.specs.Prelude.{◌≡◌, ℕ, suc, ◌&&◌, Bool, true, if◌th
 use Rattle.std.specs.List.{fold, list_any}
 use Rattle.term_core_spec.specs.Same.{same_variable}
 use Rattle.term_core_spec.specs.Term.{Term, truth, and_term, or_term, not_term, open_term, over}
-use Rattle.term_core_spec.specs.Value.{Assignment, IsAssignment}
+use Rattle.term_core_spec.specs.Value.{Value, Assignment, IsAssignment}
 use Rattle.term_core_spec.specs.Substitution.{State as Terms, substituted}
 use Rattle.graph_core_spec.specs.TransitionSystem.{Mark}
 use Rattle.graph_core_spec.specs.Fixed.{has_byte}
@@ -199,9 +199,13 @@ pub record AreOfWait (c : Convention) (o : Opening) (f : Frame) (hold : Hold) (t
 
 -- ---- validity
 
+-- the memory holds the fixed bytes
+abbrev pub HasFixed : Convention → Value → Type 0
+HasFixed c memory = (at : ℕ) → has_byte memory at (c.fixed at) ≡ true
+
 -- the term is true wherever the source's memory holds the fixed bytes
 abbrev pub IsTrueWith : Convention → Term → Type 0
-IsTrueWith c t = (a : Assignment) → IsAssignment a → ((at : ℕ) → has_byte (a source_memory) at (c.fixed at) ≡ true) → holds a t ≡ true
+IsTrueWith c t = (a : Assignment) → IsAssignment a → HasFixed c (a source_memory) → holds a t ≡ true
 
 abbrev pub AreTrueWith : Convention → List Term → Type 0
 AreTrueWith c terms = All (IsTrueWith c) terms

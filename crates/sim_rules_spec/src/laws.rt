@@ -17,14 +17,15 @@ ghost use Rattle.graph_core_spec.specs.Simulation.{IsRelated, Simulates};
 ghost use Rattle.graph_core_spec.specs.TransitionSystem.{Mark};
 ghost use Rattle.proof_tree_spec.specs.Scope.{IsLine};
 ghost use Rattle.sim_rules_spec.specs.Calling as calling;
-ghost use Rattle.sim_rules_spec.specs.Calls.{AreOfCall, BeginsWell, CallPair, Callee, IsCallPair};
-ghost use Rattle.sim_rules_spec.specs.Calls.{IsGivenBack, IsReturnOf};
+ghost use Rattle.sim_rules_spec.specs.Calls.{AreTrueOfCall, BeginsWell, CallPair, Callee};
+ghost use Rattle.sim_rules_spec.specs.Calls.{IsCallPair, IsGivenBack, IsReturnOf, IsTrueAcross};
+ghost use Rattle.sim_rules_spec.specs.Calls.{entry_term, return_term};
 ghost use Rattle.sim_rules_spec.specs.Crossing.{AreCallsAt, IsRightCallee, pair_of};
 ghost use Rattle.sim_rules_spec.specs.Points.{Convention, all_hold};
 ghost use Rattle.sim_rules_spec.specs.Proper.{IsConvention, IsEntryLine, IsProper, Opens};
 ghost use Rattle.sim_rules_spec.specs.Rules.{AreOfBinaryRestrict, AreOfLeaf, AreOfSourceRestrict};
 ghost use Rattle.sim_rules_spec.specs.Rules.{AreOfWait};
-ghost use Rattle.sim_rules_spec.specs.Rules.{AreTrueWith, Opening, at_cut};
+ghost use Rattle.sim_rules_spec.specs.Rules.{AreTrueWith, IsTrueWith, Opening, at_cut};
 ghost use Rattle.sim_rules_spec.specs.Systems.{IsBinaryFine, IsSimulated, IsSourceFine, Relation};
 ghost use Rattle.sim_rules_spec.specs.Systems.{entry_holds, frame_over, hold_over, relation};
 ghost use Rattle.sim_rules_spec.specs.Systems.{binary_always, source_always};
@@ -79,25 +80,26 @@ pub fn wait_law()
         (hold_over c hold) }
 {}
 
-/// Call: where its obligations are true, and what holds at entry and the relation before hold at
-/// the calls, the callee's entry relation holds where it begins.
+/// Call: where its first obligation is true, and what holds at entry and the relation before hold
+/// at the calls, the callee's entry relation holds where it begins.
 pub fn call_entry_law()
     ensures { (c : Convention) (f : Frame) (calls : CallPair) (callee : Callee)
-        (before later terms : List Term) (g m k n : ℕ) (x y : Assignment) → IsConvention c
-        → IsCallPair calls → AreOfCall c f calls callee before later terms → AreTrueWith c terms
+        (before : List Term) (g m k n : ℕ) (x y : Assignment) → IsConvention c
+        → IsCallPair calls → IsTrueWith c (entry_term c f calls callee before)
         → IsRelated (both (all_hold f.entry) (relation c before))
         (Running g m x []) (Running k n y [])
         → IsBinaryFine c f (Running g m x []) → IsSourceFine c f (Running k n y [])
         → BeginsWell c calls callee x y }
 {}
 
-/// Call: where they are true, and the callee has given back what it owes, the relation after the
-/// calls holds where both are back.
+/// Call: where its second obligation is true wherever the source's memory holds the fixed bytes at
+/// the calls and where both are back, and the callee has given back what it owes, the relation
+/// after the calls holds there.
 pub fn call_return_law()
     ensures { (c : Convention) (f : Frame) (calls : CallPair) (callee : Callee)
-        (before later terms : List Term) (g m l k n e : ℕ) (x y r s : Assignment)
+        (before later : List Term) (g m l k n e : ℕ) (x y r s : Assignment)
         → IsConvention c → IsReturnOf c f calls callee before later
-        → AreOfCall c f calls callee before later terms → AreTrueWith c terms
+        → IsTrueAcross c (return_term c f calls callee before later)
         → IsRelated (both (all_hold f.entry) (relation c before))
         (Running g m x []) (Running k n y [])
         → IsBinaryFine c f (Running g m x []) → IsSourceFine c f (Running k n y [])
@@ -110,15 +112,15 @@ pub fn call_return_law()
 /// landing nodes is simulated, as the rule asks. In code a call binds nothing where it is back.
 pub fn call_law()
     ensures { (c : Convention) (known : Relation) (f : Frame) (callee : Callee)
-        (call landing : Hold) (terms : List Term)
+        (call landing : Hold)
         (calls : AreCallsAt f (hold_over c call) (hold_over c landing)) → IsConvention c
         → calls.binary_outputs ≡ []
         → IsCallPair (pair_of f (hold_over c call) (hold_over c landing) calls)
         → IsReturnOf c f (pair_of f (hold_over c call) (hold_over c landing) calls) callee
         call.relation landing.relation
-        → AreOfCall c f (pair_of f (hold_over c call) (hold_over c landing) calls) callee
-        call.relation landing.relation terms
-        → AreTrueWith c terms → IsRightCallee c known f callee call landing calls
+        → AreTrueOfCall c f (pair_of f (hold_over c call) (hold_over c landing) calls) callee
+        call.relation landing.relation
+        → IsRightCallee c known f callee call landing calls
         → Simulates (cuts.across (frame_over c known f) (entry_holds f) (hold_over c call)
         (hold_over c landing)) (IsBinaryFine c f) (IsSourceFine c f) }
 {}

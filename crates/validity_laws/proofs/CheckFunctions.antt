@@ -14,7 +14,7 @@ use Rattle.term_core_spec.specs.declared.Sort.{Sort}
 use Rattle.term_core_spec.specs.Term.{Term, not_term}
 use Rattle.graph_core_spec.specs.TransitionSystem.{Mark, AreCounted}
 use Rattle.proof_tree_spec.specs.Scope.{Setting, InFamily, IsLine}
-use Rattle.proof_tree_spec.specs.Frames.{Start, Frame, with_premise}
+use Rattle.proof_tree_spec.specs.Frames.{Start, Goal, Frame, with_premise}
 use Rattle.sim_rules_spec.specs.Rules.{AreOfLeaf, AreTrueWith}
 use Rattle.validity_spec.specs.Claim.{IsValid}
 use Rattle.agreement_laws.specs.EntryFrame.{Pair, entry_frame, entry_opening, scope_of}
@@ -44,7 +44,7 @@ plain_in s path family.SourceMemory i n t is same =
     ∙ (ap (λ (k : ℕ). variable family.SourceMemory 0 k t) is.of_function ∙ ap (λ (u : Sort). variable family.SourceMemory 0 0 u) is.memory)
 plain_in s path f i n t is same = absurd (cc)
 
-line_good : (s : Setting) (path : List ℕ) (line : Term) → IsLine s path line → IsTest line
+pub line_good : (s : Setting) (path : List ℕ) (line : Term) → IsLine s path line → IsTest line
 line_good s path line is = record { sorted = is.truth; plain = λ v o. plain_in s path v.family v.index v.instance v.sort (is.visible v o) }
 
 -- ---- one function
@@ -61,7 +61,8 @@ module _ (q : Pair) (g : Function) (sides : AreSides q) (file : IsFile q) (funct
       → All (IsClosedGoal p.numbering.runs) terms → AreTrueWith (stated p) terms
   obligations_true start terms premises are closed i d lt =
       goal_true (stated p) p.numbering.runs (runs_have_bytes p.image p.numbering.runs file.bytes (runs_are p is)) (runs_are_fixed p.image p.numbering.runs (runs_are p is))
-      (get_or terms i d) (obligations_good q g sides file function small start terms premises are i d lt) (closed i d lt)
+      (get_or terms i d)
+      (obligations_good q g sides file function small AtEntry start [] terms premises (All-nil (λ (h : Goal). AreTests h.relation)) are i d lt) (closed i d lt)
 
   none_counted : (bounds : List Mark) → bounds ≡ [] → AreCounted bounds
   none_counted bounds none_there = subst AreCounted (sym none_there) (All-nil (λ (m : Mark). 1 ≤ m.count))

@@ -23,13 +23,14 @@ use Rattle.validity_laws.proofs.Good.{IsPlain, IsGood, IsGoodState, IsTest, trut
 
 -- ---- graphs
 
+-- the terms of a call's outputs are over the callee's variables, of which the same is asked
 abbrev pub IsGoodBinding : Binding → Type 0
 IsGoodBinding b = IsGood b.term b.variable.sort
 
 abbrev pub IsGoodNode : Node → Type 0
 IsGoodNode (Basic bindings to) = All IsGoodBinding bindings
 IsGoodNode (Cond test on_true on_false) = IsTest test
-IsGoodNode (Call callee inputs outputs landing) = Unit {0}
+IsGoodNode (Call callee inputs outputs landing) = All IsGoodBinding inputs × All IsGoodBinding outputs
 
 abbrev pub IsGoodGraph : Graph → Type 0
 IsGoodGraph g = (n : ℕ) (node : Node) → slice_get g.nodes n ≡ Some node → IsGoodNode node
@@ -74,7 +75,7 @@ united_fine start cs good all = record { tested = any_fine cs all; states = merg
 
 -- ---- edges
 
-assigned_good : (bindings : List Binding) (state rest : State) → IsGoodState state → IsGoodState rest → All IsGoodBinding bindings → IsGoodState (assigned bindings state rest)
+pub assigned_good : (bindings : List Binding) (state rest : State) → IsGoodState state → IsGoodState rest → All IsGoodBinding bindings → IsGoodState (assigned bindings state rest)
 unfolding assigned
 assigned_good [] state rest good others all = others
 assigned_good (b ∷ bindings) state rest good others all = λ v plain.

@@ -14,6 +14,7 @@ use Rattle.term_core_spec.specs.declared.Family.TheVariants as family
 use Rattle.term_core_spec.specs.declared.Variable.{Variable}
 use Rattle.term_core_spec.specs.Sort.{sort_of, sort_of_atom, sort_of_binary, bits}
 use Rattle.term_core_spec.specs.Term.{Term, Occurs, equal, less, not_term, bit_and, open_term, truth, over, load, low, sign_extend, zero_extend}
+use Rattle.term_core_spec.specs.Same.{same_variable}
 use Rattle.term_core_spec.specs.Substitution.{State}
 use Rattle.decompile_spec.specs.State as code
 use Rattle.c_types_spec.specs.declared.Scalar.{Scalar}
@@ -42,7 +43,10 @@ at_entry_good r = open_good (code.entry_register r) (other_plain family.Entry r 
 parameter_good : (number : ℕ) (type : Scalar) → IsGood (open_term (parameter number type)) (parameter number type).sort
 parameter_good number type = open_good (parameter number type) (other_plain family.Parameter number 0 _ (λ h. cc))
 
-result_open : (type : Scalar) → IsGood (open_term (result type)) (result type).sort
+pub local_good : (number : ℕ) (type : Scalar) → IsGood (open_term (local number type)) (local number type).sort
+local_good number type = open_good (local number type) (other_plain family.Local number 0 _ (λ h. cc))
+
+pub result_open : (type : Scalar) → IsGood (open_term (result type)) (result type).sort
 result_open type = open_good (result type) (other_plain family.Further 2 0 _ (λ h. cc))
 
 address_good : IsGood (open_term address) (Word W32)
@@ -51,7 +55,7 @@ address_good = open_good address (other_plain family.Address 0 0 (Word W32) (λ 
 pub source_good : IsGood (open_term source_memory) Memory
 source_good = open_good source_memory (λ h. refl)
 
-zone_good : IsGood (open_term zone_memory) Memory
+pub zone_good : IsGood (open_term zone_memory) Memory
 zone_good = open_good zone_memory (other_plain family.ZoneMemory 0 0 Memory (λ h. cc))
 
 binary_good : IsGood (open_term binary_memory) Memory
@@ -78,7 +82,7 @@ from_good stack below = record {
 }
 
 -- a value of a type, widened to a word
-widened_good : (type : Scalar) (v : Variable) → IsPlainType type → IsGood (open_term v) v.sort → v.sort ≡ (parameter 0 type).sort → IsGood (widened type v) (Word W32)
+pub widened_good : (type : Scalar) (v : Variable) → IsPlainType type → IsGood (open_term v) v.sort → v.sort ≡ (parameter 0 type).sort → IsGood (widened type v) (Word W32)
 unfolding Occurs
 widened_good type v plain good same = record {
   sorted = at_width_sorted type (scalar 32 false) plain (full false) (open_term v) (good.sorted ∙ ap Some same);
@@ -203,17 +207,22 @@ locals_good number (parameter_type ∷ parameters) (type ∷ locals) =
     (one_fact (local number parameter_type) (open_term (parameter number parameter_type)) (local_facts (suc number) parameters locals)
     (parameter_good number parameter_type) (locals_good (suc number) parameters locals))
 
-cut_good : (q : Pair) → q.stack < 2 ^ 32 → IsGoodState (at_cut (stated q)).binary
-cut_good q small v plain =
+pub cut_binary_good : (q : Pair) → q.stack < 2 ^ 32 → IsGoodState (at_cut (stated q)).binary
+cut_binary_good q small v plain =
     put_good v binary_memory (over (open_term source_memory) (open_term zone_memory) (zone_from q.stack) (at_entry 2)) (open_term v)
     (over_good (open_term source_memory) (open_term zone_memory) (zone_from q.stack) (at_entry 2) source_good zone_good (from_good q.stack small) (at_entry_good 2))
     (open_good v plain)
+
+pub cut_source_good : (q : Pair) → q.stack < 2 ^ 32 → IsGoodState (at_cut (stated q)).source
+cut_source_good q small v plain =
+    put_good v zone_low (zone_from q.stack) (if same_variable v zone_high then at_entry 2 else open_term v) (from_good q.stack small)
+    (put_good v zone_high (at_entry 2) (open_term v) (at_entry_good 2) (open_good v plain))
 
 pub binary_state_good : (q : Pair) → q.stack < 2 ^ 32 → All IsPlainType q.body.signature.parameters → IsGoodState (entry_opening q no_zone).binary
 binary_state_good q small plain =
     given_good (binary_facts q) (at_cut (stated q)).binary
     (All-append IsGoodFact (argument_facts 0 q.body.signature.parameters) (map (λ (r : ℕ). record { variable = code.register r; term = at_entry r }) registers)
-    (arguments_good 0 q.body.signature.parameters plain) (registers_good registers)) (cut_good q small)
+    (arguments_good 0 q.body.signature.parameters plain) (registers_good registers)) (cut_binary_good q small)
 
 pub source_state_good : (q : Pair) → q.stack < 2 ^ 32 → IsGoodState (entry_opening q no_zone).source
 source_state_good q small =

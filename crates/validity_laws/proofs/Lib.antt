@@ -12,8 +12,12 @@ pub mod Good
 pub mod Conditions
 pub mod Entry
 pub mod Leaves
+pub mod TwoMemories
 pub mod Validity
 pub mod Graphs
 pub mod CheckFunctions
+pub mod CallTerms
+pub mod Shown
+pub mod Accepted
 pub mod Excluded
 pub mod Truths

@@ -207,7 +207,7 @@ module _ (q : Pair) (is : IsPair q) (sides : AreSides q) (small : q.stack < 2 ^ 
         (allowed at_call lets) (is_clear landing clear)
         (record {
           before = enters_is c f known at_call path once before;
-          inner = called c known f (callee_of (pair_for q of.function)) at_call landing of.terms calls convention code_shape.1
+          inner = called c known f (callee_of (pair_for q of.function)) at_call landing calls convention code_shape.1
               (record { binary = code_own.0; source = source_own.0 })
               (record {
                 outputs = source_shape.7;
@@ -218,7 +218,7 @@ module _ (q : Pair) (is : IsPair q) (sides : AreSides q) (small : q.stack < 2 ^ 
                 after_plain = All-append IsPlainLine landing.relation (same_byte c ∷ []) (plain_lines q.body path landing.relation of.later)
                     (All-cons IsPlainLine (same_byte c) [] (plain_memory q zone) (All-nil IsPlainLine));
               })
-              of.terms_are of.valid
+              (record { begins = of.valid.begins; returns = of.valid.returns })
               (λ x y begin well. agree q of.function.entry of.function.stack of.function.body zone known start goals holds at_call landing calls
               callee_is.0 callee_is.1 of.binary_callee of.source_callee code_shape.1
               (record { binary = code_shape.0; arguments = source_shape.1; source = source_shape.4; types = types_are }) x y begin well);

@@ -1,11 +1,13 @@
 -- The obligations of the functions of both sides are truth values.
-use Rattle.std.proofs.Common.{◌<◌, ◌^◌, get_or}
-use Rattle.std.proofs.lemmas.List.Elements.{All-map}
+use Rattle.std.proofs.Common.{◌<◌, ◌^◌, [], get_or}
+use Rattle.std.proofs.lemmas.List.Elements.{All-nil, All-map}
+use Rattle.proof_tree_spec.specs.Frames.{Goal}
 use Rattle.elf_read_spec.proofs.Runs.{runs_have_bytes}
 use Rattle.agreement_laws.specs.EntryFrame.{Pair, entry_frame}
 use Rattle.agreement_laws.specs.Statements.{IsPair}
 use Rattle.agreement_laws.proofs.Pairs.{runs_are}
-use Rattle.validity_laws.specs.Derivation.{Function, pair_for, AreSides, IsFunction}
+use Rattle.validity_laws.specs.Derivation.{Function, pair_for, AtEntry, AreSides, IsFunction}
+use Rattle.validity_laws.proofs.Good.{AreTests}
 use Rattle.validity_laws.proofs.Functions.{is_pair}
 use Rattle.validity_laws.specs.CheckStatements.{listed_of, IsFile}
 use Rattle.validity_laws.proofs.Graphs.{obligations_good, entry_good}
@@ -20,7 +22,8 @@ module _ (q : Pair) (g : Function) (sides : AreSides q) (file : IsFile q) (funct
   is = is_pair q g sides function
 
   are_truths : HasTruths (listed_of q g)
-  are_truths terms are k d below = (obligations_good q g sides file function small (entry_frame p).start terms (entry_good q g sides file function small) are k d below).sorted
+  are_truths terms are k d below =
+      (obligations_good q g sides file function small AtEntry (entry_frame p).start [] terms (entry_good q g sides file function small) (All-nil (λ (h : Goal). AreTests h.relation)) are k d below).sorted
 
   is_sorted : IsSorted (listed_of q g)
   is_sorted = record { truths = are_truths; bytes = runs_have_bytes p.image p.numbering.runs file.bytes (runs_are p is) }

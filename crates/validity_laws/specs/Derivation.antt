@@ -24,7 +24,7 @@ use Rattle.proof_tree_spec.specs.Frames.{Start, Goal, Hold, Frame, binary_marks,
 use Rattle.sim_rules_spec.specs.Points.{Convention}
 use Rattle.sim_rules_spec.specs.Systems.{hold_over}
 use Rattle.sim_rules_spec.specs.Rules.{Opening, AreOfLeaf, AreOfBinaryRestrict, AreOfSourceRestrict, AreOfWait, AreTrueWith, at_cut}
-use Rattle.sim_rules_spec.specs.Calls.{AreOfCall}
+use Rattle.sim_rules_spec.specs.Calls.{AreTrueOfCall}
 use Rattle.sim_rules_spec.specs.Crossing.{AreCallsAt, pair_of}
 use Rattle.agreement_laws.specs.EntryFrame.{Pair, place_of, convention_of, entry_frame, entry_opening, scope_of}
 use Rattle.agreement_laws.specs.Callers.{function_of, callee_of, frame_of}
@@ -78,9 +78,7 @@ pub record IsCallOf (q : Pair) (earlier : List Function) (f : Frame) (path : Lis
   pub source_callee : calls.source.callee ≡ body_number function.body.name q.unit.bodies
   pub before : All (IsLine (scope_of q.body) path) call.relation
   pub later : All (IsLine (scope_of q.body) path) landing.relation
-  pub terms : List Term
-  pub terms_are : AreOfCall (stated q) f (pair_of f (hold_over (stated q) call) (hold_over (stated q) landing) calls) (callee_of (pair_for q function)) call.relation landing.relation terms
-  pub valid : AreTrueWith (stated q) terms
+  pub valid : AreTrueOfCall (stated q) f (pair_of f (hold_over (stated q) call) (hold_over (stated q) landing) calls) (callee_of (pair_for q function)) call.relation landing.relation
 
 -- ---- proofs
 

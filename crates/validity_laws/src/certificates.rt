@@ -1,7 +1,9 @@
 //! The laws of checked certificates: each function's clause is one law, and its body is empty.
 
+ghost use Rattle.validity_laws.specs.Accepted.{AcceptedIsValid};
 ghost use Rattle.validity_laws.specs.CheckStatements.{ClosedIsValid, PartsAreClosed};
 ghost use Rattle.validity_laws.specs.CheckStatements.{ProofsGiveValidity};
+ghost use Rattle.validity_laws.specs.Shown.{ShownIsProved, ShownPartsAreValid};
 
 /// Of a certificate no line of which breaks a rule, each listed function has a part, and each
 /// obligation of that part is closed.
@@ -18,4 +20,22 @@ pub fn proofs_give_validity()
 /// A function with a proof by Leaf and Case, each obligation of which is closed, is valid.
 pub fn closed_is_valid()
     ensures { ClosedIsValid }
+{}
+
+/// What lines inside a proof show, read one line at a time, is proved: a tree of Leaf, Case,
+/// Restrict, Split and Call of earlier functions, each obligation of which a log closes.
+pub fn what_is_shown_is_proved()
+    ensures { ShownIsProved }
+{}
+
+/// Functions with parts in an order in which each calls earlier ones alone are valid.
+pub fn functions_shown_in_order_are_valid()
+    ensures { ShownPartsAreValid }
+{}
+
+/// Functions of which a certificate is accepted, one line after the other, are valid, where no line
+/// inlines a call: the proofs are of Leaf, Case, Restrict, Split and Call of functions with an
+/// earlier part.
+pub fn what_is_accepted_is_valid()
+    ensures { AcceptedIsValid }
 {}
